@@ -1,0 +1,3 @@
+mod EnrolmentLemmas
+mod RollLemmas
+pub mod SameSet

@@ -1,0 +1,82 @@
+-- A set of pairs (student, exam), seen as the students of each exam in ascending order.
+use Rattle.std.specs.Prelude.{◌≡◌, ℕ, ◌+◌, ◌<◌, ◌≤◌, Bool, true, false, not, ◌&&◌, ◌||◌, ◌==◌, if◌then◌else◌, List, [], length, slice_index, slice_index_or, sum_by, count_by, replicate}
+use Rattle.std.specs.List.{list_any}
+use Rattle.exam_model.specs.declared.fault.ModelFault.{ModelFault}
+use Rattle.exam_model.specs.declared.fault.ModelFault.TheVariants.{Range, NoSuch, NoMemory}
+
+-- for each exam, in the order of the exams' numbers, its students
+abbrev pub Enrolled : Type 0
+Enrolled = List (List ℕ)
+
+-- whether a student is in a list
+abbrev pub has_student : List ℕ → ℕ → Bool
+has_student students s = list_any (λ t. t == s) students
+
+-- each number is greater than those before it
+abbrev pub IsAscending : List ℕ → Type 0
+IsAscending xs = (i j : ℕ) → i < j → j < length xs → slice_index xs i < slice_index xs j
+
+-- the students of an exam, and none where there is no such exam
+abbrev pub students : Enrolled → ℕ → List ℕ
+students E e = slice_index_or E e []
+
+-- whether the pair is in the set
+abbrev pub has : Enrolled → ℕ → ℕ → Bool
+has E s e = has_student (students E e) s
+
+-- how many students are paired with the exam
+abbrev pub size_of : Enrolled → ℕ → ℕ
+size_of E e = length (students E e)
+
+-- how many students are paired with both exams
+abbrev pub shared : Enrolled → ℕ → ℕ → ℕ
+shared E e f = count_by (λ s. has E s f) (students E e)
+
+-- how many pairs there are
+abbrev pub pair_count : Enrolled → ℕ
+pair_count E = sum_by length E
+
+-- what every value of the type keeps
+pub record AreEnrolments (E : Enrolled) : Type 0 where
+  pub exams : (1 ≤ length E) × (length E ≤ 2000)
+  pub ascending : (e : ℕ) → e < length E → IsAscending (students E e)
+  pub pairs : pair_count E ≤ 200000
+
+-- no pairs, for so many exams
+abbrev pub no_pairs : ℕ → Enrolled
+no_pairs exams = replicate exams []
+
+-- new is the set old with the pair added
+pub record Adds (old new : Enrolled) (s e : ℕ) : Type 0 where
+  pub members : (t f : ℕ) → has new t f ≡ (((s == t) && (e == f)) || has old t f)
+  pub exams : length new ≡ length old
+  pub pairs : pair_count new ≡ (if has old s e then pair_count old else pair_count old + 1)
+
+-- why a pair is not added: no such exam, then no room for a pair that is new
+abbrev pub RefusesPair : Enrolled → ℕ → ℕ → ModelFault → Type 0
+RefusesPair E s e NoSuch = length E ≤ e
+RefusesPair E s e Range = (e < length E) × (has E s e ≡ false) × (pair_count E ≡ 200000)
+RefusesPair E s e NoMemory = Unit {0}
+
+-- student s stands at place i of the list
+pub record IsAt (xs : List ℕ) (s i : ℕ) : Type 0 where
+  pub within : i < length xs
+  pub here : slice_index xs i ≡ s
+
+-- student s would go at place i: smaller numbers before it, and greater ones from it on
+pub record IsGap (xs : List ℕ) (s i : ℕ) : Type 0 where
+  pub within : i ≤ length xs
+  pub before : (k : ℕ) → k < i → slice_index xs k < s
+  pub after : (k : ℕ) → i ≤ k → k < length xs → s < slice_index xs k
+
+-- new is the list old with the student put in
+pub record Enters (old new : List ℕ) (s : ℕ) : Type 0 where
+  pub members : (t : ℕ) → has_student new t ≡ ((s == t) || has_student old t)
+  pub size : length new ≡ (if has_student old s then length old else length old + 1)
+  pub ascending : IsAscending new
+
+-- why a student is not put in: she is new, and there is no room
+abbrev pub RefusesStudent : List ℕ → ℕ → Bool → ModelFault → Type 0
+RefusesStudent xs s full NoSuch = ⊥
+RefusesStudent xs s full Range = (has_student xs s ≡ false) × (full ≡ true)
+RefusesStudent xs s full NoMemory = Unit {0}

@@ -1,0 +1,70 @@
+-- What an instance is: its exams, periods, rooms, rules and weights.
+use Rattle.std.specs.Prelude.{◌≡◌, ℕ, ◌+◌, ◌-◌, ◌<◌, ◌≤◌, Bool, false, List, length, All, Option, Some, None, slice_get}
+use Rattle.std.specs.Ordering.{int_eq}
+use Rattle.jiff.specs.Words.{epoch_day}
+use Rattle.exam_model.specs.Limits.{AreCounted, ExamInLimits, PeriodInLimits, RoomInLimits, WeightsInLimits}
+use Rattle.exam_model.specs.declared.parts.Exam.{Exam}
+use Rattle.exam_model.specs.declared.parts.Period.{Period}
+use Rattle.exam_model.specs.declared.parts.Room.{Room}
+use Rattle.exam_model.specs.declared.parts.Weights.{Weights}
+use Rattle.exam_model.specs.declared.rules.RoomRule.{RoomRule}
+use Rattle.exam_model.specs.declared.rules.PeriodRule.{PeriodRule}
+use Rattle.exam_model.specs.declared.rules.PeriodRule.TheVariants.{After, Coincidence, Exclusion}
+use Rattle.exam_model.specs.declared.fault.ModelFault.{ModelFault}
+use Rattle.exam_model.specs.declared.fault.ModelFault.TheVariants.{Range, NoSuch, NoMemory}
+
+-- an examination session by its parts, each list in the order of its numbers
+pub record Session : Type 0 where
+  pub exams : List Exam
+  pub periods : List Period
+  pub rooms : List Room
+  pub period_rules : List PeriodRule
+  pub room_rules : List RoomRule
+  pub weights : Weights
+
+-- every limit holds
+pub record InLimits (s : Session) : Type 0 where
+  pub counts : AreCounted (length s.exams) (length s.periods) (length s.rooms) (length s.period_rules) (length s.room_rules)
+  pub exams : All ExamInLimits s.exams
+  pub periods : All PeriodInLimits s.periods
+  pub rooms : All RoomInLimits s.rooms
+  pub weights : WeightsInLimits s.weights
+
+-- both exams of a rule are among so many
+abbrev pub PeriodRuleExists : ℕ → PeriodRule → Type 0
+PeriodRuleExists n (After a b) = (a < n) × (b < n)
+PeriodRuleExists n (Coincidence a b) = (a < n) × (b < n)
+PeriodRuleExists n (Exclusion a b) = (a < n) × (b < n)
+
+abbrev pub RoomRuleExists : ℕ → RoomRule → Type 0
+RoomRuleExists n r = r.0 < n
+
+-- every exam that a rule names exists
+pub record NumbersExist (s : Session) : Type 0 where
+  pub period_rules : All (PeriodRuleExists (length s.exams)) s.period_rules
+  pub room_rules : All (RoomRuleExists (length s.exams)) s.room_rules
+
+-- what every instance keeps
+pub record IsInstance (s : Session) : Type 0 where
+  pub limits : InLimits s
+  pub numbers : NumbersExist s
+
+-- why parts make no instance: a limit first, then a number
+abbrev pub RefusesSession : Session → ModelFault → Type 0
+RefusesSession s Range = InLimits s → ⊥
+RefusesSession s NoSuch = InLimits s × (NumbersExist s → ⊥)
+RefusesSession s NoMemory = Unit {0}
+
+-- the distance of two period numbers
+abbrev pub gap : ℕ → ℕ → ℕ
+gap p q = (p - q) + (q - p)
+
+-- whether two periods have the same date
+abbrev pub share_date : Option Period → Option Period → Bool
+share_date None q = false
+share_date (Some p) None = false
+share_date (Some p) (Some q) = int_eq (epoch_day p.date) (epoch_day q.date)
+
+-- whether two periods exist and are of one day
+abbrev pub same_day : List Period → ℕ → ℕ → Bool
+same_day periods p q = share_date (slice_get periods p) (slice_get periods q)

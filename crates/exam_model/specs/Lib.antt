@@ -1,0 +1,7 @@
+pub mod Refusing
+pub mod Sums
+pub mod Limits
+pub mod Instance
+pub mod Enrolments
+pub mod Pairs
+pub mod Timetable

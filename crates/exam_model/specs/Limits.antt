@@ -1,0 +1,41 @@
+-- The limits of the numbers in an instance.
+use Rattle.std.specs.Prelude.{ℕ, ◌≤◌, ◌<◌, pos, ◌≤ℤ◌}
+use Rattle.exam_model.specs.declared.parts.Exam.{Exam}
+use Rattle.exam_model.specs.declared.parts.Period.{Period}
+use Rattle.exam_model.specs.declared.parts.Room.{Room}
+use Rattle.exam_model.specs.declared.parts.Weights.{Weights}
+
+-- a capacity, a penalty, a weight, or a number of things that a weight counts
+abbrev pub IsAmount : ℕ → Type 0
+IsAmount n = n ≤ 100000
+
+-- a length of time within one day
+abbrev pub IsMinutes : ℕ → Type 0
+IsMinutes n = n ≤ 1440
+
+abbrev pub ExamInLimits : Exam → Type 0
+ExamInLimits e = IsMinutes e.minutes
+
+-- a date of the years 1 to 9999, a time of day, a length and a penalty
+abbrev pub PeriodInLimits : Period → Type 0
+PeriodInLimits p =
+    (pos 1 ≤ℤ p.date.year) × (p.hour ≤ 23) × (p.minute ≤ 59) × (p.second ≤ 59)
+    × IsMinutes p.length × IsAmount p.penalty
+
+abbrev pub RoomInLimits : Room → Type 0
+RoomInLimits r = IsAmount r.capacity × IsAmount r.penalty
+
+abbrev pub WeightsInLimits : Weights → Type 0
+WeightsInLimits w =
+    IsAmount w.row × IsAmount w.day × IsAmount w.spread × IsAmount w.mixed
+    × IsAmount w.front_exams × IsAmount w.front_periods × IsAmount w.front
+
+-- a number of things, at least one and at most the limit
+abbrev pub IsCount : ℕ → ℕ → Type 0
+IsCount limit n = (1 ≤ n) × (n ≤ limit)
+
+-- so many exams, periods, rooms, rules on periods and rules on rooms
+abbrev pub AreCounted : ℕ → ℕ → ℕ → ℕ → ℕ → Type 0
+AreCounted exams periods rooms period_rules room_rules =
+    IsCount 2000 exams × IsCount 200 periods × IsCount 200 rooms
+    × (period_rules ≤ 5000) × (room_rules ≤ 5000)

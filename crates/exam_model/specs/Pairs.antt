@@ -1,0 +1,39 @@
+-- Enrolments as one list of pairs, by exam and then by student.
+use Rattle.std.specs.Prelude.{◌≡◌, ℕ, ◌+◌, ◌<◌, Bool, true, ◌&&◌, ◌||◌, ◌==◌, nat_lt, List, [], ◌∷◌, ◌++◌, map, length, count_by}
+use Rattle.std.specs.List.{list_any}
+use Rattle.exam_model.specs.Enrolments.{Enrolled, has, size_of, shared, pair_count}
+
+-- a student and an exam that she sits
+pub record Pair : Type 0 where
+  pub exam : ℕ
+  pub student : ℕ
+
+-- the pairs of the exams from number e on
+abbrev pub pairs_from : ℕ → Enrolled → List Pair
+pairs_from e [] = []
+pairs_from e (xs ∷ rest) = map (λ s. record { exam = e; student = s }) xs ++ pairs_from (e + 1) rest
+
+-- all pairs, by exam and then by student
+abbrev pub pairs_of : Enrolled → List Pair
+pairs_of E = pairs_from 0 E
+
+-- whether it is the pair of s and e
+abbrev pub is_pair : ℕ → ℕ → Pair → Bool
+is_pair s e p = (p.student == s) && (p.exam == e)
+
+-- by exam, and then by student
+abbrev pub comes_before : Pair → Pair → Bool
+comes_before p q = nat_lt p.exam q.exam || ((p.exam == q.exam) && nat_lt p.student q.student)
+
+-- every pair comes before all later ones
+abbrev pub AreInOrder : List Pair → Type 0
+AreInOrder [] = Unit {0}
+AreInOrder (p ∷ ps) = ((q : Pair) → list_any (λ r. (r.student == q.student) && (r.exam == q.exam)) ps ≡ true → comes_before p q ≡ true) × AreInOrder ps
+
+-- what the list of pairs says of the set
+pub record ArePairsOf (E : Enrolled) (pairs : List Pair) : Type 0 where
+  pub members : (s e : ℕ) → list_any (is_pair s e) pairs ≡ has E s e
+  pub count : length pairs ≡ pair_count E
+  pub sizes : (e : ℕ) → count_by (λ p. p.exam == e) pairs ≡ size_of E e
+  pub sharing : (e f : ℕ) → count_by (λ p. (p.exam == e) && has E p.student f) pairs ≡ shared E e f
+  pub ordered : AreInOrder pairs

@@ -1,0 +1,25 @@
+-- A timetable: a partial map from the exams 0, 1, 2, .. to places.
+use Rattle.std.specs.Prelude.{◌≡◌, ℕ, ◌<◌, ◌≤◌, List, length, Option, None, IsSome, slice_index_or, replicate}
+use Rattle.exam_model.specs.declared.parts.Place.{Place}
+
+-- at each exam's number its place, if it has one
+abbrev pub Placing : Type 0
+Placing = List (Option Place)
+
+-- an exam's place, if it has one
+abbrev pub place_of : Placing → ℕ → Option Place
+place_of t e = slice_index_or t e None
+
+-- a timetable of so many exams, none of which is placed
+abbrev pub unplaced : ℕ → Placing
+unplaced exams = replicate exams None
+
+-- a number of exams that a timetable may have
+abbrev pub HasExams : Placing → Type 0
+HasExams t = (1 ≤ length t) × (length t ≤ 2000)
+
+-- the exam has no place, and each smaller one has
+pub record IsFirstUnplaced (t : Placing) (e : ℕ) : Type 0 where
+  pub exists : e < length t
+  pub unplaced : place_of t e ≡ None
+  pub placed_below : (f : ℕ) → f < e → IsSome (place_of t f)

@@ -1,0 +1,131 @@
+// Which student sits which exam: contracts see each exam's students, ascending.
+ghost use Rattle.std.specs.Prelude.{◌≡◌, ℕ, ◌<◌, ◌≤◌, ◌+◌, if◌then◌else◌, not, length, IfOk, IfErr, OnOk, OnErr};
+ghost use Rattle.exam_model.specs.Enrolments.{Enrolled, AreEnrolments, IsAscending, Adds, RefusesPair, students, has, size_of, shared, pair_count, no_pairs};
+
+use crate::fault::ModelFault;
+use crate::numbers::{ExamNo, StudentNo};
+use crate::roll::Roll;
+use std::alloc::Global;
+use std::marker::Model;
+
+const MOST_PAIRS: u32 = 200_000;
+
+/// A set of pairs of a student and an exam, at most 200,000, for 1 to 2,000 exams.
+#[derive(Debug, Drop)]
+pub struct Enrolments {
+    rolls: Vec<Roll>,
+    pairs: u32,
+}
+
+impl Model for Enrolments {
+    ghost use Rattle.std.specs.Prelude.{◌≡◌};
+    ghost use Rattle.exam_model.specs.Enrolments.{Enrolled, AreEnrolments, pair_count};
+
+    ghost Value = { Enrolled };
+
+    ghost view = { λ a. a.rolls.items };
+
+    ghost invariant = { λ a. AreEnrolments a.rolls.items × (a.pairs ≡ pair_count a.rolls.items) };
+}
+
+impl Enrolments {
+    /// The empty set of pairs, for so many exams.
+    #[tactic(auto, using(crate::proofs::EnrolmentLemmas::enrolment_facts))]
+    pub fn new(alloc: Global, exams: u32) -> Result<Enrolments, ModelFault>
+        requires at_least { 1 ≤ exams }
+        requires at_most { exams ≤ 2000 }
+        ensures empty { IfOk result (λ made. made ≡ no_pairs exams) }
+        ensures kept { IfOk result AreEnrolments }
+        ensures memory { IfErr result (λ fault. fault ≡ ModelFault.NoMemory) }
+    {
+        let mut rolls: Vec<Roll> = Vec::new(alloc);
+        'rolls: for _ in 0..exams {
+            rolls.push(Roll::new(alloc))?;
+        }
+        Ok(Enrolments { rolls, pairs: 0 })
+    }
+
+    /// How many exams there are, as `new` was told.
+    pub fn exams(&self) -> u32
+        ensures count { result ≡ length self.now }
+        ensures kept { AreEnrolments self.now }
+    {
+        self.rolls.len() as u32
+    }
+
+    /// How many pairs there are.
+    pub fn pairs(&self) -> u32
+        ensures count { result ≡ pair_count self.now }
+        ensures kept { AreEnrolments self.now }
+    {
+        self.pairs
+    }
+
+    /// The students of an exam, ascending.
+    pub fn students(&self, exam: ExamNo) -> &[StudentNo]
+        requires exists { exam < length self.now }
+        ensures all { result.now ≡ students self.now exam }
+        ensures ascending { IsAscending result.now }
+    {
+        self.rolls[exam.get() as usize].as_slice()
+    }
+
+    /// Whether the student sits the exam.
+    pub fn has(&self, student: StudentNo, exam: ExamNo) -> bool
+        requires exists { exam < length self.now }
+        ensures { result ≡ has self.now student exam }
+    {
+        self.rolls[exam.get() as usize].has(student)
+    }
+
+    /// How many students sit the exam.
+    #[tactic(auto, using(crate::proofs::EnrolmentLemmas::enrolment_facts))]
+    pub fn size(&self, exam: ExamNo) -> u32
+        requires exists { exam < length self.now }
+        ensures size { result ≡ size_of self.now exam }
+        ensures within { result ≤ pair_count self.now }
+    {
+        let _pairs = self.pairs;
+        self.students(exam).len() as u32
+    }
+
+    /// How many students sit both exams.
+    #[tactic(auto, using(crate::proofs::EnrolmentLemmas::enrolment_facts))]
+    pub fn shared(&self, exam: ExamNo, other: ExamNo) -> u32
+        requires exists { exam < length self.now }
+        requires other_exists { other < length self.now }
+        ensures shared { result ≡ shared self.now exam other }
+        ensures within { result ≤ size_of self.now exam }
+    {
+        let _pairs = self.pairs;
+        let second = &self.rolls[other.get() as usize];
+        let both = self
+            .students(exam)
+            .iter()
+            .filter(|student| second.has(**student))
+            .count();
+        both as u32
+    }
+
+    /// Adds a pair, and answers whether it is new. `NoSuch` comes where there is no such exam,
+    /// and else `Range` for a new pair where 200,000 are there.
+    #[tactic(auto, using(crate::proofs::EnrolmentLemmas::enrolment_facts))]
+    pub fn add(&mut self, student: StudentNo, exam: ExamNo) -> Result<bool, ModelFault>
+        ensures fresh { IfOk result (λ fresh. fresh ≡ not (has self.old student exam)) }
+        ensures exists { OnOk result (exam < length self.old) }
+        ensures ok { OnOk result (Adds self.old self.new student exam) }
+        ensures err { OnErr result (self.new ≡ self.old) }
+        ensures kept { AreEnrolments self.new }
+        ensures refused { IfErr result (RefusesPair self.old student exam) }
+    {
+        let full = self.pairs >= MOST_PAIRS;
+        let Some(roll) = self.rolls.get_mut(exam.get() as usize) else {
+            return Err(ModelFault::NoSuch);
+        };
+        let fresh = roll.add(student, full)?;
+        if fresh {
+            self.pairs += 1;
+        }
+        Ok(fresh)
+    }
+}

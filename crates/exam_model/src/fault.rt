@@ -1,0 +1,36 @@
+// What a model refuses.
+
+use std::alloc::{AllocError, AllocFailed};
+
+/// Why a part of the model is refused.
+#[derive(Clone, Copy, Debug, PartialEq, Eq)]
+pub enum ModelFault {
+    /// A number or a count is beyond its limit.
+    Range = 1,
+    /// A number names nothing that exists.
+    NoSuch = 2,
+    /// Memory was refused.
+    NoMemory = 3,
+}
+
+impl From<AllocError> for ModelFault {
+    ghost use Rattle.std.specs.Prelude.{◌≡◌};
+    ghost use Rattle.exam_model.specs.declared.fault.ModelFault.TheVariants.{NoMemory};
+
+    ghost from_gives = { λ _ e. e ≡ NoMemory };
+
+    fn from(_error: AllocError) -> ModelFault {
+        ModelFault::NoMemory
+    }
+}
+
+impl<T: Drop> From<AllocFailed<T>> for ModelFault {
+    ghost use Rattle.std.specs.Prelude.{◌≡◌};
+    ghost use Rattle.exam_model.specs.declared.fault.ModelFault.TheVariants.{NoMemory};
+
+    ghost from_gives = { λ _ e. e ≡ NoMemory };
+
+    fn from(_error: AllocFailed<T>) -> ModelFault {
+        ModelFault::NoMemory
+    }
+}

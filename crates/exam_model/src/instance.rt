@@ -1,0 +1,176 @@
+// An instance: contracts see an examination session by its parts.
+ghost use Rattle.std.specs.Prelude.{◌≡◌, ℕ, ◌<◌, ◌≤◌, length, slice_get, Some, IfOk, IfErr};
+
+use crate::fault::ModelFault;
+use crate::limits::{in_limits, numbers_exist};
+use crate::numbers::{ExamNo, PeriodNo, RoomNo};
+use crate::parts::{Exam, Period, Room, Weights};
+use crate::rules::{PeriodRule, RoomRule};
+use std::alloc::Global;
+use std::marker::Model;
+
+/// Exams, periods, rooms, rules and weights. Exams, periods and rooms are numbered from 0.
+/// Every limit holds, and every exam that a rule names exists.
+#[derive(Debug, Drop)]
+pub struct Instance {
+    exams: Vec<Exam>,
+    periods: Vec<Period>,
+    rooms: Vec<Room>,
+    period_rules: Vec<PeriodRule>,
+    room_rules: Vec<RoomRule>,
+    weights: Weights,
+}
+
+impl Model for Instance {
+    ghost use Rattle.exam_model.specs.Instance.{Session, IsInstance};
+
+    ghost Value = { Session };
+
+    ghost view = { λ a. record {
+      exams = a.exams.items;
+      periods = a.periods.items;
+      rooms = a.rooms.items;
+      period_rules = a.period_rules.items;
+      room_rules = a.room_rules.items;
+      weights = a.weights;
+    } };
+
+    ghost invariant = { λ a. IsInstance (record {
+      exams = a.exams.items;
+      periods = a.periods.items;
+      rooms = a.rooms.items;
+      period_rules = a.period_rules.items;
+      room_rules = a.room_rules.items;
+      weights = a.weights;
+    }) };
+}
+
+impl Instance {
+    ghost use Rattle.std.specs.Prelude.{◌≡◌, ◌<◌, length, slice_get, Some, IfOk, IfErr};
+    ghost use Rattle.exam_model.specs.Instance.{Session, IsInstance, RefusesSession, same_day};
+
+    /// The instance of these lists, which are copied. `Range` comes where a limit doesn't hold,
+    /// and else `NoSuch` where a rule names an exam that doesn't exist.
+    pub fn new(
+        alloc: Global,
+        exams: &[Exam],
+        periods: &[Period],
+        rooms: &[Room],
+        period_rules: &[PeriodRule],
+        room_rules: &[RoomRule],
+        weights: Weights,
+    ) -> Result<Instance, ModelFault>
+        ensures made { IfOk result (λ made. made ≡ record {
+          exams = exams.now;
+          periods = periods.now;
+          rooms = rooms.now;
+          period_rules = period_rules.now;
+          room_rules = room_rules.now;
+          weights = weights;
+        }) }
+        ensures kept { IfOk result IsInstance }
+        ensures refused { IfErr result (RefusesSession (record {
+          exams = exams.now;
+          periods = periods.now;
+          rooms = rooms.now;
+          period_rules = period_rules.now;
+          room_rules = room_rules.now;
+          weights = weights;
+        })) }
+    {
+        if !in_limits(exams, periods, rooms, period_rules, room_rules, &weights) {
+            return Err(ModelFault::Range);
+        }
+        if !numbers_exist(exams.len(), period_rules, room_rules) {
+            return Err(ModelFault::NoSuch);
+        }
+        Ok(Instance {
+            exams: exams.to_vec(alloc)?,
+            periods: periods.to_vec(alloc)?,
+            rooms: rooms.to_vec(alloc)?,
+            period_rules: period_rules.to_vec(alloc)?,
+            room_rules: room_rules.to_vec(alloc)?,
+            weights,
+        })
+    }
+
+    pub fn exam(&self, exam: ExamNo) -> Exam
+        requires exists { exam < length self.now.exams }
+        ensures { slice_get self.now.exams exam ≡ Some result }
+    {
+        self.exams[exam.get() as usize]
+    }
+
+    pub fn period(&self, period: PeriodNo) -> Period
+        requires exists { period < length self.now.periods }
+        ensures { slice_get self.now.periods period ≡ Some result }
+    {
+        self.periods[period.get() as usize]
+    }
+
+    pub fn room(&self, room: RoomNo) -> Room
+        requires exists { room < length self.now.rooms }
+        ensures { slice_get self.now.rooms room ≡ Some result }
+    {
+        self.rooms[room.get() as usize]
+    }
+
+    /// How many exams there are, 1 to 2,000.
+    pub fn exams(&self) -> u32
+        ensures count { result ≡ length self.now.exams }
+        ensures kept { IsInstance self.now }
+    {
+        self.exams.len() as u32
+    }
+
+    /// How many periods there are, 1 to 200.
+    pub fn periods(&self) -> u32
+        ensures count { result ≡ length self.now.periods }
+        ensures kept { IsInstance self.now }
+    {
+        self.periods.len() as u32
+    }
+
+    /// How many rooms there are, 1 to 200.
+    pub fn rooms(&self) -> u32
+        ensures count { result ≡ length self.now.rooms }
+        ensures kept { IsInstance self.now }
+    {
+        self.rooms.len() as u32
+    }
+
+    /// The rules on periods in the order in which they were given; at most 5,000.
+    pub fn period_rules(&self) -> &[PeriodRule]
+        ensures rules { result.now ≡ self.now.period_rules }
+        ensures kept { IsInstance self.now }
+    {
+        &self.period_rules
+    }
+
+    /// The rules on rooms in the order in which they were given; at most 5,000.
+    pub fn room_rules(&self) -> &[RoomRule]
+        ensures rules { result.now ≡ self.now.room_rules }
+        ensures kept { IsInstance self.now }
+    {
+        &self.room_rules
+    }
+
+    pub fn weights(&self) -> Weights
+        ensures weights { result ≡ self.now.weights }
+        ensures kept { IsInstance self.now }
+    {
+        self.weights
+    }
+
+    /// Whether two periods are of one date; false where one of them doesn't exist.
+    pub fn same_day(&self, one: PeriodNo, other: PeriodNo) -> bool
+        ensures { result ≡ same_day self.now.periods one other }
+    {
+        let one = self.periods.get(one.get() as usize);
+        let other = self.periods.get(other.get() as usize);
+        match (one, other) {
+            (Some(one), Some(other)) => one.date == other.date,
+            _ => false,
+        }
+    }
+}

@@ -1,0 +1,22 @@
+//! The values of an examination session: numbers, an instance, enrolments and a timetable.
+#![tactic(auto)]
+
+mod enrolments;
+mod fault;
+mod instance;
+mod laws;
+mod limits;
+mod numbers;
+mod parts;
+mod roll;
+mod rules;
+mod timetable;
+
+pub use enrolments::Enrolments;
+pub use fault::ModelFault;
+pub use instance::Instance;
+pub use laws::determined_by_pairs;
+pub use numbers::{DeptNo, ExamNo, PeriodNo, RoomNo, StudentNo};
+pub use parts::{Exam, Period, Place, Room, Weights};
+pub use rules::{PeriodRule, RoomRule};
+pub use timetable::Timetable;

@@ -1,0 +1,109 @@
+// Exams, periods, rooms, places and weights (ITC 2007, input format).
+use crate::numbers::{PeriodNo, RoomNo};
+use jiff::civil::Date;
+
+/// An exam: how long it lasts, 0 to 1,440 minutes.
+#[derive(Clone, Copy, Debug, PartialEq, Eq)]
+pub struct Exam {
+    pub minutes: u32,
+}
+
+/// A period: when it begins, how many minutes it has (0 to 1,440), and what an exam in it
+/// costs (0 to 100,000). Years are 1 to 9999. Periods needn't stand in the order of time.
+#[derive(Clone, Copy, Debug, PartialEq, Eq)]
+pub struct Period {
+    pub date: Date,
+    pub hour: u8,
+    pub minute: u8,
+    pub second: u8,
+    pub length: u32,
+    pub penalty: u32,
+}
+
+/// A room: how many students it holds, and what an exam in it costs; each 0 to 100,000.
+#[derive(Clone, Copy, Debug, PartialEq, Eq)]
+pub struct Room {
+    pub capacity: u32,
+    pub penalty: u32,
+}
+
+/// Where an exam stands. Several exams may share a place.
+#[derive(Clone, Copy, Debug, PartialEq, Eq)]
+pub struct Place {
+    pub period: PeriodNo,
+    pub room: RoomNo,
+}
+
+/// What the institution weighs (ITC 2007, institutional model index); each 0 to 100,000.
+#[derive(Clone, Copy, Debug, PartialEq, Eq)]
+pub struct Weights {
+    /// For two exams in a row.
+    pub row: u32,
+    /// For two exams in a day.
+    pub day: u32,
+    /// Over how many periods a student's exams are to be spread.
+    pub spread: u32,
+    /// For each further duration in a room and period.
+    pub mixed: u32,
+    /// How many of the largest exams are to come early.
+    pub front_exams: u32,
+    /// How many of the last periods are late.
+    pub front_periods: u32,
+    /// For each of the largest exams in a late period.
+    pub front: u32,
+}
+
+impl Exam {
+    ghost use Rattle.std.specs.Prelude.{IsTrue, ◌↔◌};
+    ghost use Rattle.exam_model.specs.Limits.{ExamInLimits};
+
+    pub(crate) fn in_limits(&self) -> bool
+        ensures { IsTrue result ↔ ExamInLimits self.now }
+    {
+        self.minutes <= 1440
+    }
+}
+
+impl Period {
+    ghost use Rattle.std.specs.Prelude.{IsTrue, ◌↔◌};
+    ghost use Rattle.exam_model.specs.Limits.{PeriodInLimits};
+
+    pub(crate) fn in_limits(&self) -> bool
+        ensures { IsTrue result ↔ PeriodInLimits self.now }
+    {
+        self.date.year() >= 1
+            && self.hour <= 23
+            && self.minute <= 59
+            && self.second <= 59
+            && self.length <= 1440
+            && self.penalty <= 100_000
+    }
+}
+
+impl Room {
+    ghost use Rattle.std.specs.Prelude.{IsTrue, ◌↔◌};
+    ghost use Rattle.exam_model.specs.Limits.{RoomInLimits};
+
+    pub(crate) fn in_limits(&self) -> bool
+        ensures { IsTrue result ↔ RoomInLimits self.now }
+    {
+        self.capacity <= 100_000 && self.penalty <= 100_000
+    }
+}
+
+impl Weights {
+    ghost use Rattle.std.specs.Prelude.{IsTrue, ◌↔◌};
+    ghost use Rattle.exam_model.specs.Limits.{WeightsInLimits};
+
+    pub(crate) fn in_limits(&self) -> bool
+        ensures { IsTrue result ↔ WeightsInLimits self.now }
+    {
+        self.row <= 100_000
+            && self.day <= 100_000
+            && self.spread <= 100_000
+            && self.mixed <= 100_000
+            && self.front_exams <= 100_000
+            && self.front_periods <= 100_000
+            && self.front <= 100_000
+    }
+}

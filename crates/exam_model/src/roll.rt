@@ -1,0 +1,87 @@
+// The students of one exam, ascending: contracts see the list of their numbers.
+ghost use Rattle.std.specs.Prelude.{◌≡◌, ℕ, List, [], true, false, IfOk, IfErr, OnOk, OnErr, not};
+ghost use Rattle.exam_model.specs.Enrolments.{IsAscending, IsAt, IsGap, Enters, RefusesStudent, has_student};
+
+use crate::fault::ModelFault;
+use crate::numbers::StudentNo;
+use std::alloc::Global;
+use std::marker::Model;
+
+#[derive(Debug, Drop)]
+pub struct Roll {
+    students: Vec<StudentNo>,
+}
+
+impl Model for Roll {
+    ghost Value = { List ℕ };
+
+    ghost view = { λ a. a.students.items };
+
+    ghost invariant = { λ a. IsAscending a.students.items };
+}
+
+impl Roll {
+    pub fn new(alloc: Global) -> Roll
+        ensures { result ≡ [] }
+    {
+        Roll {
+            students: Vec::new(alloc),
+        }
+    }
+
+    pub fn as_slice(&self) -> &[StudentNo]
+        ensures all { result.now ≡ self.now }
+        ensures ascending { IsAscending self.now }
+    {
+        &self.students
+    }
+
+    // Where the student is, or where she would go.
+    fn search(&self, student: StudentNo) -> Result<usize, usize>
+        ensures found { IfOk result (IsAt self.now student) }
+        ensures absent { IfErr result (IsGap self.now student) }
+    {
+        self.students.binary_search(&student)
+    }
+
+    // The same, at once where she is greater than all.
+    #[tactic(auto, using(crate::proofs::RollLemmas::gap_at_end))]
+    fn place(&self, student: StudentNo) -> Result<usize, usize>
+        ensures found { IfOk result (IsAt self.now student) }
+        ensures absent { IfErr result (IsGap self.now student) }
+    {
+        match self.students.last() {
+            Some(last) if *last < student => Err(self.students.len()),
+            _ => self.search(student),
+        }
+    }
+
+    #[tactic(auto, using(crate::proofs::RollLemmas::roll_facts))]
+    pub fn has(&self, student: StudentNo) -> bool
+        ensures { result ≡ has_student self.now student }
+    {
+        match self.search(student) {
+            Ok(_) => true,
+            Err(_) => false,
+        }
+    }
+
+    /// Puts a student in unless the roll is full, and answers whether she is new.
+    #[tactic(auto, using(crate::proofs::RollLemmas::roll_facts))]
+    pub fn add(&mut self, student: StudentNo, full: bool) -> Result<bool, ModelFault>
+        ensures fresh { IfOk result (λ fresh. fresh ≡ not (has_student self.old student)) }
+        ensures ok { OnOk result (Enters self.old self.new student) }
+        ensures err { OnErr result (self.new ≡ self.old) }
+        ensures within { IfOk result (λ fresh. fresh ≡ true → full ≡ false) }
+        ensures refused { IfErr result (RefusesStudent self.old student full) }
+    {
+        match self.place(student) {
+            Ok(_) => Ok(false),
+            Err(_) if full => Err(ModelFault::Range),
+            Err(at) => {
+                self.students.insert(at, student)?;
+                Ok(true)
+            }
+        }
+    }
+}

@@ -1,0 +1,42 @@
+// Hard rules on the periods and rooms of single exams (ITC 2007, hard constraints).
+use crate::numbers::ExamNo;
+
+/// A rule on the periods of two exams. One that names an exam twice is never broken.
+#[derive(Clone, Copy, Debug, PartialEq, Eq)]
+pub enum PeriodRule {
+    /// The first exam takes place after the second.
+    After(ExamNo, ExamNo),
+    /// Both take place in one period, unless they share a student.
+    Coincidence(ExamNo, ExamNo),
+    /// They take place in different periods.
+    Exclusion(ExamNo, ExamNo),
+}
+
+/// The exam that wants its room for itself.
+#[derive(Clone, Copy, Debug, PartialEq, Eq)]
+pub struct RoomRule(pub ExamNo);
+
+impl PeriodRule {
+    ghost use Rattle.std.specs.Prelude.{IsTrue, ◌↔◌};
+    ghost use Rattle.exam_model.specs.Instance.{PeriodRuleExists};
+
+    pub(crate) fn exists(&self, exams: usize) -> bool
+        ensures { IsTrue result ↔ PeriodRuleExists exams self.now }
+    {
+        match self {
+            PeriodRule::After(a, b) | PeriodRule::Coincidence(a, b) | PeriodRule::Exclusion(a, b) =>
+                { (a.get() as usize) < exams && (b.get() as usize) < exams }
+        }
+    }
+}
+
+impl RoomRule {
+    ghost use Rattle.std.specs.Prelude.{IsTrue, ◌↔◌};
+    ghost use Rattle.exam_model.specs.Instance.{RoomRuleExists};
+
+    pub(crate) fn exists(&self, exams: usize) -> bool
+        ensures { IsTrue result ↔ RoomRuleExists exams self.now }
+    {
+        (self.0.get() as usize) < exams
+    }
+}

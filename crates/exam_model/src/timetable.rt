@@ -1,0 +1,73 @@
+// A timetable: contracts see a list with each exam's place, if it has one.
+ghost use Rattle.std.specs.Prelude.{◌≡◌, ◌<◌, ◌≤◌, ℕ, length, Some, None, IfOk, IfNone, IfSome, IsSome, slice_set};
+ghost use Rattle.exam_model.specs.Timetable.{place_of, unplaced, HasExams, IsFirstUnplaced};
+
+use crate::numbers::ExamNo;
+use crate::parts::Place;
+use std::alloc::{AllocError, Global};
+use std::marker::Model;
+
+/// Where each of 1 to 2,000 exams stands, if it stands anywhere.
+#[derive(Debug, Drop)]
+pub struct Timetable {
+    places: Vec<Option<Place>>,
+}
+
+impl Model for Timetable {
+    ghost use Rattle.exam_model.specs.Timetable.{Placing, HasExams};
+
+    ghost Value = { Placing };
+
+    ghost view = { λ a. a.places.items };
+
+    ghost invariant = { λ a. HasExams a.places.items };
+}
+
+impl Timetable {
+    /// The timetable of so many exams in which none is placed.
+    pub fn new(alloc: Global, exams: u32) -> Result<Timetable, AllocError>
+        requires at_least { 1 ≤ exams }
+        requires at_most { exams ≤ 2000 }
+        ensures { IfOk result (λ made. made ≡ unplaced exams) }
+    {
+        let places = vec![in alloc; None; exams as usize]?;
+        Ok(Timetable { places })
+    }
+
+    /// How many exams there are, placed or not.
+    pub fn exams(&self) -> u32
+        ensures count { result ≡ length self.now }
+        ensures kept { HasExams self.now }
+    {
+        self.places.len() as u32
+    }
+
+    /// Where the exam stands.
+    pub fn get(&self, exam: ExamNo) -> Option<Place>
+        requires exists { exam < length self.now }
+        ensures { result ≡ place_of self.now exam }
+    {
+        self.places[exam.get() as usize]
+    }
+
+    /// Places the exam, wherever it stood before.
+    pub fn set(&mut self, exam: ExamNo, place: Place)
+        requires exists { exam < length self.old }
+        ensures { self.new ≡ slice_set self.old exam (Some place) }
+    {
+        self.places[exam.get() as usize] = Some(place);
+    }
+
+    /// The smallest exam without a place.
+    pub fn complete(&self) -> Option<ExamNo>
+        ensures none { IfNone result ((e : ℕ) → e < length self.now → IsSome (place_of self.now e)) }
+        ensures first { IfSome result (IsFirstUnplaced self.now) }
+    {
+        for (at, place) in self.places.iter().enumerate() {
+            if place.is_none() {
+                return Some(ExamNo::new(at as u32));
+            }
+        }
+        None
+    }
+}
