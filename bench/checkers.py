@@ -1,0 +1,93 @@
+"""The program and the two baselines: how each is built, and what it answers."""
+import pathlib
+import shutil
+import subprocess
+import sys
+from collections import namedtuple
+
+HERE = pathlib.Path(__file__).resolve().parent
+TOP = HERE.parent
+PROGRAM = TOP / "crates" / "examoffice" / "out" / "examoffice"
+RUST = HERE / "build" / "rust" / "release" / "check"
+CPP = HERE / "build" / "cpp" / "check"
+ORACLE = [sys.executable, str(HERE / "oracle.py")]
+
+Answer = namedtuple("Answer", "status stdout stderr")
+
+
+def say(text):
+    print(text, file=sys.stderr, flush=True)
+
+
+def build_rust():
+    subprocess.run(["cargo", "build", "--offline", "--release", "--quiet", "--manifest-path",
+                    HERE / "baseline" / "rust" / "Cargo.toml", "--target-dir", RUST.parent.parent],
+                   check=True)
+
+
+def build_cpp():
+    source = HERE / "baseline" / "cpp" / "check.cpp"
+    if CPP.exists() and CPP.stat().st_mtime >= source.stat().st_mtime:
+        return
+    CPP.parent.mkdir(parents=True, exist_ok=True)
+    subprocess.run(["g++", "-std=c++17", "-O3", "-g1", "-Wall", "-Wextra", "-o", CPP, source],
+                   check=True)
+
+
+def baselines():
+    """Builds the baselines for which there is a compiler, and answers their commands by name."""
+    commands = {}
+    for name, compiler, build, made in (("rust", "cargo", build_rust, RUST),
+                                        ("c++", "g++", build_cpp, CPP)):
+        if not shutil.which(compiler):
+            say(f"no {compiler} in PATH: the baseline {name} is left out")
+            continue
+        try:
+            build()
+        except subprocess.CalledProcessError:
+            sys.exit(f"the baseline {name} does not build")
+        commands[name] = [str(made), "check"]
+    return commands
+
+
+def program(path=None):
+    """The program's command. Without a path the launcher builds it first where it has to."""
+    if not path:
+        launched = [TOP / "examoffice", "--help"]
+        if subprocess.run(launched, stdout=subprocess.DEVNULL, check=False).returncode:
+            sys.exit("the program does not build")
+    return [str(pathlib.Path(path).resolve() if path else PROGRAM), "check"]
+
+
+def ask(command, instance, solution):
+    done = subprocess.run([*command, instance, solution], stdin=subprocess.DEVNULL,
+                          capture_output=True, check=False)
+    return Answer(done.returncode, done.stdout, done.stderr)
+
+
+def expected(whole):
+    """What the program answers where a baseline gives this whole answer.
+
+    The program writes one line of the report so far, and its status tells nothing of breaches.
+    What a baseline says of a file with a fault is the program's answer as it stands.
+    """
+    if whole.status not in (0, 3):
+        return whole
+    lines = whole.stdout.splitlines(True)
+    return Answer(0, next(it for it in lines if it.startswith(b"two in a row ")), whole.stderr)
+
+
+def difference(answers):
+    """Names the first answer that is not as it must be, and says what came; None if all agree.
+
+    `answers` holds the program's under "examoffice", if it was asked, and those of the others.
+    """
+    others = {name: answer for name, answer in answers.items() if name != "examoffice"}
+    if not others:
+        return None
+    whole = next(iter(others.values()))
+    wanted = {**dict.fromkeys(others, whole), "examoffice": expected(whole)}
+    for name, got in answers.items():
+        if got != wanted[name]:
+            return f"{name} answers\n  {got}\nand not\n  {wanted[name]}"
+    return None

@@ -1,0 +1,119 @@
+#!/usr/bin/env python3
+"""fuzz.py [--program PATH] [--rounds N] [--seed N]: the same answers on files made at random.
+
+Every second round damages the small files with known answers; the others make small well-formed
+instances, on some of which the slow oracle is asked too. The first two files on which answers
+differ are kept and named.
+"""
+import argparse
+import pathlib
+import random
+import shutil
+import sys
+import tempfile
+
+from checkers import ORACLE, ask, baselines, difference, program
+from known import FAULTS, REPORTS
+
+PIECES = ["\r", "\n", "\r\n", ",", " ", "\t", "[", "]", ":", "0", "00", "-", "1441", "100001", "4",
+          "99999999999999999999", "x", "after", "Exclusion", "EXAM_COINCIDENCE", "room_exclusive",
+          "[Exams:4]", "[Rooms : 2 ]", "TWOINAROW,3", "FRONTLOAD,2,2,2,", "29:02:2005",
+          "29:02:2004", ",,", ", ", "1, 2", "[InstitutionalWeightings]", "24:00:00", "9:5:0",
+          "\x00", "\xe9"]
+LONGEST = 5_000
+
+
+def damaged_lines(rng, text):
+    """The text with one line taken away, or written a second time at another place."""
+    lines = text.splitlines(True)
+    if not lines:
+        return text
+    line = rng.randrange(len(lines))
+    if rng.random() < 0.5:
+        lines.insert(rng.randrange(len(lines) + 1), lines[line])
+    else:
+        del lines[line]
+    return "".join(lines)
+
+
+def damaged(rng, text):
+    for _ in range(rng.choice([1, 1, 1, 2, 3])):
+        at = rng.randrange(len(text) + 1)
+        how = rng.choice(["insert", "remove", "replace", "lines", "lines"])
+        if how == "insert":
+            text = text[:at] + rng.choice(PIECES) + text[at:]
+        elif how == "remove":
+            text = text[:at] + text[at + rng.randrange(1, 9):]
+        elif how == "replace":
+            text = text[:at] + rng.choice(PIECES) + text[at + rng.randrange(1, 4):]
+        else:
+            text = damaged_lines(rng, text)
+    return text
+
+
+def made(rng):
+    """A small well-formed instance and a solution of it."""
+    exams, periods, rooms = rng.randrange(1, 60), rng.randrange(1, 12), rng.randrange(1, 4)
+    students = rng.randrange(1, 40)
+    lines = [f"[Exams:{exams}]"]
+    for _ in range(exams):
+        names = [rng.randrange(students) for _ in range(rng.randrange(0, students + 5))]
+        lines.append(", ".join(map(str, [rng.choice([60, 90, 120]), *names])))
+    lines.append(f"[Periods:{periods}]")
+    lines += [f"{rng.randrange(1, 5)}:01:2005, 9:0:0, {rng.choice([90, 120])}, {rng.choice([0, 7])}"
+              for _ in range(periods)]
+    lines.append(f"[Rooms:{rooms}]")
+    lines += [f"{rng.randrange(200)}, {rng.choice([0, 5])}" for _ in range(rooms)]
+    lines.append("[PeriodHardConstraints]")
+    lines += [f"{rng.randrange(exams)}, {rng.choice(['AFTER', 'EXCLUSION', 'EXAM_COINCIDENCE'])}, "
+              f"{rng.randrange(exams)}" for _ in range(rng.randrange(12))]
+    lines.append("[RoomHardConstraints]")
+    lines += [f"{rng.randrange(exams)}, ROOM_EXCLUSIVE" for _ in range(rng.randrange(4))]
+    lines += ["[InstitutionalWeightings]", f"TWOINAROW,{rng.randrange(9)}",
+              f"TWOINADAY,{rng.randrange(9)}", f"PERIODSPREAD,{rng.randrange(14)}",
+              f"NONMIXEDDURATIONS,{rng.randrange(9)}",
+              f"FRONTLOAD,{rng.randrange(70)},{rng.randrange(14)},{rng.randrange(9)}"]
+    solution = [f"{rng.randrange(periods)}, {rng.randrange(rooms)}" for _ in range(exams)]
+    return "\n".join(lines) + "\n", "\n".join(solution) + "\n"
+
+
+def texts_of(rng, turn, pool):
+    if turn % 2 == 0:
+        return made(rng)
+    return [damaged(rng, text) if rng.random() < chance else text
+            for text, chance in zip(rng.choice(pool), (0.8, 0.4))]
+
+
+def words():
+    parser = argparse.ArgumentParser(description=__doc__)
+    parser.add_argument("--program", help="a program in the place of the built one")
+    parser.add_argument("--rounds", type=int, default=2_000)
+    parser.add_argument("--seed", type=int, default=1)
+    return parser.parse_args()
+
+
+def main():
+    given = words()
+    rng = random.Random(given.seed)
+    commands = {"examoffice": program(given.program), **baselines()}
+    if len(commands) == 1:
+        sys.exit("fuzz: no baseline to compare with")
+    pool = [case[:2] for case in [*REPORTS.values(), *FAULTS.values()] if len(case[0]) < LONGEST]
+    folder = tempfile.mkdtemp()
+    files = [str(pathlib.Path(folder, name)) for name in ("fuzz.exam", "fuzz.sol")]
+    refused = 0
+    for turn in range(given.rounds):
+        for file, text in zip(files, texts_of(rng, turn, pool)):
+            pathlib.Path(file).write_bytes(text.encode("latin-1"))
+        asked = {**commands, "oracle": ORACLE} if turn % 10 == 0 else commands
+        answers = {name: ask(command, *files) for name, command in asked.items()}
+        told = difference(answers)
+        if told:
+            sys.exit(f"fuzz: round {turn}, {' '.join(files)}: {told}")
+        refused += answers["examoffice"].status == 1
+    shutil.rmtree(folder)
+    print(f"fuzz: {given.rounds} rounds agree, {refused} of them on faulty files")
+
+
+if __name__ == "__main__":
+    main()

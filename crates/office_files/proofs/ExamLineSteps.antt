@@ -1,0 +1,215 @@
+-- What a line of the section of exams says, and the lines so far.
+use Rattle.std.proofs.Common.{◌≡◌, ℕ, suc, ◌+◌, ◌-◌, ◌<◌, List, [], ◌∷◌, ◌++◌, length, set, take}
+use Rattle.std.proofs.Common.{Result, Ok, Err, Option, Some, None, refl, ap, sym, ◌∙◌, arith}
+use Rattle.std.proofs.Common.{append_assoc}
+use Rattle.std.specs.Prelude.{map, sum_by}
+use Rattle.std.specs.List.Sorted.{IsPermutation}
+use Rattle.std.proofs.lemmas.List.{length-append, length-map, map_push, set_at}
+use Rattle.std.proofs.lemmas.List.Sums.{sum_by-append, sum_by-cons}
+use Rattle.std.proofs.lemmas.List.Folds.{sum_by-replicate}
+use Rattle.exam_model.specs.Refusing.{◌>>=◌}
+use Rattle.exam_model.specs.Enrolments.{Enrolled, AreEnrolments, pair_count, no_pairs}
+use Rattle.exam_model.specs.declared.parts.Exam.{Exam}
+use Rattle.office_files.specs.Fields.{fields_of, first, rest}
+use Rattle.office_files.specs.Lines.{Located}
+use Rattle.office_files.specs.Numbers.{number}
+use Rattle.office_files.specs.Reading.{items_of}
+use Rattle.office_files.specs.ExamLines.{ExamLine, exam_line, exam_behind, exam_of, pairs_on}
+use Rattle.office_files.specs.ExamLines.{students_in, EntersLine, IsEmptyExam}
+use Rattle.office_files.specs.ExamLines.{with_students, named_in, fault_in}
+use Rattle.office_files.specs.declared.fault.FaultKind.{FaultKind}
+use Rattle.office_files.specs.declared.fault.FaultKind.TheVariants.{OutOfRange}
+use Rattle.office_files.proofs.ExamLineLemmas.{students-permutation, ascending-none}
+use Rattle.office_files.proofs.ExamLinePairs.{judged, students_in-within, students_in-past}
+use Rattle.office_files.proofs.ExamLinePairs.{pair_count-enrolled}
+
+-- a line with these minutes says what its students' fields say
+behind_minutes : (pairs minutes : ℕ) (fields : List (List ℕ)) (r : Result (List ℕ) FaultKind) →
+    number 1440 (first fields) ≡ Ok minutes → students_in pairs [] (rest fields) ≡ r →
+    exam_behind pairs fields ≡ (r >>= λ names. Ok (record { minutes = minutes; students = names }))
+behind_minutes pairs minutes fields r is said = rw (is, said) refl
+
+-- what was read of a line: its minutes, and in some order the students up to the first fault
+pub record IsReadOf (fields : List (List ℕ)) (minutes : ℕ) (names : List ℕ)
+    (fault : Option FaultKind) : Type 0 where
+  pub minutes_are : number 1440 (first fields) ≡ Ok minutes
+  pub order : List ℕ
+  pub in_order : order ≡ named_in (rest fields)
+  pub moved : IsPermutation order names
+  pub fault_is : fault ≡ fault_in (rest fields)
+
+-- what the calls on a line tell of it
+pub read_of : (fields now tail : List (List ℕ)) (field : List ℕ) (minutes : ℕ)
+    (order sorted names : List ℕ) (fault : Option FaultKind) →
+    now ≡ fields → field ≡ first now → tail ≡ rest now → Ok minutes ≡ number 1440 field →
+    order ≡ named_in tail → fault ≡ fault_in tail → IsPermutation order sorted → names ≡ sorted →
+    IsReadOf fields minutes names fault
+read_of fields now tail field minutes order sorted names fault all one others is in_order faulty
+    moved same =
+    let here : field ≡ first fields = one ∙ ap first all in
+    let behind : tail ≡ rest fields = others ∙ ap rest all in
+    record {
+      minutes_are = ap (number 1440) (sym here) ∙ sym is;
+      order = order;
+      in_order = in_order ∙ ap named_in behind;
+      moved = rw same moved;
+      fault_is = faulty ∙ ap fault_in behind;
+    }
+
+module _ (E : Enrolled) (e : ℕ) (fields : List (List ℕ)) (minutes : ℕ) (names : List ℕ)
+    (fault : Option FaultKind) (empty : IsEmptyExam E e)
+    (is : IsReadOf fields minutes names fault) where
+  abbrev sitters : List ℕ
+  sitters = with_students names []
+
+  -- the order does not matter
+  same_students : sitters ≡ with_students (named_in (rest fields)) []
+  same_students =
+      sym (students-permutation is.order names is.moved)
+      ∙ ap (λ (xs : List ℕ). with_students xs []) is.in_order
+
+  -- where all students are in, a field of the line alone may be faulty
+  line_within : (new : Enrolled) → new ≡ set E e sitters → AreEnrolments new →
+      exam_behind (pair_count E) fields
+      ≡ (judged fault sitters >>= λ xs. Ok (record { minutes = minutes; students = xs }))
+  line_within new changed kept =
+      let pairs : pair_count new ≡ pair_count E + length sitters =
+      ap pair_count changed ∙ pair_count-enrolled E e sitters empty in
+      let few = kept.pairs in
+      let size = ap length same_students in
+      let said : students_in (pair_count E) [] (rest fields) ≡ judged fault sitters =
+      students_in-within (pair_count E) [] (rest fields) (omega arith)
+      ∙ ap (judged (fault_in (rest fields))) (sym same_students)
+      ∙ ap (λ (f : Option FaultKind). judged f sitters) (sym is.fault_is) in
+      behind_minutes (pair_count E) minutes fields _ is.minutes_are said
+
+  -- a line without a fault
+  pub line_entered : (new : Enrolled) → fault ≡ None → new ≡ set E e sitters → AreEnrolments new →
+      EntersLine E new e fields (record { minutes = minutes })
+  line_entered new good changed kept = record {
+    said = record { minutes = minutes; students = sitters };
+    read = rw good at (line_within new changed kept);
+    is_exam = refl;
+    changed = changed;
+    kept = kept;
+  }
+
+  -- a line of which a field is faulty
+  pub line_faulty : (new : Enrolled) (what : FaultKind) → fault ≡ Some what →
+      new ≡ set E e sitters → AreEnrolments new → exam_behind (pair_count E) fields ≡ Err what
+  line_faulty new what bad changed kept = rw bad at (line_within new changed kept)
+
+  -- a line with too many students
+  pub line_past : 200000 < pair_count E + length sitters →
+      exam_behind (pair_count E) fields ≡ Err OutOfRange
+  line_past past =
+      let few = empty.kept.pairs in
+      let size = ap length same_students in
+      let said = students_in-past (pair_count E) [] (rest fields) ascending-none
+      (omega arith) (omega arith) in
+      behind_minutes (pair_count E) minutes fields _ is.minutes_are said
+
+-- the pairs on lines are those of their students
+sum_by-students : (lines : List ExamLine) →
+    sum_by length (map (λ line. line.students) lines) ≡ pairs_on lines
+sum_by-students [] = refl
+sum_by-students (line ∷ lines) =
+    sum_by-cons length line.students (map (λ line. line.students) lines)
+    ∙ ap (λ n. length line.students + n) (sum_by-students lines)
+    ∙ sym (sum_by-cons (λ line. length line.students) line lines)
+
+-- a line that is read goes behind those before it
+items-more : (before : List ExamLine) (said : ExamLine) (row : Located) (rows : List Located)
+    (n : ℕ) → exam_line before (fields_of row.text) ≡ Ok said →
+    items_of exam_line before (take (suc n) (row ∷ rows))
+    ≡ items_of exam_line (before ++ said ∷ []) (take n rows)
+items-more before said row rows n is = rw is refl
+
+-- a line with a fault is the fault of all
+items-fault : (before : List ExamLine) (what : FaultKind) (row : Located) (rows : List Located)
+    (n : ℕ) → exam_line before (fields_of row.text) ≡ Err what →
+    items_of exam_line before (take (suc n) (row ∷ rows))
+    ≡ Err (record { line = row.line; what = what })
+items-fault before what row rows n is = rw is refl
+
+-- so many of the lines were read, and say these exams and pairs; the exams of the others have none
+pub record IsSoFar (all left : List Located) (count done : ℕ) (exams : List Exam)
+    (E : Enrolled) : Type 0 where
+  pub before : List ExamLine
+  pub number : length before ≡ done
+  pub read : items_of exam_line before (take (count - done) left)
+      ≡ items_of exam_line [] (take count all)
+  pub are_exams : exams ≡ map exam_of before
+  pub are_students : E ≡ map (λ line. line.students) before ++ no_pairs (count - done)
+
+module _ (all left : List Located) (count done : ℕ) (exams : List Exam) (E : Enrolled)
+    (lt : done < count) (so_far : IsSoFar all left count done exams E) (row : Located)
+    (rows : List Located) (next : left ≡ row ∷ rows) where
+  abbrev others : ℕ
+  others = count - (done + 1)
+
+  one_more : count - done ≡ suc others
+  one_more = omega arith
+
+  abbrev enrolled : List (List ℕ)
+  enrolled = map (λ line. line.students) so_far.before
+
+  -- so many pairs are there as stand on the lines
+  pairs_are : pair_count E ≡ pairs_on so_far.before
+  pairs_are =
+      let both = sum_by-append length enrolled (no_pairs (count - done)) in
+      let none = sum_by-replicate {X = List ℕ} length (count - done) [] in
+      let same = ap pair_count so_far.are_students in
+      let here : sum_by length enrolled ≡ pairs_on so_far.before = sum_by-students so_far.before in
+      omega arith
+
+  said_so : exam_line so_far.before (fields_of row.text)
+      ≡ exam_behind (pair_count E) (fields_of row.text)
+  said_so = ap (λ k. exam_behind k (fields_of row.text)) (sym pairs_are)
+
+  whole : items_of exam_line so_far.before (take (suc others) (row ∷ rows))
+      ≡ items_of exam_line [] (take count all)
+  whole =
+      ap (λ rs. items_of exam_line so_far.before (take (suc others) rs)) (sym next)
+      ∙ ap (λ k. items_of exam_line so_far.before (take k left)) (sym one_more)
+      ∙ so_far.read
+
+  -- a faulty line is the fault of all
+  pub so_far_fault : (what : FaultKind) →
+      exam_behind (pair_count E) (fields_of row.text) ≡ Err what →
+      items_of exam_line [] (take count all) ≡ Err (record { line = row.line; what = what })
+  so_far_fault what bad =
+      sym whole ∙ items-fault so_far.before what row rows others (said_so ∙ bad)
+
+  -- an exam's students are put in behind those of the exams before it
+  enrolled-more : (sitters : List ℕ) →
+      set E done sitters ≡ (enrolled ++ sitters ∷ []) ++ no_pairs others
+  enrolled-more sitters =
+      let front : length enrolled ≡ done =
+      length-map so_far.before (λ line. line.students) ∙ so_far.number in
+      ap (λ (F : Enrolled). set F done sitters)
+      (so_far.are_students ∙ ap (λ k. enrolled ++ no_pairs k) one_more)
+      ∙ set_at enrolled [] (no_pairs others) sitters done front
+      ∙ sym (append_assoc enrolled (sitters ∷ []) (no_pairs others))
+
+  -- one line more
+  pub so_far_more : (made : Exam) (new : Enrolled) →
+      EntersLine E new done (fields_of row.text) made →
+      IsSoFar all rows count (done + 1) (exams ++ made ∷ []) new
+  so_far_more made new entered =
+      let said = entered.said in
+      record {
+        before = so_far.before ++ said ∷ [];
+        number = omega (arith, length-append so_far.before (said ∷ []), so_far.number);
+        read =
+            sym (items-more so_far.before said row rows others (said_so ∙ entered.read)) ∙ whole;
+        are_exams =
+            ap (λ (xs : List Exam). xs ++ made ∷ []) so_far.are_exams
+            ∙ ap (λ (x : Exam). map exam_of so_far.before ++ x ∷ []) entered.is_exam
+            ∙ sym (map_push exam_of so_far.before said);
+        are_students =
+            entered.changed
+            ∙ enrolled-more said.students
+            ∙ ap (λ (xs : Enrolled). xs ++ no_pairs others)
+            (sym (map_push (λ line. line.students) so_far.before said));
+      }

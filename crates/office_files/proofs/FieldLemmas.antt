@@ -1,0 +1,102 @@
+-- What cutting and trimming leave.
+use Rattle.std.proofs.Common.{◌≡◌, ℕ, zero, suc, ◌+◌, ◌<◌, Bool, true, false, List, [], ◌∷◌, ◌++◌}
+use Rattle.std.proofs.Common.{length, get_or, take, drop, refl, ap, sym, ◌∙◌, arith, if◌then◌else◌}
+use Rattle.std.proofs.Common.{add-one}
+use Rattle.std.specs.Prelude.{◌==◌, map}
+use Rattle.std.specs.List.{onto_first}
+use Rattle.std.proofs.lemmas.Bool.{eq-eqb, ne_eqb}
+use mathlib.Core.Bool.{true≢false}
+use Rattle.office_files.specs.Fields.{ended_parts, is_blank, before_end, trim_start, trim_end}
+use Rattle.office_files.specs.Fields.{trimmed, fields_of}
+
+-- where no byte is the mark, the whole text is one part
+pub parts_none : (c : ℕ) (bs : List ℕ) → 0 < length bs →
+    ((k : ℕ) → k < length bs → get_or bs k 0 ≡ c → ⊥) → ended_parts c bs ≡ bs ∷ []
+parts_none c [] some other = absurd (omega arith)
+parts_none c (b ∷ []) some other = rw (ne_eqb b c (other 0 (omega arith)))
+parts_none c (b ∷ d ∷ bs) some other =
+    rw (
+      ne_eqb b c (other 0 (omega arith)),
+      parts_none c (d ∷ bs) (omega arith) (λ k lt. other (suc k) (omega arith)),
+    ) refl
+
+-- the first part ends at the first mark
+pub parts_at : (c : ℕ) (bs : List ℕ) (i : ℕ) → i < length bs → get_or bs i 0 ≡ c →
+    ((k : ℕ) → k < i → get_or bs k 0 ≡ c → ⊥) →
+    ended_parts c bs ≡ take i bs ∷ ended_parts c (drop (i + 1) bs)
+parts_at c [] i lt is other = absurd (omega arith)
+parts_at c (b ∷ bs) zero lt is other = rw (eq-eqb b c is)
+parts_at c (b ∷ bs) (suc i) lt is other =
+    rw (
+      ne_eqb b c (other 0 (omega arith)),
+      parts_at c bs i (omega arith) is (λ k lt. other (suc k) (omega arith)),
+      add-one (suc i),
+      add-one i,
+    ) refl
+
+onto_first_some : (b : ℕ) (xs : List (List ℕ)) → 0 < length (onto_first b xs)
+onto_first_some b [] = omega arith
+onto_first_some b (x ∷ xs) = omega arith
+
+parts_some : (c : ℕ) (bs : List ℕ) → 0 < length bs → 0 < length (ended_parts c bs)
+parts_some c [] some = absurd (omega arith)
+parts_some c (b ∷ bs) some =
+    elim (b == c) as (λ v.
+    0 < length (if v then [] ∷ ended_parts c bs else onto_first b (ended_parts c bs))) [
+      | true ↦ omega arith
+      | false ↦ onto_first_some b (ended_parts c bs)
+    ]
+
+length-map : (xs : List (List ℕ)) → length (map trimmed xs) ≡ length xs
+length-map [] = refl
+length-map (x ∷ xs) = omega (arith, length-map xs)
+
+-- no field is left only behind the end
+pub fields_none : (line : List ℕ) → fields_of line ≡ [] → line ≡ []
+fields_none [] e = refl
+fields_none (b ∷ bs) e =
+    let some = parts_some 44 (b ∷ bs) (omega arith) in
+    let same = length-map (ended_parts 44 (b ∷ bs)) in
+    let zero_of : length (fields_of (b ∷ bs)) ≡ 0 = ap length e in
+    absurd (omega arith)
+
+-- a test of the length says whether a field is left
+pub fields_test : (line : List ℕ) (b : Bool) → b ≡ (length line == 0) →
+    (b ≡ true → fields_of line ≡ []) × (fields_of line ≡ [] → b ≡ true)
+fields_test [] b e = (λ _. refl, λ _. e)
+fields_test (x ∷ xs) b e = (
+  λ t. absurd (true≢false (sym t ∙ e ∙ ne_eqb (suc (length xs)) 0 (omega arith))),
+  λ f. let gone = ap length (fields_none (x ∷ xs) f) in absurd (omega arith),
+)
+
+blank_alone : (b : ℕ) → is_blank b ≡ true → before_end b [] ≡ []
+blank_alone b e = rw e refl
+
+kept_alone : (b : ℕ) → is_blank b ≡ false → before_end b [] ≡ b ∷ []
+kept_alone b e = rw e refl
+
+before_some : (b c : ℕ) (cs : List ℕ) → before_end b (cs ++ c ∷ []) ≡ b ∷ (cs ++ c ∷ [])
+before_some b c [] = refl
+before_some b c (d ∷ cs) = refl
+
+-- a blank at the end goes
+pub trim_end-blank : (xs : List ℕ) (b : ℕ) → is_blank b ≡ true →
+    trim_end (xs ++ b ∷ []) ≡ trim_end xs
+trim_end-blank [] b e = blank_alone b e
+trim_end-blank (x ∷ xs) b e = ap (before_end x) (trim_end-blank xs b e)
+
+-- any other byte stays
+pub trim_end-kept : (xs : List ℕ) (b : ℕ) → is_blank b ≡ false →
+    trim_end (xs ++ b ∷ []) ≡ xs ++ b ∷ []
+trim_end-kept [] b e = kept_alone b e
+trim_end-kept (x ∷ xs) b e = ap (before_end x) (trim_end-kept xs b e) ∙ before_some x b xs
+
+pub trim_start-blank : (b : ℕ) (xs : List ℕ) → is_blank b ≡ true →
+    trim_start (b ∷ xs) ≡ trim_start xs
+trim_start-blank b xs e = rw e refl
+
+pub trim_start-kept : (b : ℕ) (xs : List ℕ) → is_blank b ≡ false → trim_start (b ∷ xs) ≡ b ∷ xs
+trim_start-kept b xs e = rw e refl
+
+pub ruleset part_facts =
+    (parts_none, parts_at, trim_end-blank, trim_end-kept, trim_start-blank, trim_start-kept)

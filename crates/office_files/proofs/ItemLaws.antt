@@ -1,0 +1,286 @@
+-- What a line says stays within the limits of an instance.
+use Rattle.std.proofs.Common.{◌≡◌, ℕ, ◌-◌, ◌<◌, ◌≤◌, Bool, true, false, List, [], ◌∷◌, length, Option, Some, None, Result, Ok, Err, refl, subst, arith, pos}
+use Rattle.std.specs.Prelude.{All, nat_le, nat_lt, not, codes, if◌then◌else◌, ◌≤ℤ◌, ◌&&◌}
+use Rattle.std.specs.List.{list_any}
+use Rattle.std.specs.Str.{str_eq_ignore_ascii_case}
+use Rattle.std.proofs.lemmas.Bool.{and_parts, leb-true, ltb-true}
+use Rattle.std.proofs.lemmas.Int.{ints}
+use Rattle.std.proofs.lemmas.List.Elements.{All-head, All-tail}
+use Rattle.jiff.specs.Types.{Date}
+use Rattle.jiff.specs.Words.{days_in_month}
+use Rattle.exam_model.specs.Refusing.{◌>>=◌, unless, else_err}
+use Rattle.exam_model.specs.Limits.{IsAmount, ExamInLimits, PeriodInLimits, RoomInLimits, WeightsInLimits}
+use Rattle.exam_model.specs.Instance.{PeriodRuleExists, RoomRuleExists}
+use Rattle.exam_model.specs.declared.parts.Period.{Period}
+use Rattle.exam_model.specs.declared.parts.Place.{Place}
+use Rattle.exam_model.specs.declared.parts.Room.{Room}
+use Rattle.exam_model.specs.declared.parts.Weights.{Weights}
+use Rattle.exam_model.specs.declared.rules.PeriodRule.{PeriodRule}
+use Rattle.exam_model.specs.declared.rules.RoomRule.{RoomRule}
+use Rattle.office_files.specs.Dates.{or_fault, digits_of, is_within, is_civil, civil_date, date_if, date_if_civil, date_of, time_of}
+use Rattle.office_files.specs.ExamLines.{ExamLine, exam_line, exam_of, students_in, pairs_on}
+use Rattle.office_files.specs.Fields.{first, rest, ended, split_once}
+use Rattle.office_files.specs.Items.{period_in, room_in, rule_word, rule_by, period_rule_line, room_rule_line, place_line}
+use Rattle.office_files.specs.Numbers.{number}
+use Rattle.office_files.specs.Weightings.{weight_word, has_word, amount_in, front_in, weighting_by, weighting_line, with_weighting, with_weightings, no_weights}
+use Rattle.office_files.specs.declared.counts.Counts.{Counts}
+use Rattle.office_files.specs.declared.rule_word.RuleWord.{RuleWord}
+use Rattle.office_files.specs.declared.rule_word.RuleWord.TheVariants as rule
+use Rattle.office_files.specs.declared.weightings.Weighting.{Weighting}
+use Rattle.office_files.specs.declared.weightings.Weighting.TheVariants as said
+use Rattle.office_files.specs.declared.weightings.WeightWord.{WeightWord}
+use Rattle.office_files.specs.declared.weightings.WeightWord.TheVariants as word
+use Rattle.office_files.specs.declared.fault.FaultKind.{FaultKind}
+use Rattle.office_files.specs.declared.fault.FaultKind.TheVariants.{BadDate, BadTime, BadWord, OutOfRange, CountMismatch, Repeated}
+use Rattle.office_files.proofs.ReadingLaws.{bind_ok, ok_same, unless_ok, number_le}
+
+-- an exam's duration is within a day
+pub exam_line_within : (before : List ExamLine) (fields : List (List ℕ)) (x : ExamLine) →
+    exam_line before fields ≡ Ok x →
+    ExamInLimits (exam_of x)
+exam_line_within before fields x e =
+    let minutes = bind_ok (number 1440 (first fields)) _ x e in
+    let students = bind_ok (students_in (pairs_on before) [] (rest fields)) _ x minutes.2 in
+    let same = ok_same _ _ x refl students.2 in
+    subst (λ y. ExamInLimits (exam_of y)) same (number_le 1440 (first fields) minutes.0 minutes.1)
+
+-- what was read in the place of a fault
+or_fault_ok : {A : Type 0} (fault : FaultKind) (r : Result A FaultKind) (x : A) →
+    or_fault fault r ≡ Ok x → r ≡ Ok x
+or_fault_ok fault (Ok y) x e = cc
+or_fault_ok fault (Err d) x e = cc
+
+digits_by : (fault : FaultKind) (b : Bool) (r : Result ℕ FaultKind) (n : ℕ) →
+    ◌≡◌ {A = Result ℕ FaultKind} (if b then or_fault fault r else Err fault) (Ok n) → r ≡ Ok n
+digits_by fault true r n e = or_fault_ok fault r n e
+digits_by fault false r n e = cc
+
+digits_le : (fault : FaultKind) (least most limit : ℕ) (text : List ℕ) (n : ℕ) →
+    digits_of fault least most limit text ≡ Ok n →
+    n ≤ limit
+digits_le fault least most limit text n e =
+    number_le limit text n
+    (digits_by fault (nat_le least (length text) && nat_le (length text) most)
+    (number limit text) n e)
+
+else_ok : {A F : Type 0} (fault : F) (o : Option A) (x : A) → else_err fault o ≡ Ok x → o ≡ Some x
+else_ok fault (Some y) x e = cc
+else_ok fault None x e = cc
+
+-- a day of the calendar is of the year 1 or a later one
+civil_from_one : (y m d : ℕ) → is_civil y m d ≡ true → pos 1 ≤ℤ pos y
+civil_from_one y m d e =
+    let year = and_parts (is_within 1 9999 y)
+    (is_within 1 12 m && is_within 1 (days_in_month (pos y) m) d) e in
+    let low = leb-true 1 y (and_parts (nat_le 1 y) (nat_le y 9999) year.0).0 in
+    omega (arith, ints)
+
+date_from_one : (y m d : ℕ) (civil : Bool) (e : is_civil y m d ≡ civil) (date : Date) →
+    date_if y m d civil e ≡ Some date →
+    pos 1 ≤ℤ date.year
+date_from_one y m d true e date is =
+    let same : civil_date y m d e ≡ date = cc in
+    subst (λ (x : Date). pos 1 ≤ℤ x.year) same (civil_from_one y m d e)
+date_from_one y m d false e date is = cc
+
+date_within : (text : List ℕ) (date : Date) → date_of text ≡ Ok date → pos 1 ≤ℤ date.year
+date_within text date e =
+    let front = bind_ok (else_err BadDate (split_once 58 text)) _ date e in
+    let back = bind_ok (else_err BadDate (split_once 58 front.0.1)) _ date front.2 in
+    let day = bind_ok (digits_of BadDate 1 2 99 front.0.0) _ date back.2 in
+    let month = bind_ok (digits_of BadDate 1 2 99 back.0.0) _ date day.2 in
+    let year = bind_ok (digits_of BadDate 4 4 9999 back.0.1) _ date month.2 in
+    date_from_one year.0 month.0 day.0 (is_civil year.0 month.0 day.0) refl date
+    (else_ok BadDate (date_if_civil year.0 month.0 day.0) date year.2)
+
+time_within : (text : List ℕ) (time : ℕ × ℕ × ℕ) → time_of text ≡ Ok time →
+    (time.0 ≤ 23) × (time.1 ≤ 59) × (time.2 ≤ 59)
+time_within text time e =
+    let front = bind_ok (else_err BadTime (split_once 58 text)) _ time e in
+    let back = bind_ok (else_err BadTime (split_once 58 front.0.1)) _ time front.2 in
+    let hour = bind_ok (digits_of BadTime 1 2 23 front.0.0) _ time back.2 in
+    let minute = bind_ok (digits_of BadTime 1 2 59 back.0.0) _ time hour.2 in
+    let second = bind_ok (digits_of BadTime 1 2 59 back.0.1) _ time minute.2 in
+    let same = ok_same _ _ time refl second.2 in
+    subst (λ (t : ℕ × ℕ × ℕ). (t.0 ≤ 23) × (t.1 ≤ 59) × (t.2 ≤ 59)) same (
+      digits_le BadTime 1 2 23 front.0.0 hour.0 hour.1,
+      digits_le BadTime 1 2 59 back.0.0 minute.0 minute.1,
+      digits_le BadTime 1 2 59 back.0.1 second.0 second.1,
+    )
+
+-- a period is one of the years from 1 on, at a time of day
+pub period_within : (fields : List (List ℕ)) (p : Period) → period_in fields ≡ Ok p →
+    PeriodInLimits p
+period_within fields p e =
+    let two = rest (rest fields) in
+    let date = bind_ok (date_of (first fields)) _ p e in
+    let time = bind_ok (time_of (first (rest fields))) _ p date.2 in
+    let minutes = bind_ok (number 1440 (first two)) _ p time.2 in
+    let penalty = bind_ok (number 100000 (first (rest two))) _ p minutes.2 in
+    let end = bind_ok (ended (rest (rest two))) _ p penalty.2 in
+    let same = ok_same _ _ p refl end.2 in
+    let clock = time_within (first (rest fields)) time.0 time.1 in
+    subst PeriodInLimits same (
+      date_within (first fields) date.0 date.1,
+      clock.0,
+      clock.1,
+      clock.2,
+      number_le 1440 (first two) minutes.0 minutes.1,
+      number_le 100000 (first (rest two)) penalty.0 penalty.1,
+    )
+
+-- a room's capacity and penalty
+pub room_within : (fields : List (List ℕ)) (r : Room) → room_in fields ≡ Ok r → RoomInLimits r
+room_within fields r e =
+    let capacity = bind_ok (number 100000 (first fields)) _ r e in
+    let penalty = bind_ok (number 100000 (first (rest fields))) _ r capacity.2 in
+    let end = bind_ok (ended (rest (rest fields))) _ r penalty.2 in
+    subst RoomInLimits (ok_same _ _ r refl end.2) (
+      number_le 100000 (first fields) capacity.0 capacity.1,
+      number_le 100000 (first (rest fields)) penalty.0 penalty.1,
+    )
+
+rule_exists : (n : ℕ) (w : RuleWord) (a b : ℕ) → a < n → b < n → PeriodRuleExists n (rule_by w a b)
+rule_exists n rule.After a b one other = (one, other)
+rule_exists n rule.Coincidence a b one other = (one, other)
+rule_exists n rule.Exclusion a b one other = (one, other)
+
+-- a number of at most the last one is among so many
+among : (n : ℕ) (text : List ℕ) (k : ℕ) → 1 ≤ n → number (n - 1) text ≡ Ok k → k < n
+among n text k some e = let within = number_le (n - 1) text k e in omega arith
+
+-- both exams of a rule exist, and there is room for it
+pub period_rule_within : (counts : Counts) (before : List PeriodRule) (fields : List (List ℕ))
+    (r : PeriodRule) →
+    1 ≤ counts.exams → period_rule_line counts before fields ≡ Ok r →
+    (length before < 5000) × PeriodRuleExists counts.exams r
+period_rule_within counts before fields r some e =
+    let n = counts.exams in
+    let two = rest (rest fields) in
+    let left = bind_ok (unless (nat_lt (length before) 5000) OutOfRange) _ r e in
+    let a = bind_ok (number (n - 1) (first fields)) _ r left.2 in
+    let w = bind_ok (rule_word (first (rest fields))) _ r a.2 in
+    let b = bind_ok (number (n - 1) (first two)) _ r w.2 in
+    let end = bind_ok (ended (rest two)) _ r b.2 in
+    let same = ok_same _ _ r refl end.2 in (
+      ltb-true (length before) 5000 (unless_ok _ OutOfRange left.0 left.1),
+      subst (PeriodRuleExists n) same
+          (rule_exists n w.0 a.0 b.0 (among n (first fields) a.0 some a.1)
+          (among n (first two) b.0 some b.1)),
+    )
+
+-- and so does the exam of a rule on its room
+pub room_rule_within : (counts : Counts) (before : List RoomRule) (fields : List (List ℕ))
+    (r : RoomRule) →
+    1 ≤ counts.exams → room_rule_line counts before fields ≡ Ok r →
+    (length before < 5000) × RoomRuleExists counts.exams r
+room_rule_within counts before fields r some e =
+    let n = counts.exams in
+    let left = bind_ok (unless (nat_lt (length before) 5000) OutOfRange) _ r e in
+    let a = bind_ok (number (n - 1) (first fields)) _ r left.2 in
+    let named = bind_ok
+    (unless (str_eq_ignore_ascii_case (first (rest fields)) (codes "ROOM_EXCLUSIVE")) BadWord) _
+    r a.2 in
+    let end = bind_ok (ended (rest (rest fields))) _ r named.2 in (
+      ltb-true (length before) 5000 (unless_ok _ OutOfRange left.0 left.1),
+      subst (RoomRuleExists n) (ok_same _ _ r refl end.2) (among n (first fields) a.0 some a.1),
+    )
+
+-- the numbers of a weighting
+abbrev pub SaysAmounts : Weighting → Type 0
+SaysAmounts (said.Row n) = IsAmount n
+SaysAmounts (said.Day n) = IsAmount n
+SaysAmounts (said.Spread n) = IsAmount n
+SaysAmounts (said.Mixed n) = IsAmount n
+SaysAmounts (said.Front n k w) = IsAmount n × IsAmount k × IsAmount w
+
+amount_within : (fields : List (List ℕ)) (n : ℕ) → amount_in fields ≡ Ok n → IsAmount n
+amount_within fields n e =
+    let amount = bind_ok (number 100000 (first fields)) _ n e in
+    let end = bind_ok (ended (rest fields)) _ n amount.2 in
+    subst IsAmount (ok_same _ _ n refl end.2) (number_le 100000 (first fields) amount.0 amount.1)
+
+front_within : (fields : List (List ℕ)) (s : Weighting) → front_in fields ≡ Ok s → SaysAmounts s
+front_within fields s e =
+    let two = rest (rest fields) in
+    let exams = bind_ok (number 100000 (first fields)) _ s e in
+    let periods = bind_ok (number 100000 (first (rest fields))) _ s exams.2 in
+    let weight = bind_ok (number 100000 (first two)) _ s periods.2 in
+    let end = bind_ok (ended (rest two)) _ s weight.2 in
+    subst SaysAmounts (ok_same _ _ s refl end.2) (
+      number_le 100000 (first fields) exams.0 exams.1,
+      number_le 100000 (first (rest fields)) periods.0 periods.1,
+      number_le 100000 (first two) weight.0 weight.1,
+    )
+
+-- one number, said by a word
+one_within : (make : ℕ → Weighting) (fields : List (List ℕ)) (s : Weighting) →
+    ((n : ℕ) → IsAmount n → SaysAmounts (make n)) →
+    (amount_in fields >>= λ n. Ok (make n)) ≡ Ok s → SaysAmounts s
+one_within make fields s says e =
+    let amount = bind_ok (amount_in fields) _ s e in
+    subst SaysAmounts (ok_same _ _ s refl amount.2)
+    (says amount.0 (amount_within fields amount.0 amount.1))
+
+weighting_within : (w : WeightWord) (fields : List (List ℕ)) (s : Weighting) →
+    weighting_by w fields ≡ Ok s → SaysAmounts s
+weighting_within word.Row fields s e = one_within said.Row fields s (λ n is. is) e
+weighting_within word.Day fields s e = one_within said.Day fields s (λ n is. is) e
+weighting_within word.Spread fields s e = one_within said.Spread fields s (λ n is. is) e
+weighting_within word.Mixed fields s e = one_within said.Mixed fields s (λ n is. is) e
+weighting_within word.Front fields s e = front_within fields s e
+
+-- a weighting's numbers
+pub weighting_line_within : (counts : Counts) (before : List Weighting) (fields : List (List ℕ))
+    (s : Weighting) →
+    weighting_line counts before fields ≡ Ok s → SaysAmounts s
+weighting_line_within counts before fields s e =
+    let w = bind_ok (weight_word (first fields)) _ s e in
+    let new = bind_ok (unless (not (list_any (has_word w.0) before)) Repeated) _ s w.2 in
+    weighting_within w.0 (rest fields) s new.2
+
+-- a weighting leaves the weights in their limits
+with_within : (w : Weights) (s : Weighting) → SaysAmounts s → WeightsInLimits w →
+    WeightsInLimits (with_weighting w s)
+with_within w (said.Row n) is limits =
+    (is, limits.1, limits.2, limits.3, limits.4, limits.5, limits.6)
+with_within w (said.Day n) is limits =
+    (limits.0, is, limits.2, limits.3, limits.4, limits.5, limits.6)
+with_within w (said.Spread n) is limits =
+    (limits.0, limits.1, is, limits.3, limits.4, limits.5, limits.6)
+with_within w (said.Mixed n) is limits =
+    (limits.0, limits.1, limits.2, is, limits.4, limits.5, limits.6)
+with_within w (said.Front n k v) is limits =
+    (limits.0, limits.1, limits.2, limits.3, is.0, is.1, is.2)
+
+all_with_within : (w : Weights) (ss : List Weighting) → All SaysAmounts ss → WeightsInLimits w →
+    WeightsInLimits (with_weightings w ss)
+all_with_within w [] all limits = limits
+all_with_within w (s ∷ ss) all limits =
+    all_with_within (with_weighting w s) ss (All-tail SaysAmounts s ss all)
+    (with_within w s (All-head SaysAmounts s ss all) limits)
+
+-- the weights that lines say are in their limits
+pub weights_within : (ss : List Weighting) → All SaysAmounts ss →
+    WeightsInLimits (with_weightings no_weights ss)
+weights_within ss all =
+    all_with_within no_weights ss all
+    (omega arith, omega arith, omega arith, omega arith, omega arith, omega arith, omega arith)
+
+-- a place that is among so many periods and rooms
+abbrev pub PlaceExists : Counts → Place → Type 0
+PlaceExists counts p = (p.period < counts.periods) × (p.room < counts.rooms)
+
+-- a line's period and room exist
+pub place_within : (counts : Counts) (before : List Place) (fields : List (List ℕ)) (p : Place) →
+    1 ≤ counts.periods → 1 ≤ counts.rooms → place_line counts before fields ≡ Ok p →
+    PlaceExists counts p
+place_within counts before fields p periods rooms e =
+    let left = bind_ok (unless (nat_lt (length before) counts.exams) CountMismatch) _ p e in
+    let period = bind_ok (number (counts.periods - 1) (first fields)) _ p left.2 in
+    let room = bind_ok (number (counts.rooms - 1) (first (rest fields))) _ p period.2 in
+    let end = bind_ok (ended (rest (rest fields))) _ p room.2 in
+    subst (PlaceExists counts) (ok_same _ _ p refl end.2) (
+      among counts.periods (first fields) period.0 periods period.1,
+      among counts.rooms (first (rest fields)) room.0 rooms room.1,
+    )

@@ -1,0 +1,20 @@
+mod DateLemmas
+mod DigitLemmas
+mod ExamLineLemmas
+mod ExamLinePairs
+mod ExamLineSteps
+mod FieldLemmas
+mod ItemLemmas
+mod LaterLemmas
+mod LineLemmas
+mod OrderLaws
+mod SectionLemmas
+mod SliceLaws
+mod SolutionLemmas
+mod SplitLemmas
+pub mod ReadingLaws
+pub mod ItemLaws
+pub mod SectionLaws
+pub mod SolutionLaws
+pub mod InstanceLaws
+pub mod ReaderLaws

@@ -1,0 +1,98 @@
+-- What the end of a line and a line's place leave.
+use Rattle.std.specs.Prelude.{◌==◌, if◌then◌else◌}
+use Rattle.std.specs.List.{onto_first}
+use Rattle.office_files.specs.Fields.{ended_parts}
+use Rattle.office_files.specs.Lines.{section_size}
+use Rattle.std.proofs.Common.{true, false, get_or, drop, add-one, ◌≡◌, ◌≢◌, ℕ, zero, suc, ◌+◌, ◌<◌}
+use Rattle.std.proofs.Common.{◌≤◌, List, [], ◌∷◌, ◌++◌, length, refl, ap, ◌∙◌, arith}
+use Rattle.std.proofs.lemmas.Bool.{ne_eqb}
+use Rattle.office_files.specs.Lines.{without_return, Piece, Located, placed, located, unless_blank}
+use Rattle.office_files.specs.Lines.{lines_from, is_header}
+
+return_some : (b c : ℕ) (xs : List ℕ) →
+    without_return (b ∷ (xs ++ c ∷ [])) ≡ b ∷ without_return (xs ++ c ∷ [])
+return_some b c [] = refl
+return_some b c (x ∷ xs) = refl
+
+pub without_return-cr : (xs : List ℕ) → without_return (xs ++ 13 ∷ []) ≡ xs
+without_return-cr [] = refl
+without_return-cr (x ∷ xs) = return_some x 13 xs
+    ∙ ap (λ (ys : List ℕ). x ∷ ys) (without_return-cr xs)
+
+pub without_return-other : (xs : List ℕ) (b : ℕ) → b ≢ 13 →
+    without_return (xs ++ b ∷ []) ≡ xs ++ b ∷ []
+without_return-other [] b other = rw (ne_eqb b 13 other) refl
+without_return-other (x ∷ xs) b other = return_some x b xs
+    ∙ ap (λ (ys : List ℕ). x ∷ ys) (without_return-other xs b other)
+
+pub ruleset return_facts = (without_return-cr, without_return-other)
+
+length-onto_first : (b : ℕ) (xs : List (List ℕ)) → length (onto_first b xs) ≤ length xs + 1
+length-onto_first b [] = omega arith
+length-onto_first b (x ∷ xs) = omega arith
+
+pub length-parts : (c : ℕ) (bs : List ℕ) → length (ended_parts c bs) ≤ length bs
+length-parts c [] = omega arith
+length-parts c (b ∷ bs) =
+    elim (b == c) as (λ v.
+    length (if v then [] ∷ ended_parts c bs else onto_first b (ended_parts c bs))
+    ≤ suc (length bs)) [
+      | true ↦ omega (arith, length-parts c bs)
+      | false ↦ omega (arith, length-parts c bs, length-onto_first b (ended_parts c bs))
+    ]
+
+length-placed : (at : ℕ) (xs : List (List ℕ)) → length (placed at xs) ≡ length xs
+length-placed at [] = refl
+length-placed at (x ∷ xs) = omega (arith, length-placed (at + length x + 1) xs)
+
+length-unless_blank : (s : Located) (rows : List Located) →
+    length (unless_blank s rows) ≤ length rows + 1
+length-unless_blank s rows =
+    elim (length s.text == 0) as (λ v. length (if v then rows else s ∷ rows) ≤ length rows + 1) [
+      | true ↦ omega arith
+      | false ↦ omega arith
+    ]
+
+length-rows : (line : ℕ) (ps : List Piece) → length (lines_from line ps) ≤ length ps
+length-rows line [] = omega arith
+length-rows line (p ∷ ps) =
+    omega (
+      arith,
+      length-rows (line + 1) ps,
+      length-unless_blank (located line (record p { text = without_return p.text }))
+          (lines_from (line + 1) ps),
+    )
+
+-- there are no more rows than bytes
+pub rows-le : (line at : ℕ) (bs : List ℕ) →
+    length (lines_from line (placed at (ended_parts 10 bs))) ≤ length bs
+rows-le line at bs =
+    omega (
+      arith,
+      length-rows line (placed at (ended_parts 10 bs)),
+      length-placed at (ended_parts 10 bs),
+      length-parts 10 bs,
+    )
+
+pub size_head : (r : Located) (rs : List Located) → is_header r.text ≡ true →
+    section_size (r ∷ rs) ≡ 0
+size_head r rs e = rw e refl
+
+pub size_line : (r : Located) (rs : List Located) → is_header r.text ≡ false →
+    section_size (r ∷ rs) ≡ section_size rs + 1
+size_line r rs e = rw e refl
+
+-- the first byte tells a header
+pub header_first : (bs : List ℕ) → 0 < length bs → is_header bs ≡ (get_or bs 0 0 == 91)
+header_first [] some = absurd (omega arith)
+header_first (b ∷ bs) some = refl
+
+pub ruleset size_facts = (rows-le, size_head, size_line, header_first)
+
+-- behind the first of what is left is the rest
+pub drop_next : {A : Type 0} (xs : List A) (n : ℕ) (y : A) (ys : List A) → drop n xs ≡ y ∷ ys →
+    drop (n + 1) xs ≡ ys
+drop_next [] zero y ys e = cc
+drop_next [] (suc n) y ys e = cc
+drop_next (x ∷ xs) zero y ys e = cc
+drop_next (x ∷ xs) (suc n) y ys e = rw (add-one (suc n)) (rw (add-one n) at (drop_next xs n y ys e))

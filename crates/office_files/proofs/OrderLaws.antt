@@ -1,0 +1,111 @@
+-- The tokens of a text stand one behind another.
+use Rattle.std.proofs.Common.{◌≡◌, ℕ, zero, suc, ◌+◌, ◌-◌, ◌<◌, ◌≤◌, Bool, true, false, List, []}
+use Rattle.std.proofs.Common.{◌∷◌, ◌++◌, length, refl, arith, length-append}
+use Rattle.std.specs.Prelude.{◌==◌, if◌then◌else◌, map}
+use Rattle.std.specs.List.{onto_first, flat_map}
+use Rattle.office_files.specs.Fields.{ended_parts, trim_start, trim_end, trimmed}
+use Rattle.office_files.specs.Lines.{Piece, Located, placed, without_return, inner_start, located}
+use Rattle.office_files.specs.Lines.{lines_from, is_header}
+use Rattle.office_files.specs.Tokens.{tokens_in, tokens_of, Runs}
+use Rattle.office_files.proofs.SliceLaws.{tokens_slice, trim_start-le, trim_end_front, return_front}
+
+lower : (low low' high : ℕ) (ss : List Located) → low ≤ low' → Runs low' ss high → Runs low ss high
+lower low low' high [] le r = omega arith
+lower low low' high (s ∷ ss) le r = let begins = r.0 in (omega arith, r.1, r.2)
+
+joined : (low mid high : ℕ) (xs ys : List Located) → Runs low xs mid → Runs mid ys high →
+    Runs low (xs ++ ys) high
+joined low mid high [] ys a b = lower low mid high ys a b
+joined low mid high (x ∷ xs) ys a b = (a.0, a.1, joined x.end mid high xs ys a.2 b)
+
+-- how far so many parts reach, each with the byte behind it
+extent : List (List ℕ) → ℕ
+extent [] = 0
+extent (x ∷ xs) = length x + 1 + extent xs
+
+extent_onto : (b : ℕ) (xs : List (List ℕ)) (n : ℕ) → extent xs ≤ n + 1 → (xs ≡ [] → 0 ≤ n) →
+    extent (onto_first b xs) ≤ n + 2
+unfolding extent
+extent_onto b [] n le e = omega arith
+extent_onto b (x ∷ xs) n le e = omega arith
+
+extent-le : (c : ℕ) (bs : List ℕ) → extent (ended_parts c bs) ≤ length bs + 1
+unfolding extent
+extent-le c [] = omega arith
+extent-le c (b ∷ bs) =
+    elim (b == c) as (λ v.
+    extent (if v then [] ∷ ended_parts c bs else onto_first b (ended_parts c bs))
+    ≤ suc (length bs) + 1) [
+      | true ↦ omega (arith, extent-le c bs)
+      | false ↦ omega
+          (arith, extent_onto b (ended_parts c bs) (length bs) (extent-le c bs) (λ _. omega arith))
+    ]
+
+-- a located text lies within its piece
+pub inner : (line : ℕ) (p : Piece) → record {
+  begins : p.start ≤ inner_start p;
+  ends : inner_start p + length (trimmed p.text) ≤ p.start + length p.text;
+}
+inner line p =
+    let f = trim_end_front (trim_start p.text) in
+    let len = Rattle.std.proofs.Common.ap length f.1 in
+    let le = trim_start-le p.text in
+    record {
+      begins = omega arith;
+      ends = omega (arith, length-append (trim_end (trim_start p.text)) f.0);
+    }
+
+fields_run : (line start high : ℕ) (xs : List (List ℕ)) → start + extent xs ≤ high + 1 →
+    start ≤ high → Runs start (map (located line) (placed start xs)) high
+unfolding extent
+fields_run line start high [] reach le = le
+fields_run line start high (x ∷ []) reach le =
+    let i = inner line (record { start = start; text = x }) in
+    (i.begins, omega arith, omega (arith, i.ends))
+fields_run line start high (x ∷ y ∷ ys) reach le =
+    let i = inner line (record { start = start; text = x }) in
+    let more = fields_run line (start + length x + 1) high (y ∷ ys) (omega arith) (omega arith) in
+    let end : ℕ = inner_start (record { start = start; text = x }) + length (trimmed x) in
+    let gap : end ≤ start + length x + 1 = omega (arith, i.ends) in
+    let others = map (located line) (placed (start + length x + 1) (y ∷ ys)) in
+    (i.begins, omega arith, lower end (start + length x + 1) high others gap more)
+
+-- the tokens of a row lie within it
+row_runs : (row : Located) → row.end ≡ row.start + length row.text →
+    Runs row.start (tokens_in row) row.end
+row_runs row e =
+    let fields = map (located row.line) (placed row.start (ended_parts 44 row.text)) in
+    elim (is_header row.text) as (λ v. Runs row.start (if v then row ∷ [] else fields) row.end) [
+      | true ↦ (omega arith, omega arith, omega arith)
+      | false ↦ fields_run row.line row.start row.end (ended_parts 44 row.text)
+          (omega (arith, extent-le 44 row.text)) (omega arith)
+    ]
+
+rows_run : (line start high : ℕ) (xs : List (List ℕ)) → start + extent xs ≤ high →
+    Runs start (flat_map tokens_in (lines_from line (placed start xs))) high
+unfolding extent
+rows_run line start high [] reach = omega arith
+rows_run line start high (x ∷ xs) reach =
+    let kept : Piece = record { start = start; text = without_return x } in
+    let i = inner line kept in
+    let f = return_front x in
+    let len = Rattle.std.proofs.Common.ap length f.1 in
+    let more = rows_run (line + 1) (start + length x + 1) high xs (omega arith) in
+    let row = row_runs (located line kept) refl in
+    let end_le : inner_start kept + length (trimmed (without_return x)) ≤ start + length x + 1 =
+    omega (arith, i.ends, length-append (without_return x) f.0) in
+    let others = lines_from (line + 1) (placed (start + length x + 1) xs) in
+    elim (length (trimmed (without_return x)) == 0) as (λ v.
+    Runs start (flat_map tokens_in (if v then others else located line kept ∷ others)) high) [
+      | true ↦ lower start (start + length x + 1) high _ (omega arith) more
+      | false ↦ joined start (inner_start kept + length (trimmed (without_return x))) high
+          (tokens_in (located line kept)) _ (lower start (inner_start kept) _ _ i.begins row)
+          (lower _ (start + length x + 1) high _ end_le more)
+    ]
+
+-- the tokens of a text, in the order of their places
+pub tokens_run : (source : List ℕ) → Runs 0 (tokens_of source) (length source + 1)
+tokens_run source =
+    rows_run 1 0 (length source + 1) (ended_parts 10 source) (omega (arith, extent-le 10 source))
+
+pub ruleset token_laws = (tokens_slice, tokens_run)

@@ -1,0 +1,47 @@
+-- What the answers of the two readers say by the relations of text and item.
+use Rattle.std.proofs.Common.{◌≡◌, ◌≢◌, ℕ, List, Result, Ok, Err, IfOk, IfErr, sym, ◌∙◌}
+use Rattle.exam_model.specs.Enrolments.{Enrolled}
+use Rattle.exam_model.specs.Instance.{Session}
+use Rattle.exam_model.specs.Timetable.{Placing}
+use Rattle.office_files.specs.InstanceText.{InstanceText, instance_in}
+use Rattle.office_files.specs.Reading.{Gives}
+use Rattle.office_files.specs.SolutionText.{SolutionText, solution_in}
+use Rattle.office_files.specs.declared.fault.FaultKind.TheVariants.{NoMemory}
+use Rattle.office_files.specs.declared.fault.FileFault.{FileFault}
+use Rattle.office_files.proofs.InstanceLaws.{read_is_text, text_is_read, one_reading}
+use Rattle.office_files.proofs.SolutionLaws.{solution_is_text, text_is_solution}
+
+module _ {X : Type 0} (view : X → Session × Enrolled) (b : List ℕ) where
+  -- what is answered is spelled so
+  pub instance_reading : (r : Result X FileFault) → Gives view r (instance_in b) → IfOk r (λ x. InstanceText b (view x).0 (view x).1)
+  instance_reading (Ok x) is = read_is_text b (view x).0 (view x).1 is
+  instance_reading (Err f) is = tt
+
+  -- a text that is refused, but for memory, spells nothing
+  pub instance_only : (r : Result X FileFault) → Gives view r (instance_in b) → IfErr r (λ f. f.what ≢ NoMemory → (I : Session) (E : Enrolled) → InstanceText b I E → ⊥)
+  instance_only (Ok x) is = tt
+  instance_only (Err f) is = λ other I E text.
+      let same = sym (text_is_read b I E text) ∙ is other in cc
+
+  -- and nothing else
+  pub instance_one : (r : Result X FileFault) → Gives view r (instance_in b) → IfOk r (λ x. (I : Session) (E : Enrolled) → InstanceText b I E → (I ≡ (view x).0) × (E ≡ (view x).1))
+  instance_one (Ok x) is = λ I E text. one_reading b I (view x).0 E (view x).1 text (read_is_text b (view x).0 (view x).1 is)
+  instance_one (Err f) is = tt
+
+module _ {X : Type 0} (view : X → Placing) (I : Session) (b : List ℕ) where
+  -- what is answered is spelled so
+  pub solution_reading : (r : Result X FileFault) → Gives view r (solution_in I b) → IfOk r (λ x. SolutionText b I (view x))
+  solution_reading (Ok x) is = solution_is_text I b (view x) is
+  solution_reading (Err f) is = tt
+
+  -- a text that is refused, but for memory, spells nothing
+  pub solution_only : (r : Result X FileFault) → Gives view r (solution_in I b) → IfErr r (λ f. f.what ≢ NoMemory → (T : Placing) → SolutionText b I T → ⊥)
+  solution_only (Ok x) is = tt
+  solution_only (Err f) is = λ other T text.
+      let same = sym (text_is_solution I b T text) ∙ is other in cc
+
+  -- and nothing else
+  pub solution_one : (r : Result X FileFault) → Gives view r (solution_in I b) → IfOk r (λ x. (T : Placing) → SolutionText b I T → T ≡ view x)
+  solution_one (Ok x) is = λ T text.
+      let same = sym (text_is_solution I b T text) ∙ is in cc
+  solution_one (Err f) is = tt

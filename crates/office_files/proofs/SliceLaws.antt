@@ -1,0 +1,222 @@
+-- Each piece of a text lies in it where its place says.
+use Rattle.std.proofs.Common.{◌≡◌, ℕ, suc, ◌+◌, ◌-◌, ◌<◌, ◌≤◌, true, false, List, [], ◌∷◌, ◌++◌}
+use Rattle.std.proofs.Common.{length, drop, refl, ap, subst, sym, ◌∙◌, arith, append_assoc}
+use Rattle.std.proofs.Common.{length-append, length-drop, append-nil}
+use Rattle.std.specs.Prelude.{◌==◌, if◌then◌else◌, map}
+use Rattle.std.specs.List.{AllByRecursion, onto_first, flat_map}
+use Rattle.std.proofs.lemmas.List.{take-append-le, take_all}
+use Rattle.office_files.specs.Fields.{ended_parts, is_blank, before_end, trim_start, trim_end}
+use Rattle.office_files.specs.Fields.{trimmed}
+use Rattle.office_files.specs.Lines.{Piece, Located, placed, without_return, inner_start, located}
+use Rattle.office_files.specs.Lines.{lines_from, lines_of, is_header}
+use Rattle.office_files.specs.Tokens.{tokens_in, tokens_of, IsSliceOf}
+use Rattle.office_files.proofs.LineLemmas.{drop_next}
+
+-- the text stands in the source from the place on
+pub record Lies (source : List ℕ) (start : ℕ) (text : List ℕ) : Type 0 where
+  pub within : start ≤ length source
+  pub tail : List ℕ
+  pub here : drop start source ≡ text ++ tail
+
+some_within : (source : List ℕ) (at b : ℕ) (xs : List ℕ) → drop at source ≡ b ∷ xs →
+    at < length source
+some_within source at b xs e = let len = ap length e in omega (arith, length-drop at source)
+
+-- a text that lies there is that slice
+pub lies_slice : (source : List ℕ) (line : ℕ) (start end : ℕ) (text : List ℕ) →
+    end ≡ start + length text → Lies source start text →
+    IsSliceOf source (record { line = line; start = start; end = end; text = text })
+lies_slice source line start end text e l =
+    let len = ap length l.here in
+    let n : end - start ≡ length text = omega arith in
+    record {
+      rises = omega arith;
+      within = omega (arith, l.within, length-drop start source, length-append text l.tail);
+      slice = rw (n, l.here) (sym (
+          take-append-le (length text) text l.tail (omega arith)
+          ∙ take_all (length text) text (omega arith)));
+    }
+
+abbrev pub AllLie : List ℕ → List Piece → Type 0
+AllLie source = AllByRecursion (λ (p : Piece). Lies source p.start p.text)
+
+-- a byte more at the front of the first part
+onto_lie : (source : List ℕ) (at b : ℕ) (bs tail : List ℕ) (parts : List (List ℕ)) →
+    drop at source ≡ b ∷ (bs ++ tail) → AllLie source (placed (at + 1) parts) →
+    AllLie source (placed at (onto_first b parts))
+onto_lie source at b bs tail [] e all =
+    let inside = some_within source at b (bs ++ tail) e in
+    (record { within = omega arith; tail = bs ++ tail; here = e }, tt)
+onto_lie source at b bs tail (x ∷ xs) e all =
+    let inside = some_within source at b (bs ++ tail) e in
+    let next = drop_next source at b (bs ++ tail) e in
+    let same : at + 1 + length x + 1 ≡ at + suc (length x) + 1 = omega arith in (
+      record {
+        within = omega arith;
+        tail = all.0.tail;
+        here = e ∙ ap (λ (ys : List ℕ). b ∷ ys) (sym next ∙ all.0.here);
+      },
+      subst (λ k. AllLie source (placed k xs)) same all.1,
+    )
+
+-- the parts of a text that lies in the source lie there
+pub parts_lie : (c : ℕ) (text : List ℕ) (source : List ℕ) (at : ℕ) (tail : List ℕ) →
+    drop at source ≡ text ++ tail → AllLie source (placed at (ended_parts c text))
+parts_lie c [] source at tail e = tt
+parts_lie c (b ∷ bs) source at tail e =
+    let inside = some_within source at b (bs ++ tail) e in
+    let next = drop_next source at b (bs ++ tail) e in
+    let left = ended_parts c bs in
+    elim (b == c) as (λ v. AllLie source (placed at (if v then [] ∷ left else onto_first b left))) [
+      | true ↦ (
+        record { within = omega arith; tail = b ∷ (bs ++ tail); here = e },
+        subst (λ k. AllLie source (placed k (ended_parts c bs))) {x = at + 1} (omega arith)
+            (parts_lie c bs source (at + 1) tail next),
+      )
+      | false ↦ onto_lie source at b bs tail (ended_parts c bs) e
+          (parts_lie c bs source (at + 1) tail next)
+    ]
+
+lies_front : (source : List ℕ) (start : ℕ) (text xs ys : List ℕ) → text ≡ xs ++ ys →
+    Lies source start text → Lies source start xs
+lies_front source start text xs ys e l = record {
+  within = l.within;
+  tail = ys ++ l.tail;
+  here = l.here ∙ ap (λ (t : List ℕ). t ++ l.tail) e ∙ append_assoc xs ys l.tail;
+}
+
+lies_next : (source : List ℕ) (start b : ℕ) (bs : List ℕ) → Lies source start (b ∷ bs) →
+    Lies source (start + 1) bs
+lies_next source start b bs l =
+    let inside = some_within source start b (bs ++ l.tail) l.here in
+    record {
+      within = omega arith;
+      tail = l.tail;
+      here = drop_next source start b (bs ++ l.tail) l.here;
+    }
+
+pub trim_start-le : (text : List ℕ) → length (trim_start text) ≤ length text
+trim_start-le [] = omega arith
+trim_start-le (b ∷ bs) =
+    elim (is_blank b) as (λ v. length (if v then trim_start bs else b ∷ bs) ≤ suc (length bs)) [
+      | true ↦ omega (arith, trim_start-le bs)
+      | false ↦ omega arith
+    ]
+
+lies_trim_start : (source : List ℕ) (start : ℕ) (text : List ℕ) → Lies source start text →
+    Lies source (start + (length text - length (trim_start text))) (trim_start text)
+lies_trim_start source start [] l = subst (λ k. Lies source k []) {x = start} (omega arith) l
+lies_trim_start source start (b ∷ bs) l =
+    let inner : ℕ = start + 1 + (length bs - length (trim_start bs)) in
+    elim (is_blank b) as (λ v.
+    Lies source (start + (suc (length bs) - length (if v then trim_start bs else b ∷ bs)))
+    (if v then trim_start bs else b ∷ bs)) [
+      | true ↦
+          subst (λ k. Lies source k (trim_start bs)) {x = inner} (omega (arith, trim_start-le bs))
+          (lies_trim_start source (start + 1) bs (lies_next source start b bs l))
+      | false ↦ subst (λ k. Lies source k (b ∷ bs)) {x = start} (omega arith) l
+    ]
+
+end_front : (b : ℕ) (t ys bs : List ℕ) → bs ≡ t ++ ys →
+    (zs : List ℕ) × (b ∷ bs ≡ before_end b t ++ zs)
+end_front b [] ys bs e =
+    elim (is_blank b) as (λ v. (zs : List ℕ) × (b ∷ bs ≡ (if v then [] else b ∷ []) ++ zs)) [
+      | true ↦ (b ∷ bs, refl)
+      | false ↦ (bs, refl)
+    ]
+end_front b (c ∷ cs) ys bs e = (ys, ap (λ (xs : List ℕ). b ∷ xs) e)
+
+pub trim_end_front : (text : List ℕ) → (zs : List ℕ) × (text ≡ trim_end text ++ zs)
+trim_end_front [] = ([], refl)
+trim_end_front (b ∷ bs) = let f = trim_end_front bs in end_front b (trim_end bs) f.0 bs f.1
+
+pub return_front : (text : List ℕ) → (zs : List ℕ) × (text ≡ without_return text ++ zs)
+return_front [] = ([], refl)
+return_front (b ∷ []) =
+    elim (b == 13) as (λ v. (zs : List ℕ) × (b ∷ [] ≡ (if v then [] else b ∷ []) ++ zs)) [
+      | true ↦ (b ∷ [], refl)
+      | false ↦ ([], refl)
+    ]
+return_front (b ∷ c ∷ cs) = let f = return_front (c ∷ cs) in (f.0, ap (λ (xs : List ℕ). b ∷ xs) f.1)
+
+-- what a located text says
+pub record Stands (source : List ℕ) (s : Located) : Type 0 where
+  pub lies : Lies source s.start s.text
+  pub end : s.end ≡ s.start + length s.text
+
+located_stands : (source : List ℕ) (line : ℕ) (p : Piece) → Lies source p.start p.text →
+    Stands source (located line p)
+located_stands source line p l =
+    let inner = lies_trim_start source p.start p.text l in
+    let f = trim_end_front (trim_start p.text) in
+    let front = trim_start p.text in
+    record {
+      lies = lies_front source (inner_start p) front (trim_end front) f.0 f.1 inner;
+      end = refl;
+    }
+
+pub stands_slice : (source : List ℕ) (s : Located) → Stands source s → IsSliceOf source s
+stands_slice source s st = lies_slice source s.line s.start s.end s.text st.end st.lies
+
+abbrev pub AllStand : List ℕ → List Located → Type 0
+AllStand source = AllByRecursion (Stands source)
+
+rows_stand : (source : List ℕ) (line : ℕ) (ps : List Piece) → AllLie source ps →
+    AllStand source (lines_from line ps)
+rows_stand source line [] all = tt
+rows_stand source line (p ∷ ps) all =
+    let f = return_front p.text in
+    let kept : Piece = record p { text = without_return p.text } in
+    let row =
+    located_stands source line kept
+    (lies_front source p.start p.text (without_return p.text) f.0 f.1 all.0) in
+    let more = rows_stand source (line + 1) ps all.1 in
+    let others = lines_from (line + 1) ps in
+    elim (length (trimmed (without_return p.text)) == 0) as (λ v.
+    AllStand source (if v then others else located line kept ∷ others)) [
+      | true ↦ more
+      | false ↦ (row, more)
+    ]
+
+fields_stand : (source : List ℕ) (line : ℕ) (ps : List Piece) → AllLie source ps →
+    AllStand source (map (located line) ps)
+fields_stand source line [] all = tt
+fields_stand source line (p ∷ ps) all =
+    (located_stands source line p all.0, fields_stand source line ps all.1)
+
+tokens_in_stand : (source : List ℕ) (row : Located) → Stands source row →
+    AllStand source (tokens_in row)
+tokens_in_stand source row st =
+    let fields = map (located row.line) (placed row.start (ended_parts 44 row.text)) in
+    elim (is_header row.text) as (λ v. AllStand source (if v then row ∷ [] else fields)) [
+      | true ↦ (st, tt)
+      | false ↦ fields_stand source row.line (placed row.start (ended_parts 44 row.text))
+          (parts_lie 44 row.text source row.start st.lies.tail st.lies.here)
+    ]
+
+stand_append : (source : List ℕ) (xs ys : List Located) → AllStand source xs → AllStand source ys →
+    AllStand source (xs ++ ys)
+stand_append source [] ys a b = b
+stand_append source (x ∷ xs) ys a b = (a.0, stand_append source xs ys a.1 b)
+
+all_tokens_stand : (source : List ℕ) (rows : List Located) → AllStand source rows →
+    AllStand source (flat_map tokens_in rows)
+all_tokens_stand source [] all = tt
+all_tokens_stand source (r ∷ rs) all =
+    stand_append source (tokens_in r) (flat_map tokens_in rs) (tokens_in_stand source r all.0)
+    (all_tokens_stand source rs all.1)
+
+-- each token of a text is its slice of the text
+pub tokens_stand : (source : List ℕ) → AllStand source (tokens_of source)
+tokens_stand source =
+    all_tokens_stand source (lines_of source)
+    (rows_stand source 1 (placed 0 (ended_parts 10 source))
+    (parts_lie 10 source source 0 [] (sym (append-nil source))))
+
+slices : (source : List ℕ) (ts : List Located) → AllStand source ts →
+    AllByRecursion (IsSliceOf source) ts
+slices source [] all = tt
+slices source (t ∷ ts) all = (stands_slice source t all.0, slices source ts all.1)
+
+pub tokens_slice : (source : List ℕ) → AllByRecursion (IsSliceOf source) (tokens_of source)
+tokens_slice source = slices source (tokens_of source) (tokens_stand source)

@@ -1,0 +1,15 @@
+-- A timetable whose exams stand at these places.
+use Rattle.std.proofs.Common.{◌≡◌, ℕ, zero, suc, ◌+◌, ◌<◌, List, [], ◌∷◌, length, Option, Some, None, refl, ap, sym, ◌∙◌, arith}
+use Rattle.std.specs.Prelude.{map, slice_get}
+use Rattle.exam_model.specs.Timetable.{Placing, place_of}
+use Rattle.exam_model.specs.declared.parts.Place.{Place}
+
+-- each exam stands at its place of the list
+pub all_placed : (t : Placing) (places : List Place) → length t ≡ length places → ((k : ℕ) → k < length places → place_of t k ≡ slice_get places k) → t ≡ map Some places
+all_placed [] [] same at = refl
+all_placed [] (p ∷ ps) same at = absurd (omega arith)
+all_placed (o ∷ os) [] same at = absurd (omega arith)
+all_placed (o ∷ os) (p ∷ ps) same at =
+    let head : o ≡ Some p = at 0 (omega arith) in
+    let tail = all_placed os ps (omega arith) (λ k lt. at (suc k) (omega arith)) in
+    cc

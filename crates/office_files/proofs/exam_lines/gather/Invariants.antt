@@ -1,0 +1,12 @@
+use Rattle.std.proofs.Common.{◌≡◌, ◌++◌, length}
+use Rattle.office_files.specs.ExamLines.{named_in, fault_in}
+use Rattle.office_files.proofs.exam_lines.gather.Given as goal
+
+abbrev pub invariant-fields : goal.invariant-fields
+invariant-fields l = record {
+  names : l.named.items ++ named_in l.fields ≡ named_in l.initial.fields;
+  fault : fault_in l.fields ≡ fault_in l.initial.fields;
+}
+
+abbrev pub decreases-fields : goal.decreases-fields
+decreases-fields l = length l.fields

@@ -1,0 +1,59 @@
+-- How a text is cut into parts, and a line into fields.
+use Rattle.std.specs.Prelude.{ℕ, Bool, ◌||◌, ◌==◌, if◌then◌else◌, List, [], ◌∷◌, map}
+use Rattle.std.specs.Prelude.{Option, Some, None, option_map, Result, Ok, Err}
+use Rattle.std.specs.List.{onto_first}
+use Rattle.office_files.specs.declared.fault.FaultKind.{FaultKind}
+use Rattle.office_files.specs.declared.fault.FaultKind.TheVariants.{StrayText}
+
+-- the parts of a text that each end with the byte c, or with the end of the text
+abbrev pub ended_parts : ℕ → List ℕ → List (List ℕ)
+ended_parts c [] = []
+ended_parts c (b ∷ bs) = if b == c then [] ∷ ended_parts c bs else onto_first b (ended_parts c bs)
+
+-- a text up to the first byte c, and what is behind that byte
+abbrev pub split_once : ℕ → List ℕ → Option (List ℕ × List ℕ)
+split_once c [] = None
+split_once c (b ∷ bs) =
+    if b == c then Some ([], bs) else option_map (λ p. (b ∷ p.0, p.1)) (split_once c bs)
+
+-- a space or a tab
+abbrev pub is_blank : ℕ → Bool
+is_blank b = (b == 32) || (b == 9)
+
+-- a text without the blanks at its start
+abbrev pub trim_start : List ℕ → List ℕ
+trim_start [] = []
+trim_start (b ∷ bs) = if is_blank b then trim_start bs else b ∷ bs
+
+-- a byte before a text from whose end the blanks are gone
+abbrev pub before_end : ℕ → List ℕ → List ℕ
+before_end b [] = if is_blank b then [] else b ∷ []
+before_end b (c ∷ cs) = b ∷ c ∷ cs
+
+-- a text without the blanks at its end
+abbrev pub trim_end : List ℕ → List ℕ
+trim_end [] = []
+trim_end (b ∷ bs) = before_end b (trim_end bs)
+
+-- a text without the blanks around it
+abbrev pub trimmed : List ℕ → List ℕ
+trimmed text = trim_end (trim_start text)
+
+-- the fields of a line, trimmed; behind a last comma there is none
+abbrev pub fields_of : List ℕ → List (List ℕ)
+fields_of line = map trimmed (ended_parts 44 line)
+
+-- the first of the fields; a missing field is judged as an empty one
+abbrev pub first : List (List ℕ) → List ℕ
+first [] = []
+first (x ∷ xs) = x
+
+-- the fields behind the first
+abbrev pub rest : List (List ℕ) → List (List ℕ)
+rest [] = []
+rest (x ∷ xs) = xs
+
+-- no field is left
+abbrev pub ended : List (List ℕ) → Result (Unit {0}) FaultKind
+ended [] = Ok tt
+ended (x ∷ xs) = Err StrayText

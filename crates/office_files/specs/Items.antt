@@ -1,0 +1,100 @@
+-- What the lines of the sections say (ITC 2007, input format), and those of a solution.
+use Rattle.std.specs.Prelude.{◌≡◌, ℕ, ◌-◌, nat_lt, if◌then◌else◌, List, [], ◌∷◌, length, codes, Result, Ok, Err}
+use Rattle.std.specs.Str.{str_eq_ignore_ascii_case}
+use Rattle.exam_model.specs.Refusing.{◌>>=◌, unless}
+use Rattle.exam_model.specs.declared.parts.Period.{Period}
+use Rattle.exam_model.specs.declared.parts.Place.{Place}
+use Rattle.exam_model.specs.declared.parts.Room.{Room}
+use Rattle.exam_model.specs.declared.rules.PeriodRule.{PeriodRule}
+use Rattle.exam_model.specs.declared.rules.PeriodRule.TheVariants.{After, Coincidence, Exclusion}
+use Rattle.exam_model.specs.declared.rules.RoomRule.{RoomRule}
+use Rattle.office_files.specs.Dates.{date_of, time_of}
+use Rattle.office_files.specs.Fields.{first, rest, ended}
+use Rattle.office_files.specs.Numbers.{number}
+use Rattle.office_files.specs.declared.rule_word.RuleWord.{RuleWord}
+use Rattle.office_files.specs.declared.rule_word.RuleWord.TheVariants as word
+use Rattle.office_files.specs.declared.counts.Counts.{Counts}
+use Rattle.office_files.specs.declared.fault.FaultKind.{FaultKind}
+use Rattle.office_files.specs.declared.fault.FaultKind.TheVariants.{BadWord, OutOfRange, CountMismatch}
+
+-- date, time, length, penalty
+abbrev pub period_in : List (List ℕ) → Result Period FaultKind
+period_in fields = do
+  date ← date_of (first fields)
+  time ← time_of (first (rest fields))
+  minutes ← number 1440 (first (rest (rest fields)))
+  penalty ← number 100000 (first (rest (rest (rest fields))))
+  _ ← ended (rest (rest (rest (rest fields))))
+  Ok (record { date = date; hour = time.0; minute = time.1; second = time.2; length = minutes; penalty = penalty })
+
+-- capacity, penalty
+abbrev pub room_in : List (List ℕ) → Result Room FaultKind
+room_in fields = do
+  capacity ← number 100000 (first fields)
+  penalty ← number 100000 (first (rest fields))
+  _ ← ended (rest (rest fields))
+  Ok (record { capacity = capacity; penalty = penalty })
+
+-- the word of a rule on two exams
+abbrev pub rule_word : List ℕ → Result RuleWord FaultKind
+rule_word text =
+    if str_eq_ignore_ascii_case text (codes "AFTER") then Ok word.After
+    else (if str_eq_ignore_ascii_case text (codes "EXAM_COINCIDENCE") then Ok word.Coincidence
+    else (if str_eq_ignore_ascii_case text (codes "EXCLUSION") then Ok word.Exclusion
+    else Err BadWord))
+
+-- the rule of that word on two exams
+abbrev pub rule_by : RuleWord → ℕ → ℕ → PeriodRule
+rule_by word.After a b = After a b
+rule_by word.Coincidence a b = Coincidence a b
+rule_by word.Exclusion a b = Exclusion a b
+
+-- exam, word, exam; both exams are among so many
+abbrev pub period_rule_in : ℕ → List (List ℕ) → Result PeriodRule FaultKind
+period_rule_in exams fields = do
+  a ← number (exams - 1) (first fields)
+  word ← rule_word (first (rest fields))
+  b ← number (exams - 1) (first (rest (rest fields)))
+  _ ← ended (rest (rest (rest fields)))
+  Ok (rule_by word a b)
+
+-- exam, word
+abbrev pub room_rule_in : ℕ → List (List ℕ) → Result RoomRule FaultKind
+room_rule_in exams fields = do
+  a ← number (exams - 1) (first fields)
+  _ ← unless (str_eq_ignore_ascii_case (first (rest fields)) (codes "ROOM_EXCLUSIVE")) BadWord
+  _ ← ended (rest (rest fields))
+  Ok (record { 0 = a })
+
+-- period, room; both are among so many
+abbrev pub place_in : Counts → List (List ℕ) → Result Place FaultKind
+place_in counts fields = do
+  period ← number (counts.periods - 1) (first fields)
+  room ← number (counts.rooms - 1) (first (rest fields))
+  _ ← ended (rest (rest fields))
+  Ok (record { period = period; room = room })
+
+-- a line of the section of periods
+abbrev pub period_line : Counts → List Period → List (List ℕ) → Result Period FaultKind
+period_line counts before fields = period_in fields
+
+-- a line of the section of rooms
+abbrev pub room_line : Counts → List Room → List (List ℕ) → Result Room FaultKind
+room_line counts before fields = room_in fields
+
+-- a line of a section of rules, of which there are at most 5,000
+abbrev pub period_rule_line : Counts → List PeriodRule → List (List ℕ) → Result PeriodRule FaultKind
+period_rule_line counts before fields = do
+  _ ← unless (nat_lt (length before) 5000) OutOfRange
+  period_rule_in counts.exams fields
+
+abbrev pub room_rule_line : Counts → List RoomRule → List (List ℕ) → Result RoomRule FaultKind
+room_rule_line counts before fields = do
+  _ ← unless (nat_lt (length before) 5000) OutOfRange
+  room_rule_in counts.exams fields
+
+-- a line of a solution: the place of the next exam, where there is one
+abbrev pub place_line : Counts → List Place → List (List ℕ) → Result Place FaultKind
+place_line counts before fields = do
+  _ ← unless (nat_lt (length before) counts.exams) CountMismatch
+  place_in counts fields

@@ -1,0 +1,12 @@
+pub mod Fields
+pub mod Numbers
+pub mod Dates
+pub mod Lines
+pub mod Tokens
+pub mod Reading
+pub mod Items
+pub mod Weightings
+pub mod ExamLines
+pub mod Sections
+pub mod InstanceText
+pub mod SolutionText

@@ -1,0 +1,75 @@
+-- The lines of a text that aren't blank, each with its place in the text.
+use Rattle.std.specs.Prelude.{ℕ, ◌+◌, ◌-◌, ◌<◌, ◌≤◌, Bool, false, ◌==◌, if◌then◌else◌}
+use Rattle.std.specs.Prelude.{List, [], ◌∷◌, length}
+use Rattle.office_files.specs.Fields.{ended_parts, trim_start, trimmed}
+
+-- how many lines a text has; behind a last line feed there is none
+abbrev pub line_count : List ℕ → ℕ
+line_count text = length (ended_parts 10 text)
+
+-- a part of a text, and the place where it starts
+pub record Piece : Type 0 where
+  pub start : ℕ
+  pub text : List ℕ
+
+-- the parts that were cut at one byte each, in their places from `start` on
+abbrev pub placed : ℕ → List (List ℕ) → List Piece
+placed start [] = []
+placed start (x ∷ xs) = record { start = start; text = x } ∷ placed (start + length x + 1) xs
+
+-- one carriage return at the end is dropped
+abbrev pub without_return : List ℕ → List ℕ
+without_return [] = []
+without_return (b ∷ []) = if b == 13 then [] else b ∷ []
+without_return (b ∷ c ∷ cs) = b ∷ without_return (c ∷ cs)
+
+-- what stands on a line of the file, or in a field of it, from one place up to another
+pub record Located : Type 0 where
+  pub line : ℕ
+  pub start : ℕ
+  pub end : ℕ
+  pub text : List ℕ
+
+-- where a piece begins without the blanks before it
+abbrev pub inner_start : Piece → ℕ
+inner_start p = p.start + (length p.text - length (trim_start p.text))
+
+-- a piece of a line without the blanks around it
+abbrev pub located : ℕ → Piece → Located
+located line p = record {
+  line = line;
+  start = inner_start p;
+  end = inner_start p + length (trimmed p.text);
+  text = trimmed p.text;
+}
+
+-- a line before others, where it isn't blank
+abbrev pub unless_blank : Located → List Located → List Located
+unless_blank row rows = if length row.text == 0 then rows else row ∷ rows
+
+-- the lines that aren't blank, counted from `line` on
+abbrev pub lines_from : ℕ → List Piece → List Located
+lines_from line [] = []
+lines_from line (p ∷ ps) =
+    unless_blank (located line (record p { text = without_return p.text }))
+    (lines_from (line + 1) ps)
+
+-- the lines of a text that aren't blank, counted from 1
+abbrev pub lines_of : List ℕ → List Located
+lines_of text = lines_from 1 (placed 0 (ended_parts 10 text))
+
+-- a header begins with an opening bracket
+abbrev pub is_header : List ℕ → Bool
+is_header [] = false
+is_header (b ∷ bs) = b == 91
+
+-- how many lines stand before the next header
+abbrev pub section_size : List Located → ℕ
+section_size [] = 0
+section_size (row ∷ rows) = if is_header row.text then 0 else section_size rows + 1
+
+-- the place and the line of what is left of a text stay within its limit
+pub record HasPlaces (line at : ℕ) (left : List ℕ) : Type 0 where
+  pub at_most : at ≤ 4194305
+  pub within : 0 < length left → at + length left ≤ 4194304
+  pub lines : line + length left ≤ 4194305

@@ -1,0 +1,36 @@
+-- How lines are read one after another: each by its own fields and the items of the lines before it.
+use Rattle.std.specs.Prelude.{◌≡◌, ◌≢◌, ℕ, List, [], ◌∷◌, ◌++◌, length, take, slice_get, Option, Some, Result, Ok, Err}
+use Rattle.exam_model.specs.Refusing.{◌>>=◌}
+use Rattle.office_files.specs.Fields.{fields_of}
+use Rattle.office_files.specs.Lines.{Located}
+use Rattle.office_files.specs.declared.fault.FaultKind.{FaultKind}
+use Rattle.office_files.specs.declared.fault.FaultKind.TheVariants.{NoMemory}
+use Rattle.office_files.specs.declared.fault.FileFault.{FileFault}
+
+-- what a line says, its fault with the line's number
+abbrev pub at_line : {A : Type 0} → ℕ → Result A FaultKind → Result A FileFault
+at_line line (Ok x) = Ok x
+at_line line (Err what) = Err (record { line = line; what = what })
+
+-- the items of lines behind those before them, or the fault of the first faulty line
+abbrev pub items_of : {A : Type 0} → (List A → List (List ℕ) → Result A FaultKind) → List A → List Located → Result (List A) FileFault
+items_of read before [] = Ok before
+items_of read before (line ∷ lines) =
+    at_line line.line (read before (fields_of line.text)) >>= λ item.
+    items_of read (before ++ item ∷ []) lines
+
+-- there are as many items as lines, and each line spells its item behind those of the lines before it
+pub record Spell {A : Type 0} (read : List A → List (List ℕ) → Result A FaultKind) (lines : List Located) (items : List A) : Type 0 where
+  pub as_many : length items ≡ length lines
+  pub each : (i : ℕ) (line : Located) (item : A) → slice_get lines i ≡ Some line → slice_get items i ≡ Some item
+      → read (take i items) (fields_of line.text) ≡ Ok item
+
+-- a call answered what the reading gives
+abbrev pub Reads : {X Y : Type 0} → (X → Y) → Result X FaultKind → Result Y FaultKind → Type 0
+Reads view (Ok x) reading = reading ≡ Ok (view x)
+Reads view (Err what) reading = reading ≡ Err what
+
+-- the same, unless memory ran out
+abbrev pub Gives : {X Y : Type 0} → (X → Y) → Result X FileFault → Result Y FileFault → Type 0
+Gives view (Ok x) reading = reading ≡ Ok (view x)
+Gives view (Err fault) reading = fault.what ≢ NoMemory → reading ≡ Err fault

@@ -1,0 +1,38 @@
+-- What a solution file spells, and how it is read (ITC 2007, output format).
+use Rattle.std.specs.Prelude.{◌≡◌, ℕ, ◌+◌, ◌≤◌, ◌==◌, nat_le, List, [], ◌∷◌, map, length, Option, Some, Result, Ok, Err}
+use Rattle.exam_model.specs.Refusing.{◌>>=◌, unless}
+use Rattle.exam_model.specs.Instance.{Session}
+use Rattle.exam_model.specs.Timetable.{Placing}
+use Rattle.exam_model.specs.declared.parts.Place.{Place}
+use Rattle.office_files.specs.Items.{place_line}
+use Rattle.office_files.specs.Lines.{lines_of, line_count}
+use Rattle.office_files.specs.Reading.{at_line, items_of, Spell}
+use Rattle.office_files.specs.declared.counts.Counts.{Counts}
+use Rattle.office_files.specs.declared.fault.FaultKind.{FaultKind}
+use Rattle.office_files.specs.declared.fault.FaultKind.TheVariants.{TooLong, CountMismatch}
+use Rattle.office_files.specs.declared.fault.FileFault.{FileFault}
+
+-- how many exams, periods and rooms a session has
+abbrev pub counts_in : Session → Counts
+counts_in I = record { exams = length I.exams; periods = length I.periods; rooms = length I.rooms }
+
+-- a text that is short enough spells a complete timetable: one line for each exam, in their order
+pub record SolutionText (b : List ℕ) (I : Session) (T : Placing) : Type 0 where
+  pub within : length b ≤ 1048576
+  pub places : List Place
+  pub spelled : Spell (place_line (counts_in I)) (lines_of b) places
+  pub complete : length places ≡ length I.exams
+  pub timetable : T ≡ map Some places
+
+-- the complete timetable that lines say, one place for each exam
+abbrev pub timetable_in : Counts → List ℕ → Result Placing FileFault
+timetable_in counts b = do
+  places ← items_of (place_line counts) [] (lines_of b)
+  _ ← at_line (line_count b + 1) (unless (length places == counts.exams) CountMismatch)
+  Ok (map Some places)
+
+-- the reading of a solution file: the timetable that it spells, or its first fault
+abbrev pub solution_in : Session → List ℕ → Result Placing FileFault
+solution_in I b = do
+  _ ← at_line 0 (unless (nat_le (length b) 1048576) TooLong)
+  timetable_in (counts_in I) b

@@ -1,0 +1,82 @@
+-- What the lines of the last section weigh (ITC 2007, institutional weightings).
+use Rattle.std.specs.Prelude.{◌≡◌, ℕ, Bool, true, false, not, if◌then◌else◌, List, [], ◌∷◌, codes, Result, Ok, Err}
+use Rattle.std.specs.List.{list_any}
+use Rattle.std.specs.Str.{str_eq_ignore_ascii_case}
+use Rattle.exam_model.specs.Refusing.{◌>>=◌, unless}
+use Rattle.exam_model.specs.declared.parts.Weights.{Weights}
+use Rattle.office_files.specs.Fields.{first, rest, ended}
+use Rattle.office_files.specs.Numbers.{number}
+use Rattle.office_files.specs.declared.counts.Counts.{Counts}
+use Rattle.office_files.specs.declared.weightings.Weighting.{Weighting}
+use Rattle.office_files.specs.declared.weightings.Weighting.TheVariants as said
+use Rattle.office_files.specs.declared.weightings.WeightWord.{WeightWord}
+use Rattle.office_files.specs.declared.weightings.WeightWord.TheVariants as word
+use Rattle.office_files.specs.declared.fault.FaultKind.{FaultKind}
+use Rattle.office_files.specs.declared.fault.FaultKind.TheVariants.{BadWord, Repeated}
+
+-- the word of a weighting line
+abbrev pub weight_word : List ℕ → Result WeightWord FaultKind
+weight_word text =
+    if str_eq_ignore_ascii_case text (codes "TWOINAROW") then Ok word.Row
+    else (if str_eq_ignore_ascii_case text (codes "TWOINADAY") then Ok word.Day
+    else (if str_eq_ignore_ascii_case text (codes "PERIODSPREAD") then Ok word.Spread
+    else (if str_eq_ignore_ascii_case text (codes "NONMIXEDDURATIONS") then Ok word.Mixed
+    else (if str_eq_ignore_ascii_case text (codes "FRONTLOAD") then Ok word.Front
+    else Err BadWord))))
+
+-- whether a weighting has this word
+abbrev pub has_word : WeightWord → Weighting → Bool
+has_word word.Row (said.Row n) = true
+has_word word.Day (said.Day n) = true
+has_word word.Spread (said.Spread n) = true
+has_word word.Mixed (said.Mixed n) = true
+has_word word.Front (said.Front n k w) = true
+has_word _ _ = false
+
+-- one number behind a word
+abbrev pub amount_in : List (List ℕ) → Result ℕ FaultKind
+amount_in fields = do
+  amount ← number 100000 (first fields)
+  _ ← ended (rest fields)
+  Ok amount
+
+-- how many exams, how many periods, what weight
+abbrev pub front_in : List (List ℕ) → Result Weighting FaultKind
+front_in fields = do
+  exams ← number 100000 (first fields)
+  periods ← number 100000 (first (rest fields))
+  weight ← number 100000 (first (rest (rest fields)))
+  _ ← ended (rest (rest (rest fields)))
+  Ok (said.Front exams periods weight)
+
+-- what the numbers behind a word say
+abbrev pub weighting_by : WeightWord → List (List ℕ) → Result Weighting FaultKind
+weighting_by word.Row fields = amount_in fields >>= λ n. Ok (said.Row n)
+weighting_by word.Day fields = amount_in fields >>= λ n. Ok (said.Day n)
+weighting_by word.Spread fields = amount_in fields >>= λ n. Ok (said.Spread n)
+weighting_by word.Mixed fields = amount_in fields >>= λ n. Ok (said.Mixed n)
+weighting_by word.Front fields = front_in fields
+
+-- a line of the section of weightings: a word that no line before it has, and its numbers
+abbrev pub weighting_line : Counts → List Weighting → List (List ℕ) → Result Weighting FaultKind
+weighting_line counts before fields = do
+  word ← weight_word (first fields)
+  _ ← unless (not (list_any (has_word word) before)) Repeated
+  weighting_by word (rest fields)
+
+-- the weights with what one line says
+abbrev pub with_weighting : Weights → Weighting → Weights
+with_weighting w (said.Row n) = record w { row = n }
+with_weighting w (said.Day n) = record w { day = n }
+with_weighting w (said.Spread n) = record w { spread = n }
+with_weighting w (said.Mixed n) = record w { mixed = n }
+with_weighting w (said.Front n k v) = record w { front_exams = n; front_periods = k; front = v }
+
+-- the weights with what all lines say
+abbrev pub with_weightings : Weights → List Weighting → Weights
+with_weightings w [] = w
+with_weightings w (s ∷ ss) = with_weightings (with_weighting w s) ss
+
+-- what is not weighed counts as zero
+abbrev pub no_weights : Weights
+no_weights = record { row = 0; day = 0; spread = 0; mixed = 0; front_exams = 0; front_periods = 0; front = 0 }

@@ -1,0 +1,64 @@
+// Reading dates and times of day.
+ghost use Rattle.std.specs.Prelude.{◌≡◌, ◌≤◌};
+ghost use Rattle.office_files.specs.Dates.{digits_of, date_if_civil, date_of, time_of};
+
+use crate::fault::FaultKind;
+use crate::numbers::number;
+use crate::words::split_once;
+use jiff::civil::Date;
+
+/// The day that a field says, if the calendar has it.
+pub fn date_of(text: &[u8]) -> Result<Date, FaultKind>
+    ensures { result ≡ date_of text.now }
+{
+    let (day, others) = split_once(text, b':').ok_or(FaultKind::BadDate)?;
+    let (month, year) = split_once(others, b':').ok_or(FaultKind::BadDate)?;
+    let day = digits_of(FaultKind::BadDate, 1, 2, 99, day)?;
+    let month = digits_of(FaultKind::BadDate, 1, 2, 99, month)?;
+    let year = digits_of(FaultKind::BadDate, 4, 4, 9999, year)?;
+    civil_date(year, month, day).ok_or(FaultKind::BadDate)
+}
+
+/// The time of day that a field says: hours, minutes, seconds.
+pub fn time_of(text: &[u8]) -> Result<(u8, u8, u8), FaultKind>
+    ensures { result ≡ time_of text.now }
+{
+    let (hour, others) = split_once(text, b':').ok_or(FaultKind::BadTime)?;
+    let (minute, second) = split_once(others, b':').ok_or(FaultKind::BadTime)?;
+    let hour = digits_of(FaultKind::BadTime, 1, 2, 23, hour)?;
+    let minute = digits_of(FaultKind::BadTime, 1, 2, 59, minute)?;
+    let second = digits_of(FaultKind::BadTime, 1, 2, 59, second)?;
+    Ok((hour as u8, minute as u8, second as u8))
+}
+
+// A number of at least so many digits and at most so many, within the limit.
+fn digits_of(
+    fault: FaultKind,
+    least: usize,
+    most: usize,
+    limit: u32,
+    text: &[u8],
+) -> Result<u32, FaultKind>
+    ensures { result ≡ digits_of fault least most limit text.now }
+{
+    if text.len() < least || text.len() > most {
+        return Err(fault);
+    }
+    match number(text, limit) {
+        Ok(value) => Ok(value),
+        Err(_) => Err(fault),
+    }
+}
+
+// The date of these numbers, if the calendar has it. The year 0 is jiff's, but none of a file's.
+fn civil_date(year: u32, month: u32, day: u32) -> Option<Date>
+    requires year { year ≤ 9999 }
+    requires month { month ≤ 99 }
+    requires day { day ≤ 99 }
+    ensures { result ≡ date_if_civil year month day }
+{
+    if year == 0 {
+        return None;
+    }
+    Date::new(year as i16, month as i8, day as i8).ok()
+}

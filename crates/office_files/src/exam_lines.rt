@@ -1,0 +1,142 @@
+// Reading the lines of the section of exams.
+ghost use Rattle.std.specs.Prelude.{◌≡◌, ◌≢◌, ◌<◌, ◌≤◌, ◌+◌, [], length, take, drop, slice_set};
+ghost use Rattle.std.specs.Prelude.{OnOk, IfOk, IfErr, Err};
+ghost use Rattle.exam_model.specs.Enrolments.{AreEnrolments, pair_count};
+ghost use Rattle.office_files.specs.Fields.{fields_of};
+ghost use Rattle.office_files.specs.Numbers.{number};
+ghost use Rattle.office_files.specs.Reading.{items_of};
+ghost use Rattle.office_files.specs.ExamLines.{exam_line, exam_behind, SaysExams};
+ghost use Rattle.office_files.specs.ExamLines.{IsEmptyExam, EntersLine, with_students};
+ghost use Rattle.office_files.specs.ExamLines.{named_in, fault_in};
+
+use crate::fault::{FaultKind, FileFault};
+use crate::fields::Fields;
+use crate::lines::Lines;
+use crate::numbers::number;
+use exam_model::{Enrolments, Exam, ExamNo, ModelFault, StudentNo};
+use std::alloc::{AllocError, Global};
+
+// The student whom a field names.
+fn student_in(field: &[u8]) -> Result<StudentNo, FaultKind>
+    ensures { result ≡ number 999999999 field.now }
+{
+    let value = number(field, 999_999_999)?;
+    StudentNo::new(value).ok_or(FaultKind::OutOfRange)
+}
+
+// Lists the students of the fields up to the first fault, which is the answer.
+fn gather(
+    mut fields: Fields<'_>,
+    named: &mut Vec<StudentNo>,
+) -> Result<Option<FaultKind>, AllocError>
+    ensures names { OnOk result (named.new.items ≡ named_in fields.entry) }
+    ensures fault { IfOk result (λ fault. fault ≡ fault_in fields.entry) }
+{
+    named.clear();
+    'fields: while !fields.is_empty() {
+        match student_in(fields.next()) {
+            Ok(student) => named.push(student)?,
+            Err(what) => return Ok(Some(what)),
+        }
+    }
+    Ok(None)
+}
+
+// What is wrong with a line of which a pair is refused.
+fn kind_of(fault: ModelFault) -> FaultKind
+    ensures memory { fault ≡ ModelFault.NoMemory → result ≡ FaultKind.NoMemory }
+    ensures range { fault ≢ ModelFault.NoMemory → result ≡ FaultKind.OutOfRange }
+{
+    match fault {
+        ModelFault::NoMemory => FaultKind::NoMemory,
+        _ => FaultKind::OutOfRange,
+    }
+}
+
+// Puts the students into an exam that has none; ascending students go in fastest.
+fn enrol(named: &[StudentNo], exam: ExamNo, enrolments: &mut Enrolments) -> Result<(), FaultKind>
+    requires { IsEmptyExam enrolments.old exam }
+    ensures ok { OnOk result
+        (enrolments.new ≡ slice_set enrolments.old exam (with_students named.now [])) }
+    ensures kept { AreEnrolments enrolments.new }
+    ensures full { IfErr result (λ what. what ≢ FaultKind.NoMemory → (what ≡ FaultKind.OutOfRange)
+        × (200000 < pair_count enrolments.old + length (with_students named.now []))) }
+{
+    for student in named {
+        match enrolments.add(*student, exam) {
+            Ok(_) => {}
+            Err(fault) => return Err(kind_of(fault)),
+        }
+    }
+    Ok(())
+}
+
+// What a line says, behind the pairs that are there.
+fn exam_line(
+    line: &[u8],
+    exam: ExamNo,
+    enrolments: &mut Enrolments,
+    named: &mut Vec<StudentNo>,
+) -> Result<Exam, FaultKind>
+    requires { IsEmptyExam enrolments.old exam }
+    ensures ok { IfOk result
+        (EntersLine enrolments.old enrolments.new exam (fields_of line.now)) }
+    ensures err { IfErr result (λ what. what ≢ FaultKind.NoMemory
+        → exam_behind (pair_count enrolments.old) (fields_of line.now) ≡ Err what) }
+{
+    let mut fields = Fields::new(line);
+    let minutes = number(fields.next(), 1440)?;
+    let Ok(fault) = gather(fields, named) else {
+        return Err(FaultKind::NoMemory);
+    };
+    named.sort_unstable();
+    enrol(named, exam, enrolments)?;
+    match fault {
+        None => Ok(Exam { minutes }),
+        Some(what) => Err(what),
+    }
+}
+
+// The fault of a line; want of memory is no line's.
+fn fault_at(line: u32, what: FaultKind) -> FileFault
+    ensures kind { result.what ≡ what }
+    ensures place { what ≢ FaultKind.NoMemory → result ≡ record { line = line; what = what } }
+    ensures memory { what ≡ FaultKind.NoMemory → result.line ≡ 0 }
+{
+    match what {
+        FaultKind::NoMemory => FileFault::NO_MEMORY,
+        _ => FileFault { line, what },
+    }
+}
+
+/// The exams of the next lines, of which there are so many, and who sits them.
+pub fn exam_lines(
+    alloc: Global,
+    lines: &mut Lines<'_>,
+    count: u32,
+) -> Result<(Vec<Exam>, Enrolments), FileFault>
+    requires some { 1 ≤ count }
+    requires most { count ≤ 2000 }
+    requires there { count ≤ length lines.old }
+    ensures found { IfOk result (λ read. SaysExams (take count lines.old) read.0.items read.1) }
+    ensures fault { IfErr result (λ fault. fault.what ≢ FaultKind.NoMemory
+        → items_of exam_line [] (take count lines.old) ≡ Err fault) }
+    ensures memory { IfErr result (λ fault. fault.what ≡ FaultKind.NoMemory → fault.line ≡ 0) }
+    ensures left { OnOk result (lines.new ≡ drop count lines.old) }
+{
+    let Ok(mut enrolments) = Enrolments::new(alloc, count) else {
+        return Err(FileFault::NO_MEMORY);
+    };
+    let mut exams: Vec<Exam> = Vec::new(alloc);
+    let mut named: Vec<StudentNo> = Vec::new(alloc);
+    'lines: for exam in 0..count {
+        let Some(row) = lines.next() else {
+            unreachable!();
+        };
+        match exam_line(row.text, ExamNo::new(exam), &mut enrolments, &mut named) {
+            Ok(exam) => exams.push(exam)?,
+            Err(what) => return Err(fault_at(row.line, what)),
+        }
+    }
+    Ok((exams, enrolments))
+}

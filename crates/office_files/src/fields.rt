@@ -1,0 +1,129 @@
+// Cutting a line into fields, without the blanks around each.
+ghost use Rattle.std.specs.Prelude.{◌≡◌, ◌<◌, ◌≤◌, ◌+◌, ◌∷◌, [], List, ℕ, length, IsTrue, ◌↔◌};
+ghost use Rattle.office_files.specs.Fields.{ended_parts, is_blank, trim_start, trim_end, trimmed};
+ghost use Rattle.office_files.specs.Fields.{fields_of, first, rest, ended};
+
+use crate::fault::FaultKind;
+use std::marker::Model;
+
+/// The bytes before the first mark, and those behind it; without a mark the text is the first part.
+#[tactic(auto, using(crate::proofs::FieldLemmas::part_facts))]
+pub fn cut(text: &[u8], mark: u8) -> (&[u8], &[u8])
+    requires { 0 < length text.now }
+    ensures parts { ended_parts mark text.now ≡ result.0.now ∷ ended_parts mark result.1.now }
+    ensures shorter { length result.1.now < length text.now }
+    ensures within { length result.0.now ≤ length text.now }
+    ensures lengths { 0 < length result.1.now
+        → length result.0.now + 1 + length result.1.now ≡ length text.now }
+{
+    for (i, byte) in text.iter().enumerate() {
+        if *byte == mark {
+            return (&text[..i], &text[i + 1..]);
+        }
+    }
+    (text, &text[text.len()..])
+}
+
+#[inline]
+fn is_blank(byte: u8) -> bool
+    ensures { result ≡ is_blank byte }
+{
+    byte == b' ' || byte == b'\t'
+}
+
+/// The text without the blanks at its start.
+#[inline]
+#[tactic(auto, using(crate::proofs::FieldLemmas::part_facts))]
+pub fn trim_start(text: &[u8]) -> &[u8]
+    ensures trimmed { result.now ≡ trim_start text.now }
+    ensures within { length result.now ≤ length text.now }
+{
+    let mut left = text;
+    while let Some((first, others)) = left.split_first() {
+        if !is_blank(*first) {
+            break;
+        }
+        left = others;
+    }
+    left
+}
+
+/// The text without the blanks at its end.
+#[inline]
+#[tactic(auto, using(crate::proofs::FieldLemmas::part_facts))]
+pub fn trim_end(text: &[u8]) -> &[u8]
+    ensures trimmed { result.now ≡ trim_end text.now }
+    ensures within { length result.now ≤ length text.now }
+{
+    let mut left = text;
+    while let Some((last, others)) = left.split_last() {
+        if !is_blank(*last) {
+            break;
+        }
+        left = others;
+    }
+    left
+}
+
+/// The text without the blanks around it.
+#[inline]
+pub fn trimmed(text: &[u8]) -> &[u8]
+    ensures { result.now ≡ trimmed text.now }
+{
+    trim_end(trim_start(text))
+}
+
+/// The fields of a line that are still to come.
+#[derive(Drop)]
+pub struct Fields<'a> {
+    left: &'a [u8],
+}
+
+impl<'a> Model for Fields<'a> {
+    ghost Value = { List (List ℕ) };
+
+    ghost view = { λ s. fields_of s.left.now };
+}
+
+impl<'a> Fields<'a> {
+    /// The fields of this line, from the first on.
+    #[inline]
+    pub fn new(line: &'a [u8]) -> Fields<'a>
+        ensures { result ≡ fields_of line.now }
+    {
+        Fields { left: line }
+    }
+
+    /// The next field, or an empty one where none is left.
+    pub fn next(&mut self) -> &'a [u8]
+        ensures field { result.now ≡ first self.old }
+        ensures left { self.new ≡ rest self.old }
+    {
+        if self.left.is_empty() {
+            return self.left;
+        }
+        let (field, left) = cut(self.left, b',');
+        self.left = left;
+        trimmed(field)
+    }
+
+    /// Whether no field is left.
+    #[inline]
+    pub fn is_empty(&self) -> bool
+        ensures { IsTrue result ↔ (self.now ≡ []) }
+    {
+        self.left.is_empty()
+    }
+}
+
+/// Refuses the fields that are left, where there are any.
+#[inline]
+pub fn ended(fields: Fields<'_>) -> Result<(), FaultKind>
+    ensures { result ≡ ended fields.entry }
+{
+    if fields.is_empty() {
+        Ok(())
+    } else {
+        Err(FaultKind::StrayText)
+    }
+}

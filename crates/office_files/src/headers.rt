@@ -1,0 +1,80 @@
+// Judging the header of a section.
+ghost use Rattle.std.specs.Prelude.{◌≡◌, ◌<◌, ℕ, length};
+ghost use Rattle.office_files.specs.Lines.{is_header};
+ghost use Rattle.office_files.specs.Reading.{Reads};
+ghost use Rattle.office_files.specs.Sections.{inside_of, closed, plain_header, counted_header, header_by};
+
+use crate::fault::FaultKind;
+use crate::fields::trimmed;
+use crate::numbers::number;
+use crate::words::{same_word, split_once};
+
+fn is_header(text: &[u8]) -> bool
+    ensures { result ≡ is_header text.now }
+{
+    match text.first() {
+        Some(first) => *first == b'[',
+        None => false,
+    }
+}
+
+// What stands between a header's brackets, and what behind them.
+fn inside_of(text: &[u8]) -> Result<(&[u8], &[u8]), FaultKind>
+    ensures { Reads (λ p. (p.0.now, p.1.now)) result (inside_of text.now) }
+{
+    if !is_header(text) {
+        return Err(FaultKind::MissingSection);
+    }
+    match text.split_first() {
+        Some((_, others)) => split_once(others, b']').ok_or(FaultKind::MissingSection),
+        None => Err(FaultKind::MissingSection),
+    }
+}
+
+fn closed(behind: &[u8]) -> Result<(), FaultKind>
+    ensures { result ≡ closed behind.now }
+{
+    if trimmed(behind).is_empty() {
+        Ok(())
+    } else {
+        Err(FaultKind::StrayText)
+    }
+}
+
+fn plain_header(word: &[u8], text: &[u8]) -> Result<(), FaultKind>
+    ensures { result ≡ plain_header word.now text.now }
+{
+    let (inside, behind) = inside_of(text)?;
+    if !same_word(trimmed(inside), word) {
+        return Err(FaultKind::MissingSection);
+    }
+    closed(behind)
+}
+
+fn counted_header(word: &[u8], limit: u32, lines: usize, text: &[u8]) -> Result<(), FaultKind>
+    ensures { result ≡ counted_header word.now limit lines text.now }
+{
+    let (inside, behind) = inside_of(text)?;
+    let (name, count) = split_once(inside, b':').ok_or(FaultKind::MissingSection)?;
+    if !same_word(trimmed(name), word) {
+        return Err(FaultKind::MissingSection);
+    }
+    let count = number(trimmed(count), limit)?;
+    if count == 0 {
+        return Err(FaultKind::OutOfRange);
+    }
+    if count as usize != lines {
+        return Err(FaultKind::CountMismatch);
+    }
+    closed(behind)
+}
+
+/// Judges a header: its word and, where the section has a limit, the number of its lines.
+pub fn header(word: &[u8], limit: Option<u32>, lines: usize, text: &[u8]) -> Result<(), FaultKind>
+    ensures { result ≡ header_by word.now limit lines text.now }
+{
+    match limit {
+        None => plain_header(word, text),
+        Some(limit) => counted_header(word, limit, lines, text),
+    }
+}

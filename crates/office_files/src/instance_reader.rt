@@ -1,0 +1,170 @@
+// Reading an instance file.
+ghost use Rattle.std.specs.Prelude.{◌≡◌, ◌≢◌, ℕ, ◌+◌, ◌≤◌, List, map, length, Ok, Err, IfOk, IfErr};
+ghost use Rattle.exam_model.specs.Enrolments.{Enrolled};
+ghost use Rattle.exam_model.specs.Instance.{Session, IsInstance};
+ghost use Rattle.office_files.specs.ExamLines.{ExamLine, exam_line, exam_of};
+ghost use Rattle.office_files.specs.Lines.{line_count};
+ghost use Rattle.office_files.specs.Reading.{Gives};
+ghost use Rattle.office_files.specs.Sections.{section_in};
+ghost use Rattle.office_files.specs.Weightings.{with_weightings, no_weights};
+ghost use Rattle.office_files.specs.InstanceText.{exams_heading, later_sections, instance_in, InstanceText};
+
+use crate::counts::Counts;
+use crate::exam_lines::exam_lines;
+use crate::fault::{FaultKind, FileFault};
+use crate::sections::Sections;
+use crate::weightings::{Weighting, weights_of};
+use exam_model::{Enrolments, Exam, Instance, ModelFault, Period, PeriodRule, Room, RoomRule};
+use std::alloc::Global;
+
+// The longest instance file, in bytes.
+const LONGEST_INSTANCE: usize = 4_194_304;
+
+// What the sections behind that of the exams say.
+#[derive(Drop)]
+struct Said {
+    periods: Vec<Period>,
+    rooms: Vec<Room>,
+    period_rules: Vec<PeriodRule>,
+    room_rules: Vec<RoomRule>,
+    weightings: Vec<Weighting>,
+}
+
+// The section of exams.
+fn exams_section(
+    alloc: Global,
+    sections: &mut Sections<'_>,
+) -> Result<(Vec<Exam>, Enrolments), FileFault>
+    requires within { length sections.old.source.now ≤ 4194304 }
+    ensures found { IfOk result (λ r. (said : List ExamLine)
+        × (section_in exams_heading exam_line (line_count sections.old.source.now + 1)
+        sections.old.lines ≡ Ok (said, sections.new.lines))
+        × (r.0.items ≡ map exam_of said) × (r.1 ≡ map (λ line. line.students) said)) }
+    ensures fault { IfErr result (λ fault. fault.what ≢ FaultKind.NoMemory
+        → section_in exams_heading exam_line (line_count sections.old.source.now + 1)
+        sections.old.lines ≡ Err fault) }
+    ensures same { sections.new.source.now ≡ sections.old.source.now }
+{
+    let size = sections.open(b"Exams", Some(2000))?;
+    exam_lines(alloc, &mut sections.lines, size as u32)
+}
+
+// The sections behind that of the exams, of which there are so many.
+fn later_sections(alloc: Global, sections: &mut Sections<'_>, exams: u32) -> Result<Said, FileFault>
+    requires within { length sections.old.source.now ≤ 4194304 }
+    ensures found { (exam_lines : List ExamLine) → length exam_lines ≡ exams → IfOk result (λ said.
+        later_sections (line_count sections.old.source.now + 1) exam_lines sections.old.lines
+        ≡ Ok (record {
+          exams = exam_lines;
+          periods = said.periods.items;
+          rooms = said.rooms.items;
+          period_rules = said.period_rules.items;
+          room_rules = said.room_rules.items;
+          weightings = said.weightings.items;
+        })) }
+    ensures fault { (exam_lines : List ExamLine) → length exam_lines ≡ exams → IfErr result (λ fault.
+        fault.what ≢ FaultKind.NoMemory
+        → later_sections (line_count sections.old.source.now + 1) exam_lines sections.old.lines
+        ≡ Err fault) }
+{
+    let counts = Counts {
+        exams,
+        periods: 0,
+        rooms: 0,
+    };
+    let periods: Vec<Period> = sections.next(alloc, b"Periods", Some(200), counts)?;
+    let rooms: Vec<Room> = sections.next(alloc, b"Rooms", Some(200), counts)?;
+    let period_rules: Vec<PeriodRule> = sections.next(
+        alloc,
+        b"PeriodHardConstraints",
+        None,
+        counts,
+    )?;
+    let room_rules: Vec<RoomRule> = sections.next(alloc, b"RoomHardConstraints", None, counts)?;
+    let weightings: Vec<Weighting> = sections.next(
+        alloc,
+        b"InstitutionalWeightings",
+        None,
+        counts,
+    )?;
+    sections.end()?;
+    Ok(Said {
+        periods,
+        rooms,
+        period_rules,
+        room_rules,
+        weightings,
+    })
+}
+
+// The instance of what was read.
+fn instance_of(alloc: Global, exams: &[Exam], said: &Said) -> Result<Instance, FileFault>
+    requires kept { IsInstance (record {
+      exams = exams.now;
+      periods = said.now.periods.items;
+      rooms = said.now.rooms.items;
+      period_rules = said.now.period_rules.items;
+      room_rules = said.now.room_rules.items;
+      weights = with_weightings no_weights said.now.weightings.items;
+    }) }
+    ensures made { IfOk result (λ made. made ≡ record {
+      exams = exams.now;
+      periods = said.now.periods.items;
+      rooms = said.now.rooms.items;
+      period_rules = said.now.period_rules.items;
+      room_rules = said.now.room_rules.items;
+      weights = with_weightings no_weights said.now.weightings.items;
+    }) }
+    ensures memory { IfErr result (λ fault. fault.what ≡ FaultKind.NoMemory) }
+{
+    let weights = weights_of(&said.weightings);
+    match Instance::new(
+        alloc,
+        exams,
+        &said.periods,
+        &said.rooms,
+        &said.period_rules,
+        &said.room_rules,
+        weights,
+    ) {
+        Ok(instance) => Ok(instance),
+        Err(ModelFault::NoMemory) => Err(FileFault::NO_MEMORY),
+        Err(_) => unreachable!(),
+    }
+}
+
+// The instance of a file that is not too long.
+fn instance_in(alloc: Global, source: &[u8]) -> Result<(Instance, Enrolments), FileFault>
+    requires within { length source.now ≤ 4194304 }
+    ensures { Gives (λ r. (r.0, r.1)) result (instance_in source.now) }
+{
+    let mut sections = Sections::new(source);
+    let (exams, enrolments) = exams_section(alloc, &mut sections)?;
+    let said = later_sections(alloc, &mut sections, exams.len() as u32)?;
+    let instance = instance_of(alloc, &exams, &said)?;
+    Ok((instance, enrolments))
+}
+
+/// The instance and the enrolments that a file spells (ITC 2007, input format). A fault is that of
+/// the first faulty line, and in it that of the first faulty field; `TooLong` (above 4,194,304
+/// bytes) and `NoMemory` have line 0.
+pub fn read_instance(alloc: Global, source: &[u8]) -> Result<(Instance, Enrolments), FileFault>
+    // What is answered is spelled so.
+    ensures reading { IfOk result (λ read. InstanceText source.now read.0 read.1) }
+    // What is refused, but for want of memory, spells nothing, and no text spells two instances.
+    ensures only { IfErr result (λ fault. fault.what ≢ FaultKind.NoMemory
+        → (I : Session) (E : Enrolled) → InstanceText source.now I E → ⊥) }
+    ensures one { IfOk result (λ read. (I : Session) (E : Enrolled) → InstanceText source.now I E
+        → (I ≡ read.0) × (E ≡ read.1)) }
+
+    // The answer is that of the reading of the text from the top, faults included.
+    ensures exact { Gives (λ read. (read.0, read.1)) result (instance_in source.now) }
+{
+    if source.len() > LONGEST_INSTANCE {
+        return Err(FileFault {
+            line: 0,
+            what: FaultKind::TooLong,
+        });
+    }
+    instance_in(alloc, source)
+}

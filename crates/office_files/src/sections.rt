@@ -1,0 +1,148 @@
+// Reading the sections of an instance file, one after another.
+ghost use Rattle.std.specs.Prelude.{◌≡◌, ◌≢◌, ℕ, ◌+◌, ◌≤◌, [], length, take, drop, OnOk, IfOk, IfErr};
+ghost use Rattle.office_files.specs.Lines.{lines_of, line_count, section_size};
+ghost use Rattle.office_files.specs.Reading.{Gives, items_of};
+ghost use Rattle.office_files.specs.Sections.{Heading, opened, section_in};
+ghost use Rattle.office_files.specs.InstanceText.{no_more};
+
+use crate::counts::Counts;
+use crate::fault::{FaultKind, FileFault};
+use crate::headers::header;
+use crate::items::LineItem;
+use crate::lines::{Lines, line_count};
+use std::alloc::Global;
+
+/// The items of the next lines, of which there are so many.
+pub fn items<T: LineItem + Drop>(
+    alloc: Global,
+    lines: &mut Lines<'_>,
+    count: usize,
+    counts: Counts,
+) -> Result<Vec<T>, FileFault>
+    requires there { count ≤ length lines.old }
+    ensures exact { Gives (λ v. v.items) result (items_of (T.reading counts) [] (take count lines.old)) }
+    ensures left { OnOk result (lines.new ≡ drop count lines.old) }
+{
+    let mut items: Vec<T> = Vec::new(alloc);
+    'lines: for _ in 0..count {
+        let Some(line) = lines.next() else {
+            unreachable!();
+        };
+        match T::read(counts, &items, line.text) {
+            Ok(item) => items.push(item)?,
+            Err(what) => {
+                return Err(FileFault {
+                    line: line.line,
+                    what,
+                });
+            }
+        }
+    }
+    Ok(items)
+}
+
+/// The items of all lines that are left.
+pub fn all_items<T: LineItem + Drop>(
+    alloc: Global,
+    mut lines: Lines<'_>,
+    counts: Counts,
+) -> Result<Vec<T>, FileFault>
+    ensures { Gives (λ v. v.items) result (items_of (T.reading counts) [] lines.entry) }
+{
+    let mut items: Vec<T> = Vec::new(alloc);
+    'lines: while let Some(line) = lines.next() {
+        match T::read(counts, &items, line.text) {
+            Ok(item) => items.push(item)?,
+            Err(what) => {
+                return Err(FileFault {
+                    line: line.line,
+                    what,
+                });
+            }
+        }
+    }
+    Ok(items)
+}
+
+/// The sections of a file that are still to come.
+#[derive(Drop)]
+pub struct Sections<'a> {
+    pub source: &'a [u8],
+    pub lines: Lines<'a>,
+}
+
+impl<'a> Sections<'a> {
+    /// All sections of this file.
+    pub fn new(source: &'a [u8]) -> Sections<'a>
+        requires within { length source.now ≤ 4194304 }
+        ensures lines { result.lines ≡ lines_of source.now }
+        ensures source { result.source.now ≡ source.now }
+    {
+        Sections {
+            source,
+            lines: Lines::new(source),
+        }
+    }
+
+    // Judges the next header, and answers how many lines its section has.
+    #[tactic(auto, using(crate::proofs::SectionLemmas::section_facts))]
+    pub fn open(&mut self, word: &[u8], limit: Option<u32>) -> Result<usize, FileFault>
+        requires within { length self.old.source.now ≤ 4194304 }
+        ensures opened { OnOk result (opened (record { word = word.now; limit = limit })
+            (line_count self.old.source.now + 1) self.old.lines ≡ Ok self.new.lines) }
+        ensures size { IfOk result (λ size. size ≡ section_size self.new.lines) }
+        ensures there { IfOk result (λ size. size ≤ length self.new.lines) }
+        ensures fault { IfErr result (λ fault. opened (record { word = word.now; limit = limit })
+            (line_count self.old.source.now + 1) self.old.lines ≡ Err fault) }
+        ensures same { self.new.source.now ≡ self.old.source.now }
+    {
+        let Some(line) = self.lines.next() else {
+            return Err(FileFault {
+                line: line_count(self.source) + 1,
+                what: FaultKind::MissingSection,
+            });
+        };
+        let size = self.lines.section_size();
+        match header(word, limit, size, line.text) {
+            Ok(()) => Ok(size),
+            Err(what) => Err(FileFault {
+                line: line.line,
+                what,
+            }),
+        }
+    }
+
+    /// The items of the next section.
+    pub fn next<T: LineItem + Drop>(
+        &mut self,
+        alloc: Global,
+        word: &[u8],
+        limit: Option<u32>,
+        counts: Counts,
+    ) -> Result<Vec<T>, FileFault>
+        requires within { length self.old.source.now ≤ 4194304 }
+        ensures found { IfOk result (λ items. section_in (record { word = word.now; limit = limit })
+            (T.reading counts) (line_count self.old.source.now + 1) self.old.lines
+            ≡ Ok (items.items, self.new.lines)) }
+        ensures fault { IfErr result (λ fault. fault.what ≢ FaultKind.NoMemory
+            → section_in (record { word = word.now; limit = limit })
+            (T.reading counts) (line_count self.old.source.now + 1) self.old.lines ≡ Err fault) }
+        ensures same { self.new.source.now ≡ self.old.source.now }
+    {
+        let size = self.open(word, limit)?;
+        items(alloc, &mut self.lines, size, counts)
+    }
+
+    /// Refuses a header behind the last section.
+    pub fn end(&mut self) -> Result<(), FileFault>
+        ensures { result ≡ no_more self.old.lines }
+    {
+        match self.lines.next() {
+            None => Ok(()),
+            Some(line) => Err(FileFault {
+                line: line.line,
+                what: FaultKind::StrayText,
+            }),
+        }
+    }
+}

@@ -1,0 +1,88 @@
+// Reading a solution file.
+ghost use Rattle.std.specs.Prelude.{◌≡◌, ◌≢◌, ◌+◌, ◌≤◌, length, map, Some, IfOk, IfErr};
+ghost use Rattle.exam_model.specs.Timetable.{Placing};
+ghost use Rattle.office_files.specs.Lines.{line_count};
+ghost use Rattle.office_files.specs.Reading.{Gives};
+ghost use Rattle.office_files.specs.SolutionText.{timetable_in, solution_in, SolutionText};
+
+use crate::counts::Counts;
+use crate::fault::{FaultKind, FileFault};
+use crate::lines::{Lines, line_count};
+use crate::sections::all_items;
+use exam_model::{ExamNo, Instance, Place, Timetable};
+use std::alloc::Global;
+
+// The longest solution file, in bytes.
+const LONGEST_SOLUTION: usize = 1_048_576;
+
+// The complete timetable of these places.
+#[tactic(auto, using(crate::proofs::SolutionLemmas::all_placed))]
+fn timetable_of(alloc: Global, places: &[Place]) -> Result<Timetable, FileFault>
+    requires some { 1 ≤ length places.now }
+    requires most { length places.now ≤ 2000 }
+    ensures made { IfOk result (λ made. made ≡ map Some places.now) }
+    ensures memory { IfErr result (λ fault. fault.what ≡ FaultKind.NoMemory) }
+{
+    let mut timetable = Timetable::new(alloc, places.len() as u32)?;
+    for (exam, place) in places.iter().enumerate() {
+        timetable.set(ExamNo::new(exam as u32), *place);
+    }
+    Ok(timetable)
+}
+
+// The timetable of a file that is not too long.
+#[tactic(auto, using(crate::proofs::SectionLemmas::section_facts))]
+fn timetable_in(alloc: Global, source: &[u8], counts: Counts) -> Result<Timetable, FileFault>
+    requires within { length source.now ≤ 1048576 }
+    requires some { 1 ≤ counts.exams }
+    requires most { counts.exams ≤ 2000 }
+    ensures { Gives (λ read. read) result (timetable_in counts source.now) }
+{
+    let places: Vec<Place> = all_items(alloc, Lines::new(source), counts)?;
+    if places.len() != counts.exams as usize {
+        return Err(FileFault {
+            line: line_count(source) + 1,
+            what: FaultKind::CountMismatch,
+        });
+    }
+    timetable_of(alloc, &places)
+}
+
+// The timetable of a file for an instance.
+fn solution_in(alloc: Global, source: &[u8], instance: &Instance) -> Result<Timetable, FileFault>
+    ensures { Gives (λ read. read) result (solution_in instance.now source.now) }
+{
+    if source.len() > LONGEST_SOLUTION {
+        return Err(FileFault {
+            line: 0,
+            what: FaultKind::TooLong,
+        });
+    }
+    let counts = Counts {
+        exams: instance.exams(),
+        periods: instance.periods(),
+        rooms: instance.rooms(),
+    };
+    timetable_in(alloc, source, counts)
+}
+
+/// The complete timetable that a file spells for an instance (ITC 2007, output format). A fault is
+/// that of the first faulty line, and in it that of the first faulty field; the end of the file
+/// counts as one line more. `TooLong` (above 1,048,576 bytes) and `NoMemory` have line 0.
+pub fn read_solution(
+    alloc: Global,
+    source: &[u8],
+    instance: &Instance,
+) -> Result<Timetable, FileFault>
+    // What is answered is spelled so.
+    ensures reading { IfOk result (λ read. SolutionText source.now instance.now read) }
+    // What is refused, but for want of memory, spells nothing, and no text spells two timetables.
+    ensures only { IfErr result (λ fault. fault.what ≢ FaultKind.NoMemory
+        → (T : Placing) → SolutionText source.now instance.now T → ⊥) }
+    ensures one { IfOk result (λ read. (T : Placing) → SolutionText source.now instance.now T → T ≡ read) }
+
+    // The answer is that of the reading of the text from the top, faults included.
+    ensures exact { Gives (λ read. read) result (solution_in instance.now source.now) }
+{
+    solution_in(alloc, source, instance)
+}

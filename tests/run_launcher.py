@@ -1,0 +1,154 @@
+#!/usr/bin/env python3
+"""run_launcher.py LAUNCHER: whether the launcher builds when it must, and hands every word on.
+
+It runs a copy of the launcher in a repository of its own, with a stand-in for `rt` that writes
+a stand-in program, so nothing is proved here. Each failing case is printed with what was
+expected and what came, and the last line counts the cases.
+"""
+import os
+import pathlib
+import shutil
+import subprocess
+import sys
+import tempfile
+
+PROGRAM = """#!/bin/sh
+printf '%s\\n' "$(pwd)" "$#"
+printf '[%s]\\n' "$@"
+"""
+# As rt does, it leaves a built file as it is where no text has changed.
+RT = """#!/bin/sh
+[ -e ../../broken ] && { echo 'no proof' >&2; exit 1; }
+[ -e ../../meanwhile ] && { sleep 0.1; echo >> src/main.rt; rm ../../meanwhile; }
+echo x >> ../../builds
+mkdir -p out
+[ -e out/examoffice ] || cp ../../program out/examoffice
+out/examoffice "$@"
+"""
+
+
+class Repository:
+    """A repository whose one crate is built by the stand-in; `builds` counts how often."""
+
+    def __init__(self, folder, launcher):
+        self.top, self.caller = folder / "a repository", folder / "a caller"
+        self.crate = self.top / "crates" / "examoffice"
+        for part in ("src", "specs", "proofs/main"):
+            (self.crate / part).mkdir(parents=True)
+        self.caller.mkdir()
+        (folder / "bin").mkdir()
+        shutil.copy(launcher, self.top / "examoffice")
+        self.source = self.crate / "src" / "main.rt"
+        for file in (self.source, self.crate / "specs" / "Lib.antt", self.top / "crates.txt"):
+            file.write_text("\n")
+        for file, text in ((self.top / "program", PROGRAM), (folder / "bin" / "rt", RT)):
+            file.write_text(text)
+            file.chmod(0o755)
+        self.path = f"{folder / 'bin'}:{os.environ['PATH']}"
+
+    def call(self, *words, start=None, path=None):
+        start = start or self.top / "examoffice"
+        environment = {**os.environ, "PATH": path or self.path}
+        return subprocess.run([start, *words], cwd=self.caller, env=environment, text=True,
+                              stdin=subprocess.DEVNULL, capture_output=True, check=False)
+
+    def builds(self):
+        counted = self.top / "builds"
+        return len(counted.read_text().splitlines()) if counted.exists() else 0
+
+    def touch(self, path, seconds):
+        """Gives the file a time so many seconds after that of the built file, if there is one."""
+        built = self.crate / "out" / "examoffice"
+        if built.exists():
+            time = built.stat().st_mtime + seconds
+            os.utime(path, (time, time))
+
+
+def told(repository, done):
+    """What a run showed: its status, its output, whether it spoke of a build, and all builds."""
+    return done.returncode, done.stdout, "building the program" in done.stderr, repository.builds()
+
+
+def without_rt(folder):
+    """A PATH with the few commands that the launcher calls, and no rt."""
+    few = folder / "few"
+    few.mkdir()
+    for name in ("sh", "dirname", "find", "date", "touch"):
+        (few / name).symlink_to(shutil.which(name))
+    return str(few)
+
+
+def calls(repository, few):
+    """Yields each case as its name, what is expected and what came."""
+    words = ("check", "two  words", "", "*", "a\nb", "--", "-x", "$HOME", "'\"\\")
+    shown = "".join(f"{line}\n" for line in
+                    (repository.caller, len(words), *(f"[{word}]" for word in words)))
+    relative = os.path.relpath(repository.top / "examoffice", repository.caller)
+    yield "a first call builds", (0, shown, True, 1), told(repository, repository.call(*words))
+    yield "a second does not", (0, shown, False, 1), told(repository, repository.call(*words))
+    yield ("by a relative path", (0, shown, False, 1),
+           told(repository, repository.call(*words, start=relative)))
+    yield ("a fresh program needs no rt", (0, shown, False, 1),
+           told(repository, repository.call(*words, path=few)))
+
+
+def edits(repository):
+    """Yields the cases in which something is newer than the program, which was built once."""
+    empty, builds = f"{repository.caller}\n0\n[]\n", 1
+    specs = repository.crate / "specs" / "Lib.antt"
+    answers = repository.crate / "proofs" / "main" / "Answers.antt"
+    answers.write_text("\n")
+    for file in (repository.source, specs, answers, repository.top / "crates.txt"):
+        builds += 1
+        repository.touch(file, 1e-3)
+        yield f"newer: {file.name}", (0, empty, True, builds), told(repository, repository.call())
+        yield f"again: {file.name}", (0, empty, False, builds), told(repository, repository.call())
+    specs.unlink()
+    builds += 1
+    yield "a file is gone", (0, empty, True, builds), told(repository, repository.call())
+    (repository.crate / "stdout").write_text("\n")
+    yield "newer: another file", (0, empty, False, builds), told(repository, repository.call())
+    (repository.crate / "out" / "examoffice").unlink(missing_ok=True)
+    (repository.top / "meanwhile").write_text("")
+    for case in ("no program", "an edit during the last build"):
+        builds += 1
+        yield case, (0, empty, True, builds), told(repository, repository.call())
+    yield "no edit since", (0, empty, False, builds), told(repository, repository.call())
+
+
+def refusals(repository, few):
+    """Yields the cases in which the program has to be built and is not."""
+    repository.source.write_text("\n\n")
+    done = repository.call(path=few)
+    said = "examoffice: the program has to be built, and there is no rt in PATH\n"
+    yield "no rt", (1, "", said), (done.returncode, done.stdout, done.stderr)
+    (repository.top / "broken").write_text("")
+    done = repository.call("check")
+    yield ("a build that fails", (1, "", ["no proof", "examoffice: the program was not built"]),
+           (done.returncode, done.stdout, done.stderr.splitlines()[1:]))
+
+
+def cases(repository, folder):
+    few = without_rt(folder)
+    yield from calls(repository, few)
+    yield from edits(repository)
+    yield from refusals(repository, few)
+
+
+def main():
+    if len(sys.argv) != 2:
+        sys.exit("usage: run_launcher.py LAUNCHER")
+    count = failed = 0
+    with tempfile.TemporaryDirectory() as room:
+        folder = pathlib.Path(room).resolve()
+        for name, expected, got in cases(Repository(folder, sys.argv[1]), folder):
+            count += 1
+            if got != expected:
+                failed += 1
+                print(f"launcher: {name}\n  expected {expected!r}\n  got      {got!r}")
+    print(f"launcher: {count} cases, {failed} failed")
+    sys.exit(1 if failed else 0)
+
+
+if __name__ == "__main__":
+    main()

@@ -1,0 +1,153 @@
+#!/usr/bin/env python3
+"""run_program.py PROGRAM: the whole program from outside, called from a folder of its own.
+
+Each case compares standard output, standard error and the exit status byte for byte. A failing
+case is printed with what was expected and what came, and the last line counts the cases.
+"""
+import pathlib
+import subprocess
+import sys
+import tempfile
+from collections import namedtuple
+
+EXAMPLES = pathlib.Path(__file__).resolve().parent.parent / "examples"
+INSTANCE_LIMIT, SOLUTION_LIMIT = 4_194_304, 1_048_576
+SECONDS = 60
+
+Case = namedtuple("Case", "name words status stdout stderr device", defaults=(b"", b"", None))
+
+
+class Holding:
+    """Stands for any output that is not empty and holds these bytes."""
+
+    def __init__(self, part=b""):
+        self.part = part
+
+    def __eq__(self, output):
+        return len(output) > 0 and self.part in output
+
+    def __repr__(self):
+        return f"something that holds {self.part!r}" if self.part else "something"
+
+
+def with_line(text, number, line):
+    """The text with another line in the place of this one; lines count from 1."""
+    lines = text.split(b"\n")
+    lines[number - 1] = line
+    return b"\n".join(lines)
+
+
+def files():
+    """The files that the cases name, in the folder from which the program is called."""
+    made = {file.name: file.read_bytes() for file in EXAMPLES.iterdir() if file.is_file()}
+    exam, solution = made["small.exam"], made["small.sol"]
+    return {
+        **made,
+        "crlf.exam": exam.replace(b"\n", b"\r\n"),
+        "crlf.sol": solution.replace(b"\n", b"\r\n"),
+        "a folder/the exam": exam,
+        "a folder/the solution": solution,
+        "empty.exam": b"",
+        "five.exam": exam.replace(b"[Exams:4]", b"[Exams:5]"),
+        "april.exam": with_line(exam, 8, b"31:04:2005, 14:00:00, 120, 0"),
+        "at_limit.exam": exam.ljust(INSTANCE_LIMIT),
+        "long.exam": exam.ljust(INSTANCE_LIMIT + 1),
+        "three.sol": b"".join(solution.splitlines(True)[:3]),
+        "five.sol": solution + b"0, 0\n",
+        "beyond.sol": with_line(solution, 2, b"4, 0"),
+        "at_limit.sol": solution.ljust(SOLUTION_LIMIT),
+        "long.sol": solution.ljust(SOLUTION_LIMIT + 1),
+    }
+
+
+def check(name, instance, solution, number):
+    return Case(name, ("check", instance, solution), 0, b"two in a row %d\n" % number)
+
+
+def fault(name, instance, solution, text):
+    return Case(name, ("check", instance, solution), 1, b"", b"examoffice: %s\n" % text)
+
+
+def usage(name, *words):
+    return Case(name, words, 2, b"", Holding())
+
+
+CASES = [
+    check("the small example", "small.exam", "small.sol", 7),
+    check("the smallest instance", "smallest.exam", "smallest.sol", 0),
+    check("lines that end with CR LF", "crlf.exam", "crlf.sol", 7),
+    check("paths with spaces", "a folder/the exam", "./a folder/the solution", 7),
+    check("paths from the root", str(EXAMPLES / "small.exam"), str(EXAMPLES / "small.sol"), 7),
+    check("an instance of the greatest length", "at_limit.exam", "small.sol", 7),
+    check("a solution of the greatest length", "small.exam", "at_limit.sol", 7),
+    fault("no instance", "none.exam", "small.sol", b"cannot read none.exam"),
+    fault("no solution", "small.exam", "none.sol", b"cannot read none.sol"),
+    fault("neither file", "none.exam", "none.sol", b"cannot read none.exam"),
+    fault("no solution to a faulty instance", "empty.exam", "none.sol", b"cannot read none.sol"),
+    fault("no solution to a folder", "a folder", "none.sol", b"cannot read none.sol"),
+    fault("a folder as instance", "a folder", "small.sol", b"cannot read a folder"),
+    fault("a folder as solution", "small.exam", "a folder", b"cannot read a folder"),
+    fault("a faulty instance and a folder", "five.exam", "a folder", b"instance line 1: fault 3"),
+    fault("an empty instance", "empty.exam", "small.sol", b"instance line 1: fault 2"),
+    fault("a header with a wrong count", "five.exam", "small.sol", b"instance line 1: fault 3"),
+    fault("a day that April lacks", "april.exam", "small.sol", b"instance line 8: fault 5"),
+    fault("an instance that is too long", "long.exam", "small.sol", b"instance line 0: fault 1"),
+    fault("both files faulty", "april.exam", "three.sol", b"instance line 8: fault 5"),
+    fault("a line too few", "small.exam", "three.sol", b"solution line 4: fault 3"),
+    fault("a line too many", "small.exam", "five.sol", b"solution line 5: fault 3"),
+    fault("a period that is not there", "small.exam", "beyond.sol", b"solution line 2: fault 8"),
+    fault("a solution that is too long", "small.exam", "long.sol", b"solution line 0: fault 1"),
+    Case("a full device", ("check", "small.exam", "small.sol"), 1, b"",
+         b"examoffice: cannot write\n", "/dev/full"),
+    Case("help", ("--help",), 0, Holding(b"check"), b""),
+    Case("help for the check", ("check", "--help"), 0, Holding(b"check"), b""),
+    usage("no words"),
+    usage("an unknown command", "frobnicate"),
+    usage("an unknown option", "--frobnicate"),
+    usage("no files", "check"),
+    usage("one file", "check", "small.exam"),
+    usage("three files", "check", "small.exam", "small.sol", "small.sol"),
+    usage("a check with an unknown option", "check", "--frobnicate", "small.exam", "small.sol"),
+]
+
+
+def run(program, case, folder):
+    """What the program ended with: its status, standard output and standard error."""
+    output = open(case.device, "wb") if case.device else subprocess.PIPE
+    try:
+        done = subprocess.run([program, *case.words], cwd=folder, stdin=subprocess.DEVNULL,
+                              stdout=output, stderr=subprocess.PIPE, timeout=SECONDS, check=False)
+    except subprocess.TimeoutExpired:
+        return f"no end after {SECONDS} seconds", b"", b""
+    finally:
+        if case.device:
+            output.close()
+    return done.returncode, done.stdout or b"", done.stderr
+
+
+def shown(ended):
+    status, stdout, stderr = (repr(it)[:500] for it in ended)
+    return f"status {status}, stdout {stdout}, stderr {stderr}"
+
+
+def main():
+    if len(sys.argv) != 2:
+        sys.exit("usage: run_program.py PROGRAM")
+    program, failed = str(pathlib.Path(sys.argv[1]).resolve()), 0
+    with tempfile.TemporaryDirectory() as folder:
+        for name, text in files().items():
+            path = pathlib.Path(folder, name)
+            path.parent.mkdir(exist_ok=True)
+            path.write_bytes(text)
+        for case in CASES:
+            expected, got = (case.status, case.stdout, case.stderr), run(program, case, folder)
+            if expected != got:
+                failed += 1
+                print(f"program: {case.name}", f"  expected {shown(expected)}",
+                      f"  got      {shown(got)}", sep="\n")
+    print(f"program: {len(CASES)} cases, {failed} failed")
+    sys.exit(1 if failed else 0)
+
+
+if __name__ == "__main__":
+    main()
