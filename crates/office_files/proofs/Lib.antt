@@ -18,3 +18,5 @@ pub mod SectionLaws
 pub mod SolutionLaws
 pub mod InstanceLaws
 pub mod ReaderLaws
+mod FaultLemmas
+pub mod FirstFaultLaws

@@ -1,3 +1,4 @@
+pub mod Faults
 pub mod Fields
 pub mod Numbers
 pub mod Dates
@@ -10,3 +11,4 @@ pub mod ExamLines
 pub mod Sections
 pub mod InstanceText
 pub mod SolutionText
+pub mod FirstFault

@@ -2,6 +2,7 @@
 ghost use Rattle.std.specs.Prelude.{◌≡◌, ◌≢◌, ◌<◌, ◌≤◌, ◌+◌, [], length, take, drop, slice_set};
 ghost use Rattle.std.specs.Prelude.{OnOk, IfOk, IfErr, Err};
 ghost use Rattle.exam_model.specs.Enrolments.{AreEnrolments, pair_count};
+ghost use Rattle.office_files.specs.Faults.{IsOfNoLine};
 ghost use Rattle.office_files.specs.Fields.{fields_of};
 ghost use Rattle.office_files.specs.Numbers.{number};
 ghost use Rattle.office_files.specs.Reading.{items_of};
@@ -97,18 +98,6 @@ fn exam_line(
     }
 }
 
-// The fault of a line; want of memory is no line's.
-fn fault_at(line: u32, what: FaultKind) -> FileFault
-    ensures kind { result.what ≡ what }
-    ensures place { what ≢ FaultKind.NoMemory → result ≡ record { line = line; what = what } }
-    ensures memory { what ≡ FaultKind.NoMemory → result.line ≡ 0 }
-{
-    match what {
-        FaultKind::NoMemory => FileFault::NO_MEMORY,
-        _ => FileFault { line, what },
-    }
-}
-
 /// The exams of the next lines, of which there are so many, and who sits them.
 pub fn exam_lines(
     alloc: Global,
@@ -121,7 +110,7 @@ pub fn exam_lines(
     ensures found { IfOk result (λ read. SaysExams (take count lines.old) read.0.items read.1) }
     ensures fault { IfErr result (λ fault. fault.what ≢ FaultKind.NoMemory
         → items_of exam_line [] (take count lines.old) ≡ Err fault) }
-    ensures memory { IfErr result (λ fault. fault.what ≡ FaultKind.NoMemory → fault.line ≡ 0) }
+    ensures memory { IfErr result IsOfNoLine }
     ensures left { OnOk result (lines.new ≡ drop count lines.old) }
 {
     let Ok(mut enrolments) = Enrolments::new(alloc, count) else {
@@ -135,7 +124,7 @@ pub fn exam_lines(
         };
         match exam_line(row.text, ExamNo::new(exam), &mut enrolments, &mut named) {
             Ok(exam) => exams.push(exam)?,
-            Err(what) => return Err(fault_at(row.line, what)),
+            Err(what) => return Err(FileFault::at(row.line, what)),
         }
     }
     Ok((exams, enrolments))

@@ -44,11 +44,26 @@ pub struct FileFault {
 }
 
 impl FileFault {
+    ghost use Rattle.std.specs.Prelude.{◌≡◌, ◌≢◌};
+    ghost use Rattle.office_files.specs.Faults.{IsOfNoLine};
+
     /// Memory ran out.
     pub const NO_MEMORY: FileFault = FileFault {
         line: 0,
         what: FaultKind::NoMemory,
     };
+
+    // The fault of a line; want of memory is no line's.
+    pub(crate) fn at(line: u32, what: FaultKind) -> FileFault
+        ensures kind { result.what ≡ what }
+        ensures place { what ≢ FaultKind.NoMemory → result ≡ record { line = line; what = what } }
+        ensures memory { IsOfNoLine result }
+    {
+        match what {
+            FaultKind::NoMemory => FileFault::NO_MEMORY,
+            _ => FileFault { line, what },
+        }
+    }
 }
 
 impl From<AllocError> for FileFault {

@@ -1,8 +1,10 @@
 // Reading an instance file.
-ghost use Rattle.std.specs.Prelude.{◌≡◌, ◌≢◌, ℕ, ◌+◌, ◌≤◌, List, map, length, Ok, Err, IfOk, IfErr};
+ghost use Rattle.std.specs.Prelude.{◌≡◌, ◌≢◌, ℕ, ◌+◌, ◌≤◌, List, map, length, Ok, Err, Some, None, IfOk, IfErr};
 ghost use Rattle.exam_model.specs.Enrolments.{Enrolled};
 ghost use Rattle.exam_model.specs.Instance.{Session, IsInstance};
 ghost use Rattle.office_files.specs.ExamLines.{ExamLine, exam_line, exam_of};
+ghost use Rattle.office_files.specs.Faults.{IsOfNoLine};
+ghost use Rattle.office_files.specs.FirstFault.{first_fault};
 ghost use Rattle.office_files.specs.Lines.{line_count};
 ghost use Rattle.office_files.specs.Reading.{Gives};
 ghost use Rattle.office_files.specs.Sections.{section_in};
@@ -44,6 +46,7 @@ fn exams_section(
         → section_in exams_heading exam_line (line_count sections.old.source.now + 1)
         sections.old.lines ≡ Err fault) }
     ensures same { sections.new.source.now ≡ sections.old.source.now }
+    ensures memory { IfErr result IsOfNoLine }
 {
     let size = sections.open(b"Exams", Some(2000))?;
     exam_lines(alloc, &mut sections.lines, size as u32)
@@ -66,6 +69,7 @@ fn later_sections(alloc: Global, sections: &mut Sections<'_>, exams: u32) -> Res
         fault.what ≢ FaultKind.NoMemory
         → later_sections (line_count sections.old.source.now + 1) exam_lines sections.old.lines
         ≡ Err fault) }
+    ensures memory { IfErr result IsOfNoLine }
 {
     let counts = Counts {
         exams,
@@ -115,7 +119,7 @@ fn instance_of(alloc: Global, exams: &[Exam], said: &Said) -> Result<Instance, F
       room_rules = said.now.room_rules.items;
       weights = with_weightings no_weights said.now.weightings.items;
     }) }
-    ensures memory { IfErr result (λ fault. fault.what ≡ FaultKind.NoMemory) }
+    ensures memory { IfErr result (λ fault. (fault.what ≡ FaultKind.NoMemory) × (fault.line ≡ 0)) }
 {
     let weights = weights_of(&said.weightings);
     match Instance::new(
@@ -136,7 +140,8 @@ fn instance_of(alloc: Global, exams: &[Exam], said: &Said) -> Result<Instance, F
 // The instance of a file that is not too long.
 fn instance_in(alloc: Global, source: &[u8]) -> Result<(Instance, Enrolments), FileFault>
     requires within { length source.now ≤ 4194304 }
-    ensures { Gives (λ r. (r.0, r.1)) result (instance_in source.now) }
+    ensures exact { Gives (λ r. (r.0, r.1)) result (instance_in source.now) }
+    ensures memory { IfErr result IsOfNoLine }
 {
     let mut sections = Sections::new(source);
     let (exams, enrolments) = exams_section(alloc, &mut sections)?;
@@ -157,8 +162,14 @@ pub fn read_instance(alloc: Global, source: &[u8]) -> Result<(Instance, Enrolmen
     ensures one { IfOk result (λ read. (I : Session) (E : Enrolled) → InstanceText source.now I E
         → (I ≡ read.0) × (E ≡ read.1)) }
 
+    // A fault is the first one of the text, and a text that is read has none.
+    ensures first { IfErr result (λ fault. fault.what ≢ FaultKind.NoMemory
+        → first_fault source.now ≡ Some fault) }
+    ensures faultless { IfOk result (λ _. first_fault source.now ≡ None) }
+
     // The answer is that of the reading of the text from the top, faults included.
     ensures exact { Gives (λ read. (read.0, read.1)) result (instance_in source.now) }
+    ensures memory { IfErr result IsOfNoLine }
 {
     if source.len() > LONGEST_INSTANCE {
         return Err(FileFault {

@@ -1,5 +1,6 @@
 // Reading the sections of an instance file, one after another.
 ghost use Rattle.std.specs.Prelude.{◌≡◌, ◌≢◌, ℕ, ◌+◌, ◌≤◌, [], length, take, drop, OnOk, IfOk, IfErr};
+ghost use Rattle.office_files.specs.Faults.{IsOfNoLine};
 ghost use Rattle.office_files.specs.Lines.{lines_of, line_count, section_size};
 ghost use Rattle.office_files.specs.Reading.{Gives, items_of};
 ghost use Rattle.office_files.specs.Sections.{Heading, opened, section_in};
@@ -22,6 +23,7 @@ pub fn items<T: LineItem + Drop>(
     requires there { count ≤ length lines.old }
     ensures exact { Gives (λ v. v.items) result (items_of (T.reading counts) [] (take count lines.old)) }
     ensures left { OnOk result (lines.new ≡ drop count lines.old) }
+    ensures memory { IfErr result IsOfNoLine }
 {
     let mut items: Vec<T> = Vec::new(alloc);
     'lines: for _ in 0..count {
@@ -31,10 +33,7 @@ pub fn items<T: LineItem + Drop>(
         match T::read(counts, &items, line.text) {
             Ok(item) => items.push(item)?,
             Err(what) => {
-                return Err(FileFault {
-                    line: line.line,
-                    what,
-                });
+                return Err(FileFault::at(line.line, what));
             }
         }
     }
@@ -47,17 +46,15 @@ pub fn all_items<T: LineItem + Drop>(
     mut lines: Lines<'_>,
     counts: Counts,
 ) -> Result<Vec<T>, FileFault>
-    ensures { Gives (λ v. v.items) result (items_of (T.reading counts) [] lines.entry) }
+    ensures exact { Gives (λ v. v.items) result (items_of (T.reading counts) [] lines.entry) }
+    ensures memory { IfErr result IsOfNoLine }
 {
     let mut items: Vec<T> = Vec::new(alloc);
     'lines: while let Some(line) = lines.next() {
         match T::read(counts, &items, line.text) {
             Ok(item) => items.push(item)?,
             Err(what) => {
-                return Err(FileFault {
-                    line: line.line,
-                    what,
-                });
+                return Err(FileFault::at(line.line, what));
             }
         }
     }
@@ -92,9 +89,10 @@ impl<'a> Sections<'a> {
             (line_count self.old.source.now + 1) self.old.lines ≡ Ok self.new.lines) }
         ensures size { IfOk result (λ size. size ≡ section_size self.new.lines) }
         ensures there { IfOk result (λ size. size ≤ length self.new.lines) }
-        ensures fault { IfErr result (λ fault. opened (record { word = word.now; limit = limit })
+        ensures fault { IfErr result (λ fault. fault.what ≢ FaultKind.NoMemory → opened (record { word = word.now; limit = limit })
             (line_count self.old.source.now + 1) self.old.lines ≡ Err fault) }
         ensures same { self.new.source.now ≡ self.old.source.now }
+        ensures memory { IfErr result IsOfNoLine }
     {
         let Some(line) = self.lines.next() else {
             return Err(FileFault {
@@ -105,10 +103,7 @@ impl<'a> Sections<'a> {
         let size = self.lines.section_size();
         match header(word, limit, size, line.text) {
             Ok(()) => Ok(size),
-            Err(what) => Err(FileFault {
-                line: line.line,
-                what,
-            }),
+            Err(what) => Err(FileFault::at(line.line, what)),
         }
     }
 
@@ -128,6 +123,7 @@ impl<'a> Sections<'a> {
             → section_in (record { word = word.now; limit = limit })
             (T.reading counts) (line_count self.old.source.now + 1) self.old.lines ≡ Err fault) }
         ensures same { self.new.source.now ≡ self.old.source.now }
+        ensures memory { IfErr result IsOfNoLine }
     {
         let size = self.open(word, limit)?;
         items(alloc, &mut self.lines, size, counts)
@@ -135,7 +131,8 @@ impl<'a> Sections<'a> {
 
     /// Refuses a header behind the last section.
     pub fn end(&mut self) -> Result<(), FileFault>
-        ensures { result ≡ no_more self.old.lines }
+        ensures exact { result ≡ no_more self.old.lines }
+        ensures memory { IfErr result IsOfNoLine }
     {
         match self.lines.next() {
             None => Ok(()),

@@ -1,6 +1,8 @@
 // Reading a solution file.
-ghost use Rattle.std.specs.Prelude.{◌≡◌, ◌≢◌, ◌+◌, ◌≤◌, length, map, Some, IfOk, IfErr};
+ghost use Rattle.std.specs.Prelude.{◌≡◌, ◌≢◌, ◌+◌, ◌≤◌, length, map, Some, None, IfOk, IfErr};
 ghost use Rattle.exam_model.specs.Timetable.{Placing};
+ghost use Rattle.office_files.specs.Faults.{IsOfNoLine};
+ghost use Rattle.office_files.specs.FirstFault.{first_solution_fault};
 ghost use Rattle.office_files.specs.Lines.{line_count};
 ghost use Rattle.office_files.specs.Reading.{Gives};
 ghost use Rattle.office_files.specs.SolutionText.{timetable_in, solution_in, SolutionText};
@@ -21,7 +23,7 @@ fn timetable_of(alloc: Global, places: &[Place]) -> Result<Timetable, FileFault>
     requires some { 1 ≤ length places.now }
     requires most { length places.now ≤ 2000 }
     ensures made { IfOk result (λ made. made ≡ map Some places.now) }
-    ensures memory { IfErr result (λ fault. fault.what ≡ FaultKind.NoMemory) }
+    ensures memory { IfErr result (λ fault. (fault.what ≡ FaultKind.NoMemory) × (fault.line ≡ 0)) }
 {
     let mut timetable = Timetable::new(alloc, places.len() as u32)?;
     for (exam, place) in places.iter().enumerate() {
@@ -36,7 +38,8 @@ fn timetable_in(alloc: Global, source: &[u8], counts: Counts) -> Result<Timetabl
     requires within { length source.now ≤ 1048576 }
     requires some { 1 ≤ counts.exams }
     requires most { counts.exams ≤ 2000 }
-    ensures { Gives (λ read. read) result (timetable_in counts source.now) }
+    ensures exact { Gives (λ read. read) result (timetable_in counts source.now) }
+    ensures memory { IfErr result IsOfNoLine }
 {
     let places: Vec<Place> = all_items(alloc, Lines::new(source), counts)?;
     if places.len() != counts.exams as usize {
@@ -50,7 +53,8 @@ fn timetable_in(alloc: Global, source: &[u8], counts: Counts) -> Result<Timetabl
 
 // The timetable of a file for an instance.
 fn solution_in(alloc: Global, source: &[u8], instance: &Instance) -> Result<Timetable, FileFault>
-    ensures { Gives (λ read. read) result (solution_in instance.now source.now) }
+    ensures exact { Gives (λ read. read) result (solution_in instance.now source.now) }
+    ensures memory { IfErr result IsOfNoLine }
 {
     if source.len() > LONGEST_SOLUTION {
         return Err(FileFault {
@@ -81,8 +85,14 @@ pub fn read_solution(
         → (T : Placing) → SolutionText source.now instance.now T → ⊥) }
     ensures one { IfOk result (λ read. (T : Placing) → SolutionText source.now instance.now T → T ≡ read) }
 
+    // A fault is the first one of the text, and a text that is read has none.
+    ensures first { IfErr result (λ fault. fault.what ≢ FaultKind.NoMemory
+        → first_solution_fault instance.now source.now ≡ Some fault) }
+    ensures faultless { IfOk result (λ _. first_solution_fault instance.now source.now ≡ None) }
+
     // The answer is that of the reading of the text from the top, faults included.
     ensures exact { Gives (λ read. read) result (solution_in instance.now source.now) }
+    ensures memory { IfErr result IsOfNoLine }
 {
     solution_in(alloc, source, instance)
 }

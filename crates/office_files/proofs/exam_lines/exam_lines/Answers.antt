@@ -8,10 +8,10 @@ use Rattle.office_files.proofs.exam_lines.exam_lines.Goals as goal
 -- a faulty line is the fault of all
 pub returns-in-Err-clause-fault : goal.returns-in-Err-clause-fault
 returns-in-Err-clause-fault c other =
-    let judged : c.in-Err.what ≢ NoMemory = λ same. other (c.fault_at.ensures.kind ∙ same) in
+    let judged : c.in-Err.what ≢ NoMemory = λ same. other (c.at.ensures.kind ∙ same) in
     let all = c.args.lines.now in
     let row = token_of c.in-Some.row in
-    rw (c.fault_at.ensures.place judged)
+    rw (c.at.ensures.place judged)
     (so_far_fault all c.lines.lines c.args.count c.lines.exam c.lines.exams.items c.lines.enrolments
     (omega arith) c.lines.invariant.so_far row c.next.new.self c.in-Some.ensures.row c.in-Err.what
     (c.in-Err.ensures.err judged))
