@@ -1,12 +1,12 @@
 -- What the lists of students are after a change, and with no pair.
-use Rattle.std.proofs.Common.{◌≡◌, ℕ, zero, suc, ◌+◌, ◌-◌, ◌<◌, ◌≤◌, Bool, true, false, List, [], ◌∷◌, length, get_or, set, refl, ap, subst, sym, ◌∙◌, inl, inr, arith, if◌then◌else◌}
-use Rattle.std.specs.Prelude.{◌==◌, ◌||◌, ◌&&◌, slice_index, slice_set, replicate, sum_by}
-use Rattle.std.proofs.lemmas.Bool.{eq-eqb, eqb-true, ne_eqb, cases_lt, cases_eq}
+use Rattle.std.proofs.Common.{◌≡◌, ℕ, zero, suc, ◌+◌, ◌<◌, ◌≤◌, Bool, true, false, List, [], length, set, refl, subst, sym, inl, inr, arith, if◌then◌else◌}
+use Rattle.std.specs.Prelude.{◌==◌, ◌||◌, ◌&&◌, replicate}
+use Rattle.std.proofs.lemmas.Bool.{eq-eqb, ne_eqb, cases_eq}
 use Rattle.std.proofs.lemmas.List.{length-set}
 use Rattle.std.proofs.lemmas.List.Folds.{sum_by-replicate}
 use Rattle.std.proofs.lemmas.List.Sums.{sum_by-set, get_or-le-sum_by}
 use Rattle.std.proofs.Common.{get_or-set_other, get_or-set_same}
-use Rattle.exam_model.specs.Enrolments.{Enrolled, AreEnrolments, IsAscending, Enters, Adds, has_student, students, has, size_of, pair_count, no_pairs}
+use Rattle.exam_model.specs.Enrolments.{Enrolled, AreEnrolments, Enters, Adds, students, has, size_of, pair_count, no_pairs}
 
 -- no exam has more students than there are pairs
 pub size-le : (E : Enrolled) (e : ℕ) → e < length E → size_of E e ≤ pair_count E
@@ -32,26 +32,30 @@ enrolments_none n low high = record {
   pairs = omega (arith, pair_count-none n);
 }
 
-and-true : (a : Bool) → (a && true) ≡ a
+pub and-true : (a : Bool) → (a && true) ≡ a
 and-true true = refl
 and-true false = refl
 
-and-false : (a : Bool) → (a && false) ≡ false
+pub and-false : (a : Bool) → (a && false) ≡ false
 and-false true = refl
 and-false false = refl
 
 -- the pairs after one exam's list is another one
-count_set : (E : Enrolled) (e s : ℕ) (new : List ℕ) → e < length E → Enters (students E e) new s → pair_count (set E e new) ≡ (if has E s e then pair_count E else pair_count E + 1)
+count_set : (E : Enrolled) (e s : ℕ) (new : List ℕ) → e < length E → Enters (students E e) new s
+    → pair_count (set E e new) ≡ (if has E s e then pair_count E else pair_count E + 1)
 count_set E e s new lt enters =
     let sums = sum_by-set length E e new [] lt in
     let size = enters.size in
-    elim (has E s e) as (λ b. has E s e ≡ b → pair_count (set E e new) ≡ (if b then pair_count E else pair_count E + 1)) [
+    elim (has E s e)
+    as (λ b. has E s e ≡ b
+    → pair_count (set E e new) ≡ (if b then pair_count E else pair_count E + 1)) [
       | true ↦ λ e. let same = rw e at size in omega arith
       | false ↦ λ e. let more = rw e at size in omega arith
     ] refl
 
 -- a student put into one exam's list is a pair added
-pub adds_set : (E : Enrolled) (e s : ℕ) (new : List ℕ) → e < length E → Enters (students E e) new s → Adds E (set E e new) s e
+pub adds_set : (E : Enrolled) (e s : ℕ) (new : List ℕ) → e < length E → Enters (students E e) new s
+    → Adds E (set E e new) s e
 adds_set E e s new lt enters = record {
   members = λ t f. elim (cases_eq e f) [
     | inl same ↦ members_here t f same
@@ -66,18 +70,22 @@ adds_set E e s new lt enters = record {
       subst (λ g. has (set E e new) t g ≡ (((s == t) && (e == g)) || has E t g)) same
       (rw (eq-eqb e e refl, at, and-true (s == t)) (enters.members t))
 
-  members_there : (t f : ℕ) → (e ≡ f → ⊥) → has (set E e new) t f ≡ (((s == t) && (e == f)) || has E t f)
+  members_there : (t f : ℕ) → (e ≡ f → ⊥) → has (set E e new) t f
+      ≡ (((s == t) && (e == f)) || has E t f)
   members_there t f other =
       let back : f ≡ e → ⊥ = λ q. other (sym q) in
       rw (ne_eqb e f other, get_or-set_other E e f new [] back, and-false (s == t)) refl
 
 -- and keeps what every value of the type keeps, where there is room for a new pair
-pub enrolments_set : (E : Enrolled) (e s : ℕ) (new : List ℕ) → e < length E → Enters (students E e) new s → (has E s e ≡ false → pair_count E < 200000) → AreEnrolments E → AreEnrolments (set E e new)
+pub enrolments_set : (E : Enrolled) (e s : ℕ) (new : List ℕ) → e < length E
+    → Enters (students E e) new s → (has E s e ≡ false → pair_count E < 200000) → AreEnrolments E
+    → AreEnrolments (set E e new)
 enrolments_set E e s new lt enters room was = record {
   exams = omega (arith, length-set E e new, was.exams);
   ascending = λ f within. elim (cases_eq f e) [
     | inl same ↦ rw same (rw (get_or-set_same E e new [] lt) enters.ascending)
-    | inr other ↦ rw (get_or-set_other E e f new [] other) (was.ascending f (omega (arith, length-set E e new)))
+    | inr other ↦ rw (get_or-set_other E e f new [] other)
+        (was.ascending f (omega (arith, length-set E e new)))
   ];
   pairs = fits;
 } where

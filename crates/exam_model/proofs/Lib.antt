@@ -1,3 +1,4 @@
 mod EnrolmentLemmas
+pub mod PairLemmas
 mod RollLemmas
 pub mod SameSet

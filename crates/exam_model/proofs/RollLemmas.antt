@@ -1,11 +1,10 @@
 -- What a search finds among ascending numbers, and what an insert at that place leaves.
-use Rattle.std.proofs.Common.{◌≡◌, ℕ, suc, ◌+◌, ◌-◌, ◌<◌, ◌≤◌, Bool, true, false, List, [], ◌∷◌, length, get_or, Result, Ok, Err, IfOk, IfErr, refl, ap, subst, sym, ◌∙◌, inl, inr, arith, if◌then◌else◌, take, drop}
+use Rattle.std.proofs.Common.{◌≡◌, ℕ, ◌+◌, ◌-◌, ◌<◌, ◌≤◌, Bool, true, false, List, ◌∷◌, length, Result, Ok, Err, IfOk, IfErr, refl, ap, subst, sym, ◌∙◌, inl, inr, arith, take, drop}
 use Rattle.std.specs.Prelude.{◌==◌, ◌||◌, slice_index}
 use Rattle.std.specs.List.{insert, list_any}
 use Rattle.std.specs.List.Sorted.{IsBinarySearchResult}
 use Rattle.std.specs.Ordering.{nat_cmp}
 use Rattle.std.proofs.lemmas.Bool.{eq-eqb, eqb-true, ne_eqb, cases_lt}
-use Rattle.std.proofs.lemmas.Bool.Decides.{nat_tests}
 use Rattle.std.proofs.lemmas.List.{get_or_default, take-append-drop}
 use Rattle.std.proofs.lemmas.List.Sorted.{searched}
 use Rattle.std.proofs.lemmas.List.Edits.{length-insert, get_or-insert_below, get_or-insert_at, get_or-insert_above}
@@ -13,16 +12,24 @@ use Rattle.std.proofs.lemmas.List.Folds.{list_any_at, list_any_none, list_any-ap
 use Rattle.exam_model.specs.Enrolments.{IsAscending, IsAt, IsGap, Enters, has_student}
 
 -- ascending numbers rise
-pub rise : (xs : List ℕ) → IsAscending xs → (i j : ℕ) → i ≤ j → j < length xs → slice_index xs i ≤ slice_index xs j
+pub rise : (xs : List ℕ) → IsAscending xs → (i j : ℕ) → i ≤ j → j < length xs
+    → slice_index xs i ≤ slice_index xs j
 rise xs up i j le lt = grind (arith, up i j, λ (same : i ≡ j). ap (slice_index xs) same)
 
 -- what a binary search among ascending numbers answers
-pub searched_roll : (xs : List ℕ) (x : ℕ) (r : Result ℕ ℕ) → IsAscending xs → IsBinarySearchResult (λ y. nat_cmp y x) xs r → record { found : IfOk r (IsAt xs x); absent : IfErr r (IsGap xs x) }
-searched_roll xs x (Ok at) up is = let f = searched xs x (Ok at) is (rise xs up) in record { found = record { within = f.0; here = f.1 }; absent = tt }
-searched_roll xs x (Err at) up is = let f = searched xs x (Err at) is (rise xs up) in record { found = tt; absent = record { within = f.0; before = f.1; after = f.2 } }
+pub searched_roll : (xs : List ℕ) (x : ℕ) (r : Result ℕ ℕ) → IsAscending xs
+    → IsBinarySearchResult (λ y. nat_cmp y x) xs r
+    → record { found : IfOk r (IsAt xs x); absent : IfErr r (IsGap xs x) }
+searched_roll xs x (Ok at) up is =
+    let f = searched xs x (Ok at) is (rise xs up) in
+    record { found = record { within = f.0; here = f.1 }; absent = tt }
+searched_roll xs x (Err at) up is =
+    let f = searched xs x (Err at) is (rise xs up) in
+    record { found = tt; absent = record { within = f.0; before = f.1; after = f.2 } }
 
 -- behind the greatest is a gap for what is greater
-pub gap_at_end : (xs : List ℕ) (s : ℕ) → IsAscending xs → 0 < length xs → slice_index xs (length xs - 1) < s → IsGap xs s (length xs)
+pub gap_at_end : (xs : List ℕ) (s : ℕ) → IsAscending xs → 0 < length xs
+    → slice_index xs (length xs - 1) < s → IsGap xs s (length xs)
 gap_at_end xs s up some lt = record {
   within = omega arith;
   before = λ k below. omega (arith, rise xs up k (length xs - 1) (omega arith) (omega arith));
@@ -40,14 +47,33 @@ has_gap xs x i gap = list_any_none _ xs (λ k d lt.
     ]))
 
 -- an insert in the gap keeps the order
-pub ascending_insert : (xs : List ℕ) (x at : ℕ) → IsGap xs x at → IsAscending xs → IsAscending (insert xs at x)
+pub ascending_insert : (xs : List ℕ) (x at : ℕ) → IsGap xs x at → IsAscending xs
+    → IsAscending (insert xs at x)
 ascending_insert xs x at gap up i j lt within =
     let new = insert xs at x in
     let length_new = length-insert xs at x gap.within in
-    let below : (i : ℕ) → i < at → slice_index new i ≡ slice_index xs i = λ i b. get_or-insert_below xs at x 0 i b gap.within in
-    let here : (i : ℕ) → i ≡ at → slice_index new i ≡ x = λ i h. rw h (get_or-insert_at xs at x 0 gap.within) in
-    let above : (i : ℕ) → at < i → slice_index new i ≡ slice_index xs (i - 1) = λ i a. subst (λ q. slice_index new q ≡ slice_index xs (i - 1)) {x = i - 1 + 1} (omega arith) (get_or-insert_above xs at x 0 (i - 1) (omega arith) gap.within) in
-    grind (arith, below i, here i, above i, below j, here j, above j, up i j, up i (j - 1), up (i - 1) (j - 1), gap.before i, gap.after (j - 1))
+    let below : (i : ℕ) → i < at → slice_index new i ≡ slice_index xs i
+    = λ i b. get_or-insert_below xs at x 0 i b gap.within in
+    let here : (i : ℕ) → i ≡ at → slice_index new i ≡ x
+    = λ i h. rw h (get_or-insert_at xs at x 0 gap.within) in
+    let above : (i : ℕ) → at < i → slice_index new i ≡ slice_index xs (i - 1)
+    = λ i a.
+    subst (λ q. slice_index new q ≡ slice_index xs (i - 1)) {x = i - 1 + 1} (omega arith)
+    (get_or-insert_above xs at x 0 (i - 1) (omega arith) gap.within) in
+    grind (
+      arith,
+      below i,
+      here i,
+      above i,
+      below j,
+      here j,
+      above j,
+      up i j,
+      up i (j - 1),
+      up (i - 1) (j - 1),
+      gap.before i,
+      gap.after (j - 1),
+    )
 
 or_middle : (a b c : Bool) → (a || (b || c)) ≡ (b || (a || c))
 or_middle true true c = refl
@@ -55,14 +81,18 @@ or_middle true false c = refl
 or_middle false b c = refl
 
 -- an insert anywhere adds the one student
-pub has_insert : (xs : List ℕ) (x at t : ℕ) → has_student (insert xs at x) t ≡ ((x == t) || has_student xs t)
+pub has_insert : (xs : List ℕ) (x at t : ℕ) → has_student (insert xs at x) t
+    ≡ ((x == t) || has_student xs t)
 has_insert xs x at t =
     let p : ℕ → Bool = λ y. y == t in
-    list_any-append p (take at xs) (x ∷ drop at xs) ∙ or_middle (list_any p (take at xs)) (x == t) (list_any p (drop at xs))
-    ∙ ap (λ b. (x == t) || b) (sym (list_any-append p (take at xs) (drop at xs)) ∙ ap (list_any p) (take-append-drop at xs))
+    list_any-append p (take at xs) (x ∷ drop at xs)
+    ∙ or_middle (list_any p (take at xs)) (x == t) (list_any p (drop at xs))
+    ∙ ap (λ b. (x == t) || b)
+    (sym (list_any-append p (take at xs) (drop at xs)) ∙ ap (list_any p) (take-append-drop at xs))
 
 -- entering a student in the gap
-pub enters_insert : (xs : List ℕ) (x at : ℕ) → IsGap xs x at → IsAscending xs → Enters xs (insert xs at x) x
+pub enters_insert : (xs : List ℕ) (x at : ℕ) → IsGap xs x at → IsAscending xs
+    → Enters xs (insert xs at x) x
 enters_insert xs x at gap up = record {
   members = has_insert xs x at;
   size = rw (has_gap xs x at gap) (length-insert xs at x gap.within);

@@ -1,5 +1,5 @@
 -- What an instance is: its exams, periods, rooms, rules and weights.
-use Rattle.std.specs.Prelude.{◌≡◌, ℕ, ◌+◌, ◌-◌, ◌<◌, ◌≤◌, Bool, false, List, length, All, Option, Some, None, slice_get}
+use Rattle.std.specs.Prelude.{ℕ, ◌+◌, ◌-◌, ◌<◌, Bool, false, List, length, All, Option, Some, None, slice_get}
 use Rattle.std.specs.Ordering.{int_eq}
 use Rattle.jiff.specs.Words.{epoch_day}
 use Rattle.exam_model.specs.Limits.{AreCounted, ExamInLimits, PeriodInLimits, RoomInLimits, WeightsInLimits}
@@ -24,7 +24,8 @@ pub record Session : Type 0 where
 
 -- every limit holds
 pub record InLimits (s : Session) : Type 0 where
-  pub counts : AreCounted (length s.exams) (length s.periods) (length s.rooms) (length s.period_rules) (length s.room_rules)
+  pub counts : AreCounted (length s.exams) (length s.periods) (length s.rooms)
+      (length s.period_rules) (length s.room_rules)
   pub exams : All ExamInLimits s.exams
   pub periods : All PeriodInLimits s.periods
   pub rooms : All RoomInLimits s.rooms
@@ -36,6 +37,7 @@ PeriodRuleExists n (After a b) = (a < n) × (b < n)
 PeriodRuleExists n (Coincidence a b) = (a < n) × (b < n)
 PeriodRuleExists n (Exclusion a b) = (a < n) × (b < n)
 
+-- the exam of a rule is among so many
 abbrev pub RoomRuleExists : ℕ → RoomRule → Type 0
 RoomRuleExists n r = r.0 < n
 

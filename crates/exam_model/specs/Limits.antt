@@ -1,5 +1,5 @@
 -- The limits of the numbers in an instance.
-use Rattle.std.specs.Prelude.{ℕ, ◌≤◌, ◌<◌, pos, ◌≤ℤ◌}
+use Rattle.std.specs.Prelude.{ℕ, ◌≤◌, pos, ◌≤ℤ◌}
 use Rattle.exam_model.specs.declared.parts.Exam.{Exam}
 use Rattle.exam_model.specs.declared.parts.Period.{Period}
 use Rattle.exam_model.specs.declared.parts.Room.{Room}
@@ -13,6 +13,7 @@ IsAmount n = n ≤ 100000
 abbrev pub IsMinutes : ℕ → Type 0
 IsMinutes n = n ≤ 1440
 
+-- how long it lasts
 abbrev pub ExamInLimits : Exam → Type 0
 ExamInLimits e = IsMinutes e.minutes
 
@@ -22,9 +23,11 @@ PeriodInLimits p =
     (pos 1 ≤ℤ p.date.year) × (p.hour ≤ 23) × (p.minute ≤ 59) × (p.second ≤ 59)
     × IsMinutes p.length × IsAmount p.penalty
 
+-- how many students it holds, and a penalty
 abbrev pub RoomInLimits : Room → Type 0
 RoomInLimits r = IsAmount r.capacity × IsAmount r.penalty
 
+-- each weight, and each number of things that is weighed
 abbrev pub WeightsInLimits : Weights → Type 0
 WeightsInLimits w =
     IsAmount w.row × IsAmount w.day × IsAmount w.spread × IsAmount w.mixed

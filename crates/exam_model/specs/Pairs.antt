@@ -1,5 +1,5 @@
 -- Enrolments as one list of pairs, by exam and then by student.
-use Rattle.std.specs.Prelude.{◌≡◌, ℕ, ◌+◌, ◌<◌, Bool, true, ◌&&◌, ◌||◌, ◌==◌, nat_lt, List, [], ◌∷◌, ◌++◌, map, length, count_by}
+use Rattle.std.specs.Prelude.{◌≡◌, ℕ, ◌+◌, ◌<◌, ◌⊎◌, Bool, ◌&&◌, ◌==◌, List, [], ◌∷◌, ◌++◌, map, length, count_by, AllPairs}
 use Rattle.std.specs.List.{list_any}
 use Rattle.exam_model.specs.Enrolments.{Enrolled, has, size_of, shared, pair_count}
 
@@ -8,10 +8,14 @@ pub record Pair : Type 0 where
   pub exam : ℕ
   pub student : ℕ
 
+-- the pairs of one exam: one for each of its students
+abbrev pub pairs_at : ℕ → List ℕ → List Pair
+pairs_at e students = map (λ s. record { exam = e; student = s }) students
+
 -- the pairs of the exams from number e on
 abbrev pub pairs_from : ℕ → Enrolled → List Pair
 pairs_from e [] = []
-pairs_from e (xs ∷ rest) = map (λ s. record { exam = e; student = s }) xs ++ pairs_from (e + 1) rest
+pairs_from e (students ∷ rest) = pairs_at e students ++ pairs_from (e + 1) rest
 
 -- all pairs, by exam and then by student
 abbrev pub pairs_of : Enrolled → List Pair
@@ -21,14 +25,13 @@ pairs_of E = pairs_from 0 E
 abbrev pub is_pair : ℕ → ℕ → Pair → Bool
 is_pair s e p = (p.student == s) && (p.exam == e)
 
--- by exam, and then by student
-abbrev pub comes_before : Pair → Pair → Bool
-comes_before p q = nat_lt p.exam q.exam || ((p.exam == q.exam) && nat_lt p.student q.student)
+-- of a smaller exam, or of the same exam and a smaller student
+abbrev pub ComesBefore : Pair → Pair → Type 0
+ComesBefore p q = (p.exam < q.exam) ⊎ ((p.exam ≡ q.exam) × (p.student < q.student))
 
--- every pair comes before all later ones
+-- each pair comes before all later ones, so none is there twice
 abbrev pub AreInOrder : List Pair → Type 0
-AreInOrder [] = Unit {0}
-AreInOrder (p ∷ ps) = ((q : Pair) → list_any (λ r. (r.student == q.student) && (r.exam == q.exam)) ps ≡ true → comes_before p q ≡ true) × AreInOrder ps
+AreInOrder pairs = AllPairs ComesBefore pairs
 
 -- what the list of pairs says of the set
 pub record ArePairsOf (E : Enrolled) (pairs : List Pair) : Type 0 where

@@ -1,6 +1,6 @@
 // Which student sits which exam: contracts see each exam's students, ascending.
-ghost use Rattle.std.specs.Prelude.{◌≡◌, ℕ, ◌<◌, ◌≤◌, ◌+◌, if◌then◌else◌, not, length, IfOk, IfErr, OnOk, OnErr};
-ghost use Rattle.exam_model.specs.Enrolments.{Enrolled, AreEnrolments, IsAscending, Adds, RefusesPair, students, has, size_of, shared, pair_count, no_pairs};
+ghost use Rattle.std.specs.Prelude.{◌≡◌, ◌<◌, ◌≤◌, not, length, IfOk, IfErr, OnOk, OnErr};
+ghost use Rattle.exam_model.specs.Enrolments.{AreEnrolments, IsAscending, Adds, RefusesPair, students, has, size_of, shared, pair_count, no_pairs};
 
 use crate::fault::ModelFault;
 use crate::numbers::{ExamNo, StudentNo};
@@ -29,7 +29,7 @@ impl Model for Enrolments {
 }
 
 impl Enrolments {
-    /// The empty set of pairs, for so many exams.
+    /// The empty set of pairs, for so many exams. Only memory can be refused.
     #[tactic(auto, using(crate::proofs::EnrolmentLemmas::enrolment_facts))]
     pub fn new(alloc: Global, exams: u32) -> Result<Enrolments, ModelFault>
         requires at_least { 1 ≤ exams }
@@ -58,7 +58,7 @@ impl Enrolments {
         ensures count { result ≡ pair_count self.now }
         ensures kept { AreEnrolments self.now }
     {
-        self.pairs
+        self.pairs // counted by `add`
     }
 
     /// The students of an exam, ascending.
@@ -85,6 +85,7 @@ impl Enrolments {
         ensures size { result ≡ size_of self.now exam }
         ensures within { result ≤ pair_count self.now }
     {
+        // Read for its bound: no exam has more students than there are pairs.
         let _pairs = self.pairs;
         self.students(exam).len() as u32
     }
@@ -97,6 +98,7 @@ impl Enrolments {
         ensures shared { result ≡ shared self.now exam other }
         ensures within { result ≤ size_of self.now exam }
     {
+        // Read for its bound, as in `size`.
         let _pairs = self.pairs;
         let second = &self.rolls[other.get() as usize];
         let both = self
@@ -108,7 +110,8 @@ impl Enrolments {
     }
 
     /// Adds a pair, and answers whether it is new. `NoSuch` comes where there is no such exam,
-    /// and else `Range` for a new pair where 200,000 are there.
+    /// else `Range` for a new pair where 200,000 are there, else `NoMemory`. A student moves all
+    /// greater ones of the exam, so it is quick where they come in ascending order.
     #[tactic(auto, using(crate::proofs::EnrolmentLemmas::enrolment_facts))]
     pub fn add(&mut self, student: StudentNo, exam: ExamNo) -> Result<bool, ModelFault>
         ensures fresh { IfOk result (λ fresh. fresh ≡ not (has self.old student exam)) }

@@ -1,5 +1,3 @@
-// What a model refuses.
-
 use std::alloc::{AllocError, AllocFailed};
 
 /// Why a part of the model is refused.

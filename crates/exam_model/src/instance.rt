@@ -1,6 +1,4 @@
 // An instance: contracts see an examination session by its parts.
-ghost use Rattle.std.specs.Prelude.{◌≡◌, ℕ, ◌<◌, ◌≤◌, length, slice_get, Some, IfOk, IfErr};
-
 use crate::fault::ModelFault;
 use crate::limits::{in_limits, numbers_exist};
 use crate::numbers::{ExamNo, PeriodNo, RoomNo};
@@ -50,7 +48,7 @@ impl Instance {
     ghost use Rattle.exam_model.specs.Instance.{Session, IsInstance, RefusesSession, same_day};
 
     /// The instance of these lists, which are copied. `Range` comes where a limit doesn't hold,
-    /// and else `NoSuch` where a rule names an exam that doesn't exist.
+    /// and else `NoSuch` where a rule names an exam that doesn't exist, and else `NoMemory`.
     pub fn new(
         alloc: Global,
         exams: &[Exam],
@@ -94,6 +92,7 @@ impl Instance {
         })
     }
 
+    /// The exam of that number, as it was given.
     pub fn exam(&self, exam: ExamNo) -> Exam
         requires exists { exam < length self.now.exams }
         ensures { slice_get self.now.exams exam ≡ Some result }
@@ -101,6 +100,7 @@ impl Instance {
         self.exams[exam.get() as usize]
     }
 
+    /// The period of that number, as it was given.
     pub fn period(&self, period: PeriodNo) -> Period
         requires exists { period < length self.now.periods }
         ensures { slice_get self.now.periods period ≡ Some result }
@@ -108,6 +108,7 @@ impl Instance {
         self.periods[period.get() as usize]
     }
 
+    /// The room of that number, as it was given.
     pub fn room(&self, room: RoomNo) -> Room
         requires exists { room < length self.now.rooms }
         ensures { slice_get self.now.rooms room ≡ Some result }
@@ -155,6 +156,7 @@ impl Instance {
         &self.room_rules
     }
 
+    /// What the institution weighs, each 0 to 100,000.
     pub fn weights(&self) -> Weights
         ensures weights { result ≡ self.now.weights }
         ensures kept { IsInstance self.now }

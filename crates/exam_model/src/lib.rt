@@ -7,6 +7,7 @@ mod instance;
 mod laws;
 mod limits;
 mod numbers;
+mod pair_laws;
 mod parts;
 mod roll;
 mod rules;
@@ -17,6 +18,10 @@ pub use fault::ModelFault;
 pub use instance::Instance;
 pub use laws::determined_by_pairs;
 pub use numbers::{DeptNo, ExamNo, PeriodNo, RoomNo, StudentNo};
+pub use pair_laws::pairs_in_order;
 pub use parts::{Exam, Period, Place, Room, Weights};
 pub use rules::{PeriodRule, RoomRule};
 pub use timetable::Timetable;
+
+#[cfg(test)]
+mod tests;

@@ -1,10 +1,48 @@
 // The tests behind `Instance::new`.
-ghost use Rattle.std.specs.Prelude.{◌≡◌, ◌↔◌, length, IsTrue, All};
-ghost use Rattle.exam_model.specs.Limits.{AreCounted};
+ghost use Rattle.std.specs.Prelude.{◌↔◌, length, IsTrue, All};
+ghost use Rattle.exam_model.specs.Limits.{AreCounted, PeriodInLimits, WeightsInLimits};
 ghost use Rattle.exam_model.specs.Instance.{InLimits, PeriodRuleExists, RoomRuleExists};
 
 use crate::parts::{Exam, Period, Room, Weights};
 use crate::rules::{PeriodRule, RoomRule};
+
+impl Period {
+    pub(crate) fn in_limits(&self) -> bool
+        ensures { IsTrue result ↔ PeriodInLimits self.now }
+    {
+        self.date.year() >= 1
+            && self.hour <= 23
+            && self.minute <= 59
+            && self.second <= 59
+            && self.length <= 1440
+            && self.penalty <= 100_000
+    }
+}
+
+impl Weights {
+    pub(crate) fn in_limits(&self) -> bool
+        ensures { IsTrue result ↔ WeightsInLimits self.now }
+    {
+        self.row <= 100_000
+            && self.day <= 100_000
+            && self.spread <= 100_000
+            && self.mixed <= 100_000
+            && self.front_exams <= 100_000
+            && self.front_periods <= 100_000
+            && self.front <= 100_000
+    }
+}
+
+impl PeriodRule {
+    pub(crate) fn exists(&self, exams: usize) -> bool
+        ensures { IsTrue result ↔ PeriodRuleExists exams self.now }
+    {
+        match self {
+            PeriodRule::After(a, b) | PeriodRule::Coincidence(a, b) | PeriodRule::Exclusion(a, b) =>
+                { (a.get() as usize) < exams && (b.get() as usize) < exams }
+        }
+    }
+}
 
 fn are_counted(
     exams: usize,
@@ -49,9 +87,11 @@ pub fn in_limits(
         rooms.len(),
         period_rules.len(),
         room_rules.len(),
-    ) && exams.iter().all(|e| e.in_limits())
+    ) && exams.iter().all(|e| e.minutes <= 1440)
         && periods.iter().all(|p| p.in_limits())
-        && rooms.iter().all(|r| r.in_limits())
+        && rooms
+            .iter()
+            .all(|r| r.capacity <= 100_000 && r.penalty <= 100_000)
         && weights.in_limits()
 }
 
@@ -60,5 +100,6 @@ pub fn numbers_exist(exams: usize, period_rules: &[PeriodRule], room_rules: &[Ro
     ensures { IsTrue result ↔ (All (PeriodRuleExists exams) period_rules.now
         × All (RoomRuleExists exams) room_rules.now) }
 {
-    period_rules.iter().all(|r| r.exists(exams)) && room_rules.iter().all(|r| r.exists(exams))
+    period_rules.iter().all(|r| r.exists(exams))
+        && room_rules.iter().all(|r| (r.0.get() as usize) < exams)
 }

@@ -66,7 +66,7 @@ impl Roll {
         }
     }
 
-    /// Puts a student in unless the roll is full, and answers whether she is new.
+    // Puts a student in unless the roll is full, and answers whether she is new.
     #[tactic(auto, using(crate::proofs::RollLemmas::roll_facts))]
     pub fn add(&mut self, student: StudentNo, full: bool) -> Result<bool, ModelFault>
         ensures fresh { IfOk result (λ fresh. fresh ≡ not (has_student self.old student)) }

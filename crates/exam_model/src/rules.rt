@@ -15,28 +15,3 @@ pub enum PeriodRule {
 /// The exam that wants its room for itself.
 #[derive(Clone, Copy, Debug, PartialEq, Eq)]
 pub struct RoomRule(pub ExamNo);
-
-impl PeriodRule {
-    ghost use Rattle.std.specs.Prelude.{IsTrue, ◌↔◌};
-    ghost use Rattle.exam_model.specs.Instance.{PeriodRuleExists};
-
-    pub(crate) fn exists(&self, exams: usize) -> bool
-        ensures { IsTrue result ↔ PeriodRuleExists exams self.now }
-    {
-        match self {
-            PeriodRule::After(a, b) | PeriodRule::Coincidence(a, b) | PeriodRule::Exclusion(a, b) =>
-                { (a.get() as usize) < exams && (b.get() as usize) < exams }
-        }
-    }
-}
-
-impl RoomRule {
-    ghost use Rattle.std.specs.Prelude.{IsTrue, ◌↔◌};
-    ghost use Rattle.exam_model.specs.Instance.{RoomRuleExists};
-
-    pub(crate) fn exists(&self, exams: usize) -> bool
-        ensures { IsTrue result ↔ RoomRuleExists exams self.now }
-    {
-        (self.0.get() as usize) < exams
-    }
-}

@@ -55,12 +55,14 @@ impl Timetable {
         requires exists { exam < length self.old }
         ensures { self.new ≡ slice_set self.old exam (Some place) }
     {
-        self.places[exam.get() as usize] = Some(place);
+        let at = exam.get() as usize;
+        self.places[at] = Some(place);
     }
 
-    /// The smallest exam without a place.
+    /// The smallest exam without a place; none where each exam has one.
     pub fn complete(&self) -> Option<ExamNo>
-        ensures none { IfNone result ((e : ℕ) → e < length self.now → IsSome (place_of self.now e)) }
+        ensures none { IfNone result ((e : ℕ) → e < length self.now
+            → IsSome (place_of self.now e)) }
         ensures first { IfSome result (IsFirstUnplaced self.now) }
     {
         for (at, place) in self.places.iter().enumerate() {

@@ -1,0 +1,182 @@
+-- What holds of the list of a set's pairs: by induction over the exams, from any number on.
+use Rattle.std.proofs.Common.{◌≡◌, ℕ, zero, suc, ◌+◌, ◌<◌, ◌≤◌, Bool, true, false, List, [], ◌∷◌, ◌++◌, length, map, count_by, refl, ap, ap₂, sym, ◌∙◌, inl, inr, arith, if◌then◌else◌}
+use Rattle.std.specs.Prelude.{◌==◌, ◌||◌, ◌&&◌, All}
+use Rattle.std.specs.List.{list_any}
+use Rattle.std.proofs.lemmas.Bool.{eq-eqb, ne_eqb}
+use Rattle.std.proofs.lemmas.List.{length-map, length-append}
+use Rattle.std.proofs.lemmas.List.Elements.{All-nil, All-append, All-map, All-weaker, All-from_get_or}
+use Rattle.std.proofs.lemmas.List.Folds.{fold-map, fold_stays, list_any-append}
+use Rattle.std.proofs.lemmas.List.Kept.{AllPairs-cons}
+use Rattle.std.proofs.lemmas.List.Sums.{sum_by-cons, sum_by-append}
+use Rattle.exam_model.specs.Enrolments.{Enrolled, AreEnrolments, IsAscending, has_student, students, has, size_of, pair_count}
+use Rattle.exam_model.specs.Pairs.{Pair, pairs_at, pairs_from, pairs_of, is_pair, ComesBefore, AreInOrder, ArePairsOf}
+use Rattle.exam_model.proofs.EnrolmentLemmas.{and-true, and-false}
+use Rattle.exam_model.proofs.SameSet.{tail_ascends}
+
+or-false : (a : Bool) → (a || false) ≡ a
+or-false true = refl
+or-false false = refl
+
+abbrev pair : ℕ → ℕ → Pair
+pair e s = record { exam = e; student = s }
+
+-- ---- members
+
+any_map : {X Y : Type 0} (p : Y → Bool) (f : X → Y) (xs : List X)
+    → list_any p (map f xs) ≡ list_any (λ x. p (f x)) xs
+any_map p f [] = refl
+any_map p f (x ∷ xs) = ap (λ b. p (f x) || b) (any_map p f xs)
+
+any_and : {X : Type 0} (p : X → Bool) (c : Bool) (xs : List X)
+    → list_any (λ x. p x && c) xs ≡ (c && list_any p xs)
+any_and p true [] = refl
+any_and p true (x ∷ xs) = ap₂ (λ a b. a || b) (and-true (p x)) (any_and p true xs)
+any_and p false [] = refl
+any_and p false (x ∷ xs) = ap₂ (λ a b. a || b) (and-false (p x)) (any_and p false xs)
+
+-- a pair is among an exam's if it is of that exam and of one of its students
+any_at : (s e f : ℕ) (xs : List ℕ)
+    → list_any (is_pair s e) (pairs_at f xs) ≡ ((f == e) && has_student xs s)
+any_at s e f xs = any_map (is_pair s e) (λ t. pair f t) xs ∙ any_and (λ t. t == s) (f == e) xs
+
+-- it is among the first exam's, or among those of the others
+any_first : (s e f : ℕ) (xs : List ℕ) (rest : Enrolled)
+    → list_any (is_pair s e) (pairs_from f (xs ∷ rest))
+    ≡ (((f == e) && has_student xs s) || list_any (is_pair s e) (pairs_from (f + 1) rest))
+any_first s e f xs rest =
+    let others : List Pair = pairs_from (f + 1) rest in
+    list_any-append (is_pair s e) (pairs_at f xs) others
+    ∙ ap (λ b. b || list_any (is_pair s e) others) (any_at s e f xs)
+
+-- no pair is of an exam below the first
+any_below : (s e f : ℕ) (E : Enrolled) → e < f → list_any (is_pair s e) (pairs_from f E) ≡ false
+any_below s e f [] lt = refl
+any_below s e f (xs ∷ rest) lt =
+    any_first s e f xs rest
+    ∙ rw (ne_eqb f e (omega arith)) (any_below s e (f + 1) rest (omega arith))
+
+any_from : (s e f k : ℕ) (E : Enrolled) → e ≡ f + k
+    → list_any (is_pair s e) (pairs_from f E) ≡ has E s k
+any_from s e f k [] here = refl
+any_from s e f zero (xs ∷ rest) here =
+    any_first s e f xs rest
+    ∙ rw (eq-eqb f e (omega arith), any_below s e (f + 1) rest (omega arith))
+    (or-false (has_student xs s))
+any_from s e f (suc k) (xs ∷ rest) here =
+    any_first s e f xs rest
+    ∙ rw (ne_eqb f e (omega arith)) (any_from s e (f + 1) k rest (omega arith))
+
+-- ---- counts
+
+count_none : (xs : List ℕ) → count_by (λ s. false) xs ≡ 0
+count_none xs = fold_stays (λ a s. a + 0) 0 (λ s. refl) xs
+
+count_all : (xs : List ℕ) → count_by (λ s. true) xs ≡ length xs
+count_all [] = refl
+count_all (x ∷ xs) = omega (arith, sum_by-cons (λ (s : ℕ). 1) x xs, count_all xs)
+
+-- how many pairs of the exam have a student who passes the test: written out in the statements,
+-- so that they are about the very counts of the law
+count_at : (e f : ℕ) (t : ℕ → Bool) (xs : List ℕ)
+    → count_by (λ p. (p.exam == e) && t p.student) (pairs_at f xs)
+    ≡ count_by (λ s. (f == e) && t s) xs
+count_at e f t xs =
+    fold-map (λ a p. a + (if (p.exam == e) && t p.student then 1 else 0)) (λ s. pair f s) 0 xs
+
+count_first : (e f : ℕ) (t : ℕ → Bool) (xs : List ℕ) (rest : Enrolled)
+    → count_by (λ p. (p.exam == e) && t p.student) (pairs_from f (xs ∷ rest))
+    ≡ count_by (λ s. (f == e) && t s) xs
+    + count_by (λ p. (p.exam == e) && t p.student) (pairs_from (f + 1) rest)
+count_first e f t xs rest =
+    let is : Pair → Bool = λ p. (p.exam == e) && t p.student in
+    let others : List Pair = pairs_from (f + 1) rest in
+    sum_by-append (λ p. if is p then 1 else 0) (pairs_at f xs) others
+    ∙ ap (λ n. n + count_by is others) (count_at e f t xs)
+
+-- none is of an exam below the first
+count_below : (e f : ℕ) (t : ℕ → Bool) (E : Enrolled) → e < f
+    → count_by (λ p. (p.exam == e) && t p.student) (pairs_from f E) ≡ 0
+count_below e f t [] lt = refl
+count_below e f t (xs ∷ rest) lt =
+    count_first e f t xs rest
+    ∙ rw (ne_eqb f e (omega arith))
+    (omega (arith, count_none xs, count_below e (f + 1) t rest (omega arith)))
+
+count_from : (e f k : ℕ) (t : ℕ → Bool) (E : Enrolled) → e ≡ f + k
+    → count_by (λ p. (p.exam == e) && t p.student) (pairs_from f E) ≡ count_by t (students E k)
+count_from e f k t [] here = refl
+count_from e f zero t (xs ∷ rest) here =
+    count_first e f t xs rest
+    ∙ rw (eq-eqb f e (omega arith)) (omega (arith, count_below e (f + 1) t rest (omega arith)))
+count_from e f (suc k) t (xs ∷ rest) here =
+    count_first e f t xs rest
+    ∙ rw (ne_eqb f e (omega arith))
+    (omega (arith, count_none xs, count_from e (f + 1) k t rest (omega arith)))
+
+length_from : (f : ℕ) (E : Enrolled) → length (pairs_from f E) ≡ pair_count E
+length_from f [] = refl
+length_from f (xs ∷ rest) =
+    let both = length-append (pairs_at f xs) (pairs_from (f + 1) rest) in
+    let first = length-map xs (λ s. pair f s) in
+    let others = length_from (f + 1) rest in
+    let sum = sum_by-cons length xs rest in
+    omega arith
+
+-- ---- the order
+
+above_first : (x : ℕ) (xs : List ℕ) → IsAscending (x ∷ xs) → All (λ y. x < y) xs
+above_first x xs up =
+    All-from_get_or (λ y. x < y) xs 0 (λ i lt. up 0 (suc i) (omega arith) (omega arith))
+
+-- one exam's pairs, with pairs of greater exams behind them
+ordered_at : (e : ℕ) (xs : List ℕ) (later : List Pair) → IsAscending xs
+    → All (λ q. e < q.exam) later → AreInOrder later → AreInOrder (pairs_at e xs ++ later)
+ordered_at e [] later up above order = order
+ordered_at e (x ∷ xs) later up above order =
+    let first : Pair → Type 0 = ComesBefore (pair e x) in
+    let here : All (λ s. first (pair e s)) xs
+    = All-weaker (λ y. x < y) (λ s. first (pair e s)) (λ y lt. inr (refl, lt)) xs
+    (above_first x xs up) in
+    let there : All first later = All-weaker (λ q. e < q.exam) first (λ q lt. inl lt) later above in
+    AllPairs-cons ComesBefore (pair e x) (pairs_at e xs ++ later)
+    (All-append first (pairs_at e xs) later (All-map first (λ s. pair e s) xs here) there)
+    (ordered_at e xs later (tail_ascends x xs up) above order)
+
+exams_from : (f : ℕ) (E : Enrolled) → All (λ p. f ≤ p.exam) (pairs_from f E)
+exams_from f [] = All-nil (λ (p : Pair). f ≤ p.exam)
+exams_from f (xs ∷ rest) =
+    let others : List Pair = pairs_from (f + 1) rest in
+    All-append (λ p. f ≤ p.exam) (pairs_at f xs) others
+    (All-map (λ p. f ≤ p.exam) (λ s. pair f s) xs (λ k d lt. omega arith))
+    (All-weaker (λ p. f + 1 ≤ p.exam) (λ p. f ≤ p.exam) (λ p le. omega arith) others
+    (exams_from (f + 1) rest))
+
+ordered_from : (f : ℕ) (E : Enrolled) → ((e : ℕ) → e < length E → IsAscending (students E e))
+    → AreInOrder (pairs_from f E)
+ordered_from f [] up = λ i j d lt within. absurd (omega arith)
+ordered_from f (xs ∷ rest) up =
+    let others : List Pair = pairs_from (f + 1) rest in
+    let greater : All (λ p. f < p.exam) others
+    = All-weaker (λ p. f + 1 ≤ p.exam) (λ p. f < p.exam) (λ p le. omega arith) others
+    (exams_from (f + 1) rest) in
+    ordered_at f xs others (up 0 (omega arith)) greater
+    (ordered_from (f + 1) rest (λ e lt. up (suc e) (omega arith)))
+
+-- ---- all of it
+
+size_from : (e : ℕ) (E : Enrolled) → count_by (λ p. p.exam == e) (pairs_of E) ≡ size_of E e
+size_from e E =
+    let same : count_by (λ p. (p.exam == e) && true) (pairs_of E)
+    ≡ count_by (λ p. p.exam == e) (pairs_of E)
+    = λ i. count_by (λ p. and-true (p.exam == e) i) (pairs_of E) in
+    sym same ∙ count_from e 0 e (λ s. true) E (omega arith) ∙ count_all (students E e)
+
+-- the list of a set's pairs says of the set what it should
+pub are_pairs : (E : Enrolled) → AreEnrolments E → ArePairsOf E (pairs_of E)
+are_pairs E is = record {
+  members = λ s e. any_from s e 0 e E (omega arith);
+  count = length_from 0 E;
+  sizes = λ e. size_from e E;
+  sharing = λ e f. count_from e 0 e (λ s. has E s f) E (omega arith);
+  ordered = ordered_from 0 E is.ascending;
+}
