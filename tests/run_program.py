@@ -13,6 +13,10 @@ from collections import namedtuple
 EXAMPLES = pathlib.Path(__file__).resolve().parent.parent / "examples"
 INSTANCE_LIMIT, SOLUTION_LIMIT = 4_194_304, 1_048_576
 SECONDS = 60
+PENALTIES = ["two in a row", "two in a day", "period spread", "mixed durations", "front load",
+             "period penalty", "room penalty"]
+GOOD = [7, 5, 3, 0, 0, 15, 7]
+TOGETHER = [7, 0, 3, 10, 0, 10, 14]
 
 Case = namedtuple("Case", "name words status stdout stderr device", defaults=(b"", b"", None))
 
@@ -37,12 +41,25 @@ def with_line(text, number, line):
     return b"\n".join(lines)
 
 
+def with_rules(text, period_rules, room_rules):
+    """The small instance with further rules."""
+    text = text.replace(b"1, AFTER, 0\n", b"1, AFTER, 0\n" + period_rules)
+    return text.replace(b"[RoomHardConstraints]\n", b"[RoomHardConstraints]\n" + room_rules)
+
+
 def files():
     """The files that the cases name, in the folder from which the program is called."""
     made = {file.name: file.read_bytes() for file in EXAMPLES.iterdir() if file.is_file()}
     exam, solution = made["small.exam"], made["small.sol"]
+    apart, alone = b"3, EXCLUSION, 2\n2, EXCLUSION, 2\n", b"2, ROOM_EXCLUSIVE\n"
     return {
         **made,
+        "together.sol": with_line(solution, 4, b"3, 1"),
+        "early.sol": with_line(solution, 1, b"3, 0"),
+        "crowded.sol": with_line(solution, 2, b"0, 0"),
+        "alone.exam": with_rules(exam, apart, alone),
+        "alone_twice.exam": with_rules(exam, apart * 2, alone * 2),
+        "blank.exam": with_line(exam, 5, b"60").replace(b"\n", b"\r\n") + b"\r\n\r\n",
         "crlf.exam": exam.replace(b"\n", b"\r\n"),
         "crlf.sol": solution.replace(b"\n", b"\r\n"),
         "a folder/the exam": exam,
@@ -60,8 +77,16 @@ def files():
     }
 
 
-def check(name, instance, solution, number):
-    return Case(name, ("check", instance, solution), 0, b"two in a row %d\n" % number)
+def report(breaches, penalties):
+    """The two reports: the lines of the breaches, and the penalties without their total."""
+    lines = [f"breaches {len(breaches)}", *breaches]
+    lines += [f"{name} {penalty}" for name, penalty in zip(PENALTIES, penalties, strict=True)]
+    return "".join(f"{line}\n" for line in [*lines, f"total {sum(penalties)}"]).encode()
+
+
+def check(name, instance, solution, penalties, *breaches):
+    return Case(name, ("check", instance, solution), 3 if breaches else 0,
+                report(breaches, penalties))
 
 
 def fault(name, instance, solution, text):
@@ -73,13 +98,23 @@ def usage(name, *words):
 
 
 CASES = [
-    check("the small example", "small.exam", "small.sol", 7),
-    check("the smallest instance", "smallest.exam", "smallest.sol", 0),
-    check("lines that end with CR LF", "crlf.exam", "crlf.sol", 7),
-    check("paths with spaces", "a folder/the exam", "./a folder/the solution", 7),
-    check("paths from the root", str(EXAMPLES / "small.exam"), str(EXAMPLES / "small.sol"), 7),
-    check("an instance of the greatest length", "at_limit.exam", "small.sol", 7),
-    check("a solution of the greatest length", "small.exam", "at_limit.sol", 7),
+    check("the small example", "small.exam", "small.sol", GOOD),
+    check("two exams in one room", "small.exam", "together.sol", TOGETHER),
+    check("an exam too early", "small.exam", "early.sol", [0, 0, 3, 0, 4, 20, 7], "After 1 0"),
+    check("a room too small", "small.exam", "crowded.sol", [0, 5, 2, 10, 0, 15, 7],
+          "Clash 0 1", "Capacity 0 0", "Capacity 1 1", "After 1 0"),
+    check("an exam not alone", "alone.exam", "together.sol", TOGETHER,
+          "Exclusion 2 3", "RoomExclusive 2 3"),
+    check("an exam not alone, by lines that come twice", "alone_twice.exam", "together.sol",
+          TOGETHER, "Exclusion 2 3", "RoomExclusive 2 3"),
+    check("the smallest instance", "smallest.exam", "smallest.sol", [0] * 7),
+    check("lines that end with CR LF", "crlf.exam", "crlf.sol", GOOD),
+    check("CR LF, blank lines and an exam with no student", "blank.exam", "small.sol",
+          [7, 0, 2, 0, 0, 15, 7]),
+    check("paths with spaces", "a folder/the exam", "./a folder/the solution", GOOD),
+    check("paths from the root", str(EXAMPLES / "small.exam"), str(EXAMPLES / "small.sol"), GOOD),
+    check("an instance of the greatest length", "at_limit.exam", "small.sol", GOOD),
+    check("a solution of the greatest length", "small.exam", "at_limit.sol", GOOD),
     fault("no instance", "none.exam", "small.sol", b"cannot read none.exam"),
     fault("no solution", "small.exam", "none.sol", b"cannot read none.sol"),
     fault("neither file", "none.exam", "none.sol", b"cannot read none.exam"),

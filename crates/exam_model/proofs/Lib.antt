@@ -2,3 +2,5 @@ mod EnrolmentLemmas
 pub mod PairLemmas
 mod RollLemmas
 pub mod SameSet
+pub mod DayLemmas
+pub mod SumLemmas

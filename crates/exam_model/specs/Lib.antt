@@ -5,3 +5,5 @@ pub mod Instance
 pub mod Enrolments
 pub mod Pairs
 pub mod Timetable
+pub mod Fits
+pub mod PairCost

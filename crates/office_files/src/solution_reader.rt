@@ -1,5 +1,6 @@
 // Reading a solution file.
-ghost use Rattle.std.specs.Prelude.{◌≡◌, ◌≢◌, ◌+◌, ◌≤◌, length, map, Some, None, IfOk, IfErr};
+ghost use Rattle.std.specs.Prelude.{◌≡◌, ◌≢◌, ◌+◌, ◌≤◌, All, length, map, Some, None, IfOk, IfErr};
+ghost use Rattle.exam_model.specs.Fits.{PlaceExists};
 ghost use Rattle.exam_model.specs.Timetable.{Placing};
 ghost use Rattle.office_files.specs.Faults.{IsOfNoLine};
 ghost use Rattle.office_files.specs.FirstFault.{first_solution_fault};
@@ -54,6 +55,7 @@ fn timetable_in(alloc: Global, source: &[u8], counts: Counts) -> Result<Timetabl
 // The timetable of a file for an instance.
 fn solution_in(alloc: Global, source: &[u8], instance: &Instance) -> Result<Timetable, FileFault>
     ensures exact { Gives (λ read. read) result (solution_in instance.now source.now) }
+    ensures exist { IfOk result (λ read. All (PlaceExists instance.now) read) }
     ensures memory { IfErr result IsOfNoLine }
 {
     if source.len() > LONGEST_SOLUTION {
@@ -84,6 +86,7 @@ pub fn read_solution(
     ensures only { IfErr result (λ fault. fault.what ≢ FaultKind.NoMemory
         → (T : Placing) → SolutionText source.now instance.now T → ⊥) }
     ensures one { IfOk result (λ read. (T : Placing) → SolutionText source.now instance.now T → T ≡ read) }
+    ensures exist { IfOk result (λ read. All (PlaceExists instance.now) read) }
 
     // A fault is the first one of the text, and a text that is read has none.
     ensures first { IfErr result (λ fault. fault.what ≢ FaultKind.NoMemory

@@ -1,0 +1,21 @@
+-- What is taken together fits: one number of exams throughout, and places that exist.
+use Rattle.std.specs.Prelude.{◌≡◌, ℕ, ◌<◌, List, length, All, Option, Some, None, option_map}
+use Rattle.exam_model.specs.declared.parts.Place.{Place}
+use Rattle.exam_model.specs.Instance.{Session}
+use Rattle.exam_model.specs.Enrolments.{Enrolled}
+use Rattle.exam_model.specs.Timetable.{Placing, place_of}
+
+-- the period where an exam stands, if it stands anywhere
+abbrev pub period_of : Placing → ℕ → Option ℕ
+period_of T e = option_map (λ at. at.period) (place_of T e)
+
+-- a place in an existing period and room, or none
+abbrev pub PlaceExists : Session → Option Place → Type 0
+PlaceExists I None = Unit {0}
+PlaceExists I (Some at) = (at.period < length I.periods) × (at.room < length I.rooms)
+
+-- the three speak of one number of exams, and the places in the timetable exist
+pub record Fits (I : Session) (E : Enrolled) (T : Placing) : Type 0 where
+  pub enrolments : length E ≡ length I.exams
+  pub timetable : length T ≡ length I.exams
+  pub places : All (PlaceExists I) T

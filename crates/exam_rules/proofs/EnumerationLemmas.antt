@@ -1,0 +1,116 @@
+-- All pairs of exams in order, and the list that a test leaves of them.
+use Rattle.std.specs.List.{AllByRecursion, list_any, flat_map, range_with_len}
+use Rattle.std.specs.List.Sorted.{IsStrictlySortedBy}
+use Rattle.std.proofs.Common.{◌≡◌, ℕ, zero, suc, ◌+◌, ◌<◌, ◌≤◌, Bool, true, false, cond, ◌&&◌, nat_lt, List, [], ◌∷◌, map, filter, Contains, Less, inl, inr, refl, sym, ◌∙◌, ap, ap₂, subst, arith}
+use Rattle.std.proofs.lemmas.Bool.{and_from, lt-ltb}
+use Rattle.std.proofs.lemmas.Bool.Decides.{nat_tests}
+use Rattle.std.proofs.lemmas.List.Elements.{filter_passes, All-contains}
+use Rattle.std.proofs.lemmas.List.Kept.{IsStrictlySortedBy-filter}
+use Rattle.exam_rules.specs.Breach.{exam_pair_cmp, pair, is_pair, exam_pairs, passing, HasJust}
+use Rattle.exam_rules.specs.declared.exam_pair.ExamPair.{ExamPair}
+use Rattle.exam_rules.proofs.OrderLemmas.{same_sorted, exam_pair_cmp_total, contains_head, contains_later, first_or_later, each_append, each_weaker, sorted_nil, sorted_cons, sorted_append}
+use Rattle.exam_rules.proofs.MemberLemmas.{any_rows, any_below, any_from_contains, contains_from_any}
+
+lesser_exam : (a b : ExamPair) → a.exam < b.exam → exam_pair_cmp a b ≡ Less
+lesser_exam a b h = grind (arith, nat_tests)
+
+lesser_other : (a b : ExamPair) → a.exam ≡ b.exam → a.other < b.other → exam_pair_cmp a b ≡ Less
+lesser_other a b e h = grind (arith, nat_tests)
+
+-- the pairs of exam e with the m exams from a on
+abbrev row : ℕ → ℕ → ℕ → List ExamPair
+row e a m = map (pair e) (range_with_len a m)
+
+row_of : (e a m : ℕ) → AllByRecursion (λ p. (p.exam ≡ e) × (a ≤ p.other)) (row e a m)
+row_of e a zero = tt
+row_of e a (suc m) = (
+  (refl, omega arith),
+  each_weaker (λ p. (p.exam ≡ e) × (a + 1 ≤ p.other)) (λ p. (p.exam ≡ e) × (a ≤ p.other))
+      (λ p h. (h.0, omega (arith, h.1))) (row e (a + 1) m) (row_of e (a + 1) m),
+)
+
+row_sorted : (e a m : ℕ) → IsStrictlySortedBy exam_pair_cmp (row e a m)
+row_sorted e a zero = sorted_nil exam_pair_cmp
+row_sorted e a (suc m) =
+    sorted_cons exam_pair_cmp (pair e a) (row e (a + 1) m)
+    (each_weaker (λ p. (p.exam ≡ e) × (a + 1 ≤ p.other)) (λ p. exam_pair_cmp (pair e a) p ≡ Less)
+    (λ p h. lesser_other (pair e a) p (sym h.0) (omega (arith, h.1))) (row e (a + 1) m) (row_of e (a + 1) m))
+    (row_sorted e (a + 1) m)
+
+-- the pairs of the k exams from a on with the exams below n
+abbrev rows : ℕ → ℕ → ℕ → List ExamPair
+rows n a k = flat_map (λ e. map (pair e) (range_with_len 0 n)) (range_with_len a k)
+
+rows_of : (n a k : ℕ) → AllByRecursion (λ p. a ≤ p.exam) (rows n a k)
+rows_of n a zero = tt
+rows_of n a (suc k) =
+    each_append (λ p. a ≤ p.exam) (row a 0 n) (rows n (a + 1) k)
+    (each_weaker (λ p. (p.exam ≡ a) × (0 ≤ p.other)) (λ p. a ≤ p.exam) (λ p h. omega (arith, h.0)) (row a 0 n) (row_of a 0 n))
+    (each_weaker (λ p. a + 1 ≤ p.exam) (λ p. a ≤ p.exam) (λ p h. omega (arith, h)) (rows n (a + 1) k) (rows_of n (a + 1) k))
+
+rows_sorted : (n a k : ℕ) → IsStrictlySortedBy exam_pair_cmp (rows n a k)
+rows_sorted n a zero = sorted_nil exam_pair_cmp
+rows_sorted n a (suc k) =
+    let later = rows_of n (a + 1) k in
+    sorted_append exam_pair_cmp (row a 0 n) (rows n (a + 1) k) (row_sorted a 0 n) (rows_sorted n (a + 1) k)
+    (each_weaker (λ p. (p.exam ≡ a) × (0 ≤ p.other)) (λ p. AllByRecursion (λ q. exam_pair_cmp p q ≡ Less) (rows n (a + 1) k))
+    (λ p h. each_weaker (λ q. a + 1 ≤ q.exam) (λ q. exam_pair_cmp p q ≡ Less) (λ q g. lesser_exam p q (omega (arith, h.0, g))) (rows n (a + 1) k) later)
+    (row a 0 n) (row_of a 0 n))
+
+-- all pairs of existing exams are there
+pairs_have : (n e f : ℕ) → list_any (is_pair e f) (exam_pairs n) ≡ (nat_lt e n && nat_lt f n)
+pairs_have n e f =
+    any_rows e f (λ k. range_with_len 0 n) (range_with_len 0 n) ∙ ap₂ (λ a b. a && b) (any_below e n) (any_below f n)
+
+-- ---- what a test leaves
+
+kept : {X : Type 0} (t : X → Bool) (xs : List X) (x : X) → Contains xs x → t x ≡ true → Contains (filter t xs) x
+kept t [] x h k = h
+kept {X} t (y ∷ ys) x h k = go (t y) refl (kept t ys x)
+  where
+    go : (b : Bool) → t y ≡ b → (Contains ys x → t x ≡ true → Contains (filter t ys) x)
+        → Contains (cond b (y ∷ filter t ys) (filter t ys)) x
+    go true e more = elim (first_or_later y ys x h) as (λ _. Contains (y ∷ filter t ys) x) [
+      | inl same ↦ subst (Contains (y ∷ filter t ys)) same (contains_head y (filter t ys))
+      | inr later ↦ contains_later y (filter t ys) x (more later k)
+    ]
+    go false e more = elim (first_or_later y ys x h) as (λ _. Contains (filter t ys) x)
+        [ inl same ↦ absurd (no (sym e ∙ ap t same ∙ k)) | inr later ↦ more later k ]
+      where
+        no : false ≡ true → ⊥
+        no e = cc
+
+-- the pairs that pass are in order
+pub passing_sorted : (test : ℕ → ℕ → Bool) (n : ℕ) → IsStrictlySortedBy exam_pair_cmp (passing test n)
+passing_sorted test n =
+    IsStrictlySortedBy-filter exam_pair_cmp (λ p. test p.exam p.other) (exam_pairs n) (rows_sorted n 0 n)
+
+-- they do pass
+pub passing_only : (test : ℕ → ℕ → Bool) (n : ℕ) (p : ExamPair) → Contains (passing test n) p
+    → test p.exam p.other ≡ true
+passing_only test n p h =
+    let pass : ExamPair → Bool = λ p. test p.exam p.other in
+    All-contains (λ q. pass q ≡ true) (filter pass (exam_pairs n)) p (filter_passes pass (exam_pairs n)) h
+
+-- and all that pass are there
+pub passing_all : (test : ℕ → ℕ → Bool) (n : ℕ) (p : ExamPair) → (p.exam < n) × (p.other < n)
+    → test p.exam p.other ≡ true → Contains (passing test n) p
+passing_all test n p exist passes =
+    let there = pairs_have n p.exam p.other ∙ and_from (nat_lt p.exam n) (nat_lt p.other n) (lt-ltb p.exam n exist.0) (lt-ltb p.other n exist.1) in
+    kept (λ (q : ExamPair). test q.exam q.other) (exam_pairs n) p (contains_from_any p.exam p.other (exam_pairs n) there) passes
+
+-- a strictly sorted list with the members of one that has just the pairs that pass
+pub passing_is : (test : ℕ → ℕ → Bool) (n : ℕ) (found sorted : List ExamPair) → HasJust test n found
+    → IsStrictlySortedBy exam_pair_cmp sorted
+    → ((p : ExamPair) → Contains found p → Contains sorted p)
+    → ((p : ExamPair) → Contains sorted p → Contains found p)
+    → sorted ≡ passing test n
+passing_is test n found sorted just up keeps adds_none =
+    same_sorted exam_pair_cmp_total sorted (passing test n) up (passing_sorted test n)
+    (λ p h. sound p (adds_none p h))
+    (λ p h. keeps p (contains_from_any p.exam p.other found (just.members p.exam p.other ∙ passing_only test n p h)))
+  where
+    sound : (p : ExamPair) → Contains found p → Contains (passing test n) p
+    sound p h =
+        let passes = sym (just.members p.exam p.other) ∙ any_from_contains p.exam p.other found h in
+        passing_all test n p (just.exist p.exam p.other passes) passes

@@ -1,0 +1,107 @@
+-- The exams of a period's group.
+use Rattle.std.specs.Prelude.{All}
+use Rattle.std.proofs.Common.{◌≡◌, ℕ, ◌<◌, Bool, true, false, ◌&&◌, ◌==◌, not, nat_lt, List, [], length, get_or, Option, Some, None, refl, sym, ◌∙◌, ap, subst, arith, ltb-true, eq-eqb, eqb-true}
+use Rattle.std.proofs.lemmas.Bool.{and_parts, and_from, lt-ltb}
+use Rattle.std.proofs.lemmas.List.Folds.{list_any_at}
+use Rattle.exam_model.specs.Timetable.{Placing, place_of}
+use Rattle.exam_model.specs.declared.parts.Place.{Place}
+use Rattle.exam_rules.specs.Places.{where_placed, where_both, is_one_place, in_one_period, in_one_place}
+use Rattle.exam_rules.specs.Groups.{has_exam, stands_in, AreGroups}
+use Rattle.exam_rules.proofs.MemberLemmas.{and_false}
+use Rattle.exam_rules.proofs.PlaceLemmas.{placed_exists}
+
+-- a complete group has just the exams that stand in its period
+pub in_group : {T : Placing} {periods n : ℕ} {groups : List (List ℕ)} → AreGroups T periods n groups → length T ≡ n
+    → (p f : ℕ) → p < periods → has_exam (get_or groups p []) f ≡ stands_in T p f
+in_group {T} {periods} {n} {groups} are same p f within =
+    are.members p f within ∙ exists (stands_in T p f) (λ h. placed_exists T (λ q. p == q.period) f h)
+  where
+    exists : (b : Bool) → (b ≡ true → f < length T) → (nat_lt f n && b) ≡ b
+    exists true h = (let lt : f < length T = h refl in and_from (nat_lt f n) true (lt-ltb f n (omega arith)) refl)
+    exists false h = and_false (nat_lt f n)
+
+-- the exams of a group exist
+pub group_exists : {T : Placing} {periods n : ℕ} {groups : List (List ℕ)} → AreGroups T periods n groups
+    → (p : ℕ) → p < periods → All (λ f. f < n) (get_or groups p [])
+group_exists {T} {periods} {n} {groups} are p within k d lt =
+    let group : List ℕ = get_or groups p [] in
+    let x : ℕ = get_or group k d in
+    let there = list_any_at (λ y. y == x) group k d lt (eq-eqb x x refl) in
+    ltb-true x n (and_parts (nat_lt x n) (stands_in T p x) (sym (are.members p x within) ∙ there)).0
+
+-- the pairs with an exam's group, as the rules on one period say it
+pub one_period_group : {T : Placing} {periods n : ℕ} {groups : List (List ℕ)} → AreGroups T periods n groups → length T ≡ n
+    → (k : ℕ) (q : Place) → place_of T k ≡ Some q → q.period < periods → (share : ℕ → ℕ → Bool) (e f : ℕ)
+    → (has_exam (get_or groups q.period []) f && ((k == e) && (nat_lt e f && share e f)))
+    ≡ ((k == e) && (nat_lt e f && (in_one_period T e f && share e f)))
+one_period_group {T} {periods} {n} {groups} are same k q placed within share e f =
+    ap (λ b. b && ((k == e) && (nat_lt e f && share e f))) (in_group are same q.period f within ∙ sym here)
+    ∙ at (k == e) refl
+  where
+    here : in_one_period T k f ≡ stands_in T q.period f
+    here = ap (λ o. where_both (λ p q. p.period == q.period) o (place_of T f)) placed
+
+    moved : (a b c : Bool) → (a && (b && c)) ≡ (b && (a && c))
+    moved true true c = refl
+    moved true false c = refl
+    moved false true c = refl
+    moved false false c = refl
+
+    at : (b : Bool) → (k == e) ≡ b → (in_one_period T k f && (b && (nat_lt e f && share e f))) ≡ (b && (nat_lt e f && (in_one_period T e f && share e f)))
+    at true is = ap (λ m. in_one_period T m f && (nat_lt e f && share e f)) (eqb-true k e is) ∙ moved (in_one_period T e f) (nat_lt e f) (share e f)
+    at false is = and_false (in_one_period T k f)
+
+-- an exam without a place stands in no period with another
+pub no_period : (T : Placing) (k : ℕ) → place_of T k ≡ None → (share : ℕ → ℕ → Bool) (f : ℕ)
+    → (nat_lt k f && (in_one_period T k f && share k f)) ≡ false
+no_period T k unplaced share f =
+    ap (λ o. nat_lt k f && (where_both (λ p q. p.period == q.period) o (place_of T f) && share k f)) unplaced
+    ∙ and_false (nat_lt k f)
+
+-- the pairs with an exam's group, as the rule on rooms says it
+pub one_place_group : {T : Placing} {periods n : ℕ} {groups : List (List ℕ)} → AreGroups T periods n groups → length T ≡ n
+    → (k : ℕ) (q : Place) → place_of T k ≡ Some q → q.period < periods → (e f : ℕ)
+    → (has_exam (get_or groups q.period []) f && ((k == e) && (not (e == f) && in_one_place T e f)))
+    ≡ ((k == e) && (not (e == f) && in_one_place T e f))
+one_place_group {T} {periods} {n} {groups} are same k q placed within e f =
+    ap (λ b. b && ((k == e) && (not (e == f) && in_one_place T e f))) (in_group are same q.period f within)
+    ∙ at (k == e) refl
+  where
+    -- one room and period is one period
+    place_period : (o : Option Place) → where_both is_one_place (Some q) o ≡ (where_placed (λ x. q.period == x.period) o && where_both is_one_place (Some q) o)
+    place_period None = refl
+    place_period (Some x) = doubled (q.period == x.period) (q.room == x.room)
+      where
+        doubled : (a b : Bool) → (a && b) ≡ (a && (a && b))
+        doubled true b = refl
+        doubled false b = refl
+
+    here : in_one_place T k f ≡ (stands_in T q.period f && in_one_place T k f)
+    here =
+        ap (λ o. where_both is_one_place o (place_of T f)) placed
+        ∙ place_period (place_of T f)
+        ∙ sym (ap (λ o. stands_in T q.period f && where_both is_one_place o (place_of T f)) placed)
+
+    moved : (a b c : Bool) → (a && (b && c)) ≡ (b && (a && c))
+    moved true true c = refl
+    moved true false c = refl
+    moved false true c = refl
+    moved false false c = refl
+
+    at : (b : Bool) → (k == e) ≡ b → (stands_in T q.period f && (b && (not (e == f) && in_one_place T e f))) ≡ (b && (not (e == f) && in_one_place T e f))
+    at true is =
+        moved (stands_in T q.period f) (not (e == f)) (in_one_place T e f)
+        ∙ ap (λ b. not (e == f) && b) (sym (subst (λ m. in_one_place T m f ≡ (stands_in T q.period f && in_one_place T m f)) (eqb-true k e is) here))
+    at false is = and_false (stands_in T q.period f)
+
+-- an exam without a place stands in no room with another
+pub no_place : (T : Placing) (k : ℕ) → place_of T k ≡ None → (e f : ℕ)
+    → false ≡ ((k == e) && (not (e == f) && in_one_place T e f))
+no_place T k unplaced e f = at (k == e) refl
+  where
+    at : (b : Bool) → (k == e) ≡ b → false ≡ (b && (not (e == f) && in_one_place T e f))
+    at true is =
+        sym (ap (λ m. not (e == f) && in_one_place T m f) (sym (eqb-true k e is))
+        ∙ ap (λ o. not (e == f) && where_both is_one_place o (place_of T f)) unplaced
+        ∙ and_false (not (e == f)))
+    at false is = refl

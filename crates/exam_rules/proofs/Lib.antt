@@ -1,0 +1,8 @@
+pub mod OrderLemmas
+pub mod MemberLemmas
+pub mod EnumerationLemmas
+pub mod FindingLemmas
+pub mod PlaceLemmas
+pub mod GroupLemmas
+pub mod LoadLemmas
+pub mod BreachLemmas

@@ -1,0 +1,6 @@
+pub mod Breach
+pub mod Places
+pub mod Groups
+pub mod Loads
+pub mod Lines
+pub mod Breaches

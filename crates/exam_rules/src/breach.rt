@@ -1,0 +1,31 @@
+// What a hard rule's breach says (ITC 2007, hard constraints).
+use exam_model::ExamNo;
+
+/// The hard rules, in the order in which their breaches are listed.
+#[derive(Clone, Copy, Debug, PartialEq, Eq)]
+pub enum BreachRule {
+    /// An exam lasts longer than its period.
+    Duration,
+    /// Two exams share a student and stand in one period.
+    Clash,
+    /// The exams in a room and period have more students than the room holds.
+    Capacity,
+    /// An exam doesn't stand after one that it is to come after.
+    After,
+    /// Two exams that are to stand in one period, and share no student, stand in two.
+    Coincidence,
+    /// Two exams that are to stand in two periods stand in one.
+    Exclusion,
+    /// Another exam stands in the room and period of one that wants its room for itself.
+    RoomExclusive,
+}
+
+/// A rule that two exams break. `Duration` and `Capacity` name one exam twice; `Clash`,
+/// `Coincidence` and `Exclusion` name the smaller exam first; `After` and `RoomExclusive` first
+/// name the first exam of their line.
+#[derive(Clone, Copy, Debug, PartialEq, Eq)]
+pub struct Breach {
+    pub rule: BreachRule,
+    pub exam: ExamNo,
+    pub other: ExamNo,
+}

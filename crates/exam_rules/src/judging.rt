@@ -1,0 +1,64 @@
+// All breaches of a timetable, rule by rule.
+ghost use Rattle.std.specs.Prelude.{◌≡◌, ◌++◌, ◌↔◌, length, map, IfOk, OnOk, IsTrue, Contains};
+ghost use Rattle.std.specs.List.Sorted.{IsStrictlySortedBy};
+ghost use Rattle.exam_rules.specs.declared.breach.Breach.{Breach};
+ghost use Rattle.exam_rules.specs.Breach.{breach, breach_cmp};
+ghost use Rattle.exam_rules.specs.Places.{Fits};
+ghost use Rattle.exam_rules.specs.Breaches.{is_breach, breaches_of};
+
+use crate::breach::{Breach, BreachRule};
+use crate::exam_pair::ExamPair;
+use crate::groups::by_period;
+use crate::line_rules::{after_pairs, coincidence_pairs, exclusion_pairs};
+use crate::period_rules::{clash_pairs, duration_pairs};
+use crate::room_rules::{capacity_pairs, exclusive_pairs};
+use exam_model::{Enrolments, Instance, Timetable};
+use std::alloc::{AllocError, Global};
+
+// Adds the breaches of one rule.
+fn push_all(found: &mut Vec<Breach>, rule: BreachRule, pairs: &[ExamPair]) -> Result<(), AllocError>
+    ensures { OnOk result (found.new.items ≡ found.old.items ++ map (breach rule) pairs.now) }
+{
+    'pairs: for pair in pairs {
+        found.push(Breach {
+            rule,
+            exam: pair.exam,
+            other: pair.other,
+        })?;
+    }
+    Ok(())
+}
+
+/// All breaches of the hard rules: by rule, then by exam, then by the other exam. A rule over an
+/// exam without a place isn't broken, nor is a line that names one exam twice.
+pub fn breaches(
+    alloc: Global,
+    instance: &Instance,
+    enrolments: &Enrolments,
+    timetable: &Timetable,
+) -> Result<Vec<Breach>, AllocError>
+    requires { Fits instance.now enrolments.now timetable.now }
+    ensures members { IfOk result (λ found. (b : Breach) → (Contains found.items b
+        ↔ IsTrue (is_breach instance.now enrolments.now timetable.now b))) }
+    ensures in_order { IfOk result (λ found. IsStrictlySortedBy breach_cmp found.items) }
+    ensures listed { IfOk result (λ found. found.items
+        ≡ breaches_of instance.now enrolments.now timetable.now) }
+{
+    let groups = by_period(alloc, instance, timetable)?;
+    let mut found = Vec::new(alloc);
+    let durations = duration_pairs(alloc, instance, timetable)?;
+    push_all(&mut found, BreachRule::Duration, &durations)?;
+    let clashes = clash_pairs(alloc, instance, enrolments, timetable, &groups)?;
+    push_all(&mut found, BreachRule::Clash, &clashes)?;
+    let capacities = capacity_pairs(alloc, instance, enrolments, timetable)?;
+    push_all(&mut found, BreachRule::Capacity, &capacities)?;
+    let afters = after_pairs(alloc, instance, timetable)?;
+    push_all(&mut found, BreachRule::After, &afters)?;
+    let coincidences = coincidence_pairs(alloc, instance, enrolments, timetable)?;
+    push_all(&mut found, BreachRule::Coincidence, &coincidences)?;
+    let exclusions = exclusion_pairs(alloc, instance, timetable)?;
+    push_all(&mut found, BreachRule::Exclusion, &exclusions)?;
+    let exclusives = exclusive_pairs(alloc, instance, timetable, &groups)?;
+    push_all(&mut found, BreachRule::RoomExclusive, &exclusives)?;
+    Ok(found)
+}

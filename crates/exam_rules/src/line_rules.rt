@@ -1,0 +1,117 @@
+// The rules that lines on two exams state: After, Coincidence and Exclusion.
+ghost use Rattle.std.specs.Prelude.{◌≡◌, ℕ, Bool, ◌&&◌, ◌==◌, not, nat_lt, min, max, length, IfOk};
+ghost use Rattle.std.specs.List.{list_any};
+ghost use Rattle.exam_model.specs.Instance.{PeriodRuleExists};
+ghost use Rattle.exam_model.specs.Enrolments.{Enrolled};
+ghost use Rattle.exam_rules.specs.declared.breach.BreachRule.TheVariants.{After, Coincidence, Exclusion};
+ghost use Rattle.exam_rules.specs.Breach.{is_some_pair};
+ghost use Rattle.exam_rules.specs.Lines.{is_after, is_coincidence, is_exclusion};
+ghost use Rattle.exam_rules.specs.Places.{Fits, in_one_period, in_two_periods, is_not_after, share_student};
+ghost use Rattle.exam_rules.specs.Breaches.{pairs_breaking};
+
+use crate::exam_pair::{ExamPair, in_order, pair_if, push_some};
+use crate::standing::{are_strangers_apart, in_one_period, is_not_after};
+use exam_model::{Enrolments, ExamNo, Instance, PeriodRule, Timetable};
+use std::alloc::{AllocError, Global};
+
+// The pair that breaks the line, if it is an `After`.
+fn broken_after(line: &PeriodRule, timetable: &Timetable) -> Option<ExamPair>
+    requires exists { PeriodRuleExists (length timetable.now) line.now }
+    ensures { (e f : ℕ) → is_some_pair e f result
+        ≡ (is_after e f line.now && (not (e == f) && is_not_after timetable.now e f)) }
+{
+    match line {
+        PeriodRule::After(later, earlier) if later != earlier => {
+            pair_if(is_not_after(timetable, *later, *earlier), *later, *earlier)
+        }
+        _ => None,
+    }
+}
+
+// The pair that breaks the line, if it is a `Coincidence`.
+fn broken_coincidence(
+    line: &PeriodRule,
+    enrolments: &Enrolments,
+    timetable: &Timetable,
+) -> Option<ExamPair>
+    requires exists { PeriodRuleExists (length timetable.now) line.now }
+    requires fits { length enrolments.now ≡ length timetable.now }
+    ensures { (e f : ℕ) → is_some_pair e f result ≡ (is_coincidence e f line.now
+        && (nat_lt e f && (not (share_student enrolments.now e f)
+        && in_two_periods timetable.now e f))) }
+{
+    match line {
+        PeriodRule::Coincidence(a, b) if a < b => {
+            pair_if(are_strangers_apart(enrolments, timetable, *a, *b), *a, *b)
+        }
+        PeriodRule::Coincidence(a, b) if b < a => {
+            pair_if(are_strangers_apart(enrolments, timetable, *b, *a), *b, *a)
+        }
+        _ => None,
+    }
+}
+
+// The pair that breaks the line, if it is an `Exclusion`.
+fn broken_exclusion(line: &PeriodRule, timetable: &Timetable) -> Option<ExamPair>
+    requires exists { PeriodRuleExists (length timetable.now) line.now }
+    ensures { (e f : ℕ) → is_some_pair e f result
+        ≡ (is_exclusion e f line.now && (nat_lt e f && in_one_period timetable.now e f)) }
+{
+    match line {
+        PeriodRule::Exclusion(a, b) if a < b => pair_if(in_one_period(timetable, *a, *b), *a, *b),
+        PeriodRule::Exclusion(a, b) if b < a => pair_if(in_one_period(timetable, *b, *a), *b, *a),
+        _ => None,
+    }
+}
+
+/// The lines `After` that are broken: the first exam doesn't stand in a greater period.
+pub fn after_pairs(
+    alloc: Global,
+    instance: &Instance,
+    timetable: &Timetable,
+) -> Result<Vec<ExamPair>, AllocError>
+    requires { length timetable.now ≡ length instance.now.exams }
+    ensures { (E : Enrolled) → IfOk result (λ found. found.items
+        ≡ pairs_breaking instance.now E timetable.now After) }
+{
+    let mut found = Vec::new(alloc);
+    'lines: for line in instance.period_rules() {
+        push_some(&mut found, broken_after(line, timetable))?;
+    }
+    Ok(in_order(found))
+}
+
+/// The lines `Coincidence` that are broken: the exams share no student and their periods differ.
+pub fn coincidence_pairs(
+    alloc: Global,
+    instance: &Instance,
+    enrolments: &Enrolments,
+    timetable: &Timetable,
+) -> Result<Vec<ExamPair>, AllocError>
+    requires { Fits instance.now enrolments.now timetable.now }
+    ensures { IfOk result (λ found. found.items
+        ≡ pairs_breaking instance.now enrolments.now timetable.now Coincidence) }
+{
+    let mut found = Vec::new(alloc);
+    'lines: for line in instance.period_rules() {
+        push_some(&mut found, broken_coincidence(line, enrolments, timetable))?;
+    }
+    Ok(in_order(found))
+}
+
+/// The lines `Exclusion` that are broken: the exams stand in one period.
+pub fn exclusion_pairs(
+    alloc: Global,
+    instance: &Instance,
+    timetable: &Timetable,
+) -> Result<Vec<ExamPair>, AllocError>
+    requires { length timetable.now ≡ length instance.now.exams }
+    ensures { (E : Enrolled) → IfOk result (λ found. found.items
+        ≡ pairs_breaking instance.now E timetable.now Exclusion) }
+{
+    let mut found = Vec::new(alloc);
+    'lines: for line in instance.period_rules() {
+        push_some(&mut found, broken_exclusion(line, timetable))?;
+    }
+    Ok(in_order(found))
+}

@@ -1,0 +1,58 @@
+// How many students sit in each room and period.
+ghost use Rattle.std.specs.Prelude.{◌≡◌, ◌<◌, ◌≤◌, ◌*◌, length, slice_get, slice_index, IfOk};
+ghost use Rattle.exam_rules.specs.Places.{Fits};
+ghost use Rattle.exam_rules.specs.Loads.{AreLoads, slot_of};
+ghost use Rattle.exam_rules.specs.Breaches.{is_too_small};
+
+use exam_model::{Enrolments, ExamNo, Instance, Place, Timetable};
+use std::alloc::{AllocError, Global};
+
+// A place's entry in the table.
+fn slot_of(instance: &Instance, place: Place) -> usize
+    requires period { place.period < length instance.now.periods }
+    requires room { place.room < length instance.now.rooms }
+    ensures slot { result ≡ slot_of (length instance.now.rooms) place }
+    ensures within { result < length instance.now.periods * length instance.now.rooms }
+{
+    let _periods = instance.periods();
+    let (period, room) = (place.period.get() as usize, place.room.get() as usize);
+    period * instance.rooms() as usize + room
+}
+
+/// The students of each room and period, over all exams that stand there.
+pub fn loads_of(
+    alloc: Global,
+    instance: &Instance,
+    enrolments: &Enrolments,
+    timetable: &Timetable,
+) -> Result<Vec<u64>, AllocError>
+    requires { Fits instance.now enrolments.now timetable.now }
+    ensures { IfOk result (λ loads. AreLoads enrolments.now timetable.now
+        (length instance.now.periods) (length instance.now.rooms) (length instance.now.exams)
+        loads.items) }
+{
+    let places = instance.periods() * instance.rooms();
+    let mut loads = vec![in alloc; 0u64; places as usize]?;
+    'exams: for exam in 0..instance.exams() {
+        let exam = ExamNo::new(exam);
+        let Some(place) = timetable.get(exam) else {
+            continue;
+        };
+        let slot = slot_of(instance, place);
+        let load = loads[slot] + u64::from(enrolments.size(exam));
+        loads[slot] = load;
+    }
+    Ok(loads)
+}
+
+/// Whether a place's room holds fewer students than its entry in the table.
+pub fn is_too_small(instance: &Instance, loads: &[u64], place: Place) -> bool
+    requires period { place.period < length instance.now.periods }
+    requires room { place.room < length instance.now.rooms }
+    requires table { length loads.now ≡ length instance.now.periods * length instance.now.rooms }
+    ensures { result ≡ is_too_small (slice_get instance.now.rooms place.room)
+        (slice_index loads.now (slot_of (length instance.now.rooms) place)) }
+{
+    let room = instance.room(place.room);
+    u64::from(room.capacity) < loads[slot_of(instance, place)]
+}

@@ -1,0 +1,114 @@
+// The rules on rooms: Capacity and RoomExclusive.
+ghost use Rattle.std.specs.Prelude.{◌≡◌, ◌<◌, ℕ, Bool, ◌&&◌, ◌||◌, ◌==◌, not, map, length, All, IfOk, OnOk};
+ghost use Rattle.std.specs.List.{list_any};
+ghost use Rattle.exam_model.specs.Enrolments.{Enrolled};
+ghost use Rattle.exam_rules.specs.declared.breach.BreachRule.TheVariants.{Capacity, RoomExclusive};
+ghost use Rattle.exam_rules.specs.Breach.{is_pair};
+ghost use Rattle.exam_rules.specs.Lines.{is_exclusive};
+ghost use Rattle.exam_rules.specs.Groups.{AreGroups, has_exam};
+ghost use Rattle.exam_rules.specs.Places.{Fits, PlaceExists, in_one_place};
+ghost use Rattle.exam_rules.specs.Breaches.{pairs_breaking};
+
+use crate::exam_pair::{ExamPair, in_order, pair_if, push_some};
+use crate::groups::{Group, group_of};
+use crate::loads::{is_too_small, loads_of};
+use crate::standing::in_one_place;
+use exam_model::{Enrolments, ExamNo, Instance, RoomRule, Timetable};
+use std::alloc::{AllocError, Global};
+
+/// The exams in a room and period that have more students than the room holds, each with itself.
+pub fn capacity_pairs(
+    alloc: Global,
+    instance: &Instance,
+    enrolments: &Enrolments,
+    timetable: &Timetable,
+) -> Result<Vec<ExamPair>, AllocError>
+    requires { Fits instance.now enrolments.now timetable.now }
+    ensures { IfOk result (λ found. found.items
+        ≡ pairs_breaking instance.now enrolments.now timetable.now Capacity) }
+{
+    let loads = loads_of(alloc, instance, enrolments, timetable)?;
+    let mut found = Vec::new(alloc);
+    'exams: for exam in 0..instance.exams() {
+        let exam = ExamNo::new(exam);
+        let Some(place) = timetable.get(exam) else {
+            continue;
+        };
+        let overfull = is_too_small(instance, &loads, place);
+        push_some(&mut found, pair_if(overfull, exam, exam))?;
+    }
+    Ok(in_order(found))
+}
+
+// The exam of each line.
+fn named_exams(alloc: Global, lines: &[RoomRule]) -> Result<Vec<ExamNo>, AllocError>
+    ensures { IfOk result (λ exams. exams.items ≡ map (λ line. line.0) lines.now) }
+{
+    lines.iter().map(|line| line.0).collect(alloc)
+}
+
+// The exams that want their rooms for themselves, each once.
+fn exclusive_exams(alloc: Global, instance: &Instance) -> Result<Vec<ExamNo>, AllocError>
+    ensures members { IfOk result (λ exams. (e : ℕ) → has_exam exams.items e
+        ≡ list_any (is_exclusive e) instance.now.room_rules) }
+    ensures exist { IfOk result (λ exams. All (λ e. e < length instance.now.exams) exams.items) }
+{
+    let mut exams = named_exams(alloc, instance.room_rules())?;
+    exams.sort_unstable();
+    exams.dedup();
+    Ok(exams)
+}
+
+// Whether another exam stands in the room and period of an exam.
+fn is_intruder(timetable: &Timetable, exam: ExamNo, other: ExamNo) -> bool
+    requires exists { exam < length timetable.now }
+    requires other_exists { other < length timetable.now }
+    ensures { result ≡ (not (exam == other) && in_one_place timetable.now exam other) }
+{
+    exam != other && in_one_place(timetable, exam, other)
+}
+
+// Adds the pairs of an exam with others of its group that stand in its room.
+fn add_intruders(
+    found: &mut Vec<ExamPair>,
+    exam: ExamNo,
+    group: &[ExamNo],
+    timetable: &Timetable,
+) -> Result<(), AllocError>
+    requires exists { exam < length timetable.now }
+    requires others_exist { All (λ f. f < length timetable.now) group.now }
+    ensures { OnOk result ((e f : ℕ) → list_any (is_pair e f) found.new.items
+        ≡ (list_any (is_pair e f) found.old.items || (has_exam group.now f
+        && ((exam == e) && (not (e == f) && in_one_place timetable.now e f))))) }
+{
+    'others: for other in group {
+        let intruder = is_intruder(timetable, exam, *other);
+        push_some(found, pair_if(intruder, exam, *other))?;
+    }
+    Ok(())
+}
+
+/// The exams that want their rooms for themselves, each with every other exam there.
+pub fn exclusive_pairs(
+    alloc: Global,
+    instance: &Instance,
+    timetable: &Timetable,
+    groups: &[Group],
+) -> Result<Vec<ExamPair>, AllocError>
+    requires fits { length timetable.now ≡ length instance.now.exams }
+    requires places { All (PlaceExists instance.now) timetable.now }
+    requires grouped { AreGroups timetable.now (length instance.now.periods)
+        (length timetable.now) groups.now }
+    ensures { (E : Enrolled) → IfOk result (λ found. found.items
+        ≡ pairs_breaking instance.now E timetable.now RoomExclusive) }
+{
+    let mut found = Vec::new(alloc);
+    let exclusive = exclusive_exams(alloc, instance)?;
+    'exams: for exam in &exclusive {
+        let Some(place) = timetable.get(*exam) else {
+            continue;
+        };
+        add_intruders(&mut found, *exam, group_of(groups, place.period), timetable)?;
+    }
+    Ok(in_order(found))
+}

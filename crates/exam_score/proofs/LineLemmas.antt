@@ -1,0 +1,96 @@
+-- The table of costs, line by line, and periods beyond it.
+use Rattle.std.proofs.Common.{◌≡◌, ℕ, zero, suc, ◌<◌, ◌≤◌, List, [], ◌∷◌, ◌++◌, length, Some, None, Vec, Global, refl, sym, ◌∙◌, ap, arith, inl, inr, le-ltb, length-append, subst}
+use Rattle.std.specs.Prelude.{slice_get, nat_lt, nat_le, ◌&&◌, ◌==◌, if◌then◌else◌}
+use Rattle.std.proofs.lemmas.Bool.{cases_lt}
+use Rattle.std.proofs.lemmas.Option.{slice_get_past, slice_get_within}
+use Rattle.exam_model.specs.Instance.{Session, gap, share_date}
+use Rattle.exam_model.specs.declared.parts.Period.{Period}
+use Rattle.exam_model.specs.declared.parts.Weights.{Weights}
+use Rattle.exam_model.proofs.SumLemmas.{sum_by-same, sum_by-zeros}
+use Rattle.exam_score.specs.Cost.{row_cost, day_cost, spread_cost}
+use Rattle.exam_score.specs.CostLaws.{row_cost-swap, day_cost-swap, spread_cost-swap}
+use Rattle.exam_score.specs.Lines.{costs_of, IsLine, IsTable}
+use Rattle.exam_score.specs.Walk.{cost_beside}
+use Rattle.exam_score.specs.declared.lines.PairCosts.{PairCosts}
+use Rattle.exam_score.specs.declared.rows.Row.{Row}
+
+-- ---- one more
+
+slice_get-push : {X : Type 0} (xs : List X) (x : X) (q : ℕ) → q ≡ length xs → slice_get (xs ++ x ∷ []) q ≡ Some x
+slice_get-push [] x zero is = refl
+slice_get-push [] x (suc q) is = absurd (omega arith)
+slice_get-push (y ∷ ys) x zero is = absurd (omega arith)
+slice_get-push (y ∷ ys) x (suc q) is = slice_get-push ys x q (omega arith)
+
+slice_get-kept : {X : Type 0} (xs : List X) (x : X) (q : ℕ) → q < length xs → slice_get (xs ++ x ∷ []) q ≡ slice_get xs q
+slice_get-kept [] x q lt = absurd (omega arith)
+slice_get-kept (y ∷ ys) x zero lt = refl
+slice_get-kept (y ∷ ys) x (suc q) lt = slice_get-kept ys x q (omega arith)
+
+pub line_more : (s : Session) (p : ℕ) (line : List PairCosts) → ((q : ℕ) → q < length line → slice_get line q ≡ Some (costs_of s p q))
+    → (q : ℕ) → q < length (line ++ costs_of s p (length line) ∷ []) → slice_get (line ++ costs_of s p (length line) ∷ []) q ≡ Some (costs_of s p q)
+line_more s p line each q lt = elim (cases_lt q (length line)) as (λ _. slice_get (line ++ costs_of s p (length line) ∷ []) q ≡ Some (costs_of s p q)) [
+  | inl before ↦ slice_get-kept line (costs_of s p (length line)) q before ∙ each q before
+  | inr after ↦
+      (let last : q ≡ length line = omega (arith, length-append line (costs_of s p (length line) ∷ [])) in
+      slice_get-push line (costs_of s p (length line)) q last ∙ ap (λ n. Some (costs_of s p n)) (sym last))
+]
+
+pub table_more : (s : Session) (lines : List (Vec PairCosts Global)) (new : Vec PairCosts Global) → IsLine s (length lines) new.items
+    → ((p : ℕ) (line : Vec PairCosts Global) → slice_get lines p ≡ Some line → IsLine s p line.items)
+    → (p : ℕ) (line : Vec PairCosts Global) → slice_get (lines ++ new ∷ []) p ≡ Some line → IsLine s p line.items
+table_more s lines new is each p line found = elim (cases_lt p (length lines)) as (λ _. IsLine s p line.items) [
+  | inl before ↦ each p line (sym (slice_get-kept lines new p before) ∙ found)
+  | inr after ↦
+      (let within = slice_get_within (lines ++ new ∷ []) p line found in
+      let last : p ≡ length lines = omega (arith, length-append lines (new ∷ [])) in
+      let same : Some new ≡ Some line = sym (slice_get-push lines new p last) ∙ found in
+      let one : new ≡ line = cc in
+      subst (λ v. IsLine s p v.items) one (subst (λ n. IsLine s n new.items) (sym last) is))
+]
+
+-- ---- beyond the periods
+
+no_row : (periods : List Period) (weights : Weights) (p q : ℕ) → length periods ≤ q → row_cost periods weights q p ≡ 0
+no_row periods weights p q h = ap (λ o. if share_date o (slice_get periods p) && (gap q p == 1) then weights.row else 0) (slice_get_past periods q h)
+
+no_day : (periods : List Period) (weights : Weights) (p q : ℕ) → length periods ≤ q → day_cost periods weights q p ≡ 0
+no_day periods weights p q h = ap (λ o. if share_date o (slice_get periods p) && nat_le 2 (gap q p) then weights.day else 0) (slice_get_past periods q h)
+
+no_spread : (periods : List Period) (weights : Weights) (p q : ℕ) → length periods ≤ q → spread_cost periods weights q p ≡ 0
+no_spread periods weights p q h = ap (λ b. if (b && nat_lt p (length periods)) && (nat_le 1 (gap q p) && nat_le (gap q p) weights.spread) then 1 else 0) (le-ltb q (length periods) h)
+
+-- a period beyond the line costs nothing
+pub beyond_costs : (s : Session) (p q : ℕ) (line : List PairCosts) → IsLine s p line → slice_get line q ≡ None → costs_of s p q ≡ record { row = 0; day = 0; spread = 0 }
+beyond_costs s p q line is none = λ i. record { row = no_row s.periods s.weights p q past i; day = no_day s.periods s.weights p q past i; spread = no_spread s.periods s.weights p q past i }
+  where
+    past : length s.periods ≤ q
+    past = elim (cases_lt q (length line)) as (λ _. length s.periods ≤ q) [
+      | inl within ↦ absurd (clash (costs_of s p q) (sym none ∙ is.each q within))
+      | inr above ↦ omega (arith, is.count)
+    ]
+      where
+        clash : (x : PairCosts) → None ≡ Some x → ⊥
+        clash x e = cc
+
+-- nor does a row beside a period beyond the table
+beyond_rows : (cost : ℕ → ℕ → ℕ) (p : ℕ) (rows : List Row) → ((q : ℕ) → cost q p ≡ 0) → cost_beside cost p rows ≡ 0
+beyond_rows cost p rows nothing = sum_by-same _ _ (λ (x : Row). nothing x.period) rows ∙ sum_by-zeros rows
+
+pub no_row_beside : (s : Session) (lines : List (Vec PairCosts Global)) (p : ℕ) (rows : List Row) → IsTable s lines → length lines ≤ p
+    → cost_beside (row_cost s.periods s.weights) p rows ≡ 0
+no_row_beside s lines p rows is beyond =
+    let past : length s.periods ≤ p = omega (arith, is.count) in
+    beyond_rows (row_cost s.periods s.weights) p rows (λ q. row_cost-swap s.periods s.weights q p ∙ no_row s.periods s.weights q p past)
+
+pub no_day_beside : (s : Session) (lines : List (Vec PairCosts Global)) (p : ℕ) (rows : List Row) → IsTable s lines → length lines ≤ p
+    → cost_beside (day_cost s.periods s.weights) p rows ≡ 0
+no_day_beside s lines p rows is beyond =
+    let past : length s.periods ≤ p = omega (arith, is.count) in
+    beyond_rows (day_cost s.periods s.weights) p rows (λ q. day_cost-swap s.periods s.weights q p ∙ no_day s.periods s.weights q p past)
+
+pub no_spread_beside : (s : Session) (lines : List (Vec PairCosts Global)) (p : ℕ) (rows : List Row) → IsTable s lines → length lines ≤ p
+    → cost_beside (spread_cost s.periods s.weights) p rows ≡ 0
+no_spread_beside s lines p rows is beyond =
+    let past : length s.periods ≤ p = omega (arith, is.count) in
+    beyond_rows (spread_cost s.periods s.weights) p rows (λ q. spread_cost-swap s.periods s.weights q p ∙ no_spread s.periods s.weights q p past)

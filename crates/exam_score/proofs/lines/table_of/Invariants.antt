@@ -1,0 +1,11 @@
+use Rattle.std.proofs.Common.{◌≡◌, ℕ, length, Some, Vec, Global}
+use Rattle.std.specs.Prelude.{slice_get}
+use Rattle.exam_score.specs.Lines.{IsLine}
+use Rattle.exam_score.specs.declared.lines.PairCosts.{PairCosts}
+use Rattle.exam_score.proofs.lines.table_of.Given as goal
+
+abbrev pub invariant-loop-period : goal.invariant-loop-period
+invariant-loop-period l = record {
+  count : length l.lines.items ≡ l.period;
+  each : (p : ℕ) (line : Vec PairCosts Global) → slice_get l.lines.items p ≡ Some line → IsLine l.instance p line.items;
+}

@@ -1,0 +1,13 @@
+use Rattle.std.proofs.Common.{◌≡◌, ◌≤◌, ◌+◌, length}
+use Rattle.exam_score.specs.Stays.{further}
+use Rattle.exam_score.proofs.mixed.count_further.Given as goal
+
+-- what is counted and what is left make the whole
+abbrev pub invariant-loop-stay : goal.invariant-loop-stay
+invariant-loop-stay l = record {
+  whole : l.count + further l.rest ≡ further l.stays;
+  bounded : l.count + length l.rest ≤ length l.stays;
+}
+
+abbrev pub decreases-loop-stay : goal.decreases-loop-stay
+decreases-loop-stay l = length l.rest

@@ -1,0 +1,25 @@
+-- The sizes of exams as a list.
+use Rattle.std.specs.Prelude.{◌≡◌, ℕ, ◌<◌, Bool, ◌&&◌, ◌||◌, ◌==◌, nat_lt, if◌then◌else◌, List, Option, length, slice_index}
+use Rattle.exam_model.specs.Enrolments.{Enrolled, size_of}
+use Rattle.exam_model.specs.Instance.{Session}
+use Rattle.exam_model.specs.Sums.{count_below}
+use Rattle.exam_model.specs.declared.parts.Place.{Place}
+use Rattle.exam_score.specs.Track.{is_late}
+
+-- the number of students of each exam, in the order of the exams
+pub record AreSizes (E : Enrolled) (sizes : List ℕ) : Type 0 where
+  pub count : length sizes ≡ length E
+  pub each : (e : ℕ) → e < length sizes → slice_index sizes e ≡ size_of E e
+
+-- more students, or as many and a smaller number
+abbrev pub is_larger_by : List ℕ → ℕ → ℕ → Bool
+is_larger_by sizes f e =
+    nat_lt (slice_index sizes e) (slice_index sizes f)
+    || ((slice_index sizes f == slice_index sizes e) && nat_lt f e)
+
+-- what an exam makes of the front load, by the sizes
+abbrev pub front_by : Session → List ℕ → Option Place → ℕ → ℕ
+front_by s sizes at e =
+    if nat_lt (count_below (length sizes) (λ f. is_larger_by sizes f e)) s.weights.front_exams
+    && is_late s at
+    then s.weights.front else 0

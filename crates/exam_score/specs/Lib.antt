@@ -1,0 +1,13 @@
+pub mod Penalty
+pub mod Cost
+pub mod CostLaws
+pub mod Regrouping
+pub mod Personal
+pub mod Track
+pub mod Places
+pub mod Rows
+pub mod Walk
+pub mod Lines
+pub mod PairSums
+pub mod Front
+pub mod Stays

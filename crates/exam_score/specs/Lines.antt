@@ -1,0 +1,25 @@
+-- The costs of all pairs of periods as a table: a line for each period.
+use Rattle.std.specs.Prelude.{◌≡◌, ℕ, ◌<◌, List, length, Some, slice_get}
+use Rattle.std.proofs.Common.{Vec, Global}
+use Rattle.exam_model.specs.Instance.{Session}
+use Rattle.exam_score.specs.Cost.{row_cost, day_cost, spread_cost}
+use Rattle.exam_score.specs.declared.lines.PairCosts.{PairCosts}
+
+-- what two periods cost, for row, day and spread
+abbrev pub costs_of : Session → ℕ → ℕ → PairCosts
+costs_of s p q = record {
+  row = row_cost s.periods s.weights q p;
+  day = day_cost s.periods s.weights q p;
+  spread = spread_cost s.periods s.weights q p;
+}
+
+-- the costs of a period with each period
+pub record IsLine (s : Session) (p : ℕ) (line : List PairCosts) : Type 0 where
+  pub count : length line ≡ length s.periods
+  pub each : (q : ℕ) → q < length line → slice_get line q ≡ Some (costs_of s p q)
+
+-- a line for each period
+pub record IsTable (s : Session) (lines : List (Vec PairCosts Global)) : Type 0 where
+  pub count : length lines ≡ length s.periods
+  pub each : (p : ℕ) (line : Vec PairCosts Global) → slice_get lines p ≡ Some line
+      → IsLine s p line.items

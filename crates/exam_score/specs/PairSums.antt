@@ -1,0 +1,18 @@
+-- The parts that pairs of exams make.
+use Rattle.std.specs.Prelude.{◌≡◌, ◌≤◌}
+use Rattle.exam_model.specs.Instance.{Session}
+use Rattle.exam_model.specs.Enrolments.{Enrolled}
+use Rattle.exam_model.specs.Timetable.{Placing}
+use Rattle.exam_model.specs.Fits.{period_of}
+use Rattle.exam_score.specs.Cost.{row_cost, day_cost, spread_cost}
+use Rattle.exam_score.specs.Regrouping.{pair_part}
+use Rattle.exam_score.specs.declared.walk.PairSums.{PairSums}
+
+-- the numbers are the parts, and none is great
+pub record ArePairParts (s : Session) (E : Enrolled) (t : Placing) (sums : PairSums) : Type 0 where
+  pub row : sums.row ≡ pair_part (row_cost s.periods s.weights) E (period_of t)
+  pub day : sums.day ≡ pair_part (day_cost s.periods s.weights) E (period_of t)
+  pub spread : sums.spread ≡ pair_part (spread_cost s.periods s.weights) E (period_of t)
+  pub few_rows : sums.row ≤ 4000000000000000
+  pub few_days : sums.day ≤ 4000000000000000
+  pub few_spread : sums.spread ≤ 4000000000000000

@@ -1,0 +1,26 @@
+-- Penalties as numbers.
+use Rattle.std.specs.Prelude.{ℕ, ◌+◌}
+
+-- what the pairs of one student's exams cost
+pub record PersonalPenalty : Type 0 where
+  pub row : ℕ
+  pub day : ℕ
+  pub spread : ℕ
+
+-- all three together
+abbrev pub personal_total : PersonalPenalty → ℕ
+personal_total p = p.row + p.day + p.spread
+
+-- the seven parts of a timetable's penalty
+pub record Penalty : Type 0 where
+  pub row : ℕ
+  pub day : ℕ
+  pub spread : ℕ
+  pub mixed : ℕ
+  pub front : ℕ
+  pub period : ℕ
+  pub room : ℕ
+
+-- all seven together
+abbrev pub total_of : Penalty → ℕ
+total_of p = p.row + p.day + p.spread + p.mixed + p.front + p.period + p.room

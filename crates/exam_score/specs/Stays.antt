@@ -1,0 +1,39 @@
+-- Placed exams by period, room and minutes.
+use Rattle.std.specs.Prelude.{◌≡◌, ℕ, ◌<◌, ◌≤◌, Bool, ◌&&◌, ◌==◌, not, if◌then◌else◌, ◌+◌, List, [], ◌∷◌, length, count_by, All}
+use Rattle.exam_model.specs.Instance.{Session}
+use Rattle.exam_model.specs.Timetable.{Placing}
+use Rattle.exam_score.specs.Track.{lasting}
+use Rattle.exam_score.specs.declared.mixed.Stay.{Stay}
+
+-- in this period and room, and so long
+abbrev pub is_stay : ℕ → ℕ → ℕ → Stay → Bool
+is_stay p r m x = ((x.period == p) && (x.room == r)) && (x.minutes == m)
+
+-- its period, room and duration exist
+pub record StayExists (s : Session) (x : Stay) : Type 0 where
+  pub period : x.period < length s.periods
+  pub room : x.room < length s.rooms
+  pub minutes : x.minutes ≤ 1440
+
+-- one for each placed exam
+pub record AreStays (s : Session) (t : Placing) (stays : List Stay) : Type 0 where
+  pub counts : (p r m : ℕ) → count_by (is_stay p r m) stays ≡ lasting s t p r m
+  pub few : length stays ≤ 2000
+  pub exist : All (StayExists s) stays
+
+-- not after it by period, then room, then minutes
+pub record NotAfter (x y : Stay) : Type 0 where
+  pub periods : x.period ≤ y.period
+  pub rooms : x.period ≡ y.period → x.room ≤ y.room
+  pub minutes : x.period ≡ y.period → x.room ≡ y.room → x.minutes ≤ y.minutes
+
+-- 1 where the next one is at the same place and lasts another time
+abbrev pub next_differs : Stay → List Stay → ℕ
+next_differs x [] = 0
+next_differs x (y ∷ ys) =
+    if ((y.period == x.period) && (y.room == x.room)) && not (y.minutes == x.minutes) then 1 else 0
+
+-- how often that is so along a list
+abbrev pub further : List Stay → ℕ
+further [] = 0
+further (x ∷ xs) = next_differs x xs + further xs

@@ -1,0 +1,49 @@
+// The personal penalty.
+ghost use Rattle.std.specs.Prelude.{◌≡◌, ◌*◌, ◌≤◌, length, sum_by};
+ghost use Rattle.exam_score.specs.Personal.{personal_of};
+ghost use Rattle.exam_score.specs.Regrouping.{candidate_cost};
+
+use crate::pair_costs::{DayCost, RowCost, SpreadCost};
+use crate::personal_parts::PersonalParts;
+use exam_model::{Instance, PairCost, PeriodNo};
+
+/// What one candidate's exams cost her, by the periods where they stand: row, day and spread over
+/// all pairs of places in the list. A period beyond the instance costs nothing.
+pub fn personal(instance: &Instance, periods: &[PeriodNo]) -> PersonalParts
+    requires { length periods.now ≤ 2000 }
+    ensures { result ≡ personal_of instance.now.periods instance.now.weights periods.now }
+{
+    let _kept = instance.periods();
+    let row = cost_of_pairs(&RowCost(instance), periods);
+    let day = cost_of_pairs(&DayCost(instance), periods);
+    let spread = cost_of_pairs(&SpreadCost(instance), periods);
+    PersonalParts::of(row, day, spread)
+}
+
+// The cost of all pairs of places.
+fn cost_of_pairs<C: PairCost>(cost: &C, periods: &[PeriodNo]) -> u64
+    requires { length periods.now ≤ 2000 }
+    ensures cost { result ≡ candidate_cost (C.cost_of cost.now) periods.now }
+    ensures small { result ≤ 400000000000 }
+{
+    let mut total = 0;
+    let mut rest = periods;
+    while let Some((period, others)) = rest.split_first() {
+        total += cost_beside(cost, *period, others);
+        rest = others;
+    }
+    total
+}
+
+// What one exam costs beside the others.
+fn cost_beside<C: PairCost>(cost: &C, period: PeriodNo, others: &[PeriodNo]) -> u64
+    requires { length others.now ≤ 2000 }
+    ensures sum { result ≡ sum_by (C.cost_of cost.now period) others.now }
+    ensures small { result ≤ length others.now * 100000 }
+{
+    let mut total = 0;
+    for other in others {
+        total += cost.cost(period, *other);
+    }
+    total
+}

@@ -1,0 +1,96 @@
+// Front load: the largest exams are to come early.
+ghost use Rattle.std.specs.Prelude.{◌≡◌, ◌≤◌, ◌<◌, length, count_by, nat_lt, nat_le, IfOk, Option};
+ghost use Rattle.exam_score.specs.Places.{IsWithin};
+ghost use Rattle.exam_model.specs.Sums.{count_below};
+ghost use Rattle.exam_model.specs.Enrolments.{size_of};
+ghost use Rattle.exam_score.specs.Front.{AreSizes, is_larger_by, front_by};
+ghost use Rattle.exam_score.specs.Track.{front_part, is_late};
+
+use exam_model::{Enrolments, ExamNo, Instance, Place, Timetable};
+use std::alloc::{AllocError, Global};
+
+// The weight for each of the largest exams that stands in one of the last periods.
+#[tactic(auto, using(crate::proofs::FrontLemmas::front_facts))]
+pub fn front_load(
+    alloc: Global,
+    instance: &Instance,
+    enrolments: &Enrolments,
+    timetable: &Timetable,
+) -> Result<u64, AllocError>
+    requires fits { IsWithin instance.now timetable.now }
+    requires exams { length enrolments.now ≡ length instance.now.exams }
+    ensures part { IfOk result (λ n. n ≡ front_part instance.now enrolments.now timetable.now) }
+    ensures small { IfOk result (λ n. n ≤ 200000000) }
+{
+    let sizes = sizes_of(alloc, enrolments)?;
+    let mut total = 0;
+    for exam in 0..enrolments.exams() {
+        let place = timetable.get(ExamNo::new(exam));
+        total += front_of(instance, &sizes, exam, place);
+    }
+    Ok(total)
+}
+
+// What one exam makes of it.
+fn front_of(instance: &Instance, sizes: &[u32], exam: u32, place: Option<Place>) -> u64
+    requires few { length sizes.now ≤ 2000 }
+    requires exists { exam < length sizes.now }
+    ensures front { result ≡ front_by instance.now sizes.now place exam }
+    ensures small { result ≤ 100000 }
+{
+    let weights = instance.weights();
+    if is_late(instance, place) && is_largest(sizes, exam, weights.front_exams) {
+        u64::from(weights.front)
+    } else {
+        0
+    }
+}
+
+// Whether the place is in one of the last periods.
+fn is_late(instance: &Instance, place: Option<Place>) -> bool
+    ensures { result ≡ is_late instance.now place }
+{
+    match place {
+        Some(place) => {
+            let after = u64::from(place.period.get()) + u64::from(instance.weights().front_periods);
+            u64::from(instance.periods()) <= after
+        }
+        None => false,
+    }
+}
+
+// Whether fewer exams than so many come before this one, the greater first, and then the smaller
+// number.
+fn is_largest(sizes: &[u32], exam: u32, most: u32) -> bool
+    requires few { length sizes.now ≤ 2000 }
+    requires exists { exam < length sizes.now }
+    ensures { result
+        ≡ nat_lt (count_below (length sizes.now) (λ f. is_larger_by sizes.now f exam)) most }
+{
+    let size = sizes[exam as usize];
+    let (before, after) = sizes.split_at(exam as usize);
+    count_not_smaller(before, size) + count_larger(after, size) < most as usize
+}
+
+fn count_not_smaller(sizes: &[u32], size: u32) -> usize
+    ensures { result ≡ count_by (λ x. nat_le size x) sizes.now }
+{
+    sizes.iter().filter(|other| size <= **other).count()
+}
+
+fn count_larger(sizes: &[u32], size: u32) -> usize
+    ensures { result ≡ count_by (λ x. nat_lt size x) sizes.now }
+{
+    sizes.iter().filter(|other| size < **other).count()
+}
+
+// The number of each exam's students.
+fn sizes_of(alloc: Global, enrolments: &Enrolments) -> Result<Vec<u32>, AllocError>
+    ensures { IfOk result (λ sizes. AreSizes enrolments.now sizes.items) }
+{
+    let mut sizes = Vec::with_capacity(alloc, enrolments.exams() as usize)?;
+    for exam in 0..enrolments.exams() {
+        sizes.push(enrolments.size(ExamNo::new(exam)))?;
+    }
+    Ok(sizes)
+}

@@ -1,0 +1,18 @@
+// Laws of the penalty: functions with no code, whose contracts are the laws.
+ghost use Rattle.std.specs.Prelude.{◌≡◌, ℕ, List, Option, sum_by};
+ghost use Rattle.exam_model.specs.Enrolments.{Enrolled, AreEnrolments};
+ghost use Rattle.exam_model.specs.Pairs.{pairs_of};
+ghost use Rattle.exam_score.specs.Regrouping.{pair_part, candidate_cost, periods_of, AreStudentsOf};
+
+use exam_model::PairCost;
+
+/// The penalty by pairs of exams is the penalty by students: over all pairs of exams, the
+/// students whom both share times the cost of their periods, and over all students, the cost of
+/// the pairs of her exams.
+pub fn regrouping<C: PairCost>(cost: &C)
+    ensures { (E : Enrolled) (at : ℕ → Option ℕ) (students : List ℕ)
+        → AreEnrolments E → AreStudentsOf E students
+        → pair_part (C.cost_of cost.now) E at
+        ≡ sum_by (λ s. candidate_cost (C.cost_of cost.now) (periods_of (pairs_of E) at s))
+        students }
+{}

@@ -1,0 +1,26 @@
+//! The penalty of a timetable (ITC 2007, examination track).
+#![tactic(auto)]
+
+mod candidate;
+mod front;
+mod laws;
+mod lines;
+mod mixed;
+mod pair_costs;
+mod pairs;
+mod parts;
+mod personal_parts;
+mod places;
+mod rows;
+mod track;
+mod walk;
+
+pub use candidate::personal;
+pub use laws::regrouping;
+pub use pair_costs::{DayCost, RowCost, SpreadCost};
+pub use parts::Parts;
+pub use personal_parts::PersonalParts;
+pub use track::score;
+
+#[cfg(test)]
+mod tests;

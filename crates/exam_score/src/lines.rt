@@ -1,0 +1,72 @@
+// The costs of all pairs of periods, each looked up once.
+ghost use Rattle.std.specs.Prelude.{◌≡◌, ◌<◌, ℕ, length, IfOk};
+ghost use Rattle.exam_score.specs.Lines.{costs_of, IsLine, IsTable};
+
+use crate::pair_costs::{DayCost, RowCost, SpreadCost};
+use exam_model::{Instance, PairCost, PeriodNo};
+use std::alloc::{AllocError, Global};
+
+// What two periods cost.
+#[derive(Clone, Copy)]
+pub struct PairCosts {
+    pub row: u32,
+    pub day: u32,
+    pub spread: u32,
+}
+
+// A line for each period.
+pub fn table_of(alloc: Global, instance: &Instance) -> Result<Vec<Vec<PairCosts>>, AllocError>
+    ensures { IfOk result (λ lines. IsTable instance.now lines.items) }
+{
+    let mut lines = Vec::with_capacity(alloc, instance.periods() as usize)?;
+    for period in 0..instance.periods() {
+        lines.push(line_of(alloc, instance, PeriodNo::new(period))?)?;
+    }
+    Ok(lines)
+}
+
+// The costs of a period with each period.
+fn line_of(
+    alloc: Global,
+    instance: &Instance,
+    period: PeriodNo,
+) -> Result<Vec<PairCosts>, AllocError>
+    ensures { IfOk result (λ line. IsLine instance.now period line.items) }
+{
+    let mut line = Vec::with_capacity(alloc, instance.periods() as usize)?;
+    for other in 0..instance.periods() {
+        line.push(costs_between(instance, period, PeriodNo::new(other)))?;
+    }
+    Ok(line)
+}
+
+fn costs_between(instance: &Instance, period: PeriodNo, other: PeriodNo) -> PairCosts
+    ensures { result ≡ costs_of instance.now period other }
+{
+    PairCosts {
+        row: RowCost(instance).cost(other, period) as u32,
+        day: DayCost(instance).cost(other, period) as u32,
+        spread: SpreadCost(instance).cost(other, period) as u32,
+    }
+}
+
+// The costs of a period with another one, by its line.
+#[tactic(auto, using(crate::proofs::LineLemmas::beyond_costs))]
+pub fn costs_in(
+    instance: &Instance,
+    line: &[PairCosts],
+    period: PeriodNo,
+    other: PeriodNo,
+) -> PairCosts
+    requires { IsLine instance.now period line.now }
+    ensures { result ≡ costs_of instance.now period other }
+{
+    match line.get(other.get() as usize) {
+        Some(costs) => *costs,
+        None => PairCosts {
+            row: 0,
+            day: 0,
+            spread: 0,
+        },
+    }
+}

@@ -1,0 +1,85 @@
+// Mixed durations: exams of different durations in one room and period.
+ghost use Rattle.std.specs.Prelude.{◌≡◌, ◌≤◌, ◌<◌, ◌+◌, length, IfOk, AllPairs, count_by, Some};
+ghost use Rattle.exam_score.specs.Places.{IsWithin};
+ghost use Rattle.exam_score.specs.Stays.{AreStays, next_differs, further};
+ghost use Rattle.exam_score.specs.Track.{mixed_part};
+
+use exam_model::{ExamNo, Instance, PeriodNo, RoomNo, Timetable};
+use std::alloc::{AllocError, Global};
+
+// A placed exam; ordered by period, then room, then minutes.
+#[derive(Clone, Copy, Debug, PartialEq, Eq, PartialOrd, Ord)]
+pub struct Stay {
+    pub period: PeriodNo,
+    pub room: RoomNo,
+    pub minutes: u32,
+}
+
+// The weight for each duration but one of each used room and period.
+pub fn mixed_durations(
+    alloc: Global,
+    instance: &Instance,
+    timetable: &Timetable,
+) -> Result<u64, AllocError>
+    requires fits { IsWithin instance.now timetable.now }
+    ensures part { IfOk result (λ n. n ≡ mixed_part instance.now timetable.now) }
+    ensures small { IfOk result (λ n. n ≤ 200000000) }
+{
+    let mut stays = stays_of(alloc, instance, timetable)?;
+    stays.sort_unstable();
+    Ok(count_further(&stays) * u64::from(instance.weights().mixed))
+}
+
+// How many stays have the place of the next one, and another duration.
+fn count_further(stays: &[Stay]) -> u64
+    requires { length stays.now ≤ 2000 }
+    ensures count { result ≡ further stays.now }
+    ensures small { result ≤ length stays.now }
+{
+    let mut count = 0;
+    let mut rest = stays;
+    while let Some((stay, others)) = rest.split_first() {
+        count += differs_from_next(*stay, others);
+        rest = others;
+    }
+    count
+}
+
+fn differs_from_next(stay: Stay, others: &[Stay]) -> u64
+    ensures differs { result ≡ next_differs stay others.now }
+    ensures small { result ≤ 1 }
+{
+    let Some(next) = others.first() else {
+        return 0;
+    };
+    let one_place = next.period == stay.period && next.room == stay.room;
+    if one_place && next.minutes != stay.minutes {
+        1
+    } else {
+        0
+    }
+}
+
+// The stays of all placed exams.
+#[tactic(auto, using(exam_model::proofs::SumLemmas::sum_below_more))]
+fn stays_of(
+    alloc: Global,
+    instance: &Instance,
+    timetable: &Timetable,
+) -> Result<Vec<Stay>, AllocError>
+    requires fits { IsWithin instance.now timetable.now }
+    ensures { IfOk result (λ stays. AreStays instance.now timetable.now stays.items) }
+{
+    let mut stays = Vec::with_capacity(alloc, timetable.exams() as usize)?;
+    for exam in 0..instance.exams() {
+        let exam = ExamNo::new(exam);
+        if let Some(place) = timetable.get(exam) {
+            stays.push(Stay {
+                period: place.period,
+                room: place.room,
+                minutes: instance.exam(exam).minutes,
+            })?;
+        }
+    }
+    Ok(stays)
+}

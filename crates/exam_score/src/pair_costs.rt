@@ -1,0 +1,71 @@
+// The costs of two exams of one student (ITC 2007, soft constraints).
+ghost use Rattle.std.specs.Prelude.{◌≡◌, ℕ};
+ghost use Rattle.exam_score.specs.Cost.{row_cost, day_cost, spread_cost};
+ghost use Rattle.exam_score.specs.CostLaws.{row_cost_of, row_laws, day_cost_of, day_laws, spread_cost_of, spread_laws};
+
+use exam_model::{Instance, PairCost, PeriodNo};
+
+/// Two exams in a row. A period beyond the instance costs nothing, here and below.
+#[derive(Clone, Copy, Debug)]
+pub struct RowCost<'a>(pub &'a Instance);
+
+/// Two exams in a day, neither in a row nor in one period.
+#[derive(Clone, Copy, Debug)]
+pub struct DayCost<'a>(pub &'a Instance);
+
+/// Two exams within the period spread: 1 for each pair, whatever else it costs.
+#[derive(Clone, Copy, Debug)]
+pub struct SpreadCost<'a>(pub &'a Instance);
+
+impl PairCost for RowCost<'_> {
+    ghost cost_of = { row_cost_of };
+
+    fn cost(&self, one: PeriodNo, other: PeriodNo) -> u64
+        ensures capped { result ≡ row_cost_of self.now one other }
+        ensures case { result ≡ row_cost self.now.0.now.periods self.now.0.now.weights one other }
+    {
+        let adjacent = one.get().abs_diff(other.get()) == 1;
+        let one_day = self.0.same_day(one, other);
+        if one_day && adjacent {
+            u64::from(self.0.weights().row)
+        } else {
+            0
+        }
+    }
+
+    ghost laws = { row_laws };
+}
+
+impl PairCost for DayCost<'_> {
+    ghost cost_of = { day_cost_of };
+
+    fn cost(&self, one: PeriodNo, other: PeriodNo) -> u64
+        ensures capped { result ≡ day_cost_of self.now one other }
+        ensures case { result ≡ day_cost self.now.0.now.periods self.now.0.now.weights one other }
+    {
+        let apart = one.get().abs_diff(other.get()) >= 2;
+        let together = self.0.same_day(one, other);
+        if together && apart {
+            u64::from(self.0.weights().day)
+        } else {
+            0
+        }
+    }
+
+    ghost laws = { day_laws };
+}
+
+impl PairCost for SpreadCost<'_> {
+    ghost cost_of = { spread_cost_of };
+
+    fn cost(&self, one: PeriodNo, other: PeriodNo) -> u64
+        ensures { result ≡ spread_cost_of self.now one other }
+    {
+        let gap = one.get().abs_diff(other.get());
+        let exist = one.get() < self.0.periods() && other.get() < self.0.periods();
+        let close = 1 <= gap && gap <= self.0.weights().spread;
+        if exist && close { 1 } else { 0 }
+    }
+
+    ghost laws = { spread_laws };
+}

@@ -1,0 +1,82 @@
+// The numbers of a personal penalty: contracts see them as a record.
+ghost use Rattle.std.specs.Prelude.{◌≡◌, ◌+◌, ◌^◌, ◌<◌, ◌≤◌, Some, None, IfSome, IfNone};
+ghost use Rattle.exam_score.specs.Penalty.{PersonalPenalty, personal_total};
+
+use crate::parts::TOTAL_LIMIT;
+use std::marker::Model;
+
+/// What the pairs of one candidate's exams cost her. The total is below 2^62.
+#[derive(Clone, Copy, Debug, PartialEq, Eq)]
+pub struct PersonalParts {
+    row: u64,
+    day: u64,
+    spread: u64,
+}
+
+impl Model for PersonalParts {
+    ghost Value = { PersonalPenalty };
+
+    ghost view = { λ a. record { row = a.row; day = a.day; spread = a.spread } };
+
+    ghost invariant = { λ a. a.row + a.day + a.spread < 2 ^ 62 };
+
+    ghost inverse = { λ p. record { row = p.row; day = p.day; spread = p.spread } };
+}
+
+impl PersonalParts {
+    /// The parts of these numbers, unless their total reaches 2^62.
+    pub fn new(row: u64, day: u64, spread: u64) -> Option<PersonalParts>
+        ensures made { IfSome result (λ parts. parts ≡ record {
+          row = row;
+          day = day;
+          spread = spread;
+        }) }
+        ensures within { IfSome result (λ parts. personal_total parts < 2 ^ 62) }
+        ensures beyond { IfNone result (2 ^ 62 ≤ row + day + spread) }
+    {
+        let total = row.checked_add(day)?.checked_add(spread)?;
+        if total < TOTAL_LIMIT {
+            Some(PersonalParts { row, day, spread })
+        } else {
+            None
+        }
+    }
+
+    // The same, where the numbers are known to be small.
+    pub(crate) fn of(row: u64, day: u64, spread: u64) -> PersonalParts
+        requires { row + day + spread < 2 ^ 62 }
+        ensures { result ≡ record { row = row; day = day; spread = spread } }
+    {
+        PersonalParts { row, day, spread }
+    }
+
+    /// For exams in a row.
+    pub fn row(&self) -> u64
+        ensures { result ≡ self.now.row }
+    {
+        self.row
+    }
+
+    /// For exams in a day.
+    pub fn day(&self) -> u64
+        ensures { result ≡ self.now.day }
+    {
+        self.day
+    }
+
+    /// For exams within the period spread.
+    pub fn spread(&self) -> u64
+        ensures { result ≡ self.now.spread }
+    {
+        self.spread
+    }
+
+    /// All three together.
+    pub fn total(&self) -> u64
+        ensures total { result ≡ personal_total self.now }
+        ensures within { result < 2 ^ 62 }
+    {
+        let same_day = self.row + self.day;
+        same_day + self.spread
+    }
+}

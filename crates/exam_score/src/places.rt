@@ -1,0 +1,53 @@
+// What periods and rooms cost.
+ghost use Rattle.std.specs.Prelude.{◌≡◌, ◌<◌, ◌≤◌, length, slice_get};
+ghost use Rattle.exam_score.specs.Places.{IsWithin};
+ghost use Rattle.exam_score.specs.Track.{period_penalty, room_penalty, period_part, room_part};
+
+use exam_model::{ExamNo, Instance, PeriodNo, RoomNo, Timetable};
+
+// The penalties of the exams' periods, and those of their rooms.
+#[derive(Clone, Copy)]
+pub struct PlaceSums {
+    pub periods: u64,
+    pub rooms: u64,
+}
+
+// Each placed exam costs what its period and its room cost.
+#[tactic(auto, using(exam_model::proofs::SumLemmas::sum_below_more))]
+pub fn place_penalties(instance: &Instance, timetable: &Timetable) -> PlaceSums
+    requires fits { IsWithin instance.now timetable.now }
+    ensures periods { result.periods ≡ period_part instance.now timetable.now }
+    ensures rooms { result.rooms ≡ room_part instance.now timetable.now }
+    ensures small_periods { result.periods ≤ 200000000 }
+    ensures small_rooms { result.rooms ≤ 200000000 }
+{
+    let mut sums = PlaceSums {
+        periods: 0,
+        rooms: 0,
+    };
+    for exam in 0..timetable.exams() {
+        if let Some(place) = timetable.get(ExamNo::new(exam)) {
+            sums.periods += penalty_of_period(instance, place.period);
+            sums.rooms += penalty_of_room(instance, place.room);
+        }
+    }
+    sums
+}
+
+fn penalty_of_period(instance: &Instance, period: PeriodNo) -> u64
+    requires exists { period < length instance.now.periods }
+    ensures penalty { result ≡ period_penalty (slice_get instance.now.periods period) }
+    ensures small { result ≤ 100000 }
+{
+    let _kept = instance.periods();
+    u64::from(instance.period(period).penalty)
+}
+
+fn penalty_of_room(instance: &Instance, room: RoomNo) -> u64
+    requires exists { room < length instance.now.rooms }
+    ensures penalty { result ≡ room_penalty (slice_get instance.now.rooms room) }
+    ensures small { result ≤ 100000 }
+{
+    let _kept = instance.rooms();
+    u64::from(instance.room(room).penalty)
+}

@@ -1,0 +1,7 @@
+use Rattle.examoffice.proofs.CheckFacts.{of_input}
+use Rattle.examoffice.proofs.checking.instance_of.Goals as goal
+
+pub returns-clause-reading : goal.returns-clause-reading
+returns-clause-reading g c =
+    of_input _ _ _ _ c.in_ok-text.ensures.whole c.deref.ensures.value
+    c.in_ok-read_instance.ensures.reading

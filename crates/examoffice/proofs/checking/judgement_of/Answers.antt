@@ -1,0 +1,12 @@
+use Rattle.examoffice.proofs.CheckFacts.{judged, solution_refused}
+use Rattle.examoffice.proofs.checking.judgement_of.Goals as goal
+
+pub returns-in-Ok-judge-clause-ok : goal.returns-in-Ok-judge-clause-ok
+returns-in-Ok-judge-clause-ok g c =
+    judged _ _ _ _ _ _ _ c.in-Ok.ensures.reading c.in-Ok-solution_of.ensures.reading
+    c.in-Ok-judge.ensures.text c.in-Ok-judge.ensures.status
+
+pub returns-in-Err-solution_of-clause-refused : goal.returns-in-Err-solution_of-clause-refused
+returns-in-Err-solution_of-clause-refused g c =
+    solution_refused _ _ _ _ c.in-Err-solution_of.fault _ c.in-Ok.ensures.reading
+    c.in-Err-solution_of.ensures.refused c.of_solution.ensures

@@ -1,0 +1,4 @@
+pub mod Reports
+pub mod Check
+pub mod Inputs
+pub mod Program

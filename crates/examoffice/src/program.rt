@@ -1,0 +1,141 @@
+// The whole program, over a file system and two writers.
+ghost use Rattle.std.specs.Prelude.{◌≡◌, ◌≢◌, ◌≤◌, ◌↔◌, ◌⊎◌, [], IfOk, map, string_bytes};
+ghost use Rattle.std.specs.IoError.{error_kind};
+ghost use Rattle.std.specs.declared.io.ErrorKind.TheVariants as failure;
+ghost use Rattle.clap.specs.Words.{kind_of};
+ghost use Rattle.clap.specs.Faults.{fault_of};
+ghost use Rattle.clap.specs.declared.error.kind.ErrorKind.TheVariants as kind;
+ghost use Rattle.examoffice.specs.Program.{AreAnswered, IsMistake, program};
+
+use crate::checking::{CheckFault, check_run};
+use crate::words::{Task, read_words};
+use clap::Error;
+use clap::error::ErrorKind;
+use office_files::FileFault;
+use std::io::Write;
+use std::rt::Files;
+use std::{fmt, fs, io};
+
+// What ends the program with status 1; it shows as the line that is printed.
+#[derive(Clone, Copy, Debug, PartialEq, Eq)]
+enum ProgramFault<'a> {
+    CannotRead(&'a str),
+    Instance(FileFault),
+    Solution(FileFault),
+    CannotWrite,
+    NoMemory,
+}
+
+impl fmt::Display for ProgramFault<'_> {
+    fn fmt<W: fmt::Write>(&self, f: &mut fmt::Formatter<W>) -> fmt::Result {
+        f.write_str("examoffice: ")?;
+        match self {
+            ProgramFault::CannotRead(path) => write!(f, "cannot read {path}"),
+            ProgramFault::Instance(FileFault { line, what }) => {
+                write!(f, "instance line {line}: fault {}", *what as u8)
+            }
+            ProgramFault::Solution(FileFault { line, what }) => {
+                write!(f, "solution line {line}: fault {}", *what as u8)
+            }
+            ProgramFault::CannotWrite => f.write_str("cannot write"),
+            ProgramFault::NoMemory => f.write_str("no memory"),
+        }
+    }
+}
+
+// `check`. Both files are open before either is read.
+fn check<'a, R: Files + AllocGlobal, W: Write>(
+    rt: &R,
+    instance: &'a str,
+    solution: &'a str,
+    out: &mut W,
+) -> Result<u8, ProgramFault<'a>>
+    ensures { IfOk result (λ status. (status ≡ 0) ⊎ (status ≡ 3)) }
+{
+    let Ok(mut instance_file) = fs::open(rt, instance) else {
+        return Err(ProgramFault::CannotRead(instance));
+    };
+    let Ok(mut solution_file) = fs::open(rt, solution) else {
+        return Err(ProgramFault::CannotRead(solution));
+    };
+    match check_run(rt.alloc(), &mut instance_file, &mut solution_file, out) {
+        Ok(status) => Ok(status),
+        Err(fault) => Err(match fault {
+            CheckFault::ReadInstance => ProgramFault::CannotRead(instance),
+            CheckFault::ReadSolution => ProgramFault::CannotRead(solution),
+            CheckFault::Instance(fault) => ProgramFault::Instance(fault),
+            CheckFault::Solution(fault) => ProgramFault::Solution(fault),
+            CheckFault::Write => ProgramFault::CannotWrite,
+            CheckFault::NoMemory => ProgramFault::NoMemory,
+        }),
+    }
+}
+
+// Prints the line of a fault. Where that fails too, nothing more can be done.
+fn complain<W: Write>(fault: ProgramFault<'_>, err: &mut W) -> u8
+    ensures { result ≡ 1 }
+{
+    let _ = writeln!(err, "{fault}");
+    1
+}
+
+// Answers words that are no command: a mistake in them, or a call for help.
+fn refuse_words<O: Write, E: Write>(error: &Error, out: &mut O, err: &mut E) -> u8
+    ensures within { result ≤ 2 }
+    ensures help { result ≡ 0 → (kind_of error.now ≡ kind.DisplayHelp)
+        ⊎ (kind_of error.now ≡ kind.DisplayVersion) }
+    ensures mistake { (result ≡ 2) ↔ IsMistake (kind_of error.now) }
+{
+    if error.kind() == ErrorKind::OutOfMemory {
+        return complain(ProgramFault::NoMemory, err);
+    }
+    if error.use_stderr() {
+        let _ = write!(err, "{error}");
+        return 2;
+    }
+    match write!(out, "{error}") {
+        Ok(()) => 0,
+        Err(_) => complain(ProgramFault::CannotWrite, err),
+    }
+}
+
+// Answers a command line that is no list of texts.
+pub fn refuse_arguments<E: Write>(fault: &io::Error, err: &mut E) -> u8
+    ensures { (result ≡ 1) ↔ (error_kind fault.now ≡ failure.OutOfMemory) }
+{
+    if fault.kind() == io::ErrorKind::OutOfMemory {
+        return complain(ProgramFault::NoMemory, err);
+    }
+    let _ = writeln!(err, "error: the words are not all UTF-8");
+    2
+}
+
+/// Does what the words say, of which the first is the program's name, and answers the exit
+/// status: 0 done, 1 a fault of a file, of `out` or of memory, 2 a mistake in the words, 3 a
+/// solution that breaks a hard rule. The line of a fault and the text of a mistake go to `err`,
+/// all else goes to `out`.
+pub fn run_program<R: Files + AllocGlobal, O: Write, E: Write>(
+    rt: &R,
+    words: &[String],
+    out: &mut O,
+    err: &mut E,
+) -> u8
+    ensures within { result ≤ 3 }
+
+    // Done is a command or a call for help, and a mistake in the words is one that clap finds.
+    ensures answered { result ≡ 0 → AreAnswered (map string_bytes words.now) }
+    ensures mistake { result ≡ 2 → fault_of program (map string_bytes words.now) ≢ [] }
+    ensures broken { result ≡ 3 → fault_of program (map string_bytes words.now) ≡ [] }
+{
+    let task = match read_words(rt.alloc(), words) {
+        Ok(task) => task,
+        Err(error) => return refuse_words(&error, out, err),
+    };
+    let done = match &task {
+        Task::Check(instance, solution) => check(rt, instance, solution, out),
+    };
+    match done {
+        Ok(status) => status,
+        Err(fault) => complain(fault, err),
+    }
+}
