@@ -39,17 +39,15 @@ pub record IsReadOf (fields : List (List ℕ)) (minutes : ℕ) (names : List ℕ
   pub fault_is : fault ≡ fault_in (rest fields)
 
 -- what the calls on a line tell of it
-pub read_of : (fields now tail : List (List ℕ)) (field : List ℕ) (minutes : ℕ)
+pub read_of : (fields now tail : List (List ℕ)) (minutes : ℕ)
     (order sorted names : List ℕ) (fault : Option FaultKind) →
-    now ≡ fields → field ≡ first now → tail ≡ rest now → Ok minutes ≡ number 1440 field →
+    now ≡ fields → Ok minutes ≡ number 1440 (first now) → tail ≡ rest now →
     order ≡ named_in tail → fault ≡ fault_in tail → IsPermutation order sorted → names ≡ sorted →
     IsReadOf fields minutes names fault
-read_of fields now tail field minutes order sorted names fault all one others is in_order faulty
-    moved same =
-    let here : field ≡ first fields = one ∙ ap first all in
+read_of fields now tail minutes order sorted names fault all is others in_order faulty moved same =
     let behind : tail ≡ rest fields = others ∙ ap rest all in
     record {
-      minutes_are = ap (number 1440) (sym here) ∙ sym is;
+      minutes_are = ap (λ xs. number 1440 (first xs)) (sym all) ∙ sym is;
       order = order;
       in_order = in_order ∙ ap named_in behind;
       moved = rw same moved;

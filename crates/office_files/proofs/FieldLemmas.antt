@@ -38,7 +38,7 @@ onto_first_some : (b : ℕ) (xs : List (List ℕ)) → 0 < length (onto_first b 
 onto_first_some b [] = omega arith
 onto_first_some b (x ∷ xs) = omega arith
 
-parts_some : (c : ℕ) (bs : List ℕ) → 0 < length bs → 0 < length (ended_parts c bs)
+pub parts_some : (c : ℕ) (bs : List ℕ) → 0 < length bs → 0 < length (ended_parts c bs)
 parts_some c [] some = absurd (omega arith)
 parts_some c (b ∷ bs) some =
     elim (b == c) as (λ v.

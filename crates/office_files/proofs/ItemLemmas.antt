@@ -1,5 +1,5 @@
 -- What one line adds to the reading of lines.
-use Rattle.std.proofs.Common.{◌≡◌, ℕ, zero, suc, ◌+◌, ◌-◌, ◌<◌, ◌≤◌, List, [], ◌∷◌, ◌++◌, length, take, drop, Result, Ok, Err, refl, ap, sym, ◌∙◌, arith}
+use Rattle.std.proofs.Common.{◌≡◌, ℕ, suc, ◌+◌, ◌-◌, ◌<◌, List, [], ◌∷◌, ◌++◌, take, Result, Ok, Err, refl, ap, sym, ◌∙◌, arith}
 use Rattle.office_files.specs.Fields.{fields_of}
 use Rattle.office_files.specs.Lines.{Located}
 use Rattle.office_files.specs.Reading.{items_of}

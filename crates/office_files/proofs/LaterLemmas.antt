@@ -1,5 +1,5 @@
 -- The sections behind that of the exams, read one after another.
-use Rattle.std.proofs.Common.{◌≡◌, ℕ, List, length, Result, Ok, Err, refl}
+use Rattle.std.proofs.Common.{◌≡◌, ℕ, List, length, Ok, Err, refl}
 use Rattle.exam_model.specs.declared.parts.Period.{Period}
 use Rattle.exam_model.specs.declared.parts.Room.{Room}
 use Rattle.exam_model.specs.declared.rules.PeriodRule.{PeriodRule}

@@ -8,6 +8,7 @@ mod ItemLemmas
 mod LaterLemmas
 mod LineLemmas
 mod OrderLaws
+mod ReadOnLemmas
 mod SectionLemmas
 mod SliceLaws
 mod SolutionLemmas

@@ -1,5 +1,5 @@
 -- A timetable whose exams stand at these places.
-use Rattle.std.proofs.Common.{◌≡◌, ℕ, zero, suc, ◌+◌, ◌<◌, List, [], ◌∷◌, length, Option, Some, None, refl, ap, sym, ◌∙◌, arith}
+use Rattle.std.proofs.Common.{◌≡◌, ℕ, suc, ◌<◌, List, [], ◌∷◌, length, Some, refl, arith}
 use Rattle.std.specs.Prelude.{map, slice_get}
 use Rattle.exam_model.specs.Timetable.{Placing, place_of}
 use Rattle.exam_model.specs.declared.parts.Place.{Place}

@@ -1,5 +1,5 @@
 -- What an instance file spells, and how it is read (ITC 2007, input format).
-use Rattle.std.specs.Prelude.{◌≡◌, ℕ, ◌+◌, ◌≤◌, nat_le, List, [], ◌∷◌, map, length, codes, Option, None, Some, Result, Ok, Err}
+use Rattle.std.specs.Prelude.{◌≡◌, ℕ, ◌+◌, ◌≤◌, nat_le, List, [], ◌∷◌, map, length, codes, None, Some, Result, Ok, Err}
 use Rattle.exam_model.specs.Refusing.{◌>>=◌, unless}
 use Rattle.exam_model.specs.Enrolments.{Enrolled}
 use Rattle.exam_model.specs.Instance.{Session}
@@ -15,7 +15,6 @@ use Rattle.office_files.specs.Sections.{Heading, IsSection, section_in}
 use Rattle.office_files.specs.Weightings.{weighting_line, with_weightings, no_weights}
 use Rattle.office_files.specs.declared.counts.Counts.{Counts}
 use Rattle.office_files.specs.declared.weightings.Weighting.{Weighting}
-use Rattle.office_files.specs.declared.fault.FaultKind.{FaultKind}
 use Rattle.office_files.specs.declared.fault.FaultKind.TheVariants.{TooLong, StrayText}
 use Rattle.office_files.specs.declared.fault.FileFault.{FileFault}
 

@@ -1,6 +1,7 @@
 pub mod Faults
 pub mod Fields
 pub mod Numbers
+pub mod Digits
 pub mod Dates
 pub mod Lines
 pub mod Tokens

@@ -15,9 +15,10 @@ read_on n (d ∷ ds) = read_on (10 * n + (d - 48)) ds
 abbrev pub is_number : List ℕ → Bool
 is_number text = nat_lt 0 (length text) && list_all is_ascii_digit text
 
+-- a number, where it is of at most the limit
+abbrev pub at_most : ℕ → ℕ → Result ℕ FaultKind
+at_most limit n = if nat_le n limit then Ok n else Err OutOfRange
+
 -- a number of at most the limit, or its fault
 abbrev pub number : ℕ → List ℕ → Result ℕ FaultKind
-number limit text =
-    if is_number text
-    then (if nat_le (read_on 0 text) limit then Ok (read_on 0 text) else Err OutOfRange)
-    else Err BadNumber
+number limit text = if is_number text then at_most limit (read_on 0 text) else Err BadNumber

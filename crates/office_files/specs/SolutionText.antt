@@ -1,5 +1,5 @@
 -- What a solution file spells, and how it is read (ITC 2007, output format).
-use Rattle.std.specs.Prelude.{◌≡◌, ℕ, ◌+◌, ◌≤◌, ◌==◌, nat_le, List, [], ◌∷◌, map, length, Option, Some, Result, Ok, Err}
+use Rattle.std.specs.Prelude.{◌≡◌, ℕ, ◌+◌, ◌≤◌, ◌==◌, nat_le, List, [], map, length, Some, Result, Ok}
 use Rattle.exam_model.specs.Refusing.{◌>>=◌, unless}
 use Rattle.exam_model.specs.Instance.{Session}
 use Rattle.exam_model.specs.Timetable.{Placing}
@@ -8,7 +8,6 @@ use Rattle.office_files.specs.Items.{place_line}
 use Rattle.office_files.specs.Lines.{lines_of, line_count}
 use Rattle.office_files.specs.Reading.{at_line, items_of, Spell}
 use Rattle.office_files.specs.declared.counts.Counts.{Counts}
-use Rattle.office_files.specs.declared.fault.FaultKind.{FaultKind}
 use Rattle.office_files.specs.declared.fault.FaultKind.TheVariants.{TooLong, CountMismatch}
 use Rattle.office_files.specs.declared.fault.FileFault.{FileFault}
 

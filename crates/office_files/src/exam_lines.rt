@@ -3,7 +3,7 @@ ghost use Rattle.std.specs.Prelude.{◌≡◌, ◌≢◌, ◌<◌, ◌≤◌, �
 ghost use Rattle.std.specs.Prelude.{OnOk, IfOk, IfErr, Err};
 ghost use Rattle.exam_model.specs.Enrolments.{AreEnrolments, pair_count};
 ghost use Rattle.office_files.specs.Faults.{IsOfNoLine};
-ghost use Rattle.office_files.specs.Fields.{fields_of};
+ghost use Rattle.office_files.specs.Fields.{fields_of, first, rest};
 ghost use Rattle.office_files.specs.Numbers.{number};
 ghost use Rattle.office_files.specs.Reading.{items_of};
 ghost use Rattle.office_files.specs.ExamLines.{exam_line, exam_behind, SaysExams};
@@ -13,15 +13,16 @@ ghost use Rattle.office_files.specs.ExamLines.{named_in, fault_in};
 use crate::fault::{FaultKind, FileFault};
 use crate::fields::Fields;
 use crate::lines::Lines;
-use crate::numbers::number;
 use exam_model::{Enrolments, Exam, ExamNo, ModelFault, StudentNo};
 use std::alloc::{AllocError, Global};
 
-// The student whom a field names.
-fn student_in(field: &[u8]) -> Result<StudentNo, FaultKind>
-    ensures { result ≡ number 999999999 field.now }
+// The student whom the next field names.
+#[inline]
+fn next_student(fields: &mut Fields<'_>) -> Result<StudentNo, FaultKind>
+    ensures student { result ≡ number 999999999 (first fields.old) }
+    ensures left { fields.new ≡ rest fields.old }
 {
-    let value = number(field, 999_999_999)?;
+    let value = fields.next_number(999_999_999)?;
     StudentNo::new(value).ok_or(FaultKind::OutOfRange)
 }
 
@@ -35,7 +36,7 @@ fn gather(
 {
     named.clear();
     'fields: while !fields.is_empty() {
-        match student_in(fields.next()) {
+        match next_student(&mut fields) {
             Ok(student) => named.push(student)?,
             Err(what) => return Ok(Some(what)),
         }
@@ -86,7 +87,7 @@ fn exam_line(
         → exam_behind (pair_count enrolments.old) (fields_of line.now) ≡ Err what) }
 {
     let mut fields = Fields::new(line);
-    let minutes = number(fields.next(), 1440)?;
+    let minutes = fields.next_number(1440)?;
     let Ok(fault) = gather(fields, named) else {
         return Err(FaultKind::NoMemory);
     };

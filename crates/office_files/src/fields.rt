@@ -2,8 +2,11 @@
 ghost use Rattle.std.specs.Prelude.{◌≡◌, ◌<◌, ◌≤◌, ◌+◌, ◌∷◌, [], List, ℕ, length, IsTrue, ◌↔◌};
 ghost use Rattle.office_files.specs.Fields.{ended_parts, is_blank, trim_start, trim_end, trimmed};
 ghost use Rattle.office_files.specs.Fields.{fields_of, first, rest, ended};
+ghost use Rattle.office_files.specs.Numbers.{number};
 
+use crate::digits::{behind_space, first_digits};
 use crate::fault::FaultKind;
+use crate::numbers::{number, within};
 use std::marker::Model;
 
 /// The bytes before the first mark, and those behind it; without a mark the text is the first part.
@@ -105,6 +108,29 @@ impl<'a> Fields<'a> {
         let (field, left) = cut(self.left, b',');
         self.left = left;
         trimmed(field)
+    }
+
+    /// The number of at most the limit that the next field says; a missing field says none.
+    #[inline(always)]
+    pub fn next_number(&mut self, limit: u32) -> Result<u32, FaultKind>
+        ensures number { result ≡ number limit (first self.old) }
+        ensures left { self.new ≡ rest self.old }
+    {
+        if let Some((value, behind)) = first_digits(behind_space(self.left)) {
+            self.left = behind;
+            return within(value, limit);
+        }
+        self.other_number(limit)
+    }
+
+    // The same of any field: the last of a line, a faulty or long one, one between other blanks.
+    #[cold]
+    #[inline(never)]
+    fn other_number(&mut self, limit: u32) -> Result<u32, FaultKind>
+        ensures number { result ≡ number limit (first self.old) }
+        ensures left { self.new ≡ rest self.old }
+    {
+        number(self.next(), limit)
     }
 
     /// Whether no field is left.

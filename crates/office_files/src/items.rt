@@ -8,7 +8,6 @@ use crate::counts::Counts;
 use crate::dates::{date_of, time_of};
 use crate::fault::FaultKind;
 use crate::fields::{Fields, ended};
-use crate::numbers::number;
 use crate::rule_word::{rule_by, rule_word};
 use crate::words::same_word;
 use exam_model::{ExamNo, Period, PeriodNo, PeriodRule, Place, Room, RoomNo, RoomRule};
@@ -33,8 +32,8 @@ impl LineItem for Period {
         let mut fields = Fields::new(line);
         let date = date_of(fields.next())?;
         let (hour, minute, second) = time_of(fields.next())?;
-        let length = number(fields.next(), 1440)?;
-        let penalty = number(fields.next(), 100_000)?;
+        let length = fields.next_number(1440)?;
+        let penalty = fields.next_number(100_000)?;
         ended(fields)?;
         Ok(Period {
             date,
@@ -54,8 +53,8 @@ impl LineItem for Room {
 
     fn read(_counts: Counts, _before: &[Room], line: &[u8]) -> Result<Room, FaultKind> {
         let mut fields = Fields::new(line);
-        let capacity = number(fields.next(), 100_000)?;
-        let penalty = number(fields.next(), 100_000)?;
+        let capacity = fields.next_number(100_000)?;
+        let penalty = fields.next_number(100_000)?;
         ended(fields)?;
         Ok(Room { capacity, penalty })
     }
@@ -72,9 +71,9 @@ impl LineItem for PeriodRule {
         }
         let mut fields = Fields::new(line);
         let last = counts.exams.saturating_sub(1);
-        let one = number(fields.next(), last)?;
+        let one = fields.next_number(last)?;
         let word = rule_word(fields.next())?;
-        let other = number(fields.next(), last)?;
+        let other = fields.next_number(last)?;
         ended(fields)?;
         Ok(rule_by(word, one, other))
     }
@@ -90,7 +89,7 @@ impl LineItem for RoomRule {
             return Err(FaultKind::OutOfRange);
         }
         let mut fields = Fields::new(line);
-        let exam = number(fields.next(), counts.exams.saturating_sub(1))?;
+        let exam = fields.next_number(counts.exams.saturating_sub(1))?;
         if !same_word(fields.next(), b"ROOM_EXCLUSIVE") {
             return Err(FaultKind::BadWord);
         }
@@ -109,8 +108,8 @@ impl LineItem for Place {
             return Err(FaultKind::CountMismatch);
         }
         let mut fields = Fields::new(line);
-        let period = number(fields.next(), counts.periods.saturating_sub(1))?;
-        let room = number(fields.next(), counts.rooms.saturating_sub(1))?;
+        let period = fields.next_number(counts.periods.saturating_sub(1))?;
+        let room = fields.next_number(counts.rooms.saturating_sub(1))?;
         ended(fields)?;
         Ok(Place {
             period: PeriodNo::new(period),

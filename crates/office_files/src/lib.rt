@@ -3,6 +3,7 @@
 
 mod counts;
 mod dates;
+mod digits;
 mod exam_lines;
 mod fault;
 mod fields;

@@ -1,11 +1,22 @@
 // Reading a field as a number.
 ghost use Rattle.std.specs.Prelude.{◌≡◌};
-ghost use Rattle.office_files.specs.Numbers.{number};
+ghost use Rattle.office_files.specs.Numbers.{number, at_most};
 
 use crate::fault::FaultKind;
 
 // Above every limit, and far below where a u64 ends.
 const PAST_ALL: u64 = 1 << 32;
+
+/// The number, where it is of at most the limit.
+#[inline]
+pub fn within(value: u32, limit: u32) -> Result<u32, FaultKind>
+    ensures { result ≡ at_most limit value }
+{
+    if value > limit {
+        return Err(FaultKind::OutOfRange);
+    }
+    Ok(value)
+}
 
 /// The number that a field says in digits, of at most the limit.
 pub fn number(text: &[u8], limit: u32) -> Result<u32, FaultKind>

@@ -10,9 +10,9 @@ returns-in-None-clause-ok c =
     let minutes = c.in_ok-minutes.minutes in
     let names = c.deref.result.now in
     let read =
-    read_of fields c.new-fields.result c.next.new.self c.next.result.now minutes
+    read_of fields c.new-fields.result c.next_number.new.self minutes
     c.gather.new.named.items c.sort_unstable.new.self.items names c.in-Ok.fault
-    c.new-fields.ensures c.next.ensures.field c.next.ensures.left c.in_ok-minutes.ensures
+    c.new-fields.ensures c.in_ok-minutes.ensures.number c.in_ok-minutes.ensures.left
     c.in-Ok.ensures.names c.in-Ok.ensures.fault c.sort_unstable.ensures.permutation
     c.deref.ensures.value in
     line_entered c.args.enrolments.now c.args.exam fields minutes names c.in-Ok.fault c.requires
@@ -25,9 +25,9 @@ returns-in-Some-clause-err c _ =
     let minutes = c.in_ok-minutes.minutes in
     let names = c.deref.result.now in
     let read =
-    read_of fields c.new-fields.result c.next.new.self c.next.result.now minutes
+    read_of fields c.new-fields.result c.next_number.new.self minutes
     c.gather.new.named.items c.sort_unstable.new.self.items names c.in-Ok.fault
-    c.new-fields.ensures c.next.ensures.field c.next.ensures.left c.in_ok-minutes.ensures
+    c.new-fields.ensures c.in_ok-minutes.ensures.number c.in_ok-minutes.ensures.left
     c.in-Ok.ensures.names c.in-Ok.ensures.fault c.sort_unstable.ensures.permutation
     c.deref.ensures.value in
     line_faulty c.args.enrolments.now c.args.exam fields minutes names c.in-Ok.fault c.requires read
@@ -41,9 +41,9 @@ returns-in_err-enrol-clause-err c =
     let minutes = c.in_ok-minutes.minutes in
     let names = c.deref.result.now in
     let read =
-    read_of fields c.new-fields.result c.next.new.self c.next.result.now minutes
+    read_of fields c.new-fields.result c.next_number.new.self minutes
     c.gather.new.named.items c.sort_unstable.new.self.items names c.in-Ok.fault
-    c.new-fields.ensures c.next.ensures.field c.next.ensures.left c.in_ok-minutes.ensures
+    c.new-fields.ensures c.in_ok-minutes.ensures.number c.in_ok-minutes.ensures.left
     c.in-Ok.ensures.names c.in-Ok.ensures.fault c.sort_unstable.ensures.permutation
     c.deref.ensures.value in
     let back = c.from_residual-in_err-enrol in

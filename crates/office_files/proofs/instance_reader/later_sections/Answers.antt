@@ -1,4 +1,4 @@
-use Rattle.std.proofs.Common.{◌≡◌, ◌+◌, sym, ◌∙◌, ap, Ok, Err}
+use Rattle.std.proofs.Common.{sym, ◌∙◌}
 use Rattle.std.proofs.lemmas.Result.{err_from_is_err_and}
 use Rattle.office_files.proofs.LaterLemmas.{faulty_room_rules, faulty_weightings, faulty_end, all_sections}
 use Rattle.office_files.proofs.instance_reader.later_sections.Goals as goal

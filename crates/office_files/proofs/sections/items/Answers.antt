@@ -1,4 +1,4 @@
-use Rattle.std.proofs.Common.{◌≡◌, ◌≢◌, ◌<◌, sym, ◌∙◌, arith}
+use Rattle.std.proofs.Common.{◌≢◌, sym, ◌∙◌, arith}
 use Rattle.office_files.specs.declared.fault.FaultKind.TheVariants.{NoMemory}
 use Rattle.office_files.specs.Tokens.{token_of}
 use Rattle.office_files.proofs.ItemLemmas.{line_step, fault_step}
