@@ -1,7 +1,6 @@
 -- Where exams stand in a timetable, and to whom they are given.
-use Rattle.std.specs.Prelude.{◌≡◌, ℕ, ◌<◌, Bool, false, not, ◌&&◌, ◌==◌, nat_le, nat_lt, if◌then◌else◌, length, All, Option, Some, None}
+use Rattle.std.specs.Prelude.{ℕ, Bool, false, not, ◌&&◌, ◌==◌, nat_le, nat_lt, if◌then◌else◌, length, Option, Some, None}
 use Rattle.exam_model.specs.Sums.{sum_below}
-use Rattle.exam_model.specs.Instance.{Session}
 use Rattle.exam_model.specs.Enrolments.{Enrolled, size_of, shared}
 use Rattle.exam_model.specs.Timetable.{Placing, place_of}
 use Rattle.exam_model.specs.declared.parts.Place.{Place}

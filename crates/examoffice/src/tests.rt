@@ -260,14 +260,23 @@ fn written(rt: &HostRuntime, name: &str, text: &str) -> Result<PathBuf, Fail> {
     Ok(path)
 }
 
+// What the program answers and prints of two files.
+fn checked_files<'a>(
+    rt: &HostRuntime,
+    instance: &'a str,
+    solution: &'a str,
+) -> io::Result<(u8, String, String)> {
+    program_on(rt, &["check", instance, solution])
+}
+
 #[test]
 fn files_are_judged(rt: HostRuntime) -> Result<(), Fail> {
     let exam = written(&rt, "exam", SMALL_EXAM)?;
     let early = written(&rt, "early", EARLY)?;
     let exam_path = exam.as_path().to_str().ok_or("no text")?;
     let early_path = early.as_path().to_str().ok_or("no text")?;
-    let (broken, out, err) = program_on(&rt, &["check", exam_path, early_path])?;
-    let (misread, nothing, line) = program_on(&rt, &["check", exam_path, "/dev/null"])?;
+    let (broken, out, err) = checked_files(&rt, exam_path, early_path)?;
+    let (misread, nothing, line) = checked_files(&rt, exam_path, "/dev/null")?;
     fs::remove_file(&rt, exam.as_path())?;
     fs::remove_file(&rt, early.as_path())?;
     assert_eq!(rt; (broken, err.as_str()), (3, ""));

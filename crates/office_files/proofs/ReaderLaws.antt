@@ -1,5 +1,6 @@
 -- What the answers of the two readers say by the relations of text and item.
-use Rattle.std.proofs.Common.{◌≡◌, ◌≢◌, ℕ, ◌+◌, ◌≤◌, ◌<◌, ◌==◌, List, [], length, map, Some, Result, Ok, Err, IfOk, IfErr, sym, ◌∙◌, refl, subst, arith}
+use Rattle.std.proofs.Common.{◌≡◌, ◌≢◌, ℕ, ◌+◌, ◌≤◌, ◌<◌, ◌==◌, List, [], length, map, Some}
+use Rattle.std.proofs.Common.{Result, Ok, Err, IfOk, IfErr, sym, ◌∙◌, refl, subst, arith}
 use Rattle.std.proofs.lemmas.List.Elements.{All-map, All-weaker}
 use Rattle.std.specs.Prelude.{All, Option}
 use Rattle.exam_model.specs.Enrolments.{Enrolled}
@@ -57,14 +58,18 @@ module _ {X : Type 0} (view : X → Placing) (I : Session) (b : List ℕ) where
   solution_one (Err f) is = tt
 
   -- every place that is answered exists
-  pub solution_places : (counts : Counts) → counts.periods ≡ length I.periods → counts.rooms ≡ length I.rooms →
-      1 ≤ length I.periods → 1 ≤ length I.rooms → (r : Result X FileFault) → Gives view r (timetable_in counts b) →
-      IfOk r (λ x. All (PlaceExists I) (view x))
+  pub solution_places : (counts : Counts)
+      → counts.periods ≡ length I.periods → counts.rooms ≡ length I.rooms
+      → 1 ≤ length I.periods → 1 ≤ length I.rooms
+      → (r : Result X FileFault) → Gives view r (timetable_in counts b)
+      → IfOk r (λ x. All (PlaceExists I) (view x))
   solution_places counts periods rooms some_period some_room (Ok x) is =
       let read = bind_ok (items_of (place_line counts) [] (lines_of b)) _ (view x) is in
-      let whole = bind_ok (at_line (line_count b + 1) (unless (length read.0 == counts.exams) CountMismatch)) _ (view x) read.2 in
+      let all = unless (length read.0 == counts.exams) CountMismatch in
+      let whole = bind_ok (at_line (line_count b + 1) all) _ (view x) read.2 in
       let same : map Some read.0 ≡ view x = sym (ok_same _ (view x) (map Some read.0) refl (sym whole.2)) in
       let exist = places_exist counts (lines_of b) read.0 (omega arith) (omega arith) read.1 in
       subst (All (PlaceExists I)) same (All-map (PlaceExists I) Some read.0
-      (All-weaker (IsAmong counts) (λ p. PlaceExists I (Some p)) (λ p within. (omega (arith, within.0), omega (arith, within.1))) read.0 exist))
+      (All-weaker (IsAmong counts) (λ p. PlaceExists I (Some p))
+      (λ p within. (omega (arith, within.0), omega (arith, within.1))) read.0 exist))
   solution_places counts periods rooms some_period some_room (Err f) is = tt
