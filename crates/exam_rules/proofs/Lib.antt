@@ -6,3 +6,4 @@ pub mod PlaceLemmas
 pub mod GroupLemmas
 pub mod LoadLemmas
 pub mod BreachLemmas
+mod CommonLemmas

@@ -1,8 +1,10 @@
 // How two exams stand to each other.
 ghost use Rattle.std.specs.Prelude.{◌≡◌, ◌<◌, ◌&&◌, not, length};
+ghost use Rattle.std.specs.List.{list_any};
+ghost use Rattle.exam_model.specs.Enrolments.{IsAscending, has_student};
 ghost use Rattle.exam_rules.specs.Places.{in_one_period, in_two_periods, is_not_after, in_one_place, share_student};
 
-use exam_model::{Enrolments, ExamNo, Timetable};
+use exam_model::{Enrolments, ExamNo, StudentNo, Timetable};
 
 pub fn in_one_period(timetable: &Timetable, exam: ExamNo, other: ExamNo) -> bool
     requires exists { exam < length timetable.now }
@@ -48,12 +50,37 @@ pub fn in_one_place(timetable: &Timetable, exam: ExamNo, other: ExamNo) -> bool
     }
 }
 
+#[tactic(auto, using(crate::proofs::CommonLemmas::shared_any))]
 pub fn share_student(enrolments: &Enrolments, exam: ExamNo, other: ExamNo) -> bool
     requires exists { exam < length enrolments.now }
     requires other_exists { other < length enrolments.now }
     ensures { result ≡ share_student enrolments.now exam other }
 {
-    enrolments.shared(exam, other) > 0
+    have_common(enrolments.students(exam), enrolments.students(other))
+}
+
+// Whether two ascending lists of students have one in common, in one walk along both.
+fn have_common(first: &[StudentNo], second: &[StudentNo]) -> bool
+    requires first { IsAscending first.now }
+    requires second { IsAscending second.now }
+    ensures { result ≡ list_any (λ s. has_student second.now s) first.now }
+{
+    let mut left = first;
+    let mut right = second;
+    'walk: while let Some((student, others)) = left.split_first() {
+        let Some((other, rest)) = right.split_first() else {
+            return false;
+        };
+        if student == other {
+            return true;
+        }
+        if student < other {
+            left = others;
+        } else {
+            right = rest;
+        }
+    }
+    false
 }
 
 /// Whether two exams share no student and stand in different periods.
