@@ -1,12 +1,12 @@
 -- What the lists of students are after a change, and with no pair.
 use Rattle.std.proofs.Common.{◌≡◌, ℕ, zero, suc, ◌+◌, ◌<◌, ◌≤◌, Bool, true, false, List, [], length, set, refl, subst, sym, inl, inr, arith, if◌then◌else◌}
-use Rattle.std.specs.Prelude.{◌==◌, ◌||◌, ◌&&◌, replicate}
+use Rattle.std.specs.Prelude.{◌==◌, ◌||◌, ◌&&◌, not, replicate}
 use Rattle.std.proofs.lemmas.Bool.{eq-eqb, ne_eqb, cases_eq}
 use Rattle.std.proofs.lemmas.List.{length-set}
 use Rattle.std.proofs.lemmas.List.Folds.{sum_by-replicate}
 use Rattle.std.proofs.lemmas.List.Sums.{sum_by-set, get_or-le-sum_by}
 use Rattle.std.proofs.Common.{get_or-set_other, get_or-set_same}
-use Rattle.exam_model.specs.Enrolments.{Enrolled, AreEnrolments, Enters, Adds, students, has, size_of, pair_count, no_pairs}
+use Rattle.exam_model.specs.Enrolments.{Enrolled, AreEnrolments, Enters, Leaves, Adds, Removes, students, has, size_of, pair_count, no_pairs}
 
 -- no exam has more students than there are pairs
 pub size-le : (E : Enrolled) (e : ℕ) → e < length E → size_of E e ≤ pair_count E
@@ -95,4 +95,57 @@ enrolments_set E e s new lt enters room was = record {
     | false ↦ λ e'. let more = rw e' at (count_set E e s new lt enters) in omega (arith, room e')
   ] refl
 
-pub ruleset enrolment_facts = (size-le, enrolments_none, adds_set, enrolments_set)
+-- a student taken out of one exam's list is a pair taken out
+pub removes_set : (E : Enrolled) (e s : ℕ) (new : List ℕ) → e < length E
+    → Leaves (students E e) new s → Removes E (set E e new) s e
+removes_set E e s new lt leaves = record {
+  members = λ t f. elim (cases_eq e f) [
+    | inl same ↦ members_here t f same
+    | inr other ↦ members_there t f other
+  ];
+  exams = length-set E e new;
+  pairs = pairs_left;
+} where
+  members_here : (t f : ℕ) → e ≡ f
+      → has (set E e new) t f ≡ (not ((s == t) && (e == f)) && has E t f)
+  members_here t f same =
+      let at = get_or-set_same E e new [] lt in
+      subst (λ g. has (set E e new) t g ≡ (not ((s == t) && (e == g)) && has E t g)) same
+      (rw (eq-eqb e e refl, at, and-true (s == t)) (leaves.members t))
+
+  members_there : (t f : ℕ) → (e ≡ f → ⊥)
+      → has (set E e new) t f ≡ (not ((s == t) && (e == f)) && has E t f)
+  members_there t f other =
+      let back : f ≡ e → ⊥ = λ q. other (sym q) in
+      rw (ne_eqb e f other, get_or-set_other E e f new [] back, and-false (s == t)) refl
+
+  pairs_left : pair_count E
+      ≡ (if has E s e then pair_count (set E e new) + 1 else pair_count (set E e new))
+  pairs_left =
+      let sums = sum_by-set length E e new [] lt in
+      let size = leaves.size in
+      elim (has E s e) as (λ b. has E s e ≡ b → pair_count E
+      ≡ (if b then pair_count (set E e new) + 1 else pair_count (set E e new))) [
+        | true ↦ λ e. let same = rw e at size in omega arith
+        | false ↦ λ e. let more = rw e at size in omega arith
+      ] refl
+
+-- and keeps what every value of the type keeps
+pub enrolments_left : (E : Enrolled) (e s : ℕ) (new : List ℕ) → e < length E
+    → Leaves (students E e) new s → AreEnrolments E → AreEnrolments (set E e new)
+enrolments_left E e s new lt leaves was = record {
+  exams = omega (arith, length-set E e new, was.exams);
+  ascending = λ f within. elim (cases_eq f e) [
+    | inl same ↦ rw same (rw (get_or-set_same E e new [] lt) leaves.ascending)
+    | inr other ↦ rw (get_or-set_other E e f new [] other)
+        (was.ascending f (omega (arith, length-set E e new)))
+  ];
+  pairs = elim (has E s e) as (λ b. has E s e ≡ b → pair_count (set E e new) ≤ 200000) [
+    | true ↦ λ is. let left = rw is at (removes_set E e s new lt leaves).pairs in
+        omega (arith, was.pairs)
+    | false ↦ λ is. let left = rw is at (removes_set E e s new lt leaves).pairs in
+        omega (arith, was.pairs)
+  ] refl;
+}
+
+pub ruleset enrolment_facts = (size-le, enrolments_none, adds_set, enrolments_set, removes_set, enrolments_left)

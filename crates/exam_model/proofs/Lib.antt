@@ -1,3 +1,4 @@
+mod EnrolLemmas
 mod EnrolmentLemmas
 pub mod PairLemmas
 mod RollLemmas

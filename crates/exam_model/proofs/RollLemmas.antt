@@ -1,15 +1,16 @@
 -- What a search finds among ascending numbers, and what an insert at that place leaves.
-use Rattle.std.proofs.Common.{◌≡◌, ℕ, ◌+◌, ◌-◌, ◌<◌, ◌≤◌, Bool, true, false, List, ◌∷◌, length, Result, Ok, Err, IfOk, IfErr, refl, ap, subst, sym, ◌∙◌, inl, inr, arith, take, drop}
-use Rattle.std.specs.Prelude.{◌==◌, ◌||◌, slice_index}
-use Rattle.std.specs.List.{insert, list_any}
+use Rattle.std.proofs.Common.{◌≡◌, ℕ, suc, ◌+◌, ◌-◌, ◌<◌, ◌≤◌, Bool, true, false, List, [], ◌∷◌, ◌++◌, length, Result, Ok, Err, IfOk, IfErr, refl, ap, subst, sym, ◌∙◌, inl, inr, arith, take, drop}
+use Rattle.std.specs.Prelude.{◌==◌, ◌||◌, ◌&&◌, not, slice_index}
+use Rattle.std.specs.List.{insert, remove, list_any}
 use Rattle.std.specs.List.Sorted.{IsBinarySearchResult}
 use Rattle.std.specs.Ordering.{nat_cmp}
+use Rattle.std.proofs.Math.Seq.{split_at}
 use Rattle.std.proofs.lemmas.Bool.{eq-eqb, eqb-true, ne_eqb, cases_lt}
 use Rattle.std.proofs.lemmas.List.{get_or_default, take-append-drop}
 use Rattle.std.proofs.lemmas.List.Sorted.{searched}
-use Rattle.std.proofs.lemmas.List.Edits.{length-insert, get_or-insert_below, get_or-insert_at, get_or-insert_above}
+use Rattle.std.proofs.lemmas.List.Edits.{length-insert, get_or-insert_below, get_or-insert_at, get_or-insert_above, insert_end, length-remove, get_or-remove_below, get_or-remove_above}
 use Rattle.std.proofs.lemmas.List.Folds.{list_any_at, list_any_none, list_any-append}
-use Rattle.exam_model.specs.Enrolments.{IsAscending, IsAt, IsGap, Enters, has_student}
+use Rattle.exam_model.specs.Enrolments.{IsAscending, IsAt, IsGap, Enters, Leaves, has_student}
 
 -- ascending numbers rise
 pub rise : (xs : List ℕ) → IsAscending xs → (i j : ℕ) → i ≤ j → j < length xs
@@ -110,4 +111,82 @@ enters_again xs x i at up = record {
   ascending = up;
 }
 
-pub ruleset roll_facts = (has_at, has_gap, ascending_insert, enters_insert, enters_again)
+-- a student behind all others keeps the order
+pub enters_push : (xs : List ℕ) (x : ℕ) → IsGap xs x (length xs) → IsAscending xs
+    → Enters xs (xs ++ x ∷ []) x
+enters_push xs x gap up =
+    subst (λ ys. Enters xs ys x) (insert_end xs x) (enters_insert xs x (length xs) gap up)
+
+-- the place of a student taken out is her gap
+gap_remove : (xs : List ℕ) (x i : ℕ) → IsAt xs x i → IsAscending xs → IsGap (remove xs i) x i
+gap_remove xs x i at up = record {
+  within = omega (arith, length-remove xs i at.within, at.within);
+  before = λ k below. rw (get_or-remove_below xs i 0 k below at.within)
+      (omega (arith, up k i below at.within, at.here));
+  after = λ k le within. rw (get_or-remove_above xs i 0 k le at.within)
+      (omega (
+        arith,
+        up i (k + 1) (omega arith) (omega (arith, length-remove xs i at.within)),
+        at.here,
+      ));
+}
+
+pub ascending_remove : (xs : List ℕ) (i : ℕ) → i < length xs → IsAscending xs
+    → IsAscending (remove xs i)
+ascending_remove xs i lt up j k less within =
+    let size = length-remove xs i lt in
+    let below : (j : ℕ) → j < i → slice_index (remove xs i) j ≡ slice_index xs j
+    = λ j b. get_or-remove_below xs i 0 j b lt in
+    let above : (j : ℕ) → i ≤ j → slice_index (remove xs i) j ≡ slice_index xs (j + 1)
+    = λ j a. get_or-remove_above xs i 0 j a lt in
+    grind (
+      arith,
+      size,
+      below j,
+      above j,
+      below k,
+      above k,
+      up j k,
+      up j (k + 1),
+      up (j + 1) (k + 1),
+    )
+
+-- what was there is the one student, or is left
+has_remove : (xs : List ℕ) (x i t : ℕ) → IsAt xs x i
+    → has_student xs t ≡ ((x == t) || has_student (remove xs i) t)
+has_remove xs x i t at =
+    let p : ℕ → Bool = λ y. y == t in
+    let split : xs ≡ take i xs ++ x ∷ drop (suc i) xs
+    = split_at xs i 0 at.within ∙ ap (λ (y : ℕ). take i xs ++ y ∷ drop (suc i) xs) at.here in
+    ap (list_any p) split
+    ∙ list_any-append p (take i xs) (x ∷ drop (suc i) xs)
+    ∙ or_middle (list_any p (take i xs)) (x == t) (list_any p (drop (suc i) xs))
+    ∙ ap (λ b. (x == t) || b) (sym (list_any-append p (take i xs) (drop (suc i) xs)))
+
+-- taking out a student who is there
+pub leaves_remove : (xs : List ℕ) (x i : ℕ) → IsAt xs x i → IsAscending xs
+    → Leaves xs (remove xs i) x
+leaves_remove xs x i at up = record {
+  members = λ t. elim (x == t) as (λ b. (x == t) ≡ b
+      → has_student (remove xs i) t ≡ (not b && has_student xs t)) [
+        | true ↦ λ e. subst (λ z. has_student (remove xs i) z ≡ false) (eqb-true x t e)
+            (has_gap (remove xs i) x i (gap_remove xs x i at up))
+        | false ↦ λ e. sym (has_remove xs x i t at ∙ rw e refl)
+      ] refl;
+  size = rw (has_at xs x i at) (sym (length-remove xs i at.within));
+  ascending = ascending_remove xs i at.within up;
+}
+
+-- taking out a student who is not there changes nothing
+pub leaves_again : (xs : List ℕ) (x i : ℕ) → IsGap xs x i → IsAscending xs → Leaves xs xs x
+leaves_again xs x i gap up = record {
+  members = λ t. elim (x == t) as (λ b. (x == t) ≡ b
+      → has_student xs t ≡ (not b && has_student xs t)) [
+        | true ↦ λ e. subst (λ z. has_student xs z ≡ false) (eqb-true x t e) (has_gap xs x i gap)
+        | false ↦ λ e. refl
+      ] refl;
+  size = rw (has_gap xs x i gap) refl;
+  ascending = up;
+}
+
+pub ruleset roll_facts = (has_at, has_gap, ascending_insert, enters_insert, enters_push, enters_again, leaves_remove, leaves_again)

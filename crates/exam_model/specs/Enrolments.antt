@@ -1,5 +1,5 @@
 -- A set of pairs (student, exam), seen as the students of each exam in ascending order.
-use Rattle.std.specs.Prelude.{◌≡◌, ℕ, ◌+◌, ◌<◌, ◌≤◌, Bool, true, false, ◌&&◌, ◌||◌, ◌==◌, if◌then◌else◌, List, [], length, slice_index, slice_index_or, sum_by, count_by, replicate}
+use Rattle.std.specs.Prelude.{◌≡◌, ℕ, ◌+◌, ◌<◌, ◌≤◌, Bool, true, false, not, ◌&&◌, ◌||◌, ◌==◌, if◌then◌else◌, List, [], length, slice_index, slice_index_or, sum_by, count_by, replicate}
 use Rattle.std.specs.List.{list_any}
 use Rattle.exam_model.specs.declared.fault.ModelFault.{ModelFault}
 use Rattle.exam_model.specs.declared.fault.ModelFault.TheVariants.{Range, NoSuch, NoMemory}
@@ -52,11 +52,23 @@ pub record Adds (old new : Enrolled) (s e : ℕ) : Type 0 where
   pub exams : length new ≡ length old
   pub pairs : pair_count new ≡ (if has old s e then pair_count old else pair_count old + 1)
 
+-- new is the set old without the pair
+pub record Removes (old new : Enrolled) (s e : ℕ) : Type 0 where
+  pub members : (t f : ℕ) → has new t f ≡ (not ((s == t) && (e == f)) && has old t f)
+  pub exams : length new ≡ length old
+  pub pairs : pair_count old ≡ (if has old s e then pair_count new + 1 else pair_count new)
+
 -- why a pair is not added: no such exam, then no room for a pair that is new
 abbrev pub RefusesPair : Enrolled → ℕ → ℕ → ModelFault → Type 0
 RefusesPair E s e NoSuch = length E ≤ e
 RefusesPair E s e Range = (e < length E) × (has E s e ≡ false) × (pair_count E ≡ 200000)
 RefusesPair E s e NoMemory = Unit {0}
+
+-- why students are not put into an exam that has none: there is no room for so many pairs
+abbrev pub RefusesAll : Enrolled → List ℕ → ModelFault → Type 0
+RefusesAll E xs NoSuch = ⊥
+RefusesAll E xs Range = 200000 < pair_count E + length xs
+RefusesAll E xs NoMemory = Unit {0}
 
 -- student s stands at place i of the list
 pub record IsAt (xs : List ℕ) (s i : ℕ) : Type 0 where
@@ -73,6 +85,12 @@ pub record IsGap (xs : List ℕ) (s i : ℕ) : Type 0 where
 pub record Enters (old new : List ℕ) (s : ℕ) : Type 0 where
   pub members : (t : ℕ) → has_student new t ≡ ((s == t) || has_student old t)
   pub size : length new ≡ (if has_student old s then length old else length old + 1)
+  pub ascending : IsAscending new
+
+-- new is the list old with the student taken out
+pub record Leaves (old new : List ℕ) (s : ℕ) : Type 0 where
+  pub members : (t : ℕ) → has_student new t ≡ (not (s == t) && has_student old t)
+  pub size : length old ≡ (if has_student old s then length new + 1 else length new)
   pub ascending : IsAscending new
 
 -- why a student is not put in: she is new, and there is no room

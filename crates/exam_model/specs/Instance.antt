@@ -22,6 +22,18 @@ pub record Session : Type 0 where
   pub room_rules : List RoomRule
   pub weights : Weights
 
+-- the session of these parts
+abbrev pub session : List Exam → List Period → List Room → List PeriodRule → List RoomRule → Weights
+    → Session
+session exams periods rooms period_rules room_rules weights = record {
+  exams = exams;
+  periods = periods;
+  rooms = rooms;
+  period_rules = period_rules;
+  room_rules = room_rules;
+  weights = weights;
+}
+
 -- every limit holds
 pub record InLimits (s : Session) : Type 0 where
   pub counts : AreCounted (length s.exams) (length s.periods) (length s.rooms)

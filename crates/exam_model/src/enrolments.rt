@@ -1,6 +1,6 @@
 // Which student sits which exam: contracts see each exam's students, ascending.
-ghost use Rattle.std.specs.Prelude.{◌≡◌, ◌<◌, ◌≤◌, not, length, IfOk, IfErr, OnOk, OnErr};
-ghost use Rattle.exam_model.specs.Enrolments.{AreEnrolments, IsAscending, Adds, RefusesPair, students, has, size_of, shared, pair_count, no_pairs};
+ghost use Rattle.std.specs.Prelude.{◌≡◌, ◌<◌, ◌≤◌, [], not, length, slice_set, IfOk, IfErr, OnOk, OnErr};
+ghost use Rattle.exam_model.specs.Enrolments.{Enrolled, AreEnrolments, IsAscending, Adds, Removes, RefusesPair, RefusesAll, students, has, size_of, shared, pair_count, no_pairs};
 
 use crate::fault::ModelFault;
 use crate::numbers::{ExamNo, StudentNo};
@@ -18,9 +18,6 @@ pub struct Enrolments {
 }
 
 impl Model for Enrolments {
-    ghost use Rattle.std.specs.Prelude.{◌≡◌};
-    ghost use Rattle.exam_model.specs.Enrolments.{Enrolled, AreEnrolments, pair_count};
-
     ghost Value = { Enrolled };
 
     ghost view = { λ a. a.rolls.items };
@@ -85,8 +82,7 @@ impl Enrolments {
         ensures size { result ≡ size_of self.now exam }
         ensures within { result ≤ pair_count self.now }
     {
-        // Read for its bound: no exam has more students than there are pairs.
-        let _pairs = self.pairs;
+        let _pairs = self.pairs; // read for its bound: no exam has more students
         self.students(exam).len() as u32
     }
 
@@ -98,8 +94,7 @@ impl Enrolments {
         ensures shared { result ≡ shared self.now exam other }
         ensures within { result ≤ size_of self.now exam }
     {
-        // Read for its bound, as in `size`.
-        let _pairs = self.pairs;
+        let _pairs = self.pairs; // read for its bound
         let second = &self.rolls[other.get() as usize];
         let both = self
             .students(exam)
@@ -130,5 +125,41 @@ impl Enrolments {
             self.pairs += 1;
         }
         Ok(fresh)
+    }
+
+    /// Takes a pair out, and answers whether it was there; the exam's greater students move.
+    #[tactic(auto, using(crate::proofs::EnrolmentLemmas::enrolment_facts))]
+    pub fn remove(&mut self, student: StudentNo, exam: ExamNo) -> bool
+        requires exists { exam < length self.old }
+        ensures removed { result ≡ has self.old student exam }
+        ensures left { Removes self.old self.new student exam }
+        ensures kept { AreEnrolments self.new }
+    {
+        let removed = self.rolls[exam.get() as usize].remove(student);
+        if removed {
+            self.pairs -= 1;
+        }
+        removed
+    }
+
+    /// Puts ascending students into an exam that has none. `Range` comes where more than 200,000
+    /// pairs would be there, else `NoMemory`.
+    #[tactic(auto, using(crate::proofs::EnrolLemmas::enrol_facts))]
+    pub fn enrol(&mut self, sitters: &[StudentNo], exam: ExamNo) -> Result<(), ModelFault>
+        requires exists { exam < length self.old }
+        requires empty { students self.old exam ≡ [] }
+        requires ascending { IsAscending sitters.now }
+        ensures ok { OnOk result (self.new ≡ slice_set self.old exam sitters.now) }
+        ensures err { OnErr result (self.new ≡ self.old) }
+        ensures kept { AreEnrolments self.new }
+        ensures refused { IfErr result (RefusesAll self.old sitters.now) }
+    {
+        let count = sitters.len();
+        if count > (MOST_PAIRS - self.pairs) as usize {
+            return Err(ModelFault::Range);
+        }
+        self.rolls[exam.get() as usize].fill(sitters)?;
+        self.pairs += count as u32;
+        Ok(())
     }
 }

@@ -1,3 +1,6 @@
+ghost use Rattle.std.specs.Prelude.{◌≡◌};
+ghost use Rattle.exam_model.specs.declared.fault.ModelFault.TheVariants.{NoMemory};
+
 use std::alloc::{AllocError, AllocFailed};
 
 /// Why a part of the model is refused.
@@ -12,9 +15,6 @@ pub enum ModelFault {
 }
 
 impl From<AllocError> for ModelFault {
-    ghost use Rattle.std.specs.Prelude.{◌≡◌};
-    ghost use Rattle.exam_model.specs.declared.fault.ModelFault.TheVariants.{NoMemory};
-
     ghost from_gives = { λ _ e. e ≡ NoMemory };
 
     fn from(_error: AllocError) -> ModelFault {
@@ -23,9 +23,6 @@ impl From<AllocError> for ModelFault {
 }
 
 impl<T: Drop> From<AllocFailed<T>> for ModelFault {
-    ghost use Rattle.std.specs.Prelude.{◌≡◌};
-    ghost use Rattle.exam_model.specs.declared.fault.ModelFault.TheVariants.{NoMemory};
-
     ghost from_gives = { λ _ e. e ≡ NoMemory };
 
     fn from(_error: AllocFailed<T>) -> ModelFault {

@@ -1,4 +1,7 @@
 // An instance: contracts see an examination session by its parts.
+ghost use Rattle.std.specs.Prelude.{◌≡◌, ◌<◌, length, slice_get, Some, IfOk, IfErr};
+ghost use Rattle.exam_model.specs.Instance.{Session, session, IsInstance, RefusesSession};
+
 use crate::fault::ModelFault;
 use crate::limits::{in_limits, numbers_exist};
 use crate::numbers::{ExamNo, PeriodNo, RoomNo};
@@ -20,33 +23,16 @@ pub struct Instance {
 }
 
 impl Model for Instance {
-    ghost use Rattle.exam_model.specs.Instance.{Session, IsInstance};
-
     ghost Value = { Session };
 
-    ghost view = { λ a. record {
-      exams = a.exams.items;
-      periods = a.periods.items;
-      rooms = a.rooms.items;
-      period_rules = a.period_rules.items;
-      room_rules = a.room_rules.items;
-      weights = a.weights;
-    } };
+    ghost view = { λ a. session a.exams.items a.periods.items a.rooms.items
+        a.period_rules.items a.room_rules.items a.weights };
 
-    ghost invariant = { λ a. IsInstance (record {
-      exams = a.exams.items;
-      periods = a.periods.items;
-      rooms = a.rooms.items;
-      period_rules = a.period_rules.items;
-      room_rules = a.room_rules.items;
-      weights = a.weights;
-    }) };
+    ghost invariant = { λ a. IsInstance (session a.exams.items a.periods.items a.rooms.items
+        a.period_rules.items a.room_rules.items a.weights) };
 }
 
 impl Instance {
-    ghost use Rattle.std.specs.Prelude.{◌≡◌, ◌<◌, length, slice_get, Some, IfOk, IfErr};
-    ghost use Rattle.exam_model.specs.Instance.{Session, IsInstance, RefusesSession, same_day};
-
     /// The instance of these lists, which are copied. `Range` comes where a limit doesn't hold,
     /// and else `NoSuch` where a rule names an exam that doesn't exist, and else `NoMemory`.
     pub fn new(
@@ -58,23 +44,11 @@ impl Instance {
         room_rules: &[RoomRule],
         weights: Weights,
     ) -> Result<Instance, ModelFault>
-        ensures made { IfOk result (λ made. made ≡ record {
-          exams = exams.now;
-          periods = periods.now;
-          rooms = rooms.now;
-          period_rules = period_rules.now;
-          room_rules = room_rules.now;
-          weights = weights;
-        }) }
+        ensures made { IfOk result (λ made. made ≡ session exams.now periods.now rooms.now
+            period_rules.now room_rules.now weights) }
         ensures kept { IfOk result IsInstance }
-        ensures refused { IfErr result (RefusesSession (record {
-          exams = exams.now;
-          periods = periods.now;
-          rooms = rooms.now;
-          period_rules = period_rules.now;
-          room_rules = room_rules.now;
-          weights = weights;
-        })) }
+        ensures refused { IfErr result (RefusesSession (session exams.now periods.now rooms.now
+            period_rules.now room_rules.now weights)) }
     {
         if !in_limits(exams, periods, rooms, period_rules, room_rules, &weights) {
             return Err(ModelFault::Range);
@@ -162,17 +136,5 @@ impl Instance {
         ensures kept { IsInstance self.now }
     {
         self.weights
-    }
-
-    /// Whether two periods are of one date; false where one of them doesn't exist.
-    pub fn same_day(&self, one: PeriodNo, other: PeriodNo) -> bool
-        ensures { result ≡ same_day self.now.periods one other }
-    {
-        let one = self.periods.get(one.get() as usize);
-        let other = self.periods.get(other.get() as usize);
-        match (one, other) {
-            (Some(one), Some(other)) => one.date == other.date,
-            _ => false,
-        }
     }
 }

@@ -8,22 +8,19 @@ mod laws;
 mod limits;
 mod numbers;
 mod pair_cost;
-mod pair_laws;
 mod parts;
 mod roll;
 mod rules;
+#[cfg(test)]
+mod tests;
 mod timetable;
 
 pub use enrolments::Enrolments;
 pub use fault::ModelFault;
 pub use instance::Instance;
-pub use laws::determined_by_pairs;
+pub use laws::{determined_by_pairs, pairs_in_order};
 pub use numbers::{DeptNo, ExamNo, PeriodNo, RoomNo, StudentNo};
 pub use pair_cost::PairCost;
-pub use pair_laws::pairs_in_order;
 pub use parts::{Exam, Period, Place, Room, Weights};
 pub use rules::{PeriodRule, RoomRule};
 pub use timetable::Timetable;
-
-#[cfg(test)]
-mod tests;

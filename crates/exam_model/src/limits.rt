@@ -1,7 +1,7 @@
 // The tests behind `Instance::new`.
-ghost use Rattle.std.specs.Prelude.{◌↔◌, length, IsTrue, All};
-ghost use Rattle.exam_model.specs.Limits.{AreCounted, PeriodInLimits, WeightsInLimits};
-ghost use Rattle.exam_model.specs.Instance.{InLimits, PeriodRuleExists, RoomRuleExists};
+ghost use Rattle.std.specs.Prelude.{◌↔◌, ◌≤◌, length, IsTrue, All};
+ghost use Rattle.exam_model.specs.Limits.{IsCount, PeriodInLimits, WeightsInLimits};
+ghost use Rattle.exam_model.specs.Instance.{session, InLimits, PeriodRuleExists, RoomRuleExists};
 
 use crate::parts::{Exam, Period, Room, Weights};
 use crate::rules::{PeriodRule, RoomRule};
@@ -44,23 +44,14 @@ impl PeriodRule {
     }
 }
 
-fn are_counted(
-    exams: usize,
-    periods: usize,
-    rooms: usize,
-    period_rules: usize,
-    room_rules: usize,
-) -> bool
-    ensures { IsTrue result ↔ AreCounted exams periods rooms period_rules room_rules }
+fn are_counted(exams: &[Exam], periods: &[Period], rooms: &[Room], rules: &[PeriodRule]) -> bool
+    ensures { IsTrue result ↔ (IsCount 2000 (length exams.now) × IsCount 200 (length periods.now)
+        × IsCount 200 (length rooms.now) × (length rules.now ≤ 5000)) }
 {
-    exams >= 1
-        && exams <= 2000
-        && periods >= 1
-        && periods <= 200
-        && rooms >= 1
-        && rooms <= 200
-        && period_rules <= 5000
-        && room_rules <= 5000
+    (1..=2000).contains(&exams.len())
+        && (1..=200).contains(&periods.len())
+        && (1..=200).contains(&rooms.len())
+        && rules.len() <= 5000
 }
 
 /// Whether every limit holds of the parts of a session.
@@ -72,22 +63,12 @@ pub fn in_limits(
     room_rules: &[RoomRule],
     weights: &Weights,
 ) -> bool
-    ensures { IsTrue result ↔ InLimits (record {
-      exams = exams.now;
-      periods = periods.now;
-      rooms = rooms.now;
-      period_rules = period_rules.now;
-      room_rules = room_rules.now;
-      weights = weights.now;
-    }) }
+    ensures { IsTrue result ↔ InLimits (session exams.now periods.now rooms.now
+        period_rules.now room_rules.now weights.now) }
 {
-    are_counted(
-        exams.len(),
-        periods.len(),
-        rooms.len(),
-        period_rules.len(),
-        room_rules.len(),
-    ) && exams.iter().all(|e| e.minutes <= 1440)
+    are_counted(exams, periods, rooms, period_rules)
+        && room_rules.len() <= 5000
+        && exams.iter().all(|e| e.minutes <= 1440)
         && periods.iter().all(|p| p.in_limits())
         && rooms
             .iter()

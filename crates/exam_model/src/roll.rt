@@ -1,10 +1,10 @@
 // The students of one exam, ascending: contracts see the list of their numbers.
 ghost use Rattle.std.specs.Prelude.{◌≡◌, ℕ, List, [], true, false, IfOk, IfErr, OnOk, OnErr, not};
-ghost use Rattle.exam_model.specs.Enrolments.{IsAscending, IsAt, IsGap, Enters, RefusesStudent, has_student};
+ghost use Rattle.exam_model.specs.Enrolments.{IsAscending, IsAt, IsGap, Enters, Leaves, RefusesStudent, has_student};
 
 use crate::fault::ModelFault;
 use crate::numbers::StudentNo;
-use std::alloc::Global;
+use std::alloc::{AllocError, Global};
 use std::marker::Model;
 
 #[derive(Debug, Drop)]
@@ -36,23 +36,25 @@ impl Roll {
         &self.students
     }
 
-    // Where the student is, or where she would go.
+    // Puts ascending students into a roll that has none.
+    pub fn fill(&mut self, students: &[StudentNo]) -> Result<(), AllocError>
+        requires empty { self.old ≡ [] }
+        requires ascending { IsAscending students.now }
+        ensures ok { OnOk result (self.new ≡ students.now) }
+        ensures err { OnErr result (self.new ≡ self.old) }
+    {
+        self.students.extend_from_slice(students)
+    }
+
+    // Where the student is, or where she would go: behind all at once, if she is greater.
+    #[tactic(auto, using(crate::proofs::RollLemmas::gap_at_end))]
     fn search(&self, student: StudentNo) -> Result<usize, usize>
         ensures found { IfOk result (IsAt self.now student) }
         ensures absent { IfErr result (IsGap self.now student) }
     {
-        self.students.binary_search(&student)
-    }
-
-    // The same, at once where she is greater than all.
-    #[tactic(auto, using(crate::proofs::RollLemmas::gap_at_end))]
-    fn place(&self, student: StudentNo) -> Result<usize, usize>
-        ensures found { IfOk result (IsAt self.now student) }
-        ensures absent { IfErr result (IsGap self.now student) }
-    {
         match self.students.last() {
-            Some(last) if *last < student => Err(self.students.len()),
-            _ => self.search(student),
+            Some(last) if *last >= student => self.students.binary_search(&student),
+            _ => Err(self.students.len()),
         }
     }
 
@@ -75,13 +77,27 @@ impl Roll {
         ensures within { IfOk result (λ fresh. fresh ≡ true → full ≡ false) }
         ensures refused { IfErr result (RefusesStudent self.old student full) }
     {
-        match self.place(student) {
-            Ok(_) => Ok(false),
-            Err(_) if full => Err(ModelFault::Range),
-            Err(at) => {
-                self.students.insert(at, student)?;
-                Ok(true)
+        match self.search(student) {
+            Ok(_) => return Ok(false),
+            Err(_) if full => return Err(ModelFault::Range),
+            Err(at) if at == self.students.len() => self.students.push(student)?,
+            Err(at) => self.students.insert(at, student)?,
+        }
+        Ok(true)
+    }
+
+    // Takes a student out, and answers whether she was there.
+    #[tactic(auto, using(crate::proofs::RollLemmas::roll_facts))]
+    pub fn remove(&mut self, student: StudentNo) -> bool
+        ensures removed { result ≡ has_student self.old student }
+        ensures left { Leaves self.old self.new student }
+    {
+        match self.search(student) {
+            Ok(at) => {
+                self.students.remove(at);
+                true
             }
+            Err(_) => false,
         }
     }
 }

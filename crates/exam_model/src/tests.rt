@@ -101,17 +101,6 @@ fn an_instance_gives_its_parts(rt: HostRuntime) -> Result<(), Fail> {
     assert_eq!(rt; instance.period_rules(), after.as_slice());
     assert_eq!(rt; instance.room_rules(), alone.as_slice());
     assert_eq!(rt; instance.weights(), WEIGHTS);
-    // two periods, and whether they are of one day
-    for (one, other, wanted) in [
-        (0, 2, true),
-        (1, 1, true),
-        (0, 1, false),
-        (0, 3, false),
-        (3, 3, false),
-    ] {
-        let together = instance.same_day(PeriodNo::new(one), PeriodNo::new(other));
-        assert_eq!(rt; together, wanted, "{one} and {other}");
-    }
     Ok(())
 }
 
@@ -188,6 +177,33 @@ fn pairs_are_added_once_and_stand_in_order(rt: HostRuntime) -> Result<(), Fail> 
 }
 
 #[test]
+fn a_pair_that_is_taken_out_leaves_the_others(rt: HostRuntime) -> Result<(), Fail> {
+    let (one, four, nine) = (student(1)?, student(4)?, student(9)?);
+    let (first, second) = (ExamNo::new(0), ExamNo::new(1));
+    let mut enrolments = Enrolments::new(rt.alloc(), 2)?;
+    for (student, exam) in [(one, first), (four, first), (nine, first), (four, second)] {
+        enrolments.add(student, exam)?;
+    }
+    // whether the pair was there, and how many are left
+    let cases = [
+        (four, first, true, 3),
+        (four, first, false, 3),
+        (one, second, false, 3),
+        (nine, first, true, 2),
+    ];
+    for (student, exam, wanted, left) in cases {
+        assert!(rt; exam.get() < enrolments.exams());
+        let removed = enrolments.remove(student, exam);
+        assert_eq!(rt; removed, wanted, "{student:?} {exam:?}");
+        assert_eq!(rt; enrolments.pairs(), left, "{student:?} {exam:?}");
+    }
+    assert_eq!(rt; enrolments.exams(), 2);
+    assert_eq!(rt; enrolments.students(first), [one].as_slice());
+    assert_eq!(rt; enrolments.students(second), [four].as_slice());
+    Ok(())
+}
+
+#[test]
 fn a_full_set_takes_no_new_pair(rt: HostRuntime) -> Result<(), Fail> {
     let mut enrolments = Enrolments::new(rt.alloc(), 100)?;
     for exam in 0..100 {
@@ -220,5 +236,27 @@ fn a_timetable_is_complete_once_each_exam_has_a_place(rt: HostRuntime) -> Result
     assert_eq!(rt; timetable.complete(), Some(first));
     timetable.set(first, place(0, 0));
     assert_eq!(rt; timetable.complete(), None);
+    Ok(())
+}
+
+#[test]
+fn a_copy_keeps_what_the_timetable_loses(rt: HostRuntime) -> Result<(), Fail> {
+    let (first, second) = (ExamNo::new(0), ExamNo::new(1));
+    let mut timetable = Timetable::new(rt.alloc(), 2)?;
+    timetable.set(first, place(3, 0));
+    timetable.set(second, place(2, 1));
+    let copy = timetable.copy(rt.alloc())?;
+    timetable.clear(second);
+    timetable.clear(second);
+    // the exam, where it stands, and where it stands in the copy
+    let cases = [
+        (first, Some(place(3, 0)), Some(place(3, 0))),
+        (second, None, Some(place(2, 1))),
+    ];
+    for (exam, stands, stood) in cases {
+        assert!(rt; exam.get() < timetable.exams() && timetable.exams() == copy.exams());
+        assert_eq!(rt; timetable.get(exam), stands, "{exam:?}");
+        assert_eq!(rt; copy.get(exam), stood, "{exam:?}");
+    }
     Ok(())
 }

@@ -1,6 +1,6 @@
 // A timetable: contracts see a list with each exam's place, if it has one.
 ghost use Rattle.std.specs.Prelude.{◌≡◌, ◌<◌, ◌≤◌, ℕ, length, Some, None, IfOk, IfNone, IfSome, IsSome, slice_set};
-ghost use Rattle.exam_model.specs.Timetable.{place_of, unplaced, HasExams, IsFirstUnplaced};
+ghost use Rattle.exam_model.specs.Timetable.{Placing, place_of, unplaced, HasExams, IsFirstUnplaced};
 
 use crate::numbers::ExamNo;
 use crate::parts::Place;
@@ -14,8 +14,6 @@ pub struct Timetable {
 }
 
 impl Model for Timetable {
-    ghost use Rattle.exam_model.specs.Timetable.{Placing, HasExams};
-
     ghost Value = { Placing };
 
     ghost view = { λ a. a.places.items };
@@ -31,6 +29,15 @@ impl Timetable {
         ensures { IfOk result (λ made. made ≡ unplaced exams) }
     {
         let places = vec![in alloc; None; exams as usize]?;
+        Ok(Timetable { places })
+    }
+
+    /// The same timetable once more.
+    pub fn copy(&self, alloc: Global) -> Result<Timetable, AllocError>
+        ensures same { IfOk result (λ made. made ≡ self.now) }
+        ensures kept { IfOk result HasExams }
+    {
+        let places = self.places.to_vec(alloc)?;
         Ok(Timetable { places })
     }
 
@@ -57,6 +64,15 @@ impl Timetable {
     {
         let at = exam.get() as usize;
         self.places[at] = Some(place);
+    }
+
+    /// Takes the exam's place away, if it has one.
+    pub fn clear(&mut self, exam: ExamNo)
+        requires exists { exam < length self.old }
+        ensures { self.new ≡ slice_set self.old exam None }
+    {
+        let cleared = exam.get() as usize;
+        self.places[cleared] = None;
     }
 
     /// The smallest exam without a place; none where each exam has one.

@@ -1,14 +1,17 @@
 -- The exams of a period's group.
 use Rattle.std.specs.Prelude.{All}
 use Rattle.std.proofs.Common.{◌≡◌, ℕ, ◌<◌, Bool, true, false, ◌&&◌, ◌==◌, not, nat_lt, List, [], length, get_or, Option, Some, None, refl, sym, ◌∙◌, ap, subst, arith, ltb-true, eq-eqb, eqb-true}
-use Rattle.std.proofs.lemmas.Bool.{and_parts, and_from, lt-ltb}
-use Rattle.std.proofs.lemmas.List.Folds.{list_any_at}
+use Rattle.std.specs.List.{list_any}
+use Rattle.std.proofs.lemmas.Bool.{and_parts, and_from, lt-ltb, true≢false}
+use Rattle.std.proofs.lemmas.List.Folds.{Any-from_list_any, list_any_at}
+use Rattle.std.proofs.lemmas.List.{get_or_read}
+use Rattle.exam_model.specs.Instance.{Session}
 use Rattle.exam_model.specs.Timetable.{Placing, place_of}
 use Rattle.exam_model.specs.declared.parts.Place.{Place}
-use Rattle.exam_rules.specs.Places.{where_placed, where_both, is_one_place, in_one_period, in_one_place}
+use Rattle.exam_rules.specs.Places.{PlaceExists, where_placed, where_both, is_one_place, in_one_period, in_one_place}
 use Rattle.exam_rules.specs.Groups.{has_exam, stands_in, AreGroups}
 use Rattle.exam_rules.proofs.MemberLemmas.{and_false}
-use Rattle.exam_rules.proofs.PlaceLemmas.{placed_exists}
+use Rattle.exam_rules.proofs.PlaceLemmas.{placed_exists, its_place_exists}
 
 -- a complete group has just the exams that stand in its period
 pub in_group : {T : Placing} {periods n : ℕ} {groups : List (List ℕ)} → AreGroups T periods n groups → length T ≡ n
@@ -105,3 +108,45 @@ no_place T k unplaced e f = at (k == e) refl
         ∙ ap (λ o. not (e == f) && where_both is_one_place o (place_of T f)) unplaced
         ∙ and_false (not (e == f)))
     at false is = refl
+
+-- two tests that follow from one another
+same_tests : (a b : Bool) → (a ≡ true → b ≡ true) → (b ≡ true → a ≡ true) → a ≡ b
+same_tests true b h k = sym (h refl)
+same_tests false true h k = k refl
+same_tests false false h k = refl
+
+-- exams that stand in period k stand in one period
+one_period : (k : ℕ) (p q : Option Place) → where_placed (λ x. k == x.period) p ≡ true → where_placed (λ x. k == x.period) q ≡ true
+    → where_both (λ x y. x.period == y.period) p q ≡ true
+one_period k None q h g = h
+one_period k (Some p) None h g = g
+one_period k (Some p) (Some q) h g = eq-eqb p.period q.period (sym (eqb-true k p.period h) ∙ eqb-true k q.period g)
+
+-- two exams are in one of the groups where they stand in one period
+pub in_one_group : {T : Placing} {periods n : ℕ} {groups : List (List ℕ)} (I : Session) → AreGroups T periods n groups → length T ≡ n
+    → periods ≡ length I.periods → All (PlaceExists I) T → (e f : ℕ)
+    → list_any (λ g. has_exam g e && has_exam g f) groups ≡ in_one_period T e f
+in_one_group {T} {periods} {n} {groups} I are same count exist e f =
+    same_tests (list_any (λ g. has_exam g e && has_exam g f) groups) (in_one_period T e f) sound (λ h. complete (place_of T e) refl h)
+  where
+    sound : list_any (λ g. has_exam g e && has_exam g f) groups ≡ true → in_one_period T e f ≡ true
+    sound h =
+        let any = Any-from_list_any (λ g. has_exam g e && has_exam g f) groups h in
+        let within : any.0 < periods = omega (arith, any.2, are.count) in
+        let here : get_or groups any.0 [] ≡ any.1 = sym (get_or_read groups any.0 any.1 any.2 (sym any.3) []) in
+        let parts = and_parts (has_exam any.1 e) (has_exam any.1 f) any.4 in
+        let first = sym (in_group are same any.0 e within) ∙ ap (λ g. has_exam g e) here ∙ parts.0 in
+        let second = sym (in_group are same any.0 f within) ∙ ap (λ g. has_exam g f) here ∙ parts.1 in
+        one_period any.0 (place_of T e) (place_of T f) first second
+
+    complete : (o : Option Place) → place_of T e ≡ o → where_both (λ p q. p.period == q.period) o (place_of T f) ≡ true
+        → list_any (λ g. has_exam g e && has_exam g f) groups ≡ true
+    complete None is h = absurd (true≢false (sym h))
+    complete (Some p) is h =
+        let there = its_place_exists I T e p exist is in
+        let within : p.period < periods = omega (arith, there.0) in
+        let long : p.period < length groups = omega (arith, are.count) in
+        let first = in_group are same p.period e within ∙ ap (where_placed (λ q. p.period == q.period)) is ∙ eq-eqb p.period p.period refl in
+        let second = in_group are same p.period f within ∙ h in
+        list_any_at (λ g. has_exam g e && has_exam g f) groups p.period [] long
+        (and_from (has_exam (get_or groups p.period []) e) (has_exam (get_or groups p.period []) f) first second)

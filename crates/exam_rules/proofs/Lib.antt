@@ -6,4 +6,6 @@ pub mod PlaceLemmas
 pub mod GroupLemmas
 pub mod LoadLemmas
 pub mod BreachLemmas
+pub mod NamingLemmas
+pub mod MarkLemmas
 mod CommonLemmas

@@ -1,6 +1,6 @@
 -- The hard rules of a session (ITC 2007, hard constraints): which exams break which rule.
-use Rattle.std.specs.Prelude.{ℕ, Bool, false, not, ◌&&◌, ◌==◌, nat_lt, List, length, map, Option, Some, None, slice_get}
-use Rattle.std.specs.List.{flat_map, list_any}
+use Rattle.std.specs.Prelude.{ℕ, Bool, false, not, ◌&&◌, ◌||◌, ◌==◌, nat_lt, List, length, map, Option, Some, None, slice_get}
+use Rattle.std.specs.List.{flat_map, list_any, find}
 use Rattle.exam_model.specs.Instance.{Session}
 use Rattle.exam_model.specs.Enrolments.{Enrolled}
 use Rattle.exam_model.specs.Timetable.{Placing, place_of}
@@ -69,3 +69,15 @@ pairs_breaking I E T r = passing (breaks I E T r) (length I.exams)
 -- all breaches: by rule, then by exam, then by the other exam
 abbrev pub breaches_of : Session → Enrolled → Placing → List Breach
 breaches_of I E T = flat_map (λ r. map (breach r) (pairs_breaking I E T r)) all_rules
+
+-- whether the exam a is e or f
+abbrev pub is_one_of : ℕ → ℕ → ℕ → Bool
+is_one_of a e f = (a == e) || (a == f)
+
+-- whether one of the exams is e or f
+abbrev pub name_one : List ℕ → ℕ → ℕ → Bool
+name_one exams e f = list_any (λ a. is_one_of a e f) exams
+
+-- the least breach that names one of these exams
+abbrev pub least_breach_of : Session → Enrolled → Placing → List ℕ → Option Breach
+least_breach_of I E T exams = find (λ b. name_one exams b.exam b.other) (breaches_of I E T)

@@ -2,5 +2,6 @@ pub mod Breach
 pub mod Places
 pub mod Groups
 pub mod Loads
+pub mod Marks
 pub mod Lines
 pub mod Breaches

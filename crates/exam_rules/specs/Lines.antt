@@ -29,3 +29,9 @@ is_exclusion e f (Exclusion a b) = are_both e f a b
 -- whether the line wants the room of e for e alone
 abbrev pub is_exclusive : ℕ → RoomRule → Bool
 is_exclusive e line = line.0 == e
+
+-- whether the line names the exam
+abbrev pub line_names : PeriodRule → ℕ → Bool
+line_names (After a b) e = (e == a) || (e == b)
+line_names (Coincidence a b) e = (e == a) || (e == b)
+line_names (Exclusion a b) e = (e == a) || (e == b)

@@ -30,7 +30,8 @@ impl Group {
         }
     }
 
-    fn as_slice(&self) -> &[ExamNo]
+    /// The exams, ascending.
+    pub fn as_slice(&self) -> &[ExamNo]
         ensures { result.now ≡ self.now }
     {
         &self.exams

@@ -3,15 +3,19 @@
 
 mod breach;
 mod exam_pair;
+mod first_breach;
 mod groups;
 mod judging;
 mod line_rules;
 mod loads;
+mod marks;
 mod period_rules;
 mod room_rules;
+mod site;
 mod standing;
 #[cfg(test)]
 mod tests;
 
 pub use breach::{Breach, BreachRule};
+pub use first_breach::first_breach_of;
 pub use judging::breaches;

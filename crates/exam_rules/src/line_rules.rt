@@ -1,15 +1,16 @@
 // The rules that lines on two exams state: After, Coincidence and Exclusion.
-ghost use Rattle.std.specs.Prelude.{◌≡◌, ℕ, Bool, ◌&&◌, ◌==◌, not, nat_lt, min, max, length, IfOk};
+ghost use Rattle.std.specs.Prelude.{◌≡◌, ℕ, Bool, ◌&&◌, ◌==◌, not, ◌||◌, nat_lt, length, IfOk, OnOk};
 ghost use Rattle.std.specs.List.{list_any};
 ghost use Rattle.exam_model.specs.Instance.{PeriodRuleExists};
 ghost use Rattle.exam_model.specs.Enrolments.{Enrolled};
 ghost use Rattle.exam_rules.specs.declared.breach.BreachRule.TheVariants.{After, Coincidence, Exclusion};
-ghost use Rattle.exam_rules.specs.Breach.{is_some_pair};
-ghost use Rattle.exam_rules.specs.Lines.{is_after, is_coincidence, is_exclusion};
+ghost use Rattle.exam_rules.specs.Breach.{is_pair, is_some_pair};
+ghost use Rattle.exam_rules.specs.Lines.{is_after, is_coincidence, is_exclusion, line_names};
 ghost use Rattle.exam_rules.specs.Places.{Fits, in_one_period, in_two_periods, is_not_after, share_student};
-ghost use Rattle.exam_rules.specs.Breaches.{pairs_breaking};
+ghost use Rattle.exam_rules.specs.Breaches.{breaks, pairs_breaking, is_one_of};
 
 use crate::exam_pair::{ExamPair, in_order, pair_if, push_some};
+use crate::site::Site;
 use crate::standing::{are_strangers_apart, in_one_period, is_not_after};
 use exam_model::{Enrolments, ExamNo, Instance, PeriodRule, Timetable};
 use std::alloc::{AllocError, Global};
@@ -114,4 +115,78 @@ pub fn exclusion_pairs(
         push_some(&mut found, broken_exclusion(line, timetable))?;
     }
     Ok(in_order(found))
+}
+
+// Whether the line names the exam.
+fn names(line: &PeriodRule, exam: ExamNo) -> bool
+    ensures { result ≡ line_names line.now exam }
+{
+    let (first, second) = match line {
+        PeriodRule::After(a, b) => (*a, *b),
+        PeriodRule::Coincidence(a, b) => (*a, *b),
+        PeriodRule::Exclusion(a, b) => (*a, *b),
+    };
+    exam == first || exam == second
+}
+
+/// Adds the broken lines `After` that name the exam.
+pub fn push_afters(found: &mut Vec<ExamPair>, exam: ExamNo, site: &Site) -> Result<(), AllocError>
+    requires fits { Fits site.now.instance.now site.now.enrolments.now site.now.timetable.now }
+    ensures { OnOk result ((e f : ℕ) → list_any (is_pair e f) found.new.items
+        ≡ (list_any (is_pair e f) found.old.items || (is_one_of exam e f
+        && breaks site.now.instance.now site.now.enrolments.now site.now.timetable.now
+        After e f))) }
+{
+    'lines: for line in site.instance.period_rules() {
+        if !names(line, exam) {
+            continue;
+        }
+        push_some(found, broken_after(line, site.timetable))?;
+    }
+    Ok(())
+}
+
+/// Adds the broken lines `Coincidence` that name the exam.
+pub fn push_coincidences(
+    found: &mut Vec<ExamPair>,
+    exam: ExamNo,
+    site: &Site,
+) -> Result<(), AllocError>
+    requires fits { Fits site.now.instance.now site.now.enrolments.now site.now.timetable.now }
+    ensures { OnOk result ((e f : ℕ) → list_any (is_pair e f) found.new.items
+        ≡ (list_any (is_pair e f) found.old.items || (is_one_of exam e f
+        && breaks site.now.instance.now site.now.enrolments.now site.now.timetable.now
+        Coincidence e f))) }
+{
+    'lines: for line in site.instance.period_rules() {
+        if !names(line, exam) {
+            continue;
+        }
+        push_some(
+            found,
+            broken_coincidence(line, site.enrolments, site.timetable),
+        )?;
+    }
+    Ok(())
+}
+
+/// Adds the broken lines `Exclusion` that name the exam.
+pub fn push_exclusions(
+    found: &mut Vec<ExamPair>,
+    exam: ExamNo,
+    site: &Site,
+) -> Result<(), AllocError>
+    requires fits { Fits site.now.instance.now site.now.enrolments.now site.now.timetable.now }
+    ensures { OnOk result ((e f : ℕ) → list_any (is_pair e f) found.new.items
+        ≡ (list_any (is_pair e f) found.old.items || (is_one_of exam e f
+        && breaks site.now.instance.now site.now.enrolments.now site.now.timetable.now
+        Exclusion e f))) }
+{
+    'lines: for line in site.instance.period_rules() {
+        if !names(line, exam) {
+            continue;
+        }
+        push_some(found, broken_exclusion(line, site.timetable))?;
+    }
+    Ok(())
 }

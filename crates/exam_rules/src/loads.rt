@@ -1,6 +1,8 @@
 // How many students sit in each room and period.
-ghost use Rattle.std.specs.Prelude.{◌≡◌, ◌<◌, ◌≤◌, ◌*◌, length, slice_get, slice_index, IfOk};
-ghost use Rattle.exam_rules.specs.Places.{Fits};
+ghost use Rattle.std.specs.Prelude.{◌≡◌, ◌<◌, ◌≤◌, ◌*◌, ◌^◌, if◌then◌else◌, length, slice_get, slice_index, IfOk};
+ghost use Rattle.exam_model.specs.Enrolments.{size_of};
+ghost use Rattle.exam_model.specs.Timetable.{place_of};
+ghost use Rattle.exam_rules.specs.Places.{Fits, where_placed, is_one_place, load_at};
 ghost use Rattle.exam_rules.specs.Loads.{AreLoads, slot_of};
 ghost use Rattle.exam_rules.specs.Breaches.{is_too_small};
 
@@ -55,4 +57,30 @@ pub fn is_too_small(instance: &Instance, loads: &[u64], place: Place) -> bool
 {
     let room = instance.room(place.room);
     u64::from(room.capacity) < loads[slot_of(instance, place)]
+}
+
+// The students of an exam, if it stands at the place.
+fn size_at(enrolments: &Enrolments, timetable: &Timetable, exam: ExamNo, place: &Place) -> u64
+    requires exists { exam < length timetable.now }
+    requires fits { length timetable.now ≡ length enrolments.now }
+    ensures size { result ≡ (if where_placed (is_one_place place.now) (place_of timetable.now exam)
+        then size_of enrolments.now exam else 0) }
+    ensures small { result < 2 ^ 32 }
+{
+    match timetable.get(exam) {
+        Some(other) if other == *place => u64::from(enrolments.size(exam)),
+        _ => 0,
+    }
+}
+
+/// The students of one room and period, over all exams that stand there.
+pub fn load_at(enrolments: &Enrolments, timetable: &Timetable, place: &Place) -> u64
+    requires fits { length timetable.now ≡ length enrolments.now }
+    ensures { result ≡ load_at enrolments.now timetable.now place.now }
+{
+    let mut load = 0;
+    'exams: for exam in 0..enrolments.exams() {
+        load += size_at(enrolments, timetable, ExamNo::new(exam), place);
+    }
+    load
 }

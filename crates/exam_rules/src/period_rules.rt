@@ -1,21 +1,26 @@
 // The rules that ask only for the exams' periods: Duration and Clash.
-ghost use Rattle.std.specs.Prelude.{◌≡◌, ◌<◌, ℕ, Bool, ◌&&◌, ◌||◌, ◌==◌, nat_lt, length, All, IfOk, OnOk};
+ghost use Rattle.std.specs.Prelude.{◌≡◌, ◌<◌, ℕ, Bool, true, ◌&&◌, ◌||◌, ◌==◌, nat_lt, length, All, IfOk, OnOk};
 ghost use Rattle.std.specs.List.{list_any};
 ghost use Rattle.exam_model.specs.Enrolments.{Enrolled};
 ghost use Rattle.exam_rules.specs.declared.breach.BreachRule.TheVariants.{Duration, Clash};
 ghost use Rattle.exam_rules.specs.Breach.{is_pair};
+ghost use Rattle.exam_model.specs.Enrolments.{has};
 ghost use Rattle.exam_rules.specs.Groups.{AreGroups, has_exam};
+ghost use Rattle.exam_rules.specs.Marks.{marks_of, Has};
 ghost use Rattle.exam_rules.specs.Places.{Fits, PlaceExists, in_one_period, share_student};
-ghost use Rattle.exam_rules.specs.Breaches.{breaks, outlasts, pairs_breaking};
+ghost use Rattle.exam_rules.specs.Breaches.{breaks, outlasts, pairs_breaking, is_one_of};
 
 use crate::exam_pair::{ExamPair, in_order, pair_if, push_some};
-use crate::groups::{Group, group_of};
-use crate::standing::share_student;
+use crate::groups::Group;
+use crate::marks::{Marks, has};
+use crate::site::Site;
+use crate::standing::{in_one_period, share_student};
 use exam_model::{Enrolments, ExamNo, Instance, Timetable};
 use std::alloc::{AllocError, Global};
 
+/// Whether the exam lasts longer than its period.
 #[tactic(auto, using(crate::proofs::PlaceLemmas::place_exists))]
-fn outlasts(instance: &Instance, timetable: &Timetable, exam: ExamNo) -> bool
+pub fn outlasts(instance: &Instance, timetable: &Timetable, exam: ExamNo) -> bool
     requires exists { exam < length timetable.now }
     requires fits { length timetable.now ≡ length instance.now.exams }
     requires places { All (PlaceExists instance.now) timetable.now }
@@ -47,32 +52,88 @@ pub fn duration_pairs(
     Ok(in_order(found))
 }
 
-// Whether two exams share a student, the smaller of them first.
-fn is_clash(enrolments: &Enrolments, exam: ExamNo, other: ExamNo) -> bool
+// Whether two exams share a student, the smaller of them first; one that isn't near shares none.
+fn is_clash(near: u64, enrolments: &Enrolments, exam: ExamNo, other: ExamNo) -> bool
     requires exists { exam < length enrolments.now }
     requires other_exists { other < length enrolments.now }
+    requires near { share_student enrolments.now exam other ≡ true → Has near other }
     ensures { result ≡ (nat_lt exam other && share_student enrolments.now exam other) }
 {
-    exam < other && share_student(enrolments, exam, other)
+    exam < other && has(near, other) && share_student(enrolments, exam, other)
 }
 
-// Adds an exam's clashes with greater exams of its group.
+// Adds an exam's clashes with greater exams of its group; what is near it has all that share a
+// student with it.
 fn add_clashes(
     found: &mut Vec<ExamPair>,
     exam: ExamNo,
+    near: u64,
     group: &[ExamNo],
     enrolments: &Enrolments,
 ) -> Result<(), AllocError>
     requires exists { exam < length enrolments.now }
     requires others_exist { All (λ f. f < length enrolments.now) group.now }
+    requires near { (f : ℕ) → has_exam group.now f ≡ true
+        → share_student enrolments.now exam f ≡ true → Has near f }
     ensures { OnOk result ((e f : ℕ) → list_any (is_pair e f) found.new.items
         ≡ (list_any (is_pair e f) found.old.items || (has_exam group.now f
         && ((exam == e) && (nat_lt e f && share_student enrolments.now e f))))) }
 {
     'others: for other in group {
-        let clash = is_clash(enrolments, exam, *other);
+        let clash = is_clash(near, enrolments, exam, *other);
         push_some(found, pair_if(clash, exam, *other))?;
     }
+    Ok(())
+}
+
+// Marks the exams of a group for their students.
+fn mark(marks: &mut Marks, group: &[ExamNo], enrolments: &Enrolments)
+    requires exist { All (λ e. e < length enrolments.now) group.now }
+    ensures { (e s : ℕ) → has_exam group.now e ≡ true → has enrolments.now s e ≡ true
+        → Has (marks_of marks.new s) e }
+{
+    'exams: for exam in group {
+        marks.add(enrolments.students(*exam), *exam);
+    }
+}
+
+// Takes the marks of a group away.
+fn unmark(marks: &mut Marks, group: &[ExamNo], enrolments: &Enrolments)
+    requires exist { All (λ e. e < length enrolments.now) group.now }
+{
+    'exams: for exam in group {
+        marks.clear(enrolments.students(*exam));
+    }
+}
+
+// The marked exams of an exam's students.
+#[tactic(auto, using(crate::proofs::CommonLemmas::shared_any))]
+fn near_of(marks: &Marks, enrolments: &Enrolments, exam: ExamNo) -> u64
+    requires exists { exam < length enrolments.now }
+    ensures { (f : ℕ) → ((s : ℕ) → has enrolments.now s f ≡ true → Has (marks_of marks.now s) f)
+        → share_student enrolments.now exam f ≡ true → Has result f }
+{
+    marks.of(enrolments.students(exam))
+}
+
+// Adds the clashes within a group.
+fn add_group(
+    found: &mut Vec<ExamPair>,
+    marks: &mut Marks,
+    group: &[ExamNo],
+    enrolments: &Enrolments,
+) -> Result<(), AllocError>
+    requires exist { All (λ e. e < length enrolments.now) group.now }
+    ensures { OnOk result ((e f : ℕ) → list_any (is_pair e f) found.new.items
+        ≡ (list_any (is_pair e f) found.old.items || ((has_exam group.now e && has_exam group.now f)
+        && (nat_lt e f && share_student enrolments.now e f)))) }
+{
+    mark(marks, group, enrolments);
+    'exams: for exam in group {
+        let near = near_of(marks, enrolments, *exam);
+        add_clashes(found, *exam, near, group, enrolments)?;
+    }
+    unmark(marks, group, enrolments);
     Ok(())
 }
 
@@ -91,12 +152,41 @@ pub fn clash_pairs(
         ≡ pairs_breaking instance.now enrolments.now timetable.now Clash) }
 {
     let mut found = Vec::new(alloc);
-    'exams: for exam in 0..instance.exams() {
-        let exam = ExamNo::new(exam);
-        let Some(place) = timetable.get(exam) else {
-            continue;
-        };
-        add_clashes(&mut found, exam, group_of(groups, place.period), enrolments)?;
+    let mut marks = Marks::new(alloc)?;
+    'groups: for group in groups {
+        add_group(&mut found, &mut marks, group.as_slice(), enrolments)?;
     }
     Ok(in_order(found))
+}
+
+// Whether two exams share a student and stand in one period, the smaller of them first.
+fn clashes(site: &Site, exam: ExamNo, other: ExamNo) -> bool
+    requires fits { Fits site.now.instance.now site.now.enrolments.now site.now.timetable.now }
+    requires exists { exam < length site.now.timetable.now }
+    requires other_exists { other < length site.now.timetable.now }
+    ensures { result ≡ breaks site.now.instance.now site.now.enrolments.now site.now.timetable.now
+        Clash exam other }
+{
+    exam < other
+        && in_one_period(site.timetable, exam, other)
+        && share_student(site.enrolments, exam, other)
+}
+
+/// Adds an exam's clashes, with smaller exams and with greater ones.
+pub fn push_clashes(found: &mut Vec<ExamPair>, exam: ExamNo, site: &Site) -> Result<(), AllocError>
+    requires fits { Fits site.now.instance.now site.now.enrolments.now site.now.timetable.now }
+    requires exists { exam < length site.now.timetable.now }
+    ensures { OnOk result ((e f : ℕ) → list_any (is_pair e f) found.new.items
+        ≡ (list_any (is_pair e f) found.old.items || (is_one_of exam e f
+        && breaks site.now.instance.now site.now.enrolments.now site.now.timetable.now
+        Clash e f))) }
+{
+    'others: for other in 0..site.timetable.exams() {
+        let other = ExamNo::new(other);
+        let before = clashes(site, other, exam);
+        push_some(found, pair_if(before, other, exam))?;
+        let after = clashes(site, exam, other);
+        push_some(found, pair_if(after, exam, other))?;
+    }
+    Ok(())
 }

@@ -7,11 +7,12 @@ ghost use Rattle.exam_rules.specs.Breach.{is_pair};
 ghost use Rattle.exam_rules.specs.Lines.{is_exclusive};
 ghost use Rattle.exam_rules.specs.Groups.{AreGroups, has_exam};
 ghost use Rattle.exam_rules.specs.Places.{Fits, PlaceExists, in_one_place};
-ghost use Rattle.exam_rules.specs.Breaches.{pairs_breaking};
+ghost use Rattle.exam_rules.specs.Breaches.{breaks, is_overfull, pairs_breaking, is_one_of};
 
 use crate::exam_pair::{ExamPair, in_order, pair_if, push_some};
 use crate::groups::{Group, group_of};
-use crate::loads::{is_too_small, loads_of};
+use crate::loads::{is_too_small, load_at, loads_of};
+use crate::site::Site;
 use crate::standing::in_one_place;
 use exam_model::{Enrolments, ExamNo, Instance, RoomRule, Timetable};
 use std::alloc::{AllocError, Global};
@@ -111,4 +112,61 @@ pub fn exclusive_pairs(
         add_intruders(&mut found, *exam, group_of(groups, place.period), timetable)?;
     }
     Ok(in_order(found))
+}
+
+/// Whether the exam's room is too small for all exams there in its period.
+#[tactic(auto, using(crate::proofs::PlaceLemmas::place_exists))]
+pub fn is_overfull(site: &Site, exam: ExamNo) -> bool
+    requires fits { Fits site.now.instance.now site.now.enrolments.now site.now.timetable.now }
+    requires exists { exam < length site.now.timetable.now }
+    ensures { result ≡ is_overfull site.now.instance.now site.now.enrolments.now
+        site.now.timetable.now exam }
+{
+    match site.timetable.get(exam) {
+        Some(place) => {
+            let room = site.instance.room(place.room);
+            u64::from(room.capacity) < load_at(site.enrolments, site.timetable, &place)
+        }
+        None => false,
+    }
+}
+
+// Whether a line wants the exam's room for it alone.
+fn is_exclusive(instance: &Instance, exam: ExamNo) -> bool
+    ensures { result ≡ list_any (is_exclusive exam) instance.now.room_rules }
+{
+    instance.room_rules().iter().any(|line| line.0 == exam)
+}
+
+// Whether another exam stands in the room and period of one that wants its room for itself.
+fn intrudes(site: &Site, exam: ExamNo, other: ExamNo) -> bool
+    requires exists { exam < length site.now.timetable.now }
+    requires other_exists { other < length site.now.timetable.now }
+    ensures { result ≡ breaks site.now.instance.now site.now.enrolments.now site.now.timetable.now
+        RoomExclusive exam other }
+{
+    is_intruder(site.timetable, exam, other) && is_exclusive(site.instance, exam)
+}
+
+/// Adds the pairs of an exam and another one there, where either wants the room for itself.
+pub fn push_exclusives(
+    found: &mut Vec<ExamPair>,
+    exam: ExamNo,
+    site: &Site,
+) -> Result<(), AllocError>
+    requires fits { Fits site.now.instance.now site.now.enrolments.now site.now.timetable.now }
+    requires exists { exam < length site.now.timetable.now }
+    ensures { OnOk result ((e f : ℕ) → list_any (is_pair e f) found.new.items
+        ≡ (list_any (is_pair e f) found.old.items || (is_one_of exam e f
+        && breaks site.now.instance.now site.now.enrolments.now site.now.timetable.now
+        RoomExclusive e f))) }
+{
+    'others: for other in 0..site.timetable.exams() {
+        let other = ExamNo::new(other);
+        let before = intrudes(site, other, exam);
+        push_some(found, pair_if(before, other, exam))?;
+        let after = intrudes(site, exam, other);
+        push_some(found, pair_if(after, exam, other))?;
+    }
+    Ok(())
 }

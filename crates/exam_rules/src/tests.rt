@@ -1,8 +1,8 @@
 // The worked examples of the rules.
-ghost use Rattle.std.specs.Prelude.{IsTrue, ◌↔◌};
+ghost use Rattle.std.specs.Prelude.{◌<◌, IsTrue, All, ◌↔◌, length};
 ghost use Rattle.exam_rules.specs.Places.{Fits, PlaceExists};
 
-use crate::{Breach, BreachRule, breaches};
+use crate::{Breach, BreachRule, breaches, first_breach_of};
 use exam_model::{
     Enrolments, Exam, ExamNo, Instance, Period, PeriodNo, PeriodRule, Place, Room, RoomNo,
     RoomRule, StudentNo, Timetable, Weights,
@@ -210,6 +210,80 @@ fn exclusive_room_and_repeated_lines(rt: HostRuntime) -> Result<(), Fail> {
         let places = [Some((0, 0)), Some((1, 0)), Some((3, 1)), Some((3, 1))];
         let found = judged(&rt, rt.alloc(), instance, &PAIRS, places)?;
         assert_eq!(rt; found.as_slice(), want.as_slice());
+    }
+    Ok(())
+}
+
+fn exist(exams: &[ExamNo], instance: &Instance) -> bool
+    ensures { IsTrue result → All (λ e. e < length instance.now.exams) exams.now }
+{
+    exams.iter().all(|exam| exam.get() < instance.exams())
+}
+
+// The first breach of a timetable of the small instance that names one of these exams.
+fn first_judged<R: Abort>(
+    rt: &R,
+    alloc: Global,
+    instance: &Instance,
+    places: [Option<(u32, u32)>; 4],
+    exams: &[u32],
+) -> Result<Option<Breach>, Fail> {
+    let enrolments = enrolled(alloc, &PAIRS)?;
+    let timetable = placed(alloc, &places)?;
+    let mut edited = Vec::new(alloc);
+    for exam in exams {
+        edited.push(ExamNo::new(*exam))?;
+    }
+    assert!(rt; fits(instance, &enrolments, &timetable));
+    assert!(rt; exist(&edited, instance));
+    Ok(first_breach_of(alloc, instance, &enrolments, &timetable, &edited)?)
+}
+
+#[test]
+fn clash_comes_first(rt: HostRuntime) -> Result<(), Fail> {
+    let instance = small(rt.alloc(), &[], &[])?;
+    let places = [Some((0, 0)), Some((0, 0)), Some((2, 0)), None];
+    let cases = [
+        ([1, 1], Some(breach(BreachRule::Clash, 0, 1))),
+        ([0, 3], Some(breach(BreachRule::Clash, 0, 1))),
+        ([3, 1], Some(breach(BreachRule::Clash, 0, 1))),
+        ([1, 2], Some(breach(BreachRule::Duration, 2, 2))),
+        ([3, 3], None),
+    ];
+    for (exams, want) in cases {
+        let found = first_judged(&rt, rt.alloc(), &instance, places, &exams)?;
+        assert_eq!(rt; found, want, "of {exams:?}");
+    }
+    let found = first_judged(&rt, rt.alloc(), &instance, places, &[])?;
+    assert_eq!(rt; found, None);
+    Ok(())
+}
+
+#[test]
+fn first_breach_by_rule(rt: HostRuntime) -> Result<(), Fail> {
+    let (one, two, three) = (ExamNo::new(1), ExamNo::new(2), ExamNo::new(3));
+    let lines = [
+        PeriodRule::Coincidence(three, two),
+        PeriodRule::Exclusion(three, one),
+    ];
+    let instance = small(rt.alloc(), &lines, &[RoomRule(two)])?;
+    let shared = [Some((0, 0)), Some((1, 0)), Some((3, 1)), Some((3, 1))];
+    let apart = [Some((0, 0)), Some((0, 0)), Some((3, 1)), Some((1, 1))];
+    let late = [Some((3, 0)), Some((1, 0)), None, Some((1, 0))];
+    let full = [None, Some((1, 1)), None, Some((1, 1))];
+    let cases = [
+        (shared, 3, Some(breach(BreachRule::RoomExclusive, 2, 3))),
+        (shared, 0, None),
+        (apart, 1, Some(breach(BreachRule::Clash, 0, 1))),
+        (apart, 3, Some(breach(BreachRule::Coincidence, 2, 3))),
+        (late, 0, Some(breach(BreachRule::After, 1, 0))),
+        (late, 1, Some(breach(BreachRule::After, 1, 0))),
+        (late, 3, Some(breach(BreachRule::Exclusion, 1, 3))),
+        (full, 3, Some(breach(BreachRule::Capacity, 3, 3))),
+    ];
+    for (places, exam, want) in cases {
+        let found = first_judged(&rt, rt.alloc(), &instance, places, &[exam])?;
+        assert_eq!(rt; found, want, "of {exam}");
     }
     Ok(())
 }

@@ -1,6 +1,8 @@
 pub mod RegroupingLemmas
 pub mod CostLemmas
 pub mod RowLemmas
+pub mod SittingLemmas
+pub mod TallyLemmas
 pub mod WalkLemmas
 pub mod PairsLemmas
 pub mod FrontLemmas

@@ -1,18 +1,16 @@
 -- The table of costs, line by line, and periods beyond it.
-use Rattle.std.proofs.Common.{◌≡◌, ℕ, zero, suc, ◌<◌, ◌≤◌, List, [], ◌∷◌, ◌++◌, length, Some, None, Vec, Global, refl, sym, ◌∙◌, ap, arith, inl, inr, le-ltb, length-append, subst}
+use Rattle.std.proofs.Common.{◌≡◌, ℕ, zero, suc, ◌<◌, ◌≤◌, List, [], ◌∷◌, ◌++◌, length, Some, None, refl, sym, ◌∙◌, ap, arith, inl, inr, le-ltb, length-append, subst}
 use Rattle.std.specs.Prelude.{slice_get, nat_lt, nat_le, ◌&&◌, ◌==◌, if◌then◌else◌}
 use Rattle.std.proofs.lemmas.Bool.{cases_lt}
 use Rattle.std.proofs.lemmas.Option.{slice_get_past, slice_get_within}
 use Rattle.exam_model.specs.Instance.{Session, gap, share_date}
 use Rattle.exam_model.specs.declared.parts.Period.{Period}
 use Rattle.exam_model.specs.declared.parts.Weights.{Weights}
-use Rattle.exam_model.proofs.SumLemmas.{sum_by-same, sum_by-zeros}
 use Rattle.exam_score.specs.Cost.{row_cost, day_cost, spread_cost}
 use Rattle.exam_score.specs.CostLaws.{row_cost-swap, day_cost-swap, spread_cost-swap}
-use Rattle.exam_score.specs.Lines.{costs_of, IsLine, IsTable}
-use Rattle.exam_score.specs.Walk.{cost_beside}
+use Rattle.exam_score.specs.Lines.{costs_of, IsLine}
 use Rattle.exam_score.specs.declared.lines.PairCosts.{PairCosts}
-use Rattle.exam_score.specs.declared.rows.Row.{Row}
+use Rattle.exam_score.specs.declared.lines.Line.{Line}
 
 -- ---- one more
 
@@ -36,17 +34,17 @@ line_more s p line each q lt = elim (cases_lt q (length line)) as (λ _. slice_g
       slice_get-push line (costs_of s p (length line)) q last ∙ ap (λ n. Some (costs_of s p n)) (sym last))
 ]
 
-pub table_more : (s : Session) (lines : List (Vec PairCosts Global)) (new : Vec PairCosts Global) → IsLine s (length lines) new.items
-    → ((p : ℕ) (line : Vec PairCosts Global) → slice_get lines p ≡ Some line → IsLine s p line.items)
-    → (p : ℕ) (line : Vec PairCosts Global) → slice_get (lines ++ new ∷ []) p ≡ Some line → IsLine s p line.items
-table_more s lines new is each p line found = elim (cases_lt p (length lines)) as (λ _. IsLine s p line.items) [
+pub table_more : (P : ℕ → Line → Type 0) (lines : List Line) (new : Line) → P (length lines) new
+    → ((p : ℕ) (line : Line) → slice_get lines p ≡ Some line → P p line)
+    → (p : ℕ) (line : Line) → slice_get (lines ++ new ∷ []) p ≡ Some line → P p line
+table_more P lines new is each p line found = elim (cases_lt p (length lines)) as (λ _. P p line) [
   | inl before ↦ each p line (sym (slice_get-kept lines new p before) ∙ found)
   | inr after ↦
       (let within = slice_get_within (lines ++ new ∷ []) p line found in
       let last : p ≡ length lines = omega (arith, length-append lines (new ∷ [])) in
       let same : Some new ≡ Some line = sym (slice_get-push lines new p last) ∙ found in
       let one : new ≡ line = cc in
-      subst (λ v. IsLine s p v.items) one (subst (λ n. IsLine s n new.items) (sym last) is))
+      subst (λ v. P p v) one (subst (λ n. P n new) (sym last) is))
 ]
 
 -- ---- beyond the periods
@@ -73,24 +71,12 @@ beyond_costs s p q line is none = λ i. record { row = no_row s.periods s.weight
         clash : (x : PairCosts) → None ≡ Some x → ⊥
         clash x e = cc
 
--- nor does a row beside a period beyond the table
-beyond_rows : (cost : ℕ → ℕ → ℕ) (p : ℕ) (rows : List Row) → ((q : ℕ) → cost q p ≡ 0) → cost_beside cost p rows ≡ 0
-beyond_rows cost p rows nothing = sum_by-same _ _ (λ (x : Row). nothing x.period) rows ∙ sum_by-zeros rows
+-- nor does any period with it
+pub row_beyond : (s : Session) (p q : ℕ) → length s.periods ≤ p → row_cost s.periods s.weights q p ≡ 0
+row_beyond s p q past = row_cost-swap s.periods s.weights q p ∙ no_row s.periods s.weights q p past
 
-pub no_row_beside : (s : Session) (lines : List (Vec PairCosts Global)) (p : ℕ) (rows : List Row) → IsTable s lines → length lines ≤ p
-    → cost_beside (row_cost s.periods s.weights) p rows ≡ 0
-no_row_beside s lines p rows is beyond =
-    let past : length s.periods ≤ p = omega (arith, is.count) in
-    beyond_rows (row_cost s.periods s.weights) p rows (λ q. row_cost-swap s.periods s.weights q p ∙ no_row s.periods s.weights q p past)
+pub day_beyond : (s : Session) (p q : ℕ) → length s.periods ≤ p → day_cost s.periods s.weights q p ≡ 0
+day_beyond s p q past = day_cost-swap s.periods s.weights q p ∙ no_day s.periods s.weights q p past
 
-pub no_day_beside : (s : Session) (lines : List (Vec PairCosts Global)) (p : ℕ) (rows : List Row) → IsTable s lines → length lines ≤ p
-    → cost_beside (day_cost s.periods s.weights) p rows ≡ 0
-no_day_beside s lines p rows is beyond =
-    let past : length s.periods ≤ p = omega (arith, is.count) in
-    beyond_rows (day_cost s.periods s.weights) p rows (λ q. day_cost-swap s.periods s.weights q p ∙ no_day s.periods s.weights q p past)
-
-pub no_spread_beside : (s : Session) (lines : List (Vec PairCosts Global)) (p : ℕ) (rows : List Row) → IsTable s lines → length lines ≤ p
-    → cost_beside (spread_cost s.periods s.weights) p rows ≡ 0
-no_spread_beside s lines p rows is beyond =
-    let past : length s.periods ≤ p = omega (arith, is.count) in
-    beyond_rows (spread_cost s.periods s.weights) p rows (λ q. spread_cost-swap s.periods s.weights q p ∙ no_spread s.periods s.weights q p past)
+pub spread_beyond : (s : Session) (p q : ℕ) → length s.periods ≤ p → spread_cost s.periods s.weights q p ≡ 0
+spread_beyond s p q past = spread_cost-swap s.periods s.weights q p ∙ no_spread s.periods s.weights q p past

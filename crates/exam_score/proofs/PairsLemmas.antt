@@ -1,25 +1,27 @@
--- The sum over pairs of exams is the sum over rows of placed exams, in any order.
+-- The sum over pairs of exams is the sum over rows of placed exams, and over tallies of them.
 use Rattle.std.specs.List.{cons_option}
-use Rattle.std.specs.Ordering.{is_lt, nat_cmp, ordering_then}
-use Rattle.std.specs.Cmp.{then_total, on_total, nat_cmp_total, IsTotalOrder}
-use Rattle.std.proofs.Common.{◌≡◌, ℕ, ◌+◌, ◌<◌, ◌≤◌, inl, inr, Bool, true, false, cond, eqb, List, [], ◌∷◌, length, get_or, Some, None, option_map, sum_by, filter_map, AllPairs, IsPermutation, IsSorted, Ordering, refl, sym, ◌∙◌, ap, ap₂, arith, zero-add}
+use Rattle.std.proofs.Common.{◌≡◌, ℕ, ◌+◌, ◌*◌, ◌≤◌, Bool, true, false, cond, eqb, List, [], ◌∷◌, length, Some, None, option_map, sum_by, filter_map, refl, sym, ◌∙◌, ap, ap₂, arith, zero-add, mul-zero, zero-mul}
+use Rattle.std.proofs.Math.Nat.{mul_comm, mul_assoc}
 use Rattle.std.proofs.lemmas.List.Sums.{sum_by-cons}
-use Rattle.std.proofs.lemmas.List.Sorted.{sorted_far, ranks_by, length_permutation}
-use Rattle.std.proofs.lemmas.Bool.{cases_lt}
 use Rattle.std.proofs.lemmas.Bool.Decides.{nat_tests}
-use Rattle.exam_model.specs.Enrolments.{Enrolled, AreEnrolments}
+use Rattle.exam_model.specs.Enrolments.{Enrolled, AreEnrolments, students, size_of}
 use Rattle.exam_model.specs.PairCost.{cost_between}
 use Rattle.exam_model.specs.Pairs.{Pair, pairs_of}
-use Rattle.exam_model.specs.Sums.{sum_pairs}
+use Rattle.exam_model.specs.Sums.{sum_pairs, sum_below}
 use Rattle.exam_model.specs.Timetable.{Placing}
 use Rattle.exam_model.specs.Fits.{period_of}
 use Rattle.exam_model.proofs.PairLemmas.{are_pairs}
-use Rattle.exam_model.proofs.SumLemmas.{sum_by-same, sum_by-zeros, sum_pairs-IsPermutation}
+use Rattle.exam_model.proofs.SumLemmas.{sum_by-same, sum_by-times, sum_by-zeros, sum_pairs-twice}
 use Rattle.exam_score.specs.Regrouping.{pair_part}
 use Rattle.exam_score.specs.Rows.{row_at, row_of}
+use Rattle.exam_score.specs.Tallies.{if_placed, tally_sum, tally_pair, tally_cost, row_count, AreCounted}
 use Rattle.exam_score.specs.Walk.{row_pair, cost_with}
 use Rattle.exam_score.specs.declared.rows.Row.{Row}
+use Rattle.exam_score.specs.declared.sittings.Sitting.{Sitting}
+use Rattle.exam_score.specs.declared.tallies.Tally.{Tally}
 use Rattle.exam_score.proofs.RegroupingLemmas.{later_cost, part_by_rows}
+use Rattle.exam_score.proofs.RowLemmas.{rows_few}
+use Rattle.exam_score.proofs.SittingLemmas.{rows_by_exam}
 use Rattle.exam_score.proofs.WalkLemmas.{cost_with-small}
 
 -- ---- placed exams
@@ -53,45 +55,100 @@ by_placed cost t (p ∷ ps) =
       | Some x ↦ ap (λ n. n + cost_with cost rows) (beside_placed cost t p.student x ps)
     ])
 
--- ---- any order
+-- ---- rows
 
 eqb-swap : (a b : ℕ) → eqb a b ≡ eqb b a
 eqb-swap a b = grind (arith, nat_tests)
 
--- the part of the penalty is the cost over the rows in whatever order
-pub part_of_rows : (cost : ℕ → ℕ → ℕ) (E : Enrolled) (t : Placing) (rows : List Row) → AreEnrolments E
-    → ((p q : ℕ) → cost p q ≡ cost q p) → ((p : ℕ) → cost p p ≡ 0)
-    → IsPermutation (filter_map (row_of t) (pairs_of E)) rows
-    → cost_with cost rows ≡ pair_part cost E (period_of t)
-part_of_rows cost E t rows known either nothing moved =
-    sum_pairs-IsPermutation (row_pair cost) own turned (filter_map (row_of t) (pairs_of E)) rows moved
-    ∙ sym (by_placed cost t (pairs_of E))
-    ∙ sym (part_by_rows cost E (period_of t) (are_pairs E known))
+row_pair-none : (cost : ℕ → ℕ → ℕ) → ((p : ℕ) → cost p p ≡ 0) → (x : Row) → row_pair cost x x ≡ 0
+row_pair-none cost nothing x = ap (λ n. cond (eqb x.student x.student) n 0) (nothing x.period) ∙ none_or (eqb x.student x.student)
+
+row_pair-turned : (cost : ℕ → ℕ → ℕ) → ((p q : ℕ) → cost p q ≡ cost q p) → (x y : Row) → row_pair cost x y ≡ row_pair cost y x
+row_pair-turned cost either x y = ap₂ (λ b n. cond b n 0) (eqb-swap y.student x.student) (either x.period y.period)
+
+-- the part of the penalty is the cost over the rows
+part_of_rows : (cost : ℕ → ℕ → ℕ) (E : Enrolled) (t : Placing) → AreEnrolments E → cost_with cost (filter_map (row_of t) (pairs_of E)) ≡ pair_part cost E (period_of t)
+part_of_rows cost E t known = sym (by_placed cost t (pairs_of E)) ∙ sym (part_by_rows cost E (period_of t) (are_pairs E known))
+
+-- ---- by tallies
+
+turned_product : (a b c : ℕ) → a * b * c ≡ c * b * a
+turned_product a b c = mul_comm (a * b) c ∙ ap (λ n. c * n) (mul_comm a b) ∙ sym (mul_assoc c b a)
+
+-- the cost over pairs of tallies is that over pairs of the rows that they count
+tallied_cost : (cost : ℕ → ℕ → ℕ) (rows : List Row) (tallies : List Tally) → ((p q : ℕ) → cost p q ≡ cost q p) → ((p : ℕ) → cost p p ≡ 0)
+    → ((f : Row → ℕ) → sum_by f rows ≡ sum_by (tally_sum f) tallies) → tally_cost cost tallies ≡ cost_with cost rows
+tallied_cost cost rows tallies either nothing counted =
+    let by_rows = sum_pairs-twice (row_pair cost) (row_pair-none cost nothing) (row_pair-turned cost either) rows in
+    let by_tallies = sum_pairs-twice (tally_pair cost) none turned tallies in
+    let same : sum_by (λ x. sum_by (row_pair cost x) rows) rows ≡ sum_by (λ x. sum_by (tally_pair cost x) tallies) tallies
+    = sum_by-same _ _ (λ x. counted (row_pair cost x)) rows
+    ∙ counted (λ r. sum_by (tally_sum (row_pair cost r)) tallies)
+    ∙ sum_by-same _ _ each tallies in
+    omega arith
   where
-    own : (x : Row) → row_pair cost x x ≡ 0
-    own x = ap (λ n. cond (eqb x.student x.student) n 0) (nothing x.period) ∙ none_or (eqb x.student x.student)
+    none : (x : Tally) → tally_pair cost x x ≡ 0
+    none x =
+        ap (λ n. x.exams * n * x.exams) (row_pair-none cost nothing (row_at x.period x.student))
+        ∙ ap (λ n. n * x.exams) (mul-zero x.exams) ∙ zero-mul x.exams
 
-    turned : (x y : Row) → row_pair cost x y ≡ row_pair cost y x
-    turned x y = ap₂ (λ b n. cond b n 0) (eqb-swap y.student x.student) (either x.period y.period)
+    turned : (x y : Tally) → tally_pair cost x y ≡ tally_pair cost y x
+    turned x y =
+        ap (λ n. x.exams * n * y.exams) (row_pair-turned cost either (row_at x.period x.student) (row_at y.period y.student))
+        ∙ turned_product x.exams (row_pair cost (row_at y.period y.student) (row_at x.period x.student)) y.exams
 
--- ---- the order of the rows
+    each : (x : Tally) → tally_sum (λ r. sum_by (tally_sum (row_pair cost r)) tallies) x ≡ sum_by (tally_pair cost x) tallies
+    each x =
+        mul_comm x.exams (sum_by (tally_sum (row_pair cost (row_at x.period x.student))) tallies)
+        ∙ sym (sum_by-times (tally_sum (row_pair cost (row_at x.period x.student))) x.exams tallies)
+        ∙ sum_by-same _ _ (λ y. turned_product y.exams (row_pair cost (row_at x.period x.student) (row_at y.period y.student)) x.exams) tallies
 
--- by student, and then by period
-abbrev pub row_cmp : Row → Row → Ordering
-row_cmp x y = ordering_then (nat_cmp x.student y.student) (nat_cmp x.period y.period)
+-- the tallies of a timetable's sittings count the rows of its pairs
+pub tallied_rows : (E : Enrolled) (t : Placing) (sittings : List Sitting) (tallies : List Tally) → length t ≡ length E
+    → ((g : ℕ → ℕ → ℕ) → sum_by (λ x. g x.exam x.period) sittings ≡ sum_below (length t) (λ e. if_placed (g e) (period_of t e)))
+    → AreCounted E sittings tallies
+    → (f : Row → ℕ) → sum_by f (filter_map (row_of t) (pairs_of E)) ≡ sum_by (tally_sum f) tallies
+tallied_rows E t sittings tallies long all counted f =
+    rows_by_exam f E t
+    ∙ ap (λ n. sum_below n (λ e. if_placed (λ p. sum_by (λ s. f (row_at p s)) (students E e)) (period_of t e))) (sym long)
+    ∙ sym (all (λ e p. sum_by (λ s. f (row_at p s)) (students E e)))
+    ∙ counted f
 
-row_cmp_total : IsTotalOrder row_cmp
-row_cmp_total = then_total (on_total (λ (x : Row). x.student) nat_cmp_total) (on_total (λ (x : Row). x.period) nat_cmp_total)
+-- ---- how many
 
-not_less : (x y : Row) → is_lt (row_cmp y x) ≡ false → x.student ≤ y.student
-not_less x y h = elim (cases_lt y.student x.student) as (λ _. x.student ≤ y.student) [ inl less ↦ absurd (first x y h less) | inr more ↦ more ]
-  where
-    first : (x y : Row) → is_lt (row_cmp y x) ≡ false → y.student < x.student → ⊥
-    first x y h less = grind (arith, nat_tests)
+sum_ones : {X : Type 0} (xs : List X) → sum_by (λ x. 1) xs ≡ length xs
+sum_ones {X} [] = refl
+sum_ones {X} (x ∷ xs) = omega (arith, sum_by-cons (λ (x : X). 1) x xs, sum_ones xs)
 
-pub sorted_students : (rows : List Row) → IsSorted row_cmp rows → AllPairs (λ x y. x.student ≤ y.student) rows
-sorted_students rows h i j d l m =
-    not_less (get_or rows i d) (get_or rows j d) (sorted_far (λ x y. is_lt (row_cmp x y)) (ranks_by row_cmp_total (λ x. x)) rows h i j d (omega arith) m)
+few_rows : (E : Enrolled) (t : Placing) → AreEnrolments E → length (filter_map (row_of t) (pairs_of E)) ≤ 200000
+few_rows E t known =
+    let few = rows_few t (pairs_of E) in
+    let is = (are_pairs E known).count in
+    let most = known.pairs in
+    omega arith
+
+-- no more students sit the sittings than there are pairs
+pub few_seats : (E : Enrolled) (t : Placing) (sittings : List Sitting) → AreEnrolments E → length t ≡ length E
+    → ((g : ℕ → ℕ → ℕ) → sum_by (λ x. g x.exam x.period) sittings ≡ sum_below (length t) (λ e. if_placed (g e) (period_of t e)))
+    → sum_by (λ x. size_of E x.exam) sittings ≤ 200000
+few_seats E t sittings known long all =
+    let sizes : sum_by (λ x. size_of E x.exam) sittings ≡ sum_by (λ x. sum_by (λ s. 1) (students E x.exam)) sittings
+    = sum_by-same _ _ (λ (x : Sitting). sym (sum_ones (students E x.exam))) sittings in
+    let rows : sum_by (λ x. sum_by (λ s. 1) (students E x.exam)) sittings ≡ length (filter_map (row_of t) (pairs_of E))
+    = all (λ e p. sum_by (λ s. 1) (students E e))
+    ∙ ap (λ n. sum_below n (λ e. if_placed (λ p. sum_by (λ s. 1) (students E e)) (period_of t e))) long
+    ∙ sym (rows_by_exam (λ r. 1) E t) ∙ sum_ones (filter_map (row_of t) (pairs_of E)) in
+    let few = few_rows E t known in
+    omega arith
+
+-- nor do tallies count more rows
+pub few_tallied : (E : Enrolled) (t : Placing) (tallies : List Tally) → AreEnrolments E
+    → ((f : Row → ℕ) → sum_by f (filter_map (row_of t) (pairs_of E)) ≡ sum_by (tally_sum f) tallies) → row_count tallies ≤ 200000
+few_tallied E t tallies known counted =
+    let rows = sum_ones (filter_map (row_of t) (pairs_of E)) in
+    let same = counted (λ r. 1) in
+    let few = few_rows E t known in
+    omega arith
 
 -- ---- both facts on a part
 
@@ -99,11 +156,12 @@ pub record IsPart (cost : ℕ → ℕ → ℕ) (E : Enrolled) (t : Placing) (n :
   pub sum : n ≡ pair_part cost E (period_of t)
   pub small : n ≤ 4000000000000000
 
-pub is_part : (cost : ℕ → ℕ → ℕ) (E : Enrolled) (t : Placing) (n : ℕ) (rows walked : List Row) → AreEnrolments E
+pub is_part : (cost : ℕ → ℕ → ℕ) (E : Enrolled) (t : Placing) (n : ℕ) (tallies : List Tally) → AreEnrolments E
     → ((p q : ℕ) → cost p q ≡ cost q p) → ((p : ℕ) → cost p p ≡ 0) → ((p q : ℕ) → cost p q ≤ 100000)
-    → IsPermutation (filter_map (row_of t) (pairs_of E)) rows → length (filter_map (row_of t) (pairs_of E)) ≤ 200000
-    → walked ≡ rows → n ≡ cost_with cost walked → IsPart cost E t n
-is_part cost E t n rows walked known either nothing small moved few same is =
-    let total : n ≡ cost_with cost rows = is ∙ ap (cost_with cost) same in
-    let bound = cost_with-small cost rows small (omega (arith, length_permutation (filter_map (row_of t) (pairs_of E)) rows moved)) in
-    record { sum = total ∙ part_of_rows cost E t rows known either nothing moved; small = omega arith }
+    → ((f : Row → ℕ) → sum_by f (filter_map (row_of t) (pairs_of E)) ≡ sum_by (tally_sum f) tallies)
+    → n ≡ tally_cost cost tallies → IsPart cost E t n
+is_part cost E t n tallies known either nothing small counted is =
+    let rows : List Row = filter_map (row_of t) (pairs_of E) in
+    let total : n ≡ cost_with cost rows = is ∙ tallied_cost cost rows tallies either nothing counted in
+    let bound = cost_with-small cost rows small (few_rows E t known) in
+    record { sum = total ∙ part_of_rows cost E t known; small = omega arith }

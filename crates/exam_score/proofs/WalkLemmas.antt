@@ -1,95 +1,153 @@
--- A walk over rows that stand student by student.
-use Rattle.std.proofs.Common.{◌≡◌, ◌≢◌, ℕ, ◌+◌, ◌*◌, ◌<◌, ◌≤◌, ◌-◌, Bool, true, false, cond, eqb, List, length, take, drop, get_or, sum_by, All, AllPairs, zero-add, slice_range, inl, inr, sym, ◌∙◌, ap, ap₂, arith, length-take, length-drop}
-use Rattle.std.proofs.lemmas.Bool.{cases_eq, cases_lt, cond-true, cond-false, eq-eqb, ne_eqb}
-use Rattle.std.proofs.lemmas.List.{drop-take, get_or-take, get_or-drop, get_or_default}
-use Rattle.std.proofs.lemmas.List.Sums.{sum_by-take-drop}
+-- A walk along the tallies of a slot.
+use Rattle.std.proofs.Common.{◌≡◌, ◌≢◌, ℕ, ◌+◌, ◌-◌, ◌*◌, ◌<◌, ◌≤◌, cond, eqb, Bool, true, false, List, length, take, drop, get_or, sum_by, All, mul-zero, inl, inr, refl, sym, subst, ◌∙◌, ap, arith, length-take, length-drop}
+use Rattle.std.proofs.lemmas.Bool.{cases_eq, cond-false, ne_eqb}
+use Rattle.std.proofs.lemmas.List.{take-take, get_or-take, get_or-drop}
 use Rattle.std.proofs.lemmas.List.Elements.{recursion_from_All}
+use Rattle.std.proofs.lemmas.List.Sums.{sum_by-take-drop, sum_by_more, sum_by-take-le, sum_by-le-sum_by, get_or-le-sum_by}
 use Rattle.std.proofs.lemmas.Nat.{mul-le}
-use Rattle.exam_model.proofs.SumLemmas.{sum_pairs-more, sum_pairs-le, sum_by-none, sum_by-agree}
-use Rattle.exam_score.specs.Walk.{cost_beside, row_pair, cost_with, StandsAt}
+use Rattle.exam_model.proofs.SumLemmas.{sum_by-none, sum_by-same, sum_by-zeros, sum_by-times, sum_pairs-more, sum_pairs-le}
+use Rattle.exam_score.specs.Tallies.{tally_sum, tally_beside, tally_pair, tally_cost, row_count, slot_of, IsLast, AreLinkedIn}
+use Rattle.exam_score.specs.Walk.{row_pair, cost_with}
 use Rattle.exam_score.specs.declared.rows.Row.{Row}
+use Rattle.exam_score.specs.declared.tallies.Tally.{Tally}
 
--- ---- where a student's rows begin
+-- ---- what costs nothing
 
--- the next row is of the same student
-pub stands_on : (rows : List Row) (first i : ℕ) → StandsAt rows first i → i < length rows
-    → ((d : Row) → (get_or rows first d).student ≡ (get_or rows i d).student) → StandsAt rows first (i + 1)
-stands_on rows first i h within same = record {
-  within = let w = h.within in omega arith;
-  some = λ _. let w = h.within in omega arith;
-  same = λ k d from before. elim (cases_eq k i) [
-    | inl last ↦ ap (λ n. (get_or rows n d).student) last ∙ sym (same d)
-    | inr other ↦ h.same k d from (omega arith)
-  ];
-  before = h.before;
-}
+-- a tally of another student
+other_student : (cost : ℕ → ℕ → ℕ) (y x : Tally) → y.student ≢ x.student → tally_beside cost y x ≡ 0
+other_student cost y x differ =
+    ap (λ n. x.exams * n) (cond-false (eqb y.student x.student) (cost x.period y.period) 0 (ne_eqb y.student x.student differ)) ∙ mul-zero x.exams
 
--- or of another one
-pub stands_anew : (rows : List Row) (first i : ℕ) → AllPairs (λ x y. x.student ≤ y.student) rows → StandsAt rows first i → i < length rows
-    → ((d : Row) → (get_or rows first d).student ≢ (get_or rows i d).student) → StandsAt rows i (i + 1)
-stands_anew rows first i sorted h within other = record {
-  within = omega arith;
-  some = λ _. omega arith;
-  same = λ k d from before. ap (λ n. (get_or rows n d).student) (omega arith);
-  before = λ k d lt.
-      let le : (get_or rows first d).student ≤ (get_or rows i d).student = elim (cases_eq first i) [
-        | inl same ↦ absurd (other d (ap (λ n. (get_or rows n d).student) same))
-        | inr less ↦ sorted first i d (let w = h.within in omega arith) within
-      ] in
-      let ne = other d in
-      elim (cases_lt k first) [
-        | inl below ↦ (let b = h.before k d below in omega arith)
-        | inr above ↦ (let s = h.same k d above lt in omega arith)
-      ];
-}
-
--- ---- what a row adds
-
--- the rows of other students add nothing, and each of the student's its cost
-pub beside_is : (cost : ℕ → ℕ → ℕ) (rows : List Row) (first i : ℕ) (d : Row) → i < length rows → first ≤ i → StandsAt rows first (i + 1)
-    → sum_by (λ x. row_pair cost x (get_or rows i d)) (take i rows) ≡ cost_beside cost (get_or rows i d).period (slice_range rows first i)
-beside_is cost rows first i d within low h =
-    let y = get_or rows i d in
-    let f : Row → ℕ = λ x. row_pair cost x y in
-    let split = sum_by-take-drop f (take i rows) first in
-    let others : sum_by f (take first (take i rows)) ≡ 0 = sum_by-none f (take first (take i rows)) (recursion_from_All (λ x. f x ≡ 0) (take first (take i rows)) apart) in
-    let own : sum_by f (drop first (take i rows)) ≡ cost_beside cost y.period (drop first (take i rows))
-    = sum_by-agree f (λ x. cost x.period y.period) (drop first (take i rows)) (recursion_from_All (λ x. f x ≡ cost x.period y.period) (drop first (take i rows)) together) in
-    let part : drop first (take i rows) ≡ slice_range rows first i
-    = ap (λ n. drop first (take n rows)) (let e : i ≡ first + (i - first) = omega arith in e) ∙ drop-take first (i - first) rows in
-    sym split ∙ ap (λ n. n + sum_by f (drop first (take i rows))) others ∙ zero-add _ ∙ own ∙ ap (cost_beside cost y.period) part
+-- a tally of a period that costs nothing
+free_period : (cost : ℕ → ℕ → ℕ) (y x : Tally) → cost x.period y.period ≡ 0 → tally_beside cost y x ≡ 0
+free_period cost y x none = ap (λ n. x.exams * cond (eqb y.student x.student) n 0) none ∙ ap (λ n. x.exams * n) (picked (eqb y.student x.student)) ∙ mul-zero x.exams
   where
-    apart : All (λ x. row_pair cost x (get_or rows i d) ≡ 0) (take first (take i rows))
-    apart k e lt =
-        let k_first : k < first = omega (arith, length-take first (take i rows)) in
-        let k_before : k < i = omega arith in
-        let here : get_or (take first (take i rows)) k e ≡ get_or rows k d
-        = get_or-take first (take i rows) k e k_first ∙ get_or-take i rows k e k_before ∙ get_or_default rows k e d (omega arith) in
-        let less = h.before k d k_first in
-        let own = h.same i d low (omega arith) in
-        ap (λ x. row_pair cost x (get_or rows i d)) here
-        ∙ cond-false _ _ 0 (ne_eqb (get_or rows i d).student (get_or rows k d).student (λ e. omega arith))
+    picked : (b : Bool) → ◌≡◌ {A = ℕ} (cond b 0 0) 0
+    picked true = refl
+    picked false = refl
 
-    together : All (λ x. row_pair cost x (get_or rows i d) ≡ cost x.period (get_or rows i d).period) (drop first (take i rows))
-    together k e lt =
-        let k_within : first + k < i = omega (arith, length-drop first (take i rows), length-take i rows) in
-        let here : get_or (drop first (take i rows)) k e ≡ get_or rows (first + k) d
-        = get_or-drop first (take i rows) k e ∙ get_or-take i rows (first + k) e k_within ∙ get_or_default rows (first + k) e d (omega arith) in
-        let own = h.same i d low (omega arith) in
-        let other = h.same (first + k) d (omega arith) (omega arith) in
-        ap (λ x. row_pair cost x (get_or rows i d)) here
-        ∙ cond-true _ _ 0 (eq-eqb (get_or rows i d).student (get_or rows (first + k) d).student (own ∙ sym other))
-        ∙ ap (λ (x : Row). cost x.period (get_or rows i d).period) (sym here)
+-- the tallies between one and the next of its slot are of other students
+skipped : (m : ℕ) (cost : ℕ → ℕ → ℕ) (xs : List Tally) (y : Tally) (n k : ℕ) → IsLast xs m (slot_of m y.student) n k → k ≤ length xs
+    → sum_by (tally_beside cost y) (take k xs) ≡ sum_by (tally_beside cost y) (take n xs)
+skipped m cost xs y n k last le =
+    let f : Tally → ℕ = tally_beside cost y in
+    let split = sum_by-take-drop f (take k xs) n in
+    let first : sum_by f (take n (take k xs)) ≡ sum_by f (take n xs) = ap (sum_by f) (take-take n k xs last.within) in
+    let none : sum_by f (drop n (take k xs)) ≡ 0 = sum_by-none f (drop n (take k xs)) (recursion_from_All (λ x. f x ≡ 0) (drop n (take k xs)) others) in
+    omega arith
+  where
+    others : All (λ x. tally_beside cost y x ≡ 0) (drop n (take k xs))
+    others j d lt =
+        let within : n + j < k = omega (arith, length-drop n (take k xs), length-take k xs) in
+        let here : get_or (drop n (take k xs)) j d ≡ get_or xs (n + j) d = get_or-drop n (take k xs) j d ∙ get_or-take k xs (n + j) d within in
+        let apart = last.none (n + j) d (omega arith) within in
+        ap (tally_beside cost y) here
+        ∙ other_student cost y (get_or xs (n + j) d) (λ same. apart (ap (λ s. slot_of m s) (sym same)))
 
--- one row more
-pub walked : (cost : ℕ → ℕ → ℕ) (rows : List Row) (first i total more : ℕ) (y : Row) → i < length rows → first ≤ i → StandsAt rows first (i + 1) → y ≡ get_or rows i y
-    → total ≡ cost_with cost (take i rows) → more ≡ cost_beside cost y.period (slice_range rows first i)
-    → total + more ≡ cost_with cost (take (i + 1) rows)
-walked cost rows first i total more y within low h here was is =
-    ap₂ (λ a b. a + b) was (is ∙ ap (λ (x : Row). cost_beside cost x.period (slice_range rows first i)) here ∙ sym (beside_is cost rows first i y within low h))
-    ∙ sym (sum_pairs-more (row_pair cost) rows i y within)
+-- ---- one step
 
--- ---- a bound
+pub link_of : (m : ℕ) (xs : List Tally) (y : Tally) (k : ℕ) → AreLinkedIn xs m → k < length xs → ((d : Tally) → get_or xs k d ≡ y) → IsLast xs m (slot_of m y.student) y.before k
+link_of m xs y k linked within here = subst_link (get_or xs k y) y (here y) (linked.links k y within)
+  where
+    subst_link : (z w : Tally) → z ≡ w → IsLast xs m (slot_of m z.student) z.before k → IsLast xs m (slot_of m w.student) w.before k
+    subst_link z w e h = subst (λ v. IsLast xs m (slot_of m v.student) v.before k) e h
+
+-- before the first step
+pub walk_starts : (m : ℕ) (cost : ℕ → ℕ → ℕ) (xs : List Tally) (y : Tally) (k : ℕ) → AreLinkedIn xs m → k < length xs → ((d : Tally) → get_or xs k d ≡ y)
+    → sum_by (tally_beside cost y) (take y.before xs) ≡ sum_by (tally_beside cost y) (take k xs)
+walk_starts m cost xs y k linked within here =
+    sym (skipped m cost xs y y.before k (link_of m xs y k linked within here) (omega arith))
+
+-- a tally of the slot, and on to the one before it
+pub walk_on : (m : ℕ) (cost : ℕ → ℕ → ℕ) (xs : List Tally) (y x : Tally) (n : ℕ) → AreLinkedIn xs m → 0 < n → n ≤ length xs → ((d : Tally) → get_or xs (n - 1) d ≡ x)
+    → slot_of m x.student ≡ slot_of m y.student
+    → sum_by (tally_beside cost y) (take n xs) ≡ tally_beside cost y x + sum_by (tally_beside cost y) (take x.before xs)
+walk_on m cost xs y x n linked some le here slot =
+    let f : Tally → ℕ = tally_beside cost y in
+    let last = subst (λ s. IsLast xs m s x.before (n - 1)) slot (link_of m xs x (n - 1) linked (omega arith) here) in
+    let rest = skipped m cost xs y x.before (n - 1) last (omega arith) in
+    let more : sum_by f (take (n - 1 + 1) xs) ≡ sum_by f (take (n - 1) xs) + f x = sum_by_more f xs (n - 1) x (omega arith) ∙ ap (λ z. sum_by f (take (n - 1) xs) + f z) (here x) in
+    let same : sum_by f (take n xs) ≡ sum_by f (take (n - 1 + 1) xs) = ap (λ m. sum_by f (take m xs)) (let e : n ≡ n - 1 + 1 = omega arith in e) in
+    omega arith
+
+-- and the next one is of the slot too
+pub slot_on : (m : ℕ) (xs : List Tally) (x : Tally) (n s : ℕ) → AreLinkedIn xs m → 0 < n → n ≤ length xs → ((d : Tally) → get_or xs (n - 1) d ≡ x) → slot_of m x.student ≡ s
+    → (d : Tally) → 0 < x.before → slot_of m (get_or xs (x.before - 1) d).student ≡ s
+slot_on m xs x n s linked some le here slot d before = (link_of m xs x (n - 1) linked (omega arith) here).here d before ∙ slot
+
+pub link_below : (m : ℕ) (xs : List Tally) (x : Tally) (n : ℕ) → AreLinkedIn xs m → 0 < n → n ≤ length xs → ((d : Tally) → get_or xs (n - 1) d ≡ x) → x.before < n
+link_below m xs x n linked some le here = let w = (link_of m xs x (n - 1) linked (omega arith) here).within in omega arith
+
+-- ---- the end
+
+-- from a tally on whose period is below the first that costs anything
+pub walk_ends : (m : ℕ) (cost : ℕ → ℕ → ℕ) (xs : List Tally) (y : Tally) (n first : ℕ) → AreLinkedIn xs m → n ≤ length xs
+    → ((q : ℕ) → q < first → cost q y.period ≡ 0) → ((d : Tally) → 0 < n → (get_or xs (n - 1) d).period < first)
+    → sum_by (tally_beside cost y) (take n xs) ≡ 0
+walk_ends m cost xs y n first linked le free below =
+    sum_by-none (tally_beside cost y) (take n xs) (recursion_from_All (λ x. tally_beside cost y x ≡ 0) (take n xs) each)
+  where
+    each : All (λ x. tally_beside cost y x ≡ 0) (take n xs)
+    each j d lt =
+        let within : j < n = omega (arith, length-take n xs) in
+        let last = below d (omega arith) in
+        let less : (get_or xs j d).period < first = elim (cases_eq j (n - 1)) [
+          | inl same ↦ (let e : (get_or xs j d).period ≡ (get_or xs (n - 1) d).period = ap (λ k. (get_or xs k d).period) same in omega arith)
+          | inr other ↦ (let up = linked.ascending j (n - 1) d (omega arith) (omega arith) in omega arith)
+        ] in
+        ap (tally_beside cost y) (get_or-take n xs j d within) ∙ free_period cost y (get_or xs j d) (free (get_or xs j d).period less)
+
+-- a period that costs nothing with any
+pub beyond_tallies : (cost : ℕ → ℕ → ℕ) (xs : List Tally) (y : Tally) → ((q : ℕ) → cost q y.period ≡ 0) → sum_by (tally_beside cost y) xs ≡ 0
+beyond_tallies cost xs y none = sum_by-same _ _ (λ x. free_period cost y x (none x.period)) xs ∙ sum_by-zeros xs
+
+-- ---- bounds
+
+picked-small : (b : Bool) (n m : ℕ) → n ≤ m → cond b n 0 ≤ m
+picked-small true n m h = h
+picked-small false n m h = omega arith
+
+pub beside_small : (cost : ℕ → ℕ → ℕ) (xs : List Tally) (y : Tally) (k : ℕ) → ((p q : ℕ) → cost p q ≤ 100000) → row_count xs ≤ 200000
+    → sum_by (tally_beside cost y) (take k xs) ≤ 20000000000
+beside_small cost xs y k small few =
+    let part = sum_by-take-le (tally_beside cost y) xs k in
+    let each = sum_by-le-sum_by (tally_beside cost y) (λ x. tally_sum (λ r. 1) x * 100000) xs one in
+    let whole = sum_by-times (tally_sum (λ r. 1)) 100000 xs in
+    omega arith
+  where
+    one : (x : Tally) → tally_beside cost y x ≤ tally_sum (λ r. 1) x * 100000
+    one x =
+        let h = mul-le x.exams (cond (eqb y.student x.student) (cost x.period y.period) 0) x.exams 100000 (omega arith) (picked-small (eqb y.student x.student) (cost x.period y.period) 100000 (small x.period y.period)) in
+        omega arith
+
+pub exams_few : (xs : List Tally) (k : ℕ) (d : Tally) → k < length xs → row_count xs ≤ 200000 → (get_or xs k d).exams ≤ 200000
+exams_few xs k d within few = let h = get_or-le-sum_by (tally_sum (λ r. 1)) xs k d within in omega arith
+
+-- ---- one tally more
+
+pub pairs_more : (cost : ℕ → ℕ → ℕ) (xs : List Tally) (k total more : ℕ) (y : Tally) → k < length xs → y ≡ get_or xs k y
+    → total ≡ tally_cost cost (take k xs) → more ≡ sum_by (tally_beside cost y) (take k xs)
+    → total + more * y.exams ≡ tally_cost cost (take (k + 1) xs)
+pairs_more cost xs k total more y within here was is =
+    let step = sum_pairs-more (tally_pair cost) xs k y within in
+    let at : sum_by (λ x. tally_pair cost x (get_or xs k y)) (take k xs) ≡ sum_by (λ x. tally_pair cost x y) (take k xs) = ap (λ z. sum_by (λ x. tally_pair cost x z) (take k xs)) (sym here) in
+    let times = sum_by-times (tally_beside cost y) y.exams (take k xs) in
+    let own : more * y.exams ≡ sum_by (tally_beside cost y) (take k xs) * y.exams = ap (λ n. n * y.exams) is in
+    omega arith
+
+pub small_more : (xs : List Tally) (k total more : ℕ) (y : Tally) → k < length xs → y ≡ get_or xs k y
+    → total ≤ row_count (take k xs) * 20000000000 → more ≤ 20000000000
+    → total + more * y.exams ≤ row_count (take (k + 1) xs) * 20000000000
+small_more xs k total more y within here was small =
+    let step = sum_by_more (tally_sum (λ r. 1)) xs k y within in
+    let at : tally_sum (λ r. 1) (get_or xs k y) ≡ y.exams * 1 = ap (tally_sum (λ r. 1)) (sym here) in
+    let product = mul-le more y.exams 20000000000 y.exams small (omega arith) in
+    omega arith
+
+pub small_within : (xs : List Tally) (k total : ℕ) → row_count xs ≤ 200000 → total ≤ row_count (take k xs) * 20000000000 → total ≤ 4000000000000000
+small_within xs k total few was = let h = sum_by-take-le (tally_sum (λ r. 1)) xs k in omega arith
+
+-- ---- rows
 
 pub cost_with-small : (cost : ℕ → ℕ → ℕ) (rows : List Row) → ((p q : ℕ) → cost p q ≤ 100000) → length rows ≤ 200000 → cost_with cost rows ≤ 4000000000000000
 cost_with-small cost rows small few =
@@ -97,15 +155,5 @@ cost_with-small cost rows small few =
     let product = mul-le (length rows) (length rows * 100000) 200000 20000000000 few (omega arith) in
     omega arith
   where
-    picked : (b : Bool) (n : ℕ) → n ≤ 100000 → cond b n 0 ≤ 100000
-    picked true n h = h
-    picked false n h = omega arith
-
     pair_small : (x y : Row) → row_pair cost x y ≤ 100000
-    pair_small x y = picked (eqb y.student x.student) (cost x.period y.period) (small x.period y.period)
-
-pub walked-small : (cost : ℕ → ℕ → ℕ) (rows : List Row) (i total : ℕ) → ((p q : ℕ) → cost p q ≤ 100000) → length rows ≤ 200000
-    → total ≡ cost_with cost (take i rows) → total ≤ 4000000000000000
-walked-small cost rows i total small few is =
-    let h = cost_with-small cost (take i rows) small (omega (arith, length-take i rows)) in
-    omega arith
+    pair_small x y = picked-small (eqb y.student x.student) (cost x.period y.period) 100000 (small x.period y.period)

@@ -11,3 +11,5 @@ pub mod Lines
 pub mod PairSums
 pub mod Front
 pub mod Stays
+pub mod Tallies
+pub mod Changes

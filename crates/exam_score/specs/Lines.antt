@@ -1,9 +1,9 @@
 -- The costs of all pairs of periods as a table: a line for each period.
 use Rattle.std.specs.Prelude.{◌≡◌, ℕ, ◌<◌, List, length, Some, slice_get}
-use Rattle.std.proofs.Common.{Vec, Global}
 use Rattle.exam_model.specs.Instance.{Session}
 use Rattle.exam_score.specs.Cost.{row_cost, day_cost, spread_cost}
 use Rattle.exam_score.specs.declared.lines.PairCosts.{PairCosts}
+use Rattle.exam_score.specs.declared.lines.Line.{Line}
 
 -- what two periods cost, for row, day and spread
 abbrev pub costs_of : Session → ℕ → ℕ → PairCosts
@@ -18,8 +18,12 @@ pub record IsLine (s : Session) (p : ℕ) (line : List PairCosts) : Type 0 where
   pub count : length line ≡ length s.periods
   pub each : (q : ℕ) → q < length line → slice_get line q ≡ Some (costs_of s p q)
 
--- a line for each period
-pub record IsTable (s : Session) (lines : List (Vec PairCosts Global)) : Type 0 where
+-- no period below n costs anything with period p
+pub record IsFree (s : Session) (p n : ℕ) : Type 0 where
+  pub each : (q : ℕ) → q < n → costs_of s p q ≡ record { row = 0; day = 0; spread = 0 }
+
+-- a line for each period, and how many periods before the first that costs anything
+pub record IsTable (s : Session) (lines : List Line) : Type 0 where
   pub count : length lines ≡ length s.periods
-  pub each : (p : ℕ) (line : Vec PairCosts Global) → slice_get lines p ≡ Some line
-      → IsLine s p line.items
+  pub each : (p : ℕ) (line : Line) → slice_get lines p ≡ Some line → IsLine s p line.costs.items
+  pub free : (p : ℕ) (line : Line) → slice_get lines p ≡ Some line → IsFree s p line.first

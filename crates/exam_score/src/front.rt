@@ -69,19 +69,31 @@ fn is_largest(sizes: &[u32], exam: u32, most: u32) -> bool
 {
     let size = sizes[exam as usize];
     let (before, after) = sizes.split_at(exam as usize);
-    count_not_smaller(before, size) + count_larger(after, size) < most as usize
+    count_not_smaller(before, size) + count_larger(after, size) < most
 }
 
-fn count_not_smaller(sizes: &[u32], size: u32) -> usize
-    ensures { result ≡ count_by (λ x. nat_le size x) sizes.now }
+fn count_not_smaller(sizes: &[u32], size: u32) -> u32
+    requires few { length sizes.now ≤ 2000 }
+    ensures count { result ≡ count_by (λ x. nat_le size x) sizes.now }
+    ensures small { result ≤ length sizes.now }
 {
-    sizes.iter().filter(|other| size <= **other).count()
+    let mut count = 0;
+    for other in sizes {
+        count += u32::from(size <= *other);
+    }
+    count
 }
 
-fn count_larger(sizes: &[u32], size: u32) -> usize
-    ensures { result ≡ count_by (λ x. nat_lt size x) sizes.now }
+fn count_larger(sizes: &[u32], size: u32) -> u32
+    requires few { length sizes.now ≤ 2000 }
+    ensures count { result ≡ count_by (λ x. nat_lt size x) sizes.now }
+    ensures small { result ≤ length sizes.now }
 {
-    sizes.iter().filter(|other| size < **other).count()
+    let mut count = 0;
+    for other in sizes {
+        count += u32::from(size < *other);
+    }
+    count
 }
 
 // The number of each exam's students.

@@ -2,6 +2,7 @@
 #![tactic(auto)]
 
 mod candidate;
+mod changes;
 mod front;
 mod laws;
 mod lines;
@@ -12,15 +13,20 @@ mod parts;
 mod personal_parts;
 mod places;
 mod rows;
+mod sittings;
+mod tallies;
 mod track;
 mod walk;
 
 pub use candidate::personal;
+pub use changes::difference;
 pub use laws::regrouping;
 pub use pair_costs::{DayCost, RowCost, SpreadCost};
 pub use parts::Parts;
 pub use personal_parts::PersonalParts;
 pub use track::score;
 
+#[cfg(test)]
+mod cost_tests;
 #[cfg(test)]
 mod tests;

@@ -1,6 +1,6 @@
 // The costs of all pairs of periods, each looked up once.
-ghost use Rattle.std.specs.Prelude.{◌≡◌, ◌<◌, ℕ, length, IfOk};
-ghost use Rattle.exam_score.specs.Lines.{costs_of, IsLine, IsTable};
+ghost use Rattle.std.specs.Prelude.{◌≡◌, ◌<◌, ℕ, true, length, IfOk};
+ghost use Rattle.exam_score.specs.Lines.{costs_of, IsFree, IsLine, IsTable};
 
 use crate::pair_costs::{DayCost, RowCost, SpreadCost};
 use exam_model::{Instance, PairCost, PeriodNo};
@@ -14,13 +14,23 @@ pub struct PairCosts {
     pub spread: u32,
 }
 
+// The costs of a period with each period, and the first of these that costs anything.
+#[derive(Drop)]
+pub struct Line {
+    pub costs: Vec<PairCosts>,
+    pub first: u32,
+}
+
 // A line for each period.
-pub fn table_of(alloc: Global, instance: &Instance) -> Result<Vec<Vec<PairCosts>>, AllocError>
+pub fn table_of(alloc: Global, instance: &Instance) -> Result<Vec<Line>, AllocError>
     ensures { IfOk result (λ lines. IsTable instance.now lines.items) }
 {
     let mut lines = Vec::with_capacity(alloc, instance.periods() as usize)?;
     for period in 0..instance.periods() {
-        lines.push(line_of(alloc, instance, PeriodNo::new(period))?)?;
+        let period = PeriodNo::new(period);
+        let costs = line_of(alloc, instance, period)?;
+        let first = first_cost(instance, &costs, period);
+        lines.push(Line { costs, first })?;
     }
     Ok(lines)
 }
@@ -48,6 +58,26 @@ fn costs_between(instance: &Instance, period: PeriodNo, other: PeriodNo) -> Pair
         day: DayCost(instance).cost(other, period) as u32,
         spread: SpreadCost(instance).cost(other, period) as u32,
     }
+}
+
+// The first period that costs anything with a period, by its line; none is the number of periods.
+fn first_cost(instance: &Instance, line: &[PairCosts], period: PeriodNo) -> u32
+    requires { IsLine instance.now period line.now }
+    ensures { IsFree instance.now period result }
+{
+    for other in 0..instance.periods() {
+        let costs = costs_in(instance, line, period, PeriodNo::new(other));
+        if !is_free(costs) {
+            return other;
+        }
+    }
+    instance.periods()
+}
+
+fn is_free(costs: PairCosts) -> bool
+    ensures { result ≡ true → costs ≡ record { row = 0; day = 0; spread = 0 } }
+{
+    costs.row == 0 && costs.day == 0 && costs.spread == 0
 }
 
 // The costs of a period with another one, by its line.

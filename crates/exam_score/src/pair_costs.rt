@@ -1,5 +1,6 @@
 // The costs of two exams of one student (ITC 2007, soft constraints).
 ghost use Rattle.std.specs.Prelude.{◌≡◌, ℕ};
+ghost use Rattle.exam_model.specs.Instance.{same_day};
 ghost use Rattle.exam_score.specs.Cost.{row_cost, day_cost, spread_cost};
 ghost use Rattle.exam_score.specs.CostLaws.{row_cost_of, row_laws, day_cost_of, day_laws, spread_cost_of, spread_laws};
 
@@ -25,7 +26,7 @@ impl PairCost for RowCost<'_> {
         ensures case { result ≡ row_cost self.now.0.now.periods self.now.0.now.weights one other }
     {
         let adjacent = one.get().abs_diff(other.get()) == 1;
-        let one_day = self.0.same_day(one, other);
+        let one_day = are_of_one_day(self.0, one, other);
         if one_day && adjacent {
             u64::from(self.0.weights().row)
         } else {
@@ -44,7 +45,7 @@ impl PairCost for DayCost<'_> {
         ensures case { result ≡ day_cost self.now.0.now.periods self.now.0.now.weights one other }
     {
         let apart = one.get().abs_diff(other.get()) >= 2;
-        let together = self.0.same_day(one, other);
+        let together = are_of_one_day(self.0, one, other);
         if together && apart {
             u64::from(self.0.weights().day)
         } else {
@@ -68,4 +69,15 @@ impl PairCost for SpreadCost<'_> {
     }
 
     ghost laws = { spread_laws };
+}
+
+// Whether two periods are of one date; false where one of them doesn't exist.
+fn are_of_one_day(instance: &Instance, one: PeriodNo, other: PeriodNo) -> bool
+    ensures { result ≡ same_day instance.now.periods one other }
+{
+    let periods = instance.periods();
+    if one.get() >= periods || other.get() >= periods {
+        return false;
+    }
+    instance.period(one).date == instance.period(other).date
 }

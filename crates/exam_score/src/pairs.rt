@@ -5,7 +5,8 @@ ghost use Rattle.exam_score.specs.Cost.{row_cost, day_cost, spread_cost};
 ghost use Rattle.exam_score.specs.PairSums.{ArePairParts};
 
 use crate::lines::table_of;
-use crate::rows::placed_rows;
+use crate::sittings::sittings_of;
+use crate::tallies::tallies_of;
 use crate::walk::{PairSums, sums_of_pairs};
 use exam_model::{Enrolments, Instance, Timetable};
 use std::alloc::{AllocError, Global};
@@ -23,8 +24,8 @@ pub fn pair_parts(
     // Read for what each keeps: pairs in order, and weights within their limits.
     let _kept = enrolments.pairs();
     let _known = instance.periods();
-    let mut rows = placed_rows(alloc, enrolments, timetable)?;
-    rows.sort()?;
+    let sittings = sittings_of(alloc, timetable)?;
+    let tallies = tallies_of(alloc, enrolments, &sittings)?;
     let lines = table_of(alloc, instance)?;
-    Ok(sums_of_pairs(instance, &lines, &rows))
+    Ok(sums_of_pairs(instance, &lines, &tallies))
 }

@@ -1,17 +1,18 @@
-// What no clause says: that calls succeed, and what was meant, by examples worked by hand.
+// What no clause says of scores: that calls succeed, and what was meant, by examples worked by
+// hand.
 ghost use Rattle.std.specs.Prelude.{◌≡◌, ◌≤◌, true, length};
 ghost use Rattle.exam_model.specs.Fits.{Fits};
 
-use crate::*;
+use crate::{Parts, difference, score};
 use exam_model::{
-    Enrolments, Exam, ExamNo, Instance, PairCost, Period, PeriodNo, PeriodRule, Place, Room,
-    RoomNo, StudentNo, Timetable, Weights,
+    Enrolments, Exam, ExamNo, Instance, Period, PeriodNo, PeriodRule, Place, Room, RoomNo,
+    StudentNo, Timetable, Weights,
 };
 use jiff::civil::{Date, date};
 use std::alloc::Global;
 use std::test::Fail;
 
-const WEIGHTS: Weights = Weights {
+pub const WEIGHTS: Weights = Weights {
     row: 7,
     day: 5,
     spread: 3,
@@ -53,7 +54,7 @@ fn period(date: Date, hour: u8, length: u32, penalty: u32) -> Period {
 }
 
 // Four exams; three periods of one day and one of another; two rooms.
-fn session(alloc: Global, weights: Weights) -> Result<Instance, Fail> {
+pub fn session(alloc: Global, weights: Weights) -> Result<Instance, Fail> {
     let exams = [
         Exam { minutes: 120 },
         Exam { minutes: 90 },
@@ -113,13 +114,8 @@ fn fits(instance: &Instance, enrolments: &Enrolments, timetable: &Timetable) -> 
     true
 }
 
-// The penalty of exams at these places; those beyond the list stand nowhere.
-fn scored(
-    alloc: Global,
-    instance: &Instance,
-    enrolments: &Enrolments,
-    places: &[(u32, u32)],
-) -> Result<Parts, Fail> {
+// Exams at these places; those beyond the list stand nowhere.
+fn placed(alloc: Global, instance: &Instance, places: &[(u32, u32)]) -> Result<Timetable, Fail> {
     let mut timetable = Timetable::new(alloc, instance.exams())?;
     for (exam, (period, room)) in places.iter().enumerate() {
         if exam < timetable.exams() as usize {
@@ -130,6 +126,17 @@ fn scored(
             timetable.set(ExamNo::new(exam as u32), place);
         }
     }
+    Ok(timetable)
+}
+
+// The penalty of exams at these places.
+fn scored(
+    alloc: Global,
+    instance: &Instance,
+    enrolments: &Enrolments,
+    places: &[(u32, u32)],
+) -> Result<Parts, Fail> {
+    let timetable = placed(alloc, instance, places)?;
     if !fits(instance, enrolments, &timetable) {
         return Err("a place that doesn't exist")?;
     }
@@ -250,78 +257,36 @@ fn smallest_instance(rt: HostRuntime) -> Result<(), Fail> {
 }
 
 #[test]
-fn personal_penalties(rt: HostRuntime) -> Result<(), Fail> {
+fn swap(rt: HostRuntime) -> Result<(), Fail> {
     let instance = session(rt.alloc(), WEIGHTS)?;
-    // the periods of her exams, and row, day and spread
-    let cases: [(&[u32], [u64; 3]); 5] = [
-        (&[0, 2], [0, 5, 1]),
-        (&[0, 1], [7, 0, 1]),
-        (&[1, 3], [0, 0, 1]),
-        (&[2, 2, 1, 9], [14, 0, 2]),
-        (&[], [0, 0, 0]),
-    ];
-    for (numbers, [row, day, spread]) in cases {
-        let mut periods = Vec::new(rt.alloc());
-        for number in numbers {
-            periods.push(PeriodNo::new(*number))?;
-        }
-        assert!(rt; periods.len() <= 2_000);
-        let parts = personal(&instance, &periods);
-        assert_eq!(rt; parts.row(), row, "{numbers:?}");
-        assert_eq!(rt; parts.day(), day, "{numbers:?}");
-        assert_eq!(rt; parts.spread(), spread, "{numbers:?}");
-        assert_eq!(rt; parts.total(), row + day + spread, "{numbers:?}");
+    let enrolments = enrolled(rt.alloc(), &ENROLLED)?;
+    let old = placed(rt.alloc(), &instance, &APART)?;
+    if instance.exams() != 4 || !fits(&instance, &enrolments, &old) {
+        return Err("a place that doesn't exist")?;
     }
+    let (one, two) = (ExamNo::new(1), ExamNo::new(2));
+    let mut new = old.copy(rt.alloc())?;
+    let (Some(first), Some(second)) = (old.get(one), old.get(two)) else {
+        return Err("an exam that stands nowhere")?;
+    };
+    new.set(one, second);
+    new.set(two, first);
+    if !fits(&instance, &enrolments, &new) {
+        return Err("a place that doesn't exist")?;
+    }
+    let old_parts = score(rt.alloc(), &instance, &enrolments, &old)?;
+    assert_eq!(rt; old_parts.total(), 37);
+    let edited = [one, two];
+    let parts = difference(
+        rt.alloc(),
+        &instance,
+        &enrolments,
+        &old,
+        &new,
+        &edited,
+        old_parts,
+    )?;
+    assert_eq!(rt; numbers(&parts), [0, 5, 3, 0, 0, 15, 7]);
+    assert_eq!(rt; parts.total(), 30);
     Ok(())
-}
-
-// A cost through its bound.
-fn cost_at<C: PairCost>(cost: &C, one: u32, other: u32) -> u64 {
-    cost.cost(PeriodNo::new(one), PeriodNo::new(other))
-}
-
-#[test]
-fn costs_of_two_periods(rt: HostRuntime) -> Result<(), Fail> {
-    let instance = session(rt.alloc(), WEIGHTS)?;
-    // two periods, and what they cost for row, day and spread
-    let cases = [
-        (0, 1, [7, 0, 1]),
-        (2, 0, [0, 5, 1]),
-        (2, 3, [0, 0, 1]),
-        (1, 1, [0, 0, 0]),
-        (3, 4, [0, 0, 0]),
-    ];
-    for (one, other, [row, day, spread]) in cases {
-        assert_eq!(rt;
-            cost_at(&RowCost(&instance), one, other),
-            row,
-            "{one} and {other}"
-        );
-        assert_eq!(rt;
-            cost_at(&DayCost(&instance), one, other),
-            day,
-            "{one} and {other}"
-        );
-        assert_eq!(rt;
-            cost_at(&SpreadCost(&instance), one, other),
-            spread,
-            "{one} and {other}"
-        );
-    }
-    regrouping(&RowCost(&instance));
-    Ok(())
-}
-
-#[test]
-fn parts_end_below_two_to_the_62(rt: HostRuntime) {
-    let most = (1u64 << 62) - 1;
-    for (row, room, wanted) in [(most, 0, true), (most, 1, false), (u64::MAX, 1, false)] {
-        assert_eq!(rt;
-            PersonalParts::new(row, room, 0).is_some(),
-            wanted,
-            "{row} {room}"
-        );
-        let parts = Parts::new(row, 0, 0, 0, 0, 0, room);
-        assert_eq!(rt; parts.is_some(), wanted, "{row} {room}");
-    }
 }

@@ -1,12 +1,13 @@
-// Row, day and spread: one student's rows at a time.
-ghost use Rattle.std.specs.Prelude.{◌≡◌, ◌≤◌, ◌<◌, ◌+◌, length, AllPairs};
+// Row, day and spread: each tally beside the earlier ones of its student.
+ghost use Rattle.std.specs.Prelude.{◌≡◌, ℕ, ◌-◌, ◌≤◌, ◌<◌, length, take, slice_index_or, sum_by, IfSome, IfNone};
 ghost use Rattle.exam_score.specs.Cost.{row_cost, day_cost, spread_cost};
-ghost use Rattle.exam_score.specs.Lines.{IsLine, IsTable};
-ghost use Rattle.exam_score.specs.Walk.{cost_with, cost_beside, StandsAt};
+ghost use Rattle.exam_score.specs.Lines.{IsLine, IsTable, IsFree};
+ghost use Rattle.exam_score.specs.Tallies.{tally_beside, tally_cost, row_count, AreLinked, IsReached};
+ghost use Rattle.exam_score.specs.declared.tallies.Tally.{Tally};
 
-use crate::lines::{PairCosts, costs_in};
-use crate::rows::Row;
-use exam_model::{Instance, PeriodNo};
+use crate::lines::{Line, PairCosts, costs_in};
+use crate::tallies::Tally;
+use exam_model::Instance;
 
 // What pairs of exams cost.
 #[derive(Clone, Copy)]
@@ -22,80 +23,125 @@ const NOTHING: PairSums = PairSums {
     spread: 0,
 };
 
-// What an exam in a period costs a student beside her exams in these rows.
-fn beside(instance: &Instance, lines: &[Vec<PairCosts>], rows: &[Row], period: PeriodNo) -> PairSums
-    requires few { length rows.now ≤ 200000 }
+// The cost over all pairs of tallies.
+pub fn sums_of_pairs(instance: &Instance, lines: &[Line], tallies: &[Tally]) -> PairSums
     requires table { IsTable instance.now lines.now }
+    requires linked { AreLinked tallies.now }
+    requires few { row_count tallies.now ≤ 200000 }
     ensures row { result.row
-        ≡ cost_beside (row_cost instance.now.periods instance.now.weights) period rows.now }
+        ≡ tally_cost (row_cost instance.now.periods instance.now.weights) tallies.now }
     ensures day { result.day
-        ≡ cost_beside (day_cost instance.now.periods instance.now.weights) period rows.now }
+        ≡ tally_cost (day_cost instance.now.periods instance.now.weights) tallies.now }
     ensures spread { result.spread
-        ≡ cost_beside (spread_cost instance.now.periods instance.now.weights) period rows.now }
+        ≡ tally_cost (spread_cost instance.now.periods instance.now.weights) tallies.now }
 {
-    match lines.get(period.get() as usize) {
-        Some(line) => along(instance, line, rows, period),
+    let _kept = instance.periods(); // read for the limits of its weights
+    let mut sums = NOTHING;
+    for (at, tally) in tallies.iter().enumerate() {
+        let more = beside(instance, lines, tallies, at, tally);
+        let exams = u64::from(tally.exams);
+        sums.row += more.row * exams;
+        sums.day += more.day * exams;
+        sums.spread += more.spread * exams;
+    }
+    sums
+}
+
+// What one exam of the tally at a place costs beside the earlier tallies.
+fn beside(
+    instance: &Instance,
+    lines: &[Line],
+    tallies: &[Tally],
+    at: usize,
+    tally: &Tally,
+) -> PairSums
+    requires within { at < length tallies.now }
+    requires here { (d : Tally) → slice_index_or tallies.now at d ≡ tally.now }
+    requires table { IsTable instance.now lines.now }
+    requires linked { AreLinked tallies.now }
+    requires few { row_count tallies.now ≤ 200000 }
+    ensures row { result.row
+        ≡ sum_by (tally_beside (row_cost instance.now.periods instance.now.weights) tally.now)
+        (take at tallies.now) }
+    ensures day { result.day
+        ≡ sum_by (tally_beside (day_cost instance.now.periods instance.now.weights) tally.now)
+        (take at tallies.now) }
+    ensures spread { result.spread
+        ≡ sum_by (tally_beside (spread_cost instance.now.periods instance.now.weights) tally.now)
+        (take at tallies.now) }
+{
+    match lines.get(tally.period.get() as usize) {
+        Some(line) => along(instance, line, tallies, at, tally),
         None => NOTHING,
     }
 }
 
-// The same by the period's line.
-fn along(instance: &Instance, line: &[PairCosts], rows: &[Row], period: PeriodNo) -> PairSums
-    requires few { length rows.now ≤ 200000 }
-    requires line { IsLine instance.now period line.now }
+// The same by the line of its period.
+fn along(instance: &Instance, line: &Line, tallies: &[Tally], at: usize, tally: &Tally) -> PairSums
+    requires within { at < length tallies.now }
+    requires here { (d : Tally) → slice_index_or tallies.now at d ≡ tally.now }
+    requires line { IsLine instance.now tally.now.period line.now.costs.items }
+    requires free { IsFree instance.now tally.now.period line.now.first }
+    requires linked { AreLinked tallies.now }
+    requires few { row_count tallies.now ≤ 200000 }
     ensures row { result.row
-        ≡ cost_beside (row_cost instance.now.periods instance.now.weights) period rows.now }
+        ≡ sum_by (tally_beside (row_cost instance.now.periods instance.now.weights) tally.now)
+        (take at tallies.now) }
     ensures day { result.day
-        ≡ cost_beside (day_cost instance.now.periods instance.now.weights) period rows.now }
+        ≡ sum_by (tally_beside (day_cost instance.now.periods instance.now.weights) tally.now)
+        (take at tallies.now) }
     ensures spread { result.spread
-        ≡ cost_beside (spread_cost instance.now.periods instance.now.weights) period rows.now }
-{
-    let mut sums = NOTHING;
-    for row in rows {
-        let costs = costs_in(instance, line, period, row.period);
-        sums.row += u64::from(costs.row);
-        sums.day += u64::from(costs.day);
-        sums.spread += u64::from(costs.spread);
-    }
-    sums
-}
-
-// The cost over all pairs of rows of one student.
-pub fn sums_of_pairs(instance: &Instance, lines: &[Vec<PairCosts>], rows: &[Row]) -> PairSums
-    requires table { IsTable instance.now lines.now }
-    requires few { length rows.now ≤ 200000 }
-    requires by_student { AllPairs (λ x y. x.student ≤ y.student) rows.now }
-    ensures row { result.row
-        ≡ cost_with (row_cost instance.now.periods instance.now.weights) rows.now }
-    ensures day { result.day
-        ≡ cost_with (day_cost instance.now.periods instance.now.weights) rows.now }
-    ensures spread { result.spread
-        ≡ cost_with (spread_cost instance.now.periods instance.now.weights) rows.now }
+        ≡ sum_by (tally_beside (spread_cost instance.now.periods instance.now.weights) tally.now)
+        (take at tallies.now) }
 {
     let _kept = instance.periods(); // read for the limits of its weights
+    let first = line.first;
     let mut sums = NOTHING;
-    let mut first = 0;
-    for (at, row) in rows.iter().enumerate() {
-        first = first_of_student(rows, first, at);
-        let more = beside(instance, lines, &rows[first..at], row.period);
+    let mut next = tally.before;
+    while let Some(other) = reached(tallies, next, first) {
+        let more = between(instance, &line.costs, tally, &other);
         sums.row += more.row;
         sums.day += more.day;
         sums.spread += more.spread;
+        next = other.before;
     }
     sums
 }
 
-// Where the rows of the student of a row begin, by where those of the row before it begin.
-fn first_of_student(rows: &[Row], first: usize, at: usize) -> usize
-    requires by_student { AllPairs (λ x y. x.student ≤ y.student) rows.now }
-    requires within { at < length rows.now }
-    requires stands { StandsAt rows.now first at }
-    ensures stands { StandsAt rows.now result (at + 1) }
-    ensures not_after { result ≤ at }
+// The tally just before this place. From one on whose period is below the first, none is of use.
+fn reached(tallies: &[Tally], next: u32, first: u32) -> Option<Tally>
+    requires within { next ≤ length tallies.now }
+    ensures some { IfSome result (IsReached tallies.now next) }
+    ensures none { IfNone result ((d : Tally) → 0 < next
+        → (slice_index_or tallies.now (next - 1) d).period < first) }
 {
-    if rows[first].student == rows[at].student {
-        first
-    } else {
-        at
+    if next == 0 {
+        return None;
     }
+    let tally = tallies[next as usize - 1];
+    if tally.period.get() < first {
+        return None;
+    }
+    Some(tally)
+}
+
+// What one exam of a tally costs beside those of another one.
+fn between(instance: &Instance, line: &[PairCosts], tally: &Tally, other: &Tally) -> PairSums
+    requires line { IsLine instance.now tally.now.period line.now }
+    ensures row { result.row
+        ≡ tally_beside (row_cost instance.now.periods instance.now.weights) tally.now other.now }
+    ensures day { result.day
+        ≡ tally_beside (day_cost instance.now.periods instance.now.weights) tally.now other.now }
+    ensures spread { result.spread
+        ≡ tally_beside (spread_cost instance.now.periods instance.now.weights) tally.now other.now }
+{
+    if tally.student != other.student {
+        return NOTHING;
+    }
+    let costs = costs_in(instance, line, tally.period, other.period);
+    let exams = u64::from(other.exams);
+    let row = exams * u64::from(costs.row);
+    let day = exams * u64::from(costs.day);
+    let spread = exams * u64::from(costs.spread);
+    PairSums { row, day, spread }
 }

@@ -2,3 +2,4 @@ pub mod Reports
 pub mod Check
 pub mod Inputs
 pub mod Program
+pub mod FaultLines

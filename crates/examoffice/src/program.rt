@@ -1,17 +1,20 @@
 // The whole program, over a file system and two writers.
-ghost use Rattle.std.specs.Prelude.{◌≡◌, ◌≢◌, ◌≤◌, ◌↔◌, ◌⊎◌, [], IfOk, map, string_bytes};
+ghost use Rattle.std.specs.Prelude.{◌≡◌, ◌≢◌, ◌≤◌, ◌↔◌, ◌⊎◌, ◌++◌, ◌∷◌, [], IfOk, OnOk};
+ghost use Rattle.std.specs.Prelude.{map, string_bytes};
+ghost use Rattle.std.specs.Io.KnownBytes.{Appends};
 ghost use Rattle.std.specs.IoError.{error_kind};
 ghost use Rattle.std.specs.declared.io.ErrorKind.TheVariants as failure;
 ghost use Rattle.clap.specs.Words.{kind_of};
 ghost use Rattle.clap.specs.Faults.{fault_of};
 ghost use Rattle.clap.specs.declared.error.kind.ErrorKind.TheVariants as kind;
+ghost use Rattle.examoffice.specs.FaultLines.{fault_line, number_of};
 ghost use Rattle.examoffice.specs.Program.{AreAnswered, IsMistake, program};
 
 use crate::checking::{CheckFault, check_run};
 use crate::words::{Task, read_words};
 use clap::Error;
 use clap::error::ErrorKind;
-use office_files::FileFault;
+use office_files::{FaultKind, FileFault};
 use std::io::Write;
 use std::rt::Files;
 use std::{fmt, fs, io};
@@ -26,19 +29,32 @@ enum ProgramFault<'a> {
     NoMemory,
 }
 
+// The number by which a fault is printed.
+fn number_of(what: FaultKind) -> u8
+    ensures { result ≡ number_of what }
+{
+    what as u8
+}
+
 impl fmt::Display for ProgramFault<'_> {
+    ghost use Rattle.std.specs.Prelude.{Some};
+    ghost use Rattle.examoffice.specs.FaultLines.{fault_line};
+
+    ghost output = { λ fault. Some (fault_line fault) };
+
     fn fmt<W: fmt::Write>(&self, f: &mut fmt::Formatter<W>) -> fmt::Result {
-        f.write_str("examoffice: ")?;
         match self {
-            ProgramFault::CannotRead(path) => write!(f, "cannot read {path}"),
+            ProgramFault::CannotRead(path) => write!(f, "examoffice: cannot read {path}"),
             ProgramFault::Instance(FileFault { line, what }) => {
-                write!(f, "instance line {line}: fault {}", *what as u8)
+                let number = number_of(*what);
+                write!(f, "examoffice: instance line {line}: fault {number}")
             }
             ProgramFault::Solution(FileFault { line, what }) => {
-                write!(f, "solution line {line}: fault {}", *what as u8)
+                let number = number_of(*what);
+                write!(f, "examoffice: solution line {line}: fault {number}")
             }
-            ProgramFault::CannotWrite => f.write_str("cannot write"),
-            ProgramFault::NoMemory => f.write_str("no memory"),
+            ProgramFault::CannotWrite => write!(f, "examoffice: cannot write"),
+            ProgramFault::NoMemory => write!(f, "examoffice: no memory"),
         }
     }
 }
@@ -71,11 +87,19 @@ fn check<'a, R: Files + AllocGlobal, W: Write>(
     }
 }
 
-// Prints the line of a fault. Where that fails too, nothing more can be done.
+// Prints the line of a fault.
+fn print_fault<W: Write>(fault: ProgramFault<'_>, err: &mut W) -> io::Result<()>
+    ensures { OnOk result
+        (Appends (W.contents err.old) (W.contents err.new) (fault_line fault.entry ++ 10 ∷ [])) }
+{
+    writeln!(err, "{fault}")
+}
+
+// Where the line of a fault can't be printed, nothing more can be done.
 fn complain<W: Write>(fault: ProgramFault<'_>, err: &mut W) -> u8
     ensures { result ≡ 1 }
 {
-    let _ = writeln!(err, "{fault}");
+    let _ = print_fault(fault, err);
     1
 }
 

@@ -1,15 +1,22 @@
 -- What it leaves to put students into an ascending list.
-use Rattle.std.proofs.Common.{◌≡◌, ℕ, zero, suc, ◌+◌, ◌<◌, ◌≤◌, Bool, true, false}
-use Rattle.std.proofs.Common.{List, [], ◌∷◌, ◌++◌, length, get_or, take, drop, if◌then◌else◌}
-use Rattle.std.proofs.Common.{refl, ap, sym, subst, ◌∙◌, arith}
-use Rattle.std.specs.Prelude.{◌==◌, ◌||◌, nat_lt, slice_index}
-use Rattle.std.specs.List.Sorted.{IsPermutation}
-use Rattle.std.proofs.lemmas.Bool.{ltb-true, ltb-false, eqb-true, eqb-false, or_parts}
-use Rattle.std.proofs.lemmas.List.{take_more, take-append-drop}
+use Rattle.std.proofs.Common.{◌≡◌, ℕ, zero, suc, ◌+◌, ◌<◌, ◌≤◌, Bool, true, false, cond}
+use Rattle.std.proofs.Common.{List, [], ◌∷◌, ◌++◌, length, if◌then◌else◌}
+use Rattle.std.proofs.Common.{add-one, refl, ap, sym, subst, ◌∙◌, inl, inr, arith}
+use Rattle.std.specs.Prelude.{◌==◌, ◌||◌, nat_eq, nat_lt, slice_index}
+use Rattle.std.specs.List.{dedup}
+use Rattle.std.specs.List.Sorted.{IsPermutation, IsSorted, IsStrictlyIncreasing}
+use Rattle.std.specs.Ordering.{nat_cmp}
+use Rattle.std.proofs.lemmas.Bool.{ltb-true, ltb-false, eqb-true, eqb-false, or_parts, cases_lt}
+use Rattle.std.proofs.lemmas.List.{length-append, get_or_append_left, get_or_push}
 use Rattle.std.proofs.lemmas.List.Sorted.{list_any-IsPermutation}
+use Rattle.std.proofs.lemmas.Map.Keys.{IsStrictlyIncreasing-dedup}
 use Rattle.exam_model.specs.Enrolments.{IsAscending, has_student}
 use Rattle.exam_model.proofs.SameSet.{same_list}
 use Rattle.office_files.specs.ExamLines.{with_student, with_students}
+
+or-false : (a : Bool) → (a || false) ≡ a
+or-false true = refl
+or-false false = refl
 
 or_twice : (a r : Bool) → (a || r) ≡ (a || (a || r))
 or_twice true r = refl
@@ -161,48 +168,89 @@ length-students (s ∷ ss) seen =
     let one = length-with s seen in
     omega (arith, length-students ss (with_student s seen))
 
--- one more student at the end
-pub students-push : (ss seen : List ℕ) (s : ℕ) →
-    with_students (ss ++ s ∷ []) seen ≡ with_student s (with_students ss seen)
-students-push [] seen s = refl
-students-push (x ∷ xs) seen s = students-push xs (with_student x seen) s
+-- the ascending list of the same students is the students put in one by one
+pub students-same : (names xs : List ℕ) → IsAscending xs →
+    ((t : ℕ) → has_student xs t ≡ has_student names t) → xs ≡ with_students names []
+students-same names xs up same =
+    same_list xs (with_students names []) up (ascending-students names [] ascending-none)
+    (λ t. same t ∙ sym (or-false (has_student names t)) ∙ sym (has-students names [] t))
 
-students-append : (ss ts seen : List ℕ) →
-    with_students (ss ++ ts) seen ≡ with_students ts (with_students ss seen)
-students-append [] ts seen = refl
-students-append (s ∷ ss) ts seen = students-append ss ts (with_student s seen)
+-- where they come in ascending order, they are that list
+pub students-ascending : (names : List ℕ) → IsAscending names → names ≡ with_students names []
+students-ascending names up = students-same names names up (λ t. refl)
 
--- one more student of a list
-pub students-more : (names : List ℕ) (i s d : ℕ) → i < length names → s ≡ get_or names i d →
-    with_students (take (i + 1) names) [] ≡ with_student s (with_students (take i names) [])
-students-more names i s d lt at =
-    ap (λ (xs : List ℕ). with_students xs []) (take_more names i d lt)
-    ∙ students-push (take i names) [] (get_or names i d)
-    ∙ ap (λ (z : ℕ). with_student z (with_students (take i names) [])) (sym at)
+-- an ascending list of numbers below the least that may follow
+pub record IsUpTo (xs : List ℕ) (least : ℕ) : Type 0 where
+  pub ascending : IsAscending xs
+  pub below : (k : ℕ) → k < length xs → slice_index xs k < least
 
--- a further student who is not among the first few makes more than these
-pub students-longer : (names : List ℕ) (i s d : ℕ) → i < length names → s ≡ get_or names i d →
-    has_student (with_students (take i names) []) s ≡ false →
-    length (with_students (take i names) []) < length (with_students names [])
-students-longer names i s d lt at new =
-    let front = with_students (take i names) [] in
-    let next = with_students (take (i + 1) names) [] in
-    let behind = drop (i + 1) names in
-    let one : length next ≡ length front + 1 =
-    ap length (students-more names i s d lt at) ∙ length-with_new s front new in
-    let whole : with_students names [] ≡ with_students behind next =
-    ap (λ (xs : List ℕ). with_students xs []) (sym (take-append-drop (i + 1) names))
-    ∙ students-append (take (i + 1) names) behind [] in
-    let same = ap length whole in
-    omega (arith, length-students behind next)
+pub up_to_none : IsUpTo [] 0
+up_to_none = record { ascending = ascending-none; below = λ k within. absurd (omega arith) }
 
--- the order in which they come does not matter
-pub students-permutation : (xs ys : List ℕ) → IsPermutation xs ys →
-    with_students xs [] ≡ with_students ys []
-students-permutation xs ys moved =
-    same_list (with_students xs []) (with_students ys [])
-    (ascending-students xs [] ascending-none)
-    (ascending-students ys [] ascending-none)
-    (λ t. has-students xs [] t
-    ∙ ap (λ b. b || false) (list_any-IsPermutation (λ (x : ℕ). x == t) xs ys moved)
-    ∙ sym (has-students ys [] t))
+-- one more at the end
+pub up_to_push : (xs : List ℕ) (least x : ℕ) → IsUpTo xs least → least ≤ x →
+    IsUpTo (xs ++ x ∷ []) (x + 1)
+up_to_push xs least x is le = record { ascending = rises; below = under } where
+  size : length (xs ++ x ∷ []) ≡ length xs + 1
+  size = length-append xs (x ∷ [])
+
+  before : (k : ℕ) → k < length xs → slice_index (xs ++ x ∷ []) k ≡ slice_index xs k
+  before k within = get_or_append_left xs (x ∷ []) 0 k within
+
+  last : slice_index (xs ++ x ∷ []) (length xs) ≡ x
+  last = get_or_push xs x 0 (length xs) refl
+
+  rises : IsAscending (xs ++ x ∷ [])
+  rises i j lt within = elim (cases_lt j (length xs)) as (λ _. slice_index (xs ++ x ∷ []) i < slice_index (xs ++ x ∷ []) j) [
+    | inl inner ↦ rw (before i (omega arith), before j inner) (is.ascending i j lt inner)
+    | inr at_end ↦
+        let same : j ≡ length xs = omega (arith, size) in
+        let low = is.below i (omega (arith, size)) in
+        rw (same, last, before i (omega (arith, size))) (omega arith)
+  ]
+
+  under : (k : ℕ) → k < length (xs ++ x ∷ []) → slice_index (xs ++ x ∷ []) k < x + 1
+  under k within = elim (cases_lt k (length xs)) as (λ _. slice_index (xs ++ x ∷ []) k < x + 1) [
+    | inl inner ↦ rw (before k inner) (omega (arith, is.below k inner))
+    | inr at_end ↦ let same : k ≡ length xs = omega (arith, size) in rw (same, last) (omega arith)
+  ]
+
+-- numbers each below the next are ascending
+ascending-increasing : (xs : List ℕ) → IsStrictlyIncreasing xs → IsAscending xs
+ascending-increasing xs up i zero lt within = absurd (omega arith)
+ascending-increasing xs up i (suc j) lt within =
+    let next : slice_index xs j < slice_index xs (suc j) = rw add-one at (up j (omega arith)) in
+    elim (cases_lt i j) as (λ _. slice_index xs i < slice_index xs (suc j)) [
+      | inl less ↦ omega (arith, ascending-increasing xs up i j less (omega arith))
+      | inr same ↦ let is : i ≡ j = omega arith in rw is next
+    ]
+
+-- without its repeats a sorted list has the same members
+has-dedup : (xs : List ℕ) (t : ℕ) → has_student (dedup nat_eq xs) t ≡ has_student xs t
+has-dedup [] t = refl
+has-dedup (x ∷ xs) t = from x xs
+  where
+    from : (x : ℕ) (xs : List ℕ) → has_student (dedup nat_eq (x ∷ xs)) t ≡ has_student (x ∷ xs) t
+    from x [] = refl
+    from x (y ∷ ys) =
+        let repeated = dedup nat_eq (x ∷ ys) in
+        let new = x ∷ dedup nat_eq (y ∷ ys) in
+        elim (nat_eq y x) as (λ b. nat_eq y x ≡ b →
+        has_student (cond b repeated new) t ≡ ((x == t) || ((y == t) || has_student ys t))) [
+          | true ↦ λ e.
+              from x ys ∙ rw (eqb-true y x e) (or_twice (x == t) (has_student ys t))
+          | false ↦ λ e. ap (λ b. (x == t) || b) (from y ys)
+        ] refl
+
+-- students who are sorted, each kept once, are those put in one by one
+pub students-sorted : (names sorted kept : List ℕ) → IsPermutation names sorted →
+    IsSorted nat_cmp sorted → kept ≡ dedup nat_eq sorted →
+    (kept ≡ with_students names []) × IsAscending kept
+students-sorted names sorted kept moved up is =
+    let rises : IsAscending kept = rw is (ascending-increasing (dedup nat_eq sorted) (IsStrictlyIncreasing-dedup sorted up)) in (
+      students-same names kept rises (λ t.
+          ap (λ (xs : List ℕ). has_student xs t) is
+          ∙ has-dedup sorted t
+          ∙ sym (list_any-IsPermutation (λ (x : ℕ). x == t) names sorted moved)),
+      rises,
+    )

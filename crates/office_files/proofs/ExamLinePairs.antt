@@ -1,25 +1,22 @@
 -- How the limit of the pairs judges the students of a line, and what the set is with them.
 use Rattle.std.proofs.Common.{◌≡◌, ℕ, ◌+◌, ◌<◌, ◌≤◌, Bool, true, false, List, [], ◌∷◌}
-use Rattle.std.proofs.Common.{length, get_or, set, take, Result, Ok, Err, Option, Some, None}
-use Rattle.std.proofs.Common.{refl, ap, sym, subst, ◌∙◌, inl, inr, arith}
-use Rattle.std.specs.Prelude.{◌≢◌, ◌==◌, ◌||◌, ◌&&◌, nat_lt}
-use Rattle.std.proofs.lemmas.Bool.{ltb-true, lt-ltb, eq-eqb, ne_eqb, cases_eq}
-use Rattle.std.proofs.lemmas.List.{length-set, get_or-set_same, get_or-set_other, set-set}
+use Rattle.std.proofs.Common.{length, set, Result, Ok, Err, Option, Some, None}
+use Rattle.std.proofs.Common.{refl, ap, ◌∙◌, arith}
+use Rattle.std.specs.Prelude.{◌≢◌, ◌||◌, nat_lt}
+use Rattle.std.proofs.lemmas.Bool.{ltb-true, lt-ltb}
 use Rattle.std.proofs.lemmas.List.Sums.{sum_by-set}
 use Rattle.exam_model.specs.Refusing.{◌>>=◌, unless}
-use Rattle.exam_model.specs.Enrolments.{Enrolled, AreEnrolments, Adds, RefusesPair, IsAscending}
-use Rattle.exam_model.specs.Enrolments.{has_student, students, has, pair_count}
+use Rattle.exam_model.specs.Enrolments.{Enrolled, IsAscending, RefusesAll, has_student, students}
+use Rattle.exam_model.specs.Enrolments.{pair_count}
 use Rattle.exam_model.specs.declared.fault.ModelFault.{ModelFault}
 use Rattle.exam_model.specs.declared.fault.ModelFault.TheVariants.{Range, NoSuch, NoMemory}
-use Rattle.exam_model.proofs.SameSet.{same_set}
 use Rattle.office_files.specs.Numbers.{number}
 use Rattle.office_files.specs.ExamLines.{IsEmptyExam, with_student, with_students, students_in}
 use Rattle.office_files.specs.ExamLines.{named_first, named_in, fault_first, fault_in}
 use Rattle.office_files.specs.declared.fault.FaultKind.{FaultKind}
 use Rattle.office_files.specs.declared.fault.FaultKind.TheVariants.{OutOfRange}
-use Rattle.office_files.proofs.ExamLineLemmas.{has-with, ascending-with, with_again}
+use Rattle.office_files.proofs.ExamLineLemmas.{ascending-with, with_again}
 use Rattle.office_files.proofs.ExamLineLemmas.{length-with_new, length-students}
-use Rattle.office_files.proofs.ExamLineLemmas.{students-more, students-longer}
 
 -- the students, unless a field is faulty
 abbrev pub judged : Option FaultKind → List ℕ → Result (List ℕ) FaultKind
@@ -129,52 +126,6 @@ students_in-past pairs seen (field ∷ fields) up within past =
     past_by pairs seen fields (number 999999999 field) up within
     (λ s. students_in-past pairs (with_student s seen) fields (ascending-with s seen up)) past
 
-and-true : (a : Bool) → (a && true) ≡ a
-and-true true = refl
-and-true false = refl
-
-and-false : (a : Bool) → (a && false) ≡ false
-and-false true = refl
-and-false false = refl
-
-module _ (E new : Enrolled) (s e : ℕ) (lt : e < length E) where
-  -- one exam's students with another one among them
-  abbrev changed : Enrolled
-  changed = set E e (with_student s (students E e))
-
-  students_here : students changed e ≡ with_student s (students E e)
-  students_here = get_or-set_same E e (with_student s (students E e)) [] lt
-
-  students_there : (f : ℕ) → (f ≡ e → ⊥) → students changed f ≡ students E f
-  students_there f other = get_or-set_other E e f (with_student s (students E e)) [] other
-
-  size : length changed ≡ length E
-  size = length-set E e (with_student s (students E e))
-
-  changed_ascends : AreEnrolments E → (f : ℕ) → f < length changed →
-      IsAscending (students changed f)
-  changed_ascends was f within = elim (cases_eq f e) [
-    | inl same ↦
-        rw (same, students_here) (ascending-with s (students E e) (was.ascending e lt))
-    | inr other ↦ rw (students_there f other) (was.ascending f (omega (arith, size)))
-  ]
-
-  changed_members : (t f : ℕ) → has changed t f ≡ (((s == t) && (e == f)) || has E t f)
-  changed_members t f = elim (cases_eq f e) [
-    | inl same ↦
-        subst (λ g. has changed t g ≡ (((s == t) && (e == g)) || has E t g)) (sym same)
-        (rw (students_here, eq-eqb e e refl, and-true (s == t)) (has-with s (students E e) t))
-    | inr other ↦
-        let there = ne_eqb e f (λ q. other (sym q)) in
-        rw (students_there f other, there, and-false (s == t)) refl
-  ]
-
-  -- adding a pair changes one exam's students alone
-  adds_is : AreEnrolments E → AreEnrolments new → Adds E new s e → new ≡ changed
-  adds_is was kept adds =
-      same_set new changed (adds.exams ∙ sym size) kept.ascending (changed_ascends was)
-      (λ t f. adds.members t f ∙ sym (changed_members t f))
-
 -- so many pairs are there with these students in an exam that had none
 pub pair_count-enrolled : (E : Enrolled) (e : ℕ) (sitters : List ℕ) → IsEmptyExam E e →
     pair_count (set E e sitters) ≡ pair_count E + length sitters
@@ -183,51 +134,9 @@ pair_count-enrolled E e sitters empty =
     let none : length (students E e) ≡ 0 = ap length empty.none in
     omega arith
 
--- the first students of a line are in an exam that had none
-pub record AreIn (E now : Enrolled) (e : ℕ) (names : List ℕ) (i : ℕ) : Type 0 where
-  pub enrolled : now ≡ set E e (with_students (take i names) [])
-  pub kept : AreEnrolments now
-
-module _ (E now : Enrolled) (e : ℕ) (names : List ℕ) (i s d : ℕ) (empty : IsEmptyExam E e)
-    (are_in : AreIn E now e names i) (lt : i < length names) (at : s ≡ get_or names i d) where
-  abbrev front : List ℕ
-  front = with_students (take i names) []
-
-  as_many : length now ≡ length E
-  as_many = ap length are_in.enrolled ∙ length-set E e front
-
-  here : students now e ≡ front
-  here =
-      ap (λ (F : Enrolled). students F e) are_in.enrolled
-      ∙ get_or-set_same E e front [] empty.exists
-
-  -- the next one is put in
-  pub enrolled-next : (new : Enrolled) → AreEnrolments new → Adds now new s e →
-      AreIn E new e names (i + 1)
-  enrolled-next new kept adds =
-      let exists = empty.exists in
-      let more = students-more names i s d lt at in
-      record {
-        enrolled =
-            adds_is now new s e (omega (arith, as_many)) are_in.kept kept adds
-            ∙ ap (λ (F : Enrolled). set F e (with_student s (students now e))) are_in.enrolled
-            ∙ set-set E e front (with_student s (students now e))
-            ∙ ap (λ (xs : List ℕ). set E e (with_student s xs)) here
-            ∙ ap (set E e) (sym more);
-        kept = kept;
-      }
-
-  -- where the next one is refused, the students of the whole line are too many
-  pub enrolled-full : (fault : ModelFault) → RefusesPair now s e fault → fault ≢ NoMemory →
-      200000 < pair_count E + length (with_students names [])
-  enrolled-full Range refuses other =
-      let new : has_student front s ≡ false =
-      ap (λ (xs : List ℕ). has_student xs s) (sym here) ∙ refuses.1 in
-      let pairs : pair_count now ≡ pair_count E + length front =
-      ap pair_count are_in.enrolled ∙ pair_count-enrolled E e front empty in
-      let full = refuses.2 in
-      let longer = students-longer names i s d lt at new in
-      omega arith
-  enrolled-full NoSuch refuses other =
-      let exists = empty.exists in absurd (omega (arith, as_many))
-  enrolled-full NoMemory refuses other = absurd (other refl)
+-- students who are refused, though there is memory, are too many
+pub too_many : (E : Enrolled) (sitters : List ℕ) (fault : ModelFault) →
+    RefusesAll E sitters fault → fault ≢ NoMemory → 200000 < pair_count E + length sitters
+too_many E sitters Range refuses other = refuses
+too_many E sitters NoSuch refuses other = absurd refuses
+too_many E sitters NoMemory refuses other = absurd (other refl)

@@ -3,7 +3,6 @@ use Rattle.std.proofs.Common.{◌≡◌, ℕ, suc, ◌+◌, ◌-◌, ◌<◌, Li
 use Rattle.std.proofs.Common.{Result, Ok, Err, Option, Some, None, refl, ap, sym, ◌∙◌, arith}
 use Rattle.std.proofs.Common.{append_assoc}
 use Rattle.std.specs.Prelude.{map, sum_by}
-use Rattle.std.specs.List.Sorted.{IsPermutation}
 use Rattle.std.proofs.lemmas.List.{length-append, length-map, map_push, set_at}
 use Rattle.std.proofs.lemmas.List.Sums.{sum_by-append, sum_by-cons}
 use Rattle.std.proofs.lemmas.List.Folds.{sum_by-replicate}
@@ -19,7 +18,7 @@ use Rattle.office_files.specs.ExamLines.{students_in, EntersLine, IsEmptyExam}
 use Rattle.office_files.specs.ExamLines.{with_students, named_in, fault_in}
 use Rattle.office_files.specs.declared.fault.FaultKind.{FaultKind}
 use Rattle.office_files.specs.declared.fault.FaultKind.TheVariants.{OutOfRange}
-use Rattle.office_files.proofs.ExamLineLemmas.{students-permutation, ascending-none}
+use Rattle.office_files.proofs.ExamLineLemmas.{ascending-none}
 use Rattle.office_files.proofs.ExamLinePairs.{judged, students_in-within, students_in-past}
 use Rattle.office_files.proofs.ExamLinePairs.{pair_count-enrolled}
 
@@ -29,43 +28,33 @@ behind_minutes : (pairs minutes : ℕ) (fields : List (List ℕ)) (r : Result (L
     exam_behind pairs fields ≡ (r >>= λ names. Ok (record { minutes = minutes; students = names }))
 behind_minutes pairs minutes fields r is said = rw (is, said) refl
 
--- what was read of a line: its minutes, and in some order the students up to the first fault
-pub record IsReadOf (fields : List (List ℕ)) (minutes : ℕ) (names : List ℕ)
+-- what was read of a line: its minutes, and the students up to the first fault in ascending order
+pub record IsReadOf (fields : List (List ℕ)) (minutes : ℕ) (sitters : List ℕ)
     (fault : Option FaultKind) : Type 0 where
   pub minutes_are : number 1440 (first fields) ≡ Ok minutes
-  pub order : List ℕ
-  pub in_order : order ≡ named_in (rest fields)
-  pub moved : IsPermutation order names
+  pub students_are : sitters ≡ with_students (named_in (rest fields)) []
   pub fault_is : fault ≡ fault_in (rest fields)
 
 -- what the calls on a line tell of it
-pub read_of : (fields now tail : List (List ℕ)) (minutes : ℕ)
-    (order sorted names : List ℕ) (fault : Option FaultKind) →
+pub read_of : (fields now tail : List (List ℕ)) (minutes : ℕ) (named ordered sitters : List ℕ)
+    (fault : Option FaultKind) →
     now ≡ fields → Ok minutes ≡ number 1440 (first now) → tail ≡ rest now →
-    order ≡ named_in tail → fault ≡ fault_in tail → IsPermutation order sorted → names ≡ sorted →
-    IsReadOf fields minutes names fault
-read_of fields now tail minutes order sorted names fault all is others in_order faulty moved same =
+    named ≡ named_in tail → fault ≡ fault_in tail → ordered ≡ with_students named [] →
+    sitters ≡ ordered → IsReadOf fields minutes sitters fault
+read_of fields now tail minutes named ordered sitters fault all is others names faulty order same =
     let behind : tail ≡ rest fields = others ∙ ap rest all in
     record {
       minutes_are = ap (λ xs. number 1440 (first xs)) (sym all) ∙ sym is;
-      order = order;
-      in_order = in_order ∙ ap named_in behind;
-      moved = rw same moved;
+      students_are =
+          same
+          ∙ order
+          ∙ ap (λ (xs : List ℕ). with_students xs []) (names ∙ ap named_in behind);
       fault_is = faulty ∙ ap fault_in behind;
     }
 
-module _ (E : Enrolled) (e : ℕ) (fields : List (List ℕ)) (minutes : ℕ) (names : List ℕ)
+module _ (E : Enrolled) (e : ℕ) (fields : List (List ℕ)) (minutes : ℕ) (sitters : List ℕ)
     (fault : Option FaultKind) (empty : IsEmptyExam E e)
-    (is : IsReadOf fields minutes names fault) where
-  abbrev sitters : List ℕ
-  sitters = with_students names []
-
-  -- the order does not matter
-  same_students : sitters ≡ with_students (named_in (rest fields)) []
-  same_students =
-      sym (students-permutation is.order names is.moved)
-      ∙ ap (λ (xs : List ℕ). with_students xs []) is.in_order
-
+    (is : IsReadOf fields minutes sitters fault) where
   -- where all students are in, a field of the line alone may be faulty
   line_within : (new : Enrolled) → new ≡ set E e sitters → AreEnrolments new →
       exam_behind (pair_count E) fields
@@ -74,10 +63,10 @@ module _ (E : Enrolled) (e : ℕ) (fields : List (List ℕ)) (minutes : ℕ) (na
       let pairs : pair_count new ≡ pair_count E + length sitters =
       ap pair_count changed ∙ pair_count-enrolled E e sitters empty in
       let few = kept.pairs in
-      let size = ap length same_students in
+      let size = ap length is.students_are in
       let said : students_in (pair_count E) [] (rest fields) ≡ judged fault sitters =
       students_in-within (pair_count E) [] (rest fields) (omega arith)
-      ∙ ap (judged (fault_in (rest fields))) (sym same_students)
+      ∙ ap (judged (fault_in (rest fields))) (sym is.students_are)
       ∙ ap (λ (f : Option FaultKind). judged f sitters) (sym is.fault_is) in
       behind_minutes (pair_count E) minutes fields _ is.minutes_are said
 
@@ -102,7 +91,7 @@ module _ (E : Enrolled) (e : ℕ) (fields : List (List ℕ)) (minutes : ℕ) (na
       exam_behind (pair_count E) fields ≡ Err OutOfRange
   line_past past =
       let few = empty.kept.pairs in
-      let size = ap length same_students in
+      let size = ap length is.students_are in
       let said = students_in-past (pair_count E) [] (rest fields) ascending-none
       (omega arith) (omega arith) in
       behind_minutes (pair_count E) minutes fields _ is.minutes_are said

@@ -21,3 +21,10 @@ pub mod InstanceLaws
 pub mod ReaderLaws
 mod FaultLemmas
 pub mod FirstFaultLaws
+mod CanonicalLines
+mod CanonicalSolution
+mod CanonicalDigits
+mod CanonicalSteps
+mod CanonicalItems
+mod CanonicalSections
+mod CanonicalInstance

@@ -1,19 +1,21 @@
--- Digits at the front of a line, and what a field of digits alone says.
-use Rattle.std.proofs.Common.{◌≡◌, ℕ, zero, suc, ◌+◌, ◌-◌, ◌*◌, ◌%◌, ◌^◌, ◌<◌, ◌≤◌, true, false}
-use Rattle.std.proofs.Common.{List, [], ◌∷◌, ◌++◌, length, get_or, take, drop, drop-cons, add-one}
-use Rattle.std.proofs.Common.{refl, sym, ap, ◌∙◌, arith}
-use Rattle.std.specs.Prelude.{map}
+-- Digits at the front of a line, and what a field of few digits says.
+use Rattle.std.proofs.Common.{◌≡◌, ◌≢◌, ℕ, zero, suc, ◌+◌, ◌-◌, ◌*◌, ◌%◌, ◌^◌, ◌<◌, ◌≤◌}
+use Rattle.std.proofs.Common.{Bool, true, false, List, [], ◌∷◌, ◌++◌, length, get_or, take, drop}
+use Rattle.std.proofs.Common.{add-one, Option, Some, None, refl, sym, ap, ◌∙◌, inl, inr, arith}
+use Rattle.std.specs.Prelude.{◌&&◌, ◌==◌, nat_le, nat_lt, if◌then◌else◌, map}
 use Rattle.std.specs.List.{list_all, onto_first}
 use Rattle.std.specs.Char.{is_ascii_digit}
 use Rattle.std.proofs.Math.Nat.{pow-le-pow_right, pow-suc}
-use Rattle.std.proofs.lemmas.Bool.{ne_eqb, and_parts, lt-ltb}
+use Rattle.std.proofs.lemmas.Bool.{eq-eqb, ne_eqb, and_parts, lt-ltb, le-leb, lt-leb}
+use Rattle.std.proofs.lemmas.Bool.{cases_lt, cases_eq}
 use Rattle.std.proofs.lemmas.List.{take-append-drop, take-take, length-take, length-take-le}
+use Rattle.std.proofs.lemmas.List.{length-append, append-nil, get_or-take}
 use Rattle.std.proofs.lemmas.Grind.{common_steps}
 use Rattle.std.proofs.lemmas.List.Folds.{list_all_more}
 use Rattle.office_files.specs.Fields.{ended_parts, is_blank, before_end, trim_end}
 use Rattle.office_files.specs.Fields.{trimmed, fields_of, first, rest}
 use Rattle.office_files.specs.Numbers.{read_on, is_number, at_most, number}
-use Rattle.office_files.specs.Digits.{Says, SaysFirst}
+use Rattle.office_files.specs.Digits.{Says, NoDigitAt, IsFront, few_digits, without_space}
 use Rattle.office_files.proofs.FieldLemmas.{parts_some}
 
 abbrev AllDigits : List ℕ → Type 0
@@ -82,14 +84,172 @@ says_front most text value count says =
       small = says.small;
     }
 
--- digits are one part up to the mark
-parts_digits : (ds behind : List ℕ) → AllDigits ds →
-    ended_parts 44 (ds ++ 44 ∷ behind) ≡ ds ∷ ended_parts 44 behind
-parts_digits [] behind all = refl
-parts_digits (d ∷ ds) behind all =
+first-onto : (b : ℕ) (parts : List (List ℕ)) → first (onto_first b parts) ≡ b ∷ first parts
+first-onto b [] = refl
+first-onto b (x ∷ xs) = refl
+
+rest-onto : (b : ℕ) (parts : List (List ℕ)) → rest (onto_first b parts) ≡ rest parts
+rest-onto b [] = refl
+rest-onto b (x ∷ xs) = refl
+
+-- a byte that is no comma begins its part
+part-byte : (b : ℕ) (bs : List ℕ) → b ≢ 44 →
+    first (ended_parts 44 (b ∷ bs)) ≡ b ∷ first (ended_parts 44 bs)
+part-byte b bs other = rw (ne_eqb b 44 other) (first-onto b (ended_parts 44 bs))
+
+-- and has no part in the others
+others-byte : (b : ℕ) (bs : List ℕ) → b ≢ 44 →
+    rest (ended_parts 44 (b ∷ bs)) ≡ rest (ended_parts 44 bs)
+others-byte b bs other = rw (ne_eqb b 44 other) (rest-onto b (ended_parts 44 bs))
+
+digit_no_comma : (d : ℕ) (ds : List ℕ) → AllDigits (d ∷ ds) → d ≢ 44
+digit_no_comma d ds all same =
     let both = and_parts (is_ascii_digit d) (list_all is_ascii_digit ds) all in
     let range = digit_range d both.0 in
-    rw (ne_eqb d 44 (λ same. omega arith), parts_digits ds behind both.1) refl
+    absurd (omega arith)
+
+-- digits stand before what goes on in the same part
+part-digits : (ds behind : List ℕ) → AllDigits ds →
+    first (ended_parts 44 (ds ++ behind)) ≡ ds ++ first (ended_parts 44 behind)
+part-digits [] behind all = refl
+part-digits (d ∷ ds) behind all =
+    let both = and_parts (is_ascii_digit d) (list_all is_ascii_digit ds) all in
+    part-byte d (ds ++ behind) (digit_no_comma d ds all)
+    ∙ ap (λ (xs : List ℕ). d ∷ xs) (part-digits ds behind both.1)
+
+others-digits : (ds behind : List ℕ) → AllDigits ds →
+    rest (ended_parts 44 (ds ++ behind)) ≡ rest (ended_parts 44 behind)
+others-digits [] behind all = refl
+others-digits (d ∷ ds) behind all =
+    let both = and_parts (is_ascii_digit d) (list_all is_ascii_digit ds) all in
+    others-byte d (ds ++ behind) (digit_no_comma d ds all) ∙ others-digits ds behind both.1
+
+and-false : (a : Bool) → (a && false) ≡ false
+and-false true = refl
+and-false false = refl
+
+few_digits-all : (ds : List ℕ) → 0 < length ds → length ds ≤ 9 → AllDigits ds →
+    few_digits ds ≡ Some (read_on 0 ds)
+few_digits-all ds some few all =
+    rw (lt-ltb 0 (length ds) some, all, le-leb (length ds) 9 few) refl
+
+few_digits-long : (text : List ℕ) → 9 < length text → few_digits text ≡ None
+few_digits-long text long = rw (lt-leb (length text) 9 long, and-false (is_number text)) refl
+
+few_digits-other : (text : List ℕ) → list_all is_ascii_digit text ≡ false → few_digits text ≡ None
+few_digits-other text other = rw (other, and-false (nat_lt 0 (length text))) refl
+
+all-other : (ds : List ℕ) (b : ℕ) (bs : List ℕ) → is_ascii_digit b ≡ false →
+    list_all is_ascii_digit (ds ++ b ∷ bs) ≡ false
+all-other [] b bs other = rw other refl
+all-other (d ∷ ds) b bs other = rw (all-other ds b bs other) (and-false (is_ascii_digit d))
+
+-- what is left of a text begins with the byte at that place
+head_at : (text : List ℕ) (i b : ℕ) (bs : List ℕ) → drop i text ≡ b ∷ bs →
+    (i < length text) × (get_or text i 0 ≡ b)
+head_at [] zero b bs e = cc
+head_at [] (suc i) b bs e = cc
+head_at (x ∷ xs) zero b bs e = (omega arith, cc)
+head_at (x ∷ xs) (suc i) b bs e = let next = head_at xs i b bs e in (omega arith, next.1)
+
+-- a part that begins with no digit says no number
+pub no_digit : (line : List ℕ) → NoDigitAt line 0 →
+    few_digits (first (ended_parts 44 line)) ≡ None
+no_digit [] other = refl
+no_digit (b ∷ bs) other =
+    let more = first (ended_parts 44 bs) in
+    elim (cases_eq b 44) as (λ _. few_digits (first (ended_parts 44 (b ∷ bs))) ≡ None) [
+      | inl same ↦ rw (eq-eqb b 44 same) refl
+      | inr differs ↦
+          ap few_digits (part-byte b bs differs)
+          ∙ few_digits-other (b ∷ more) (all-other [] b more (other (omega arith)))
+    ]
+
+-- what the first nine bytes of a line say, the line says
+pub front_window : (line : List ℕ) (value count : ℕ) → 9 < length line →
+    Says (take 9 line) value count → NoDigitAt (take 9 line) count → IsFront line value count
+front_window line value count long says whole =
+    let size = length-take-le 9 line (omega arith) in
+    let within = says.within in
+    record {
+      says = says_front 9 line value count says;
+      few = omega arith;
+      whole = λ less lt.
+          ap is_ascii_digit (sym (get_or-take 9 line count 0 less)) ∙ whole (omega arith);
+    }
+
+module _ (line : List ℕ) (value count : ℕ) (is : IsFront line value count) where
+  abbrev front : List ℕ
+  front = take count line
+
+  abbrev left : List ℕ
+  left = drop count line
+
+  size : length front ≡ count
+  size = length-take-le count line is.says.within
+
+  line_is : line ≡ front ++ left
+  line_is = sym (take-append-drop count line)
+
+  part_is : first (ended_parts 44 line) ≡ front ++ first (ended_parts 44 left)
+  part_is =
+      ap (λ xs. first (ended_parts 44 xs)) line_is ∙ part-digits front left is.says.digits
+
+  others_are : rest (ended_parts 44 line) ≡ rest (ended_parts 44 left)
+  others_are =
+      ap (λ xs. rest (ended_parts 44 xs)) line_is ∙ others-digits front left is.says.digits
+
+  value_is : first (ended_parts 44 left) ≡ [] → 0 < count →
+      few_digits (first (ended_parts 44 line)) ≡ Some value
+  value_is none some =
+      let few = is.few in
+      ap few_digits (part_is ∙ ap (λ (xs : List ℕ). front ++ xs) none ∙ append-nil front)
+      ∙ few_digits-all front (omega (arith, size)) (omega (arith, size)) is.says.digits
+      ∙ ap Some is.says.same
+
+  -- the line ends behind them
+  pub at_end : left ≡ [] → 0 < count →
+      (few_digits (first (ended_parts 44 line)) ≡ Some value)
+      × (ended_parts 44 left ≡ rest (ended_parts 44 line))
+  at_end none some =
+      let parts : ended_parts 44 left ≡ [] = ap (ended_parts 44) none in
+      (value_is (ap first parts) some, parts ∙ sym (others_are ∙ ap rest parts))
+
+  -- a comma ends them
+  pub at_comma : (behind : List ℕ) → left ≡ 44 ∷ behind → 0 < count →
+      (few_digits (first (ended_parts 44 line)) ≡ Some value)
+      × (ended_parts 44 behind ≡ rest (ended_parts 44 line))
+  at_comma behind next some =
+      let parts : ended_parts 44 left ≡ [] ∷ ended_parts 44 behind = ap (ended_parts 44) next in
+      (value_is (ap first parts) some, sym (others_are ∙ ap rest parts))
+
+  -- another byte follows them
+  pub at_other : (b : ℕ) (bs : List ℕ) → left ≡ b ∷ bs → b ≢ 44 →
+      few_digits (first (ended_parts 44 line)) ≡ None
+  at_other b bs next other =
+      let more = first (ended_parts 44 bs) in
+      let part : first (ended_parts 44 line) ≡ front ++ b ∷ more =
+      part_is
+      ∙ ap (λ xs. front ++ first (ended_parts 44 xs)) next
+      ∙ ap (λ (xs : List ℕ). front ++ xs) (part-byte b bs other) in
+      let here = head_at line count b bs next in
+      ap few_digits part
+      ∙ elim (cases_lt count 9) as (λ _. few_digits (front ++ b ∷ more) ≡ None) [
+        | inl less ↦
+            few_digits-other (front ++ b ∷ more)
+            (all-other front b more
+            (ap is_ascii_digit (sym here.1) ∙ is.whole less here.0))
+        | inr more_than ↦
+            few_digits-long (front ++ b ∷ more)
+            (omega (arith, size, length-append front (b ∷ more)))
+      ]
+
+  -- no digit is there
+  pub at_start : count ≡ 0 → few_digits (first (ended_parts 44 line)) ≡ None
+  at_start none =
+      no_digit line (λ lt.
+      ap (λ k. is_ascii_digit (get_or line k 0)) (sym none)
+      ∙ is.whole (omega arith) (omega arith))
 
 -- digits have no blanks at their end
 trim_end_digits : (ds : List ℕ) → AllDigits ds → trim_end ds ≡ ds
@@ -107,62 +267,79 @@ trimmed_digits (d ∷ ds) all =
     let both = and_parts (is_ascii_digit d) (list_all is_ascii_digit ds) all in
     rw (digit_no_blank d both.0) (trim_end_digits (d ∷ ds) all)
 
-is_number_digits : (ds : List ℕ) → 0 < length ds → AllDigits ds → is_number ds ≡ true
-is_number_digits ds some all = rw (lt-ltb 0 (length ds) some, all) refl
+-- few digits are a number
+few_parts : (text : List ℕ) (value : ℕ) → few_digits text ≡ Some value →
+    (is_number text ≡ true) × (read_on 0 text ≡ value)
+few_parts text value said = by (is_number text && nat_le (length text) 9) refl said
+  where
+    by : (b : Bool) → (is_number text && nat_le (length text) 9) ≡ b →
+        (if b then Some (read_on 0 text) else None) ≡ Some value →
+        (is_number text ≡ true) × (read_on 0 text ≡ value)
+    by true is e = ((and_parts (is_number text) (nat_le (length text) 9) is).0, cc)
+    by false is e = cc
 
--- digits that a comma ends are the first field
-pub first_before : (line : List ℕ) (value count : ℕ) → Says line value count → 0 < count →
-    count < length line → get_or line count 0 ≡ 44 → SaysFirst line value (drop (count + 1) line)
-first_before line value count says some lt comma =
-    let field = take count line in
-    let behind = drop (count + 1) line in
-    let size : 0 < length field = omega (arith, length-take-le count line (omega arith)) in
-    let next : drop count line ≡ 44 ∷ behind =
-    rw (add-one, drop-cons line count 0 lt, comma) refl in
-    let whole : line ≡ field ++ 44 ∷ behind = rw next at (sym (take-append-drop count line)) in
-    record {
-      field = field;
-      fields = ap fields_of whole
-          ∙ ap (map trimmed) (parts_digits field behind says.digits)
-          ∙ ap (λ x. x ∷ fields_of behind) (trimmed_digits field says.digits);
-      digits = is_number_digits field size says.digits;
-      same = says.same;
-    }
+number-few : (text : List ℕ) (value limit : ℕ) → few_digits text ≡ Some value →
+    number limit (trimmed text) ≡ at_most limit value
+number-few text value limit said =
+    let parts = few_parts text value said in
+    let digits = and_parts (nat_lt 0 (length text)) (list_all is_ascii_digit text) parts.0 in
+    ap (number limit) (trimmed_digits text digits.1) ∙ rw (parts.0, parts.1) refl
+
+first-trimmed : (parts : List (List ℕ)) → first (map trimmed parts) ≡ trimmed (first parts)
+first-trimmed [] = refl
+first-trimmed (x ∷ xs) = refl
+
+rest-trimmed : (parts : List (List ℕ)) → rest (map trimmed parts) ≡ map trimmed (rest parts)
+rest-trimmed [] = refl
+rest-trimmed (x ∷ xs) = refl
 
 onto_space : (parts : List (List ℕ)) → 0 < length parts →
     map trimmed (onto_first 32 parts) ≡ map trimmed parts
 onto_space [] some = absurd (omega arith)
 onto_space (x ∷ xs) some = refl
 
+-- a space before a line changes no field
+pub fields_behind_space : (line : List ℕ) → 0 < length line → fields_of line ≡ fields_of (32 ∷ line)
+fields_behind_space line some = sym (onto_space (ended_parts 44 line) (parts_some 44 line some))
+
 -- a space at the start of a line that goes on changes no field
-pub fields_space : (line : List ℕ) → 0 < length line → fields_of line ≡ fields_of (32 ∷ line)
-fields_space line some = sym (onto_space (ended_parts 44 line) (parts_some 44 line some))
+fields_space : (line : List ℕ) → 0 < length (without_space line) →
+    fields_of (without_space line) ≡ fields_of line
+fields_space [] some = refl
+fields_space (b ∷ bs) some = elim (cases_eq b 32) as (λ _. Kept) [
+  | inl same ↦
+      let space : 0 < length bs = rw (eq-eqb b 32 same) at some in
+      rw (eq-eqb b 32 same, same) (sym (onto_space (ended_parts 44 bs) (parts_some 44 bs space)))
+  | inr differs ↦ rw (ne_eqb b 32 differs) refl
+]
+  where
+    Kept : Type 0
+    Kept = fields_of (without_space (b ∷ bs)) ≡ fields_of (b ∷ bs)
 
-some_field : (line field : List ℕ) (fields : List (List ℕ)) → fields_of line ≡ field ∷ fields →
+some_line : (line : List ℕ) (value : ℕ) → few_digits (first (ended_parts 44 line)) ≡ Some value →
     0 < length line
-some_field [] field fields e = cc
-some_field (b ∷ bs) field fields e = omega arith
+some_line [] value said = cc
+some_line (b ∷ bs) value said = omega arith
 
--- a number that a line says, another line of the same fields says
-pub first_same : (line other : List ℕ) (value : ℕ) (behind : List ℕ) →
-    (0 < length other → fields_of other ≡ fields_of line) → SaysFirst other value behind →
-    SaysFirst line value behind
-first_same line other value behind same says =
-    let some = some_field other says.field (fields_of behind) says.fields in
-    record {
-      field = says.field;
-      fields = sym (same some) ∙ says.fields;
-      digits = says.digits;
-      same = says.same;
-    }
+module _ (line : List ℕ) (value : ℕ)
+    (said : few_digits (first (ended_parts 44 (without_space line))) ≡ Some value) where
+  abbrev other : List ℕ
+  other = without_space line
 
--- so the first of its fields is that number
-pub number_first : (line : List ℕ) (value : ℕ) (behind : List ℕ) (limit : ℕ) →
-    SaysFirst line value behind → number limit (first (fields_of line)) ≡ at_most limit value
-number_first line value behind limit says =
-    rw (says.fields, says.digits, says.same) refl
+  same_fields : fields_of other ≡ fields_of line
+  same_fields = fields_space line (some_line other value said)
 
--- and the others are those behind it
-pub rest_first : (line : List ℕ) (value : ℕ) (behind : List ℕ) → SaysFirst line value behind →
-    rest (fields_of line) ≡ fields_of behind
-rest_first line value behind says = ap rest says.fields
+  -- the first field of the line is that number
+  pub number_first : (limit : ℕ) → number limit (first (fields_of line)) ≡ at_most limit value
+  number_first limit =
+      ap (λ fields. number limit (first fields)) (sym same_fields)
+      ∙ ap (number limit) (first-trimmed (ended_parts 44 other))
+      ∙ number-few (first (ended_parts 44 other)) value limit said
+
+  -- and the others are those behind it
+  pub rest_first : (behind : List ℕ) → ended_parts 44 behind ≡ rest (ended_parts 44 other) →
+      fields_of behind ≡ rest (fields_of line)
+  rest_first behind are =
+      ap (map trimmed) are
+      ∙ sym (rest-trimmed (ended_parts 44 other))
+      ∙ ap rest same_fields

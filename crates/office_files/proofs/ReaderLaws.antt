@@ -1,14 +1,13 @@
 -- What the answers of the two readers say by the relations of text and item.
-use Rattle.std.proofs.Common.{◌≡◌, ◌≢◌, ℕ, ◌+◌, ◌≤◌, ◌<◌, ◌==◌, List, [], length, map, Some}
+use Rattle.std.proofs.Common.{◌≡◌, ◌≢◌, ℕ, ◌+◌, ◌≤◌, ◌==◌, List, [], length, map, Some}
 use Rattle.std.proofs.Common.{Result, Ok, Err, IfOk, IfErr, sym, ◌∙◌, refl, subst, arith}
 use Rattle.std.proofs.lemmas.List.Elements.{All-map, All-weaker}
-use Rattle.std.specs.Prelude.{All, Option}
+use Rattle.std.specs.Prelude.{All}
 use Rattle.exam_model.specs.Enrolments.{Enrolled}
 use Rattle.exam_model.specs.Fits.{PlaceExists}
 use Rattle.exam_model.specs.Instance.{Session}
 use Rattle.exam_model.specs.Refusing.{unless}
 use Rattle.exam_model.specs.Timetable.{Placing}
-use Rattle.exam_model.specs.declared.parts.Place.{Place}
 use Rattle.office_files.specs.InstanceText.{InstanceText, instance_in}
 use Rattle.office_files.specs.Items.{place_line}
 use Rattle.office_files.specs.Lines.{lines_of, line_count}

@@ -1,8 +1,8 @@
 -- What digits at the front of a text say.
-use Rattle.std.specs.Prelude.{◌≡◌, ℕ, ◌≤◌, ◌<◌, ◌^◌, true, List, ◌∷◌, length, take}
+use Rattle.std.specs.Prelude.{◌≡◌, ℕ, ◌≤◌, ◌<◌, ◌^◌, true, false, ◌&&◌, ◌==◌, nat_le, if◌then◌else◌}
+use Rattle.std.specs.Prelude.{List, [], ◌∷◌, length, take, slice_index, Option, Some, None}
 use Rattle.std.specs.List.{list_all}
 use Rattle.std.specs.Char.{is_ascii_digit}
-use Rattle.office_files.specs.Fields.{fields_of}
 use Rattle.office_files.specs.Numbers.{read_on, is_number}
 
 -- so many digits at the front of a text say that number
@@ -12,9 +12,22 @@ pub record Says (text : List ℕ) (value count : ℕ) : Type 0 where
   pub same : read_on 0 (take count text) ≡ value
   pub small : value < 10 ^ count
 
--- the first field of a line says that number, and the line goes on so
-pub record SaysFirst (line : List ℕ) (value : ℕ) (behind : List ℕ) : Type 0 where
-  pub field : List ℕ
-  pub fields : fields_of line ≡ field ∷ fields_of behind
-  pub digits : is_number field ≡ true
-  pub same : read_on 0 field ≡ value
+-- no digit follows the first so many bytes of a text
+abbrev pub NoDigitAt : List ℕ → ℕ → Type 0
+NoDigitAt text count = count < length text → is_ascii_digit (slice_index text count) ≡ false
+
+-- up to nine digits at the front of a line say that number, and no digit follows fewer than nine
+pub record IsFront (line : List ℕ) (value count : ℕ) : Type 0 where
+  pub says : Says line value count
+  pub few : count ≤ 9
+  pub whole : count < 9 → NoDigitAt line count
+
+-- the number that one to nine digits say, and no other text says
+abbrev pub few_digits : List ℕ → Option ℕ
+few_digits text =
+    if is_number text && nat_le (length text) 9 then Some (read_on 0 text) else None
+
+-- a text without a space at its start
+abbrev pub without_space : List ℕ → List ℕ
+without_space [] = []
+without_space (b ∷ bs) = if b == 32 then bs else b ∷ bs

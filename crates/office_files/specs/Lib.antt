@@ -13,3 +13,4 @@ pub mod Sections
 pub mod InstanceText
 pub mod SolutionText
 pub mod FirstFault
+pub mod CanonicalText

@@ -1,7 +1,7 @@
 // Reading a field of few digits, as most are, in one pass over its bytes.
-ghost use Rattle.std.specs.Prelude.{◌≡◌, ◌<◌, ◌≤◌, length, IfSome};
-ghost use Rattle.office_files.specs.Fields.{fields_of};
-ghost use Rattle.office_files.specs.Digits.{Says, SaysFirst};
+ghost use Rattle.std.specs.Prelude.{◌≡◌, ◌≤◌, length, option_map, IfSome};
+ghost use Rattle.office_files.specs.Fields.{ended_parts, first, rest};
+ghost use Rattle.office_files.specs.Digits.{Says, NoDigitAt, IsFront, few_digits, without_space};
 
 // Numbers of so many digits fit a u32.
 const MOST_DIGITS: usize = 9;
@@ -10,9 +10,8 @@ const ZERO: u32 = 48;
 
 /// The line without the space at its start, where there is one.
 #[inline]
-#[tactic(auto, using(crate::proofs::ReadOnLemmas::fields_space))]
 pub fn behind_space(line: &[u8]) -> &[u8]
-    ensures { 0 < length result.now → fields_of result.now ≡ fields_of line.now }
+    ensures { result.now ≡ without_space line.now }
 {
     match line.split_first() {
         Some((b' ', others)) => others,
@@ -21,10 +20,11 @@ pub fn behind_space(line: &[u8]) -> &[u8]
 }
 
 // The number that the digits at the front say, and how many they are.
-#[inline]
+#[inline(always)]
 fn digits(text: &[u8]) -> (u32, usize)
     requires { length text.now ≤ 9 }
-    ensures { Says text.now result.0 result.1 }
+    ensures front { Says text.now result.0 result.1 }
+    ensures whole { NoDigitAt text.now result.1 }
 {
     let mut value: u32 = 0;
     for (i, byte) in text.iter().enumerate() {
@@ -38,19 +38,37 @@ fn digits(text: &[u8]) -> (u32, usize)
     (value, text.len())
 }
 
-/// The number that the first field of a line says and what is behind its comma, where the field
-/// is one to nine digits and no more. Only a line of at least ten bytes is looked at, so a line
-/// may start with such a field where the answer is `None`.
-#[inline]
-pub fn first_digits(line: &[u8]) -> Option<(u32, &[u8])>
-    ensures { IfSome result (λ read. SaysFirst line.now read.0 read.1.now) }
+// The same of a line, of which no more than nine bytes are looked at.
+#[inline(always)]
+fn front_digits(line: &[u8]) -> (u32, usize)
+    ensures { IsFront line.now result.0 result.1 }
 {
-    if line.len() <= MOST_DIGITS {
+    if line.len() > MOST_DIGITS {
+        digits(&line[..MOST_DIGITS])
+    } else {
+        digits(line)
+    }
+}
+
+/// The number that a line says up to its first comma, or to its end, and what is left behind that,
+/// where these are one to nine digits alone.
+#[inline(always)]
+pub fn first_digits(line: &[u8]) -> Option<(u32, &[u8])>
+    ensures value { option_map (λ read. read.0) result
+        ≡ few_digits (first (ended_parts 44 line.now)) }
+    ensures behind { IfSome result (λ read.
+        ended_parts 44 read.1.now ≡ rest (ended_parts 44 line.now)) }
+{
+    let (value, end) = front_digits(line);
+    if end == 0 {
         return None;
     }
-    let (value, end) = digits(&line[..MOST_DIGITS]);
-    if end == 0 || line[end] != b',' {
+    let left = &line[end..];
+    let Some((next, behind)) = left.split_first() else {
+        return Some((value, left));
+    };
+    if *next != b',' {
         return None;
     }
-    Some((value, &line[end + 1..]))
+    Some((value, behind))
 }

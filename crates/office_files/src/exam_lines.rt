@@ -1,7 +1,7 @@
 // Reading the lines of the section of exams.
-ghost use Rattle.std.specs.Prelude.{◌≡◌, ◌≢◌, ◌<◌, ◌≤◌, ◌+◌, [], length, take, drop, slice_set};
+ghost use Rattle.std.specs.Prelude.{◌≡◌, ◌≢◌, ◌≤◌, [], length, take, drop, true};
 ghost use Rattle.std.specs.Prelude.{OnOk, IfOk, IfErr, Err};
-ghost use Rattle.exam_model.specs.Enrolments.{AreEnrolments, pair_count};
+ghost use Rattle.exam_model.specs.Enrolments.{IsAscending, pair_count};
 ghost use Rattle.office_files.specs.Faults.{IsOfNoLine};
 ghost use Rattle.office_files.specs.Fields.{fields_of, first, rest};
 ghost use Rattle.office_files.specs.Numbers.{number};
@@ -26,25 +26,52 @@ fn next_student(fields: &mut Fields<'_>) -> Result<StudentNo, FaultKind>
     StudentNo::new(value).ok_or(FaultKind::OutOfRange)
 }
 
-// Lists the students of the fields up to the first fault, which is the answer.
-fn gather(
-    mut fields: Fields<'_>,
-    named: &mut Vec<StudentNo>,
-) -> Result<Option<FaultKind>, AllocError>
-    ensures names { OnOk result (named.new.items ≡ named_in fields.entry) }
-    ensures fault { IfOk result (λ fault. fault ≡ fault_in fields.entry) }
-{
-    named.clear();
-    'fields: while !fields.is_empty() {
-        match next_student(&mut fields) {
-            Ok(student) => named.push(student)?,
-            Err(what) => return Ok(Some(what)),
-        }
-    }
-    Ok(None)
+// What the fields of students told beside their names.
+#[derive(Clone, Copy, Debug)]
+struct Gathered {
+    ascending: bool,
+    fault: Option<FaultKind>,
 }
 
-// What is wrong with a line of which a pair is refused.
+// Lists the students of the fields up to the first fault.
+fn gather(mut fields: Fields<'_>, named: &mut Vec<StudentNo>) -> Result<Gathered, AllocError>
+    ensures names { OnOk result (named.new.items ≡ named_in fields.entry) }
+    ensures fault { IfOk result (λ told. told.fault ≡ fault_in fields.entry) }
+    ensures ascending { IfOk result (λ told. told.ascending ≡ true → IsAscending named.new.items) }
+{
+    named.clear();
+    let mut ascending = true;
+    let mut least: u32 = 0;
+    'fields: while !fields.is_empty() {
+        match next_student(&mut fields) {
+            Ok(student) => {
+                ascending = ascending && least <= student.get();
+                least = student.get() + 1;
+                named.push(student)?;
+            }
+            Err(what) => {
+                let fault = Some(what);
+                return Ok(Gathered { ascending, fault });
+            }
+        }
+    }
+    let fault = None;
+    Ok(Gathered { ascending, fault })
+}
+
+// Brings the students into ascending order, each once; where they have it, nothing is moved.
+fn put_in_order(named: &mut Vec<StudentNo>, ascending: bool)
+    requires { ascending ≡ true → IsAscending named.old.items }
+    ensures all { named.new.items ≡ with_students named.old.items [] }
+    ensures ascending { IsAscending named.new.items }
+{
+    if !ascending {
+        named.sort_unstable();
+        named.dedup();
+    }
+}
+
+// What is wrong with a line whose students are refused.
 fn kind_of(fault: ModelFault) -> FaultKind
     ensures memory { fault ≡ ModelFault.NoMemory → result ≡ FaultKind.NoMemory }
     ensures range { fault ≢ ModelFault.NoMemory → result ≡ FaultKind.OutOfRange }
@@ -53,24 +80,6 @@ fn kind_of(fault: ModelFault) -> FaultKind
         ModelFault::NoMemory => FaultKind::NoMemory,
         _ => FaultKind::OutOfRange,
     }
-}
-
-// Puts the students into an exam that has none; ascending students go in fastest.
-fn enrol(named: &[StudentNo], exam: ExamNo, enrolments: &mut Enrolments) -> Result<(), FaultKind>
-    requires { IsEmptyExam enrolments.old exam }
-    ensures ok { OnOk result
-        (enrolments.new ≡ slice_set enrolments.old exam (with_students named.now [])) }
-    ensures kept { AreEnrolments enrolments.new }
-    ensures full { IfErr result (λ what. what ≢ FaultKind.NoMemory → (what ≡ FaultKind.OutOfRange)
-        × (200000 < pair_count enrolments.old + length (with_students named.now []))) }
-{
-    for student in named {
-        match enrolments.add(*student, exam) {
-            Ok(_) => {}
-            Err(fault) => return Err(kind_of(fault)),
-        }
-    }
-    Ok(())
 }
 
 // What a line says, behind the pairs that are there.
@@ -88,12 +97,15 @@ fn exam_line(
 {
     let mut fields = Fields::new(line);
     let minutes = fields.next_number(1440)?;
-    let Ok(fault) = gather(fields, named) else {
+    let Ok(told) = gather(fields, named) else {
         return Err(FaultKind::NoMemory);
     };
-    named.sort_unstable();
-    enrol(named, exam, enrolments)?;
-    match fault {
+    put_in_order(named, told.ascending);
+    match enrolments.enrol(named, exam) {
+        Ok(()) => {}
+        Err(fault) => return Err(kind_of(fault)),
+    }
+    match told.fault {
         None => Ok(Exam { minutes }),
         Some(what) => Err(what),
     }

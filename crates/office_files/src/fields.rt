@@ -120,17 +120,9 @@ impl<'a> Fields<'a> {
             self.left = behind;
             return within(value, limit);
         }
-        self.other_number(limit)
-    }
-
-    // The same of any field: the last of a line, a faulty or long one, one between other blanks.
-    #[cold]
-    #[inline(never)]
-    fn other_number(&mut self, limit: u32) -> Result<u32, FaultKind>
-        ensures number { result ≡ number limit (first self.old) }
-        ensures left { self.new ≡ rest self.old }
-    {
-        number(self.next(), limit)
+        let (number, behind) = other_number(self.left, limit);
+        self.left = behind;
+        number
     }
 
     /// Whether no field is left.
@@ -140,6 +132,19 @@ impl<'a> Fields<'a> {
     {
         self.left.is_empty()
     }
+}
+
+// The number that the first field of a line says, whatever that is, and what is left of the line:
+// for a field that is faulty or long, or that stands between other blanks than one space.
+#[cold]
+#[inline(never)]
+fn other_number(line: &[u8], limit: u32) -> (Result<u32, FaultKind>, &[u8])
+    ensures number { result.0 ≡ number limit (first (fields_of line.now)) }
+    ensures left { fields_of result.1.now ≡ rest (fields_of line.now) }
+{
+    let mut fields = Fields::new(line);
+    let number = number(fields.next(), limit);
+    (number, fields.left)
 }
 
 /// Refuses the fields that are left, where there are any.

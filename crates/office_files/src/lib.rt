@@ -1,5 +1,5 @@
 #![tactic(auto)]
-//! Readers of instance and solution files.
+//! Readers and writers of instance and solution files.
 
 mod counts;
 mod dates;
@@ -9,20 +9,25 @@ mod fault;
 mod fields;
 mod headers;
 mod instance_reader;
+mod instance_writer;
 mod items;
+mod line_writers;
 mod lines;
 mod numbers;
 mod rule_word;
 mod sections;
 mod solution_reader;
+mod solution_writer;
 mod tokens;
 mod weightings;
 mod words;
 
 pub use fault::{FaultKind, FileFault};
 pub use instance_reader::read_instance;
+pub use instance_writer::write_instance;
 pub use lines::Token;
 pub use solution_reader::read_solution;
+pub use solution_writer::write_solution;
 pub use tokens::Tokens;
 
 #[cfg(test)]

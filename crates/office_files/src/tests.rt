@@ -1,9 +1,11 @@
 // The worked files, and the faults of files that are nearly right.
 use crate::fault::{FaultKind, FileFault};
 use crate::instance_reader::read_instance;
+use crate::instance_writer::write_instance;
 use crate::solution_reader::read_solution;
+use crate::solution_writer::write_solution;
 use crate::words::split_once;
-use exam_model::ExamNo;
+use exam_model::{ExamNo, PeriodNo, Place, RoomNo, Timetable};
 use std::alloc::{AllocError, Global};
 use std::test::Fail;
 
@@ -161,5 +163,39 @@ fn names_the_first_fault_of_a_solution(rt: HostRuntime) -> Result<(), Fail> {
             Some(fault)
         );
     }
+    Ok(())
+}
+
+#[test]
+fn writes_the_small_instance_with_line_ends_of_two_bytes(rt: HostRuntime) -> Result<(), Fail> {
+    let (instance, enrolments) = read_instance(rt.alloc(), SMALL)?;
+    assert!(rt; enrolments.exams() == instance.exams());
+    let text = write_instance(rt.alloc(), &instance, &enrolments)?;
+    // line 0 is none, so each of the 22 lines stays
+    assert_eq!(rt;
+        text.as_slice(),
+        with_line(rt.alloc(), 0, b"", b"\r\n")?.as_slice()
+    );
+    Ok(())
+}
+
+#[test]
+fn writes_complete_timetables_alone(rt: HostRuntime) -> Result<(), Fail> {
+    let mut timetable = Timetable::new(rt.alloc(), 4)?;
+    for (exam, period, room) in [(0, 0, 0), (2, 3, 1), (3, 3, 1)] {
+        assert!(rt; exam < timetable.exams());
+        let (period, room) = (PeriodNo::new(period), RoomNo::new(room));
+        timetable.set(ExamNo::new(exam), Place { period, room });
+    }
+    let missing = Some((2, FaultKind::Incomplete));
+    assert_eq!(rt; fault_of(write_solution(rt.alloc(), &timetable)), missing);
+    assert!(rt; timetable.exams() > 1);
+    let (period, room) = (PeriodNo::new(1), RoomNo::new(0));
+    timetable.set(ExamNo::new(1), Place { period, room });
+    let text = write_solution(rt.alloc(), &timetable)?;
+    assert_eq!(rt;
+        text.as_slice(),
+        b"0, 0\r\n1, 0\r\n3, 1\r\n3, 1\r\n".as_slice()
+    );
     Ok(())
 }

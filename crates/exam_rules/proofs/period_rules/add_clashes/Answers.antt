@@ -1,10 +1,17 @@
-use Rattle.std.proofs.Common.{ℕ, Bool, ◌&&◌, ◌==◌, nat_lt, ◌∙◌, ap}
+use Rattle.std.proofs.Common.{ℕ, Bool, ◌&&◌, ◌==◌, nat_lt, sym, ◌∙◌, ap, eq-eqb}
+use Rattle.std.proofs.lemmas.List.Folds.{list_any_at}
 use Rattle.exam_rules.specs.Places.{share_student}
 use Rattle.exam_rules.proofs.FindingLemmas.{found_none, found_more, found_all, at_pair}
 use Rattle.exam_rules.proofs.period_rules.add_clashes.Goals as goal
 
 pub others-init : goal.others-init
 others-init c = found_none
+
+pub is_clash-clash-requires-clause-near : goal.is_clash-clash-requires-clause-near
+is_clash-clash-requires-clause-near c =
+    let x : ℕ = c.other-item.result in
+    c.requires.near x (list_any_at (λ k. k == x) c.args.group.now c.others.other-index x c.others-test.true
+    (eq-eqb _ _ (sym c.other-item.is)))
 
 pub others-preserved : goal.others-preserved
 others-preserved c =

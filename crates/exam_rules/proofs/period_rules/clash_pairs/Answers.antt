@@ -1,38 +1,43 @@
-use Rattle.std.proofs.Common.{◌&&◌, ◌==◌, nat_lt, ◌∙◌, ap₂, sym, arith}
+use Rattle.std.proofs.lemmas.List.{get_or_read}
+use Rattle.std.proofs.Common.{ℕ, [], ◌&&◌, nat_lt, ◌∙◌, ap, arith, refl}
 use Rattle.exam_rules.specs.declared.breach.BreachRule.TheVariants.{Clash}
 use Rattle.exam_rules.specs.Groups.{has_exam}
-use Rattle.exam_rules.specs.Places.{share_student}
+use Rattle.exam_rules.specs.Places.{share_student, in_one_period}
 use Rattle.exam_rules.specs.Breaches.{breaks}
-use Rattle.exam_rules.proofs.FindingLemmas.{below_skip, below_more, below_all}
-use Rattle.exam_rules.proofs.GroupLemmas.{group_exists, one_period_group, no_period}
-use Rattle.exam_rules.proofs.PlaceLemmas.{place_exists, breaking_exist}
+use Rattle.exam_rules.proofs.FindingLemmas.{found_none, found_more, found_all}
+use Rattle.exam_rules.proofs.GroupLemmas.{group_exists, in_one_group}
+use Rattle.exam_rules.proofs.NamingLemmas.{and_swap}
+use Rattle.exam_rules.proofs.PlaceLemmas.{breaking_exist}
 use Rattle.exam_rules.proofs.period_rules.clash_pairs.Goals as goal
 
-pub exams-preserved-in_default : goal.exams-preserved-in_default
-exams-preserved-in_default c =
-    let unplaced = sym (rw c.new-exam.ensures at c.get.ensures) ∙ c.in_default.is in
-    below_skip c.exams.invariant (no_period _ _ unplaced (share_student c.args.enrolments.now))
+pub groups-init : goal.groups-init
+groups-init c = rw c.new-found.ensures.items found_none
 
-pub add_clashes-requires-clause-others_exist : goal.add_clashes-requires-clause-others_exist
-add_clashes-requires-clause-others_exist c =
-    let fits = c.requires.fits in
-    let there = sym c.get.ensures ∙ c.in-Some.is in
-    let within = place_exists c.args.instance.now _ _ _ fits.places (omega arith) there in
-    let all = group_exists c.requires.grouped c.in-Some.place.period within.0 in
-    rw c.group_of.ensures (λ k d lt. omega (arith, all k d lt))
+pub add_group-requires : goal.add_group-requires
+add_group-requires c =
+    let i : ℕ = c.groups.group-index in
+    let all = group_exists c.requires.grouped i (omega (arith, c.requires.grouped.count)) in
+    record {
+      exist = rw (c.as_slice.ensures ∙ get_or_read _ i _ c.groups-test.true c.group-item.is [])
+          (λ k d lt. omega (arith, all k d lt));
+    }
 
-pub exams-preserved : goal.exams-preserved
-exams-preserved c =
-    let fits = c.requires.fits in
-    let share = share_student c.args.enrolments.now in
-    let there = sym (rw c.new-exam.ensures at c.get.ensures) ∙ c.in-Some.is in
-    let within = place_exists c.args.instance.now _ _ _ fits.places (omega arith) there in
-    below_more c.exams.invariant c.in_ok-add_clashes.ensures
-    (λ e f. ap₂ (λ g k. has_exam g f && ((k == e) && (nat_lt e f && share e f))) c.group_of.ensures c.new-exam.ensures
-    ∙ one_period_group c.requires.grouped (omega arith) c.exams.exam c.in-Some.place there within.0 share e f)
+pub groups-preserved : goal.groups-preserved
+groups-preserved c =
+    found_more c.groups.invariant c.groups-test.true c.group-item.is c.in_ok-add_group.ensures
+    (λ e f. ap (λ g. (has_exam g e && has_exam g f) && (nat_lt e f && share_student c.args.enrolments.now e f)) c.as_slice.ensures)
 
 pub returns : goal.returns
 returns c =
-    c.in_order.ensures (breaks c.args.instance.now c.args.enrolments.now c.args.timetable.now Clash) _
-    (below_all c.exams.invariant (omega arith)
-    (breaking_exist c.args.instance.now c.args.enrolments.now c.args.timetable.now Clash _ c.requires.fits.timetable))
+    let I = c.args.instance.now in
+    let E = c.args.enrolments.now in
+    let T = c.args.timetable.now in
+    c.in_order.ensures (breaks I E T Clash) _
+    (record {
+      members = λ e f.
+          found_all c.groups.invariant c.groups-test.false e f
+          ∙ ap (λ b. b && (nat_lt e f && share_student E e f))
+          (in_one_group I c.requires.grouped refl refl c.requires.fits.places e f)
+          ∙ and_swap (in_one_period T e f) (nat_lt e f) (share_student E e f);
+      exist = breaking_exist I E T Clash _ c.requires.fits.timetable;
+    })

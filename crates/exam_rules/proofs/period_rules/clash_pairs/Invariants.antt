@@ -1,9 +1,11 @@
-use Rattle.std.proofs.Common.{◌&&◌, nat_lt}
-use Rattle.exam_rules.specs.Places.{in_one_period, share_student}
-use Rattle.exam_rules.proofs.FindingLemmas.{AreFoundBelow}
+use Rattle.std.proofs.Common.{ℕ, List, [], ◌&&◌, nat_lt}
+use Rattle.exam_rules.specs.Groups.{has_exam}
+use Rattle.exam_rules.specs.Places.{share_student}
+use Rattle.exam_rules.proofs.FindingLemmas.{AreFound}
 use Rattle.exam_rules.proofs.period_rules.clash_pairs.Given as goal
 
-abbrev pub invariant-exams : goal.invariant-exams
-invariant-exams l =
-    AreFoundBelow (λ e f. nat_lt e f && (in_one_period l.timetable e f && share_student l.enrolments e f))
-    l.exam l.found.items
+abbrev pub invariant-groups : goal.invariant-groups
+invariant-groups l =
+    AreFound {X = List ℕ} (λ e f g. has_exam g e && has_exam g f)
+    (λ e f. nat_lt e f && share_student l.enrolments e f)
+    [] l.groups l.group-index l.found.items

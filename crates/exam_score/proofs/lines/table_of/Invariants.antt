@@ -1,11 +1,12 @@
-use Rattle.std.proofs.Common.{◌≡◌, ℕ, length, Some, Vec, Global}
+use Rattle.std.proofs.Common.{◌≡◌, ℕ, length, Some}
 use Rattle.std.specs.Prelude.{slice_get}
-use Rattle.exam_score.specs.Lines.{IsLine}
-use Rattle.exam_score.specs.declared.lines.PairCosts.{PairCosts}
+use Rattle.exam_score.specs.Lines.{IsLine, IsFree}
+use Rattle.exam_score.specs.declared.lines.Line.{Line}
 use Rattle.exam_score.proofs.lines.table_of.Given as goal
 
 abbrev pub invariant-loop-period : goal.invariant-loop-period
 invariant-loop-period l = record {
   count : length l.lines.items ≡ l.period;
-  each : (p : ℕ) (line : Vec PairCosts Global) → slice_get l.lines.items p ≡ Some line → IsLine l.instance p line.items;
+  each : (p : ℕ) (line : Line) → slice_get l.lines.items p ≡ Some line → IsLine l.instance p line.costs.items;
+  free : (p : ℕ) (line : Line) → slice_get l.lines.items p ≡ Some line → IsFree l.instance p line.first;
 }

@@ -1,14 +1,36 @@
-use Rattle.std.proofs.Common.{◌≤◌, ℕ, length, filter_map, IsPermutation, arith, ap}
-use Rattle.exam_model.specs.Pairs.{pairs_of}
+use Rattle.std.proofs.Common.{◌≤◌, ℕ, arith, ◌∙◌, ap, subst}
 use Rattle.exam_score.specs.Cost.{row_cost, day_cost, spread_cost}
 use Rattle.exam_score.specs.CostLaws.{spread_cost-small, row_cost-swap, row_cost-none, day_cost-swap, day_cost-none, spread_cost-swap, spread_cost-none}
-use Rattle.exam_score.specs.Rows.{row_of}
+use Rattle.exam_score.specs.Tallies.{tally_cost, AreCounted}
 use Rattle.exam_score.proofs.CostLemmas.{row_cost-small, day_cost-small}
-use Rattle.exam_score.proofs.PairsLemmas.{is_part, sorted_students}
+use Rattle.exam_score.proofs.PairsLemmas.{is_part, tallied_rows, few_seats, few_tallied}
 use Rattle.exam_score.proofs.pairs.pair_parts.Goals as goal
 
-pub sums_of_pairs-requires-clause-by_student : goal.sums_of_pairs-requires-clause-by_student
-sums_of_pairs-requires-clause-by_student c = sorted_students c.deref-2.result.now (rw c.deref-2.ensures.value c.in_ok-sort.ensures.sorted)
+pub tallies_of-requires : goal.tallies_of-requires
+tallies_of-requires c =
+    let E = c.args.enrolments.now in
+    let t = c.args.timetable.now in
+    let all = c.in_ok-sittings.ensures.all in
+    let few = few_seats E t c.in_ok-sittings.sittings.items c.pairs-kept.ensures.kept c.requires.exams all in
+    let same = c.deref.ensures.value in
+    record {
+      exist = rw same (λ k d lt. omega (arith, c.in_ok-sittings.ensures.exist k d lt, c.requires.exams));
+      few = rw same few;
+      ascending = rw same c.in_ok-sittings.ensures.ascending;
+    }
+
+pub sums_of_pairs-requires : goal.sums_of_pairs-requires
+sums_of_pairs-requires c =
+    let E = c.args.enrolments.now in
+    let t = c.args.timetable.now in
+    let tallies = c.in_ok-tallies.tallies.items in
+    let counted : AreCounted E c.in_ok-sittings.sittings.items tallies = subst (λ xs. AreCounted E xs tallies) c.deref.ensures.value c.in_ok-tallies.ensures.counted in
+    let rows = tallied_rows E t c.in_ok-sittings.sittings.items tallies c.requires.exams c.in_ok-sittings.ensures.all counted in
+    record {
+      table = rw c.deref-2.ensures.value c.in_ok-lines.ensures;
+      linked = rw c.deref-3.ensures.value c.in_ok-tallies.ensures.linked;
+      few = rw c.deref-3.ensures.value (few_tallied E t tallies c.pairs-kept.ensures.kept rows);
+    }
 
 pub returns : goal.returns
 returns c =
@@ -17,14 +39,16 @@ returns c =
     let t = c.args.timetable.now in
     let known = c.periods-known.ensures.kept in
     let enrolled = c.pairs-kept.ensures.kept in
-    let rows = c.sort.new.self.items in
-    let same = c.deref-2.ensures.value in
-    let few : length (filter_map (row_of t) (pairs_of E)) ≤ 200000 = omega (arith, c.in_ok-rows.ensures.few, ap length c.in_ok-rows.ensures.rows) in
-    let moved : IsPermutation (filter_map (row_of t) (pairs_of E)) rows = rw (← c.in_ok-rows.ensures.rows) c.in_ok-sort.ensures.permutation in
+    let tallies = c.in_ok-tallies.tallies.items in
+    let counted : AreCounted E c.in_ok-sittings.sittings.items tallies = subst (λ xs. AreCounted E xs tallies) c.deref.ensures.value c.in_ok-tallies.ensures.counted in
+    let rows = tallied_rows E t c.in_ok-sittings.sittings.items tallies c.requires.exams c.in_ok-sittings.ensures.all counted in
     let one : (p q : ℕ) → spread_cost s.periods s.weights p q ≤ 100000 = λ p q. omega (arith, spread_cost-small s.periods s.weights p q) in
-    let row = is_part (row_cost s.periods s.weights) E t _ rows _ enrolled (row_cost-swap s.periods s.weights) (row_cost-none s.periods s.weights) (row_cost-small s known) moved few same c.sums_of_pairs.ensures.row in
-    let day = is_part (day_cost s.periods s.weights) E t _ rows _ enrolled (day_cost-swap s.periods s.weights) (day_cost-none s.periods s.weights) (day_cost-small s known) moved few same c.sums_of_pairs.ensures.day in
-    let spread = is_part (spread_cost s.periods s.weights) E t _ rows _ enrolled (spread_cost-swap s.periods s.weights) (spread_cost-none s.periods s.weights) one moved few same c.sums_of_pairs.ensures.spread in
+    let row = is_part (row_cost s.periods s.weights) E t _ tallies enrolled (row_cost-swap s.periods s.weights) (row_cost-none s.periods s.weights) (row_cost-small s known) rows
+    (c.sums_of_pairs.ensures.row ∙ ap (tally_cost (row_cost s.periods s.weights)) c.deref-3.ensures.value) in
+    let day = is_part (day_cost s.periods s.weights) E t _ tallies enrolled (day_cost-swap s.periods s.weights) (day_cost-none s.periods s.weights) (day_cost-small s known) rows
+    (c.sums_of_pairs.ensures.day ∙ ap (tally_cost (day_cost s.periods s.weights)) c.deref-3.ensures.value) in
+    let spread = is_part (spread_cost s.periods s.weights) E t _ tallies enrolled (spread_cost-swap s.periods s.weights) (spread_cost-none s.periods s.weights) one rows
+    (c.sums_of_pairs.ensures.spread ∙ ap (tally_cost (spread_cost s.periods s.weights)) c.deref-3.ensures.value) in
     record {
       row = row.sum;
       day = day.sum;

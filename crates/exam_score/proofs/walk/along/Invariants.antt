@@ -1,14 +1,23 @@
-use Rattle.std.proofs.Common.{◌≡◌, ◌≤◌, ◌*◌, take}
+use Rattle.std.proofs.Common.{◌≡◌, ◌≤◌, ◌<◌, ◌+◌, ◌-◌, sum_by, take, get_or}
 use Rattle.exam_score.specs.Cost.{row_cost, day_cost, spread_cost}
-use Rattle.exam_score.specs.Walk.{cost_beside}
+use Rattle.exam_score.specs.Tallies.{tally_beside, slot_of, AreLinked}
+use Rattle.exam_score.specs.declared.tallies.Tally.{Tally}
 use Rattle.exam_score.proofs.walk.along.Given as goal
 
-abbrev pub invariant-loop-row : goal.invariant-loop-row
-invariant-loop-row l = record {
-  row : l.sums.row ≡ cost_beside (row_cost l.instance.periods l.instance.weights) l.period (take l.row-index l.rows);
-  day : l.sums.day ≡ cost_beside (day_cost l.instance.periods l.instance.weights) l.period (take l.row-index l.rows);
-  spread : l.sums.spread ≡ cost_beside (spread_cost l.instance.periods l.instance.weights) l.period (take l.row-index l.rows);
-  few_rows : l.sums.row ≤ l.row-index * 4294967296;
-  few_days : l.sums.day ≤ l.row-index * 4294967296;
-  few_spread : l.sums.spread ≤ l.row-index * 4294967296;
+-- the sums and what is left of the slot make the whole
+abbrev pub invariant-loop-other : goal.invariant-loop-other
+invariant-loop-other l = record {
+  within : l.next ≤ l.at;
+  linked : AreLinked l.tallies;
+  slot : (d : Tally) → 0 < l.next
+      → slot_of linked.slots (get_or l.tallies (l.next - 1) d).student ≡ slot_of linked.slots l.tally.student;
+  row : l.sums.row + sum_by (tally_beside (row_cost l.instance.periods l.instance.weights) l.tally) (take l.next l.tallies)
+      ≡ sum_by (tally_beside (row_cost l.instance.periods l.instance.weights) l.tally) (take l.at l.tallies);
+  day : l.sums.day + sum_by (tally_beside (day_cost l.instance.periods l.instance.weights) l.tally) (take l.next l.tallies)
+      ≡ sum_by (tally_beside (day_cost l.instance.periods l.instance.weights) l.tally) (take l.at l.tallies);
+  spread : l.sums.spread + sum_by (tally_beside (spread_cost l.instance.periods l.instance.weights) l.tally) (take l.next l.tallies)
+      ≡ sum_by (tally_beside (spread_cost l.instance.periods l.instance.weights) l.tally) (take l.at l.tallies);
 }
+
+abbrev pub decreases-loop-other : goal.decreases-loop-other
+decreases-loop-other l = l.next

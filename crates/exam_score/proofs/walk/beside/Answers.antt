@@ -1,18 +1,26 @@
-use Rattle.std.proofs.Common.{◌≤◌, length, arith, sym}
-use Rattle.exam_score.proofs.LineLemmas.{no_row_beside, no_day_beside, no_spread_beside}
+use Rattle.std.proofs.Common.{◌≤◌, length, take, arith, sym}
+use Rattle.exam_score.specs.Cost.{row_cost, day_cost, spread_cost}
+use Rattle.exam_score.proofs.LineLemmas.{row_beyond, day_beyond, spread_beyond}
+use Rattle.exam_score.proofs.WalkLemmas.{beyond_tallies}
 use Rattle.exam_score.proofs.walk.beside.Goals as goal
 
 pub returns-in-None-clause-row : goal.returns-in-None-clause-row
 returns-in-None-clause-row c =
-    let past : length c.args.lines.now ≤ c.args.period = omega (arith, c.in-None.ensures.lookup.3, c.get.ensures) in
-    sym (no_row_beside c.args.instance.now c.args.lines.now c.args.period c.args.rows.now c.requires.table past)
+    let s = c.args.instance.now in
+    let y = c.args.tally.now in
+    let past : length s.periods ≤ y.period = omega (arith, c.in-None.ensures.lookup.3, c.get.ensures, c.requires.table.count) in
+    sym (beyond_tallies (row_cost s.periods s.weights) (take c.args.at c.args.tallies.now) y (λ q. row_beyond s y.period q past))
 
 pub returns-in-None-clause-day : goal.returns-in-None-clause-day
 returns-in-None-clause-day c =
-    let past : length c.args.lines.now ≤ c.args.period = omega (arith, c.in-None.ensures.lookup.3, c.get.ensures) in
-    sym (no_day_beside c.args.instance.now c.args.lines.now c.args.period c.args.rows.now c.requires.table past)
+    let s = c.args.instance.now in
+    let y = c.args.tally.now in
+    let past : length s.periods ≤ y.period = omega (arith, c.in-None.ensures.lookup.3, c.get.ensures, c.requires.table.count) in
+    sym (beyond_tallies (day_cost s.periods s.weights) (take c.args.at c.args.tallies.now) y (λ q. day_beyond s y.period q past))
 
 pub returns-in-None-clause-spread : goal.returns-in-None-clause-spread
 returns-in-None-clause-spread c =
-    let past : length c.args.lines.now ≤ c.args.period = omega (arith, c.in-None.ensures.lookup.3, c.get.ensures) in
-    sym (no_spread_beside c.args.instance.now c.args.lines.now c.args.period c.args.rows.now c.requires.table past)
+    let s = c.args.instance.now in
+    let y = c.args.tally.now in
+    let past : length s.periods ≤ y.period = omega (arith, c.in-None.ensures.lookup.3, c.get.ensures, c.requires.table.count) in
+    sym (beyond_tallies (spread_cost s.periods s.weights) (take c.args.at c.args.tallies.now) y (λ q. spread_beyond s y.period q past))

@@ -14,7 +14,7 @@ taken_more a b c text piece most taken more few = record {
   few = omega (arith, length-append text piece);
 }
 
-pub returns-in_err-extend_from_slice-in-Ok-clause-taken : goal.returns-in_err-extend_from_slice-in-Ok-clause-taken
-returns-in_err-extend_from_slice-in-Ok-clause-taken g c =
+pub returns-in_err-append-in-Ok-clause-taken : goal.returns-in_err-append-in-Ok-clause-taken
+returns-in_err-append-in-Ok-clause-taken g c =
     taken_more _ _ _ c.reads.text.items _ _ c.reads.invariant.taken c.in-Ok.ensures.bytes.0
     (grind (arith, length-take))

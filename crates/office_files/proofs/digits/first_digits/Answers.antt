@@ -1,14 +1,48 @@
-use Rattle.std.proofs.Common.{arith, rules}
-use Rattle.std.proofs.lemmas.List.{take_rest, length-take}
-use Rattle.office_files.proofs.ReadOnLemmas.{says_front, first_before}
+use Rattle.std.proofs.Common.{◌≡◌, [], ◌∷◌, drop, ap, sym, ◌∙◌, arith}
+use Rattle.std.proofs.lemmas.List.{take_rest, nil_from_length}
+use Rattle.office_files.proofs.ReadOnLemmas.{at_end, at_comma, at_other}
 use Rattle.office_files.proofs.digits.first_digits.Goals as goal
 
--- a comma is behind the digits
-pub returns : goal.returns
-returns c =
+-- the line ends behind the digits
+pub returns-in_default-clause-value : goal.returns-in_default-clause-value
+returns-in_default-clause-value c =
     let line = c.args.line.now in
-    let read = c.digits-value.result in
-    let says = says_front 9 line read.0 read.1 c.digits-value.ensures in
-    let front = length-take 9 line in
-    rw take_rest
-    (first_before line read.0 read.1 says (omega arith) (omega arith) (search rules))
+    let read = c.front_digits-value.result in
+    let none : drop read.1 line ≡ [] =
+    nil_from_length _ (rw take_rest at c.in_default.ensures.cases) in
+    sym (at_end line read.0 read.1 c.front_digits-value.ensures none (omega arith)).0
+
+pub returns-in_default-clause-behind : goal.returns-in_default-clause-behind
+returns-in_default-clause-behind c =
+    let line = c.args.line.now in
+    let read = c.front_digits-value.result in
+    let none : drop read.1 line ≡ [] =
+    nil_from_length _ (rw take_rest at c.in_default.ensures.cases) in
+    rw take_rest (at_end line read.0 read.1 c.front_digits-value.ensures none (omega arith)).1
+
+-- another byte follows them
+pub returns-then-next-ne44-clause-value : goal.returns-then-next-ne44-clause-value
+returns-then-next-ne44-clause-value c =
+    let line = c.args.line.now in
+    let read = c.front_digits-value.result in
+    sym (at_other line read.0 read.1 c.front_digits-value.ensures c.in-Some.next.now
+    c.in-Some.behind.now (rw take_rest at c.in-Some.ensures.cases.0) c.if-next-ne44.true)
+
+-- a comma ends them
+pub returns-clause-value : goal.returns-clause-value
+returns-clause-value c =
+    let line = c.args.line.now in
+    let read = c.front_digits-value.result in
+    let next : drop read.1 line ≡ 44 ∷ c.in-Some.behind.now =
+    rw (take_rest, c.if-next-ne44.false) at c.in-Some.ensures.cases.0 in
+    sym (at_comma line read.0 read.1 c.front_digits-value.ensures c.in-Some.behind.now next
+    (omega arith)).0
+
+pub returns-clause-behind : goal.returns-clause-behind
+returns-clause-behind c =
+    let line = c.args.line.now in
+    let read = c.front_digits-value.result in
+    let next : drop read.1 line ≡ 44 ∷ c.in-Some.behind.now =
+    rw (take_rest, c.if-next-ne44.false) at c.in-Some.ensures.cases.0 in
+    (at_comma line read.0 read.1 c.front_digits-value.ensures c.in-Some.behind.now next
+    (omega arith)).1

@@ -1,24 +1,27 @@
-use Rattle.std.proofs.Common.{sym, ◌∙◌}
-use Rattle.office_files.proofs.ReadOnLemmas.{first_same, number_first, rest_first}
+use Rattle.std.proofs.Common.{◌≡◌, Some, ap, sym, ◌∙◌}
+use Rattle.office_files.specs.Fields.{ended_parts, first, rest}
+use Rattle.office_files.specs.Digits.{few_digits, without_space}
+use Rattle.office_files.proofs.ReadOnLemmas.{number_first, rest_first}
 use Rattle.office_files.proofs.fields.Fields.next_number.Goals as goal
 
 -- the number of the first field is against its limit
 pub returns-in-Some-clause-number : goal.returns-in-Some-clause-number
 returns-in-Some-clause-number c =
     let line = c.self.inside.left.now in
-    let value = c.in-Some.value in
-    let behind = c.in-Some.behind.now in
-    let other = c.behind_space.result.now in
-    let says = first_same line other value behind c.behind_space.ensures c.in-Some.ensures in
-    let first = number_first line value behind c.args.limit says in
-    rw (← c.self.view_is) (c.within.ensures ∙ sym first)
+    let said : few_digits (first (ended_parts 44 (without_space line))) ≡ Some c.in-Some.value =
+    ap (λ other. few_digits (first (ended_parts 44 other))) (sym c.behind_space.ensures)
+    ∙ sym c.in-Some.ensures.value in
+    rw (← c.self.view_is)
+    (c.within.ensures ∙ sym (number_first line c.in-Some.value said c.args.limit))
 
 -- the fields behind it are left
 pub returns-in-Some-clause-left : goal.returns-in-Some-clause-left
 returns-in-Some-clause-left c =
     let line = c.self.inside.left.now in
-    let value = c.in-Some.value in
-    let behind = c.in-Some.behind.now in
-    let other = c.behind_space.result.now in
-    let says = first_same line other value behind c.behind_space.ensures c.in-Some.ensures in
-    rw (← c.self.view_is) (sym (rest_first line value behind says))
+    let said : few_digits (first (ended_parts 44 (without_space line))) ≡ Some c.in-Some.value =
+    ap (λ other. few_digits (first (ended_parts 44 other))) (sym c.behind_space.ensures)
+    ∙ sym c.in-Some.ensures.value in
+    rw (← c.self.view_is)
+    (rest_first line c.in-Some.value said c.in-Some.behind.now
+    (c.in-Some.ensures.behind
+    ∙ ap (λ other. rest (ended_parts 44 other)) c.behind_space.ensures))

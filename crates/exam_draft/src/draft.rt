@@ -1,0 +1,191 @@
+// A draft: contracts see the instance, the enrolments and the timetable.
+ghost use Rattle.std.specs.Prelude.{◌≡◌, ◌<◌, ◌&&◌, length, All, IfOk, IfErr, OnOk, OnErr};
+ghost use Rattle.exam_model.specs.Timetable.{unplaced};
+ghost use Rattle.exam_model.specs.Fits.{Fits};
+ghost use Rattle.exam_rules.specs.Breaches.{least_breach_of};
+ghost use Rattle.exam_score.specs.Changes.{DiffersAtMost};
+ghost use Rattle.exam_score.specs.Track.{track};
+ghost use Rattle.exam_draft.specs.Edits.{exam_exists, place_exists, is_placed};
+
+use exam_model::{Enrolments, ExamNo, Instance, Place, Timetable};
+use exam_rules::{Breach, first_breach_of};
+use exam_score::{Parts, difference, score};
+use std::alloc::{AllocError, Global};
+use std::marker::Model;
+
+/// A timetable in the making, with its penalty. It may be partial, and may break rules: an edit is
+/// refused only for a breach that names an edited exam.
+#[derive(Drop)]
+pub struct Draft<'a> {
+    instance: &'a Instance,
+    enrolments: &'a Enrolments,
+    timetable: Timetable,
+    parts: Parts,
+}
+
+impl<'a> Model for Draft<'a> {
+    ghost use Rattle.exam_draft.specs.Drafts.{DraftState};
+
+    ghost Value = { DraftState };
+
+    ghost use Rattle.exam_draft.specs.Drafts.{IsScored};
+
+    ghost view = { λ a. record {
+      instance = a.instance.now;
+      enrolments = a.enrolments.now;
+      timetable = a.timetable;
+    } };
+
+    ghost invariant = { λ a. IsScored a.instance.now a.enrolments.now a.timetable a.parts };
+}
+
+impl<'a> Draft<'a> {
+    /// The draft in which no exam is placed. It fails only for want of memory.
+    pub fn new(
+        alloc: Global,
+        instance: &'a Instance,
+        enrolments: &'a Enrolments,
+    ) -> Result<Draft<'a>, AllocError>
+        requires exams { length enrolments.now ≡ length instance.now.exams }
+        ensures { IfOk result (λ made. made ≡ record {
+          instance = instance.now;
+          enrolments = enrolments.now;
+          timetable = unplaced (length instance.now.exams);
+        }) }
+    {
+        let timetable = Timetable::new(alloc, instance.exams())?;
+        let parts = score(alloc, instance, enrolments, &timetable)?;
+        Ok(Draft::resume(instance, enrolments, timetable, parts))
+    }
+
+    /// The draft of a timetable whose penalty is known; it may break rules.
+    pub fn resume(
+        instance: &'a Instance,
+        enrolments: &'a Enrolments,
+        timetable: Timetable,
+        parts: Parts,
+    ) -> Draft<'a>
+        requires fits { Fits instance.now enrolments.now timetable }
+        requires scored { parts ≡ track instance.now enrolments.now timetable }
+        ensures { result ≡ record {
+          instance = instance.now;
+          enrolments = enrolments.now;
+          timetable = timetable;
+        } }
+    {
+        Draft {
+            instance,
+            enrolments,
+            timetable,
+            parts,
+        }
+    }
+
+    /// The timetable as it stands.
+    pub fn timetable(&self) -> &Timetable
+        ensures timetable { result.now ≡ self.now.timetable }
+        ensures fits { Fits self.now.instance self.now.enrolments self.now.timetable }
+    {
+        &self.timetable
+    }
+
+    /// Its penalty.
+    pub fn parts(&self) -> Parts
+        ensures { result ≡ track self.now.instance self.now.enrolments self.now.timetable }
+    {
+        self.parts
+    }
+
+    /// The timetable and its penalty.
+    pub fn into_parts(self) -> (Timetable, Parts)
+        ensures timetable { result.0 ≡ self.entry.timetable }
+        ensures parts { result.1
+            ≡ track self.entry.instance self.entry.enrolments self.entry.timetable }
+        ensures fits { Fits self.entry.instance self.entry.enrolments self.entry.timetable }
+    {
+        (self.timetable, self.parts)
+    }
+
+    /// The same timetable with other enrolments, scored anew. Where memory is refused, the draft
+    /// comes back as it was.
+    pub fn enrol(self, alloc: Global, enrolments: &'a Enrolments) -> Result<Draft<'a>, Draft<'a>>
+        requires exams { length enrolments.now ≡ length self.instance.exams }
+        ensures ok { IfOk result (λ new. new
+            ≡ record self.entry { enrolments = enrolments.now }) }
+        ensures err { IfErr result (λ old. old ≡ self.entry) }
+    {
+        match score(alloc, self.instance, enrolments, &self.timetable) {
+            Ok(parts) => Ok(Draft {
+                enrolments,
+                parts,
+                ..self
+            }),
+            Err(_) => Err(self),
+        }
+    }
+
+    pub(crate) fn has_exam(&self, exam: ExamNo) -> bool
+        ensures { result ≡ exam_exists self.now.instance exam }
+    {
+        exam.get() < self.instance.exams()
+    }
+
+    // Whether the exam, the period and the room exist.
+    pub(crate) fn knows(&self, exam: ExamNo, place: &Place) -> bool
+        ensures { result
+            ≡ (exam_exists self.now.instance exam && place_exists self.now.instance place.now) }
+    {
+        let period_exists = place.period.get() < self.instance.periods();
+        let room_exists = place.room.get() < self.instance.rooms();
+        self.has_exam(exam) && (period_exists && room_exists)
+    }
+
+    pub(crate) fn is_placed(&self, exam: ExamNo) -> bool
+        requires { exam < length self.now.instance.exams }
+        ensures { result ≡ is_placed self.now.timetable exam }
+    {
+        self.timetable.get(exam).is_some()
+    }
+
+    // The least breach of the timetable that names an edited exam.
+    pub(crate) fn breach_of(
+        &self,
+        alloc: Global,
+        next: &Timetable,
+        edited: &[ExamNo],
+    ) -> Result<Option<Breach>, AllocError>
+        requires fits { Fits self.now.instance self.now.enrolments next.now }
+        requires exist { All (λ e. e < length self.now.instance.exams) edited.now }
+        ensures { IfOk result (λ found. found ≡ least_breach_of self.now.instance
+            self.now.enrolments next.now edited.now) }
+    {
+        first_breach_of(alloc, self.instance, self.enrolments, next, edited)
+    }
+
+    // Takes a timetable on, and its penalty.
+    pub(crate) fn accept(
+        &mut self,
+        alloc: Global,
+        next: Timetable,
+        edited: &[ExamNo],
+    ) -> Result<(), AllocError>
+        requires fits { Fits self.old.instance self.old.enrolments next }
+        requires exist { All (λ e. e < length self.old.instance.exams) edited.now }
+        requires others { DiffersAtMost edited.now self.old.timetable next }
+        ensures ok { OnOk result (self.new ≡ record self.old { timetable = next }) }
+        ensures err { OnErr result (self.new ≡ self.old) }
+    {
+        let parts = self.parts();
+        let parts = difference(
+            alloc,
+            self.instance,
+            self.enrolments,
+            &self.timetable,
+            &next,
+            edited,
+            parts,
+        )?;
+        *self = Draft::resume(self.instance, self.enrolments, next, parts);
+        Ok(())
+    }
+}

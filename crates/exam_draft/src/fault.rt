@@ -1,0 +1,31 @@
+use exam_rules::Breach;
+use std::alloc::AllocError;
+
+/// Why an edit is refused. Where several hold, the first of them is named; want of memory may take
+/// the place of any other.
+#[derive(Clone, Copy, Debug, PartialEq, Eq)]
+pub enum EditFault {
+    /// An exam, a period or a room doesn't exist.
+    NoSuch,
+    /// The exam to be placed stands somewhere.
+    AlreadyPlaced,
+    /// An exam to be moved, swapped or cleared stands nowhere.
+    NotPlaced,
+    /// An exam is to be swapped with itself.
+    SameExam,
+    /// The least breach of the edited timetable that names an edited exam.
+    Broken(Breach),
+    /// Memory was refused.
+    NoMemory,
+}
+
+impl From<AllocError> for EditFault {
+    ghost use Rattle.std.specs.Prelude.{◌≡◌};
+    ghost use Rattle.exam_draft.specs.declared.fault.EditFault.TheVariants.{NoMemory};
+
+    ghost from_gives = { λ _ e. e ≡ NoMemory };
+
+    fn from(_error: AllocError) -> EditFault {
+        EditFault::NoMemory
+    }
+}

@@ -1,0 +1,11 @@
+//! Drafts of a timetable, whose edits are judged by the hard rules and scored at once.
+#![tactic(auto)]
+
+mod draft;
+mod editing;
+mod fault;
+#[cfg(test)]
+mod tests;
+
+pub use draft::Draft;
+pub use fault::EditFault;

@@ -1,0 +1,31 @@
+-- What an exam's list of students leaves where another takes its place.
+use Rattle.std.proofs.Common.{◌≡◌, ℕ, ◌+◌, ◌<◌, ◌≤◌, List, [], length, set, ap, inl, inr, arith}
+use Rattle.std.proofs.Common.{get_or-set_other, get_or-set_same}
+use Rattle.std.proofs.lemmas.Bool.{cases_eq}
+use Rattle.std.proofs.lemmas.List.{length-set}
+use Rattle.std.proofs.lemmas.List.Sums.{sum_by-set}
+use Rattle.exam_model.specs.Enrolments.{Enrolled, AreEnrolments, IsAscending, students, pair_count}
+
+-- so many pairs are there with these students in an exam that had none
+pub pair_count-enrol : (E : Enrolled) (e : ℕ) (xs : List ℕ) → e < length E → students E e ≡ [] →
+    pair_count (set E e xs) ≡ pair_count E + length xs
+pair_count-enrol E e xs lt none =
+    let sums = sum_by-set length E e xs [] lt in
+    let empty : length (students E e) ≡ 0 = ap length none in
+    omega arith
+
+-- and they stay what every value of the type keeps
+pub enrolments_enrol : (E : Enrolled) (e : ℕ) (xs : List ℕ) → e < length E → students E e ≡ [] →
+    IsAscending xs → pair_count E + length xs ≤ 200000 → AreEnrolments E →
+    AreEnrolments (set E e xs)
+enrolments_enrol E e xs lt none up fits was = record {
+  exams = omega (arith, length-set E e xs, was.exams);
+  ascending = λ f within. elim (cases_eq f e) [
+    | inl same ↦ rw same (rw (get_or-set_same E e xs [] lt) up)
+    | inr other ↦ rw (get_or-set_other E e f xs [] other)
+        (was.ascending f (omega (arith, length-set E e xs)))
+  ];
+  pairs = omega (arith, pair_count-enrol E e xs lt none);
+}
+
+pub ruleset enrol_facts = (pair_count-enrol, enrolments_enrol)

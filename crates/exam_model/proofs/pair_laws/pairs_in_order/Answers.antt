@@ -1,5 +1,0 @@
-use Rattle.exam_model.proofs.PairLemmas.{are_pairs}
-use Rattle.exam_model.proofs.pair_laws.pairs_in_order.Goals as goal
-
-pub returns : goal.returns
-returns c E is = are_pairs E is

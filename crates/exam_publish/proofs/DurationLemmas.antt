@@ -1,0 +1,221 @@
+-- The different durations of a room and period, by stays of which none is there twice.
+use Rattle.std.specs.List.{list_any, dedup}
+use Rattle.std.specs.List.Sorted.{IsStrictlySortedBy}
+use Rattle.std.specs.Ordering.{nat_cmp, ordering_then, eq_by_cmp}
+use Rattle.std.specs.Cmp.{then_total, on_total, nat_cmp_total, IsTotalOrder, IsEquivalence}
+use Rattle.std.specs.Prelude.{slice_get, slice_index, nat_lt, ◌==◌, ◌&&◌}
+use Rattle.std.proofs.Common.{◌≡◌, ℕ, ◌+◌, ◌-◌, ◌*◌, ◌<◌, ◌≤◌, ◌⊎◌, inl, inr, Bool, true, false, cond, ◌||◌, eqb, ltb, List, [], ◌∷◌, ◌++◌, length, get_or, Some, None, count_by, All, Contains, IsPermutation, IsSorted, Ordering, Less, refl, sym, ◌∙◌, ap, ap₂, subst, arith, add-zero, eqb-true, lt-ltb, length-append, one-mul}
+use Rattle.std.proofs.lemmas.Bool.{cases_eq, cases_lt, cond-true, ne_eqb, and_parts, and_from, eq-eqb, false_from_ne_true}
+use Rattle.std.proofs.lemmas.Bool.Decides.{nat_tests}
+use Rattle.std.proofs.lemmas.Nat.{same_from_place}
+use Rattle.std.proofs.lemmas.Option.{get_or_from_slice_get}
+use Rattle.std.proofs.lemmas.List.{get_or_past}
+use Rattle.std.proofs.lemmas.List.Elements.{All-nil, All-push, recursion_from_All}
+use Rattle.std.proofs.lemmas.List.Filters.{All-dedup}
+use Rattle.std.proofs.lemmas.List.Folds.{Any-from_list_any, list_any_at}
+use Rattle.std.proofs.lemmas.List.Kept.{Contains-dedup, Contains-from_dedup, IsStrictlySortedBy-dedup}
+use Rattle.std.proofs.lemmas.List.Sorted.{list_any-IsPermutation, All-permutation}
+use Rattle.std.proofs.lemmas.List.Sums.{sum_by_push, sum_by-cons, count_by-le-length}
+use Rattle.exam_model.specs.Fits.{PlaceExists}
+use Rattle.exam_model.specs.Instance.{Session, IsInstance}
+use Rattle.exam_model.specs.Sums.{sum_below, count_below}
+use Rattle.exam_model.specs.Timetable.{Placing, place_of}
+use Rattle.exam_model.specs.declared.parts.Exam.{Exam}
+use Rattle.exam_model.specs.declared.parts.Place.{Place}
+use Rattle.exam_model.proofs.SumLemmas.{IsChain, chain_weaker, each_weaker, sum_by-agree, sum_by-once, sum_below-same, sum_below-within, sum_below-turned, sum_below-at, sum_below_more}
+use Rattle.exam_score.specs.Track.{duration_count, minutes_of, is_at, lasts, lasting, durations, room_mixed}
+use Rattle.exam_publish.specs.declared.durations.Stay.{Stay}
+use Rattle.exam_publish.specs.Durations.{is_stay, StayExists, AreStaysBelow, AreStays, is_in_slot, AreDurations}
+use Rattle.exam_publish.specs.Tallies.{AreTallied}
+use Rattle.exam_publish.proofs.SeatingLemmas.{slot_within}
+
+-- ---- one exam more
+
+pub stays_none : (I : Session) (T : Placing) (stays : List Stay) → stays ≡ [] → AreStaysBelow I T 0 stays
+stays_none I T stays none = record {
+  counts = λ p r m. ap (count_by (is_stay p r m)) none;
+  few = let h = ap length none in omega arith;
+  exist = subst (All (StayExists I)) (sym none) (All-nil (StayExists I));
+}
+
+pub stays_skip : (I : Session) (T : Placing) (e : ℕ) (stays : List Stay) → place_of T e ≡ None → AreStaysBelow I T e stays → AreStaysBelow I T (e + 1) stays
+stays_skip I T e stays unplaced was = record {
+  counts = λ p r m. was.counts p r m ∙ sym (add-zero (count_below e (lasts I T p r m)))
+      ∙ (λ i. count_below e (lasts I T p r m) + cond (is_at p r (sym unplaced i) && (minutes_of (slice_get I.exams e) == m)) 1 0)
+      ∙ sym (sum_below_more (λ e. cond (lasts I T p r m e) 1 0) e);
+  few = let h = was.few in omega arith;
+  exist = was.exist;
+}
+
+pub stays_more : (I : Session) (T : Placing) (e : ℕ) (stays : List Stay) (at : Place) (x : Exam) → place_of T e ≡ Some at → slice_get I.exams e ≡ Some x
+    → StayExists I (record { period = at.period; room = at.room; minutes = x.minutes }) → AreStaysBelow I T e stays
+    → AreStaysBelow I T (e + 1) (stays ++ record { period = at.period; room = at.room; minutes = x.minutes } ∷ [])
+stays_more I T e stays at x placed is exists was = record {
+  counts = λ p r m. sum_by_push (λ z. cond (is_stay p r m z) 1 0) stays (record { period = at.period; room = at.room; minutes = x.minutes })
+      ∙ ap₂ (λ a b. a + b) (was.counts p r m) (λ i. cond (is_at p r (sym placed i) && (minutes_of (sym is i) == m)) 1 0)
+      ∙ sym (sum_below_more (λ e. cond (lasts I T p r m e) 1 0) e);
+  few = let h = was.few in let l = length-append stays (record { period = at.period; room = at.room; minutes = x.minutes } ∷ []) in omega arith;
+  exist = All-push (StayExists I) stays (record { period = at.period; room = at.room; minutes = x.minutes }) was.exist exists;
+}
+
+pub stay_exists : (I : Session) (e : ℕ) (at : Place) (x : Exam) → IsInstance I → PlaceExists I (Some at) → e < length I.exams → slice_get I.exams e ≡ Some x
+    → StayExists I (record { period = at.period; room = at.room; minutes = x.minutes })
+stay_exists I e at x known place within is =
+    let long : (get_or I.exams e x).minutes ≤ 1440 = known.limits.exams e x within in
+    record {
+      period = place.0;
+      room = place.1;
+      minutes = rw (get_or_from_slice_get I.exams e x x is) at long;
+    }
+
+-- ---- the order of the stays
+
+abbrev pub stay_cmp : Stay → Stay → Ordering
+stay_cmp x y = ordering_then (nat_cmp x.period y.period) (ordering_then (nat_cmp x.room y.room) (nat_cmp x.minutes y.minutes))
+
+stay_cmp_total : IsTotalOrder stay_cmp
+stay_cmp_total = then_total (on_total (λ (x : Stay). x.period) nat_cmp_total) (then_total (on_total (λ (x : Stay). x.room) nat_cmp_total) (on_total (λ (x : Stay). x.minutes) nat_cmp_total))
+
+-- what `==` of two stays computes
+abbrev pub stay_eq : Stay → Stay → Bool
+stay_eq a b = eqb a.period b.period && (eqb a.room b.room && eqb a.minutes b.minutes)
+
+ties : (a b : Stay) → stay_eq a b ≡ eq_by_cmp stay_cmp a b
+ties a b = grind (arith, nat_tests)
+
+same_stay : (a b : Stay) → stay_eq a b ≡ true → a ≡ b
+same_stay a b h =
+    let first = and_parts (eqb a.period b.period) (eqb a.room b.room && eqb a.minutes b.minutes) h in
+    let second = and_parts (eqb a.room b.room) (eqb a.minutes b.minutes) first.1 in
+    fields (eqb-true a.period b.period first.0) (eqb-true a.room b.room second.0) (eqb-true a.minutes b.minutes second.1)
+  where
+    fields : a.period ≡ b.period → a.room ≡ b.room → a.minutes ≡ b.minutes → a ≡ b
+    fields p r m = λ i. record { period = p i; room = r i; minutes = m i }
+
+equivalence : IsEquivalence stay_eq
+equivalence = record { refl = λ a. own a; symm = λ a b. turned a b; congr = λ a b c h. ap (λ x. stay_eq x c) (same_stay a b h) }
+  where
+    own : (a : Stay) → stay_eq a a ≡ true
+    own a = grind (arith, nat_tests)
+
+    turned : (a b : Stay) → stay_eq a b ≡ stay_eq b a
+    turned a b = grind (arith, nat_tests)
+
+chain_from_strict : (xs : List Stay) → IsStrictlySortedBy stay_cmp xs → IsChain (λ x y. stay_cmp x y ≡ Less) xs
+unfolding IsStrictlySortedBy
+chain_from_strict [] h = tt
+chain_from_strict (x ∷ xs) h = (h.0, chain_from_strict xs h.1)
+
+-- a later stay is another one
+other_stay : (p r m : ℕ) (x y : Stay) → stay_cmp x y ≡ Less → is_stay p r m x ≡ true → is_stay p r m y ≡ false
+other_stay p r m x y less here = grind (arith, nat_tests, less, here)
+
+any_count : (p : Stay → Bool) (xs : List Stay) → nat_lt 0 (count_by p xs) ≡ list_any p xs
+any_count p [] = refl
+any_count p (x ∷ xs) =
+    ap (λ n. nat_lt 0 n) (sum_by-cons (λ y. cond (p y) 1 0) x xs)
+    ∙ go (p x) (count_by p xs) ∙ ap (λ b. p x || b) (any_count p xs)
+  where
+    go : (b : Bool) (n : ℕ) → nat_lt 0 (cond b 1 0 + n) ≡ (b || nat_lt 0 n)
+    go true n = grind (arith, nat_tests)
+    go false n = grind (arith, nat_tests)
+
+any_dedup : (p : Stay → Bool) (xs : List Stay) → list_any p (dedup stay_eq xs) ≡ list_any p xs
+any_dedup p xs =
+    alike (list_any p (dedup stay_eq xs)) (list_any p xs)
+    (λ h. moved (dedup stay_eq xs) xs (λ x there. Contains-from_dedup stay_eq xs x there) h)
+    (λ h. moved xs (dedup stay_eq xs) (λ x there. Contains-dedup {E = stay_eq} equivalence same_stay xs x there) h)
+  where
+    moved : (xs ys : List Stay) → ((x : Stay) → Contains xs x → Contains ys x) → list_any p xs ≡ true → list_any p ys ≡ true
+    moved xs ys keeps h =
+        let any = Any-from_list_any p xs h in
+        let there = keeps any.1 (any.0, any.2, any.3) in
+        list_any_at p ys there.0 any.1 there.1 (ap p there.2 ∙ any.4)
+
+    alike : (a b : Bool) → (a ≡ true → b ≡ true) → (b ≡ true → a ≡ true) → a ≡ b
+    alike true true h k = refl
+    alike true false h k = sym (h refl)
+    alike false true h k = k refl
+    alike false false h k = refl
+
+-- stays of which none is there twice, and each that any exam has
+pub record AreKinds (I : Session) (T : Placing) (kinds : List Stay) : Type 0 where
+  pub members : (p r m : ℕ) → list_any (is_stay p r m) kinds ≡ nat_lt 0 (lasting I T p r m)
+  pub once : IsChain (λ x y. stay_cmp x y ≡ Less) kinds
+  pub exist : All (StayExists I) kinds
+
+pub are_kinds : (I : Session) (T : Placing) (stays sorted kinds : List Stay) → AreStays I T stays → IsPermutation stays sorted → IsSorted stay_cmp sorted → kinds ≡ dedup stay_eq sorted → AreKinds I T kinds
+are_kinds I T stays sorted kinds are moved up is = subst (AreKinds I T) (sym is) (record {
+  members = λ p r m. any_dedup (is_stay p r m) sorted ∙ sym (list_any-IsPermutation (is_stay p r m) stays sorted moved) ∙ sym (any_count (is_stay p r m) stays) ∙ ap (λ n. nat_lt 0 n) (are.counts p r m);
+  once = chain_from_strict (dedup stay_eq sorted) (IsStrictlySortedBy-dedup stay_cmp_total {E = stay_eq} ties sorted up);
+  exist = All-dedup stay_eq (StayExists I) sorted (All-permutation (StayExists I) stays sorted moved are.exist);
+})
+
+-- ---- the durations of one place
+
+short : (I : Session) (x : Stay) → StayExists I x → x.minutes < duration_count
+unfolding duration_count
+short I x e = let h = e.minutes in omega arith
+
+turn : (a b : Bool) → ◌≡◌ {A = ℕ} (cond (a && b) 1 0) (cond b (cond a 1 0) 0)
+turn true true = refl
+turn true false = refl
+turn false true = refl
+turn false false = refl
+
+here : ℕ → ℕ → Stay → Bool
+here p r x = (x.period == p) && (x.room == r)
+
+one_stay : (I : Session) (p r : ℕ) (x : Stay) → StayExists I x → sum_below duration_count (λ m. cond (is_stay p r m x) 1 0) ≡ cond (here p r x) 1 0
+unfolding here
+one_stay I p r x e =
+    sum_below-same _ _ (λ m. turn ((x.period == p) && (x.room == r)) (x.minutes == m)) duration_count
+    ∙ sum_below-at (λ m. cond ((x.period == p) && (x.room == r)) 1 0) x.minutes duration_count
+    ∙ cond-true (ltb x.minutes duration_count) (cond ((x.period == p) && (x.room == r)) 1 0) 0 (lt-ltb x.minutes duration_count (short I x e))
+
+durations_are : (I : Session) (T : Placing) (kinds : List Stay) (p r : ℕ) → AreKinds I T kinds → count_by (here p r) kinds ≡ durations I T p r
+durations_are I T kinds p r are =
+    sym (sum_below-same _ _ (λ m. ap (λ b. cond b 1 0) (sym (are.members p r m))
+    ∙ sum_by-once (is_stay p r m) 1 kinds (chain_weaker (λ x y. stay_cmp x y ≡ Less) (λ x y. is_stay p r m x ≡ true → is_stay p r m y ≡ false) (other_stay p r m) kinds are.once)) duration_count
+    ∙ sum_below-turned (λ m x. cond (is_stay p r m x) 1 0) duration_count kinds
+    ∙ sum_by-agree (λ x. sum_below duration_count (λ m. cond (is_stay p r m x) 1 0)) (λ x. cond (here p r x) 1 0) kinds
+    (each_weaker (StayExists I) (λ x. sum_below duration_count (λ m. cond (is_stay p r m x) 1 0) ≡ cond (here p r x) 1 0) (one_stay I p r) kinds (recursion_from_All (StayExists I) kinds are.exist)))
+
+same_slot : (I : Session) (p r : ℕ) → r < length I.rooms → (x : Stay) → StayExists I x
+    → ◌≡◌ {A = ℕ} (cond (is_in_slot I (p * length I.rooms + r) x) 1 0) (cond (here p r x) 1 0)
+unfolding here
+same_slot I p r hr x e = ap (λ b. cond b 1 0) (go (cases_eq (x.period * length I.rooms + x.room) (p * length I.rooms + r)))
+  where
+    go : (x.period * length I.rooms + x.room ≡ p * length I.rooms + r) ⊎ (x.period * length I.rooms + x.room ≡ p * length I.rooms + r → ⊥)
+        → eqb (x.period * length I.rooms + x.room) (p * length I.rooms + r) ≡ ((x.period == p) && (x.room == r))
+    go (inl same) =
+        let parts = same_from_place x.period x.room p r (length I.rooms) e.room hr same in
+        eq-eqb (x.period * length I.rooms + x.room) (p * length I.rooms + r) same ∙ sym (and_from (eqb x.period p) (eqb x.room r) (eq-eqb x.period p parts.0) (eq-eqb x.room r parts.1))
+    go (inr other) =
+        ne_eqb (x.period * length I.rooms + x.room) (p * length I.rooms + r) other
+        ∙ sym (false_from_ne_true (eqb x.period p && eqb x.room r) (λ one.
+        let parts = and_parts (eqb x.period p) (eqb x.room r) one in
+        other (ap₂ (λ a b. a * length I.rooms + b) (eqb-true x.period p parts.0) (eqb-true x.room r parts.1))))
+
+pub are_durations : (I : Session) (T : Placing) (kinds : List Stay) (counts : List ℕ) → AreKinds I T kinds → length kinds ≤ 2000
+    → AreTallied (λ k. 1) (is_in_slot I) (length I.periods * length I.rooms) kinds counts → AreDurations I T counts
+are_durations I T kinds counts are few tallied = record {
+  count = tallied.count;
+  each = λ p r hp hr.
+      let within = slot_within (length I.periods) (length I.rooms) (record { period = p; room = r }) hp hr in
+      tallied.each (p * length I.rooms + r) within ∙ one-mul (count_by (is_in_slot I (p * length I.rooms + r)) kinds)
+      ∙ sum_by-agree (λ x. cond (is_in_slot I (p * length I.rooms + r) x) 1 0) (λ x. cond (here p r x) 1 0) kinds
+      (each_weaker (StayExists I) (λ x. ◌≡◌ {A = ℕ} (cond (is_in_slot I (p * length I.rooms + r) x) 1 0) (cond (here p r x) 1 0)) (same_slot I p r hr) kinds (recursion_from_All (StayExists I) kinds are.exist))
+      ∙ durations_are I T kinds p r are;
+  small = λ k. elim (cases_lt k (length I.periods * length I.rooms)) as (λ _. slice_index counts k ≤ 2000) [
+    | inl within ↦ (let is = tallied.each k within in let le = count_by-le-length (is_in_slot I k) kinds in omega arith)
+    | inr past ↦ (let is = get_or_past counts k 0 (let l = tallied.count in omega arith) in omega arith)
+  ];
+}
+
+-- a room's mixed durations by the table
+pub mixed_is : (I : Session) (T : Placing) (counts : List ℕ) (r : ℕ) → AreDurations I T counts → r < length I.rooms
+    → sum_below (length I.periods) (λ p. (slice_index counts (p * length I.rooms + r) - 1) * I.weights.mixed) ≡ room_mixed I T r
+mixed_is I T counts r are hr =
+    sum_below-within (λ p. (slice_index counts (p * length I.rooms + r) - 1) * I.weights.mixed) (λ p. (durations I T p r - 1) * I.weights.mixed) (length I.periods)
+    (λ p lt. ap (λ n. (n - 1) * I.weights.mixed) (are.each p r lt hr))

@@ -1,0 +1,13 @@
+pub mod ListLemmas
+pub mod PermitLemmas
+pub mod ChangedLemmas
+pub mod SeatingLemmas
+pub mod SeatLemmas
+pub mod PlaceLemmas
+pub mod RowLemmas
+pub mod StudentLemmas
+pub mod TallyLemmas
+pub mod SizeLemmas
+pub mod DurationLemmas
+pub mod AddUpLemmas
+pub mod PublishedLemmas

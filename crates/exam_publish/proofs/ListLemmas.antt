@@ -1,0 +1,169 @@
+-- Ascending lists of numbers, chains, and lists in order.
+use Rattle.std.specs.List.{list_any, AllByRecursion, dedup}
+use Rattle.std.proofs.Common.{◌≡◌, ℕ, suc, ◌<◌, Bool, true, false, cond, ◌&&◌, ◌||◌, eqb, ltb, List, [], ◌∷◌, length, map, filter, get_or, AllPairs, All, Contains, refl, sym, ◌∙◌, ap, arith, eqb-true}
+use Rattle.std.specs.Prelude.{nat_eq}
+use Rattle.std.proofs.lemmas.Bool.Decides.{nat_tests}
+use Rattle.std.proofs.lemmas.List.Elements.{All-from_recursion, recursion_from_All}
+use Rattle.std.proofs.lemmas.List.Folds.{Any-from_list_any, list_any_at}
+use Rattle.std.proofs.lemmas.List.Kept.{AllPairs-cons, Contains-dedup_nat, Contains-from_dedup}
+use Rattle.exam_model.specs.Enrolments.{IsAscending, has_student}
+use Rattle.exam_model.proofs.SumLemmas.{IsChain, each_weaker}
+use Rattle.exam_model.proofs.SameSet.{same_list}
+use Rattle.exam_publish.specs.Changed.{with_number, ascending}
+
+-- ---- chains
+
+pub index_from_chain : {X : Type 0} (R : X → X → Type 0) (xs : List X) → IsChain R xs → AllPairs R xs
+index_from_chain R [] h = λ i j d l m. absurd (omega arith)
+index_from_chain R (x ∷ xs) h = AllPairs-cons R x xs (All-from_recursion (R x) xs h.0) (index_from_chain R xs h.1)
+
+pub each_filter : {X : Type 0} (P : X → Type 0) (t : X → Bool) (xs : List X) → AllByRecursion P xs → AllByRecursion P (filter t xs)
+each_filter P t [] a = tt
+each_filter P t (x ∷ xs) a = go (t x) (each_filter P t xs a.1)
+  where
+    go : (b : Bool) → AllByRecursion P (filter t xs) → AllByRecursion P (cond b (x ∷ filter t xs) (filter t xs))
+    go true more = (a.0, more)
+    go false more = more
+
+pub chain_filter : {X : Type 0} (R : X → X → Type 0) (t : X → Bool) (xs : List X) → IsChain R xs → IsChain R (filter t xs)
+chain_filter R t [] h = tt
+chain_filter R t (x ∷ xs) h = go (t x) (chain_filter R t xs h.1)
+  where
+    go : (b : Bool) → IsChain R (filter t xs) → IsChain R (cond b (x ∷ filter t xs) (filter t xs))
+    go true more = (each_filter (R x) t xs h.0, more)
+    go false more = more
+
+pub each_map : {X Y : Type 0} (P : Y → Type 0) (f : X → Y) (xs : List X) → AllByRecursion (λ x. P (f x)) xs → AllByRecursion P (map f xs)
+each_map P f [] h = tt
+each_map P f (x ∷ xs) h = (h.0, each_map P f xs h.1)
+
+pub chain_map : {X Y : Type 0} (R : Y → Y → Type 0) (f : X → Y) (xs : List X) → IsChain (λ x y. R (f x) (f y)) xs → IsChain R (map f xs)
+chain_map R f [] h = tt
+chain_map R f (x ∷ xs) h = (each_map (R (f x)) f xs h.0, chain_map R f xs h.1)
+
+-- ---- tests of a whole list
+
+pub any_map : {X Y : Type 0} (p : Y → Bool) (f : X → Y) (xs : List X) → list_any p (map f xs) ≡ list_any (λ x. p (f x)) xs
+any_map p f [] = refl
+any_map p f (x ∷ xs) = ap (λ b. p (f x) || b) (any_map p f xs)
+
+any_cond : (b : Bool) (t x : ℕ) (xs : List ℕ) → has_student (cond b (x ∷ xs) xs) t ≡ ((b && (eqb x t)) || has_student xs t)
+any_cond true t x xs = refl
+any_cond false t x xs = refl
+
+-- a number is left by a filter that it passes
+pub has_filter : (p : ℕ → Bool) (xs : List ℕ) (t : ℕ) → has_student (filter p xs) t ≡ (p t && has_student xs t)
+has_filter p [] t = none (p t)
+  where
+    none : (b : Bool) → false ≡ (b && false)
+    none true = refl
+    none false = refl
+has_filter p (x ∷ xs) t =
+    any_cond (p x) t x (filter p xs) ∙ ap (λ b. (p x && eqb x t) || b) (has_filter p xs t) ∙ here (eqb x t) refl
+  where
+    both : (a b : Bool) → ((a && true) || (a && b)) ≡ (a && true)
+    both true b = refl
+    both false b = refl
+
+    none : (a c : Bool) → ((a && false) || c) ≡ c
+    none true c = refl
+    none false c = refl
+
+    here : (b : Bool) → eqb x t ≡ b → ((p x && b) || (p t && has_student xs t)) ≡ (p t && (b || has_student xs t))
+    here true e = ap (λ n. (p n && true) || (p t && has_student xs t)) (eqb-true x t e) ∙ both (p t) (has_student xs t)
+    here false e = none (p x) (p t && has_student xs t)
+
+-- ---- ascending lists
+
+pub ascending_from_chain : (xs : List ℕ) → IsChain (λ x y. x < y) xs → IsAscending xs
+ascending_from_chain xs h i j l m = index_from_chain (λ x y. x < y) xs h i j 0 l m
+
+pub chain_from_ascending : (xs : List ℕ) → IsAscending xs → IsChain (λ x y. x < y) xs
+chain_from_ascending [] h = tt
+chain_from_ascending (x ∷ xs) h =
+    (recursion_from_All (λ y. x < y) xs (above xs (λ j l. h 0 (suc j) (omega arith) (omega arith))), chain_from_ascending xs (λ i j l m. h (suc i) (suc j) (omega arith) (omega arith)))
+  where
+    above : (ys : List ℕ) → ((j : ℕ) → j < length ys → x < get_or ys j 0) → All (λ y. x < y) ys
+    above [] k = λ i d l. absurd (omega arith)
+    above (y ∷ ys) k = All-from_recursion (λ y. x < y) (y ∷ ys) (k 0 (omega arith), recursion_from_All (λ y. x < y) ys (above ys (λ j l. k (suc j) (omega arith))))
+
+has_with : (s : ℕ) (xs : List ℕ) (t : ℕ) → has_student (with_number s xs) t ≡ (eqb s t || has_student xs t)
+has_with s [] t = refl
+has_with s (x ∷ xs) t = go (eqb s x) refl (ltb s x) (has_with s xs t)
+  where
+    same : (a b : Bool) → (a || b) ≡ (a || (a || b))
+    same true b = refl
+    same false b = refl
+
+    turn : (a b c : Bool) → (b || (a || c)) ≡ (a || (b || c))
+    turn true true c = refl
+    turn true false c = refl
+    turn false b c = refl
+
+    go : (e : Bool) → eqb s x ≡ e → (l : Bool) → has_student (with_number s xs) t ≡ (eqb s t || has_student xs t)
+        → has_student (cond e (x ∷ xs) (cond l (s ∷ x ∷ xs) (x ∷ with_number s xs))) t ≡ (eqb s t || (eqb x t || has_student xs t))
+    go true is l more = ap (λ n. eqb n t || has_student xs t) (sym (eqb-true s x is)) ∙ same (eqb s t) (has_student xs t) ∙ ap (λ n. eqb s t || (eqb n t || has_student xs t)) (eqb-true s x is)
+    go false is true more = refl
+    go false is false more = ap (λ b. eqb x t || b) more ∙ turn (eqb s t) (eqb x t) (has_student xs t)
+
+-- the numbers stay
+pub has_ascending : (xs : List ℕ) (t : ℕ) → has_student (ascending xs) t ≡ has_student xs t
+has_ascending [] t = refl
+has_ascending (x ∷ xs) t = has_with x (ascending xs) t ∙ ap (λ b. eqb x t || b) (has_ascending xs t)
+
+each_with : (P : ℕ → Type 0) (s : ℕ) (xs : List ℕ) → P s → AllByRecursion P xs → AllByRecursion P (with_number s xs)
+each_with P s [] h a = (h, tt)
+each_with P s (x ∷ xs) h a = go (eqb s x) (ltb s x) (each_with P s xs h a.1)
+  where
+    go : (e l : Bool) → AllByRecursion P (with_number s xs) → AllByRecursion P (cond e (x ∷ xs) (cond l (s ∷ x ∷ xs) (x ∷ with_number s xs)))
+    go true l more = a
+    go false true more = (h, a)
+    go false false more = (a.0, more)
+
+chain_with : (s : ℕ) (xs : List ℕ) → IsChain (λ x y. x < y) xs → IsChain (λ x y. x < y) (with_number s xs)
+chain_with s [] h = (tt, tt)
+chain_with s (x ∷ xs) h = go (eqb s x) refl (ltb s x) refl (chain_with s xs h.1)
+  where
+    less : (a b : ℕ) → ltb a b ≡ true → a < b
+    less a b e = grind (arith, nat_tests)
+
+    more_than : (a b : ℕ) → eqb a b ≡ false → ltb a b ≡ false → b < a
+    more_than a b e l = grind (arith, nat_tests)
+
+    go : (e : Bool) → eqb s x ≡ e → (l : Bool) → ltb s x ≡ l → IsChain (λ x y. x < y) (with_number s xs)
+        → IsChain (λ x y. x < y) (cond e (x ∷ xs) (cond l (s ∷ x ∷ xs) (x ∷ with_number s xs)))
+    go true is l lt more = h
+    go false is true lt more =
+        let below = less s x lt in
+        ((below, each_weaker (λ y. x < y) (λ y. s < y) (λ y k. omega arith) xs h.0), h)
+    go false is false lt more = (each_with (λ y. x < y) s xs (more_than s x is lt) h.0, more)
+
+pub chain_ascending : (xs : List ℕ) → IsChain (λ x y. x < y) (ascending xs)
+chain_ascending [] = tt
+chain_ascending (x ∷ xs) = chain_with x (ascending xs) (chain_ascending xs)
+
+pub ascends : (xs : List ℕ) → IsAscending (ascending xs)
+ascends xs = ascending_from_chain (ascending xs) (chain_ascending xs)
+
+-- the one ascending list of these numbers
+pub is_ascending : (xs ys : List ℕ) → IsAscending ys → ((t : ℕ) → has_student ys t ≡ has_student xs t) → ys ≡ ascending xs
+is_ascending xs ys up same = same_list ys (ascending xs) up (ascends xs) (λ t. same t ∙ sym (has_ascending xs t))
+
+-- what is left without repeats has each number
+pub has_dedup : (xs : List ℕ) (t : ℕ) → has_student (dedup nat_eq xs) t ≡ has_student xs t
+has_dedup xs t =
+    alike (has_student (dedup nat_eq xs) t) (has_student xs t)
+    (λ h. moved (dedup nat_eq xs) xs (λ x there. Contains-from_dedup nat_eq xs x there) h)
+    (λ h. moved xs (dedup nat_eq xs) (λ x there. Contains-dedup_nat xs x there) h)
+  where
+    moved : (xs ys : List ℕ) → ((x : ℕ) → Contains xs x → Contains ys x) → has_student xs t ≡ true → has_student ys t ≡ true
+    moved xs ys keeps h =
+        let any = Any-from_list_any (λ x. eqb x t) xs h in
+        let there = keeps any.1 (any.0, any.2, any.3) in
+        list_any_at (λ x. eqb x t) ys there.0 any.1 there.1 (ap (λ x. eqb x t) there.2 ∙ any.4)
+
+    alike : (a b : Bool) → (a ≡ true → b ≡ true) → (b ≡ true → a ≡ true) → a ≡ b
+    alike true true h k = refl
+    alike true false h k = sym (h refl)
+    alike false true h k = k refl
+    alike false false h k = refl

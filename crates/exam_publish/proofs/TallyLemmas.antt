@@ -1,0 +1,83 @@
+-- Sums in a table: one element more, and the whole table as a list.
+use Rattle.std.specs.List.{range_with_len}
+use Rattle.std.proofs.Common.{◌≡◌, ℕ, zero, suc, ◌+◌, ◌*◌, ◌<◌, ◌≤◌, ◌⊎◌, inl, inr, Bool, false, cond, eqb, List, [], ◌∷◌, ◌++◌, length, get_or, map, count_by, refl, sym, ◌∙◌, ap, arith, length-append}
+use Rattle.std.specs.Prelude.{slice_set, slice_index, replicate}
+use Rattle.std.proofs.lemmas.Bool.{cases_eq, eq-eqb, ne_eqb}
+use Rattle.std.proofs.lemmas.List.{length-set, length-replicate, get_or-set_same, get_or-set_other, ext_get_or}
+use Rattle.std.proofs.lemmas.List.FromFn.{length-map-range_with_len, get_or-map-range_with_len}
+use Rattle.std.proofs.lemmas.List.Sums.{sum_by_push}
+use Rattle.exam_publish.specs.Tallies.{AreTallied}
+
+zeros : (n k : ℕ) → ◌≡◌ {A = ℕ} (get_or (replicate n 0) k 0) 0
+zeros zero k = refl
+zeros (suc n) zero = refl
+zeros (suc n) (suc k) = zeros n k
+
+pub tally_start : {X : Type 0} (amount : ℕ → ℕ) (test : ℕ → X → Bool) (n : ℕ) (sums : List ℕ) → sums ≡ replicate n 0 → AreTallied amount test n [] sums
+tally_start amount test n sums is = record {
+  count = ap length is ∙ length-replicate n 0;
+  each = λ k lt. ap (λ xs. get_or xs k 0) is ∙ zeros n k ∙ (let h : 0 ≡ amount k * 0 = omega arith in h);
+  small = λ k. let h = ap (λ xs. get_or xs k 0) is ∙ zeros n k in omega arith;
+}
+
+pub tally_skip : {X : Type 0} (amount : ℕ → ℕ) (test : ℕ → X → Bool) (n : ℕ) (xs : List X) (sums : List ℕ) (x : X)
+    → AreTallied amount test n xs sums → ((k : ℕ) → test k x ≡ false) → AreTallied amount test n (xs ++ x ∷ []) sums
+tally_skip {X} amount test n xs sums x was none = record {
+  count = was.count;
+  each = λ k lt. was.each k lt ∙ ap (λ c. amount k * c) (sym (same k));
+  small = λ k. let h = was.small k in let l = length-append xs (x ∷ []) in omega arith;
+}
+  where
+    same : (k : ℕ) → count_by (test k) (xs ++ x ∷ []) ≡ count_by (test k) xs
+    same k =
+        let push = sum_by_push (λ z. cond (test k z) 1 0) xs x in
+        let here : ◌≡◌ {A = ℕ} (cond (test k x) 1 0) 0 = ap (λ b. cond b 1 0) (none k) in
+        omega arith
+
+pub tally_more : {X : Type 0} (amount : ℕ → ℕ) (test : ℕ → X → Bool) (n : ℕ) (xs : List X) (sums : List ℕ) (x : X) (key new : ℕ)
+    → AreTallied amount test n xs sums → key < n → ((k : ℕ) → test k x ≡ eqb key k) → amount key ≤ 100000
+    → new ≡ slice_index sums key + amount key → AreTallied amount test n (xs ++ x ∷ []) (slice_set sums key new)
+tally_more {X} amount test n xs sums x key new was lt is few put = record {
+  count = length-set sums key new ∙ was.count;
+  each = λ k within. each k within (cases_eq key k);
+  small = λ k. small k (cases_eq k key);
+}
+  where
+    inside : key < length sums
+    inside = omega (arith, was.count)
+
+    counted : (k : ℕ) → count_by (test k) (xs ++ x ∷ []) ≡ count_by (test k) xs + cond (eqb key k) 1 0
+    counted k = sum_by_push (λ z. cond (test k z) 1 0) xs x ∙ ap (λ b. count_by (test k) xs + cond b 1 0) (is k)
+
+    each : (k : ℕ) → k < n → (key ≡ k) ⊎ (key ≡ k → ⊥) → get_or (slice_set sums key new) k 0 ≡ amount k * count_by (test k) (xs ++ x ∷ [])
+    each k within (inl same) =
+        let own = was.each key lt in
+        let count = counted key ∙ ap (λ b. count_by (test key) xs + cond b 1 0) (eq-eqb key key refl) in
+        ap (λ j. get_or (slice_set sums key new) j 0) (sym same) ∙ get_or-set_same sums key new 0 inside ∙ put
+        ∙ ap (λ j. j + amount key) own ∙ product (amount key) (count_by (test key) xs) ∙ ap (λ c. amount key * c) (sym count)
+        ∙ ap (λ j. amount j * count_by (test j) (xs ++ x ∷ [])) same
+      where
+        product : (a c : ℕ) → a * c + a ≡ a * (c + 1)
+        product a c = omega arith
+    each k within (inr other) =
+        let count = counted k ∙ ap (λ b. count_by (test k) xs + cond b 1 0) (ne_eqb key k other) in
+        get_or-set_other sums key k new 0 (λ e. other (sym e)) ∙ was.each k within
+        ∙ ap (λ c. amount k * c) (let h : count_by (test k) xs ≡ count_by (test k) (xs ++ x ∷ []) = omega arith in h)
+
+    small : (k : ℕ) → (k ≡ key) ⊎ (k ≡ key → ⊥) → get_or (slice_set sums key new) k 0 ≤ length (xs ++ x ∷ []) * 100000
+    small k (inl same) =
+        let here : get_or (slice_set sums key new) k 0 ≡ new = ap (λ j. get_or (slice_set sums key new) j 0) same ∙ get_or-set_same sums key new 0 inside in
+        let h = was.small key in let l = length-append xs (x ∷ []) in omega arith
+    small k (inr other) =
+        let here = get_or-set_other sums key k new 0 other in
+        let h = was.small k in let l = length-append xs (x ∷ []) in omega arith
+
+-- the list of a function's values, from its values one by one
+pub listed_from : {X : Type 0} (d : X) (f : ℕ → X) (n : ℕ) (xs : List X) → length xs ≡ n → ((k : ℕ) → k < n → get_or xs k d ≡ f k) → xs ≡ map f (range_with_len 0 n)
+listed_from d f n xs long each =
+    ext_get_or d xs (map f (range_with_len 0 n)) (long ∙ sym (length-map-range_with_len f 0 n))
+    (λ k lt. each k (omega arith) ∙ sym (get_or-map-range_with_len f 0 n k k d (omega arith) (omega arith)))
+
+pub tallied_list : {X : Type 0} (amount : ℕ → ℕ) (test : ℕ → X → Bool) (n : ℕ) (xs : List X) (sums : List ℕ) → AreTallied amount test n xs sums
+    → sums ≡ map (λ k. amount k * count_by (test k) xs) (range_with_len 0 n)
+tallied_list amount test n xs sums are = listed_from 0 (λ k. amount k * count_by (test k) xs) n sums are.count are.each

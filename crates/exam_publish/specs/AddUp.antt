@@ -1,0 +1,23 @@
+-- The shares add up to the penalty, in all and part by part.
+use Rattle.std.specs.Prelude.{◌≡◌, ℕ, ◌+◌, sum, sum_by}
+use Rattle.exam_score.specs.Penalty.{Penalty, personal_total, total_of}
+use Rattle.exam_publish.specs.Shares.{Sharing}
+
+-- all shares together
+abbrev pub share_total : Sharing → ℕ
+share_total shares =
+    sum_by (λ share. personal_total share.1) shares.students
+    + sum shares.exams
+    + sum shares.periods
+    + sum_by (λ share. share.penalty + share.mixed) shares.rooms
+
+-- each part is the sum of the shares of its kind, and the total that of all
+pub record AddUpTo (penalty : Penalty) (shares : Sharing) : Type 0 where
+  pub row : sum_by (λ share. share.1.row) shares.students ≡ penalty.row
+  pub day : sum_by (λ share. share.1.day) shares.students ≡ penalty.day
+  pub spread : sum_by (λ share. share.1.spread) shares.students ≡ penalty.spread
+  pub mixed : sum_by (λ share. share.mixed) shares.rooms ≡ penalty.mixed
+  pub front : sum shares.exams ≡ penalty.front
+  pub period : sum shares.periods ≡ penalty.period
+  pub room : sum_by (λ share. share.penalty) shares.rooms ≡ penalty.room
+  pub total : share_total shares ≡ total_of penalty

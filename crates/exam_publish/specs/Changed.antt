@@ -1,0 +1,48 @@
+-- The candidates whose rows differ between two lists of rows.
+use Rattle.std.specs.Prelude.{ℕ, Bool, true, false, not, ◌&&◌, ◌==◌, nat_lt, if◌then◌else◌, List, [], ◌∷◌, ◌++◌, map, filter}
+use Rattle.std.specs.List.{list_any}
+use Rattle.exam_publish.specs.declared.seat_row.SeatRow.{SeatRow}
+
+-- one candidate's rows
+abbrev pub rows_of : ℕ → List SeatRow → List SeatRow
+rows_of s rows = filter (λ row. row.student == s) rows
+
+-- whether a candidate has a row
+abbrev pub has_row : List SeatRow → ℕ → Bool
+has_row rows s = list_any (λ row. row.student == s) rows
+
+-- whether two rows agree in all that they say
+abbrev pub same_row : SeatRow → SeatRow → Bool
+same_row r q =
+    (r.student == q.student) && ((r.exam == q.exam)
+    && ((r.period == q.period) && ((r.room == q.room) && (r.seat == q.seat))))
+
+-- whether two lists hold the same rows one by one
+abbrev pub same_rows : List SeatRow → List SeatRow → Bool
+same_rows [] [] = true
+same_rows [] (q ∷ qs) = false
+same_rows (r ∷ rs) [] = false
+same_rows (r ∷ rs) (q ∷ qs) = same_row r q && same_rows rs qs
+
+-- whether a candidate's rows differ
+abbrev pub is_changed : List SeatRow → List SeatRow → ℕ → Bool
+is_changed old new s = not (same_rows (rows_of s old) (rows_of s new))
+
+-- an ascending list with a number put in where it isn't there
+abbrev pub with_number : ℕ → List ℕ → List ℕ
+with_number s [] = s ∷ []
+with_number s (t ∷ ts) =
+    if s == t then t ∷ ts else (if nat_lt s t then s ∷ t ∷ ts else t ∷ with_number s ts)
+
+-- the numbers of a list, ascending, each once
+abbrev pub ascending : List ℕ → List ℕ
+ascending [] = []
+ascending (s ∷ ss) = with_number s (ascending ss)
+
+-- the candidates of these rows, ascending, each once
+abbrev pub students_of : List SeatRow → List ℕ
+students_of rows = ascending (map (λ row. row.student) rows)
+
+-- of all candidates in either list those whose rows differ
+abbrev pub changed_students : List SeatRow → List SeatRow → List ℕ
+changed_students old new = filter (is_changed old new) (students_of (old ++ new))

@@ -1,0 +1,10 @@
+pub mod Permit
+pub mod Rows
+pub mod Seats
+pub mod Seating
+pub mod Changed
+pub mod Shares
+pub mod AddUp
+pub mod Tallies
+pub mod Durations
+pub mod Groups

@@ -1,0 +1,37 @@
+-- Seat rows: whose they are, and in which order they stand.
+use Rattle.std.specs.Prelude.{◌≡◌, ℕ, ◌<◌, ◌≤◌, List, length, Some, All, AllPairs, IsSome}
+use Rattle.exam_model.specs.declared.parts.Place.{Place}
+use Rattle.exam_model.specs.Instance.{Session}
+use Rattle.exam_model.specs.Fits.{PlaceExists}
+use Rattle.exam_model.specs.Pairs.{Pair, ComesBefore}
+use Rattle.exam_model.specs.Timetable.{Placing, place_of}
+use Rattle.exam_publish.specs.declared.seat_row.SeatRow.{SeatRow}
+
+-- the student and the exam that a row is of
+abbrev pub row_pair : SeatRow → Pair
+row_pair row = record { exam = row.exam; student = row.student }
+
+-- the place where a row is
+abbrev pub row_place : SeatRow → Place
+row_place row = record { period = row.period; room = row.room }
+
+-- of a smaller exam, or of the same exam and a smaller student
+abbrev pub RowBefore : SeatRow → SeatRow → Type 0
+RowBefore row other = ComesBefore (row_pair row) (row_pair other)
+
+-- each row comes before all later ones, so no student has two rows of one exam
+abbrev pub RowsInOrder : List SeatRow → Type 0
+RowsInOrder rows = AllPairs RowBefore rows
+
+-- the row is where its exam stands
+abbrev pub IsAtExam : Placing → SeatRow → Type 0
+IsAtExam T row = place_of T row.exam ≡ Some (row_place row)
+
+-- rows of a timetable in which each exam of the session has a place
+pub record AreRowsOf (I : Session) (rows : List SeatRow) (T : Placing) : Type 0 where
+  pub exams : length T ≡ length I.exams
+  pub places : All (PlaceExists I) T
+  pub complete : (e : ℕ) → e < length T → IsSome (place_of T e)
+  pub few : length rows ≤ 200000
+  pub in_order : RowsInOrder rows
+  pub at_exams : All (IsAtExam T) rows

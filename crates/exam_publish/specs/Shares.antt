@@ -1,0 +1,79 @@
+-- Whose share of the penalty is how much: of students by their rows, of exams, periods and rooms.
+use Rattle.std.specs.Prelude.{ℕ, ◌*◌, Bool, ◌==◌, List, map, filter, length, count_by, Option, slice_get}
+use Rattle.std.specs.List.{range_with_len}
+use Rattle.exam_model.specs.declared.parts.Place.{Place}
+use Rattle.exam_model.specs.Instance.{Session}
+use Rattle.exam_model.specs.Enrolments.{Enrolled}
+use Rattle.exam_model.specs.Timetable.{Placing}
+use Rattle.exam_rules.specs.Places.{where_placed}
+use Rattle.exam_score.specs.Penalty.{PersonalPenalty}
+use Rattle.exam_score.specs.Personal.{personal_of}
+use Rattle.exam_score.specs.Track.{exam_front, room_mixed, period_penalty, room_penalty}
+use Rattle.exam_publish.specs.declared.seat_row.SeatRow.{SeatRow}
+use Rattle.exam_publish.specs.declared.share_lists.RoomShare.{RoomShare}
+use Rattle.exam_publish.specs.Changed.{rows_of, students_of}
+
+-- the students of an exam's rows
+abbrev pub students_in : List SeatRow → ℕ → List ℕ
+students_in rows e = map (λ row. row.student) (filter (λ row. row.exam == e) rows)
+
+-- the enrolments that rows are, for so many exams
+abbrev pub enrolled_in : ℕ → List SeatRow → Enrolled
+enrolled_in exams rows = map (students_in rows) (range_with_len 0 exams)
+
+-- what the periods of a candidate's rows cost her
+abbrev pub share_of : Session → List SeatRow → ℕ → PersonalPenalty
+share_of I rows s = personal_of I.periods I.weights (map (λ row. row.period) (rows_of s rows))
+
+-- each candidate with rows, ascending, and her share
+abbrev pub student_shares : Session → List SeatRow → List (ℕ × PersonalPenalty)
+student_shares I rows = map (λ s. (s, share_of I rows s)) (students_of rows)
+
+-- each exam's share of the front load, sizes by the rows
+abbrev pub exam_shares : Session → List SeatRow → Placing → List ℕ
+exam_shares I rows T =
+    map (exam_front I (enrolled_in (length I.exams) rows) T) (range_with_len 0 (length I.exams))
+
+-- whether a place is in this period
+abbrev pub is_in_period : ℕ → Option Place → Bool
+is_in_period p at = where_placed (λ at. at.period == p) at
+
+-- whether a place is in this room
+abbrev pub is_in_room : ℕ → Option Place → Bool
+is_in_room r at = where_placed (λ at. at.room == r) at
+
+-- a period's penalty, once for each exam that stands in it
+abbrev pub period_share : Session → Placing → ℕ → ℕ
+period_share I T p = period_penalty (slice_get I.periods p) * count_by (is_in_period p) T
+
+-- the shares of all periods, by their numbers
+abbrev pub period_shares : Session → Placing → List ℕ
+period_shares I T = map (period_share I T) (range_with_len 0 (length I.periods))
+
+-- a room's penalty, once for each exam that stands in it
+abbrev pub penalty_in : Session → Placing → ℕ → ℕ
+penalty_in I T r = room_penalty (slice_get I.rooms r) * count_by (is_in_room r) T
+
+-- a room's penalties, and beside them its mixed durations over all periods
+abbrev pub room_share : Session → Placing → ℕ → RoomShare
+room_share I T r = record { penalty = penalty_in I T r; mixed = room_mixed I T r }
+
+-- the shares of all rooms, by their numbers
+abbrev pub room_shares : Session → Placing → List RoomShare
+room_shares I T = map (room_share I T) (range_with_len 0 (length I.rooms))
+
+-- all shares of a publication
+pub record Sharing : Type 0 where
+  pub students : List (ℕ × PersonalPenalty)
+  pub exams : List ℕ
+  pub periods : List ℕ
+  pub rooms : List RoomShare
+
+-- the shares of these rows and this timetable
+abbrev pub shares_of : Session → List SeatRow → Placing → Sharing
+shares_of I rows T = record {
+  students = student_shares I rows;
+  exams = exam_shares I rows T;
+  periods = period_shares I T;
+  rooms = room_shares I T;
+}

@@ -1,0 +1,29 @@
+// Laws of a publication: functions with no code, whose contracts are the laws.
+ghost use Rattle.std.specs.Prelude.{◌≡◌, List, None, length};
+ghost use Rattle.exam_model.specs.Enrolments.{Enrolled, AreEnrolments};
+ghost use Rattle.exam_model.specs.Fits.{Fits};
+ghost use Rattle.exam_model.specs.Instance.{Session, IsInstance};
+ghost use Rattle.exam_model.specs.Pairs.{pairs_of};
+ghost use Rattle.exam_model.specs.Timetable.{Placing};
+ghost use Rattle.exam_publish.specs.declared.seat_row.SeatRow.{SeatRow};
+ghost use Rattle.exam_publish.specs.AddUp.{AddUpTo};
+ghost use Rattle.exam_publish.specs.Permit.{publish_refusal};
+ghost use Rattle.exam_publish.specs.Rows.{AreRowsOf};
+ghost use Rattle.exam_publish.specs.Seats.{seat_rows};
+ghost use Rattle.exam_publish.specs.Shares.{enrolled_in, shares_of};
+ghost use Rattle.exam_score.specs.Track.{track};
+
+/// The shares of a timetable add up to its penalty, with the enrolments that the rows are: in
+/// all, and part by part.
+pub fn shares_add_up()
+    ensures { (I : Session) (rows : List SeatRow) (T : Placing) → IsInstance I
+        → AreRowsOf I rows T
+        → AddUpTo (track I (enrolled_in (length I.exams) rows) T) (shares_of I rows T) }
+{}
+
+/// The rows of a timetable that may be published are the enrolments that it was published with.
+pub fn seated_as_enrolled()
+    ensures { (I : Session) (E : Enrolled) (T : Placing) → IsInstance I → AreEnrolments E
+        → Fits I E T → publish_refusal I E T ≡ None
+        → enrolled_in (length I.exams) (seat_rows (pairs_of E) T) ≡ E }
+{}

@@ -1,0 +1,27 @@
+//! What a publication shows: seats, shares of the penalty, and whose seats changed.
+#![tactic(auto)]
+
+mod comparison;
+mod durations;
+mod exam_shares;
+mod fault;
+mod laws;
+mod permission;
+mod place_shares;
+mod seat_row;
+mod seating;
+mod share_lists;
+mod sharing;
+mod student_shares;
+
+pub use comparison::changed;
+pub use fault::PublishFault;
+pub use laws::{seated_as_enrolled, shares_add_up};
+pub use permission::permit;
+pub use seat_row::SeatRow;
+pub use seating::seats;
+pub use share_lists::{RoomShare, Shares};
+pub use sharing::shares;
+
+#[cfg(test)]
+mod tests;

@@ -1,0 +1,37 @@
+// Who has which share of the penalty.
+ghost use Rattle.std.specs.Prelude.{◌≡◌, length, IfOk};
+ghost use Rattle.exam_publish.specs.AddUp.{AddUpTo};
+ghost use Rattle.exam_publish.specs.Rows.{AreRowsOf};
+ghost use Rattle.exam_publish.specs.Shares.{enrolled_in, shares_of};
+ghost use Rattle.exam_score.specs.Track.{track};
+
+use crate::exam_shares::exam_shares;
+use crate::place_shares::{period_shares, room_shares};
+use crate::seat_row::SeatRow;
+use crate::share_lists::Shares;
+use crate::student_shares::student_shares;
+use exam_model::{Instance, Timetable};
+use std::alloc::{AllocError, Global};
+
+/// The shares of a timetable in which each exam has a place, by seat rows: a student's share is
+/// her personal penalty, an exam's what it makes of the front load, a period's and a room's its
+/// penalties, and beside a room's its mixed durations.
+pub fn shares(
+    alloc: Global,
+    instance: &Instance,
+    rows: &[SeatRow],
+    timetable: &Timetable,
+) -> Result<Shares, AllocError>
+    requires { AreRowsOf instance.now rows.now timetable.now }
+    ensures shares { IfOk result (λ shares. shares
+        ≡ shares_of instance.now rows.now timetable.now) }
+    ensures add_up { IfOk result (AddUpTo (track instance.now
+        (enrolled_in (length instance.now.exams) rows.now) timetable.now)) }
+{
+    let _kept = instance.periods(); // read for its limits
+    let students = student_shares(alloc, instance, rows, timetable)?;
+    let exams = exam_shares(alloc, instance, rows, timetable)?;
+    let periods = period_shares(alloc, instance, timetable)?;
+    let rooms = room_shares(alloc, instance, timetable)?;
+    Ok(Shares::of(students, exams, periods, rooms))
+}

@@ -1,0 +1,61 @@
+// The shares of students: the personal penalty of each one's rows.
+ghost use Rattle.std.specs.Prelude.{◌≡◌, map, IfOk};
+ghost use Rattle.exam_publish.specs.Rows.{AreRowsOf};
+ghost use Rattle.exam_publish.specs.Shares.{student_shares};
+ghost use Rattle.exam_publish.specs.Groups.{AreSorted, IsRun};
+
+use crate::seat_row::SeatRow;
+use exam_model::{Instance, PeriodNo, StudentNo, Timetable};
+use exam_score::{PersonalParts, personal};
+use std::alloc::{AllocError, Global};
+
+/// What each student's exams cost her; students ascending.
+pub fn student_shares(
+    alloc: Global,
+    instance: &Instance,
+    rows: &[SeatRow],
+    timetable: &Timetable,
+) -> Result<Vec<(StudentNo, PersonalParts)>, AllocError>
+    requires { AreRowsOf instance.now rows.now timetable.now }
+    ensures { IfOk result (λ shares. shares.items ≡ student_shares instance.now rows.now) }
+{
+    let _kept = timetable.exams(); // read for its limit of exams
+    let sorted = by_student(alloc, rows)?;
+    let mut shares = Vec::new(alloc);
+    let mut rest = sorted.as_slice();
+    'students: while let Some(first) = rest.first() {
+        let (own, others) = rest.split_at(count_own(rest, first.student));
+        let periods = periods_of(alloc, own)?;
+        shares.push((first.student, personal(instance, &periods)))?;
+        rest = others;
+    }
+    Ok(shares)
+}
+
+// The rows in the order of their students, those of one student in the order that they had.
+fn by_student(alloc: Global, rows: &[SeatRow]) -> Result<Vec<SeatRow>, AllocError>
+    ensures { IfOk result (λ sorted. AreSorted rows.now sorted.items) }
+{
+    let mut sorted = Vec::from_slice(alloc, rows)?;
+    sorted.sort_by_key(|row| row.student)?;
+    Ok(sorted)
+}
+
+// How many rows of the first student there are before those of others.
+fn count_own(rows: &[SeatRow], student: StudentNo) -> usize
+    ensures { IsRun rows.now student result }
+{
+    'rows: for (at, row) in rows.iter().enumerate() {
+        if row.student != student {
+            return at;
+        }
+    }
+    rows.len()
+}
+
+// The periods of rows.
+fn periods_of(alloc: Global, rows: &[SeatRow]) -> Result<Vec<PeriodNo>, AllocError>
+    ensures { IfOk result (λ periods. periods.items ≡ map (λ row. row.period) rows.now) }
+{
+    rows.iter().map(|row| row.period).collect(alloc)
+}

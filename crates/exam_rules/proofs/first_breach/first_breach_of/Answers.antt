@@ -1,0 +1,42 @@
+use Rattle.std.specs.List.{find}
+use Rattle.std.specs.Prelude.{option_map, slice_get}
+use Rattle.std.proofs.Common.{◌≡◌, Bool, length, map, Some, None, get_or, sym, ◌∙◌, ap, arith}
+use Rattle.exam_rules.specs.declared.breach.Breach.{Breach}
+use Rattle.exam_rules.specs.declared.breach.BreachRule.{BreachRule}
+use Rattle.exam_rules.specs.declared.breach.BreachRule.TheVariants.{Duration}
+use Rattle.exam_rules.specs.declared.exam_pair.ExamPair.{ExamPair}
+use Rattle.exam_rules.specs.Breach.{breach, exam_pairs}
+use Rattle.exam_rules.specs.Breaches.{breaks, name_one, pairs_breaking}
+use Rattle.exam_rules.proofs.NamingLemmas.{first_of_rule, rule_passed, rule_broken}
+use Rattle.exam_rules.proofs.first_breach.first_breach_of.Goals as goal
+
+pub returns-in-Some : goal.returns-in-Some
+returns-in-Some c =
+    let I = c.args.instance.now in
+    let E = c.args.enrolments.now in
+    let T = c.args.timetable.now in
+    let named : Breach → Bool = λ b. name_one c.args.edited.now b.exam b.other in
+    let r : BreachRule = get_or c.rules-2.result c.rules.rule-index Duration in
+    let broken : ExamPair → Bool = λ p. breaks I E T r p.exam p.other in
+    let p : ExamPair = c.in-Some.pair.now in
+    let listed = c.deref.ensures.value ∙ c.in_ok-pairs.ensures in
+    let found : find named (map (breach r) (pairs_breaking I E T r)) ≡ Some (breach r p) =
+    first_of_rule named broken r (exam_pairs (length I.exams)) ∙ ap (option_map (breach r)) (sym (ap (λ ps. slice_get ps 0) listed) ∙ sym c.in-Some.ensures.value)
+    in
+    sym (c.rules.invariant
+    ∙ rule_broken named (pairs_breaking I E T) c.rules-2.result c.rules.rule-index Duration (breach r p) (omega (arith, ap length c.rules-2.ensures)) found)
+
+pub rules-preserved : goal.rules-preserved
+rules-preserved c =
+    let I = c.args.instance.now in
+    let E = c.args.enrolments.now in
+    let T = c.args.timetable.now in
+    let named : Breach → Bool = λ b. name_one c.args.edited.now b.exam b.other in
+    let r : BreachRule = get_or c.rules-2.result c.rules.rule-index Duration in
+    let broken : ExamPair → Bool = λ p. breaks I E T r p.exam p.other in
+    let listed = c.deref.ensures.value ∙ c.in_ok-pairs.ensures in
+    let none : find named (map (breach r) (pairs_breaking I E T r)) ≡ None =
+    first_of_rule named broken r (exam_pairs (length I.exams)) ∙ ap (option_map (breach r)) (sym (ap (λ ps. slice_get ps 0) listed) ∙ sym c.in_default.ensures.value)
+    in
+    c.rules.invariant
+    ∙ rule_passed named (pairs_breaking I E T) c.rules-2.result c.rules.rule-index Duration (omega (arith, ap length c.rules-2.ensures)) none

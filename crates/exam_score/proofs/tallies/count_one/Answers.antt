@@ -1,0 +1,48 @@
+use Rattle.std.proofs.Common.{◌≡◌, ◌+◌, ◌-◌, ◌<◌, ◌++◌, ◌∷◌, [], length, set, sum_by, sym, subst, ◌∙◌, ap, ap₂, arith}
+use Rattle.std.proofs.lemmas.List.{get_or_read, get_or_default, length_push}
+use Rattle.exam_score.specs.Rows.{row_at}
+use Rattle.exam_score.specs.Tallies.{tally_sum, AreFiled, Extends}
+use Rattle.exam_score.specs.declared.tallies.Tally.{Tally}
+use Rattle.exam_score.proofs.TallyLemmas.{place_within, alike_set, filed_alike, counted_set, filed_push}
+use Rattle.exam_score.proofs.tallies.count_one.Goals as goal
+
+pub returns-then-extends-clause-counted : goal.returns-then-extends-clause-counted
+returns-then-extends-clause-counted c =
+    let xs = c.args.tallies.now.items in
+    let n = c.index-before.result.now in
+    let x = c.index-tally.result.now in
+    let last : Extends xs n c.args.student c.args.period = subst (λ ys. Extends ys n c.args.student c.args.period) c.deref.ensures.value (c.extends.ensures c.if-extends.true) in
+    let within : n - 1 < length xs = place_within c.args.slots xs c.args.last.now.items c.slot_of-slot.result n c.args.student c.args.period c.requires.filed c.slot_of-slot.ensures.exists c.index-before.ensures last in
+    let student : x.student ≡ c.args.student = ap (λ z. z.student) c.index-tally.ensures ∙ last.student x in
+    let period : x.period ≡ c.args.period = ap (λ z. z.period) c.index-tally.ensures ∙ last.period x in
+    λ f. counted_set f xs (n - 1) x within c.index-tally.ensures
+    ∙ ap₂ (λ p s. sum_by (tally_sum f) xs + f (row_at p s)) period student
+
+pub returns-then-extends-clause-filed : goal.returns-then-extends-clause-filed
+returns-then-extends-clause-filed c =
+    let xs = c.args.tallies.now.items in
+    let n = c.index-before.result.now in
+    let x = c.index-tally.result.now in
+    let last : Extends xs n c.args.student c.args.period = subst (λ ys. Extends ys n c.args.student c.args.period) c.deref.ensures.value (c.extends.ensures c.if-extends.true) in
+    let within : n - 1 < length xs = place_within c.args.slots xs c.args.last.now.items c.slot_of-slot.result n c.args.student c.args.period c.requires.filed c.slot_of-slot.ensures.exists c.index-before.ensures last in
+    let y : Tally = record { student = x.student; period = x.period; exams = x.exams + 1; before = x.before } in
+    filed_alike c.args.slots xs (set xs (n - 1) y) c.args.last.now.items
+    (alike_set xs (n - 1) y within
+    (λ d. ap (λ z. z.student) (get_or_default xs (n - 1) d x within ∙ sym c.index-tally.ensures))
+    (λ d. ap (λ z. z.period) (get_or_default xs (n - 1) d x within ∙ sym c.index-tally.ensures))
+    (λ d. ap (λ z. z.before) (get_or_default xs (n - 1) d x within ∙ sym c.index-tally.ensures)))
+    c.requires.filed
+
+pub returns-clause-filed : goal.returns-clause-filed
+returns-clause-filed c =
+    let xs = c.args.tallies.now.items in
+    let last = c.args.last.now.items in
+    let slot = c.slot_of-slot.result in
+    let y : Tally = record { student = c.args.student; period = c.args.period; exams = 1; before = c.index-before.result.now } in
+    let within : slot < length last = omega (arith, c.slot_of-slot.ensures.exists, c.requires.filed.count) in
+    let items : c.push.new.self.items ≡ xs ++ y ∷ [] = c.in_ok-push.ensures.items in
+    let long : c.len.result ≡ length xs + 1 = omega (arith, c.len.ensures, c.push.new.self.ok.0, ap length items, length_push xs y) in
+    subst (λ zs. AreFiled zs (set last slot c.len.result) c.args.slots) (sym items)
+    (subst (λ n. AreFiled (xs ++ y ∷ []) (set last slot n) c.args.slots) (sym long)
+    (filed_push c.args.slots xs last y slot c.requires.filed within (sym c.slot_of-slot.ensures.slot)
+    (get_or_read last slot c.index-before.result.now within c.index-before.ensures 0) c.requires.not_later))

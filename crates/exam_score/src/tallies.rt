@@ -1,0 +1,210 @@
+// How many exams each student has in each period.
+ghost use Rattle.std.specs.Prelude.{◌≡◌, ℕ, ◌+◌, ◌-◌, ◌%◌, ◌^◌, ◌≤◌, ◌<◌, true, length, slice_index, slice_index_or, slice_set, sum_by, All, AllPairs, IfOk, OnOk};
+ghost use Rattle.exam_model.specs.Enrolments.{size_of};
+ghost use Rattle.exam_score.specs.Rows.{row_at};
+ghost use Rattle.exam_score.specs.Tallies.{tally_sum, slot_of, AreCounted, AreFiled, AreLinked, Grows, Extends};
+ghost use Rattle.exam_score.specs.declared.rows.Row.{Row};
+
+use crate::sittings::Sitting;
+use exam_model::{Enrolments, PeriodNo, StudentNo};
+use std::alloc::{AllocError, Global};
+
+// How many slots students are filed in: a prime, so that numbers in steps spread over all of them.
+const SLOTS: u32 = 65_521;
+
+// How many greater numbers are tried where students crowd. Student numbers have nine digits, so two
+// of them share a slot under at most two of so many numbers in a row.
+const MORE: u32 = 31;
+
+// Up to so many steps back along the slots, students do not crowd.
+const FEW_STEPS: u64 = 30_000_000;
+
+// So many exams of one student in one period.
+#[derive(Clone, Copy, Debug)]
+pub struct Tally {
+    pub student: StudentNo,
+    pub period: PeriodNo,
+    pub exams: u32,
+    // One more than the place of the tally before this one in its slot; 0 where it is the first.
+    pub before: u32,
+}
+
+// The tallies, and how many steps back along their slots there are.
+#[derive(Drop)]
+struct Filing {
+    tallies: Vec<Tally>,
+    steps: u64,
+}
+
+// How many tallies each slot has, and how many steps back along the slots there are.
+#[derive(Drop)]
+struct Crowd {
+    sizes: Vec<u32>,
+    steps: u64,
+}
+
+// The tallies of all students of the sittings, the periods ascending.
+pub fn tallies_of(
+    alloc: Global,
+    enrolments: &Enrolments,
+    sittings: &[Sitting],
+) -> Result<Vec<Tally>, AllocError>
+    requires exist { All (λ x. x.exam < length enrolments.now) sittings.now }
+    requires few { sum_by (λ x. size_of enrolments.now x.exam) sittings.now ≤ 200000 }
+    requires ascending { AllPairs (λ x y. x.period ≤ y.period) sittings.now }
+    ensures counted { IfOk result (λ tallies.
+        AreCounted enrolments.now sittings.now tallies.items) }
+    ensures linked { IfOk result (λ tallies. AreLinked tallies.items) }
+{
+    let mut best = file_all(alloc, enrolments, sittings, SLOTS)?;
+    for more in 0..MORE {
+        if best.steps > FEW_STEPS {
+            let other = file_all(alloc, enrolments, sittings, SLOTS + 1 + more)?;
+            if other.steps < best.steps {
+                best = other;
+            }
+        }
+    }
+    Ok(best.tallies)
+}
+
+// The tallies by so many slots.
+fn file_all(
+    alloc: Global,
+    enrolments: &Enrolments,
+    sittings: &[Sitting],
+    slots: u32,
+) -> Result<Filing, AllocError>
+    requires some { 0 < slots }
+    requires exist { All (λ x. x.exam < length enrolments.now) sittings.now }
+    requires few { sum_by (λ x. size_of enrolments.now x.exam) sittings.now ≤ 200000 }
+    requires ascending { AllPairs (λ x y. x.period ≤ y.period) sittings.now }
+    ensures counted { IfOk result (λ filing.
+        AreCounted enrolments.now sittings.now filing.tallies.items) }
+    ensures linked { IfOk result (λ filing. AreLinked filing.tallies.items) }
+{
+    let mut tallies = Vec::with_capacity(alloc, enrolments.pairs() as usize)?;
+    let mut last = no_tallies(alloc, slots as usize)?;
+    let sizes = no_tallies(alloc, slots as usize)?;
+    let mut crowd = Crowd { sizes, steps: 0 };
+    for sitting in sittings {
+        let students = enrolments.students(sitting.exam);
+        count_students(
+            &mut tallies,
+            &mut last,
+            &mut crowd,
+            students,
+            sitting.period,
+            slots,
+        )?;
+    }
+    let steps = crowd.steps;
+    Ok(Filing { tallies, steps })
+}
+
+// That no slot has a tally.
+fn no_tallies(alloc: Global, slots: usize) -> Result<Vec<u32>, AllocError>
+    ensures long { IfOk result (λ last. length last.items ≡ slots) }
+    ensures zero { IfOk result (λ last. (slot : ℕ) → slot < length last.items
+        → slice_index last.items slot ≡ 0) }
+{
+    vec![in alloc; 0; slots]
+}
+
+// Counts an exam for each of its students.
+fn count_students(
+    tallies: &mut Vec<Tally>,
+    last: &mut Vec<u32>,
+    crowd: &mut Crowd,
+    students: &[StudentNo],
+    period: PeriodNo,
+    slots: u32,
+) -> Result<(), AllocError>
+    requires some { 0 < slots }
+    requires filed { AreFiled tallies.old.items last.old.items slots }
+    requires few { length tallies.old.items + length students.now ≤ 200000 }
+    requires not_later { All (λ x. x.period ≤ period) tallies.old.items }
+    ensures counted { OnOk result ((f : Row → ℕ) → sum_by (tally_sum f) tallies.new.items
+        ≡ sum_by (tally_sum f) tallies.old.items
+        + sum_by (λ s. f (row_at period s)) students.now) }
+    ensures filed { OnOk result (AreFiled tallies.new.items last.new.items slots) }
+    ensures grown { OnOk result
+        (Grows tallies.old.items tallies.new.items period (length students.now)) }
+{
+    for student in students {
+        count_one(tallies, last, crowd, *student, period, slots)?;
+    }
+    Ok(())
+}
+
+// Counts an exam for one student.
+fn count_one(
+    tallies: &mut Vec<Tally>,
+    last: &mut Vec<u32>,
+    crowd: &mut Crowd,
+    student: StudentNo,
+    period: PeriodNo,
+    slots: u32,
+) -> Result<(), AllocError>
+    requires some { 0 < slots }
+    requires filed { AreFiled tallies.old.items last.old.items slots }
+    requires few { length tallies.old.items < 200000 }
+    requires not_later { All (λ x. x.period ≤ period) tallies.old.items }
+    ensures counted { OnOk result ((f : Row → ℕ) → sum_by (tally_sum f) tallies.new.items
+        ≡ sum_by (tally_sum f) tallies.old.items + f (row_at period student)) }
+    ensures filed { OnOk result (AreFiled tallies.new.items last.new.items slots) }
+    ensures grown { OnOk result (Grows tallies.old.items tallies.new.items period 1) }
+{
+    let slot = slot_of(student, slots);
+    let before = last[slot];
+    if extends(tallies, before, student, period) {
+        let at = before as usize - 1;
+        let tally = tallies[at];
+        let exams = tally.exams + 1;
+        tallies[at] = Tally { exams, ..tally };
+        return Ok(());
+    }
+    tallies.push(Tally {
+        student,
+        period,
+        exams: 1,
+        before,
+    })?;
+    last[slot] = tallies.len() as u32;
+    note(crowd, slot);
+    Ok(())
+}
+
+// Notes a new tally in this slot, and the steps from it to those before it.
+#[tactic(auto, using(crate::proofs::TallyLemmas::set_beyond))]
+fn note(crowd: &mut Crowd, slot: usize)
+    ensures sizes { crowd.new.sizes.items ≡ slice_set crowd.old.sizes.items slot
+        ((slice_index crowd.old.sizes.items slot + 1) % 2 ^ 32) }
+    ensures steps { slot < length crowd.old.sizes.items → crowd.new.steps
+        ≡ (crowd.old.steps + slice_index crowd.old.sizes.items slot) % 2 ^ 64 }
+{
+    if let Some(size) = crowd.sizes.get_mut(slot) {
+        crowd.steps = crowd.steps.wrapping_add(u64::from(*size));
+        *size = size.wrapping_add(1);
+    }
+}
+
+fn slot_of(student: StudentNo, slots: u32) -> usize
+    requires some { 0 < slots }
+    ensures slot { result ≡ slot_of slots student }
+    ensures exists { result < slots }
+{
+    (student.get() % slots) as usize
+}
+
+// Whether the tally before this place is one of that student in that period, and not full.
+fn extends(tallies: &[Tally], before: u32, student: StudentNo, period: PeriodNo) -> bool
+    requires within { before ≤ length tallies.now }
+    ensures { result ≡ true → Extends tallies.now before student period }
+{
+    if before == 0 {
+        return false;
+    }
+    let tally = tallies[before as usize - 1];
+    tally.student == student && tally.period == period && tally.exams < u32::MAX
+}

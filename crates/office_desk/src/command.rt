@@ -1,0 +1,58 @@
+// What is asked.
+use exam_model::{ExamNo, Place};
+
+/// What a request's body says.
+#[derive(Clone, Copy, Debug, PartialEq, Eq)]
+pub enum Body<T> {
+    Given(T),
+    /// It is no JSON of the form that is asked for.
+    Bad,
+    /// It is longer than 1,048,576 bytes; never said of an instance's text.
+    Long,
+}
+
+/// A command: one for each method and path. Numbers are at most 999,999,999 and needn't be those
+/// of a thing that exists. A draft, a batch and an owner go by plain numbers.
+#[derive(Clone, Copy, Debug, PartialEq, Eq)]
+pub enum Command<'a> {
+    /// `GET /me`
+    Me,
+    /// `GET /me/exam/{n}`
+    MyExam(ExamNo),
+    /// `GET /me/penalty`
+    MyPenalty,
+    /// `PUT /instance`
+    Load(Body<&'a [u8]>),
+    /// `GET /instance`
+    Instance,
+    /// `PUT /exams/{e}/owner`: the department, at most 999, where 0 takes the owner away.
+    SetOwner(ExamNo, Body<u32>),
+    /// `PUT /drafts/{d}`: empty, or a solution.
+    NewDraft(u32, Body<&'a [u8]>),
+    /// `GET /drafts/{d}`
+    Draft(u32),
+    /// `GET /drafts/{d}/penalty`
+    DraftPenalty(u32),
+    /// `GET /drafts/{d}/violations`
+    DraftViolations(u32),
+    /// `DELETE /drafts/{d}`
+    DropDraft(u32),
+    /// `POST /drafts/{d}/exams/{e}/place`
+    Place(u32, ExamNo, Body<Place>),
+    /// `POST /drafts/{d}/exams/{e}/move`
+    Move(u32, ExamNo, Body<Place>),
+    /// `DELETE /drafts/{d}/exams/{e}`
+    Clear(u32, ExamNo),
+    /// `POST /drafts/{d}/swap/{a}/{b}`
+    Swap(u32, ExamNo, ExamNo),
+    /// `POST /drafts/{d}/publish`
+    Publish(u32),
+    /// `GET /publication`
+    Publication,
+    /// `GET /publication/penalty`
+    PublicationPenalty,
+    /// `GET /publication/rooms`
+    PublicationRooms,
+    /// `PUT /batches/{n}`
+    Batch(u32, Body<&'a [u8]>),
+}

@@ -1,0 +1,380 @@
+-- What is written for an item reads as the item.
+use Rattle.std.proofs.Common.{◌≡◌, ◌≢◌, ℕ, ℤ, pos, negsuc, ◌+◌, ◌-◌, ◌*◌, ◌/◌, ◌%◌, ◌<◌, ◌≤◌, true, false, ◌≤ℤ◌}
+use Rattle.std.proofs.Common.{List, [], ◌∷◌, ◌++◌, length, Some, None, Ok, refl, sym, subst, ◌∙◌, arith, append-nil}
+use Rattle.std.specs.Prelude.{map, decimal, codes, Bool, if◌then◌else◌, ◌||◌, ◌==◌}
+use Rattle.std.specs.List.{flat_map, AllByRecursion}
+use Rattle.std.proofs.lemmas.Bool.{eq-eqb, ne_eqb, le-leb}
+use Rattle.std.proofs.lemmas.Int.{ints}
+use Rattle.std.proofs.lemmas.List.Concat.{flat_map-cons}
+use Rattle.jiff.specs.Types.{Date}
+use Rattle.jiff.specs.Words.{IsDate, IsYear, days_in_month, is_leap_year}
+use Rattle.exam_model.proofs.SameSet.{same_list}
+use Rattle.exam_model.specs.Enrolments.{IsAscending, has_student}
+use Rattle.exam_model.specs.Instance.{PeriodRuleExists, RoomRuleExists}
+use Rattle.exam_model.specs.Limits.{PeriodInLimits, RoomInLimits, WeightsInLimits}
+use Rattle.exam_model.specs.declared.parts.Period.{Period}
+use Rattle.exam_model.specs.declared.parts.Room.{Room}
+use Rattle.exam_model.specs.declared.parts.Weights.{Weights}
+use Rattle.exam_model.specs.declared.rules.PeriodRule.{PeriodRule}
+use Rattle.exam_model.specs.declared.rules.PeriodRule.TheVariants.{After, Coincidence, Exclusion}
+use Rattle.exam_model.specs.declared.rules.RoomRule.{RoomRule}
+use Rattle.office_files.specs.CanonicalText.{before, two_digits, year_number, date_text, time_text, exam_text, period_text}
+use Rattle.office_files.specs.CanonicalText.{room_text, period_rule_text, room_rule_text, weighting_text, weightings_of}
+use Rattle.office_files.specs.Dates.{date_of, time_of, date_if_civil}
+use Rattle.office_files.specs.ExamLines.{ExamLine, exam_behind, with_students, named_in, fault_in}
+use Rattle.office_files.specs.Fields.{split_once}
+use Rattle.office_files.specs.Items.{period_in, room_in, period_rule_in, room_rule_in}
+use Rattle.office_files.specs.Numbers.{number}
+use Rattle.office_files.specs.Weightings.{weighting_line}
+use Rattle.office_files.specs.declared.counts.Counts.{Counts}
+use Rattle.office_files.specs.declared.weightings.Weighting.{Weighting}
+use Rattle.office_files.specs.declared.weightings.Weighting.TheVariants.{Row, Day, Spread, Mixed, Front}
+use Rattle.office_files.proofs.CanonicalLines.{IsField, IsLine, plain_byte, plain_digit, line_alone, line_before, line_comma, field_decimal, number_decimal, AreRead}
+use Rattle.office_files.proofs.DateLemmas.{made}
+use Rattle.office_files.proofs.ExamLineLemmas.{ascending-none, ascending-students, has-students}
+use Rattle.office_files.proofs.ExamLinePairs.{students_in-within}
+use Rattle.office_files.proofs.ReadOnLemmas.{is_digit}
+
+-- ---- rooms
+
+abbrev pub room_fields : Room → List (List ℕ)
+room_fields r = decimal r.capacity ∷ decimal r.penalty ∷ []
+
+pub room_written : (r : Room) → RoomInLimits r → IsLine (room_text r) (room_fields r)
+room_written r is =
+    line_before (decimal r.capacity) (decimal r.penalty) (decimal r.penalty ∷ [])
+    (field_decimal r.capacity (omega (arith, is.0)))
+    (line_alone (decimal r.penalty) (field_decimal r.penalty (omega (arith, is.1))))
+
+pub room_back : (r : Room) → RoomInLimits r → room_in (room_fields r) ≡ Ok r
+room_back r is =
+    rw (
+      number_decimal 100000 r.capacity is.0 (omega arith),
+      number_decimal 100000 r.penalty is.1 (omega arith),
+    ) refl
+
+-- ---- rules
+
+abbrev pub period_rule_fields : PeriodRule → List (List ℕ)
+period_rule_fields (After a b) = decimal a ∷ codes "AFTER" ∷ decimal b ∷ []
+period_rule_fields (Coincidence a b) = decimal a ∷ codes "EXAM_COINCIDENCE" ∷ decimal b ∷ []
+period_rule_fields (Exclusion a b) = decimal a ∷ codes "EXCLUSION" ∷ decimal b ∷ []
+
+rule_written : (a b : ℕ) (word : List ℕ) → IsField word → a < 2000 → b < 2000
+    → IsLine (before (decimal a) (before word (decimal b))) (decimal a ∷ word ∷ decimal b ∷ [])
+rule_written a b word is a_in b_in =
+    line_before (decimal a) (before word (decimal b)) (word ∷ decimal b ∷ [])
+    (field_decimal a (omega arith))
+    (line_before word (decimal b) (decimal b ∷ []) is
+    (line_alone (decimal b) (field_decimal b (omega arith))))
+
+pub period_rule_written : (n : ℕ) (r : PeriodRule) → n ≤ 2000 → PeriodRuleExists n r
+    → IsLine (period_rule_text r) (period_rule_fields r)
+period_rule_written n (After a b) le is =
+    rule_written a b (codes "AFTER") (record { some = omega arith; plain = refl })
+    (omega (arith, is.0)) (omega (arith, is.1))
+period_rule_written n (Coincidence a b) le is =
+    rule_written a b (codes "EXAM_COINCIDENCE") (record { some = omega arith; plain = refl })
+    (omega (arith, is.0)) (omega (arith, is.1))
+period_rule_written n (Exclusion a b) le is =
+    rule_written a b (codes "EXCLUSION") (record { some = omega arith; plain = refl })
+    (omega (arith, is.0)) (omega (arith, is.1))
+
+pub period_rule_back : (n : ℕ) (r : PeriodRule) → n ≤ 2000 → PeriodRuleExists n r
+    → period_rule_in n (period_rule_fields r) ≡ Ok r
+period_rule_back n (After a b) le is =
+    rw (
+      number_decimal (n - 1) a (omega (arith, is.0)) (omega arith),
+      number_decimal (n - 1) b (omega (arith, is.1)) (omega arith),
+    ) refl
+period_rule_back n (Coincidence a b) le is =
+    rw (
+      number_decimal (n - 1) a (omega (arith, is.0)) (omega arith),
+      number_decimal (n - 1) b (omega (arith, is.1)) (omega arith),
+    ) refl
+period_rule_back n (Exclusion a b) le is =
+    rw (
+      number_decimal (n - 1) a (omega (arith, is.0)) (omega arith),
+      number_decimal (n - 1) b (omega (arith, is.1)) (omega arith),
+    ) refl
+
+abbrev pub room_rule_fields : RoomRule → List (List ℕ)
+room_rule_fields r = decimal r.0 ∷ codes "ROOM_EXCLUSIVE" ∷ []
+
+pub room_rule_written : (n : ℕ) (r : RoomRule) → n ≤ 2000 → RoomRuleExists n r
+    → IsLine (room_rule_text r) (room_rule_fields r)
+room_rule_written n r le is =
+    line_before (decimal r.0) (codes "ROOM_EXCLUSIVE") (codes "ROOM_EXCLUSIVE" ∷ [])
+    (field_decimal r.0 (omega (arith, is)))
+    (line_alone (codes "ROOM_EXCLUSIVE") (record { some = omega arith; plain = refl }))
+
+pub room_rule_back : (n : ℕ) (r : RoomRule) → n ≤ 2000 → RoomRuleExists n r
+    → room_rule_in n (room_rule_fields r) ≡ Ok r
+room_rule_back n r le is = rw (number_decimal (n - 1) r.0 (omega (arith, is)) (omega arith)) refl
+
+-- ---- weightings
+
+abbrev pub weighting_fields : Weighting → List (List ℕ)
+weighting_fields (Row n) = codes "TWOINAROW" ∷ decimal n ∷ []
+weighting_fields (Day n) = codes "TWOINADAY" ∷ decimal n ∷ []
+weighting_fields (Spread n) = codes "PERIODSPREAD" ∷ decimal n ∷ []
+weighting_fields (Mixed n) = codes "NONMIXEDDURATIONS" ∷ decimal n ∷ []
+weighting_fields (Front n k w) = codes "FRONTLOAD" ∷ decimal n ∷ decimal k ∷ decimal w ∷ []
+
+weighed_written : (word : List ℕ) (n : ℕ) → IsField word → n ≤ 100000
+    → IsLine (word ++ 44 ∷ decimal n) (word ∷ decimal n ∷ [])
+weighed_written word n is le =
+    line_comma word (decimal n) (decimal n ∷ []) is
+    (line_alone (decimal n) (field_decimal n (omega arith)))
+
+pub weightings_written : (w : Weights) → WeightsInLimits w
+    → AllByRecursion (λ s. IsLine (weighting_text s) (weighting_fields s)) (weightings_of w)
+weightings_written w is = (
+  weighed_written (codes "TWOINAROW") w.row (record { some = omega arith; plain = refl }) is.0,
+  (
+    weighed_written (codes "TWOINADAY") w.day (record { some = omega arith; plain = refl }) is.1,
+    (
+      weighed_written (codes "PERIODSPREAD") w.spread (record { some = omega arith; plain = refl }) is.2,
+      (
+        weighed_written (codes "NONMIXEDDURATIONS") w.mixed (record { some = omega arith; plain = refl }) is.3,
+        (
+          front_written w.front_exams w.front_periods w.front is.4 is.5 is.6,
+          tt,
+        ),
+      ),
+    ),
+  ),
+)
+  where
+    front_written : (n k v : ℕ) → n ≤ 100000 → k ≤ 100000 → v ≤ 100000
+        → IsLine (weighting_text (Front n k v)) (weighting_fields (Front n k v))
+    front_written n k v n_in k_in v_in =
+        let last = line_alone (decimal v) (field_decimal v (omega arith)) in
+        let two = line_comma (decimal k) (decimal v) (decimal v ∷ []) (field_decimal k (omega arith)) last in
+        let three = line_comma (decimal n) (decimal k ++ 44 ∷ decimal v) (decimal k ∷ decimal v ∷ [])
+        (field_decimal n (omega arith)) two in
+        line_comma (codes "FRONTLOAD") (decimal n ++ 44 ∷ (decimal k ++ 44 ∷ decimal v))
+        (decimal n ∷ decimal k ∷ decimal v ∷ []) (record { some = omega arith; plain = refl }) three
+
+pub weightings_back : (counts : Counts) (w : Weights) → WeightsInLimits w
+    → AreRead weighting_text weighting_fields (weighting_line counts) [] (weightings_of w)
+weightings_back counts w is = (
+  rw (number_decimal 100000 w.row is.0 (omega arith)) refl,
+  (
+    rw (number_decimal 100000 w.day is.1 (omega arith)) refl,
+    (
+      rw (number_decimal 100000 w.spread is.2 (omega arith)) refl,
+      (
+        rw (number_decimal 100000 w.mixed is.3 (omega arith)) refl,
+        (
+          rw (
+            number_decimal 100000 w.front_exams is.4 (omega arith),
+            number_decimal 100000 w.front_periods is.5 (omega arith),
+            number_decimal 100000 w.front is.6 (omega arith),
+          ) refl,
+          tt,
+        ),
+      ),
+    ),
+  ),
+)
+
+-- ---- exams
+
+abbrev pub exam_fields : ExamLine → List (List ℕ)
+exam_fields e = decimal e.minutes ∷ map decimal e.students
+
+listed_written : (f : List ℕ) (ss : List ℕ) → IsField f → AllByRecursion (λ s. s ≤ 999999999) ss
+    → IsLine (f ++ flat_map (λ s. 44 ∷ 32 ∷ decimal s) ss) (f ∷ map decimal ss)
+listed_written f [] is all = rw append-nil (line_alone f is)
+listed_written f (s ∷ ss) is all =
+    let text : ℕ → List ℕ = λ s. 44 ∷ 32 ∷ decimal s in
+    let others = decimal s ++ flat_map text ss in
+    subst (λ (t : List ℕ). IsLine (f ++ t) (f ∷ decimal s ∷ map decimal ss))
+    (sym (flat_map-cons text s ss))
+    (line_before f others (decimal s ∷ map decimal ss) is
+    (listed_written (decimal s) ss (field_decimal s (omega (arith, all.0))) all.1))
+
+pub exam_written : (e : ExamLine) → e.minutes ≤ 1440
+    → AllByRecursion (λ s. s ≤ 999999999) e.students → IsLine (exam_text e) (exam_fields e)
+exam_written e le all =
+    listed_written (decimal e.minutes) e.students (field_decimal e.minutes (omega arith)) all
+
+all_named : (ss : List ℕ) → AllByRecursion (λ s. s ≤ 999999999) ss
+    → (named_in (map decimal ss) ≡ ss) × (fault_in (map decimal ss) ≡ None)
+all_named [] all = (refl, refl)
+all_named (s ∷ ss) all =
+    let first = number_decimal 999999999 s all.0 (omega arith) in
+    let others = all_named ss all.1 in
+    (rw (first, others.0) refl, rw (first, others.1) refl)
+
+none_before : (b : Bool) → (b || false) ≡ b
+none_before true = refl
+none_before false = refl
+
+in_order : (ss : List ℕ) → IsAscending ss → with_students ss [] ≡ ss
+in_order ss up =
+    same_list (with_students ss []) ss (ascending-students ss [] ascending-none) up
+    (λ t. has-students ss [] t ∙ none_before (has_student ss t))
+
+pub exam_back : (pairs : ℕ) (e : ExamLine) → e.minutes ≤ 1440
+    → AllByRecursion (λ s. s ≤ 999999999) e.students → IsAscending e.students
+    → pairs + length e.students ≤ 200000 → exam_behind pairs (exam_fields e) ≡ Ok e
+exam_back pairs e le all up fits =
+    let named = all_named e.students all in
+    let inside = in_order e.students up in
+    let read = rw (named.0, named.1, inside) at (students_in-within pairs [] (map decimal e.students)
+    (rw (named.0, inside) fits)) in
+    rw (number_decimal 1440 e.minutes le (omega arith), read) refl
+
+-- ---- dates and times
+
+pub split_stop : (c : ℕ) (xs ys : List ℕ) → AllByRecursion (λ b. b ≢ c) xs
+    → split_once c (xs ++ c ∷ ys) ≡ Some (xs, ys)
+split_stop c [] ys other = rw (eq-eqb c c refl) refl
+split_stop c (x ∷ xs) ys other = rw (ne_eqb x c other.0, split_stop c xs ys other.1) refl
+
+two_apart : (n : ℕ) → n < 100 → AllByRecursion (λ b. b ≢ 58) (two_digits n)
+two_apart n lt = ((λ same. omega arith), ((λ same. omega arith), tt))
+
+number_two : (limit n : ℕ) → n < 100 → n ≤ limit → number limit (two_digits n) ≡ Ok n
+number_two limit n lt le =
+    let value : 10 * (10 * 0 + (48 + n / 10 - 48)) + (48 + n % 10 - 48) ≡ n = omega arith in
+    rw (
+      is_digit (48 + n / 10) (omega arith) (omega arith),
+      is_digit (48 + n % 10) (omega arith) (omega arith),
+      value,
+      le-leb n limit le,
+    ) refl
+
+pub time_back : (p : Period) → p.hour ≤ 23 → p.minute ≤ 59 → p.second ≤ 59
+    → time_of (time_text p) ≡ Ok (p.hour, p.minute, p.second)
+time_back p hour minute second =
+    rw (
+      split_stop 58 (two_digits p.hour) (two_digits p.minute ++ 58 ∷ two_digits p.second)
+          (two_apart p.hour (omega arith)),
+      split_stop 58 (two_digits p.minute) (two_digits p.second) (two_apart p.minute (omega arith)),
+      number_two 23 p.hour (omega arith) hour,
+      number_two 59 p.minute (omega arith) minute,
+      number_two 59 p.second (omega arith) second,
+    ) refl
+
+year_is : (z : ℤ) → pos 1 ≤ℤ z → z ≡ pos (year_number z)
+year_is (pos y) le = refl
+year_is (negsuc y) le = absurd (omega (arith, ints))
+
+pub day_least : (y : ℤ) (m : ℕ) → days_in_month y m ≤ 31
+day_least y m =
+    if_le (m == 2) (if is_leap_year y then 29 else 28)
+    (if (m == 4) || (m == 6) || (m == 9) || (m == 11) then 30 else 31) 31
+    (if_le (is_leap_year y) 29 28 31 (omega arith) (omega arith))
+    (if_le ((m == 4) || (m == 6) || (m == 9) || (m == 11)) 30 31 31 (omega arith) (omega arith))
+  where
+    if_le : (b : Bool) (x y n : ℕ) → x ≤ n → y ≤ n → (if b then x else y) ≤ n
+    if_le true x y n xs ys = xs
+    if_le false x y n xs ys = ys
+
+number_four : (a b y : ℕ) → a < 100 → b < 100 → y ≡ a * 100 + b → y ≤ 9999
+    → number 9999 (two_digits a ++ two_digits b) ≡ Ok y
+number_four a b y a_in b_in is le =
+    let value : 10 * (10 * (10 * (10 * 0 + (48 + a / 10 - 48)) + (48 + a % 10 - 48))
+    + (48 + b / 10 - 48)) + (48 + b % 10 - 48) ≡ y = omega arith in
+    rw (
+      is_digit (48 + a / 10) (omega arith) (omega arith),
+      is_digit (48 + a % 10) (omega arith) (omega arith),
+      is_digit (48 + b / 10) (omega arith) (omega arith),
+      is_digit (48 + b % 10) (omega arith) (omega arith),
+      value,
+      le-leb y 9999 le,
+    ) refl
+
+-- the calendar has the day of a date
+day_back : (d : Date) (y : ℕ) → d.year ≡ pos y → 1 ≤ y → date_if_civil y d.month d.day ≡ Some d
+day_back d y year some =
+    let month = d.month_in in
+    let day = rw year at d.day_in in
+    let is : IsDate (pos y) (pos d.month) (pos d.day) = (
+      rw year at d.year_in,
+      (omega (arith, ints, month.0), omega (arith, ints, month.1)),
+      (omega (arith, ints, day.0), omega (arith, ints, day.1)),
+    ) in
+    sym (made y d.month d.day (pos y) (pos d.month) (pos d.day) refl refl refl some (Ok d)
+    ((λ _. is), (λ _. refl)) (year, refl, refl))
+
+pub date_back : (d : Date) → pos 1 ≤ℤ d.year → date_of (date_text d) ≡ Ok d
+date_back d le =
+    let y : ℕ = year_number d.year in
+    let year : d.year ≡ pos y = year_is d.year le in
+    let some : 1 ≤ y = year_some d.year le in
+    let most : y ≤ 9999 = year_most d.year le d.year_in in
+    let month = d.month_in in
+    let day = d.day_in in
+    let last = day_least d.year d.month in
+    rw (
+      split_stop 58 (two_digits d.day)
+          (two_digits d.month ++ 58 ∷ (two_digits (y / 100) ++ two_digits (y % 100)))
+          (two_apart d.day (omega (arith, day.1))),
+      split_stop 58 (two_digits d.month) (two_digits (y / 100) ++ two_digits (y % 100))
+          (two_apart d.month (omega (arith, month.1))),
+      number_two 99 d.day (omega (arith, day.1)) (omega (arith, day.1)),
+      number_two 99 d.month (omega (arith, month.1)) (omega (arith, month.1)),
+      number_four (y / 100) (y % 100) y (omega arith) (omega arith) (omega arith) most,
+      day_back d y year some,
+    ) refl
+  where
+    year_some : (z : ℤ) → pos 1 ≤ℤ z → 1 ≤ year_number z
+    year_some (pos n) le = omega (arith, ints)
+    year_some (negsuc n) le = absurd (omega (arith, ints))
+
+    year_most : (z : ℤ) → pos 1 ≤ℤ z → IsYear z → year_number z ≤ 9999
+    year_most (pos n) le is = omega (arith, ints, is.1)
+    year_most (negsuc n) le is = absurd (omega (arith, ints))
+
+-- ---- periods
+
+abbrev pub period_fields : Period → List (List ℕ)
+period_fields p = date_text p.date ∷ time_text p ∷ decimal p.length ∷ decimal p.penalty ∷ []
+
+two_field : (n : ℕ) → (plain_byte (48 + n / 10) ≡ true) × (plain_byte (48 + n % 10) ≡ true)
+two_field n = (plain_digit (48 + n / 10) (omega arith), plain_digit (48 + n % 10) (omega arith))
+
+date_field : (d : Date) → IsField (date_text d)
+date_field d =
+    let y = year_number d.year in
+    let day = two_field d.day in
+    let month = two_field d.month in
+    let front = two_field (y / 100) in
+    let back = two_field (y % 100) in
+    record {
+      some = omega arith;
+      plain = rw (day.0, day.1, month.0, month.1, front.0, front.1, back.0, back.1) refl;
+    }
+
+time_field : (p : Period) → IsField (time_text p)
+time_field p =
+    let hour = two_field p.hour in
+    let minute = two_field p.minute in
+    let second = two_field p.second in
+    record {
+      some = omega arith;
+      plain = rw (hour.0, hour.1, minute.0, minute.1, second.0, second.1) refl;
+    }
+
+pub period_written : (p : Period) → PeriodInLimits p → IsLine (period_text p) (period_fields p)
+period_written p is =
+    line_before (date_text p.date) (before (time_text p) (before (decimal p.length) (decimal p.penalty)))
+    (time_text p ∷ decimal p.length ∷ decimal p.penalty ∷ []) (date_field p.date)
+    (line_before (time_text p) (before (decimal p.length) (decimal p.penalty))
+    (decimal p.length ∷ decimal p.penalty ∷ []) (time_field p)
+    (line_before (decimal p.length) (decimal p.penalty) (decimal p.penalty ∷ [])
+    (field_decimal p.length (omega (arith, is.4)))
+    (line_alone (decimal p.penalty) (field_decimal p.penalty (omega (arith, is.5))))))
+
+pub period_back : (p : Period) → PeriodInLimits p → period_in (period_fields p) ≡ Ok p
+period_back p is =
+    rw (
+      date_back p.date is.0,
+      time_back p is.1 is.2 is.3,
+      number_decimal 1440 p.length is.4 (omega arith),
+      number_decimal 100000 p.penalty is.5 (omega arith),
+    ) refl

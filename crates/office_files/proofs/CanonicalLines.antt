@@ -1,0 +1,346 @@
+-- Written lines are read back: as many lines, and of each its fields.
+use Rattle.std.proofs.Common.{◌≡◌, ◌≢◌, ℕ, suc, ◌+◌, ◌-◌, ◌*◌, ◌%◌, ◌^◌, ◌<◌, ◌≤◌, Bool, true, false}
+use Rattle.std.proofs.Common.{List, [], ◌∷◌, ◌++◌, length, refl, sym, ap, ap₂, ◌∙◌, arith, append-nil}
+use Rattle.std.specs.Prelude.{◌==◌, ◌&&◌, not, nat_lt, map, decimal, All, Result, Ok}
+use Rattle.std.specs.List.{list_all, flat_map, AllByRecursion}
+use Rattle.std.specs.Char.{is_ascii_digit}
+use mathlib.Core.Bool.{true≢false}
+use Rattle.std.proofs.lemmas.Bool.{eq-eqb, ne_eqb, and_parts, lt-ltb, le-leb}
+use Rattle.std.proofs.Common.{length-append, suc-mul}
+use Rattle.std.proofs.lemmas.Fmt.{decimal_by_steps, length-decimal-le}
+use Rattle.std.proofs.lemmas.List.{append_assoc}
+use Rattle.std.proofs.lemmas.List.Elements.{All-head, All-tail}
+use Rattle.std.proofs.lemmas.List.Concat.{flat_map-cons}
+use Rattle.std.proofs.lemmas.List.Folds.{list_all-append}
+use Rattle.office_files.specs.CanonicalText.{line_of, before}
+use Rattle.office_files.specs.Fields.{ended_parts, is_blank, before_end, trim_start, trim_end}
+use Rattle.office_files.specs.Fields.{trimmed, fields_of}
+use Rattle.office_files.specs.Lines.{Located, placed, located, unless_blank, without_return}
+use Rattle.office_files.specs.Lines.{lines_from, is_header}
+use Rattle.office_files.specs.Numbers.{read_on, number}
+use Rattle.office_files.specs.Reading.{items_of}
+use Rattle.office_files.specs.declared.fault.FaultKind.{FaultKind}
+use Rattle.office_files.proofs.FieldLemmas.{trim_start-kept}
+use Rattle.office_files.proofs.LineLemmas.{without_return-cr}
+use Rattle.office_files.proofs.ReadOnLemmas.{fields_behind_space, is_digit}
+
+-- ---- fields
+
+-- a byte of a field: no blank, no end of a line, no comma
+abbrev pub plain_byte : ℕ → Bool
+plain_byte b = nat_lt 32 b && not (b == 44)
+
+-- a field that is written: some bytes, none of which ends it
+pub record IsField (f : List ℕ) : Type 0 where
+  pub some : 0 < length f
+  pub plain : list_all plain_byte f ≡ true
+
+-- bytes that pass a test are not one that fails it
+pub apart : (p : ℕ → Bool) (c : ℕ) → p c ≡ false → (xs : List ℕ) → list_all p xs ≡ true
+    → AllByRecursion (λ b. b ≢ c) xs
+apart p c fails [] e = tt
+apart p c fails (x ∷ xs) e =
+    let parts = and_parts (p x) (list_all p xs) e in
+    (λ same. true≢false (sym parts.0 ∙ ap p same ∙ fails), apart p c fails xs parts.1)
+
+pub apart-append : (c : ℕ) (xs ys : List ℕ) → AllByRecursion (λ b. b ≢ c) xs
+    → AllByRecursion (λ b. b ≢ c) ys → AllByRecursion (λ b. b ≢ c) (xs ++ ys)
+apart-append c [] ys all more = more
+apart-append c (x ∷ xs) ys all more = (all.0, apart-append c xs ys all.1 more)
+
+no_blank : (b : ℕ) → plain_byte b ≡ true → is_blank b ≡ false
+no_blank b e =
+    rw (
+      ne_eqb b 32 (λ same. true≢false (sym e ∙ ap plain_byte same)),
+      ne_eqb b 9 (λ same. true≢false (sym e ∙ ap plain_byte same)),
+    ) refl
+
+-- ---- cutting
+
+-- a part ends at its mark
+pub parts_stop : (c : ℕ) (xs ys : List ℕ) → AllByRecursion (λ b. b ≢ c) xs
+    → ended_parts c (xs ++ c ∷ ys) ≡ xs ∷ ended_parts c ys
+parts_stop c [] ys other = rw (eq-eqb c c refl) refl
+parts_stop c (x ∷ xs) ys other =
+    rw (ne_eqb x c other.0, parts_stop c xs ys other.1) refl
+
+-- or at the end of the text
+parts_alone : (c x : ℕ) (xs : List ℕ) → AllByRecursion (λ b. b ≢ c) (x ∷ xs)
+    → ended_parts c (x ∷ xs) ≡ (x ∷ xs) ∷ []
+parts_alone c x [] other = rw (ne_eqb x c other.0) refl
+parts_alone c x (y ∷ ys) other =
+    rw (ne_eqb x c other.0, parts_alone c y ys other.1) refl
+
+-- ---- trimming
+
+end_alone : (b : ℕ) → is_blank b ≡ false → before_end b [] ≡ b ∷ []
+end_alone b e = rw e refl
+
+end_plain : (f : List ℕ) → list_all plain_byte f ≡ true → trim_end f ≡ f
+end_plain [] e = refl
+end_plain (x ∷ []) e =
+    end_alone x (no_blank x (and_parts (plain_byte x) true e).0)
+end_plain (x ∷ y ∷ ys) e =
+    ap (before_end x) (end_plain (y ∷ ys) (and_parts (plain_byte x) (list_all plain_byte (y ∷ ys)) e).1)
+
+end_some : (b : ℕ) (xs : List ℕ) → 0 < length xs → before_end b xs ≡ b ∷ xs
+end_some b [] some = absurd (omega arith)
+end_some b (x ∷ xs) some = refl
+
+length-behind : (xs ys : List ℕ) → 0 < length ys → 0 < length (xs ++ ys)
+length-behind [] ys some = some
+length-behind (x ∷ xs) ys some = omega arith
+
+end_behind : (xs ys : List ℕ) → 0 < length ys → trim_end ys ≡ ys → trim_end (xs ++ ys) ≡ xs ++ ys
+end_behind [] ys some e = e
+end_behind (x ∷ xs) ys some e =
+    ap (before_end x) (end_behind xs ys some e) ∙ end_some x (xs ++ ys) (length-behind xs ys some)
+
+start_plain : (f ys : List ℕ) → IsField f → trim_start (f ++ ys) ≡ f ++ ys
+start_plain [] ys is = let some = is.some in absurd (omega arith)
+start_plain (x ∷ xs) ys is =
+    trim_start-kept x (xs ++ ys)
+    (no_blank x (and_parts (plain_byte x) (list_all plain_byte xs) is.plain).0)
+
+-- ---- lines
+
+-- what stands on a line has no line end in it and no blanks around it, and says these fields
+pub record IsLine (text : List ℕ) (fields : List (List ℕ)) : Type 0 where
+  pub some : 0 < length text
+  pub whole : AllByRecursion (λ b. b ≢ 10) text
+  pub starts : trim_start text ≡ text
+  pub ends : trim_end text ≡ text
+  pub says : fields_of text ≡ fields
+
+field_alone : (f : List ℕ) → IsField f → fields_of f ≡ f ∷ []
+field_alone [] is = let some = is.some in absurd (omega arith)
+field_alone (x ∷ xs) is =
+    let f : List ℕ = x ∷ xs in
+    ap (map trimmed) (parts_alone 44 x xs (apart plain_byte 44 refl f is.plain))
+    ∙ ap (λ (g : List ℕ). g ∷ []) (trimmed_plain f is)
+  where
+    trimmed_plain : (f : List ℕ) → IsField f → trimmed f ≡ f
+    trimmed_plain f is =
+        ap trim_end (ap trim_start (sym (append-nil f)) ∙ start_plain f [] is ∙ append-nil f)
+        ∙ end_plain f is.plain
+
+-- one field alone
+pub line_alone : (f : List ℕ) → IsField f → IsLine f (f ∷ [])
+line_alone f is = record {
+  some = is.some;
+  whole = apart plain_byte 10 refl f is.plain;
+  starts = ap trim_start (sym (append-nil f)) ∙ start_plain f [] is ∙ append-nil f;
+  ends = end_plain f is.plain;
+  says = field_alone f is;
+}
+
+field_first : (f ys : List ℕ) → IsField f → fields_of (f ++ 44 ∷ ys) ≡ f ∷ fields_of ys
+field_first f ys is =
+    ap (map trimmed) (parts_stop 44 f ys (apart plain_byte 44 refl f is.plain))
+    ∙ ap (λ (g : List ℕ). g ∷ fields_of ys)
+    (ap trim_end (ap trim_start (sym (append-nil f)) ∙ start_plain f [] is ∙ append-nil f)
+    ∙ end_plain f is.plain)
+
+-- a field before others, behind it a comma alone
+pub line_comma : (f ys : List ℕ) (fields : List (List ℕ)) → IsField f → IsLine ys fields
+    → IsLine (f ++ 44 ∷ ys) (f ∷ fields)
+line_comma f ys fields is line = record {
+  some = length-behind f (44 ∷ ys) (omega arith);
+  whole = apart-append 10 f (44 ∷ ys) (apart plain_byte 10 refl f is.plain)
+      ((λ (same : 44 ≡ 10). absurd (omega arith)), line.whole);
+  starts = start_plain f (44 ∷ ys) is;
+  ends = end_behind f (44 ∷ ys) (omega arith) (end_behind (44 ∷ []) ys line.some line.ends);
+  says = field_first f ys is ∙ ap (λ (gs : List (List ℕ)). f ∷ gs) line.says;
+}
+
+-- a field before others
+pub line_before : (f ys : List ℕ) (fields : List (List ℕ)) → IsField f → IsLine ys fields
+    → IsLine (before f ys) (f ∷ fields)
+line_before f ys fields is line = record {
+  some = length-behind f (44 ∷ 32 ∷ ys) (omega arith);
+  whole = apart-append 10 f (44 ∷ 32 ∷ ys) (apart plain_byte 10 refl f is.plain) (
+    (λ (same : 44 ≡ 10). absurd (omega arith)),
+    (
+      (λ (same : 32 ≡ 10). absurd (omega arith)),
+      line.whole,
+    ),
+  );
+  starts = start_plain f (44 ∷ 32 ∷ ys) is;
+  ends = end_behind f (44 ∷ 32 ∷ ys) (omega arith)
+      (end_behind (44 ∷ 32 ∷ []) ys line.some line.ends);
+  says = field_first f (32 ∷ ys) is
+      ∙ ap (λ (gs : List (List ℕ)). f ∷ gs) (sym (fields_behind_space ys line.some) ∙ line.says);
+}
+
+-- ---- numbers
+
+record IsDecimal (n : ℕ) (ds : List ℕ) : Type 0 where
+  some : 0 < length ds
+  digits : list_all is_ascii_digit ds ≡ true
+  plain : list_all plain_byte ds ≡ true
+  value : read_on 0 ds ≡ n
+
+read_on-push : (n : ℕ) (ds : List ℕ) (d : ℕ) → read_on n (ds ++ d ∷ []) ≡ 10 * read_on n ds + (d - 48)
+read_on-push n [] d = refl
+read_on-push n (e ∷ ds) d = read_on-push (10 * n + (e - 48)) ds d
+
+pub plain_digit : (b : ℕ) → 48 ≤ b → plain_byte b ≡ true
+plain_digit b least = rw (lt-ltb 32 b (omega arith), ne_eqb b 44 (λ same. omega arith)) refl
+
+is_decimal : (n : ℕ) → n < 2 ^ 64 → IsDecimal n (decimal n)
+is_decimal = decimal_by_steps IsDecimal
+    (λ n lt. record {
+      some = omega arith;
+      digits = rw (is_digit (48 + n) (omega arith) (omega arith)) refl;
+      plain = rw (plain_digit (48 + n) (omega arith)) refl;
+      value = omega arith;
+    })
+    (λ n ds ten more. record {
+      some = length-behind ds ((48 + n % 10) ∷ []) (omega arith);
+      digits = list_all-append is_ascii_digit ds ((48 + n % 10) ∷ [])
+          ∙ rw (more.digits, is_digit (48 + n % 10) (omega arith) (omega arith)) refl;
+      plain = list_all-append plain_byte ds ((48 + n % 10) ∷ [])
+          ∙ rw (more.plain, plain_digit (48 + n % 10) (omega arith)) refl;
+      value = read_on-push 0 ds (48 + n % 10) ∙ rw more.value (omega arith);
+    })
+
+small : (n : ℕ) → n < 2000000000 → n < 2 ^ 64
+small n lt = omega arith
+
+-- a number is a field
+pub field_decimal : (n : ℕ) → n < 2000000000 → IsField (decimal n)
+field_decimal n lt =
+    let is = is_decimal n (small n lt) in record { some = is.some; plain = is.plain }
+
+-- that reads as the number
+pub number_decimal : (limit n : ℕ) → n ≤ limit → limit < 2000000000
+    → number limit (decimal n) ≡ Ok n
+number_decimal limit n le lt =
+    let is = is_decimal n (small n (omega arith)) in
+    rw (lt-ltb 0 (length (decimal n)) is.some, is.digits, is.value, le-leb n limit le) refl
+
+-- none of its bytes is one that is no digit
+pub decimal_apart : (c n : ℕ) → is_ascii_digit c ≡ false → n < 2000000000
+    → AllByRecursion (λ b. b ≢ c) (decimal n)
+decimal_apart c n other lt =
+    apart is_ascii_digit c other (decimal n) (is_decimal n (small n lt)).digits
+
+-- a line that begins with it is no header
+pub decimal_first : (n : ℕ) (ys : List ℕ) → n < 2000000000 → is_header (decimal n ++ ys) ≡ false
+decimal_first n ys lt = first (decimal n) (is_decimal n (small n lt)).some (decimal_apart 91 n refl lt)
+  where
+    first : (ds : List ℕ) → 0 < length ds → AllByRecursion (λ b. b ≢ 91) ds
+        → is_header (ds ++ ys) ≡ false
+    first [] some all = absurd (omega arith)
+    first (d ∷ ds) some all = ne_eqb d 91 all.0
+
+pub trimmed_field : (f : List ℕ) → IsField f → trimmed f ≡ f
+trimmed_field f is =
+    ap trim_end (ap trim_start (sym (append-nil f)) ∙ start_plain f [] is ∙ append-nil f)
+    ∙ end_plain f is.plain
+
+-- of so many digits at most
+pub length_decimal : (k n : ℕ) → 0 < k → n < 10 ^ k → n < 2000000000 → length (decimal n) ≤ k
+length_decimal k n some lt fits = length-decimal-le k n some lt (small n fits)
+
+-- ---- along a list
+
+pub each_of : {X : Type 0} (P Q : X → Type 0) → ((x : X) → P x → Q x) → (xs : List X) → All P xs
+    → AllByRecursion Q xs
+each_of P Q weaker [] all = tt
+each_of P Q weaker (x ∷ xs) all =
+    (weaker x (All-head P x xs all), each_of P Q weaker xs (All-tail P x xs all))
+
+-- texts of at most so many bytes, one behind the other
+pub length_flat : {X : Type 0} (f : X → List ℕ) (k : ℕ) (xs : List X)
+    → AllByRecursion (λ x. length (f x) ≤ k) xs → length (flat_map f xs) ≤ length xs * k
+length_flat f k [] short = omega arith
+length_flat f k (x ∷ xs) short =
+    let more = length_flat f k xs short.1 in
+    let both : length (flat_map f (x ∷ xs)) ≡ length (f x) + length (flat_map f xs)
+    = ap length (flat_map-cons f x xs) ∙ length-append (f x) (flat_map f xs) in
+    let first : length (f x) ≤ k = short.0 in
+    let times : suc (length xs) * k ≡ length xs * k + k = suc-mul (length xs) k in
+    omega arith
+
+-- ---- one line behind another
+
+-- the lines of a text, from a line's number and its place on
+abbrev pub rows : ℕ → ℕ → List ℕ → List Located
+rows line at text = lines_from line (placed at (ended_parts 10 text))
+
+end_split : (xs ys : List ℕ) → line_of xs ++ ys ≡ (xs ++ 13 ∷ []) ++ 10 ∷ ys
+end_split [] ys = refl
+end_split (x ∷ xs) ys = ap (λ (zs : List ℕ). x ∷ zs) (end_split xs ys)
+
+row_kept : (row : Located) (others : List Located) → 0 < length row.text
+    → unless_blank row others ≡ row ∷ others
+row_kept row others some = rw (ne_eqb (length row.text) 0 (λ none. omega arith)) refl
+
+-- the first line, and the others behind it
+pub row_first : (text : List ℕ) (fields : List (List ℕ)) → IsLine text fields
+    → (line at : ℕ) (ys : List ℕ) → (row : Located) × (next : ℕ)
+    × (rows line at (line_of text ++ ys) ≡ row ∷ rows (line + 1) next ys) × (row.text ≡ text)
+row_first text fields is line at ys =
+    let cut : List ℕ = text ++ 13 ∷ [] in
+    let next : ℕ = at + length cut + 1 in
+    let row : Located = located line (record { start = at; text = without_return cut }) in
+    let parts : ended_parts 10 (line_of text ++ ys) ≡ cut ∷ ended_parts 10 ys
+    = ap (ended_parts 10) (end_split text ys)
+    ∙ parts_stop 10 cut ys (apart-append 10 text (13 ∷ []) is.whole
+    ((λ (same : 13 ≡ 10). absurd (omega arith)), tt)) in
+    let said : row.text ≡ text
+    = ap trimmed (without_return-cr text) ∙ ap trim_end is.starts ∙ is.ends in (
+      row,
+      next,
+      ap (λ (ps : List (List ℕ)). lines_from line (placed at ps)) parts
+          ∙ row_kept row (rows (line + 1) next ys) (rw said is.some),
+      said,
+    )
+
+module _ {A : Type 0} (text : A → List ℕ) (fields : A → List (List ℕ)) where
+  all_split : (x : A) (xs : List A) (ys : List ℕ) → flat_map (λ x. line_of (text x)) (x ∷ xs) ++ ys
+      ≡ line_of (text x) ++ (flat_map (λ x. line_of (text x)) xs ++ ys)
+  all_split x xs ys =
+      ap (λ (zs : List ℕ). zs ++ ys) (flat_map-cons (λ x. line_of (text x)) x xs)
+      ∙ append_assoc (line_of (text x)) (flat_map (λ x. line_of (text x)) xs) ys
+
+  -- a line for each of a list, and the others behind them
+  pub row_each : (xs : List A) → AllByRecursion (λ x. IsLine (text x) (fields x)) xs
+      → (line at : ℕ) (ys : List ℕ) → (found : List Located) × (line' : ℕ) × (next : ℕ)
+      × (rows line at (flat_map (λ x. line_of (text x)) xs ++ ys) ≡ found ++ rows line' next ys)
+      × (map (λ row. row.text) found ≡ map text xs)
+  row_each [] is line at ys = ([], line, at, refl, refl)
+  row_each (x ∷ xs) is line at ys =
+      let head = row_first (text x) (fields x) is.0 line at
+      (flat_map (λ x. line_of (text x)) xs ++ ys) in
+      let tail = row_each xs is.1 (line + 1) head.1 ys in (
+        head.0 ∷ tail.0,
+        tail.1,
+        tail.2,
+        ap (rows line at) (all_split x xs ys) ∙ head.2
+            ∙ ap (λ (rs : List Located). head.0 ∷ rs) tail.3,
+        ap₂ (λ (t : List ℕ) (ts : List (List ℕ)). t ∷ ts) head.3 tail.4,
+      )
+
+  -- each of a list is read of its own line, behind those before it
+  abbrev pub AreRead : (List A → List (List ℕ) → Result A FaultKind) → List A → List A → Type 0
+  AreRead read done [] = Unit {0}
+  AreRead read done (x ∷ xs) =
+      (read done (fields x) ≡ Ok x) × AreRead read (done ++ x ∷ []) xs
+
+  -- so all of them are read
+  pub read_each : (read : List A → List (List ℕ) → Result A FaultKind) (done xs : List A)
+      (found : List Located) → AllByRecursion (λ x. IsLine (text x) (fields x)) xs
+      → map (λ row. row.text) found ≡ map text xs → AreRead read done xs
+      → items_of read done found ≡ Ok (done ++ xs)
+  read_each read done [] [] is e r = rw append-nil refl
+  read_each read done [] (row ∷ found) is e r = cc
+  read_each read done (x ∷ xs) [] is e r = cc
+  read_each read done (x ∷ xs) (row ∷ found) is e r =
+      let head : row.text ≡ text x = cc in
+      let tail : map (λ row. row.text) found ≡ map text xs = cc in
+      let first : read done (fields_of row.text) ≡ Ok x
+      = ap (λ t. read done (fields_of t)) head ∙ ap (read done) is.0.says ∙ r.0 in
+      let more = read_each read (done ++ x ∷ []) xs found is.1 tail r.1 in
+      rw first (more ∙ rw append_assoc refl)

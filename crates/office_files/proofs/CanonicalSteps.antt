@@ -1,0 +1,75 @@
+-- Lines added one behind another.
+use Rattle.std.proofs.Common.{◌≡◌, ℕ, zero, suc, ◌+◌, ◌<◌, ◌≤◌, List, [], ◌∷◌, ◌++◌, length, take}
+use Rattle.std.proofs.Common.{refl, sym, ap, ◌∙◌, arith, inl, inr, append_assoc, append-nil}
+use Rattle.std.specs.Prelude.{Some, None, slice_get}
+use Rattle.std.specs.List.{flat_map}
+use Rattle.std.proofs.lemmas.List.{take_all, take_more, flat_map_more}
+use Rattle.std.proofs.lemmas.Option.{get_or_from_slice_get, slice_get_cases}
+use Rattle.exam_model.specs.Enrolments.{Enrolled, students}
+use Rattle.exam_model.specs.declared.parts.Exam.{Exam}
+use Rattle.office_files.specs.CanonicalText.{line_of, before, exam_lines_of}
+
+within : {A : Type 0} (xs : List A) (i : ℕ) (x : A) → slice_get xs i ≡ Some x → i < length xs
+within xs i x at = elim (slice_get_cases xs i).1 [
+  | inl found ↦ found.1
+  | inr none ↦ let no : Some x ≡ None = sym at ∙ none.1 in cc
+]
+
+-- one item more
+pub step : {A : Type 0} (f : A → List ℕ) (start t t' : List ℕ) (xs : List A) (i : ℕ) (x : A)
+    → slice_get xs i ≡ Some x → t ≡ start ++ flat_map f (take i xs) → t' ≡ t ++ f x
+    → t' ≡ start ++ flat_map f (take (i + 1) xs)
+step f start t t' xs i x at was now =
+    let more : take (i + 1) xs ≡ take i xs ++ x ∷ []
+    = take_more xs i x (within xs i x at)
+    ∙ ap (λ y. take i xs ++ y ∷ []) (get_or_from_slice_get xs i x x at) in
+    now ∙ ap (λ (u : List ℕ). u ++ f x) was ∙ flat_map_more f start (take i xs) x
+    ∙ ap (λ ys. start ++ flat_map f ys) (sym more)
+
+-- all of them
+pub whole : {A : Type 0} (f : A → List ℕ) (s head t : List ℕ) (xs : List A) (n : ℕ)
+    → length xs ≤ n → t ≡ (s ++ head) ++ flat_map f (take n xs)
+    → t ≡ s ++ (head ++ flat_map f xs)
+whole f s head t xs n all is =
+    is ∙ ap (λ ys. (s ++ head) ++ flat_map f ys) (take_all n xs all)
+    ∙ append_assoc s head (flat_map f xs)
+
+-- a date, a time and two numbers
+pub period_written : (t0 t1 t2 t3 t4 t5 d s a : List ℕ) → t1 ≡ t0 ++ d → t2 ≡ t1 ++ 44 ∷ 32 ∷ []
+    → t3 ≡ t2 ++ s → t4 ≡ t3 ++ 44 ∷ 32 ∷ [] → t5 ≡ t4 ++ line_of a
+    → t5 ≡ t0 ++ line_of (before d (before s a))
+period_written t0 t1 t2 t3 t4 t5 d s a e1 e2 e3 e4 e5 =
+    rw (e5, e4, e3, e2, e1) (simp append_assoc)
+
+-- six sections
+pub six_written : (t0 t1 t2 t3 t4 t5 t6 a b c d e f : List ℕ) → t0 ≡ [] → t1 ≡ t0 ++ a
+    → t2 ≡ t1 ++ b → t3 ≡ t2 ++ c → t4 ≡ t3 ++ d → t5 ≡ t4 ++ e → t6 ≡ t5 ++ f
+    → t6 ≡ a ++ b ++ c ++ d ++ e ++ f
+six_written t0 t1 t2 t3 t4 t5 t6 a b c d e f e0 e1 e2 e3 e4 e5 e6 =
+    rw (e6, e5, e4, e3, e2, e1, e0) refl
+
+-- five lines behind a header
+pub five_written : (h t0 t1 t2 t3 t4 t5 t6 a b c d e : List ℕ) → t1 ≡ t0 ++ h → t2 ≡ t1 ++ a
+    → t3 ≡ t2 ++ b → t4 ≡ t3 ++ c → t5 ≡ t4 ++ d → t6 ≡ t5 ++ e
+    → t6 ≡ t0 ++ (h ++ (a ++ (b ++ (c ++ (d ++ (e ++ []))))))
+five_written h t0 t1 t2 t3 t4 t5 t6 a b c d e e1 e2 e3 e4 e5 e6 =
+    rw (append-nil e, e6, e5, e4, e3, e2, e1) (simp append_assoc)
+
+-- ---- exams with their students
+
+pub length_lines : (es : List Exam) (E : Enrolled) → length E ≡ length es
+    → length (exam_lines_of es E) ≡ length es
+length_lines [] E same = refl
+length_lines (e ∷ es) [] same = absurd (omega arith)
+length_lines (e ∷ es) (ss ∷ E) same = ap suc (length_lines es E (omega arith))
+
+pub line_at : (es : List Exam) (E : Enrolled) (i : ℕ) (e : Exam) → length E ≡ length es
+    → slice_get es i ≡ Some e
+    → slice_get (exam_lines_of es E) i
+    ≡ Some (record { minutes = e.minutes; students = students E i })
+line_at [] E i e same at = cc
+line_at (e ∷ es) [] i x same at = absurd (omega arith)
+line_at (e ∷ es) (ss ∷ E) zero x same at =
+    let is : e ≡ x = cc in
+    ap (λ (y : Exam). Some (record { minutes = y.minutes; students = ss })) is
+line_at (e ∷ es) (ss ∷ E) (suc i) x same at = line_at es E i x (omega arith) at

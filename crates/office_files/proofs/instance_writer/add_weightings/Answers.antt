@@ -1,0 +1,23 @@
+use Rattle.std.proofs.Common.{string_bytes}
+use Rattle.office_files.specs.CanonicalText.{line_of, weighting_text, header_text}
+use Rattle.office_files.specs.InstanceText.{weightings_heading}
+use Rattle.office_files.specs.declared.weightings.Weighting.TheVariants.{Row, Day, Spread, Mixed, Front}
+use Rattle.office_files.proofs.CanonicalSteps.{five_written}
+use Rattle.office_files.proofs.instance_writer.add_weightings.Goals as goal
+
+pub returns : goal.returns
+returns c =
+    let w = c.args.instance.now.weights in
+    rw c.weights-weights.ensures.weights at
+    (five_written (line_of (header_text weightings_heading 5)) (string_bytes c.args.text.now)
+    (string_bytes c.push_str.new.self) (string_bytes c.add_weighting.new.text)
+    (string_bytes c.add_weighting-2.new.text) (string_bytes c.add_weighting-3.new.text)
+    (string_bytes c.add_weighting-4.new.text) (string_bytes c.add_weighting-5.new.text)
+    (line_of (weighting_text (Row c.weights-weights.result.row)))
+    (line_of (weighting_text (Day c.weights-weights.result.day)))
+    (line_of (weighting_text (Spread c.weights-weights.result.spread)))
+    (line_of (weighting_text (Mixed c.weights-weights.result.mixed)))
+    (line_of (weighting_text (Front c.weights-weights.result.front_exams c.weights-weights.result.front_periods
+    c.weights-weights.result.front)))
+    c.in_ok-push_str.ensures.bytes c.in_ok-add_weighting.ensures c.in_ok-add_weighting-2.ensures
+    c.in_ok-add_weighting-3.ensures c.in_ok-add_weighting-4.ensures c.in_ok-add_weighting-5.ensures)

@@ -1,0 +1,139 @@
+// Writing the lines of an instance file.
+ghost use Rattle.std.specs.Prelude.{◌≡◌, ◌<◌, ◌≤◌, ◌++◌, ◌∷◌, [], All, OnOk, pos, ◌≤ℤ◌, decimal, string_bytes};
+ghost use Rattle.exam_model.specs.Limits.{PeriodInLimits};
+ghost use Rattle.office_files.specs.CanonicalText.{line_of, before, two_digits, date_text, time_text};
+ghost use Rattle.office_files.specs.CanonicalText.{exam_text, period_text};
+ghost use Rattle.office_files.specs.CanonicalText.{period_rule_text, room_rule_text, weighting_text};
+
+use crate::weightings::Weighting;
+use exam_model::{Exam, ExamNo, Period, PeriodRule, RoomRule, StudentNo};
+use jiff::civil::Date;
+use std::alloc::AllocError;
+
+// Adds a number in two digits.
+#[tactic(auto, using(crate::proofs::CanonicalDigits::digit_facts))]
+fn add_two(text: &mut String, number: u32) -> Result<(), AllocError>
+    requires { number < 100 }
+    ensures { OnOk result (string_bytes text.new ≡ string_bytes text.old ++ two_digits number) }
+{
+    let tens = number / 10;
+    let ones = number % 10;
+    write!(text, "{tens}{ones}")
+}
+
+fn add_date(text: &mut String, date: Date) -> Result<(), AllocError>
+    requires { pos 1 ≤ℤ date.year }
+    ensures { OnOk result (string_bytes text.new ≡ string_bytes text.old ++ date_text date) }
+{
+    let year = date.year() as u32;
+    add_two(text, date.day() as u32)?;
+    text.push_str(":")?;
+    add_two(text, date.month() as u32)?;
+    text.push_str(":")?;
+    add_two(text, year / 100)?;
+    add_two(text, year % 100)
+}
+
+fn add_time(text: &mut String, period: &Period) -> Result<(), AllocError>
+    requires { PeriodInLimits period.now }
+    ensures { OnOk result
+        (string_bytes text.new ≡ string_bytes text.old ++ time_text period.now) }
+{
+    add_two(text, period.hour as u32)?;
+    text.push_str(":")?;
+    add_two(text, period.minute as u32)?;
+    text.push_str(":")?;
+    add_two(text, period.second as u32)
+}
+
+/// Adds a line of two numbers.
+pub fn add_pair(text: &mut String, one: u32, other: u32) -> Result<(), AllocError>
+    ensures { OnOk result (string_bytes text.new
+        ≡ string_bytes text.old ++ line_of (before (decimal one) (decimal other))) }
+{
+    write!(text, "{one}, {other}\r\n")
+}
+
+/// Adds the line of a period.
+pub fn add_period(text: &mut String, period: &Period) -> Result<(), AllocError>
+    requires { PeriodInLimits period.now }
+    ensures { OnOk result
+        (string_bytes text.new ≡ string_bytes text.old ++ line_of (period_text period.now)) }
+{
+    add_date(text, period.date)?;
+    text.push_str(", ")?;
+    add_time(text, period)?;
+    text.push_str(", ")?;
+    add_pair(text, period.length, period.penalty)?;
+    Ok(())
+}
+
+/// Adds the line of an exam and those who sit it.
+pub fn add_exam(text: &mut String, exam: Exam, students: &[StudentNo]) -> Result<(), AllocError>
+    ensures line { OnOk result (string_bytes text.new ≡ string_bytes text.old
+        ++ line_of (exam_text (record { minutes = exam.minutes; students = students.now }))) }
+    ensures numbers { OnOk result (All (λ s. s ≤ 999999999) students.now) }
+{
+    let minutes = exam.minutes;
+    write!(text, "{minutes}")?;
+    for student in students {
+        let student = student.get();
+        write!(text, ", {student}")?;
+    }
+    text.push_str("\r\n")
+}
+
+// Adds the line of a word between two exams.
+fn add_rule(text: &mut String, one: ExamNo, word: &str, other: ExamNo) -> Result<(), AllocError>
+    ensures { OnOk result (string_bytes text.new ≡ string_bytes text.old
+        ++ line_of (before (decimal one) (before word.now (decimal other)))) }
+{
+    let one = one.get();
+    let other = other.get();
+    write!(text, "{one}, {word}, {other}\r\n")
+}
+
+/// Adds the line of a rule on the periods of two exams.
+pub fn add_period_rule(text: &mut String, rule: PeriodRule) -> Result<(), AllocError>
+    ensures { OnOk result
+        (string_bytes text.new ≡ string_bytes text.old ++ line_of (period_rule_text rule)) }
+{
+    match rule {
+        PeriodRule::After(one, other) => add_rule(text, one, "AFTER", other),
+        PeriodRule::Coincidence(one, other) => add_rule(text, one, "EXAM_COINCIDENCE", other),
+        PeriodRule::Exclusion(one, other) => add_rule(text, one, "EXCLUSION", other),
+    }
+}
+
+// Adds the line of a word behind an exam.
+fn add_word(text: &mut String, exam: ExamNo, word: &str) -> Result<(), AllocError>
+    ensures { OnOk result (string_bytes text.new
+        ≡ string_bytes text.old ++ line_of (before (decimal exam) word.now)) }
+{
+    let exam = exam.get();
+    write!(text, "{exam}, {word}\r\n")
+}
+
+/// Adds the line of a rule on the room of an exam.
+pub fn add_room_rule(text: &mut String, rule: RoomRule) -> Result<(), AllocError>
+    ensures { OnOk result
+        (string_bytes text.new ≡ string_bytes text.old ++ line_of (room_rule_text rule)) }
+{
+    add_word(text, rule.0, "ROOM_EXCLUSIVE")
+}
+
+/// Adds the line of a weighting.
+pub fn add_weighting(text: &mut String, said: Weighting) -> Result<(), AllocError>
+    ensures { OnOk result
+        (string_bytes text.new ≡ string_bytes text.old ++ line_of (weighting_text said)) }
+{
+    match said {
+        Weighting::Row(weight) => write!(text, "TWOINAROW,{weight}\r\n"),
+        Weighting::Day(weight) => write!(text, "TWOINADAY,{weight}\r\n"),
+        Weighting::Spread(periods) => write!(text, "PERIODSPREAD,{periods}\r\n"),
+        Weighting::Mixed(weight) => write!(text, "NONMIXEDDURATIONS,{weight}\r\n"),
+        Weighting::Front(exams, periods, weight) => {
+            write!(text, "FRONTLOAD,{exams},{periods},{weight}\r\n")
+        }
+    }
+}

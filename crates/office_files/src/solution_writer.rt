@@ -1,0 +1,54 @@
+// Writing a solution file.
+ghost use Rattle.std.specs.Prelude.{◌≡◌, ◌≢◌, ◌<◌, ℕ, length, Ok, IfOk, IfErr, IsSome, string_bytes};
+ghost use Rattle.exam_model.specs.Instance.{Session};
+ghost use Rattle.exam_model.specs.Timetable.{place_of};
+ghost use Rattle.office_files.specs.CanonicalText.{canonical_solution, SuitsTimetable, IsIncomplete};
+ghost use Rattle.office_files.specs.Faults.{IsOfNoLine};
+ghost use Rattle.office_files.specs.SolutionText.{solution_in, SolutionText};
+
+use crate::fault::{FaultKind, FileFault};
+use crate::line_writers::add_pair;
+use exam_model::{ExamNo, Timetable};
+use std::alloc::{AllocError, Global};
+
+// The text of a timetable, in which an exam without a place has no line.
+fn solution_text(alloc: Global, timetable: &Timetable) -> Result<String, AllocError>
+    ensures { IfOk result (λ text. string_bytes text ≡ canonical_solution timetable.now) }
+{
+    let mut text = String::new(alloc);
+    for exam in 0..timetable.exams() {
+        if let Some(place) = timetable.get(ExamNo::new(exam)) {
+            add_pair(&mut text, place.period.get(), place.room.get())?;
+        }
+    }
+    Ok(text)
+}
+
+/// The canonical text of a complete timetable (ITC 2007, output format), of at most 24,000 bytes.
+/// `Incomplete` has the line of the smallest exam that is not placed, counted from 1, and comes
+/// before any memory is taken; else `NoMemory` has line 0.
+pub fn write_solution(alloc: Global, timetable: &Timetable) -> Result<Vec<u8>, FileFault>
+    ensures text { IfOk result (λ text. text.items ≡ canonical_solution timetable.now) }
+    ensures complete { IfOk result (λ _. (e : ℕ) → e < length timetable.now
+        → IsSome (place_of timetable.now e)) }
+    ensures incomplete { IfErr result (λ fault. fault.what ≢ FaultKind.NoMemory
+        → IsIncomplete timetable.now fault) }
+    ensures memory { IfErr result IsOfNoLine }
+
+    // What is written reads back as the same, for each instance that the timetable fits.
+    ensures spells { IfOk result (λ text. (I : Session) → SuitsTimetable I timetable.now
+        → SolutionText text.items I timetable.now) }
+    ensures same { IfOk result (λ text. (I : Session) → SuitsTimetable I timetable.now
+        → solution_in I text.items ≡ Ok timetable.now) }
+{
+    let _exams = timetable.exams(); // read for its bound
+    if let Some(exam) = timetable.complete() {
+        let line = exam.get() + 1;
+        return Err(FileFault {
+            line,
+            what: FaultKind::Incomplete,
+        });
+    }
+    let text = solution_text(alloc, timetable)?;
+    Ok(text.into_bytes())
+}

@@ -1,0 +1,16 @@
+pub mod DigitLemmas
+pub mod NameLemmas
+pub mod FieldLemmas
+pub mod HeadLemmas
+pub mod HeadEndLemmas
+pub mod MoreLemmas
+pub mod ServeLemmas
+pub mod OneReading
+pub mod Plain
+pub mod SeekLemmas
+pub mod FindLemmas
+pub mod AddLemmas
+pub mod PageLemmas
+pub mod OnePageLemmas
+pub mod PathLemmas
+pub mod BodyLemmas

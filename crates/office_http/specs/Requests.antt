@@ -1,0 +1,81 @@
+-- What a request asks for, or the refusal that looks at nothing stored.
+use Rattle.std.specs.Prelude.{◌≡◌, ℕ, List, Option, Some, None, option_and_then}
+use Rattle.std.specs.Borrow.{Bor}
+use Rattle.std.specs.Prelude.{Result, Ok, Err}
+use Rattle.exam_model.specs.Refusing.{◌>>=◌, else_err}
+use Rattle.office_desk.specs.Callers.{caller_of, trimmed}
+use Rattle.office_desk.specs.declared.callers.Caller.{Caller}
+use Rattle.office_desk.specs.declared.callers.Caller.TheVariants.{Office, Dept, Cand}
+use Rattle.office_desk.specs.declared.command.Command.{Command}
+use Rattle.office_desk.specs.declared.command.Command.TheVariants as command
+use Rattle.office_http.specs.Pages.{page_of}
+use Rattle.office_http.specs.Resources.{resource_at, resource_of}
+use Rattle.office_http.specs.Methods.{verb_of}
+use Rattle.office_http.specs.Commands.{command_of}
+use Rattle.office_http.specs.declared.methods.Verb.{Verb}
+use Rattle.office_http.specs.declared.methods.Verb.TheVariants.{Get}
+use Rattle.office_http.specs.declared.resources.Resource.{Resource}
+use Rattle.office_http.specs.declared.resources.Resource.TheVariants as resource
+use Rattle.office_desk.specs.declared.policy.Denial.TheVariants.{P1}
+use Rattle.office_http.specs.declared.texts.FixedError.{FixedError}
+use Rattle.office_http.specs.declared.texts.FixedError.TheVariants as error
+use Rattle.office_http.specs.declared.requests.Asked.{Asked}
+use Rattle.office_http.specs.declared.requests.Refusal.{Refusal}
+use Rattle.office_http.specs.declared.requests.Refusal.TheVariants as refusal
+
+-- the caller that the header names, where it stands just once
+abbrev pub caller_in : Option (List ℕ) → Option Caller
+caller_in value = option_and_then (λ v. caller_of (trimmed v)) value
+
+-- a candidate's own three pages
+abbrev pub her_page : Resource → Option Command
+her_page resource.Me = Some command.Me
+her_page (resource.MyExam e) = Some (command.MyExam e)
+her_page resource.MyPenalty = Some command.MyPenalty
+her_page _ = None
+
+-- one of her pages, by GET
+abbrev pub her_command : Verb → List ℕ → Option Command
+her_command Get path = option_and_then her_page (resource_of path)
+her_command _ path = None
+
+-- a candidate asks for one of her pages, or is refused
+abbrev pub candidate_command : Verb → List ℕ → Result Command Refusal
+candidate_command verb path = else_err refusal.Candidate (her_command verb path)
+
+-- the office and departments: the path is judged, then the method
+abbrev pub staff_command : Verb → List ℕ → Bor (List ℕ) → Result Command Refusal
+staff_command verb path body =
+    else_err refusal.Path (page_of path) >>= (λ page.
+    else_err refusal.Path (resource_at page path) >>= (λ r.
+    else_err (refusal.Method page) (command_of verb r body)))
+
+-- what that caller asks for
+abbrev pub asked_by : Caller → Verb → List ℕ → Bor (List ℕ) → Result Command Refusal
+asked_by Office verb path body = staff_command verb path body
+asked_by (Dept d) verb path body = staff_command verb path body
+asked_by (Cand c) verb path body = candidate_command verb path
+
+-- who asks, and for what: the caller is judged first
+abbrev pub reading : List ℕ → List ℕ → Option (List ℕ) → Bor (List ℕ) → Result Asked Refusal
+reading method path value body =
+    else_err refusal.Caller (caller_in value) >>= (λ who.
+    asked_by who (verb_of method) path body >>= (λ asked.
+    Ok (record { caller = who; command = asked })))
+
+-- the answer is that of the definition, unless memory was refused
+abbrev pub Gives : {A : Type 0} → Result A Refusal → Result A Refusal → Type 0
+Gives said (Ok asked) = said ≡ Ok asked
+Gives said (Err refusal.NoMemory) = Unit {0}
+Gives said (Err refusal.Caller) = said ≡ Err refusal.Caller
+Gives said (Err refusal.Candidate) = said ≡ Err refusal.Candidate
+Gives said (Err refusal.Path) = said ≡ Err refusal.Path
+Gives said (Err (refusal.Method page)) = said ≡ Err (refusal.Method page)
+
+-- what the reply to a refusal says
+abbrev pub error_of : Refusal → FixedError
+error_of refusal.Caller = error.Caller
+error_of refusal.Candidate = error.Denied P1
+error_of refusal.Path = error.Path
+error_of (refusal.Method page) = error.Method
+error_of refusal.NoMemory = error.Unavailable

@@ -1,0 +1,157 @@
+// Reading a request, as far as nothing that is stored is looked at.
+ghost use Rattle.std.specs.Prelude.{◌≡◌, option_copied};
+ghost use Rattle.office_http.specs.Methods.{verb_of};
+ghost use Rattle.office_http.specs.Resources.{resource_of};
+ghost use Rattle.office_http.specs.Requests.{caller_in, her_page, her_command};
+ghost use Rattle.office_http.specs.Requests.{candidate_command, staff_command, asked_by};
+ghost use Rattle.office_http.specs.Requests.{reading, Gives, error_of};
+
+use crate::commands::command_of;
+use crate::methods::Verb;
+use crate::pages::Page;
+use crate::request::Request;
+use crate::resources::{Resource, resource_at};
+use crate::routes::Routes;
+use crate::texts::FixedError;
+use office_desk::{Caller, Command, Denial};
+use std::alloc::Global;
+
+/// Who asks, and for what.
+#[derive(Clone, Copy, Debug, PartialEq, Eq)]
+pub struct Asked<'a> {
+    pub caller: Caller,
+    pub command: Command<'a>,
+}
+
+/// Why a request is refused without a look at what is stored, in the order in which that is judged.
+#[derive(Clone, Copy, Debug, PartialEq, Eq)]
+pub enum Refusal {
+    /// The header names no caller.
+    Caller,
+    /// A candidate asks for anything but her own three pages: denial P1.
+    Candidate,
+    /// No page has the path.
+    Path,
+    /// The page hasn't the method.
+    Method(Page),
+    /// The memory to read a body was refused.
+    NoMemory,
+}
+
+impl Refusal {
+    /// What the reply to it says.
+    pub fn error(self) -> FixedError
+        ensures { result ≡ error_of self }
+    {
+        match self {
+            Refusal::Caller => FixedError::Caller,
+            Refusal::Candidate => FixedError::Denied(Denial::P1),
+            Refusal::Path => FixedError::Path,
+            Refusal::Method(_) => FixedError::Method,
+            Refusal::NoMemory => FixedError::Unavailable,
+        }
+    }
+}
+
+/// Who asks, and for what: caller, a candidate's pages, path, method, in this order. A body that
+/// is too long or doesn't read is part of the command.
+pub fn read_request<'a>(
+    alloc: Global,
+    routes: &Routes,
+    request: &Request<'a>,
+) -> Result<Asked<'a>, Refusal>
+    ensures { Gives (reading request.now.method.now request.now.target.now
+        (option_copied request.now.caller) request.now.body) result }
+{
+    let Some(caller) = caller_in(request.caller) else {
+        return Err(Refusal::Caller);
+    };
+    match asked_by(alloc, routes, &caller, request) {
+        Ok(command) => Ok(Asked { caller, command }),
+        Err(refusal) => Err(refusal),
+    }
+}
+
+fn caller_in(value: Option<&[u8]>) -> Option<Caller>
+    ensures { result ≡ caller_in (option_copied value.entry) }
+{
+    Caller::read(value?)
+}
+
+// What that caller asks for.
+fn asked_by<'a>(
+    alloc: Global,
+    routes: &Routes,
+    caller: &Caller,
+    request: &Request<'a>,
+) -> Result<Command<'a>, Refusal>
+    ensures { Gives (asked_by caller.now (verb_of request.now.method.now)
+        request.now.target.now request.now.body) result }
+{
+    let verb = Verb::read(request.method);
+    match caller {
+        Caller::Cand(_) => candidate_command(routes, verb, request.target),
+        _ => staff_command(alloc, routes, verb, request.target, request.body),
+    }
+}
+
+// What a candidate asks for, where that is one of her pages.
+fn candidate_command<'a>(routes: &Routes, verb: Verb, target: &str) -> Result<Command<'a>, Refusal>
+    ensures { result ≡ candidate_command verb target.now }
+{
+    match her_command(routes, verb, target) {
+        Some(command) => Ok(command),
+        None => Err(Refusal::Candidate),
+    }
+}
+
+fn her_command<'a>(routes: &Routes, verb: Verb, target: &str) -> Option<Command<'a>>
+    ensures { result ≡ her_command verb target.now }
+{
+    match verb {
+        Verb::Get => her_page(resource_of(routes, target)?),
+        _ => None,
+    }
+}
+
+fn her_page<'a>(resource: Resource) -> Option<Command<'a>>
+    ensures { result ≡ her_page resource }
+{
+    match resource {
+        Resource::Me => Some(Command::Me),
+        Resource::MyExam(exam) => Some(Command::MyExam(exam)),
+        Resource::MyPenalty => Some(Command::MyPenalty),
+        _ => None,
+    }
+}
+
+fn resource_of(routes: &Routes, target: &str) -> Option<Resource>
+    ensures { result ≡ resource_of target.now }
+{
+    resource_at(routes.page(target)?, target.as_bytes())
+}
+
+// What the office or a department asks for.
+fn staff_command<'a>(
+    alloc: Global,
+    routes: &Routes,
+    verb: Verb,
+    target: &str,
+    body: &'a [u8],
+) -> Result<Command<'a>, Refusal>
+    ensures { Gives (staff_command verb target.now body.entry) result }
+{
+    let Some(page) = routes.page(target) else {
+        return Err(Refusal::Path);
+    };
+    let Some(resource) = resource_at(page, target.as_bytes()) else {
+        return Err(Refusal::Path);
+    };
+    let Ok(command) = command_of(alloc, verb, resource, body) else {
+        return Err(Refusal::NoMemory);
+    };
+    match command {
+        Some(command) => Ok(command),
+        None => Err(Refusal::Method(page)),
+    }
+}

@@ -1,0 +1,96 @@
+// The routes of the office.
+ghost use Rattle.std.specs.Prelude.{◌≡◌, ℕ, List, IfOk, OnOk, IfSome, IsNone};
+ghost use Rattle.office_http.specs.declared.pages.Page.{Page};
+ghost use Rattle.office_http.specs.Table.{adds, table, page_at};
+ghost use Rattle.office_http.specs.Pages.{Leads, page_of};
+
+use crate::pages::Page;
+use matchit::Router;
+use std::alloc::{AllocError, Global};
+use std::marker::Model;
+
+/// The office's routes, which lead from paths to pages.
+#[derive(Drop)]
+pub struct Routes {
+    router: Router<Page>,
+}
+
+impl Model for Routes {
+    ghost Value = { Unit {0} };
+
+    ghost view = { λ r. tt };
+
+    ghost invariant = { λ r. r.router ≡ table };
+}
+
+impl Routes {
+    /// Makes them; to be done once, before the first request.
+    pub fn new(alloc: Global) -> Result<Routes, AllocError> {
+        Ok(Routes {
+            router: all_routes(alloc)?,
+        })
+    }
+
+    /// The page whose pattern takes the path segment by segment. A number in a pattern takes any
+    /// segment that isn't empty.
+    pub fn page(&self, path: &str) -> Option<Page>
+        ensures found { IfSome result (λ page. Leads page path.now) }
+        ensures none { IsNone result → (page : Page) → ¬ (Leads page path.now) }
+        ensures only { result ≡ page_of path.now }
+    {
+        page_at(&self.router, path)
+    }
+}
+
+fn page_at(router: &Router<Page>, path: &str) -> Option<Page>
+    ensures { result ≡ page_at router.now path.now }
+{
+    match router.at(path) {
+        Ok(found) => Some(*found.value),
+        Err(_) => None,
+    }
+}
+
+fn all_routes(alloc: Global) -> Result<Router<Page>, AllocError>
+    ensures { IfOk result (λ r. r ≡ table) }
+{
+    let mut router = Router::new(alloc);
+    add(&mut router, "/me", Page::Me)?;
+    add(&mut router, "/me/exam/{n}", Page::MyExam)?;
+    add(&mut router, "/me/penalty", Page::MyPenalty)?;
+    add(&mut router, "/instance", Page::Instance)?;
+    add(&mut router, "/exams/{e}/owner", Page::Owner)?;
+    add(&mut router, "/drafts/{d}", Page::Draft)?;
+    add(&mut router, "/drafts/{d}/penalty", Page::DraftPenalty)?;
+    add(&mut router, "/drafts/{d}/violations", Page::DraftViolations)?;
+    add(&mut router, "/drafts/{d}/exams/{e}/place", Page::Place)?;
+    add(&mut router, "/drafts/{d}/exams/{e}/move", Page::Move)?;
+    add(&mut router, "/drafts/{d}/exams/{e}", Page::Slot)?;
+    add(&mut router, "/drafts/{d}/swap/{a}/{b}", Page::Swap)?;
+    add(&mut router, "/drafts/{d}/publish", Page::Publish)?;
+    add(&mut router, "/publication", Page::Publication)?;
+    add(
+        &mut router,
+        "/publication/penalty",
+        Page::PublicationPenalty,
+    )?;
+    add(&mut router, "/publication/rooms", Page::PublicationRooms)?;
+    add(&mut router, "/batches/{n}", Page::Batch)?;
+    Ok(router)
+}
+
+// Adds a route. A route in the table is refused for want of memory alone.
+fn add(router: &mut Router<Page>, route: &str, page: Page) -> Result<(), AllocError>
+    ensures { OnOk result (router.new ≡ adds route.now page router.old) }
+{
+    if router.insert(route, page).is_ok() {
+        Ok(())
+    } else {
+        Err(AllocError)
+    }
+}
+
+/// A path leads to at most one page.
+pub fn one_page()
+    ensures { (path : List ℕ) (p q : Page) → Leads p path → Leads q path → p ≡ q }
+{}

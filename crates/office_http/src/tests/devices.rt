@@ -1,0 +1,158 @@
+//! A small machine, and readers and writers that come in pieces or fail.
+ghost use Rattle.std.specs.Prelude.{⊤};
+
+use crate::{
+    Allow, Content, Machine, Payload, Reply, Request, ServeFault, Served, serve, unavailable,
+};
+use http::StatusCode;
+use std::alloc::Global;
+use std::io;
+use std::io::{ErrorKind, Read, Write};
+
+/// What the candidate 99 has: nothing.
+const NO_EXAMS: &[u8] = b"{\"candidate\":99,\"exams\":[],\"penalty\":0}";
+
+/// A machine that counts what it answers.
+#[derive(Drop)]
+pub(super) struct Board {
+    pub answered: u32,
+}
+
+fn json(status: StatusCode, allow: Option<Allow>, body: &'static [u8]) -> Reply {
+    Reply {
+        status,
+        allow,
+        content: Content::Json,
+        body: Payload::Fixed(body),
+    }
+}
+
+// The body that came, as a text.
+fn echo(alloc: Global, body: &[u8]) -> Reply {
+    match Vec::from_slice(alloc, body) {
+        Ok(body) => Reply {
+            status: StatusCode::OK,
+            allow: None,
+            content: Content::Text,
+            body: Payload::Made(body),
+        },
+        Err(_) => unavailable(),
+    }
+}
+
+impl Machine for Board {
+    ghost Answers = { λ old request reply new. ⊤ };
+
+    fn answer(&mut self, alloc: Global, request: &Request<'_>) -> Reply {
+        self.answered = self.answered.saturating_add(1);
+        if request.caller.is_none() {
+            return json(StatusCode::BAD_REQUEST, None, b"{\"error\":\"caller\"}");
+        }
+        if request.target == "/echo" {
+            return echo(alloc, request.body);
+        }
+        if request.target == "/me" && request.method == "GET" {
+            return json(StatusCode::OK, None, NO_EXAMS);
+        }
+        let allow = Some(Allow { methods: "GET" });
+        json(
+            StatusCode::METHOD_NOT_ALLOWED,
+            allow,
+            b"{\"error\":\"method\"}",
+        )
+    }
+}
+
+/// A reader that gives a few bytes at a time.
+#[derive(Drop)]
+pub(super) struct Pieces<'a> {
+    pub rest: &'a [u8],
+    pub size: usize,
+    pub turn: u64,
+    /// Each second read is interrupted.
+    pub interrupts: bool,
+    /// The read that fails, counted from 1, or 0.
+    pub fails_at: u64,
+    /// Behind the last byte each read is interrupted, and the input has no end.
+    pub endless: bool,
+}
+
+impl<'a> Pieces<'a> {
+    pub fn of(rest: &'a [u8], size: usize) -> Pieces<'a> {
+        Pieces {
+            rest,
+            size,
+            turn: 0,
+            interrupts: false,
+            fails_at: 0,
+            endless: false,
+        }
+    }
+}
+
+impl Read for Pieces<'_> {
+    fn read(&mut self, buf: &mut [u8]) -> io::Result<usize> {
+        self.turn = self.turn.saturating_add(1);
+        if self.turn == self.fails_at {
+            return Err(io::Error::from(ErrorKind::ConnectionReset));
+        }
+        let waits = self.endless && self.rest.is_empty();
+        if waits || (self.interrupts && self.turn % 2 == 1) {
+            return Err(io::Error::from(ErrorKind::Interrupted));
+        }
+        let n = self.size.min(buf.len()).min(self.rest.len());
+        let (front, rest) = self.rest.split_at(n);
+        buf[..n].copy_from_slice(front);
+        self.rest = rest;
+        Ok(n)
+    }
+}
+
+/// A writer that fails at once.
+#[derive(Drop)]
+pub(super) struct Deaf {
+    pub tried: u32,
+}
+
+impl Write for Deaf {
+    fn write(&mut self, _buf: &[u8]) -> io::Result<usize> {
+        self.tried = self.tried.saturating_add(1);
+        Err(io::Error::from(ErrorKind::BrokenPipe))
+    }
+
+    fn flush(&mut self) -> io::Result<()> {
+        Ok(())
+    }
+}
+
+/// What `serve` answers on a stream of which the reader gives so many bytes at a time, and what
+/// it writes.
+pub(super) fn run(
+    alloc: Global,
+    stream: &[u8],
+    size: usize,
+    interrupts: bool,
+) -> (Result<Served, ServeFault>, Vec<u8>) {
+    let mut reader = Pieces::of(stream, size);
+    reader.interrupts = interrupts;
+    let mut written = Vec::new(alloc);
+    let mut board = Board { answered: 0 };
+    let served = serve(alloc, &mut reader, &mut written, &mut board, 10_000_000);
+    (served, written)
+}
+
+/// Whether the stream has this outcome in every cutting into equal pieces, if it is short, and
+/// these bytes are written.
+pub(super) fn is_served_so(alloc: Global, stream: &[u8], served: Served, replies: &[u8]) -> bool {
+    let sizes: usize = if stream.len() > 1_000 { 4 } else { 80 };
+    for size in 1..sizes {
+        for interrupts in [false, true] {
+            let (outcome, written) = run(alloc, stream, size, interrupts);
+            if outcome != Ok(served) || written.as_slice() != replies {
+                return false;
+            }
+        }
+    }
+    let (outcome, written) = run(alloc, stream, stream.len().max(1), false);
+    outcome == Ok(served) && written.as_slice() == replies
+}

@@ -1,0 +1,13 @@
+pub mod Casts
+pub mod Creates
+pub mod DraftLemmas
+pub mod EnrolLemmas
+pub mod Frames
+pub mod Inside
+pub mod MetaLemmas
+pub mod OwnerLemmas
+pub mod Queries
+pub mod Reading
+pub mod SlotLemmas
+pub mod Statements
+pub mod TableLemmas

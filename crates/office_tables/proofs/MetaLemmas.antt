@@ -1,0 +1,104 @@
+-- What each statement on the table meta means, and what it makes of the tables.
+use Rattle.std.proofs.Common.{◌≡◌, ℕ, pos, List, [], ◌∷◌, map, filter, not, ◌==◌, ◌&&◌, codes, true, false, Ok, refl, sym, ap, subst, ◌∙◌, IsPermutation}
+use Rattle.std.proofs.lemmas.List.Sorted.{IsPermutation-refl, IsPermutation-trans, IsPermutation-sym, IsPermutation-map}
+use Rattle.sqlite_sql.specs.Ops.{binary, is_true}
+use Rattle.sqlite_sql.specs.declared.ops.BinaryOp.TheVariants.{Compare}
+use Rattle.sqlite_sql.specs.declared.ops.CompareOp.TheVariants.{Eq}
+use Rattle.sqlite_trees.specs.Tree.{put_row}
+use Rattle.sqlite_trees.proofs.ListLemmas.{map-map}
+use Rattle.sqlite_value.specs.declared.keys.Collation.TheVariants.{Binary}
+use Rattle.sqlite_value.specs.declared.keys.Key.{Key}
+use Rattle.sqlite_value.specs.declared.value.Value.TheVariants.{Null, Int, Blob}
+use Rattle.sqlite_value.specs.Keys.{ascending}
+use Rattle.sqlite_value.specs.Order.{Row, column}
+use Rattle.sqlite.specs.Command.TheVariants.{Insert, Select, Delete}
+use Rattle.sqlite.specs.Effect.{Database}
+use Rattle.sqlite.specs.Edit.{next_rowid, are_fresh}
+use Rattle.sqlite.specs.Listing.{understood, reads_listing}
+use Rattle.sqlite.specs.Source.TheVariants.{Values}
+use Rattle.sqlite.specs.State.{State, Executes, Shown}
+use Rattle.sqlite.specs.Term.{Term, lit, col, op2}
+use Rattle.sqlite.proofs.Callers.{IsPlain, command_of}
+use Rattle.sqlite_tied.specs.Compute.{everything}
+use Rattle.office_tables.specs.Schema.{office_schema, meta_table, IsBlank}
+use Rattle.office_tables.specs.Tables.{Tables, Stands, Meta, empty_tables, flag, keyed, keyless, meta_row}
+use Rattle.office_tables.proofs.Casts.{cast_int, cast_null}
+use Rattle.office_tables.proofs.Frames.{meta_changed, holds_none}
+use Rattle.office_tables.proofs.Statements.{inserts, deletes, selects}
+use Rattle.office_tables.proofs.TableLemmas.{holds_more, rowids_filter}
+use Rattle.office_tables.proofs.Queries.{answered, passes, shown_of, shown_filter, left_of, column_less, equal_numbers, equal_pairs, one_table, equals, rowids}
+
+-- ---- INSERT
+
+abbrev pub insert_text : List ℕ
+insert_text = codes "INSERT INTO meta (id, version, published, instance) VALUES (0, 1, ?1, ?2)"
+
+abbrev insert_terms : List Term
+insert_terms = lit (Int (pos 0)) ∷ lit Null ∷ lit (Int (pos 1)) ∷ col 0 0 ∷ col 0 1 ∷ []
+
+insert_is : command_of (understood office_schema insert_text) ≡ Insert 0 (Values insert_terms 5)
+unfolding understood everything
+insert_is = refl
+
+insert_plain : IsPlain (understood office_schema insert_text)
+unfolding understood everything
+insert_plain = (refl, refl)
+
+pub added : (old new : State) (row : Meta) (count : ℕ) (t : Tables) → Stands old.now t
+    → Executes insert_text (Int (pos (flag row.published)) ∷ Blob row.instance ∷ []) old new (Ok count)
+    → Stands new.now (record t { meta = row ∷ t.meta })
+added old new row count t stands h =
+    let done = inserts insert_text _ old new count office_schema stands.schema insert_plain
+    0 meta_table refl insert_terms 5 insert_is (λ taken news. refl) h in
+    let is = done.1 in
+    let stored = old.now.trees 0 in
+    let new_row : Row = Int (pos 0) ∷ Null ∷ Int (pos 1) ∷ Int (pos (flag row.published)) ∷ Blob row.instance ∷ [] in
+    let rows : new.now.trees 0 ≡ put_row new_row stored = is.rows ∙ rw (cast_int 0, cast_int 1, cast_null, cast_int (flag row.published)) refl in
+    let fresh : are_fresh stored (new_row ∷ []) ≡ true = rw (cast_int 0) at is.fresh in
+    meta_changed old.now new.now t stands done.0 (row ∷ t.meta) is.tables
+    (rw rows (holds_more keyed (map meta_row t.meta) stored new_row (meta_row row) refl refl fresh stands.meta))
+
+-- ---- DELETE
+
+abbrev pub delete_text : List ℕ
+delete_text = codes "DELETE FROM meta"
+
+delete_is : command_of (understood office_schema delete_text) ≡ Delete 0 (record { lets = []; body = one_table 0 ([]) rowids [] })
+unfolding understood everything
+delete_is = refl
+
+delete_plain : IsPlain (understood office_schema delete_text)
+unfolding understood everything
+delete_plain = (refl, refl)
+
+pub deleted : (old new : State) (count : ℕ) (t : Tables) → Stands old.now t
+    → Executes delete_text [] old new (Ok count) → Stands new.now (record t { meta = [] })
+deleted old new count t stands h =
+    let done = deletes delete_text [] old new count office_schema stands.schema delete_plain
+    0 meta_table refl _ delete_is (λ taken news. refl) h in
+    let is = done.3 in
+    let stored = old.now.trees 0 in
+    let answer = answered 0 [] _ [] old.now.trees [] done.0 done.2 in
+    let rows : new.now.trees 0 ≡ [] =
+    is.rows ∙ left_of (λ r. true) stored done.0 stands.meta.rowids answer ∙ none_left stored in
+    meta_changed old.now new.now t stands done.1 [] is.tables (holds_none keyed (new.now.trees 0) rows)
+  where
+    none_left : (xs : List Row) → filter (λ r. not true) xs ≡ []
+    none_left [] = refl
+    none_left (x ∷ xs) = none_left xs
+
+-- tables with no row hold none
+pub blank_stands : (db : Database) → IsBlank office_schema db → Stands db (record empty_tables { meta = [] })
+blank_stands db blank = record {
+  schema = blank.schema_is;
+  meta = holds_none keyed _ (blank.empty.0);
+  owner = holds_none keyed _ (blank.empty.1.0);
+  enrol = holds_none keyless _ (blank.empty.1.1.0);
+  draft = holds_none keyed _ (blank.empty.1.1.1.0);
+  slot = holds_none keyless _ (blank.empty.1.1.1.1.0);
+  placed = holds_none keyed _ (blank.empty.1.1.1.1.1.0);
+  seat = holds_none keyless _ (blank.empty.1.1.1.1.1.1.0);
+  share_student = holds_none keyed _ (blank.empty.1.1.1.1.1.1.1.0);
+  share_part = holds_none keyless _ (blank.empty.1.1.1.1.1.1.1.1.0);
+  batch = holds_none keyed _ (blank.empty.1.1.1.1.1.1.1.1.1.0);
+}

@@ -1,0 +1,15 @@
+-- The penalties of a row are below 2^62, as every penalty is.
+use Rattle.std.specs.Prelude.{ℕ, ◌<◌, ◌^◌}
+use Rattle.office_tables.specs.declared.rows.DraftRow.{DraftRow}
+
+abbrev pub IsAmount : ℕ → Type 0
+IsAmount n = n < 2 ^ 62
+
+pub record AreAmounts (row : DraftRow) : Type 0 where
+  pub in_row : IsAmount row.in_row
+  pub in_day : IsAmount row.in_day
+  pub spread : IsAmount row.spread
+  pub mixed : IsAmount row.mixed
+  pub front : IsAmount row.front
+  pub period : IsAmount row.period
+  pub room : IsAmount row.room

@@ -1,0 +1,45 @@
+-- What each statement makes of the tables.
+use Rattle.std.specs.Prelude.{ℕ, Bool, List, [], ◌∷◌, ◌++◌, reverse, filter, not, ◌==◌, ◌&&◌}
+use Rattle.office_tables.specs.declared.rows.DraftRow.{DraftRow}
+use Rattle.office_tables.specs.declared.rows.EnrolRow.{EnrolRow}
+use Rattle.office_tables.specs.declared.rows.OwnerRow.{OwnerRow}
+use Rattle.office_tables.specs.declared.rows.SlotRow.{SlotRow}
+use Rattle.office_tables.specs.Tables.{Tables}
+
+abbrev pub with_meta : Bool → List ℕ → Tables → Tables
+with_meta published instance t =
+    record t { meta = record { published = published; instance = instance } ∷ t.meta }
+
+abbrev pub no_meta : Tables → Tables
+no_meta t = record t { meta = [] }
+
+abbrev pub with_owner : OwnerRow → Tables → Tables
+with_owner row t = record t { owner = row ∷ t.owner }
+
+abbrev pub without_owner : ℕ → Tables → Tables
+without_owner exam t = record t { owner = filter (λ r. not (r.exam == exam)) t.owner }
+
+abbrev pub with_enrol : EnrolRow → Tables → Tables
+with_enrol row t = record t { enrol = row ∷ t.enrol }
+
+abbrev pub with_draft : DraftRow → Tables → Tables
+with_draft row t = record t { draft = row ∷ t.draft }
+
+abbrev pub without_draft : ℕ → Tables → Tables
+without_draft number t = record t { draft = filter (λ r. not (r.no == number)) t.draft }
+
+abbrev pub with_slot : SlotRow → Tables → Tables
+with_slot row t = record t { slot = row ∷ t.slot }
+
+abbrev pub without_slots : ℕ → Tables → Tables
+without_slots draft t = record t { slot = filter (λ r. not (r.draft == draft)) t.slot }
+
+abbrev pub without_slot : ℕ → ℕ → Tables → Tables
+without_slot draft exam t =
+    record t { slot = filter (λ r. not ((r.draft == draft) && (r.exam == exam))) t.slot }
+
+abbrev pub with_enrols : List EnrolRow → Tables → Tables
+with_enrols rows t = record t { enrol = reverse rows ++ t.enrol }
+
+abbrev pub with_slots : List SlotRow → Tables → Tables
+with_slots rows t = record t { slot = reverse rows ++ t.slot }

@@ -1,0 +1,6 @@
+pub mod Amounts
+pub mod Changes
+pub mod Records
+pub mod Schema
+pub mod Steps
+pub mod Tables

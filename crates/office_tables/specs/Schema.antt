@@ -1,0 +1,172 @@
+-- The ten tables of an office's file as SQLite keeps them, schema version 1. All are STRICT, all columns
+-- are NOT NULL. A table's rows lie in the tree of its number; each key of more than one column, and
+-- each UNIQUE, has a tree of its own behind that of its table.
+use Rattle.std.specs.Prelude.{◌≡◌, ℕ, true, false, List, [], ◌∷◌, Some, None, Option, codes}
+use Rattle.std.specs.List.{AllByRecursion}
+use Rattle.sqlite_value.specs.declared.keys.Collation.TheVariants.{Binary}
+use Rattle.sqlite_value.specs.declared.keys.Order.{Order}
+use Rattle.sqlite_value.specs.declared.value.Value.TheVariants.{Null}
+use Rattle.sqlite_value.specs.Keys.{plain}
+use Rattle.sqlite_schema.specs.declared.schema.Column.{Column}
+use Rattle.sqlite_schema.specs.declared.schema.Index.{Index}
+use Rattle.sqlite_schema.specs.declared.schema.Kind.{Kind}
+use Rattle.sqlite_schema.specs.declared.schema.Kind.TheVariants.{Integer, Blob}
+use Rattle.sqlite_schema.specs.declared.schema.Schema.{Schema}
+use Rattle.sqlite_schema.specs.declared.schema.Table.{Table}
+use Rattle.sqlite.specs.Change.{created}
+use Rattle.sqlite.specs.Effect.{Database}
+
+-- ---- columns and tables
+
+abbrev pub column_of : Kind → List ℕ → Column
+column_of kind name = record {
+  name = name;
+  kind = kind;
+  is_strict = true;
+  not_null = true;
+  default = Null;
+  collation = Binary;
+}
+
+abbrev pub int : List ℕ → Column
+int = column_of Integer
+
+abbrev pub blob : List ℕ → Column
+blob = column_of Blob
+
+abbrev pub table_of : List ℕ → ℕ → List Column → Option ℕ → List ℕ → List (List ℕ) → List Order → Table
+table_of name tree columns key primary uniques orders = record {
+  name = name;
+  tree = tree;
+  columns = columns;
+  key = key;
+  primary = primary;
+  uniques = uniques;
+  orders = orders;
+  checks = [];
+  references = [];
+  computed = [];
+  stamps = record { places = []; terms = []; formats = [] };
+  is_counted = false;
+}
+
+-- the first column is the key, and the row's number
+abbrev pub keyed_table : List ℕ → ℕ → List Column → Table
+keyed_table name tree columns = table_of name tree columns (Some 0) (0 ∷ []) [] []
+
+-- the first two columns are the key
+abbrev pub paired_table : List ℕ → ℕ → List Column → Table
+paired_table name tree columns =
+    table_of name tree columns None (1 ∷ 2 ∷ []) ((1 ∷ 2 ∷ []) ∷ []) (plain ∷ [])
+
+-- ---- the tables
+
+abbrev pub meta_table : Table
+meta_table = keyed_table (codes "meta") 0
+    (int (codes "id") ∷ int (codes "version") ∷ int (codes "published") ∷
+    blob (codes "instance") ∷ [])
+
+abbrev pub owner_table : Table
+owner_table = keyed_table (codes "owner") 1
+    (int (codes "exam") ∷ int (codes "dept") ∷ [])
+
+abbrev pub enrol_table : Table
+enrol_table = paired_table (codes "enrol") 2
+    (int (codes "student") ∷ int (codes "exam") ∷ [])
+
+abbrev pub draft_table : Table
+draft_table = keyed_table (codes "draft") 4
+    (int (codes "no") ∷ int (codes "in_row") ∷ int (codes "in_day") ∷ int (codes "spread") ∷
+    int (codes "mixed") ∷ int (codes "front") ∷ int (codes "period") ∷ int (codes "room") ∷ [])
+
+abbrev pub slot_table : Table
+slot_table = paired_table (codes "slot") 5
+    (int (codes "draft") ∷ int (codes "exam") ∷ int (codes "period") ∷ int (codes "room") ∷ [])
+
+abbrev pub placed_table : Table
+placed_table = keyed_table (codes "placed") 7
+    (int (codes "exam") ∷ int (codes "period") ∷ int (codes "room") ∷ [])
+
+-- nobody shares a seat
+abbrev pub seat_table : Table
+seat_table = table_of (codes "seat") 8
+    (int (codes "student") ∷ int (codes "exam") ∷ int (codes "period") ∷ int (codes "room") ∷
+    int (codes "seat") ∷ [])
+    None (1 ∷ 2 ∷ []) ((1 ∷ 2 ∷ []) ∷ (3 ∷ 4 ∷ 5 ∷ []) ∷ []) (plain ∷ plain ∷ [])
+
+abbrev pub share_student_table : Table
+share_student_table = keyed_table (codes "share_student") 11
+    (int (codes "student") ∷ int (codes "in_row") ∷ int (codes "in_day") ∷ int (codes "spread") ∷
+    [])
+
+abbrev pub share_part_table : Table
+share_part_table = paired_table (codes "share_part") 12
+    (int (codes "kind") ∷ int (codes "no") ∷ int (codes "penalty") ∷ int (codes "mixed") ∷ [])
+
+abbrev pub batch_table : Table
+batch_table = keyed_table (codes "batch") 14
+    (int (codes "no") ∷ blob (codes "bytes") ∷ int (codes "added") ∷ int (codes "dropped") ∷
+    int (codes "unchanged") ∷ [])
+
+abbrev pub index_of : List ℕ → ℕ → ℕ → List ℕ → Index
+index_of name tree table columns = record {
+  name = name;
+  tree = tree;
+  table = table;
+  columns = columns;
+  order = plain;
+  is_unique = true;
+}
+
+abbrev pub office_schema : Schema
+office_schema = record {
+  tables = meta_table ∷ owner_table ∷ enrol_table ∷ draft_table ∷ slot_table ∷ placed_table ∷
+      seat_table ∷ share_student_table ∷ share_part_table ∷ batch_table ∷ [];
+  indexes = index_of (codes "sqlite_autoindex_enrol_1") 3 2 (1 ∷ 2 ∷ [])
+      ∷ index_of (codes "sqlite_autoindex_slot_1") 6 5 (1 ∷ 2 ∷ [])
+      ∷ index_of (codes "sqlite_autoindex_seat_1") 9 8 (1 ∷ 2 ∷ [])
+      ∷ index_of (codes "sqlite_autoindex_seat_2") 10 8 (3 ∷ 4 ∷ 5 ∷ [])
+      ∷ index_of (codes "sqlite_autoindex_share_part_1") 13 12 (1 ∷ 2 ∷ [])
+      ∷ [];
+  views = [];
+}
+
+-- ---- how the schema comes about, table by table
+
+abbrev pub no_schema : Schema
+no_schema = record { tables = []; indexes = []; views = [] }
+
+abbrev pub schema_1 : Schema
+schema_1 = created no_schema meta_table
+
+abbrev pub schema_2 : Schema
+schema_2 = created schema_1 owner_table
+
+abbrev pub schema_3 : Schema
+schema_3 = created schema_2 enrol_table
+
+abbrev pub schema_4 : Schema
+schema_4 = created schema_3 draft_table
+
+abbrev pub schema_5 : Schema
+schema_5 = created schema_4 slot_table
+
+abbrev pub schema_6 : Schema
+schema_6 = created schema_5 placed_table
+
+abbrev pub schema_7 : Schema
+schema_7 = created schema_6 seat_table
+
+abbrev pub schema_8 : Schema
+schema_8 = created schema_7 share_student_table
+
+abbrev pub schema_9 : Schema
+schema_9 = created schema_8 share_part_table
+
+abbrev pub schema_10 : Schema
+schema_10 = created schema_9 batch_table
+
+-- the tables of this schema, with no row, and no others
+pub record IsBlank (schema : Schema) (db : Database) : Type 0 where
+  pub schema_is : db.schema ≡ schema
+  pub empty : AllByRecursion (λ t. db.trees t.tree ≡ []) schema.tables

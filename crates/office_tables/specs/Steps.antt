@@ -1,0 +1,92 @@
+-- What a step leaves of a connection: inside a transaction, at its end, and after a reader. The store
+-- says what a connection shows by states: as it is now, as it was last committed, and what a crash leaves.
+use Rattle.std.specs.Prelude.{◌≡◌, ◌⊎◌, false, IsTrue, IfOk, OnOk, Result}
+use Rattle.sqlite_trees.specs.Tree.{Trees}
+use Rattle.sqlite.specs.declared.error.Error.{Error}
+use Rattle.sqlite.specs.Effect.{Database}
+use Rattle.sqlite.specs.Held.{Held, state}
+use Rattle.sqlite.specs.State.{State, HasCleanDisk, Survives, KeepsCommit, IsUnchanged}
+use Rattle.sqlite.specs.Store.{Ghosts}
+use Rattle.office_tables.specs.Schema.{no_schema, IsBlank}
+use Rattle.office_tables.specs.Tables.{Tables, Stands, empty_tables}
+
+-- ---- inside a transaction
+
+-- whatever is answered: nothing is committed, and a crash leaves what it left before
+pub record Within (old new : State) : Type 0 where
+  pub survives : Survives old new (λ _. ⊥)
+  pub kept : HasCleanDisk new → KeepsCommit old new
+
+-- the transaction goes on, and leads from the one to the other
+abbrev pub Leads : (Database → Type 0) → (Database → Type 0) → State → State → Type 0
+Leads P Q old new = IsTrue new.in_transaction × (P old.now → Q new.now)
+
+-- the transaction goes on, and the tables have changed so
+abbrev pub Makes : (Tables → Tables) → State → State → Type 0
+Makes f old new =
+    IsTrue new.in_transaction × ((t : Tables) → Stands old.now t → Stands new.now (f t))
+
+-- the same of a connection: on a clean disk, what answers Ok inside a transaction leads so
+abbrev pub Grows : {S : Type 0} → Ghosts S → (Database → Type 0) → (Database → Type 0)
+    → Held S → Held S → Result (Unit {0}) Error → Type 0
+Grows store P Q old new result =
+    HasCleanDisk (state store new) → IsTrue old.in_transaction
+    → OnOk result (Leads P Q (state store old) (state store new))
+
+-- and what answers Ok makes this change
+abbrev pub Changes : {S : Type 0} → Ghosts S → (Tables → Tables)
+    → Held S → Held S → Result (Unit {0}) Error → Type 0
+Changes store f old new result =
+    HasCleanDisk (state store new) → IsTrue old.in_transaction
+    → OnOk result (Makes f (state store old) (state store new))
+
+-- ---- a whole transaction
+
+-- the database is as the last commit left it
+pub record Undoes (old new : State) : Type 0 where
+  pub now : IsTrue new.is_open → new.now ≡ old.committed
+  pub committed : IsTrue new.is_open → new.committed ≡ old.committed
+
+-- the trees are those of a database whose tables have changed so
+abbrev pub Commits : (Tables → Tables) → State → Trees → Type 0
+Commits f old trees =
+    (after : Database) × (trees ≡ after.trees)
+    × ((t : Tables) → Stands old.now t → Stands after (f t))
+
+-- the trees are those of a new office, where there was no table
+abbrev pub IsCreated : State → Trees → Type 0
+IsCreated old trees =
+    (after : Database) × (trees ≡ after.trees)
+    × (IsBlank no_schema old.now → Stands after empty_tables)
+
+-- ---- a reader
+
+-- it commits nothing where the tables stand
+abbrev pub Nothing : State → Trees → Type 0
+Nothing old trees = (t : Tables) → Stands old.now t → ⊥
+
+-- it leaves the database as it is, or where it failed as the last commit left it
+pub record Keeps (old new : State) : Type 0 where
+  pub was_open : IsTrue new.is_open → IsTrue old.is_open
+  pub now : IsTrue new.is_open → (new.now ≡ old.now) ⊎ (new.now ≡ old.committed)
+  pub committed : IsTrue new.is_open → new.committed ≡ old.committed
+  pub mode : old.in_transaction ≡ false → new.in_transaction ≡ false
+
+-- the same of a connection: on a clean disk, where the tables stand, what is answered is so
+abbrev pub Reads : {S X : Type 0} → Ghosts S → (Tables → X → Type 0)
+    → Held S → Held S → Result X Error → Type 0
+Reads store is old new result =
+    HasCleanDisk (state store new) → (t : Tables) → Stands (state store old).now t
+    → IfOk result (is t)
+
+-- and an Ok leaves everything as it was
+abbrev pub LeavesAll : {S X : Type 0} → Ghosts S → Held S → Held S → Result X Error → Type 0
+LeavesAll store old new result =
+    HasCleanDisk (state store new) → (t : Tables) → Stands (state store old).now t
+    → OnOk result (IsUnchanged (state store old) (state store new))
+
+-- and an Err does but for what was not committed
+abbrev pub LeavesCommitted : {S : Type 0} → Ghosts S → Held S → Held S → Type 0
+LeavesCommitted store old new =
+    HasCleanDisk (state store new) → (t : Tables) → Stands (state store old).now t
+    → Keeps (state store old) (state store new)

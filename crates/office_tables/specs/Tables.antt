@@ -1,0 +1,137 @@
+-- What the tables hold, as typed rows in no order.
+use Rattle.std.specs.Prelude.{◌≡◌, ◌≢◌, ℕ, pos, Bool, false, if◌then◌else◌, List, [], ◌∷◌, map, drop, IsTrue, IsPermutation}
+use Rattle.std.specs.List.{AllByRecursion}
+use Rattle.sqlite_value.specs.declared.value.Value.{Value}
+use Rattle.sqlite_value.specs.declared.value.Value.TheVariants.{Int, Blob}
+use Rattle.sqlite_value.specs.Order.{Row, column}
+use Rattle.sqlite_trees.specs.Tree.{rowid, IsAscending}
+use Rattle.sqlite_trees.specs.View.{is_int}
+use Rattle.sqlite.specs.Effect.{Database}
+use Rattle.office_tables.specs.declared.rows.OwnerRow.{OwnerRow}
+use Rattle.office_tables.specs.declared.rows.EnrolRow.{EnrolRow}
+use Rattle.office_tables.specs.declared.rows.DraftRow.{DraftRow}
+use Rattle.office_tables.specs.declared.rows.SlotRow.{SlotRow}
+use Rattle.office_tables.specs.declared.rows.PlacedRow.{PlacedRow}
+use Rattle.office_tables.specs.declared.rows.SeatRow.{SeatRow}
+use Rattle.office_tables.specs.declared.rows.StudentShareRow.{StudentShareRow}
+use Rattle.office_tables.specs.declared.rows.PartShareRow.{PartShareRow}
+use Rattle.office_tables.specs.Schema.{office_schema}
+
+-- ---- typed rows
+
+-- the one row about the office; the instance is a canonical text, or empty before a load
+pub record Meta : Type 0 where
+  pub published : Bool
+  pub instance : List ℕ
+
+-- a batch that was accepted, with its answer
+pub record Batch : Type 0 where
+  pub no : ℕ
+  pub bytes : List ℕ
+  pub added : ℕ
+  pub dropped : ℕ
+  pub unchanged : ℕ
+
+pub record Tables : Type 0 where
+  pub meta : List Meta
+  pub owner : List OwnerRow
+  pub enrol : List EnrolRow
+  pub draft : List DraftRow
+  pub slot : List SlotRow
+  pub placed : List PlacedRow
+  pub seat : List SeatRow
+  pub share_student : List StudentShareRow
+  pub share_part : List PartShareRow
+  pub batch : List Batch
+
+-- ---- their columns
+
+abbrev pub flag : Bool → ℕ
+flag b = if b then 1 else 0
+
+abbrev pub meta_row : Meta → Row
+meta_row r = Int (pos 0) ∷ Int (pos 1) ∷ Int (pos (flag r.published)) ∷ Blob r.instance ∷ []
+
+abbrev pub owner_row : OwnerRow → Row
+owner_row r = Int (pos r.exam) ∷ Int (pos r.dept) ∷ []
+
+abbrev pub enrol_row : EnrolRow → Row
+enrol_row r = Int (pos r.student) ∷ Int (pos r.exam) ∷ []
+
+abbrev pub draft_row : DraftRow → Row
+draft_row r =
+    Int (pos r.no) ∷ Int (pos r.in_row) ∷ Int (pos r.in_day) ∷ Int (pos r.spread) ∷
+    Int (pos r.mixed) ∷ Int (pos r.front) ∷ Int (pos r.period) ∷ Int (pos r.room) ∷ []
+
+abbrev pub slot_row : SlotRow → Row
+slot_row r = Int (pos r.draft) ∷ Int (pos r.exam) ∷ Int (pos r.period) ∷ Int (pos r.room) ∷ []
+
+abbrev pub placed_row : PlacedRow → Row
+placed_row r = Int (pos r.exam) ∷ Int (pos r.period) ∷ Int (pos r.room) ∷ []
+
+abbrev pub seat_row : SeatRow → Row
+seat_row r =
+    Int (pos r.student) ∷ Int (pos r.exam) ∷ Int (pos r.period) ∷ Int (pos r.room) ∷
+    Int (pos r.seat) ∷ []
+
+abbrev pub share_student_row : StudentShareRow → Row
+share_student_row r =
+    Int (pos r.student) ∷ Int (pos r.in_row) ∷ Int (pos r.in_day) ∷ Int (pos r.spread) ∷ []
+
+abbrev pub share_part_row : PartShareRow → Row
+share_part_row r =
+    Int (pos r.kind) ∷ Int (pos r.no) ∷ Int (pos r.penalty) ∷ Int (pos r.mixed) ∷ []
+
+abbrev pub batch_row : Batch → Row
+batch_row r =
+    Int (pos r.no) ∷ Blob r.bytes ∷ Int (pos r.added) ∷ Int (pos r.dropped) ∷
+    Int (pos r.unchanged) ∷ []
+
+-- ---- stored rows
+
+-- the columns of a stored row, where its number is beside them
+abbrev pub keyless : Row → Row
+keyless row = drop 1 row
+
+-- the columns of a stored row, where its number is the first of them
+abbrev pub keyed : Row → Row
+keyed row = column row 0 ∷ drop 2 row
+
+-- the rows' numbers are integers, and none comes twice
+pub record HasRowids (stored : List Row) : Type 0 where
+  pub ints : AllByRecursion (λ r. IsTrue (is_int (rowid r))) stored
+  pub apart : IsAscending (λ a b. rowid a ≢ rowid b) stored
+
+-- the stored rows show these rows, in some order
+pub record Holds (show : Row → Row) (rows stored : List Row) : Type 0 where
+  pub rowids : HasRowids stored
+  pub same : IsPermutation (map show stored) rows
+
+-- the database has the ten tables, and they hold these rows
+pub record Stands (db : Database) (t : Tables) : Type 0 where
+  pub schema : db.schema ≡ office_schema
+  pub meta : Holds keyed (map meta_row t.meta) (db.trees 0)
+  pub owner : Holds keyed (map owner_row t.owner) (db.trees 1)
+  pub enrol : Holds keyless (map enrol_row t.enrol) (db.trees 2)
+  pub draft : Holds keyed (map draft_row t.draft) (db.trees 4)
+  pub slot : Holds keyless (map slot_row t.slot) (db.trees 5)
+  pub placed : Holds keyed (map placed_row t.placed) (db.trees 7)
+  pub seat : Holds keyless (map seat_row t.seat) (db.trees 8)
+  pub share_student : Holds keyed (map share_student_row t.share_student) (db.trees 11)
+  pub share_part : Holds keyless (map share_part_row t.share_part) (db.trees 12)
+  pub batch : Holds keyed (map batch_row t.batch) (db.trees 14)
+
+-- the tables before a load
+abbrev pub empty_tables : Tables
+empty_tables = record {
+  meta = record { published = false; instance = [] } ∷ [];
+  owner = [];
+  enrol = [];
+  draft = [];
+  slot = [];
+  placed = [];
+  seat = [];
+  share_student = [];
+  share_part = [];
+  batch = [];
+}

@@ -1,0 +1,78 @@
+// Drafts and their penalties.
+ghost use Rattle.std.specs.Prelude.{◌≡◌, ◌==◌, false, filter, IsPermutation};
+ghost use Rattle.sqlite.specs.Held.{state};
+ghost use Rattle.sqlite.specs.State.{Survives};
+ghost use Rattle.office_tables.specs.Changes.{with_draft, without_draft};
+ghost use Rattle.office_tables.specs.Tables.{draft_row};
+ghost use Rattle.sqlite.specs.Values.{bound};
+ghost use Rattle.office_tables.specs.Steps.{Changes, LeavesAll, LeavesCommitted, Nothing, Reads, Within};
+ghost use Rattle.office_tables.specs.Amounts.{AreAmounts};
+
+use crate::amounts::signed;
+use crate::records::read_all;
+use crate::rows::DraftRow;
+use sqlite::types::ValueRef;
+use sqlite::{Alter, Connection, Error, Transaction, params};
+use std::alloc::Global;
+
+/// Adds a draft.
+pub fn insert_draft<S: Alter>(tx: &mut Transaction<'_, S>, row: DraftRow) -> Result<(), Error>
+    requires amounts { AreAmounts row }
+    ensures same_reference { tx.new.conn.ghost_name ≡ tx.old.conn.ghost_name }
+    ensures makes { Changes S.Store (with_draft row) tx.old.conn.now tx.new.conn.now result }
+    ensures within { Within (state S.Store tx.old.conn.now) (state S.Store tx.new.conn.now) }
+{
+    let _count = tx.execute(
+        "INSERT INTO draft (no, in_row, in_day, spread, mixed, front, period, room) VALUES (?1, \
+         ?2, ?3, ?4, ?5, ?6, ?7, ?8)",
+        &columns_of(row),
+    )?;
+    Ok(())
+}
+
+// The columns of a draft.
+fn columns_of(row: DraftRow) -> [ValueRef<'static>; 8]
+    requires amounts { AreAmounts row }
+    ensures { bound result ≡ draft_row row }
+{
+    [
+        ValueRef::Int(i64::from(row.no)),
+        ValueRef::Int(signed(row.in_row)),
+        ValueRef::Int(signed(row.in_day)),
+        ValueRef::Int(signed(row.spread)),
+        ValueRef::Int(signed(row.mixed)),
+        ValueRef::Int(signed(row.front)),
+        ValueRef::Int(signed(row.period)),
+        ValueRef::Int(signed(row.room)),
+    ]
+}
+
+/// Takes a draft out.
+pub fn delete_draft<S: Alter>(tx: &mut Transaction<'_, S>, no: u32) -> Result<(), Error>
+    ensures same_reference { tx.new.conn.ghost_name ≡ tx.old.conn.ghost_name }
+    ensures makes { Changes S.Store (without_draft no) tx.old.conn.now tx.new.conn.now result }
+    ensures within { Within (state S.Store tx.old.conn.now) (state S.Store tx.new.conn.now) }
+{
+    let _count = tx.execute("DELETE FROM draft WHERE no = ?1", params![no])?;
+    Ok(())
+}
+
+/// A draft: one row, or none.
+pub fn drafts_of<S: Alter>(
+    alloc: Global,
+    conn: &mut Connection<S>,
+    no: u32,
+) -> Result<Vec<DraftRow>, Error>
+    ensures rows { Reads S.Store (λ t rows. IsPermutation (filter (λ r. r.no == no) t.draft) rows.items) conn.old conn.new result }
+    ensures same { LeavesAll S.Store conn.old conn.new result }
+    ensures kept { LeavesCommitted S.Store conn.old conn.new }
+    ensures mode { conn.old.in_transaction ≡ false → conn.new.in_transaction ≡ false }
+    ensures survives { Survives (state S.Store conn.old) (state S.Store conn.new) (Nothing (state S.Store conn.old)) }
+{
+    let rows = conn.query_all(
+        "SELECT no, in_row, in_day, spread, mixed, front, period, room FROM draft WHERE no = ?1 \
+         ORDER BY no",
+        params![no],
+    )?;
+    read_all(alloc, &rows)
+}

@@ -1,0 +1,53 @@
+// Who owns which exam.
+ghost use Rattle.std.specs.Prelude.{◌≡◌, ◌==◌, false, filter, IsPermutation};
+ghost use Rattle.sqlite.specs.Held.{state};
+ghost use Rattle.sqlite.specs.State.{Survives};
+ghost use Rattle.office_tables.specs.Changes.{with_owner, without_owner};
+ghost use Rattle.office_tables.specs.Steps.{Changes, LeavesAll, LeavesCommitted, Nothing, Reads, Within};
+
+use crate::records::read_all;
+use crate::rows::OwnerRow;
+use sqlite::{Alter, Connection, Error, Transaction, params};
+use std::alloc::Global;
+
+/// Adds an owner.
+pub fn insert_owner<S: Alter>(tx: &mut Transaction<'_, S>, row: OwnerRow) -> Result<(), Error>
+    ensures same_reference { tx.new.conn.ghost_name ≡ tx.old.conn.ghost_name }
+    ensures makes { Changes S.Store (with_owner row) tx.old.conn.now tx.new.conn.now result }
+    ensures within { Within (state S.Store tx.old.conn.now) (state S.Store tx.new.conn.now) }
+{
+    let _count = tx.execute(
+        "INSERT INTO owner (exam, dept) VALUES (?1, ?2)",
+        params![row.exam, row.dept],
+    )?;
+    Ok(())
+}
+
+/// Takes an exam's owner away.
+pub fn delete_owner<S: Alter>(tx: &mut Transaction<'_, S>, exam: u32) -> Result<(), Error>
+    ensures same_reference { tx.new.conn.ghost_name ≡ tx.old.conn.ghost_name }
+    ensures makes { Changes S.Store (without_owner exam) tx.old.conn.now tx.new.conn.now result }
+    ensures within { Within (state S.Store tx.old.conn.now) (state S.Store tx.new.conn.now) }
+{
+    let _count = tx.execute("DELETE FROM owner WHERE exam = ?1", params![exam])?;
+    Ok(())
+}
+
+/// An exam's owner: one row, or none.
+pub fn owners_of<S: Alter>(
+    alloc: Global,
+    conn: &mut Connection<S>,
+    exam: u32,
+) -> Result<Vec<OwnerRow>, Error>
+    ensures rows { Reads S.Store (λ t rows. IsPermutation (filter (λ r. r.exam == exam) t.owner) rows.items) conn.old conn.new result }
+    ensures same { LeavesAll S.Store conn.old conn.new result }
+    ensures kept { LeavesCommitted S.Store conn.old conn.new }
+    ensures mode { conn.old.in_transaction ≡ false → conn.new.in_transaction ≡ false }
+    ensures survives { Survives (state S.Store conn.old) (state S.Store conn.new) (Nothing (state S.Store conn.old)) }
+{
+    let rows = conn.query_all(
+        "SELECT exam, dept FROM owner WHERE exam = ?1 ORDER BY exam",
+        params![exam],
+    )?;
+    read_all(alloc, &rows)
+}

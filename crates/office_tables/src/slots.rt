@@ -1,0 +1,82 @@
+// Where exams stand in drafts.
+ghost use Rattle.std.specs.Prelude.{◌≡◌, ◌==◌, false, filter, IsPermutation};
+ghost use Rattle.sqlite.specs.Held.{state};
+ghost use Rattle.sqlite.specs.State.{Survives};
+ghost use Rattle.office_tables.specs.Changes.{with_slot, with_slots, without_slot, without_slots};
+ghost use Rattle.office_tables.specs.Steps.{Changes, LeavesAll, LeavesCommitted, Nothing, Reads, Within};
+
+use crate::records::read_all;
+use crate::rows::SlotRow;
+use sqlite::{Alter, Connection, Error, Transaction, params};
+use std::alloc::Global;
+
+/// Adds a placement.
+pub fn insert_slot<S: Alter>(tx: &mut Transaction<'_, S>, row: SlotRow) -> Result<(), Error>
+    ensures same_reference { tx.new.conn.ghost_name ≡ tx.old.conn.ghost_name }
+    ensures makes { Changes S.Store (with_slot row) tx.old.conn.now tx.new.conn.now result }
+    ensures within { Within (state S.Store tx.old.conn.now) (state S.Store tx.new.conn.now) }
+{
+    let _count = tx.execute(
+        "INSERT INTO slot (draft, exam, period, room) VALUES (?1, ?2, ?3, ?4)",
+        params![row.draft, row.exam, row.period, row.room],
+    )?;
+    Ok(())
+}
+
+/// Adds each placement.
+pub fn insert_slots<S: Alter>(tx: &mut Transaction<'_, S>, rows: &[SlotRow]) -> Result<(), Error>
+    ensures same_reference { tx.new.conn.ghost_name ≡ tx.old.conn.ghost_name }
+    ensures makes { Changes S.Store (with_slots rows.now) tx.old.conn.now tx.new.conn.now result }
+    ensures within { Within (state S.Store tx.old.conn.now) (state S.Store tx.new.conn.now) }
+{
+    for row in rows {
+        insert_slot(tx, *row)?;
+    }
+    Ok(())
+}
+
+/// Takes all placements of a draft out.
+pub fn delete_slots<S: Alter>(tx: &mut Transaction<'_, S>, draft: u32) -> Result<(), Error>
+    ensures same_reference { tx.new.conn.ghost_name ≡ tx.old.conn.ghost_name }
+    ensures makes { Changes S.Store (without_slots draft) tx.old.conn.now tx.new.conn.now result }
+    ensures within { Within (state S.Store tx.old.conn.now) (state S.Store tx.new.conn.now) }
+{
+    let _count = tx.execute("DELETE FROM slot WHERE draft = ?1", params![draft])?;
+    Ok(())
+}
+
+/// Takes an exam's placement in a draft out.
+pub fn delete_slot<S: Alter>(
+    tx: &mut Transaction<'_, S>,
+    draft: u32,
+    exam: u32,
+) -> Result<(), Error>
+    ensures same_reference { tx.new.conn.ghost_name ≡ tx.old.conn.ghost_name }
+    ensures makes { Changes S.Store (without_slot draft exam) tx.old.conn.now tx.new.conn.now result }
+    ensures within { Within (state S.Store tx.old.conn.now) (state S.Store tx.new.conn.now) }
+{
+    let _count = tx.execute(
+        "DELETE FROM slot WHERE draft = ?1 AND exam = ?2",
+        params![draft, exam],
+    )?;
+    Ok(())
+}
+
+/// A draft's placements, by exam.
+pub fn slots_of<S: Alter>(
+    alloc: Global,
+    conn: &mut Connection<S>,
+    draft: u32,
+) -> Result<Vec<SlotRow>, Error>
+    ensures rows { Reads S.Store (λ t rows. IsPermutation (filter (λ r. r.draft == draft) t.slot) rows.items) conn.old conn.new result }
+    ensures same { LeavesAll S.Store conn.old conn.new result }
+    ensures kept { LeavesCommitted S.Store conn.old conn.new }
+    ensures mode { conn.old.in_transaction ≡ false → conn.new.in_transaction ≡ false }
+    ensures survives { Survives (state S.Store conn.old) (state S.Store conn.new) (Nothing (state S.Store conn.old)) }
+{
+    let rows = conn.query_all(
+        "SELECT draft, exam, period, room FROM slot WHERE draft = ?1 ORDER BY exam",
+        params![draft],
+    )?;
+    read_all(alloc, &rows)
+}
