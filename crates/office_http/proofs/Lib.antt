@@ -1,16 +1,8 @@
-pub mod DigitLemmas
-pub mod NameLemmas
-pub mod FieldLemmas
-pub mod HeadLemmas
-pub mod HeadEndLemmas
-pub mod MoreLemmas
-pub mod ServeLemmas
-pub mod OneReading
 pub mod Plain
 pub mod SeekLemmas
 pub mod FindLemmas
 pub mod AddLemmas
-pub mod PageLemmas
 pub mod OnePageLemmas
+pub mod PageLemmas
 pub mod PathLemmas
 pub mod BodyLemmas

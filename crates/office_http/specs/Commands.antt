@@ -6,7 +6,7 @@ use Rattle.office_desk.specs.declared.command.Command.{Command}
 use Rattle.office_desk.specs.declared.command.Command.TheVariants as command
 use Rattle.office_http.specs.Bodies.{text_body, place_body, dept_body}
 use Rattle.office_http.specs.declared.methods.Verb.{Verb}
-use Rattle.office_http.specs.declared.methods.Verb.TheVariants.{Get, Put, Post, Delete, Head, Other}
+use Rattle.office_http.specs.declared.methods.Verb.TheVariants.{Get, Put, Post, Delete, Other}
 use Rattle.office_http.specs.declared.resources.Resource.{Resource}
 use Rattle.office_http.specs.declared.resources.Resource.TheVariants as resource
 
@@ -49,5 +49,4 @@ command_of Get r body = gets r
 command_of Put r body = puts r body
 command_of Post r body = posts r body.now
 command_of Delete r body = deletes r
-command_of Head r body = None
 command_of Other r body = None

@@ -1,11 +1,3 @@
-pub mod Names
-pub mod Fields
-pub mod Framing
-pub mod Form
-pub mod Reply
-pub mod Stream
-pub mod Serve
-pub mod Heads
 pub mod Patterns
 pub mod Pages
 pub mod Table
@@ -14,5 +6,5 @@ pub mod Resources
 pub mod Methods
 pub mod Bodies
 pub mod Commands
-pub mod Requests
 pub mod Texts
+pub mod Requests

@@ -1,7 +1,7 @@
 -- Methods, and those that each page has.
 use Rattle.std.specs.Prelude.{ℕ, List, codes, bytes_eq, if◌then◌else◌}
 use Rattle.office_http.specs.declared.methods.Verb.{Verb}
-use Rattle.office_http.specs.declared.methods.Verb.TheVariants.{Get, Put, Post, Delete, Head, Other}
+use Rattle.office_http.specs.declared.methods.Verb.TheVariants.{Get, Put, Post, Delete, Other}
 use Rattle.office_http.specs.declared.pages.Page.{Page}
 use Rattle.office_http.specs.declared.pages.Page.TheVariants as page
 
@@ -11,8 +11,7 @@ verb_of name =
     if bytes_eq name (codes "GET") then Get
     else (if bytes_eq name (codes "PUT") then Put
     else (if bytes_eq name (codes "POST") then Post
-    else (if bytes_eq name (codes "DELETE") then Delete
-    else (if bytes_eq name (codes "HEAD") then Head else Other))))
+    else (if bytes_eq name (codes "DELETE") then Delete else Other)))
 
 -- the methods of a page, in the order GET, PUT, POST, DELETE
 abbrev pub allow_of : Page → List ℕ

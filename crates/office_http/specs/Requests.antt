@@ -1,5 +1,5 @@
 -- What a request asks for, or the refusal that looks at nothing stored.
-use Rattle.std.specs.Prelude.{◌≡◌, ℕ, List, Option, Some, None, option_and_then}
+use Rattle.std.specs.Prelude.{◌≡◌, ℕ, List, Option, Some, None, option_and_then, codes}
 use Rattle.std.specs.Borrow.{Bor}
 use Rattle.std.specs.Prelude.{Result, Ok, Err}
 use Rattle.exam_model.specs.Refusing.{◌>>=◌, else_err}
@@ -10,14 +10,18 @@ use Rattle.office_desk.specs.declared.command.Command.{Command}
 use Rattle.office_desk.specs.declared.command.Command.TheVariants as command
 use Rattle.office_http.specs.Pages.{page_of}
 use Rattle.office_http.specs.Resources.{resource_at, resource_of}
-use Rattle.office_http.specs.Methods.{verb_of}
+use Rattle.office_http.specs.Methods.{verb_of, allow_of}
 use Rattle.office_http.specs.Commands.{command_of}
 use Rattle.office_http.specs.declared.methods.Verb.{Verb}
 use Rattle.office_http.specs.declared.methods.Verb.TheVariants.{Get}
 use Rattle.office_http.specs.declared.resources.Resource.{Resource}
 use Rattle.office_http.specs.declared.resources.Resource.TheVariants as resource
 use Rattle.office_desk.specs.declared.policy.Denial.TheVariants.{P1}
-use Rattle.office_http.specs.declared.texts.FixedError.{FixedError}
+use Rattle.office_http.specs.Texts.{error_reply}
+use Rattle.office_http.specs.declared.pages.Page.{Page}
+use Rattle.office_messages.specs.Reply.{PlainReply, unavailable}
+use Rattle.office_messages.specs.declared.replies.Content.TheVariants.{Json}
+use Rattle.office_messages.specs.declared.statuses.Status.TheVariants.{MethodNotAllowed}
 use Rattle.office_http.specs.declared.texts.FixedError.TheVariants as error
 use Rattle.office_http.specs.declared.requests.Asked.{Asked}
 use Rattle.office_http.specs.declared.requests.Refusal.{Refusal}
@@ -72,10 +76,19 @@ Gives said (Err refusal.Candidate) = said ≡ Err refusal.Candidate
 Gives said (Err refusal.Path) = said ≡ Err refusal.Path
 Gives said (Err (refusal.Method page)) = said ≡ Err (refusal.Method page)
 
--- what the reply to a refusal says
-abbrev pub error_of : Refusal → FixedError
-error_of refusal.Caller = error.Caller
-error_of refusal.Candidate = error.Denied P1
-error_of refusal.Path = error.Path
-error_of (refusal.Method page) = error.Method
-error_of refusal.NoMemory = error.Unavailable
+-- the reply where the page hasn't the method
+abbrev pub not_allowed : Page → PlainReply
+not_allowed page = record {
+  status = MethodNotAllowed;
+  allow = Some (allow_of page);
+  content = Json;
+  body = codes "{\"error\":\"method\"}";
+}
+
+-- the reply to a refusal
+abbrev pub refusal_reply : Refusal → PlainReply
+refusal_reply refusal.Caller = error_reply error.Caller
+refusal_reply refusal.Candidate = error_reply (error.Denied P1)
+refusal_reply refusal.Path = error_reply error.Path
+refusal_reply (refusal.Method page) = not_allowed page
+refusal_reply refusal.NoMemory = unavailable

@@ -1,39 +1,14 @@
--- Texts of replies that are always the same, byte for byte.
+-- The refusals whose texts are always the same, byte for byte.
 use Rattle.std.specs.Prelude.{ℕ, List, ◌++◌, codes}
 use Rattle.office_desk.specs.declared.policy.Denial.{Denial}
 use Rattle.office_desk.specs.declared.policy.Denial.TheVariants.{P1, P2, P3, P4}
-use Rattle.office_http.specs.declared.texts.Status.{Status}
-use Rattle.office_http.specs.declared.texts.Status.TheVariants as status
+use Rattle.office_messages.specs.Reply.{PlainReply, json_reply}
+use Rattle.office_messages.specs.declared.statuses.Status.{Status}
+use Rattle.office_messages.specs.declared.statuses.Status.TheVariants as status
 use Rattle.office_http.specs.declared.texts.FixedError.{FixedError}
 use Rattle.office_http.specs.declared.texts.FixedError.TheVariants as error
 
-abbrev pub code_of : Status → ℕ
-code_of status.Done = 200
-code_of status.Created = 201
-code_of status.BadRequest = 400
-code_of status.Forbidden = 403
-code_of status.NotFound = 404
-code_of status.MethodNotAllowed = 405
-code_of status.Conflict = 409
-code_of status.PayloadTooLarge = 413
-code_of status.NotImplemented = 501
-code_of status.ServiceUnavailable = 503
-
--- the first line of a reply
-abbrev pub status_line : Status → List ℕ
-status_line status.Done = codes "HTTP/1.1 200 OK\r\n"
-status_line status.Created = codes "HTTP/1.1 201 Created\r\n"
-status_line status.BadRequest = codes "HTTP/1.1 400 Bad Request\r\n"
-status_line status.Forbidden = codes "HTTP/1.1 403 Forbidden\r\n"
-status_line status.NotFound = codes "HTTP/1.1 404 Not Found\r\n"
-status_line status.MethodNotAllowed = codes "HTTP/1.1 405 Method Not Allowed\r\n"
-status_line status.Conflict = codes "HTTP/1.1 409 Conflict\r\n"
-status_line status.PayloadTooLarge = codes "HTTP/1.1 413 Payload Too Large\r\n"
-status_line status.NotImplemented = codes "HTTP/1.1 501 Not Implemented\r\n"
-status_line status.ServiceUnavailable = codes "HTTP/1.1 503 Service Unavailable\r\n"
-
 abbrev pub status_of : FixedError → Status
-status_of error.Request = status.BadRequest
 status_of error.Caller = status.BadRequest
 status_of error.Body = status.BadRequest
 status_of (error.Denied rule) = status.Forbidden
@@ -51,9 +26,6 @@ status_of error.TooMany = status.Conflict
 status_of error.AlreadyPlaced = status.Conflict
 status_of error.NotPlaced = status.Conflict
 status_of error.SameExam = status.Conflict
-status_of error.Length = status.PayloadTooLarge
-status_of error.Transfer = status.NotImplemented
-status_of error.Unavailable = status.ServiceUnavailable
 
 -- the name of a denial
 abbrev pub rule_text : Denial → List ℕ
@@ -64,7 +36,6 @@ rule_text P4 = codes "P4"
 
 -- the body of the reply
 abbrev pub error_text : FixedError → List ℕ
-error_text error.Request = codes "{\"error\":\"request\"}"
 error_text error.Caller = codes "{\"error\":\"caller\"}"
 error_text error.Body = codes "{\"error\":\"body\"}"
 error_text (error.Denied rule) =
@@ -83,6 +54,6 @@ error_text error.TooMany = codes "{\"error\":\"too-many\"}"
 error_text error.AlreadyPlaced = codes "{\"error\":\"already-placed\"}"
 error_text error.NotPlaced = codes "{\"error\":\"not-placed\"}"
 error_text error.SameExam = codes "{\"error\":\"same-exam\"}"
-error_text error.Length = codes "{\"error\":\"length\"}"
-error_text error.Transfer = codes "{\"error\":\"transfer\"}"
-error_text error.Unavailable = codes "{\"error\":\"unavailable\"}"
+
+abbrev pub error_reply : FixedError → PlainReply
+error_reply e = json_reply (status_of e) (error_text e)

@@ -9,7 +9,7 @@ use office_desk::{Body, Command};
 use std::alloc::{AllocError, Global};
 
 /// The command of a method on a resource, or none where the resource hasn't that method.
-pub fn command_of<'a>(
+pub(crate) fn command_of<'a>(
     alloc: Global,
     verb: Verb,
     resource: Resource,
@@ -22,7 +22,7 @@ pub fn command_of<'a>(
         Verb::Put => puts(alloc, resource, body),
         Verb::Post => posts(alloc, resource, body),
         Verb::Delete => Ok(deletes(resource)),
-        Verb::Head | Verb::Other => Ok(None),
+        Verb::Other => Ok(None),
     }
 }
 

@@ -1,44 +1,26 @@
-//! The office's front: the messages of a connection, what they ask for, and their replies.
+//! What the messages of a connection ask the office for.
 #![tactic(auto)]
 
-mod allow_field;
 mod bodies;
 mod commands;
-mod connection;
-mod fields;
-mod first;
-mod form;
-mod framing;
-mod head;
-mod head_end;
-mod laws;
-mod look;
 mod methods;
-mod names;
 mod pages;
 mod paths;
-mod replies;
-mod request;
 mod requests;
 mod resources;
 mod routes;
 mod texts;
 
-pub use allow_field::Allow;
 pub use bodies::{dept_body, place_body, text_body};
-pub use commands::command_of;
-pub use connection::{End, MAX_MESSAGES, Machine, ServeFault, Served, serve};
-pub use form::Form;
-pub use framing::Fault;
-pub use laws::one_reading;
-pub use methods::{Verb, allow};
+pub use methods::allow;
+pub use office_messages::{
+    Allow, Content, End, Fault, Machine, Payload, Reply, Request, ServeFault, Served, Status,
+    fault_reply, fixed_reply, serve, unavailable,
+};
 pub use pages::Page;
-pub use replies::{Content, Payload, Reply, fault_reply, unavailable};
-pub use request::Request;
 pub use requests::{Asked, Refusal, read_request};
-pub use resources::{Resource, resource_at};
 pub use routes::{Routes, one_page};
-pub use texts::{FixedError, Status};
+pub use texts::FixedError;
 
 #[cfg(test)]
 mod request_tests;

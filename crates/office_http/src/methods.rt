@@ -1,24 +1,22 @@
 // Methods, and those that each page has.
-ghost use Rattle.std.specs.Prelude.{◌≡◌};
+ghost use Rattle.std.specs.Prelude.{◌≡◌, ◌≤◌, length};
 ghost use Rattle.office_http.specs.Methods.{verb_of, allow_of};
 
 use crate::pages::Page;
 use http::Method;
 
-/// What a method asks for. Methods are taken as they stand: `get` is none of these.
-#[derive(Clone, Copy, Debug, PartialEq, Eq)]
-pub enum Verb {
+/// What a method asks for. Methods are taken as they stand: `get` is none of the four.
+#[derive(Clone, Copy)]
+pub(crate) enum Verb {
     Get,
     Put,
     Post,
     Delete,
-    /// No page has it, but a reply to it has no body.
-    Head,
     Other,
 }
 
 impl Verb {
-    pub fn read(method: &str) -> Verb
+    pub(crate) fn read(method: &str) -> Verb
         ensures { result ≡ verb_of method.now }
     {
         if method == Method::GET.as_str() {
@@ -29,8 +27,6 @@ impl Verb {
             Verb::Post
         } else if method == Method::DELETE.as_str() {
             Verb::Delete
-        } else if method == Method::HEAD.as_str() {
-            Verb::Head
         } else {
             Verb::Other
         }
@@ -39,7 +35,8 @@ impl Verb {
 
 /// The methods of a page, as the field `Allow` lists them.
 pub fn allow(page: Page) -> &'static str
-    ensures { result.now ≡ allow_of page }
+    ensures methods { result.now ≡ allow_of page }
+    ensures short { length result.now ≤ 22 }
 {
     match page {
         Page::Instance => "GET, PUT",

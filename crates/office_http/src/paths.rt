@@ -8,7 +8,7 @@ const SLASH: u8 = b'/';
 
 /// The number that a segment of the path is; segments are counted from 0, and before the path's
 /// first slash there is an empty one.
-pub fn number_in(path: &[u8], place: u32) -> Option<u32>
+pub(crate) fn number_in(path: &[u8], place: u32) -> Option<u32>
     ensures { result ≡ number_in place path.now }
 {
     read_number(segment(path, place))

@@ -199,28 +199,26 @@ fn bodies_that_are_too_long(rt: HostRuntime) -> Result<(), Fail> {
 fn fixed_texts(rt: HostRuntime) {
     let cases = [
         (
-            FixedError::Request,
+            fault_reply(Fault::Head),
             b"{\"error\":\"request\"}".as_slice(),
             400,
         ),
         (
-            FixedError::Denied(Denial::P1),
+            FixedError::Denied(Denial::P1).reply(),
             b"{\"error\":\"forbidden\",\"rule\":\"P1\"}",
             403,
         ),
-        (FixedError::Path, b"{\"error\":\"path\"}", 404),
-        (FixedError::Method, b"{\"error\":\"method\"}", 405),
-        (FixedError::TooMany, b"{\"error\":\"too-many\"}", 409),
-        (FixedError::Length, b"{\"error\":\"length\"}", 413),
-        (FixedError::Transfer, b"{\"error\":\"transfer\"}", 501),
-        (FixedError::Unavailable, b"{\"error\":\"unavailable\"}", 503),
+        (FixedError::Path.reply(), b"{\"error\":\"path\"}", 404),
+        (FixedError::Method.reply(), b"{\"error\":\"method\"}", 405),
+        (FixedError::TooMany.reply(), b"{\"error\":\"too-many\"}", 409),
+        (fault_reply(Fault::TooLong), b"{\"error\":\"length\"}", 413),
+        (fault_reply(Fault::Transfer), b"{\"error\":\"transfer\"}", 501),
+        (unavailable(), b"{\"error\":\"unavailable\"}", 503),
     ];
-    for (error, text, code) in cases {
-        assert_eq!(rt; error.body(), text);
-        assert_eq!(rt; error.status().code().as_u16(), code);
+    for (reply, text, code) in cases {
+        assert_eq!(rt; reply.body.bytes(), text);
+        assert_eq!(rt; reply.status.code().as_u16(), code);
     }
-    let line = Status::MethodNotAllowed.line();
-    assert_eq!(rt; line, b"HTTP/1.1 405 Method Not Allowed\r\n".as_slice());
     assert_eq!(rt; allow(Page::Publication), "GET");
     assert_eq!(rt; allow(Page::Draft), "GET, PUT, DELETE");
 }

@@ -1,19 +1,20 @@
 // Reading a request, as far as nothing that is stored is looked at.
 ghost use Rattle.std.specs.Prelude.{◌≡◌, option_copied};
+ghost use Rattle.office_messages.specs.Reply.{plain_reply};
 ghost use Rattle.office_http.specs.Methods.{verb_of};
 ghost use Rattle.office_http.specs.Resources.{resource_of};
 ghost use Rattle.office_http.specs.Requests.{caller_in, her_page, her_command};
 ghost use Rattle.office_http.specs.Requests.{candidate_command, staff_command, asked_by};
-ghost use Rattle.office_http.specs.Requests.{reading, Gives, error_of};
+ghost use Rattle.office_http.specs.Requests.{reading, Gives, not_allowed, refusal_reply};
 
 use crate::commands::command_of;
-use crate::methods::Verb;
+use crate::methods::{Verb, allow};
 use crate::pages::Page;
-use crate::request::Request;
 use crate::resources::{Resource, resource_at};
 use crate::routes::Routes;
 use crate::texts::FixedError;
 use office_desk::{Caller, Command, Denial};
+use office_messages::{Allow, Reply, Request, unavailable};
 use std::alloc::Global;
 
 /// Who asks, and for what.
@@ -39,17 +40,28 @@ pub enum Refusal {
 }
 
 impl Refusal {
-    /// What the reply to it says.
-    pub fn error(self) -> FixedError
-        ensures { result ≡ error_of self }
+    /// The reply to it. It takes no memory.
+    pub fn reply(self) -> Reply
+        ensures { plain_reply result ≡ refusal_reply self }
     {
         match self {
-            Refusal::Caller => FixedError::Caller,
-            Refusal::Candidate => FixedError::Denied(Denial::P1),
-            Refusal::Path => FixedError::Path,
-            Refusal::Method(_) => FixedError::Method,
-            Refusal::NoMemory => FixedError::Unavailable,
+            Refusal::Caller => FixedError::Caller.reply(),
+            Refusal::Candidate => FixedError::Denied(Denial::P1).reply(),
+            Refusal::Path => FixedError::Path.reply(),
+            Refusal::Method(page) => not_allowed(page),
+            Refusal::NoMemory => unavailable(),
         }
+    }
+}
+
+// The reply where the page hasn't the method: it lists those that it has.
+fn not_allowed(page: Page) -> Reply
+    ensures { plain_reply result ≡ not_allowed page }
+{
+    let methods = allow(page);
+    Reply {
+        allow: Some(Allow { methods }),
+        ..FixedError::Method.reply()
     }
 }
 

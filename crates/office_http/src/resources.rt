@@ -9,8 +9,8 @@ use exam_model::ExamNo;
 
 /// What a path stands for: its page, with the numbers in it. Drafts and batches go by plain
 /// numbers, and nothing needs to exist.
-#[derive(Clone, Copy, Debug, PartialEq, Eq)]
-pub enum Resource {
+#[derive(Clone, Copy)]
+pub(crate) enum Resource {
     Me,
     MyExam(ExamNo),
     MyPenalty,
@@ -33,7 +33,7 @@ pub enum Resource {
 }
 
 /// What a path of this page stands for; nothing where a number in it isn't one to nine digits.
-pub fn resource_at(page: Page, path: &[u8]) -> Option<Resource>
+pub(crate) fn resource_at(page: Page, path: &[u8]) -> Option<Resource>
     ensures { result ≡ resource_at page path.now }
 {
     match page {

@@ -2,9 +2,9 @@
 ghost use Rattle.std.specs.Prelude.{⊤};
 
 use crate::{
-    Allow, Content, Machine, Payload, Reply, Request, ServeFault, Served, serve, unavailable,
+    Allow, Content, Machine, Payload, Reply, Request, ServeFault, Served, Status, serve,
+    unavailable,
 };
-use http::StatusCode;
 use std::alloc::Global;
 use std::io;
 use std::io::{ErrorKind, Read, Write};
@@ -18,7 +18,7 @@ pub(super) struct Board {
     pub answered: u32,
 }
 
-fn json(status: StatusCode, allow: Option<Allow>, body: &'static [u8]) -> Reply {
+fn json(status: Status, allow: Option<Allow>, body: &'static [u8]) -> Reply {
     Reply {
         status,
         allow,
@@ -31,7 +31,7 @@ fn json(status: StatusCode, allow: Option<Allow>, body: &'static [u8]) -> Reply 
 fn echo(alloc: Global, body: &[u8]) -> Reply {
     match Vec::from_slice(alloc, body) {
         Ok(body) => Reply {
-            status: StatusCode::OK,
+            status: Status::Done,
             allow: None,
             content: Content::Text,
             body: Payload::Made(body),
@@ -46,17 +46,17 @@ impl Machine for Board {
     fn answer(&mut self, alloc: Global, request: &Request<'_>) -> Reply {
         self.answered = self.answered.saturating_add(1);
         if request.caller.is_none() {
-            return json(StatusCode::BAD_REQUEST, None, b"{\"error\":\"caller\"}");
+            return json(Status::BadRequest, None, b"{\"error\":\"caller\"}");
         }
         if request.target == "/echo" {
             return echo(alloc, request.body);
         }
         if request.target == "/me" && request.method == "GET" {
-            return json(StatusCode::OK, None, NO_EXAMS);
+            return json(Status::Done, None, NO_EXAMS);
         }
         let allow = Some(Allow { methods: "GET" });
         json(
-            StatusCode::METHOD_NOT_ALLOWED,
+            Status::MethodNotAllowed,
             allow,
             b"{\"error\":\"method\"}",
         )

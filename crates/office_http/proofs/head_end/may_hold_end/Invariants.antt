@@ -1,6 +1,0 @@
-use Rattle.std.proofs.Common.{◌≡◌, ℕ, ◌<◌, ◌≤◌, take, false}
-use Rattle.office_http.specs.Heads.{ends_as_head}
-use Rattle.office_http.proofs.head_end.may_hold_end.Given as goal
-
-abbrev pub invariant-loop-last : goal.invariant-loop-last
-invariant-loop-last l = (n : ℕ) → l.searched < n → n ≤ l.last → ends_as_head (take n l.bytes) ≡ false

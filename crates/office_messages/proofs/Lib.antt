@@ -1,0 +1,9 @@
+pub mod StatusLemmas
+pub mod DigitLemmas
+pub mod NameLemmas
+pub mod FieldLemmas
+pub mod HeadLemmas
+pub mod HeadEndLemmas
+pub mod MoreLemmas
+pub mod ServeLemmas
+pub mod OneReading

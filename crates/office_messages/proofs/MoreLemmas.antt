@@ -1,0 +1,56 @@
+-- What the bytes that have come begin with stays whatever follows.
+use Rattle.std.proofs.Common.{◌≡◌, ℕ, ◌+◌, ◌<◌, ◌≤◌, Bool, List, [], ◌∷◌, ◌++◌, length, take, drop, refl, sym, ap, ◌∙◌, append_assoc, arith, length-append, take-append-drop, inl, inr, ◌⊎◌}
+use Rattle.std.proofs.lemmas.List.{take-append-le, drop-append-le}
+use Rattle.std.proofs.Math.Seq.{take-append_seam}
+use Rattle.httparse.specs.Grammar.{RequestHead, print_request}
+use Rattle.office_messages.specs.declared.framing.Fault.{Fault}
+use Rattle.office_messages.specs.declared.form.Form.{Form}
+use Rattle.office_messages.specs.Stream.{HasHead, LacksHead, HeadFault, FramingFault, FaultAt, PlainRequest, RequestAt, request_of}
+use Rattle.office_messages.proofs.HeadLemmas.{reads_more}
+
+pub head_more : (s : List ℕ) (h : RequestHead) (rest more : List ℕ) → HasHead s h rest → HasHead (s ++ more) h (rest ++ more)
+head_more s h rest more x = record { reads = reads_more s h rest more x.reads; room = x.room; fits = x.fits }
+
+pub request_more : (r : PlainRequest) (last : Bool) (s rest more : List ℕ) → RequestAt r last s rest → RequestAt r last (s ++ more) (rest ++ more)
+request_more r last s rest more x =
+    record {
+      head = x.head;
+      after = x.after ++ more;
+      has_head = head_more s x.head x.after more x.has_head;
+      size = x.size;
+      framed = x.framed;
+      whole = omega (arith, x.whole, length-append x.after more);
+      request = x.request ∙ ap (request_of x.head) (sym (take-append-le x.size x.after more x.whole));
+      closing = x.closing;
+      rest_is = ap (λ l. l ++ more) x.rest_is ∙ sym (drop-append-le x.size x.after more x.whole);
+    }
+
+-- a head that fits the bytes that have come is a head of these
+lacks_more : (s more : List ℕ) → 16384 ≤ length s → LacksHead s → LacksHead (s ++ more)
+lacks_more s more long none h rest x =
+    let text = print_request h in
+    let k = length text in
+    let fits : k ≤ length s = omega (arith, x.fits, long) in
+    let front : take k s ≡ text =
+    sym (take-append-le k s more fits) ∙ ap (take k) x.reads.1 ∙ take-append_seam text rest in
+    none h (drop k s)
+    record {
+      reads = (x.reads.0, sym (take-append-drop k s) ∙ ap (λ l. l ++ drop k s) front);
+      room = x.room;
+      fits = x.fits;
+    }
+
+head_fault_more : (s more : List ℕ) → HeadFault s → HeadFault (s ++ more)
+head_fault_more s more (some, inl x) = (omega (arith, length-append s more), inl (omega (arith, x.0, length-append s more), lacks_more s more x.0 x.1))
+head_fault_more s more (some, inr x) = (omega (arith, length-append s more), inr (λ later h rest r. x (more ++ later) h rest (r.0, sym (append_assoc s more later) ∙ r.1)))
+
+pub fault_more : (f : Fault) (form : Form) (s more : List ℕ) → FaultAt f form s → FaultAt f form (s ++ more)
+fault_more f form s more (inl x) = inl (x.0, x.1, head_fault_more s more x.2)
+fault_more f form s more (inr x) =
+    inr record {
+      head = x.head;
+      after = x.after ++ more;
+      has_head = head_more s x.head x.after more x.has_head;
+      framed = x.framed;
+      form_is = x.form_is;
+    }

@@ -1,0 +1,107 @@
+-- What the code knows of a message that is coming.
+use Rattle.std.specs.Prelude.{◌≡◌, ℕ, ◌+◌, ◌-◌, ◌<◌, ◌≤◌, Bool, true, false, not, ◌&&◌, List, [], ◌∷◌, length, take, drop, Option, Some, None, Result, Ok, Err, if◌then◌else◌, nat_eq, nat_lt, option_and_then, option_copied, codes}
+use Rattle.std.specs.List.{ends_with}
+use Rattle.std.specs.Option.{option_map_or}
+use Rattle.httparse.specs.Ascii.{line_feed, crlf_bytes}
+use Rattle.httparse.specs.Grammar.{RequestHead, print_request}
+use Rattle.httparse.specs.Spans.{IsWithin, span_bytes}
+use Rattle.httparse.specs.declared.spans.Span.{Span}
+use Rattle.office_messages.specs.Fields.{Header, values_named}
+use Rattle.office_messages.specs.Form.{form_of}
+use Rattle.office_messages.specs.Framing.{framing}
+use Rattle.office_messages.specs.Stream.{PlainRequest, HasHead, LacksHead, Unfinished, FaultAt, fields_of, caller_of, closes, max_head, only}
+use Rattle.office_messages.specs.declared.fields.Seen.{Seen}
+use Rattle.office_messages.specs.declared.fields.Seen.TheVariants.{Absent, Once, Repeated}
+use Rattle.office_messages.specs.declared.framing.FramingFields.{FramingFields}
+use Rattle.office_messages.specs.declared.head.BadHead.{BadHead}
+use Rattle.office_messages.specs.declared.head.Head.{Head}
+use Rattle.office_messages.specs.declared.look.Front.{Front}
+use Rattle.office_messages.specs.declared.look.Front.TheVariants.{Whole, More, Faulty}
+use Rattle.office_messages.specs.declared.look.Stage.{Stage}
+use Rattle.office_messages.specs.declared.look.Stage.TheVariants.{Searching, Reading}
+use Rattle.office_messages.specs.declared.request.Request.{Request}
+
+-- the span lies in the bytes and covers this part of them
+pub record Covers (bytes : List ℕ) (span : Span) (part : List ℕ) : Type 0 where
+  pub within : IsWithin (length bytes) span
+  pub covered : span_bytes bytes span ≡ part
+
+-- these values, told as far as two
+abbrev pub Sees : List ℕ → List (List ℕ) → Seen → Type 0
+Sees bytes [] Absent = Unit {0}
+Sees bytes [] (Once s) = ⊥
+Sees bytes [] Repeated = ⊥
+Sees bytes (v ∷ []) Absent = ⊥
+Sees bytes (v ∷ []) (Once s) = Covers bytes s v
+Sees bytes (v ∷ []) Repeated = ⊥
+Sees bytes (v ∷ w ∷ vs) Absent = ⊥
+Sees bytes (v ∷ w ∷ vs) (Once s) = ⊥
+Sees bytes (v ∷ w ∷ vs) Repeated = Unit {0}
+
+-- the fields that frame a message were seen among these
+pub record FramedBy (bytes : List ℕ) (fields : List Header) (seen : FramingFields) : Type 0 where
+  pub hosts : Sees bytes (values_named (codes "host") fields) seen.hosts
+  pub codings : Sees bytes (values_named (codes "transfer-encoding") fields) seen.codings
+  pub lengths : Sees bytes (values_named (codes "content-length") fields) seen.lengths
+
+-- where the caller's value lies, if there is one
+abbrev pub CallerAt : List ℕ → Option Span → Option (List ℕ) → Type 0
+CallerAt bytes None None = Unit {0}
+CallerAt bytes None (Some v) = ⊥
+CallerAt bytes (Some s) None = ⊥
+CallerAt bytes (Some s) (Some v) = Covers bytes s v
+
+-- these are the parts of the head h, by where they lie in the bytes
+pub record IsHeadOf (bytes : List ℕ) (x : Head) (h : RequestHead) : Type 0 where
+  pub method : Covers bytes x.method h.method
+  pub target : Covers bytes x.target h.target
+  pub caller : CallerAt bytes x.caller (caller_of h)
+  pub closing : x.closes ≡ closes h
+  pub start : x.body.start ≡ length (print_request h)
+  pub ordered : x.body.start ≤ x.body.end
+  pub framed : framing h.minor (fields_of h) ≡ Ok (x.body.end - x.body.start)
+
+-- the bytes begin with a head of these parts
+pub record HeadAt (bytes : List ℕ) (x : Head) : Type 0 where
+  pub head : RequestHead
+  pub has_head : HasHead bytes head (drop x.body.start bytes)
+  pub parts : IsHeadOf bytes x head
+
+-- the head h is not taken, for this fault
+pub record IsBadHead (bad : BadHead) (h : RequestHead) : Type 0 where
+  pub framed : framing h.minor (fields_of h) ≡ Err bad.fault
+  pub form_is : bad.form ≡ form_of h.method
+
+-- a request without where it lies in memory
+abbrev pub plain_request : Request → PlainRequest
+plain_request r = record {
+  method = r.method.now;
+  target = r.target.now;
+  caller = option_copied r.caller;
+  body = r.body.now;
+}
+
+-- the bytes before the line end that they end with
+abbrev pub before_end : List ℕ → Option (List ℕ)
+before_end bytes =
+    if ends_with nat_eq bytes crlf_bytes then Some (take (length bytes - 2) bytes)
+    else (if ends_with nat_eq bytes (line_feed ∷ []) then Some (take (length bytes - 1) bytes) else None)
+
+-- they end within a line that isn't empty
+abbrev pub ends_in_line : List ℕ → Bool
+ends_in_line bytes = nat_lt 0 (length bytes) && not (ends_with nat_eq bytes (line_feed ∷ []))
+
+-- they end with a line that isn't empty, and an empty one, as a head does
+unfoldable pub ends_as_head : List ℕ → Bool
+ends_as_head bytes = option_map_or ends_in_line (option_and_then before_end (before_end bytes)) false
+
+-- what is known of the message at the front of the bytes, before they are looked at
+abbrev pub Knows : List ℕ → Stage → Type 0
+Knows bytes (Searching n) = (n ≤ length bytes) × (n < max_head) × LacksHead (take n bytes)
+Knows bytes (Reading x) = HeadAt bytes x
+
+-- what a look at the bytes says of them
+abbrev pub Shows : List ℕ → Front → Type 0
+Shows bytes (Whole x) = HeadAt bytes x × (x.body.end ≤ length bytes)
+Shows bytes (More stage) = Unfinished bytes × Knows bytes stage
+Shows bytes (Faulty bad) = FaultAt bad.fault bad.form bytes

@@ -1,0 +1,9 @@
+pub mod Names
+pub mod Fields
+pub mod Framing
+pub mod Form
+pub mod Statuses
+pub mod Reply
+pub mod Stream
+pub mod Serve
+pub mod Heads

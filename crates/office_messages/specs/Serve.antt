@@ -1,0 +1,88 @@
+-- What one connection does.
+use Rattle.std.specs.Prelude.{◌≡◌, ◌≢◌, ℕ, ◌+◌, ◌<◌, ◌≤◌, ◌⊎◌, true, false, List, [], ◌∷◌, ◌++◌, length, Option, IfSome}
+use Rattle.std.specs.Io.KnownBytes.{Appends}
+use Rattle.office_messages.specs.Form.{form_of}
+use Rattle.office_messages.specs.Reply.{PlainReply, fault_reply, reply_text}
+use Rattle.office_messages.specs.Stream.{PlainRequest, RequestAt, FaultAt, Unfinished}
+use Rattle.office_messages.specs.declared.form.Form.{Form}
+use Rattle.office_messages.specs.declared.form.Form.TheVariants.{Full}
+use Rattle.office_messages.specs.declared.framing.Fault.{Fault}
+use Rattle.office_messages.specs.declared.framing.Fault.TheVariants as faults
+use Rattle.office_messages.specs.declared.connection.End.{End}
+use Rattle.office_messages.specs.declared.connection.End.TheVariants.{Closed, Cut, Refused, Asked, Limit}
+use Rattle.office_messages.specs.declared.connection.Served.{Served}
+use Rattle.office_messages.specs.declared.connection.ServeFault.{ServeFault}
+use Rattle.office_messages.specs.declared.connection.ServeFault.TheVariants as serve_faults
+
+-- what a stream has: a request, or a fault whose reply has that form
+pub data Item : Type 0 where
+  asks : PlainRequest → Item
+  fails : Fault → Form → Item
+
+abbrev pub max_messages : ℕ
+max_messages = 100
+
+-- how a connection ends where no further message is answered
+abbrev pub Ends : End → ℕ → List ℕ → Type 0
+Ends Closed n stream = (n < max_messages) × (stream ≡ [])
+Ends Cut n stream = (n < max_messages) × (0 < length stream) × Unfinished stream
+Ends Refused n stream = ⊥
+Ends Asked n stream = ⊥
+Ends Limit n stream = n ≡ max_messages
+
+-- after n messages the stream has these items, and the connection ends so
+abbrev pub Messages : List Item → End → ℕ → List ℕ → Type 0
+Messages [] end n stream = Ends end n stream
+Messages (fails f form ∷ items) end n stream =
+    (n < max_messages) × FaultAt f form stream × (items ≡ []) × (end ≡ Refused)
+Messages (asks r ∷ items) end n stream =
+    (n < max_messages) × ((rest : List ℕ)
+    × ((RequestAt r true stream rest × (items ≡ []) × (end ≡ Asked))
+    ⊎ (RequestAt r false stream rest × Messages items end (n + 1) rest)))
+
+-- the stream begins with these requests, of which the last alone may end the connection
+abbrev pub Begins : List Item → ℕ → List ℕ → Type 0
+Begins [] n stream = n ≤ max_messages
+Begins (fails f form ∷ items) n stream = ⊥
+Begins (asks r ∷ items) n stream =
+    (n < max_messages) × ((rest : List ℕ)
+    × ((RequestAt r true stream rest × (items ≡ []))
+    ⊎ (RequestAt r false stream rest × Begins items (n + 1) rest)))
+
+module _ {S : Type 0} (Answers : S → PlainRequest → PlainReply → S → Type 0) where
+  -- from old the machine may answer these, with that output, and go on to new
+  abbrev pub Told : List Item → S → List ℕ → S → Type 0
+  Told [] old output new = (output ≡ []) × (new ≡ old)
+  Told (fails f form ∷ items) old output new =
+      (rest : List ℕ) × (output ≡ reply_text form (fault_reply f) ++ rest) × Told items old rest new
+  Told (asks r ∷ items) old output new =
+      (mid : S) × (reply : PlainReply) × (rest : List ℕ) × Answers old r reply mid
+      × (output ≡ reply_text (form_of r.method) reply ++ rest) × Told items mid rest new
+
+  -- a connection was served to its end
+  pub record Serves (input before after : Option (List ℕ)) (old new : S) (served : Served) : Type 0 where
+    pub items : List Item
+    pub output : List ℕ
+    pub messages : IfSome input (Messages items served.end 0)
+    pub told : Told items old output new
+    pub count : length items ≡ served.answered
+    pub written : Appends before after output
+
+  -- a front of it was served; after a fault of the writer how much went out of the last reply,
+  -- which may be to a fault of head or framing, is unknown
+  pub record ServesFront (input before after : Option (List ℕ)) (old new : S) (fault : ServeFault) : Type 0 where
+    pub items : List Item
+    pub output : List ℕ
+    pub begins : IfSome input (Begins items 0)
+    pub told : Told items old output new
+    pub written : fault ≢ serve_faults.Write → Appends before after output
+
+-- the one choice: a head that no continuation with few enough fields completes is refused, or cut
+abbrev pub Differs : List Item → End → List Item → End → Type 0
+Differs items end others last =
+    (items ≡ others ++ fails faults.Head Full ∷ []) × (end ≡ Refused) × (last ≡ Cut)
+
+-- two readings of a stream are the same, but for that choice
+abbrev pub Agree : List Item → End → List Item → End → Type 0
+Agree items end others last =
+    ((items ≡ others) × (end ≡ last)) ⊎ (Differs items end others last ⊎ Differs others last items end)

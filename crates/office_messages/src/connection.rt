@@ -1,0 +1,249 @@
+//! One connection, from its first byte to its end.
+ghost use Rattle.std.specs.Prelude.{◌≡◌, ℕ, ◌+◌, ◌≤◌, List, ◌++◌, length, drop};
+ghost use Rattle.std.specs.Prelude.{IfOk, IfErr, OnOk, vec_capacity};
+ghost use Rattle.std.specs.Io.KnownBytes.{Consumes, Appends, IsAtEnd};
+ghost use Rattle.office_messages.specs.Form.{form_of};
+ghost use Rattle.office_messages.specs.Heads.{plain_request};
+ghost use Rattle.office_messages.specs.Reply.{PlainReply, plain_reply, reply_text, sent_body};
+ghost use Rattle.office_messages.specs.Serve.{Serves, ServesFront};
+ghost use Rattle.office_messages.specs.Stream.{PlainRequest};
+
+use crate::form::Form;
+use crate::look::{Front, Stage, look};
+use crate::replies::{Reply, fault_reply};
+use crate::reply_heads::{HEAD_ROOM, put_head};
+use crate::request::Request;
+use std::alloc::Global;
+use std::io::{ErrorKind, Read, Write};
+
+/// Why a connection is at its end. Where several hold, the first of Refused, Asked and Limit.
+#[derive(Clone, Copy, Debug, PartialEq, Eq)]
+pub enum End {
+    /// The input ended between messages.
+    Closed,
+    /// The input ended within a message, for which nothing was answered.
+    Cut,
+    /// A fault of head or framing was answered.
+    Refused,
+    /// The message was HTTP/1.0, or asked for it by Connection.
+    Asked,
+    /// The last message of a connection was answered.
+    Limit,
+}
+
+/// How a connection was served.
+#[derive(Clone, Copy, Debug, PartialEq, Eq)]
+pub struct Served {
+    /// The replies that went out.
+    pub answered: u32,
+    pub end: End,
+}
+
+impl Served {
+    fn at(answered: u32, end: End) -> Result<Served, ServeFault>
+        ensures { result ≡ Ok (record { answered = answered; end = end }) }
+    {
+        Ok(Served { answered, end })
+    }
+}
+
+/// Why a connection was not served to its end.
+#[derive(Clone, Copy, Debug, PartialEq, Eq)]
+pub enum ServeFault {
+    /// The reader failed.
+    Read = 1,
+    /// The writer failed. The last command stands, and how much of its reply went out is unknown.
+    Write = 2,
+    /// The turns were used up.
+    TooMany = 3,
+    /// The room for a reply's head was refused, or a message could not be kept.
+    NoMemory = 4,
+}
+
+/// The most messages of a connection.
+pub const MAX_MESSAGES: u32 = 100;
+
+/// What answers requests.
+pub trait Machine {
+    // From the one state it may give this reply to the request, and go on to the other.
+    ghost Answers: { Self → PlainRequest → PlainReply → Self → Type 0 };
+
+    /// Answers a request. Want of memory is a reply too.
+    fn answer(&mut self, alloc: Global, request: &Request<'_>) -> Reply
+        ensures { Answers self.old (plain_request request.now) (plain_reply result) self.new };
+}
+
+// What a read gave.
+#[derive(Clone, Copy)]
+enum Received {
+    Some,
+    None,
+    End,
+}
+
+// The most bytes of a read.
+const PIECE: usize = 4096;
+
+// Room for a head, and for most bodies behind it, so that both go out in one write.
+const REPLY_ROOM: usize = 4096;
+
+// One read, whose bytes go to the end of the buffer, if there is a turn left for it.
+fn receive<R: Read>(
+    reader: &mut R,
+    piece: &mut [u8; PIECE],
+    buffer: &mut Vec<u8>,
+    turns: &mut u64,
+) -> Result<Received, ServeFault>
+    ensures taken { (bytes : List ℕ)
+        × Consumes (R.remaining reader.old) (R.remaining reader.new) bytes
+        × (buffer.new.items ≡ buffer.old.items ++ bytes) }
+    ensures end { IfOk result (λ r. r ≡ Received.End
+        → IsAtEnd (R.remaining reader.new) × (buffer.new.items ≡ buffer.old.items)) }
+    ensures turn { OnOk result (turns.new + 1 ≡ turns.old) }
+{
+    if *turns == 0 {
+        return Err(ServeFault::TooMany);
+    }
+    *turns -= 1;
+    if buffer.reserve(PIECE).is_err() {
+        return Err(ServeFault::NoMemory);
+    }
+    match reader.read(piece) {
+        Ok(0) => Ok(Received::End),
+        Ok(n) => {
+            buffer.extend_from_slice(&piece[..n]).unwrap();
+            Ok(Received::Some)
+        }
+        Err(e) => {
+            if e.kind() == ErrorKind::Interrupted {
+                Ok(Received::None)
+            } else {
+                Err(ServeFault::Read)
+            }
+        }
+    }
+}
+
+// Takes the first bytes of the buffer away.
+fn drop_front(buffer: &mut Vec<u8>, n: usize)
+    requires { n ≤ length buffer.old.items }
+    ensures { buffer.new.items ≡ drop n buffer.old.items }
+{
+    buffer.drain(..n);
+}
+
+fn write<W: Write>(writer: &mut W, bytes: &[u8]) -> Result<(), ServeFault>
+    ensures ok { OnOk result (Appends (W.contents writer.old) (W.contents writer.new) bytes.now) }
+    ensures err { IfErr result (λ e. e ≡ ServeFault.Write) }
+{
+    writer.write_all(bytes).map_err(|_| ServeFault::Write)
+}
+
+// What goes out behind the head.
+fn sent_body(reply: &Reply, form: Form) -> &[u8]
+    ensures { result.now ≡ sent_body form (plain_reply reply.now).body }
+{
+    match form {
+        Form::Full => reply.body.bytes(),
+        Form::Bare => &[],
+    }
+}
+
+// Writes a reply, in one piece where the room takes its body too.
+#[tactic(auto, unfolding(crate::specs::Reply::reply_text))]
+fn send<W: Write>(
+    writer: &mut W,
+    room: &mut Vec<u8>,
+    reply: &Reply,
+    form: Form,
+) -> Result<(), ServeFault>
+    requires { HEAD_ROOM ≤ vec_capacity room.old }
+    ensures ok { OnOk result (Appends (W.contents writer.old) (W.contents writer.new)
+        (reply_text form (plain_reply reply.now))) }
+    ensures err { IfErr result (λ e. e ≡ ServeFault.Write) }
+    ensures room { HEAD_ROOM ≤ vec_capacity room.new }
+{
+    put_head(room, reply, form);
+    let body = sent_body(reply, form);
+    if body.len() <= room.capacity() - room.len() {
+        room.extend_from_slice(body).unwrap();
+        return write(writer, room);
+    }
+    write(writer, room)?;
+    write(writer, body)
+}
+
+// Answers one message.
+fn answer<W: Write, M: Machine>(
+    alloc: Global,
+    writer: &mut W,
+    room: &mut Vec<u8>,
+    machine: &mut M,
+    request: &Request<'_>,
+) -> Result<(), ServeFault>
+    requires { HEAD_ROOM ≤ vec_capacity room.old }
+    ensures step { (reply : PlainReply)
+        × M.Answers machine.old (plain_request request.now) reply machine.new
+        × OnOk result (Appends (W.contents writer.old) (W.contents writer.new)
+        (reply_text (form_of request.now.method.now) reply)) }
+    ensures err { IfErr result (λ e. e ≡ ServeFault.Write) }
+    ensures room { HEAD_ROOM ≤ vec_capacity room.new }
+{
+    let reply = machine.answer(alloc, request);
+    let form = Form::of(request.method.as_bytes());
+    send(writer, room, &reply, form)
+}
+
+/// Serves one connection: reads its messages, has the machine answer them one after another, and
+/// writes the replies. A turn is one call of `read`; an interrupted one is tried again.
+pub fn serve<R: Read, W: Write, M: Machine>(
+    alloc: Global,
+    reader: &mut R,
+    writer: &mut W,
+    machine: &mut M,
+    mut turns: u64,
+) -> Result<Served, ServeFault>
+    ensures ok { IfOk result (λ served. Serves M.Answers (R.remaining reader.old)
+        (W.contents writer.old) (W.contents writer.new) machine.old machine.new served) }
+    ensures err { IfErr result (λ fault. ServesFront M.Answers (R.remaining reader.old)
+        (W.contents writer.old) (W.contents writer.new) machine.old machine.new fault) }
+{
+    let mut room = match Vec::with_capacity(alloc, REPLY_ROOM) {
+        Ok(room) => room,
+        Err(_) => return Err(ServeFault::NoMemory),
+    };
+    let mut buffer = Vec::new(alloc);
+    let mut piece = [0u8; PIECE];
+    let mut stage = Stage::Searching(0);
+    let mut answered = 0;
+    while answered < MAX_MESSAGES {
+        match look(&buffer, stage) {
+            Front::Whole(head) => {
+                answer(alloc, writer, &mut room, machine, &head.request(&buffer))?;
+                answered += 1;
+                if head.closes {
+                    return Served::at(answered, End::Asked);
+                }
+                drop_front(&mut buffer, head.body.end);
+                stage = Stage::Searching(0);
+            }
+            Front::Faulty(bad) => {
+                send(writer, &mut room, &fault_reply(bad.fault), bad.form)?;
+                return Served::at(answered + 1, End::Refused);
+            }
+            Front::More(known) => {
+                stage = known;
+                match receive(reader, &mut piece, &mut buffer, &mut turns)? {
+                    Received::Some | Received::None => {}
+                    Received::End => {
+                        if buffer.is_empty() {
+                            return Served::at(answered, End::Closed);
+                        }
+                        return Served::at(answered, End::Cut);
+                    }
+                }
+            }
+        }
+    }
+    Served::at(answered, End::Limit)
+}

@@ -1,0 +1,24 @@
+//! The two forms of a reply.
+ghost use Rattle.std.specs.Prelude.{◌≡◌};
+ghost use Rattle.office_messages.specs.Form.{form_of};
+
+use http::Method;
+
+/// How much of a reply goes out.
+#[derive(Clone, Copy, Debug, PartialEq, Eq)]
+pub enum Form {
+    /// The whole reply.
+    Full,
+    /// The status line, Allow where it applies and the empty line: the reply to HEAD.
+    Bare,
+}
+
+impl Form {
+    /// The form of the reply to a method, whose letters count as they stand.
+    pub fn of(method: &[u8]) -> Form
+        ensures { result ≡ form_of method.now }
+    {
+        let is_head = method == Method::HEAD.as_str().as_bytes();
+        if is_head { Form::Bare } else { Form::Full }
+    }
+}

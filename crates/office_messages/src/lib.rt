@@ -1,0 +1,26 @@
+//! The messages of a connection, and the bytes of their replies.
+#![tactic(auto)]
+
+mod allow_field;
+mod connection;
+mod fields;
+mod form;
+mod framing;
+mod head;
+mod head_end;
+mod laws;
+mod look;
+mod names;
+mod replies;
+mod reply_heads;
+mod request;
+mod statuses;
+
+pub use allow_field::Allow;
+pub use connection::{End, MAX_MESSAGES, Machine, ServeFault, Served, serve};
+pub use form::Form;
+pub use framing::Fault;
+pub use laws::one_reading;
+pub use replies::{Content, Payload, Reply, fault_reply, fixed_reply, unavailable};
+pub use request::Request;
+pub use statuses::Status;
