@@ -1,5 +1,5 @@
 -- What an insert that was done leaves.
-use Rattle.std.proofs.Common.{◌≡◌, List, ℕ, Result, Ok, Err, is_ok, true, refl, sym, ◌∙◌}
+use Rattle.std.proofs.Common.{◌≡◌, List, ℕ, Result, Ok, Err, is_ok, true}
 use Rattle.matchit.specs.Route.{Scan, parse_route}
 use Rattle.matchit.specs.Router.{InsertsRead}
 use Rattle.matchit.specs.declared.error.InsertError.{InsertError}

@@ -1,16 +1,16 @@
 -- The search finds a row that takes the path, where there is one.
-use Rattle.std.proofs.Common.{◌≡◌, ◌≢◌, ◌<◌, ◌≤◌, ◌+◌, ◌-◌, ◌⊎◌, ℕ, zero, suc, Bool, true, false}
-use Rattle.std.proofs.Common.{cond, not, ◌&&◌, ◌==◌, List, [], ◌∷◌, length, drop, Option, Some}
-use Rattle.std.proofs.Common.{None, refl, sym, ap, subst, ◌∙◌, inl, inr, arith, rules}
+use Rattle.std.proofs.Common.{◌≡◌, ◌<◌, ◌≤◌, ◌⊎◌, ℕ, zero, suc, Bool, true, false}
+use Rattle.std.proofs.Common.{not, ◌&&◌, ◌==◌, List, [], ◌∷◌, length, Option, Some}
+use Rattle.std.proofs.Common.{None, refl, sym, ap, subst, ◌∙◌, inl, inr, arith}
 use Rattle.std.proofs.lemmas.Bool.{eqb-true, eq-eqb}
 use Rattle.std.proofs.lemmas.Bool.Decides.{nat_tests}
-use Rattle.matchit.specs.Rows.{RowsOf, param_token, catch_all_token}
+use Rattle.matchit.specs.Rows.{RowsOf, param_token}
 use Rattle.matchit.specs.Level.{IsText}
 use Rattle.matchit.specs.Seek.{slash, segment, has_slash, same_text, own, step, or_else}
 use Rattle.matchit.specs.Seek.{with_suffix, seek, first}
 use Rattle.office_http.specs.Patterns.{rest_of_segment, takes}
 use Rattle.office_http.specs.Pages.{IsIn, Finds}
-use Rattle.office_http.proofs.Plain.{FindsNone, EndsSegment, IsPlain, ArePlain}
+use Rattle.office_http.proofs.Plain.{FindsNone, EndsSegment, ArePlain}
 use Rattle.office_http.proofs.SeekLemmas.{AreTails, has_more, param_at, param_found, param_lost}
 use Rattle.office_http.proofs.SeekLemmas.{param_last, param_slash, seek_end, seek_is, no_rest}
 

@@ -1,5 +1,5 @@
 -- No two pages take one path.
-use Rattle.std.proofs.Common.{◌≡◌, ◌<◌, ◌⊎◌, ◌&&◌, ◌==◌, not, nat_lt, Bool, true, false, List, ℕ}
+use Rattle.std.proofs.Common.{◌≡◌, ◌<◌, ◌&&◌, ◌==◌, not, nat_lt, Bool, true, false, List, ℕ}
 use Rattle.std.proofs.Common.{◌∷◌, [], refl, sym, ap, subst, ◌∙◌, inl, inr, arith}
 use Rattle.std.specs.Prelude.{if◌then◌else◌}
 use Rattle.std.proofs.lemmas.Bool.{eqb-true}
@@ -8,7 +8,7 @@ use Rattle.matchit.specs.Rows.{param_token}
 use Rattle.matchit.specs.Seek.{slash}
 use Rattle.office_http.specs.declared.pages.Page.{Page}
 use Rattle.office_http.specs.Patterns.{takes, rest_of_segment}
-use Rattle.office_http.specs.Pages.{IsIn, Finds}
+use Rattle.office_http.specs.Pages.{IsIn}
 use Rattle.office_http.specs.Pages.{pages, Leads}
 
 -- two patterns part at a byte that each has, or where one ends

@@ -1,17 +1,17 @@
 -- The table holds the office's pages.
 use Rattle.std.proofs.Common.{◌≡◌, ◌<◌, ◌⊎◌, ◌&&◌, ◌||◌, ◌==◌, ltb, Bool, true, false, List, ℕ, ◌∷◌}
-use Rattle.std.proofs.Common.{[], zero, suc, get_or, Option, Some, None, IfSome, IsNone, option_map}
-use Rattle.std.proofs.Common.{map, refl, sym, ap, subst, ◌∙◌, codes, inl, inr, arith}
+use Rattle.std.proofs.Common.{[], suc, get_or, Option, Some, None, IfSome, IsNone, option_map}
+use Rattle.std.proofs.Common.{map, refl, sym, ap, subst, ◌∙◌, inl, inr}
 use Rattle.std.proofs.lemmas.Bool.{eqb-true, ltb-true}
-use Rattle.matchit.specs.Rows.{RowsOf, param_token}
+use Rattle.matchit.specs.Rows.{param_token}
 use Rattle.matchit.specs.Level.{IsText}
 use Rattle.matchit.specs.Route.{scan}
 use Rattle.matchit.specs.Router.{RouteOf}
 use Rattle.matchit.specs.Seek.{slash, first}
 use Rattle.office_http.specs.declared.pages.Page.{Page}
 use Rattle.office_http.specs.Patterns.{takes}
-use Rattle.office_http.specs.Pages.{IsIn, Finds}
-use Rattle.office_http.proofs.Plain.{FindsNone, EndsSegment, IsPlain, ArePlain}
+use Rattle.office_http.specs.Pages.{IsIn}
+use Rattle.office_http.proofs.Plain.{EndsSegment, IsPlain, ArePlain}
 use Rattle.office_http.specs.Table.{Rows, table, adds, page_at}
 use Rattle.office_http.specs.Pages.{pages, Leads}
 use Rattle.std.specs.Prelude.{find}

@@ -1,18 +1,16 @@
 -- The search finds a row that takes the path, where there is one.
-use Rattle.std.proofs.Common.{◌≡◌, ◌≢◌, ◌<◌, ◌≤◌, ◌+◌, ◌-◌, ◌⊎◌, ℕ, zero, suc, Bool, true, false}
-use Rattle.std.proofs.Common.{cond, not, ltb, ◌&&◌, ◌||◌, ◌==◌, nat_eq, List, [], ◌∷◌, length, drop}
-use Rattle.std.proofs.Common.{Option, Some, None, refl, sym, ap, subst, ◌∙◌, inl, inr, arith, rules}
+use Rattle.std.proofs.Common.{◌≡◌, ◌<◌, ◌-◌, ◌⊎◌, ℕ, zero, suc, Bool, true, false}
+use Rattle.std.proofs.Common.{cond, ltb, ◌&&◌, ◌||◌, ◌==◌, nat_eq, List, [], ◌∷◌, length, drop}
+use Rattle.std.proofs.Common.{Option, Some, None, refl, sym, ap, ◌∙◌, inl, inr, arith}
 use Rattle.std.proofs.lemmas.Bool.{eqb-true, and_from, and_right, lt-ltb}
 use Rattle.std.proofs.Math.Seq.{drop-length}
 use Rattle.std.proofs.lemmas.Bool.Decides.{nat_tests}
 use Rattle.std.specs.Cmp.Lexicographic.{pointwise}
 use Rattle.matchit.specs.Rows.{RowsOf, param_token, catch_all_token}
-use Rattle.matchit.specs.Seek.{slash, segment, has_slash, same_text, cuts, better, own, step}
-use Rattle.matchit.specs.Seek.{or_else, longest_from, longest_suffix, with_suffix, param_step, seek}
-use Rattle.matchit.specs.Seek.{first}
-use Rattle.office_http.specs.Patterns.{rest_of_segment, takes}
-use Rattle.office_http.specs.Pages.{IsIn, Finds}
-use Rattle.office_http.proofs.Plain.{FindsNone, EndsSegment, IsPlain, ArePlain}
+use Rattle.matchit.specs.Seek.{segment, has_slash, cuts, own, step}
+use Rattle.matchit.specs.Seek.{or_else, longest_from, with_suffix, param_step, seek}
+use Rattle.office_http.specs.Patterns.{rest_of_segment}
+use Rattle.office_http.proofs.Plain.{EndsSegment, ArePlain}
 
 module _ {K : Type 0} where
   step_nil : (b : ℕ) → step {K = K} b [] ≡ []

@@ -210,9 +210,17 @@ fn fixed_texts(rt: HostRuntime) {
         ),
         (FixedError::Path.reply(), b"{\"error\":\"path\"}", 404),
         (FixedError::Method.reply(), b"{\"error\":\"method\"}", 405),
-        (FixedError::TooMany.reply(), b"{\"error\":\"too-many\"}", 409),
+        (
+            FixedError::TooMany.reply(),
+            b"{\"error\":\"too-many\"}",
+            409,
+        ),
         (fault_reply(Fault::TooLong), b"{\"error\":\"length\"}", 413),
-        (fault_reply(Fault::Transfer), b"{\"error\":\"transfer\"}", 501),
+        (
+            fault_reply(Fault::Transfer),
+            b"{\"error\":\"transfer\"}",
+            501,
+        ),
         (unavailable(), b"{\"error\":\"unavailable\"}", 503),
     ];
     for (reply, text, code) in cases {

@@ -10,9 +10,9 @@ use Rattle.std.proofs.lemmas.List.{take-take}
 use Rattle.std.proofs.Math.Seq.{take-append_seam, drop-append_seam, take-append-add}
 use lib.Pointwise.{pointwise}
 use Rattle.httparse.specs.Ascii.{crlf_bytes}
-use Rattle.httparse.specs.Grammar.{LineEnd, crlf, lf, print_end, print_blank, print_version, Field, IsField, print_field, print_section, is_value_byte, AllPass, RequestHead, IsRequestHead, print_request, ReadsRequest}
+use Rattle.httparse.specs.Grammar.{LineEnd, crlf, lf, print_end, print_blank, Field, IsField, print_field, is_value_byte, AllPass, RequestHead, IsRequestHead, print_request}
 use Rattle.office_messages.specs.Heads.{before_end, ends_in_line, ends_as_head}
-use Rattle.office_messages.specs.Stream.{HasHead, LacksHead}
+use Rattle.office_messages.specs.Stream.{LacksHead}
 
 -- the bytes end with a plain byte and a line end
 pub record EndsLine (bytes : List ℕ) : Type 0 where

@@ -1,9 +1,9 @@
 -- What the parser says of the first bytes of a stream, said of the whole.
-use Rattle.std.proofs.Common.{◌≡◌, ℕ, ◌+◌, ◌-◌, ◌<◌, ◌≤◌, List, [], ◌∷◌, ◌++◌, length, take, drop, map, refl, sym, ap, subst, ◌∙◌, append_assoc, arith, length-append, take-append-drop, length-take, length-drop, slice_range, Option, Some, None}
+use Rattle.std.proofs.Common.{◌≡◌, ℕ, ◌+◌, ◌-◌, ◌<◌, ◌≤◌, List, [], ◌++◌, length, take, drop, refl, sym, ap, subst, ◌∙◌, append_assoc, arith, length-append, take-append-drop, length-take, length-drop, slice_range, Option, Some, None}
 use Rattle.std.proofs.lemmas.List.{length-map, take-append-le, drop-append-le, drop-drop}
 use Rattle.std.proofs.Math.Seq.{drop-append_seam, take-append-add}
 use Rattle.httparse.specs.Grammar.{RequestHead, ReadsRequest, HasNoRequest, print_request, is_token_byte, IsToken}
-use Rattle.httparse.specs.Spans.{IsRequestAt, RequestOverflows, AreFieldsAt, name_and_value, header_bytes}
+use Rattle.httparse.specs.Spans.{IsRequestAt, RequestOverflows, name_and_value, header_bytes}
 use Rattle.httparse.specs.declared.spans.HeaderSpan.{HeaderSpan}
 use Rattle.httparse.specs.declared.spans.RequestSpans.{RequestSpans}
 use Rattle.httparse.specs.declared.spans.Span.{Span}

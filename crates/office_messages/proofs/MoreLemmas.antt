@@ -1,11 +1,11 @@
 -- What the bytes that have come begin with stays whatever follows.
-use Rattle.std.proofs.Common.{◌≡◌, ℕ, ◌+◌, ◌<◌, ◌≤◌, Bool, List, [], ◌∷◌, ◌++◌, length, take, drop, refl, sym, ap, ◌∙◌, append_assoc, arith, length-append, take-append-drop, inl, inr, ◌⊎◌}
+use Rattle.std.proofs.Common.{◌≡◌, ℕ, ◌≤◌, Bool, List, ◌++◌, length, take, drop, sym, ap, ◌∙◌, append_assoc, arith, length-append, take-append-drop, inl, inr}
 use Rattle.std.proofs.lemmas.List.{take-append-le, drop-append-le}
 use Rattle.std.proofs.Math.Seq.{take-append_seam}
 use Rattle.httparse.specs.Grammar.{RequestHead, print_request}
 use Rattle.office_messages.specs.declared.framing.Fault.{Fault}
 use Rattle.office_messages.specs.declared.form.Form.{Form}
-use Rattle.office_messages.specs.Stream.{HasHead, LacksHead, HeadFault, FramingFault, FaultAt, PlainRequest, RequestAt, request_of}
+use Rattle.office_messages.specs.Stream.{HasHead, LacksHead, HeadFault, FaultAt, PlainRequest, RequestAt, request_of}
 use Rattle.office_messages.proofs.HeadLemmas.{reads_more}
 
 pub head_more : (s : List ℕ) (h : RequestHead) (rest more : List ℕ) → HasHead s h rest → HasHead (s ++ more) h (rest ++ more)

@@ -1,7 +1,6 @@
 -- A stream has one reading, but for the one choice.
-use Rattle.std.proofs.Common.{◌≡◌, ℕ, ◌+◌, ◌<◌, ◌≤◌, true, false, Bool, List, [], ◌∷◌, ◌++◌, length, take, drop, Result, Ok, Err, refl, sym, ap, subst, ◌∙◌, append-nil, arith, length-append, inl, inr, ◌⊎◌}
-use Rattle.httparse.specs.Grammar.{RequestHead, ReadsRequest, print_request}
-use Rattle.httparse.specs.Spans.{RequestOverflows}
+use Rattle.std.proofs.Common.{◌≡◌, ℕ, ◌+◌, ◌<◌, true, false, Bool, List, [], ◌∷◌, length, take, drop, Result, Ok, Err, refl, sym, ap, subst, ◌∙◌, append-nil, arith, inl, inr, ◌⊎◌}
+use Rattle.httparse.specs.Grammar.{RequestHead}
 use Rattle.httparse.proofs.GrammarLemmas.{request_unique}
 use Rattle.office_messages.specs.declared.form.Form.{Form}
 use Rattle.office_messages.specs.declared.form.Form.TheVariants.{Full}
@@ -9,11 +8,10 @@ use Rattle.office_messages.specs.declared.framing.Fault.{Fault}
 use Rattle.office_messages.specs.declared.framing.Fault.TheVariants as faults
 use Rattle.office_messages.specs.declared.connection.End.{End}
 use Rattle.office_messages.specs.declared.connection.End.TheVariants.{Closed, Cut, Refused, Asked, Limit}
-use Rattle.office_messages.specs.Fields.{Header}
 use Rattle.office_messages.specs.Framing.{framing}
 use Rattle.office_messages.specs.Form.{form_of}
-use Rattle.office_messages.specs.Stream.{PlainRequest, HasHead, LacksHead, RequestAt, HeadFault, FramingFault, FaultAt, BodyCut, Unfinished, fields_of, request_of, closes}
-use Rattle.office_messages.specs.Serve.{Item, asks, fails, Ends, Messages, Differs, Agree}
+use Rattle.office_messages.specs.Stream.{PlainRequest, HasHead, RequestAt, HeadFault, FaultAt, Unfinished, fields_of, request_of, closes}
+use Rattle.office_messages.specs.Serve.{Item, asks, fails, Ends, Messages, Agree}
 use Rattle.office_messages.proofs.HeadLemmas.{nothing_lacks}
 
 -- one head, and one rest

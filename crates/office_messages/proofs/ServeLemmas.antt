@@ -1,5 +1,5 @@
 -- How far a connection has come.
-use Rattle.std.proofs.Common.{◌≡◌, ◌≢◌, ℕ, ◌+◌, ◌<◌, ◌≤◌, Bool, true, false, List, [], ◌∷◌, ◌++◌, length, Option, Some, None, IfSome, refl, sym, ap, subst, ◌∙◌, append_assoc, append-nil, arith, length-append, take, inl, inr, ◌⊎◌}
+use Rattle.std.proofs.Common.{◌≡◌, ℕ, ◌+◌, ◌<◌, ◌≤◌, Bool, true, false, List, [], ◌∷◌, ◌++◌, length, Option, Some, None, IfSome, refl, sym, ap, subst, ◌∙◌, append_assoc, append-nil, arith, length-append, inl, inr, ◌⊎◌}
 use Rattle.std.proofs.lemmas.List.{take-append-le}
 use Rattle.std.specs.Io.KnownBytes.{Appends, Consumes, IsAtEnd}
 use Rattle.std.proofs.KnownBytes.{Consumes-nil, Appends-nil, Consumes-trans, Appends-trans}
@@ -16,7 +16,7 @@ use Rattle.office_messages.specs.Form.{form_of}
 use Rattle.office_messages.specs.Heads.{Knows}
 use Rattle.office_messages.specs.Reply.{PlainReply, fault_reply, reply_text}
 use Rattle.office_messages.specs.Stream.{PlainRequest, RequestAt, FaultAt, Unfinished, LacksHead}
-use Rattle.office_messages.specs.Serve.{Item, asks, fails, Ends, Messages, Begins, Told, Serves, ServesFront}
+use Rattle.office_messages.specs.Serve.{Item, asks, fails, Messages, Begins, Told, Serves, ServesFront}
 use Rattle.office_messages.proofs.HeadLemmas.{nothing_lacks, head_at_more}
 use Rattle.office_messages.proofs.MoreLemmas.{request_more, fault_more}
 

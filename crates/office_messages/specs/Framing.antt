@@ -1,5 +1,5 @@
 -- Where a message's body ends, and the faults of the fields that say so, in their order.
-use Rattle.std.specs.Prelude.{ℕ, ◌&&◌, ◌==◌, Bool, not, List, [], ◌∷◌, length, Result, Ok, Err, if◌then◌else◌, nat_lt, nat_le, codes}
+use Rattle.std.specs.Prelude.{ℕ, ◌&&◌, ◌==◌, not, List, [], ◌∷◌, length, Result, Ok, Err, if◌then◌else◌, nat_lt, nat_le, codes}
 use Rattle.std.specs.List.{list_all}
 use Rattle.std.specs.Char.{is_ascii_digit}
 use Rattle.std.specs.Str.Parse.{digits_value}

@@ -1,5 +1,5 @@
 -- What the code knows of a message that is coming.
-use Rattle.std.specs.Prelude.{◌≡◌, ℕ, ◌+◌, ◌-◌, ◌<◌, ◌≤◌, Bool, true, false, not, ◌&&◌, List, [], ◌∷◌, length, take, drop, Option, Some, None, Result, Ok, Err, if◌then◌else◌, nat_eq, nat_lt, option_and_then, option_copied, codes}
+use Rattle.std.specs.Prelude.{◌≡◌, ℕ, ◌-◌, ◌<◌, ◌≤◌, Bool, false, not, ◌&&◌, List, [], ◌∷◌, length, take, drop, Option, Some, None, Ok, Err, if◌then◌else◌, nat_eq, nat_lt, option_and_then, option_copied, codes}
 use Rattle.std.specs.List.{ends_with}
 use Rattle.std.specs.Option.{option_map_or}
 use Rattle.httparse.specs.Ascii.{line_feed, crlf_bytes}
@@ -9,7 +9,7 @@ use Rattle.httparse.specs.declared.spans.Span.{Span}
 use Rattle.office_messages.specs.Fields.{Header, values_named}
 use Rattle.office_messages.specs.Form.{form_of}
 use Rattle.office_messages.specs.Framing.{framing}
-use Rattle.office_messages.specs.Stream.{PlainRequest, HasHead, LacksHead, Unfinished, FaultAt, fields_of, caller_of, closes, max_head, only}
+use Rattle.office_messages.specs.Stream.{PlainRequest, HasHead, LacksHead, Unfinished, FaultAt, fields_of, caller_of, closes, max_head}
 use Rattle.office_messages.specs.declared.fields.Seen.{Seen}
 use Rattle.office_messages.specs.declared.fields.Seen.TheVariants.{Absent, Once, Repeated}
 use Rattle.office_messages.specs.declared.framing.FramingFields.{FramingFields}

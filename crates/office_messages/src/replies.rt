@@ -74,8 +74,5 @@ pub fn fault_reply(fault: Fault) -> Reply
 pub fn unavailable() -> Reply
     ensures { plain_reply result ≡ unavailable }
 {
-    fixed_reply(
-        Status::ServiceUnavailable,
-        b"{\"error\":\"unavailable\"}",
-    )
+    fixed_reply(Status::ServiceUnavailable, b"{\"error\":\"unavailable\"}")
 }

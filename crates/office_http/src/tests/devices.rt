@@ -55,11 +55,7 @@ impl Machine for Board {
             return json(Status::Done, None, NO_EXAMS);
         }
         let allow = Some(Allow { methods: "GET" });
-        json(
-            Status::MethodNotAllowed,
-            allow,
-            b"{\"error\":\"method\"}",
-        )
+        json(Status::MethodNotAllowed, allow, b"{\"error\":\"method\"}")
     }
 }
 

@@ -1,13 +1,10 @@
-use Rattle.std.proofs.Common.{◌≡◌, ◌∙◌, ap, sym, subst, true, false, cond, List, [], ◌∷◌, ◌++◌, ℕ, map, take, get_or, arith, length, append-nil, ◌<◌, ◌+◌}
-use Rattle.std.specs.List.{flat_map}
-use Rattle.std.proofs.lemmas.Grind.{common_steps}
+use Rattle.std.proofs.Common.{◌≡◌, ◌∙◌, ap, sym, subst, List, ◌++◌, ℕ, map, take, get_or, length, append-nil, ◌<◌, ◌+◌}
 use Rattle.std.proofs.lemmas.List.{map_more}
 use Rattle.std.proofs.lemmas.List.Concat.{flat_map-append}
 use Rattle.httparse.specs.Spans.{header_bytes}
 use Rattle.httparse.specs.declared.spans.HeaderSpan.{HeaderSpan}
-use Rattle.office_messages.specs.Fields.{Header, value_if_named, values_named}
+use Rattle.office_messages.specs.Fields.{value_if_named, values_named}
 use Rattle.office_messages.specs.Heads.{Sees}
-use Rattle.office_messages.specs.declared.fields.Seen.{Seen}
 use Rattle.office_messages.proofs.fields.find.Goals as goal
 
 -- one header more

@@ -1,5 +1,4 @@
-use Rattle.std.proofs.Common.{◌≡◌, true, arith, get_or, ◌≤◌, ◌<◌, ◌-◌, ◌+◌}
-use Rattle.std.specs.Char.{is_ascii_digit, digit_value}
+use Rattle.std.proofs.Common.{arith, get_or}
 use Rattle.std.proofs.lemmas.Int.Digits.{digits_value_more}
 use Rattle.office_messages.proofs.DigitLemmas.{digit_at, value_of_digit}
 use Rattle.office_messages.proofs.framing.saturated.Goals as goal

@@ -1,5 +1,5 @@
 use Rattle.std.proofs.Common.{◌≡◌, ◌<◌, ◌≤◌, ℕ, List, length, take, length-take, false, arith, ap, subst}
-use Rattle.office_messages.specs.Heads.{Knows, ends_as_head}
+use Rattle.office_messages.specs.Heads.{ends_as_head}
 use Rattle.office_messages.proofs.HeadEndLemmas.{searched_lacks}
 use Rattle.office_messages.proofs.look.look.Goals as goal
 

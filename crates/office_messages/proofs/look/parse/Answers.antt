@@ -1,4 +1,4 @@
-use Rattle.std.proofs.Common.{◌≡◌, ◌≤◌, ◌<◌, ℕ, List, arith, length, take, drop, length-take, sym, subst, inl, inr, refl, ap}
+use Rattle.std.proofs.Common.{◌≤◌, ℕ, List, arith, length, drop, length-take, subst, inl, inr, refl, ap}
 use Rattle.httparse.specs.Grammar.{ReadsRequest, HasNoRequest}
 use Rattle.httparse.specs.Spans.{RequestOverflows}
 use Rattle.office_messages.proofs.HeadLemmas.{head_at_front, head_of_front, no_head_of_front, overflows_of_front, count_fields}

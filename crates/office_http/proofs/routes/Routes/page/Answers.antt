@@ -1,4 +1,4 @@
-use Rattle.std.proofs.Common.{◌≡◌, ◌∙◌, ap, arith}
+use Rattle.std.proofs.Common.{◌∙◌, ap, arith}
 use Rattle.office_http.specs.Table.{Rows, page_at}
 use Rattle.office_http.proofs.PageLemmas.{found_clause, none_clause, only_clause}
 use Rattle.office_http.proofs.routes.Routes.page.Goals as goal

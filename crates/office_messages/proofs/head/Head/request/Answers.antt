@@ -1,7 +1,6 @@
-use Rattle.std.proofs.Common.{◌≡◌, ℕ, List, take, drop, ap, sym, subst, ◌∙◌, refl}
+use Rattle.std.proofs.Common.{sym, subst}
 use Rattle.std.specs.Prelude.{IsUtf8}
-use Rattle.office_messages.specs.Heads.{plain_request}
-use Rattle.office_messages.proofs.HeadLemmas.{token_text, request_at}
+use Rattle.office_messages.proofs.HeadLemmas.{token_text}
 use Rattle.office_messages.proofs.head.Head.request.Goals as goal
 
 -- a method is a name
