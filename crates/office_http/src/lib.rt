@@ -15,7 +15,7 @@ pub use bodies::{dept_body, place_body, text_body};
 pub use methods::allow;
 pub use office_messages::{
     Allow, Content, End, Fault, Machine, Payload, Reply, Request, ServeFault, Served, Status,
-    fault_reply, fixed_reply, serve, unavailable,
+    drain, fault_reply, fixed_reply, serve, unavailable,
 };
 pub use pages::Page;
 pub use requests::{Asked, Refusal, read_request};

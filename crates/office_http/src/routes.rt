@@ -1,7 +1,7 @@
 // The routes of the office.
 ghost use Rattle.std.specs.Prelude.{◌≡◌, ℕ, List, IfOk, OnOk, IfSome, IsNone};
 ghost use Rattle.office_http.specs.declared.pages.Page.{Page};
-ghost use Rattle.office_http.specs.Table.{adds, table, page_at};
+ghost use Rattle.office_http.specs.Table.{Rows, adds, table, page_at};
 ghost use Rattle.office_http.specs.Pages.{Leads, page_of};
 
 use crate::pages::Page;
@@ -16,16 +16,18 @@ pub struct Routes {
 }
 
 impl Model for Routes {
-    ghost Value = { Unit {0} };
+    ghost Value = { Rows };
 
-    ghost view = { λ r. tt };
+    ghost view = { λ r. r.router };
 
     ghost invariant = { λ r. r.router ≡ table };
 }
 
 impl Routes {
     /// Makes them; to be done once, before the first request.
-    pub fn new(alloc: Global) -> Result<Routes, AllocError> {
+    pub fn new(alloc: Global) -> Result<Routes, AllocError>
+        ensures { IfOk result (λ routes. routes ≡ table) }
+    {
         Ok(Routes {
             router: all_routes(alloc)?,
         })

@@ -82,7 +82,7 @@ enum Received {
 }
 
 // The most bytes of a read.
-const PIECE: usize = 4096;
+pub(crate) const PIECE: usize = 4096;
 
 // Room for a head, and for most bodies behind it, so that both go out in one write.
 const REPLY_ROOM: usize = 4096;

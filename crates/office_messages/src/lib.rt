@@ -3,6 +3,7 @@
 
 mod allow_field;
 mod connection;
+mod draining;
 mod fields;
 mod form;
 mod framing;
@@ -18,6 +19,7 @@ mod statuses;
 
 pub use allow_field::Allow;
 pub use connection::{End, MAX_MESSAGES, Machine, ServeFault, Served, serve};
+pub use draining::drain;
 pub use form::Form;
 pub use framing::Fault;
 pub use laws::one_reading;
