@@ -6,3 +6,4 @@ pub mod OnePageLemmas
 pub mod PageLemmas
 pub mod PathLemmas
 pub mod BodyLemmas
+pub mod RequestLemmas

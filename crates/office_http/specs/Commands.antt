@@ -1,5 +1,5 @@
 -- What a method asks of a resource, with what its body says.
-use Rattle.std.specs.Prelude.{ℕ, List, Option, Some, None}
+use Rattle.std.specs.Prelude.{◌≡◌, ℕ, Bool, true, false, List, Option, Some, None}
 use Rattle.std.specs.Borrow.{Bor}
 use Rattle.office_desk.specs.declared.command.Body.TheVariants.{Given}
 use Rattle.office_desk.specs.declared.command.Command.{Command}
@@ -50,3 +50,13 @@ command_of Put r body = puts r body
 command_of Post r body = posts r body.now
 command_of Delete r body = deletes r
 command_of Other r body = None
+
+-- the command has a body of JSON, which takes memory to read
+abbrev pub has_json : Command → Bool
+has_json (command.SetOwner e body) = true
+has_json (command.Place d e body) = true
+has_json (command.Move d e body) = true
+has_json _ = false
+
+abbrev pub HasJson : Command → Type 0
+HasJson c = has_json c ≡ true

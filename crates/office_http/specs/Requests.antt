@@ -1,7 +1,7 @@
 -- What a request asks for, or the refusal that looks at nothing stored.
-use Rattle.std.specs.Prelude.{◌≡◌, ℕ, List, Option, Some, None, option_and_then, codes}
+use Rattle.std.specs.Prelude.{◌≡◌, ℕ, List, Option, Some, None, option_and_then}
 use Rattle.std.specs.Borrow.{Bor}
-use Rattle.std.specs.Prelude.{Result, Ok, Err}
+use Rattle.std.specs.Prelude.{Result, Ok, Err, IsOkAnd}
 use Rattle.exam_model.specs.Refusing.{◌>>=◌, else_err}
 use Rattle.office_desk.specs.Callers.{caller_of, trimmed}
 use Rattle.office_desk.specs.declared.callers.Caller.{Caller}
@@ -11,13 +11,13 @@ use Rattle.office_desk.specs.declared.command.Command.TheVariants as command
 use Rattle.office_http.specs.Pages.{page_of}
 use Rattle.office_http.specs.Resources.{resource_at, resource_of}
 use Rattle.office_http.specs.Methods.{verb_of, allow_of}
-use Rattle.office_http.specs.Commands.{command_of}
+use Rattle.office_http.specs.Commands.{command_of, HasJson}
 use Rattle.office_http.specs.declared.methods.Verb.{Verb}
 use Rattle.office_http.specs.declared.methods.Verb.TheVariants.{Get}
 use Rattle.office_http.specs.declared.resources.Resource.{Resource}
 use Rattle.office_http.specs.declared.resources.Resource.TheVariants as resource
 use Rattle.office_desk.specs.declared.policy.Denial.TheVariants.{P1}
-use Rattle.office_http.specs.Texts.{error_reply}
+use Rattle.office_http.specs.Texts.{error_text, error_reply}
 use Rattle.office_http.specs.declared.pages.Page.{Page}
 use Rattle.office_messages.specs.Reply.{PlainReply, unavailable}
 use Rattle.office_messages.specs.declared.replies.Content.TheVariants.{Json}
@@ -67,14 +67,22 @@ reading method path value body =
     asked_by who (verb_of method) path body >>= (λ asked.
     Ok (record { caller = who; command = asked })))
 
--- the answer is that of the definition, unless memory was refused
-abbrev pub Gives : {A : Type 0} → Result A Refusal → Result A Refusal → Type 0
-Gives said (Ok asked) = said ≡ Ok asked
-Gives said (Err refusal.NoMemory) = Unit {0}
-Gives said (Err refusal.Caller) = said ≡ Err refusal.Caller
-Gives said (Err refusal.Candidate) = said ≡ Err refusal.Candidate
-Gives said (Err refusal.Path) = said ≡ Err refusal.Path
-Gives said (Err (refusal.Method page)) = said ≡ Err (refusal.Method page)
+-- The answer is that of the definition. Memory is refused for a command with a body of JSON alone.
+abbrev pub Gives : {A : Type 0} → (A → Command) → Result A Refusal → Result A Refusal → Type 0
+Gives command_in said (Ok asked) = said ≡ Ok asked
+Gives command_in said (Err refusal.NoMemory) = IsOkAnd said (λ asked. HasJson (command_in asked))
+Gives command_in said (Err refusal.Caller) = said ≡ Err refusal.Caller
+Gives command_in said (Err refusal.Candidate) = said ≡ Err refusal.Candidate
+Gives command_in said (Err refusal.Path) = said ≡ Err refusal.Path
+Gives command_in said (Err (refusal.Method page)) = said ≡ Err (refusal.Method page)
+
+-- the command that is answered
+abbrev pub GivesCommand : Result Command Refusal → Result Command Refusal → Type 0
+GivesCommand said answer = Gives (λ command. command) said answer
+
+-- who asks, and the command
+abbrev pub GivesAsked : Result Asked Refusal → Result Asked Refusal → Type 0
+GivesAsked said answer = Gives (λ asked. asked.command) said answer
 
 -- the reply where the page hasn't the method
 abbrev pub not_allowed : Page → PlainReply
@@ -82,7 +90,7 @@ not_allowed page = record {
   status = MethodNotAllowed;
   allow = Some (allow_of page);
   content = Json;
-  body = codes "{\"error\":\"method\"}";
+  body = error_text error.Method;
 }
 
 -- the reply to a refusal

@@ -1,6 +1,6 @@
 // What a method asks of a resource.
-ghost use Rattle.std.specs.Prelude.{◌≡◌, IfOk};
-ghost use Rattle.office_http.specs.Commands.{gets, puts, posts, deletes, command_of};
+ghost use Rattle.std.specs.Prelude.{◌≡◌, IfOk, OnErr, IsSomeAnd};
+ghost use Rattle.office_http.specs.Commands.{gets, puts, posts, deletes, command_of, HasJson};
 
 use crate::bodies::{dept_body, place_body, text_body};
 use crate::methods::Verb;
@@ -15,7 +15,8 @@ pub(crate) fn command_of<'a>(
     resource: Resource,
     body: &'a [u8],
 ) -> Result<Option<Command<'a>>, AllocError>
-    ensures { IfOk result (λ command. command ≡ command_of verb resource body.entry) }
+    ensures ok { IfOk result (λ command. command ≡ command_of verb resource body.entry) }
+    ensures err { OnErr result (IsSomeAnd (command_of verb resource body.entry) HasJson) }
 {
     match verb {
         Verb::Get => Ok(gets(resource)),
@@ -50,7 +51,8 @@ fn puts<'a>(
     resource: Resource,
     body: &'a [u8],
 ) -> Result<Option<Command<'a>>, AllocError>
-    ensures { IfOk result (λ command. command ≡ puts resource body.entry) }
+    ensures ok { IfOk result (λ command. command ≡ puts resource body.entry) }
+    ensures err { OnErr result (IsSomeAnd (puts resource body.entry) HasJson) }
 {
     match resource {
         Resource::Instance => Ok(Some(Command::Load(Body::Given(body)))),
@@ -66,7 +68,8 @@ fn posts<'a>(
     resource: Resource,
     body: &'a [u8],
 ) -> Result<Option<Command<'a>>, AllocError>
-    ensures { IfOk result (λ command. command ≡ posts resource body.now) }
+    ensures ok { IfOk result (λ command. command ≡ posts resource body.now) }
+    ensures err { OnErr result (IsSomeAnd (posts resource body.now) HasJson) }
 {
     match resource {
         Resource::Place(draft, exam) => {

@@ -4,8 +4,9 @@ ghost use Rattle.office_messages.specs.Reply.{plain_reply};
 ghost use Rattle.office_http.specs.Methods.{verb_of};
 ghost use Rattle.office_http.specs.Resources.{resource_of};
 ghost use Rattle.office_http.specs.Requests.{caller_in, her_page, her_command};
-ghost use Rattle.office_http.specs.Requests.{candidate_command, staff_command, asked_by};
-ghost use Rattle.office_http.specs.Requests.{reading, Gives, not_allowed, refusal_reply};
+ghost use Rattle.office_http.specs.Requests.{staff_command, asked_by};
+ghost use Rattle.office_http.specs.Requests.{reading, GivesAsked, GivesCommand};
+ghost use Rattle.office_http.specs.Requests.{not_allowed, refusal_reply};
 
 use crate::commands::command_of;
 use crate::methods::{Verb, allow};
@@ -67,12 +68,13 @@ fn not_allowed(page: Page) -> Reply
 
 /// Who asks, and for what: caller, a candidate's pages, path, method, in this order. A body that
 /// is too long or doesn't read is part of the command.
+#[tactic(auto, using(crate::proofs::RequestLemmas::asked_is_ok))]
 pub fn read_request<'a>(
     alloc: Global,
     routes: &Routes,
     request: &Request<'a>,
 ) -> Result<Asked<'a>, Refusal>
-    ensures { Gives (reading request.now.method.now request.now.target.now
+    ensures { GivesAsked (reading request.now.method.now request.now.target.now
         (option_copied request.now.caller) request.now.body) result }
 {
     let Some(caller) = caller_in(request.caller) else {
@@ -90,30 +92,23 @@ fn caller_in(value: Option<&[u8]>) -> Option<Caller>
     Caller::read(value?)
 }
 
-// What that caller asks for.
+// What that caller asks for. A candidate may ask for her own pages alone.
 fn asked_by<'a>(
     alloc: Global,
     routes: &Routes,
     caller: &Caller,
     request: &Request<'a>,
 ) -> Result<Command<'a>, Refusal>
-    ensures { Gives (asked_by caller.now (verb_of request.now.method.now)
+    ensures { GivesCommand (asked_by caller.now (verb_of request.now.method.now)
         request.now.target.now request.now.body) result }
 {
     let verb = Verb::read(request.method);
     match caller {
-        Caller::Cand(_) => candidate_command(routes, verb, request.target),
+        Caller::Cand(_) => match her_command(routes, verb, request.target) {
+            Some(command) => Ok(command),
+            None => Err(Refusal::Candidate),
+        },
         _ => staff_command(alloc, routes, verb, request.target, request.body),
-    }
-}
-
-// What a candidate asks for, where that is one of her pages.
-fn candidate_command<'a>(routes: &Routes, verb: Verb, target: &str) -> Result<Command<'a>, Refusal>
-    ensures { result ≡ candidate_command verb target.now }
-{
-    match her_command(routes, verb, target) {
-        Some(command) => Ok(command),
-        None => Err(Refusal::Candidate),
     }
 }
 
@@ -151,7 +146,7 @@ fn staff_command<'a>(
     target: &str,
     body: &'a [u8],
 ) -> Result<Command<'a>, Refusal>
-    ensures { Gives (staff_command verb target.now body.entry) result }
+    ensures { GivesCommand (staff_command verb target.now body.entry) result }
 {
     let Some(page) = routes.page(target) else {
         return Err(Refusal::Path);

@@ -23,7 +23,6 @@ fn ask(rt: &HostRuntime) -> io::Result<(bool, Vec<u8>)> {
     let (stream, _) = listener.accept()?;
     let mut board = Board { answered: 0 };
     let served = serve(alloc, &mut &stream, &mut &stream, &mut board, 100);
-    stream.shutdown(Shutdown::Write)?;
     let drained = drain(&mut &stream, 100);
     drop(stream);
     let mut reply = Vec::new(alloc);
