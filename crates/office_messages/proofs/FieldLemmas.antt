@@ -8,9 +8,12 @@ use Rattle.httparse.specs.declared.spans.HeaderSpan.{HeaderSpan}
 use Rattle.office_messages.specs.Fields.{asks_to_close}
 
 -- one field that asks for it settles the question
-pub field_settles : (bytes : List ℕ) (headers : List HeaderSpan) (i : ℕ) (d : HeaderSpan) → i < length headers
-    → asks_to_close (header_bytes bytes (get_or headers i d)) ≡ true → true ≡ list_any asks_to_close (map (header_bytes bytes) headers)
+pub field_settles : (bytes : List ℕ) (headers : List HeaderSpan) (i : ℕ) (d : HeaderSpan)
+    → i < length headers
+    → asks_to_close (header_bytes bytes (get_or headers i d)) ≡ true
+    → true ≡ list_any asks_to_close (map (header_bytes bytes) headers)
 field_settles bytes headers i d inside asks =
     let here = header_bytes bytes d in
-    sym (list_any_at asks_to_close (map (header_bytes bytes) headers) i here (omega (arith, inside, length-map headers (header_bytes bytes)))
+    sym (list_any_at asks_to_close (map (header_bytes bytes) headers) i here
+    (omega (arith, inside, length-map headers (header_bytes bytes)))
     (ap asks_to_close (get_or-map (header_bytes bytes) headers i d here inside) ∙ asks))

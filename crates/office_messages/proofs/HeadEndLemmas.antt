@@ -1,5 +1,8 @@
 -- A head ends with a line that isn't empty, and an empty one.
-use Rattle.std.proofs.Common.{◌≡◌, ◌≢◌, ℕ, ◌+◌, ◌-◌, ◌<◌, ◌≤◌, Bool, true, false, not, ◌&&◌, cond, List, [], ◌∷◌, ◌++◌, length, take, drop, Option, Some, None, flat_map, codes, refl, sym, ap, subst, ◌∙◌, append_assoc, append-nil, arith, length-append, length-take, inl, inr}
+use Rattle.std.proofs.Common.{◌≡◌, ◌≢◌, ℕ, ◌+◌, ◌-◌, ◌<◌, ◌≤◌, Bool, true, false, not, ◌&&◌, cond}
+use Rattle.std.proofs.Common.{List, [], ◌∷◌, ◌++◌, length, take, drop, Option, Some, None, flat_map}
+use Rattle.std.proofs.Common.{codes, refl, sym, ap, subst, ◌∙◌, append_assoc, append-nil, arith}
+use Rattle.std.proofs.Common.{length-append, length-take, inl, inr}
 use Rattle.std.specs.Prelude.{nat_eq, nat_lt, All, IsTrue, option_and_then}
 use Rattle.std.specs.List.{ends_with}
 use Rattle.std.specs.Option.{option_map_or}
@@ -10,7 +13,9 @@ use Rattle.std.proofs.lemmas.List.{take-take}
 use Rattle.std.proofs.Math.Seq.{take-append_seam, drop-append_seam, take-append-add}
 use lib.Pointwise.{pointwise}
 use Rattle.httparse.specs.Ascii.{crlf_bytes}
-use Rattle.httparse.specs.Grammar.{LineEnd, crlf, lf, print_end, print_blank, Field, IsField, print_field, is_value_byte, AllPass, RequestHead, IsRequestHead, print_request}
+use Rattle.httparse.specs.Grammar.{LineEnd, crlf, lf, print_end, print_blank, Field, IsField}
+use Rattle.httparse.specs.Grammar.{print_field, is_value_byte, AllPass, RequestHead, IsRequestHead}
+use Rattle.httparse.specs.Grammar.{print_request}
 use Rattle.office_messages.specs.Heads.{before_end, ends_in_line, ends_as_head}
 use Rattle.office_messages.specs.Stream.{LacksHead}
 
@@ -35,7 +40,8 @@ value_is_plain : (b : ℕ) → IsTrue (is_value_byte b) → (b ≢ 10) × (b ≢
 value_is_plain b v = (grind (arith, nat_tests), grind (arith, nat_tests))
 
 plain : (b : ℕ) (raw : List ℕ) → b ≢ 10 → b ≢ 13 → AllPass is_value_byte raw → EndsPlain (b ∷ raw)
-plain b [] no_lf no_cr all = record { text = []; last = b; whole = refl; not_lf = no_lf; not_cr = no_cr }
+plain b [] no_lf no_cr all =
+    record { text = []; last = b; whole = refl; not_lf = no_lf; not_cr = no_cr }
 plain b (x ∷ raw) no_lf no_cr all =
     let v = value_is_plain x (All-head (λ b. IsTrue (is_value_byte b)) x raw all) in
     let rest = plain x raw v.0 v.1 (All-tail (λ b. IsTrue (is_value_byte b)) x raw all) in
@@ -48,7 +54,8 @@ plain b (x ∷ raw) no_lf no_cr all =
     }
 
 -- bytes before a plain end and a line end
-behind : (front bytes : List ℕ) (end : LineEnd) → EndsPlain bytes → EndsLine (front ++ (bytes ++ print_end end))
+behind : (front bytes : List ℕ) (end : LineEnd) → EndsPlain bytes
+    → EndsLine (front ++ (bytes ++ print_end end))
 behind front bytes end p = record {
   text = front ++ p.text;
   last = p.last;
@@ -70,40 +77,52 @@ field_ends front f is =
     subst EndsLine e (behind (front ++ f.name) tail f.end p)
 
 -- lines behind such a line end so too
-fields_end : (front : List ℕ) (fields : List Field) → EndsLine front → All IsField fields → EndsLine (front ++ flat_map print_field fields)
+fields_end : (front : List ℕ) (fields : List Field) → EndsLine front → All IsField fields
+    → EndsLine (front ++ flat_map print_field fields)
 fields_end front [] ends all = subst EndsLine (sym (append-nil front)) ends
 fields_end front (f ∷ fields) ends all =
-    let e : (front ++ print_field f) ++ flat_map print_field fields ≡ front ++ (print_field f ++ flat_map print_field fields) =
+    let e : (front ++ print_field f) ++ flat_map print_field fields ≡ front ++
+    (print_field f ++ flat_map print_field fields) =
     append_assoc front (print_field f) (flat_map print_field fields) in
     subst EndsLine e
-    (fields_end (front ++ print_field f) fields (field_ends front f (All-head IsField f fields all)) (All-tail IsField f fields all))
+    (fields_end (front ++ print_field f) fields (field_ends front f (All-head IsField f fields all))
+    (All-tail IsField f fields all))
 
 -- the end of a text is compared with as many bytes
-ends_of : (front p q : List ℕ) → length p ≡ length q → ends_with nat_eq (front ++ q) p ≡ pointwise nat_eq p q
+ends_of : (front p q : List ℕ) → length p ≡ length q
+    → ends_with nat_eq (front ++ q) p ≡ pointwise nat_eq p q
 ends_of front p q same =
-    let start : length (front ++ q) - length p ≡ length front = omega (arith, length-append front q, same) in
+    let start : length (front ++ q) - length p ≡ length front =
+    omega (arith, length-append front q, same) in
     ap (λ (k : ℕ). pointwise nat_eq p (drop k (front ++ q))) start
     ∙ ap (pointwise nat_eq p) (drop-append_seam front q)
 
 -- the front is what is left without the end
-front_of : (front q : List ℕ) (n : ℕ) → n ≡ length q → take (length (front ++ q) - n) (front ++ q) ≡ front
+front_of : (front q : List ℕ) (n : ℕ) → n ≡ length q
+    → take (length (front ++ q) - n) (front ++ q) ≡ front
 front_of front q n same =
-    let start : length (front ++ q) - n ≡ length front = omega (arith, length-append front q, same) in
+    let start : length (front ++ q) - n ≡ length front =
+    omega (arith, length-append front q, same) in
     ap (λ (k : ℕ). take k (front ++ q)) start ∙ take-append_seam front q
 
 -- which of two line ends stands there
-by_tests : (xs line : List ℕ) (both one : Bool) → ends_with nat_eq xs crlf_bytes ≡ both → ends_with nat_eq xs (10 ∷ []) ≡ one
-    → cond both (Some (take (length xs - 2) xs)) (cond one (Some (take (length xs - 1) xs)) None) ≡ Some line → before_end xs ≡ Some line
+by_tests : (xs line : List ℕ) (both one : Bool) → ends_with nat_eq xs crlf_bytes ≡ both
+    → ends_with nat_eq xs (10 ∷ []) ≡ one
+    → cond both (Some (take (length xs - 2) xs))
+    (cond one (Some (take (length xs - 1) xs)) None) ≡ Some line → before_end xs ≡ Some line
 by_tests xs line both one e f g =
-    ap (λ (b : Bool). cond b (Some (take (length xs - 2) xs)) (cond (ends_with nat_eq xs (10 ∷ [])) (Some (take (length xs - 1) xs)) None)) e
-    ∙ ap (λ (b : Bool). cond both (Some (take (length xs - 2) xs)) (cond b (Some (take (length xs - 1) xs)) None)) f ∙ g
+    ap (λ (b : Bool). cond b (Some (take (length xs - 2) xs))
+    (cond (ends_with nat_eq xs (10 ∷ [])) (Some (take (length xs - 1) xs)) None)) e
+    ∙ ap (λ (b : Bool). cond both (Some (take (length xs - 2) xs))
+    (cond b (Some (take (length xs - 1) xs)) None)) f ∙ g
 
 line_of : (text : List ℕ) (last : ℕ) (end : LineEnd) → last ≢ 13
     → before_end ((text ++ last ∷ []) ++ print_end end) ≡ Some (text ++ last ∷ [])
 line_of text last crlf no_cr =
     let line : List ℕ = text ++ last ∷ [] in
     let xs : List ℕ = line ++ 13 ∷ 10 ∷ [] in
-    by_tests xs line true (ends_with nat_eq xs (10 ∷ [])) (ends_of line crlf_bytes (13 ∷ 10 ∷ []) refl) refl
+    by_tests xs line true (ends_with nat_eq xs (10 ∷ []))
+    (ends_of line crlf_bytes (13 ∷ 10 ∷ []) refl) refl
     (ap Some (front_of line (13 ∷ 10 ∷ []) 2 refl))
 line_of text last lf no_cr =
     let line : List ℕ = text ++ last ∷ [] in
@@ -117,27 +136,35 @@ line_of text last lf no_cr =
 
 in_line : (text : List ℕ) (last : ℕ) → last ≢ 10 → ends_in_line (text ++ last ∷ []) ≡ true
 in_line text last no_lf =
-    let some : nat_lt 0 (length (text ++ last ∷ [])) ≡ true = lt-ltb 0 (length (text ++ last ∷ [])) (omega (arith, length-append text (last ∷ []))) in
+    let some : nat_lt 0 (length (text ++ last ∷ [])) ≡ true =
+    lt-ltb 0 (length (text ++ last ∷ [])) (omega (arith, length-append text (last ∷ []))) in
     let other : ends_with nat_eq (text ++ last ∷ []) (10 ∷ []) ≡ false =
-    ends_of text (10 ∷ []) (last ∷ []) refl ∙ ap (λ (b : Bool). b && true) (ne_eqb 10 last (λ e. no_lf (sym e))) in
-    ap (λ (b : Bool). b && not (ends_with nat_eq (text ++ last ∷ []) (10 ∷ []))) some ∙ ap (λ (b : Bool). not b) other
+    ends_of text (10 ∷ []) (last ∷ []) refl
+    ∙ ap (λ (b : Bool). b && true) (ne_eqb 10 last (λ e. no_lf (sym e))) in
+    ap (λ (b : Bool). b && not (ends_with nat_eq (text ++ last ∷ []) (10 ∷ []))) some
+    ∙ ap (λ (b : Bool). not b) other
 
 -- a line end makes the bytes end with LF
-line_end_last : (line : List ℕ) (end : LineEnd) → (text : List ℕ) × (line ++ print_end end ≡ text ++ 10 ∷ [])
+line_end_last : (line : List ℕ) (end : LineEnd) → (text : List ℕ)
+    × (line ++ print_end end ≡ text ++ 10 ∷ [])
 line_end_last line crlf = (line ++ 13 ∷ [], sym (append_assoc line (13 ∷ []) (10 ∷ [])))
 line_end_last line lf = (line, refl)
 
 -- a plain line and an empty one
-ends_both : (bytes : List ℕ) (end : LineEnd) → EndsLine bytes → ends_as_head (bytes ++ print_end end) ≡ true
+ends_both : (bytes : List ℕ) (end : LineEnd) → EndsLine bytes
+    → ends_as_head (bytes ++ print_end end) ≡ true
 unfolding ends_as_head
 ends_both bytes end x =
     let line : List ℕ = x.text ++ x.last ∷ [] in
     let low = line_end_last line x.end in
     let e : bytes ≡ low.0 ++ 10 ∷ [] = x.whole ∙ low.1 in
     let first : before_end (bytes ++ print_end end) ≡ Some bytes =
-    ap (λ (l : List ℕ). before_end (l ++ print_end end)) e ∙ line_of low.0 10 end (omega arith) ∙ ap Some (sym e) in
-    let second : before_end bytes ≡ Some line = ap before_end x.whole ∙ line_of x.text x.last x.end x.not_cr in
-    ap (λ (o : Option (List ℕ)). option_map_or ends_in_line (option_and_then before_end o) false) first
+    ap (λ (l : List ℕ). before_end (l ++ print_end end)) e ∙ line_of low.0 10 end (omega arith)
+    ∙ ap Some (sym e) in
+    let second : before_end bytes ≡ Some line =
+    ap before_end x.whole ∙ line_of x.text x.last x.end x.not_cr in
+    ap (λ (o : Option (List ℕ)). option_map_or ends_in_line
+    (option_and_then before_end o) false) first
     ∙ ap (λ (o : Option (List ℕ)). option_map_or ends_in_line o false) second
     ∙ in_line x.text x.last x.not_lf
 
@@ -145,19 +172,26 @@ pub head_ends : (h : RequestHead) → IsRequestHead h → ends_as_head (print_re
 unfolding print_request
 head_ends h is =
     let before : List ℕ = (print_blank h.blank ++ h.method) ++ 32 ∷ h.target in
-    let digit : EndsPlain ((48 + h.minor) ∷ []) = plain (48 + h.minor) [] (omega (arith, is.minor)) (omega (arith, is.minor)) (All-nil (λ b. IsTrue (is_value_byte b))) in
+    let digit : EndsPlain ((48 + h.minor) ∷ []) =
+    plain (48 + h.minor) [] (omega (arith, is.minor)) (omega (arith, is.minor))
+    (All-nil (λ b. IsTrue (is_value_byte b))) in
     let version : List ℕ = 32 ∷ codes "HTTP/1." in
     let start : List ℕ = (before ++ (version ++ (48 + h.minor) ∷ [])) ++ print_end h.line_end in
     let e : (before ++ version) ++ (((48 + h.minor) ∷ []) ++ print_end h.line_end) ≡ start =
     sym (append_assoc (before ++ version) ((48 + h.minor) ∷ []) (print_end h.line_end))
-    ∙ ap (λ (l : List ℕ). l ++ print_end h.line_end) (append_assoc before version ((48 + h.minor) ∷ [])) in
-    let lines = fields_end start h.fields (subst EndsLine e (behind (before ++ version) ((48 + h.minor) ∷ []) h.line_end digit)) is.fields in
+    ∙ ap (λ (l : List ℕ). l ++ print_end h.line_end)
+    (append_assoc before version ((48 + h.minor) ∷ [])) in
+    let lines =
+    fields_end start h.fields
+    (subst EndsLine e
+    (behind (before ++ version) ((48 + h.minor) ∷ []) h.line_end digit)) is.fields in
     ap ends_as_head (sym (append_assoc start (flat_map print_field h.fields) (print_end h.last)))
     ∙ ends_both (start ++ flat_map print_field h.fields) h.last lines
 
 -- where no head can end behind the first n bytes, none ends at all, if none ends in these
 pub searched_lacks : (bytes : List ℕ) (n : ℕ) → n ≤ length bytes → LacksHead (take n bytes)
-    → ((k : ℕ) → n < k → k ≤ length (take 16384 bytes) → ends_as_head (take k (take 16384 bytes)) ≡ false) → LacksHead bytes
+    → ((k : ℕ) → n < k → k ≤ length (take 16384 bytes)
+    → ends_as_head (take k (take 16384 bytes)) ≡ false) → LacksHead bytes
 searched_lacks bytes n fits none ends h rest x =
     let text = print_request h in
     let k = length text in
@@ -166,13 +200,19 @@ searched_lacks bytes n fits none ends h rest x =
     elim (cases_lt n k) [
       | inl past ↦
           let same : take k (take 16384 bytes) ≡ text = take-take k 16384 bytes x.fits ∙ front in
-          both_ways (ends_as_head text) (sym (ap ends_as_head same) ∙ ends k past (omega (arith, length-take 16384 bytes, x.fits, long)))
+          both_ways (ends_as_head text)
+          (sym (ap ends_as_head same)
+          ∙ ends k past (omega (arith, length-take 16384 bytes, x.fits, long)))
           (head_ends h x.reads.0)
       | inr within ↦
           let room : n ≡ k + (n - k) = omega (arith, within) in
           none h (take (n - k) rest)
           record {
-            reads = (x.reads.0, ap (take n) x.reads.1 ∙ ap (λ (m : ℕ). take m (text ++ rest)) room ∙ take-append-add text rest (n - k));
+            reads = (
+              x.reads.0,
+              ap (take n) x.reads.1 ∙ ap (λ (m : ℕ). take m (text ++ rest)) room
+                  ∙ take-append-add text rest (n - k),
+            );
             room = x.room;
             fits = x.fits;
           }

@@ -1,8 +1,12 @@
 -- What the parser says of the first bytes of a stream, said of the whole.
-use Rattle.std.proofs.Common.{◌≡◌, ℕ, ◌+◌, ◌-◌, ◌<◌, ◌≤◌, List, [], ◌++◌, length, take, drop, refl, sym, ap, subst, ◌∙◌, append_assoc, arith, length-append, take-append-drop, length-take, length-drop, slice_range, Option, Some, None}
+use Rattle.std.proofs.Common.{◌≡◌, ℕ, ◌+◌, ◌-◌, ◌<◌, ◌≤◌, List, [], ◌++◌, length, take, drop, refl}
+use Rattle.std.proofs.Common.{sym, ap, subst, ◌∙◌, append_assoc, arith, length-append}
+use Rattle.std.proofs.Common.{take-append-drop, length-take, length-drop, slice_range, Option, Some}
+use Rattle.std.proofs.Common.{None}
 use Rattle.std.proofs.lemmas.List.{length-map, take-append-le, drop-append-le, drop-drop}
 use Rattle.std.proofs.Math.Seq.{drop-append_seam, take-append-add}
-use Rattle.httparse.specs.Grammar.{RequestHead, ReadsRequest, HasNoRequest, print_request, is_token_byte, IsToken}
+use Rattle.httparse.specs.Grammar.{RequestHead, ReadsRequest, HasNoRequest, print_request}
+use Rattle.httparse.specs.Grammar.{is_token_byte, IsToken}
 use Rattle.httparse.specs.Spans.{IsRequestAt, RequestOverflows, name_and_value, header_bytes}
 use Rattle.httparse.specs.declared.spans.HeaderSpan.{HeaderSpan}
 use Rattle.httparse.specs.declared.spans.RequestSpans.{RequestSpans}
@@ -12,33 +16,48 @@ use Rattle.std.proofs.lemmas.Bool.Decides.{nat_tests}
 use Rattle.std.proofs.lemmas.List.Elements.{All-weaker}
 use Rattle.std.proofs.lemmas.Str.{IsUtf8-from_ascii}
 use Rattle.std.proofs.lemmas.Str.Ascii.{IsAscii-from_all}
-use Rattle.office_messages.specs.Stream.{PlainRequest, HasHead, LacksHead, RequestAt, caller_of, request_of}
+use Rattle.office_messages.specs.Stream.{PlainRequest, HasHead, LacksHead, RequestAt, caller_of}
+use Rattle.office_messages.specs.Stream.{request_of}
 use Rattle.office_messages.specs.Heads.{Covers, CallerAt, IsHeadOf, HeadAt}
 use Rattle.office_messages.specs.declared.head.Head.{Head}
 
 -- a head at the front stays there whatever follows
-pub reads_more : (buf : List ℕ) (h : RequestHead) (rest more : List ℕ) → ReadsRequest buf h rest → ReadsRequest (buf ++ more) h (rest ++ more)
-reads_more buf h rest more r = (r.0, ap (λ l. l ++ more) r.1 ∙ append_assoc (print_request h) rest more)
+pub reads_more : (buf : List ℕ) (h : RequestHead) (rest more : List ℕ) → ReadsRequest buf h rest
+    → ReadsRequest (buf ++ more) h (rest ++ more)
+reads_more buf h rest more r =
+    (r.0, ap (λ l. l ++ more) r.1 ∙ append_assoc (print_request h) rest more)
 
 -- the rest is what is behind the head
-pub rest_of : (buf : List ℕ) (h : RequestHead) (rest : List ℕ) → ReadsRequest buf h rest → rest ≡ drop (length (print_request h)) buf
-rest_of buf h rest r = sym (ap (drop (length (print_request h))) r.1 ∙ drop-append_seam (print_request h) rest)
+pub rest_of : (buf : List ℕ) (h : RequestHead) (rest : List ℕ) → ReadsRequest buf h rest
+    → rest ≡ drop (length (print_request h)) buf
+rest_of buf h rest r =
+    sym (ap (drop (length (print_request h))) r.1 ∙ drop-append_seam (print_request h) rest)
 
 -- the front and what is behind it
 pub whole_of : (n : ℕ) (bytes : List ℕ) → bytes ≡ take n bytes ++ drop n bytes
 whole_of n bytes = sym (take-append-drop n bytes)
 
 -- a head of the first bytes is one of all
-pub head_of_front : (bytes : List ℕ) (n : ℕ) (h : RequestHead) (len : ℕ) → len ≡ length (print_request h) → length h.fields ≤ 32 → n ≤ 16384
+pub head_of_front : (bytes : List ℕ) (n : ℕ) (h : RequestHead) (len : ℕ)
+    → len ≡ length (print_request h) → length h.fields ≤ 32 → n ≤ 16384
     → ReadsRequest (take n bytes) h (drop len (take n bytes)) → HasHead bytes h (drop len bytes)
 head_of_front bytes n h len is room small r =
     let whole : bytes ≡ print_request h ++ (drop len (take n bytes) ++ drop n bytes) =
-    whole_of n bytes ∙ ap (λ l. l ++ drop n bytes) r.1 ∙ append_assoc (print_request h) (drop len (take n bytes)) (drop n bytes) in
-    let rest = rest_of bytes h (drop len (take n bytes) ++ drop n bytes) (r.0, whole) ∙ ap (λ k. drop k bytes) (sym is) in
+    whole_of n bytes ∙ ap (λ l. l ++ drop n bytes) r.1
+    ∙ append_assoc (print_request h) (drop len (take n bytes)) (drop n bytes) in
+    let rest =
+    rest_of bytes h (drop len (take n bytes) ++ drop n bytes) (r.0, whole)
+    ∙ ap (λ k. drop k bytes) (sym is) in
     record {
       reads = (r.0, whole ∙ ap (λ l. print_request h ++ l) rest);
       room = room;
-      fits = omega (arith, ap length r.1, length-append (print_request h) (drop len (take n bytes)), length-take n bytes);
+      fits = omega (
+        arith,
+        ap length r.1,
+        length-append (print_request h)
+            (drop len (take n bytes)),
+        length-take n bytes,
+      );
     }
 
 -- where the first bytes have no head, none is short enough
@@ -46,19 +65,34 @@ pub no_head_of_front : (bytes : List ℕ) → HasNoRequest (take 16384 bytes) �
 no_head_of_front bytes none h rest x =
     let text = print_request h in
     let room : 16384 ≡ length text + (16384 - length text) = omega (arith, x.fits) in
-    none h (take (16384 - length text) rest)
-    (x.reads.0, ap (take 16384) x.reads.1 ∙ ap (λ n. take n (text ++ rest)) room ∙ take-append-add text rest (16384 - length text))
+    none h (take (16384 - length text) rest) (
+      x.reads.0,
+      ap (take 16384) x.reads.1 ∙ ap (λ n. take n (text ++ rest)) room
+          ∙ take-append-add text rest (16384 - length text),
+    )
 
 -- too many headers in the first bytes are too many in all
-pub overflows_of_front : (bytes : List ℕ) (n : ℕ) (room : ℕ) → RequestOverflows room (take n bytes) → RequestOverflows room bytes
+pub overflows_of_front : (bytes : List ℕ) (n : ℕ) (room : ℕ) → RequestOverflows room (take n bytes)
+    → RequestOverflows room bytes
 overflows_of_front bytes n room over more h rest r =
-    over (drop n bytes ++ more) h rest
-    (r.0, sym (append_assoc (take n bytes) (drop n bytes) more) ∙ ap (λ l. l ++ more) (take-append-drop n bytes) ∙ r.1)
+    over (drop n bytes ++ more) h rest (
+      r.0,
+      sym (append_assoc (take n bytes) (drop n bytes) more)
+          ∙ ap (λ l. l ++ more) (take-append-drop n bytes) ∙ r.1,
+    )
 
 -- as many headers as fields
-pub count_fields : (buf : List ℕ) (headers : List HeaderSpan) (spans : RequestSpans) (h : RequestHead) → IsRequestAt buf headers spans h → length h.fields ≤ length headers
+pub count_fields : (buf : List ℕ) (headers : List HeaderSpan) (spans : RequestSpans)
+    (h : RequestHead) → IsRequestAt buf headers spans h → length h.fields ≤ length headers
 count_fields buf headers spans h x =
-    omega (arith, ap length x.fields, length-map (take spans.headers headers) (header_bytes buf), length-map h.fields name_and_value, length-take spans.headers headers)
+    omega (
+      arith,
+      ap length x.fields,
+      length-map (take spans.headers headers)
+          (header_bytes buf),
+      length-map h.fields name_and_value,
+      length-take spans.headers headers,
+    )
 
 -- a head has some bytes
 pub print_some : (h : RequestHead) → 0 < length (print_request h)
@@ -66,27 +100,33 @@ unfolding print_request
 print_some h = simp length-append (omega arith)
 
 pub nothing_lacks : LacksHead []
-nothing_lacks h rest x = let e = ap length x.reads.1 in omega (arith, e, length-append (print_request h) rest, print_some h)
+nothing_lacks h rest x = let e =
+    ap length x.reads.1 in omega (arith, e, length-append (print_request h) rest, print_some h)
 
 -- ---- the parts of a head, by where they lie
 
 -- a part that is covered stays so, whatever follows
-pub covers_more : (bytes more : List ℕ) (span : Span) (part : List ℕ) → Covers bytes span part → Covers (bytes ++ more) span part
+pub covers_more : (bytes more : List ℕ) (span : Span) (part : List ℕ) → Covers bytes span part
+    → Covers (bytes ++ more) span part
 covers_more bytes more span part x = record {
   within = (x.within.0, omega (arith, x.within.1, length-append bytes more));
   covered =
-      ap (take (span.end - span.start)) (drop-append-le span.start bytes more (omega (arith, x.within.0, x.within.1)))
-      ∙ take-append-le (span.end - span.start) (drop span.start bytes) more (omega (arith, length-drop span.start bytes, x.within.1))
+      ap (take (span.end - span.start))
+      (drop-append-le span.start bytes more (omega (arith, x.within.0, x.within.1)))
+      ∙ take-append-le (span.end - span.start) (drop span.start bytes) more
+      (omega (arith, length-drop span.start bytes, x.within.1))
       ∙ x.covered;
 }
 
-caller_more : (bytes more : List ℕ) (span : Option Span) (value : Option (List ℕ)) → CallerAt bytes span value → CallerAt (bytes ++ more) span value
+caller_more : (bytes more : List ℕ) (span : Option Span) (value : Option (List ℕ))
+    → CallerAt bytes span value → CallerAt (bytes ++ more) span value
 caller_more bytes more None None x = tt
 caller_more bytes more None (Some v) x = absurd x
 caller_more bytes more (Some s) None x = absurd x
 caller_more bytes more (Some s) (Some v) x = covers_more bytes more s v x
 
-pub parts_more : (bytes more : List ℕ) (x : Head) (h : RequestHead) → IsHeadOf bytes x h → IsHeadOf (bytes ++ more) x h
+pub parts_more : (bytes more : List ℕ) (x : Head) (h : RequestHead) → IsHeadOf bytes x h
+    → IsHeadOf (bytes ++ more) x h
 parts_more bytes more x h p = record {
   method = covers_more bytes more x.method h.method p.method;
   target = covers_more bytes more x.target h.target p.target;
@@ -101,11 +141,18 @@ parts_more bytes more x h p = record {
 pub head_at_more : (bytes more : List ℕ) (x : Head) → HeadAt bytes x → HeadAt (bytes ++ more) x
 head_at_more bytes more x at =
     let fits : x.body.start ≤ length bytes =
-    omega (arith, at.parts.start, ap length at.has_head.reads.1, length-append (print_request at.head) (drop x.body.start bytes)) in
+    omega (
+      arith,
+      at.parts.start,
+      ap length at.has_head.reads.1,
+      length-append
+          (print_request at.head) (drop x.body.start bytes),
+    ) in
     record {
       head = at.head;
       has_head = record {
-        reads = subst (λ (l : List ℕ). ReadsRequest (bytes ++ more) at.head l) (sym (drop-append-le x.body.start bytes more fits))
+        reads = subst (λ (l : List ℕ). ReadsRequest (bytes ++ more) at.head l)
+            (sym (drop-append-le x.body.start bytes more fits))
             (reads_more bytes at.head (drop x.body.start bytes) more at.has_head.reads);
         room = at.has_head.room;
         fits = at.has_head.fits;
@@ -114,8 +161,10 @@ head_at_more bytes more x at =
     }
 
 -- a head parsed in the first bytes is one of all
-pub head_at_front : (bytes front : List ℕ) (x : Head) (h : RequestHead) (len : ℕ) → front ≡ take 16384 bytes → len ≡ length (print_request h)
-    → length h.fields ≤ 32 → ReadsRequest front h (drop len front) → IsHeadOf front x h → HeadAt bytes x
+pub head_at_front : (bytes front : List ℕ) (x : Head) (h : RequestHead) (len : ℕ)
+    → front ≡ take 16384 bytes → len ≡ length (print_request h)
+    → length h.fields ≤ 32 → ReadsRequest front h (drop len front) → IsHeadOf front x h
+    → HeadAt bytes x
 head_at_front bytes front x h len e is room reads parts =
     let P : List ℕ → Type 0 = λ l. ReadsRequest l h (drop len l) in
     let same : len ≡ x.body.start = is ∙ sym parts.start in
@@ -123,7 +172,8 @@ head_at_front bytes front x h len e is room reads parts =
       head = h;
       has_head = subst (λ (n : ℕ). HasHead bytes h (drop n bytes)) same
           (head_of_front bytes 16384 h len is room (omega arith) (subst P e reads));
-      parts = subst (λ (l : List ℕ). IsHeadOf l x h) (ap (λ (l : List ℕ). l ++ drop 16384 bytes) e ∙ take-append-drop 16384 bytes)
+      parts = subst (λ (l : List ℕ). IsHeadOf l x h)
+          (ap (λ (l : List ℕ). l ++ drop 16384 bytes) e ∙ take-append-drop 16384 bytes)
           (parts_more front (drop 16384 bytes) x h parts);
     }
 
@@ -139,10 +189,12 @@ token_text bytes token =
 
 -- the body lies behind the head
 pub body_of : (bytes : List ℕ) (x : Head) → HeadAt bytes x → x.body.end ≤ length bytes
-    → slice_range bytes x.body.start x.body.end ≡ take (x.body.end - x.body.start) (drop x.body.start bytes)
+    → slice_range bytes x.body.start x.body.end ≡ take (x.body.end - x.body.start)
+    (drop x.body.start bytes)
 body_of bytes x at whole = refl
 
-pub request_at : (bytes : List ℕ) (x : Head) (r : PlainRequest) (at : HeadAt bytes x) → x.body.end ≤ length bytes
+pub request_at : (bytes : List ℕ) (x : Head) (r : PlainRequest) (at : HeadAt bytes x)
+    → x.body.end ≤ length bytes
     → r ≡ request_of at.head (take (x.body.end - x.body.start) (drop x.body.start bytes))
     → RequestAt r x.closes bytes (drop x.body.end bytes)
 request_at bytes x r at whole e =
@@ -155,5 +207,6 @@ request_at bytes x r at whole e =
       whole = omega (arith, length-drop x.body.start bytes, whole);
       request = e;
       closing = at.parts.closing;
-      rest_is = ap (λ (n : ℕ). drop n bytes) (omega (arith, at.parts.ordered)) ∙ sym (drop-drop (x.body.end - x.body.start) x.body.start bytes);
+      rest_is = ap (λ (n : ℕ). drop n bytes) (omega (arith, at.parts.ordered))
+          ∙ sym (drop-drop (x.body.end - x.body.start) x.body.start bytes);
     }

@@ -1,17 +1,22 @@
 -- What the bytes that have come begin with stays whatever follows.
-use Rattle.std.proofs.Common.{◌≡◌, ℕ, ◌≤◌, Bool, List, ◌++◌, length, take, drop, sym, ap, ◌∙◌, append_assoc, arith, length-append, take-append-drop, inl, inr}
+use Rattle.std.proofs.Common.{◌≡◌, ℕ, ◌≤◌, Bool, List, ◌++◌, length, take, drop, sym, ap, ◌∙◌}
+use Rattle.std.proofs.Common.{append_assoc, arith, length-append, take-append-drop, inl, inr}
 use Rattle.std.proofs.lemmas.List.{take-append-le, drop-append-le}
 use Rattle.std.proofs.Math.Seq.{take-append_seam}
 use Rattle.httparse.specs.Grammar.{RequestHead, print_request}
 use Rattle.office_messages.specs.declared.framing.Fault.{Fault}
 use Rattle.office_messages.specs.declared.form.Form.{Form}
-use Rattle.office_messages.specs.Stream.{HasHead, LacksHead, HeadFault, FaultAt, PlainRequest, RequestAt, request_of}
+use Rattle.office_messages.specs.Stream.{HasHead, LacksHead, HeadFault, FaultAt, PlainRequest}
+use Rattle.office_messages.specs.Stream.{RequestAt, request_of}
 use Rattle.office_messages.proofs.HeadLemmas.{reads_more}
 
-pub head_more : (s : List ℕ) (h : RequestHead) (rest more : List ℕ) → HasHead s h rest → HasHead (s ++ more) h (rest ++ more)
-head_more s h rest more x = record { reads = reads_more s h rest more x.reads; room = x.room; fits = x.fits }
+pub head_more : (s : List ℕ) (h : RequestHead) (rest more : List ℕ) → HasHead s h rest
+    → HasHead (s ++ more) h (rest ++ more)
+head_more s h rest more x =
+    record { reads = reads_more s h rest more x.reads; room = x.room; fits = x.fits }
 
-pub request_more : (r : PlainRequest) (last : Bool) (s rest more : List ℕ) → RequestAt r last s rest → RequestAt r last (s ++ more) (rest ++ more)
+pub request_more : (r : PlainRequest) (last : Bool) (s rest more : List ℕ) → RequestAt r last s rest
+    → RequestAt r last (s ++ more) (rest ++ more)
 request_more r last s rest more x =
     record {
       head = x.head;
@@ -20,7 +25,8 @@ request_more r last s rest more x =
       size = x.size;
       framed = x.framed;
       whole = omega (arith, x.whole, length-append x.after more);
-      request = x.request ∙ ap (request_of x.head) (sym (take-append-le x.size x.after more x.whole));
+      request = x.request
+          ∙ ap (request_of x.head) (sym (take-append-le x.size x.after more x.whole));
       closing = x.closing;
       rest_is = ap (λ l. l ++ more) x.rest_is ∙ sym (drop-append-le x.size x.after more x.whole);
     }
@@ -41,10 +47,19 @@ lacks_more s more long none h rest x =
     }
 
 head_fault_more : (s more : List ℕ) → HeadFault s → HeadFault (s ++ more)
-head_fault_more s more (some, inl x) = (omega (arith, length-append s more), inl (omega (arith, x.0, length-append s more), lacks_more s more x.0 x.1))
-head_fault_more s more (some, inr x) = (omega (arith, length-append s more), inr (λ later h rest r. x (more ++ later) h rest (r.0, sym (append_assoc s more later) ∙ r.1)))
+head_fault_more s more (some, inl x) = (
+  omega (arith, length-append s more),
+  inl
+      (omega (arith, x.0, length-append s more), lacks_more s more x.0 x.1),
+)
+head_fault_more s more (some, inr x) = (
+  omega (arith, length-append s more),
+  inr
+      (λ later h rest r. x (more ++ later) h rest (r.0, sym (append_assoc s more later) ∙ r.1)),
+)
 
-pub fault_more : (f : Fault) (form : Form) (s more : List ℕ) → FaultAt f form s → FaultAt f form (s ++ more)
+pub fault_more : (f : Fault) (form : Form) (s more : List ℕ) → FaultAt f form s
+    → FaultAt f form (s ++ more)
 fault_more f form s more (inl x) = inl (x.0, x.1, head_fault_more s more x.2)
 fault_more f form s more (inr x) =
     inr record {

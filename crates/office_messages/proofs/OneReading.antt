@@ -1,5 +1,7 @@
 -- A stream has one reading, but for the one choice.
-use Rattle.std.proofs.Common.{◌≡◌, ℕ, ◌+◌, ◌<◌, true, false, Bool, List, [], ◌∷◌, length, take, drop, Result, Ok, Err, refl, sym, ap, subst, ◌∙◌, append-nil, arith, inl, inr, ◌⊎◌}
+use Rattle.std.proofs.Common.{◌≡◌, ℕ, ◌+◌, ◌<◌, true, false, Bool, List, [], ◌∷◌, length, take}
+use Rattle.std.proofs.Common.{drop, Result, Ok, Err, refl, sym, ap, subst, ◌∙◌, append-nil, arith}
+use Rattle.std.proofs.Common.{inl, inr, ◌⊎◌}
 use Rattle.httparse.specs.Grammar.{RequestHead}
 use Rattle.httparse.proofs.GrammarLemmas.{request_unique}
 use Rattle.office_messages.specs.declared.form.Form.{Form}
@@ -7,38 +9,48 @@ use Rattle.office_messages.specs.declared.form.Form.TheVariants.{Full}
 use Rattle.office_messages.specs.declared.framing.Fault.{Fault}
 use Rattle.office_messages.specs.declared.framing.Fault.TheVariants as faults
 use Rattle.office_messages.specs.declared.connection.End.{End}
-use Rattle.office_messages.specs.declared.connection.End.TheVariants.{Closed, Cut, Refused, Asked, Limit}
+use Rattle.office_messages.specs.declared.connection.End.TheVariants.{Closed, Cut, Refused, Asked}
+use Rattle.office_messages.specs.declared.connection.End.TheVariants.{Limit}
 use Rattle.office_messages.specs.Framing.{framing}
 use Rattle.office_messages.specs.Form.{form_of}
-use Rattle.office_messages.specs.Stream.{PlainRequest, HasHead, RequestAt, HeadFault, FaultAt, Unfinished, fields_of, request_of, closes}
+use Rattle.office_messages.specs.Stream.{PlainRequest, HasHead, RequestAt, HeadFault, FaultAt}
+use Rattle.office_messages.specs.Stream.{Unfinished, fields_of, request_of, closes}
 use Rattle.office_messages.specs.Serve.{Item, asks, fails, Ends, Messages, Agree}
 use Rattle.office_messages.proofs.HeadLemmas.{nothing_lacks}
 
 -- one head, and one rest
-one_head : (s : List ℕ) (h k : RequestHead) (r q : List ℕ) → HasHead s h r → HasHead s k q → (h ≡ k) × (r ≡ q)
+one_head : (s : List ℕ) (h k : RequestHead) (r q : List ℕ) → HasHead s h r → HasHead s k q → (h ≡ k)
+    × (r ≡ q)
 one_head s h k r q x y = request_unique s h k r q x.reads y.reads
 
 -- a head leaves no fault of the head
 no_fault : (s : List ℕ) (h : RequestHead) (r : List ℕ) → HasHead s h r → HeadFault s → ⊥
 no_fault s h r x (some, inl y) = y.1 h r x
-no_fault s h r x (some, inr over) = let e = over [] h r (x.reads.0, append-nil s ∙ x.reads.1) in omega (arith, e, x.room)
+no_fault s h r x (some, inr over) = let e =
+    over [] h r (x.reads.0, append-nil s ∙ x.reads.1) in omega (arith, e, x.room)
 
 -- what framing says of one head, it says of the other
-same_framing : (s : List ℕ) (h k : RequestHead) (r q : List ℕ) (a b : Result ℕ Fault) → HasHead s h r → HasHead s k q
+same_framing : (s : List ℕ) (h k : RequestHead) (r q : List ℕ) (a b : Result ℕ Fault)
+    → HasHead s h r → HasHead s k q
     → framing h.minor (fields_of h) ≡ a → framing k.minor (fields_of k) ≡ b → a ≡ b
-same_framing s h k r q a b x y e f = sym e ∙ ap (λ (z : RequestHead). framing z.minor (fields_of z)) (one_head s h k r q x y).0 ∙ f
+same_framing s h k r q a b x y e f =
+    sym e ∙ ap (λ (z : RequestHead). framing z.minor (fields_of z)) (one_head s h k r q x y).0 ∙ f
 
 -- a request is no fault
-asks_not_fails : (r : PlainRequest) (last : Bool) (f : Fault) (form : Form) (s rest : List ℕ) → RequestAt r last s rest → FaultAt f form s → ⊥
+asks_not_fails : (r : PlainRequest) (last : Bool) (f : Fault) (form : Form) (s rest : List ℕ)
+    → RequestAt r last s rest → FaultAt f form s → ⊥
 asks_not_fails r last f form s rest x (inl y) = no_fault s x.head x.after x.has_head y.2
 asks_not_fails r last f form s rest x (inr y) =
-    let e = same_framing s x.head y.head x.after y.after (Ok x.size) (Err f) x.has_head y.has_head x.framed y.framed in cc
+    let e = same_framing s x.head y.head x.after y.after (Ok x.size)
+    (Err f) x.has_head y.has_head x.framed y.framed in cc
 
 -- nor less than a message
-asks_not_cut : (r : PlainRequest) (last : Bool) (s rest : List ℕ) → RequestAt r last s rest → Unfinished s → ⊥
+asks_not_cut : (r : PlainRequest) (last : Bool) (s rest : List ℕ) → RequestAt r last s rest
+    → Unfinished s → ⊥
 asks_not_cut r last s rest x (inl y) = y.1 x.head x.after x.has_head
 asks_not_cut r last s rest x (inr y) =
-    let e = same_framing s x.head y.head x.after y.after (Ok x.size) (Ok y.size) x.has_head y.has_head x.framed y.framed in
+    let e = same_framing s x.head y.head x.after y.after (Ok x.size)
+    (Ok y.size) x.has_head y.has_head x.framed y.framed in
     let size : x.size ≡ y.size = cc in
     let after = (one_head s x.head y.head x.after y.after x.has_head y.has_head).1 in
     omega (arith, size, ap length after, x.whole, y.short)
@@ -51,42 +63,57 @@ fails_some f form (inl x) = omega (arith, x.2.0)
 fails_some f form (inr x) = nothing_lacks x.head x.after x.has_head
 
 -- where a fault may be a cut as well, it is one of the head
-fails_or_cut : (f : Fault) (form : Form) (s : List ℕ) → FaultAt f form s → Unfinished s → (f ≡ faults.Head) × (form ≡ Full)
+fails_or_cut : (f : Fault) (form : Form) (s : List ℕ) → FaultAt f form s → Unfinished s
+    → (f ≡ faults.Head) × (form ≡ Full)
 fails_or_cut f form s (inl x) u = (x.0, x.1)
 fails_or_cut f form s (inr x) (inl u) = absurd (u.1 x.head x.after x.has_head)
 fails_or_cut f form s (inr x) (inr u) =
-    absurd (let e = same_framing s x.head u.head x.after u.after (Err f) (Ok u.size) x.has_head u.has_head x.framed u.framed in let no : ⊥ = cc in no)
+    absurd (let e =
+    same_framing s x.head u.head x.after u.after (Err f)
+    (Ok u.size) x.has_head u.has_head x.framed u.framed in let no : ⊥ = cc in no)
 
-one_fault : (f g : Fault) (form other : Form) (s : List ℕ) → FaultAt f form s → FaultAt g other s → (f ≡ g) × (form ≡ other)
+one_fault : (f g : Fault) (form other : Form) (s : List ℕ) → FaultAt f form s → FaultAt g other s
+    → (f ≡ g) × (form ≡ other)
 one_fault f g form other s (inl x) (inl y) = (x.0 ∙ sym y.0, x.1 ∙ sym y.1)
 one_fault f g form other s (inl x) (inr y) = absurd (no_fault s y.head y.after y.has_head x.2)
 one_fault f g form other s (inr x) (inl y) = absurd (no_fault s x.head x.after x.has_head y.2)
 one_fault f g form other s (inr x) (inr y) =
-    let e = same_framing s x.head y.head x.after y.after (Err f) (Err g) x.has_head y.has_head x.framed y.framed in
+    let e = same_framing s x.head y.head x.after y.after (Err f)
+    (Err g) x.has_head y.has_head x.framed y.framed in
     let same = (one_head s x.head y.head x.after y.after x.has_head y.has_head).0 in
     (cc, x.form_is ∙ ap (λ (h : RequestHead). form_of h.method) same ∙ sym y.form_is)
 
 -- two requests at the front are one, and both are the last or neither is
-one_request : (r q : PlainRequest) (a b : Bool) (s rest left : List ℕ) → RequestAt r a s rest → RequestAt q b s left → (r ≡ q) × (a ≡ b) × (rest ≡ left)
+one_request : (r q : PlainRequest) (a b : Bool) (s rest left : List ℕ) → RequestAt r a s rest
+    → RequestAt q b s left → (r ≡ q) × (a ≡ b) × (rest ≡ left)
 one_request r q a b s rest left x y =
     let same = one_head s x.head y.head x.after y.after x.has_head y.has_head in
-    let e = same_framing s x.head y.head x.after y.after (Ok x.size) (Ok y.size) x.has_head y.has_head x.framed y.framed in
+    let e = same_framing s x.head y.head x.after y.after (Ok x.size)
+    (Ok y.size) x.has_head y.has_head x.framed y.framed in
     let size : x.size ≡ y.size = cc in (
-      x.request ∙ ap (λ (p : RequestHead × (ℕ × List ℕ)). request_of p.0 (take p.1.0 p.1.1)) (let t : ◌≡◌ {A = RequestHead × (ℕ × List ℕ)} (x.head, (x.size, x.after)) (y.head, (y.size, y.after)) = cc in t) ∙ sym y.request,
+      x.request ∙ ap (λ (p : RequestHead × (ℕ × List ℕ)). request_of p.0 (take p.1.0 p.1.1))
+          (let t : ◌≡◌ {A = RequestHead × (ℕ × List ℕ)} (x.head, (x.size, x.after))
+          (y.head, (y.size, y.after)) = cc in t) ∙ sym y.request,
       x.closing ∙ ap (λ (h : RequestHead). closes h) same.0 ∙ sym y.closing,
-      x.rest_is ∙ ap (λ (p : ℕ × List ℕ). drop p.0 p.1) (let t : ◌≡◌ {A = ℕ × List ℕ} (x.size, x.after) (y.size, y.after) = cc in t) ∙ sym y.rest_is,
+      x.rest_is ∙ ap (λ (p : ℕ × List ℕ). drop p.0 p.1)
+          (let t : ◌≡◌ {A = ℕ × List ℕ} (x.size, x.after) (y.size, y.after) = cc in t)
+          ∙ sym y.rest_is,
     )
 
-swap : (items : List Item) (end : End) (others : List Item) (last : End) → Agree items end others last → Agree others last items end
+swap : (items : List Item) (end : End) (others : List Item) (last : End)
+    → Agree items end others last → Agree others last items end
 swap items end others last (inl x) = inl (sym x.0, sym x.1)
 swap items end others last (inr (inl x)) = inr (inr x)
 swap items end others last (inr (inr x)) = inr (inl x)
 
 -- one request more at the front of both
-after_request : (r : PlainRequest) (items : List Item) (end : End) (others : List Item) (last : End) → Agree items end others last → Agree (asks r ∷ items) end (asks r ∷ others) last
+after_request : (r : PlainRequest) (items : List Item) (end : End) (others : List Item) (last : End)
+    → Agree items end others last → Agree (asks r ∷ items) end (asks r ∷ others) last
 after_request r items end others last (inl x) = inl (ap (λ (l : List Item). asks r ∷ l) x.0, x.1)
-after_request r items end others last (inr (inl x)) = inr (inl (ap (λ (l : List Item). asks r ∷ l) x.0, x.1, x.2))
-after_request r items end others last (inr (inr x)) = inr (inr (ap (λ (l : List Item). asks r ∷ l) x.0, x.1, x.2))
+after_request r items end others last (inr (inl x)) =
+    inr (inl (ap (λ (l : List Item). asks r ∷ l) x.0, x.1, x.2))
+after_request r items end others last (inr (inr x)) =
+    inr (inr (ap (λ (l : List Item). asks r ∷ l) x.0, x.1, x.2))
 
 one_end : (end last : End) (n : ℕ) (s : List ℕ) → Ends end n s → Ends last n s → end ≡ last
 one_end Closed Closed n s x y = refl
@@ -108,20 +135,29 @@ one_end Refused last n s x y = absurd x
 one_end Asked last n s x y = absurd x
 
 -- an end against a fault: the one choice
-end_or_fault : (end : End) (n : ℕ) (s : List ℕ) (f : Fault) (form : Form) (items : List Item) (last : End) → Ends end n s → n < 100
+end_or_fault : (end : End) (n : ℕ) (s : List ℕ) (f : Fault) (form : Form) (items : List Item)
+    (last : End) → Ends end n s → n < 100
     → FaultAt f form s → items ≡ [] → last ≡ Refused → Agree [] end (fails f form ∷ items) last
-end_or_fault Closed n s f form items last x lt y e l = absurd (fails_some f form (subst (FaultAt f form) x.1 y))
+end_or_fault Closed n s f form items last x lt y e l =
+    absurd (fails_some f form (subst (FaultAt f form) x.1 y))
 end_or_fault Cut n s f form items last x lt y e l =
     let head = fails_or_cut f form s y x.2 in
     let is_head : f ≡ faults.Head = head.0 in
     let is_full : form ≡ Full = head.1 in
-    inr (inr (let t : ◌≡◌ {A = List Item} (fails f form ∷ items) (fails faults.Head Full ∷ []) = cc in t, l, refl))
+    inr (inr (
+      let t : ◌≡◌ {A = List Item} (fails f form ∷ items) (fails faults.Head Full ∷ []) =
+          cc in t,
+      l,
+      refl,
+    ))
 end_or_fault Limit n s f form items last x lt y e l = absurd (omega (arith, x, lt))
 end_or_fault Refused n s f form items last x lt y e l = absurd x
 end_or_fault Asked n s f form items last x lt y e l = absurd x
 
-end_or_request : (end : End) (n : ℕ) (s : List ℕ) (r : PlainRequest) (a : Bool) (rest : List ℕ) → Ends end n s → n < 100 → RequestAt r a s rest → ⊥
-end_or_request Closed n s r a rest x lt y = asks_some r a rest (subst (λ (l : List ℕ). RequestAt r a l rest) x.1 y)
+end_or_request : (end : End) (n : ℕ) (s : List ℕ) (r : PlainRequest) (a : Bool) (rest : List ℕ)
+    → Ends end n s → n < 100 → RequestAt r a s rest → ⊥
+end_or_request Closed n s r a rest x lt y =
+    asks_some r a rest (subst (λ (l : List ℕ). RequestAt r a l rest) x.1 y)
 end_or_request Cut n s r a rest x lt y = asks_not_cut r a s rest y x.2
 end_or_request Limit n s r a rest x lt y = omega (arith, x, lt)
 end_or_request Refused n s r a rest x lt y = x
@@ -130,15 +166,19 @@ end_or_request Asked n s r a rest x lt y = x
 -- how a request goes on
 abbrev Goes : PlainRequest → List Item → End → ℕ → List ℕ → List ℕ → Type 0
 Goes r items end n s rest =
-    (RequestAt r true s rest × (items ≡ []) × (end ≡ Asked)) ⊎ (RequestAt r false s rest × Messages items end (n + 1) rest)
+    (RequestAt r true s rest × (items ≡ []) × (end ≡ Asked))
+    ⊎ (RequestAt r false s rest × Messages items end (n + 1) rest)
 
 -- it is there, as the last or not
-request_there : (r : PlainRequest) (items : List Item) (end : End) (n : ℕ) (s rest : List ℕ) → Goes r items end n s rest → (a : Bool) × RequestAt r a s rest
+request_there : (r : PlainRequest) (items : List Item) (end : End) (n : ℕ) (s rest : List ℕ)
+    → Goes r items end n s rest → (a : Bool) × RequestAt r a s rest
 request_there r items end n s rest (inl x) = (true, x.0)
 request_there r items end n s rest (inr x) = (false, x.0)
 
-both_go : (r q : PlainRequest) (items others : List Item) (end last : End) (n : ℕ) (s rest left : List ℕ) → Goes r items end n s rest → Goes q others last n s left
-    → (Messages items end (n + 1) rest → Messages others last (n + 1) rest → Agree items end others last) → Agree (asks r ∷ items) end (asks q ∷ others) last
+both_go : (r q : PlainRequest) (items others : List Item) (end last : End) (n : ℕ)
+    (s rest left : List ℕ) → Goes r items end n s rest → Goes q others last n s left
+    → (Messages items end (n + 1) rest → Messages others last (n + 1) rest
+    → Agree items end others last) → Agree (asks r ∷ items) end (asks q ∷ others) last
 both_go r q items others end last n s rest left (inl x) (inl y) more =
     let same = one_request r q true true s rest left x.0 y.0 in
     let is : r ≡ q = same.0 in
@@ -152,23 +192,31 @@ both_go r q items others end last n s rest left (inr x) (inl y) more =
 both_go r q items others end last n s rest left (inr x) (inr y) more =
     let same = one_request r q false false s rest left x.0 y.0 in
     subst (λ (z : PlainRequest). Agree (asks r ∷ items) end (asks z ∷ others) last) same.0
-    (after_request r items end others last (more x.1 (subst (λ (l : List ℕ). Messages others last (n + 1) l) (sym same.2) y.1)))
+    (after_request r items end others last
+    (more x.1 (subst (λ (l : List ℕ). Messages others last (n + 1) l) (sym same.2) y.1)))
 
-pub one_reading : (items others : List Item) (end last : End) (n : ℕ) (s : List ℕ) → Messages items end n s → Messages others last n s → Agree items end others last
+pub one_reading : (items others : List Item) (end last : End) (n : ℕ) (s : List ℕ)
+    → Messages items end n s → Messages others last n s → Agree items end others last
 one_reading [] [] end last n s m o = inl (refl, one_end end last n s m o)
-one_reading [] (fails f form ∷ others) end last n s m o = end_or_fault end n s f form others last m o.0 o.1 o.2 o.3
+one_reading [] (fails f form ∷ others) end last n s m o =
+    end_or_fault end n s f form others last m o.0 o.1 o.2 o.3
 one_reading [] (asks r ∷ others) end last n s m o =
     let there = request_there r others last n s o.1.0 o.1.1 in
     absurd (end_or_request end n s r there.0 o.1.0 m o.0 there.1)
 one_reading (fails f form ∷ items) [] end last n s m o =
-    swap [] last (fails f form ∷ items) end (end_or_fault last n s f form items end o m.0 m.1 m.2 m.3)
+    swap [] last (fails f form ∷ items) end
+    (end_or_fault last n s f form items end o m.0 m.1 m.2 m.3)
 one_reading (fails f form ∷ items) (fails g other ∷ others) end last n s m o =
     let same = one_fault f g form other s m.1 o.1 in
     let is : f ≡ g = same.0 in
     let as_well : form ≡ other = same.1 in
     let a : items ≡ [] = m.2 in
     let b : others ≡ [] = o.2 in
-    inl (let t : ◌≡◌ {A = List Item} (fails f form ∷ items) (fails g other ∷ others) = cc in t, m.3 ∙ sym o.3)
+    inl (
+      let t : ◌≡◌ {A = List Item} (fails f form ∷ items) (fails g other ∷ others) =
+          cc in t,
+      m.3 ∙ sym o.3,
+    )
 one_reading (fails f form ∷ items) (asks r ∷ others) end last n s m o =
     let there = request_there r others last n s o.1.0 o.1.1 in
     absurd (asks_not_fails r there.0 f form s o.1.0 there.1 m.1)
@@ -179,4 +227,5 @@ one_reading (asks r ∷ items) (fails g form ∷ others) end last n s m o =
     let there = request_there r items end n s m.1.0 m.1.1 in
     absurd (asks_not_fails r there.0 g form s m.1.0 there.1 o.1)
 one_reading (asks r ∷ items) (asks q ∷ others) end last n s m o =
-    both_go r q items others end last n s m.1.0 o.1.0 m.1.1 o.1.1 (λ a b. one_reading items others end last (n + 1) m.1.0 a b)
+    both_go r q items others end last n s m.1.0 o.1.0 m.1.1 o.1.1
+    (λ a b. one_reading items others end last (n + 1) m.1.0 a b)

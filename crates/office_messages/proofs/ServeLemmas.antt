@@ -1,12 +1,15 @@
 -- How far a connection has come.
-use Rattle.std.proofs.Common.{◌≡◌, ℕ, ◌+◌, ◌<◌, ◌≤◌, Bool, true, false, List, [], ◌∷◌, ◌++◌, length, Option, Some, None, IfSome, refl, sym, ap, subst, ◌∙◌, append_assoc, append-nil, arith, length-append, inl, inr, ◌⊎◌}
+use Rattle.std.proofs.Common.{◌≡◌, ℕ, ◌+◌, ◌<◌, ◌≤◌, Bool, true, false, List, [], ◌∷◌, ◌++◌, length}
+use Rattle.std.proofs.Common.{Option, Some, None, IfSome, refl, sym, ap, subst, ◌∙◌, append_assoc}
+use Rattle.std.proofs.Common.{append-nil, arith, length-append, inl, inr, ◌⊎◌}
 use Rattle.std.proofs.lemmas.List.{take-append-le}
 use Rattle.std.specs.Io.KnownBytes.{Appends, Consumes, IsAtEnd}
 use Rattle.std.proofs.KnownBytes.{Consumes-nil, Appends-nil, Consumes-trans, Appends-trans}
 use Rattle.office_messages.specs.declared.form.Form.{Form}
 use Rattle.office_messages.specs.declared.framing.Fault.{Fault}
 use Rattle.office_messages.specs.declared.connection.End.{End}
-use Rattle.office_messages.specs.declared.connection.End.TheVariants.{Closed, Cut, Refused, Asked, Limit}
+use Rattle.office_messages.specs.declared.connection.End.TheVariants.{Closed, Cut, Refused, Asked}
+use Rattle.office_messages.specs.declared.connection.End.TheVariants.{Limit}
 use Rattle.office_messages.specs.declared.connection.Served.{Served}
 use Rattle.office_messages.specs.declared.connection.ServeFault.{ServeFault}
 use Rattle.office_messages.specs.declared.connection.ServeFault.TheVariants as serve_faults
@@ -16,14 +19,20 @@ use Rattle.office_messages.specs.Form.{form_of}
 use Rattle.office_messages.specs.Heads.{Knows}
 use Rattle.office_messages.specs.Reply.{PlainReply, fault_reply, reply_text}
 use Rattle.office_messages.specs.Stream.{PlainRequest, RequestAt, FaultAt, Unfinished, LacksHead}
-use Rattle.office_messages.specs.Serve.{Item, asks, fails, Messages, Begins, Told, Serves, ServesFront}
+use Rattle.office_messages.specs.Serve.{Item, asks, fails, Messages, Begins, Told, Serves}
+use Rattle.office_messages.specs.Serve.{ServesFront}
 use Rattle.office_messages.proofs.HeadLemmas.{nothing_lacks, head_at_more}
 use Rattle.office_messages.proofs.MoreLemmas.{request_more, fault_more}
 
 -- what is known of the front stays known as more comes
-pub knows_more : (stage : Stage) (buffer more : List ℕ) → Knows buffer stage → Knows (buffer ++ more) stage
-knows_more (Searching n) buffer more k =
-    (omega (arith, k.0, length-append buffer more), k.1, subst LacksHead (sym (take-append-le n buffer more k.0)) k.2)
+pub knows_more : (stage : Stage) (buffer more : List ℕ) → Knows buffer stage
+    → Knows (buffer ++ more) stage
+knows_more (Searching n) buffer more k = (
+  omega (arith, k.0, length-append buffer more),
+  k.1,
+  subst LacksHead
+      (sym (take-append-le n buffer more k.0)) k.2,
+)
 knows_more (Reading x) buffer more k = head_at_more buffer more x k
 
 -- of a message of which nothing was looked at nothing need be known
@@ -31,25 +40,31 @@ pub knows_nothing : (buffer : List ℕ) → Knows buffer (Searching 0)
 knows_nothing buffer = (omega arith, omega arith, nothing_lacks)
 
 -- what holds of the bytes taken and whatever follows holds of the input
-with_input : (P : List ℕ → Type 0) (input now : Option (List ℕ)) (taken : List ℕ) → Consumes input now taken → ((more : List ℕ) → P (taken ++ more)) → IfSome input P
+with_input : (P : List ℕ → Type 0) (input now : Option (List ℕ)) (taken : List ℕ)
+    → Consumes input now taken → ((more : List ℕ) → P (taken ++ more)) → IfSome input P
 with_input P None now taken c h = tt
 with_input P (Some xs) None taken c h = absurd c
 with_input P (Some xs) (Some ys) taken c h = subst P (sym c) (h ys)
 
-with_end : (P : List ℕ → Type 0) (input now : Option (List ℕ)) (taken : List ℕ) → Consumes input now taken → IsAtEnd now → P (taken ++ []) → IfSome input P
+with_end : (P : List ℕ → Type 0) (input now : Option (List ℕ)) (taken : List ℕ)
+    → Consumes input now taken → IsAtEnd now → P (taken ++ []) → IfSome input P
 with_end P None now taken c e h = tt
 with_end P (Some xs) None taken c e h = absurd c
 with_end P (Some xs) (Some ys) taken c e h = subst P (sym (c ∙ ap (λ l. taken ++ l) e)) h
 
 -- a request that is or isn't the last
-ends_or_not : (r : PlainRequest) (last : Bool) (n : ℕ) (buffer rest more : List ℕ) → n < 100 → RequestAt r last buffer rest
-    → (RequestAt r true (buffer ++ more) (rest ++ more) × (◌≡◌ {A = List Item} [] [])) ⊎ (RequestAt r false (buffer ++ more) (rest ++ more) × (n + 1 ≤ 100))
+ends_or_not : (r : PlainRequest) (last : Bool) (n : ℕ) (buffer rest more : List ℕ) → n < 100
+    → RequestAt r last buffer rest
+    → (RequestAt r true (buffer ++ more) (rest ++ more) × (◌≡◌ {A = List Item} [] []))
+    ⊎ (RequestAt r false (buffer ++ more) (rest ++ more) × (n + 1 ≤ 100))
 ends_or_not r true n buffer rest more lt at = inl (request_more r true buffer rest more at, refl)
-ends_or_not r false n buffer rest more lt at = inr (request_more r false buffer rest more at, omega arith)
+ends_or_not r false n buffer rest more lt at =
+    inr (request_more r false buffer rest more at, omega arith)
 
 module _ {S : Type 0} (Answers : S → PlainRequest → PlainReply → S → Type 0) where
   -- after n messages; buffer is what has come and isn't answered
-  pub record Progress (input now before after : Option (List ℕ)) (old new : S) (n : ℕ) (buffer : List ℕ) : Type 0 where
+  pub record Progress (input now before after : Option (List ℕ)) (old new : S) (n : ℕ)
+      (buffer : List ℕ) : Type 0 where
     pub items : List Item
     pub output : List ℕ
     pub taken : List ℕ
@@ -57,11 +72,15 @@ module _ {S : Type 0} (Answers : S → PlainRequest → PlainReply → S → Typ
     pub written : Appends before after output
     pub count : length items ≡ n
     pub small : n ≤ 100
-    pub messages : (later : List Item) (end : End) (more : List ℕ) → Messages later end n (buffer ++ more) → Messages (items ++ later) end 0 (taken ++ more)
-    pub begins : (later : List Item) (more : List ℕ) → Begins later n (buffer ++ more) → Begins (items ++ later) 0 (taken ++ more)
-    pub told : (later : List Item) (out : List ℕ) (last : S) → Told Answers later new out last → Told Answers (items ++ later) old (output ++ out) last
+    pub messages : (later : List Item) (end : End) (more : List ℕ)
+        → Messages later end n (buffer ++ more) → Messages (items ++ later) end 0 (taken ++ more)
+    pub begins : (later : List Item) (more : List ℕ) → Begins later n (buffer ++ more)
+        → Begins (items ++ later) 0 (taken ++ more)
+    pub told : (later : List Item) (out : List ℕ) (last : S) → Told Answers later new out last
+        → Told Answers (items ++ later) old (output ++ out) last
 
-  pub start : (input before : Option (List ℕ)) (old : S) → Progress input input before before old old 0 []
+  pub start : (input before : Option (List ℕ)) (old : S)
+      → Progress input input before before old old 0 []
   start input before old = record {
     items = [];
     output = [];
@@ -75,11 +94,14 @@ module _ {S : Type 0} (Answers : S → PlainRequest → PlainReply → S → Typ
     told = λ later out last t. t;
   }
 
-  module _ (input now before after : Option (List ℕ)) (old new : S) (n : ℕ) (buffer : List ℕ) (p : Progress input now before after old new n buffer) where
+  module _ (input now before after : Option (List ℕ)) (old new : S) (n : ℕ) (buffer : List ℕ)
+      (p : Progress input now before after old new n buffer) where
     -- more bytes have come
-    pub grown : (then : Option (List ℕ)) (bytes wider : List ℕ) → Consumes now then bytes → wider ≡ buffer ++ bytes → Progress input then before after old new n wider
+    pub grown : (then : Option (List ℕ)) (bytes wider : List ℕ) → Consumes now then bytes
+        → wider ≡ buffer ++ bytes → Progress input then before after old new n wider
     grown then bytes wider c e =
-        let joined : (more : List ℕ) → wider ++ more ≡ buffer ++ (bytes ++ more) = λ more. ap (λ l. l ++ more) e ∙ append_assoc buffer bytes more in
+        let joined : (more : List ℕ) → wider ++ more ≡ buffer ++ (bytes ++ more) =
+        λ more. ap (λ l. l ++ more) e ∙ append_assoc buffer bytes more in
         record {
           items = p.items;
           output = p.output;
@@ -89,70 +111,96 @@ module _ {S : Type 0} (Answers : S → PlainRequest → PlainReply → S → Typ
           count = p.count;
           small = p.small;
           messages = λ later end more m.
-              subst (Messages (p.items ++ later) end 0) (sym (append_assoc p.taken bytes more)) (p.messages later end (bytes ++ more) (subst (Messages later end n) (joined more) m));
+              subst (Messages (p.items ++ later) end 0) (sym (append_assoc p.taken bytes more))
+              (p.messages later end (bytes ++ more)
+              (subst (Messages later end n) (joined more) m));
           begins = λ later more m.
-              subst (Begins (p.items ++ later) 0) (sym (append_assoc p.taken bytes more)) (p.begins later (bytes ++ more) (subst (Begins later n) (joined more) m));
+              subst (Begins (p.items ++ later) 0) (sym (append_assoc p.taken bytes more))
+              (p.begins later (bytes ++ more) (subst (Begins later n) (joined more) m));
           told = p.told;
         }
 
     -- a message was answered, and the connection stays open
-    pub answered : (r : PlainRequest) (rest : List ℕ) (reply : PlainReply) (next : S) (then : Option (List ℕ)) → n < 100 → RequestAt r false buffer rest
-        → Answers new r reply next → Appends after then (reply_text (form_of r.method) reply) → Progress input now before then old next (n + 1) rest
-    answered r rest reply next then lt at step sent = let text = reply_text (form_of r.method) reply in record {
-      items = p.items ++ asks r ∷ [];
-      output = p.output ++ text;
-      taken = p.taken;
-      consumed = p.consumed;
-      written = Appends-trans before after then p.output text p.written sent;
-      count = omega (arith, length-append p.items (asks r ∷ []), p.count);
-      small = omega arith;
-      messages = λ later end more m.
-          let P : List Item → Type 0 = λ items. Messages items end 0 (p.taken ++ more) in
-          subst P (sym (append_assoc p.items (asks r ∷ []) later))
-          (p.messages (asks r ∷ later) end more (lt, (rest ++ more, inr (request_more r false buffer rest more at, m))));
-      begins = λ later more m.
-          let P : List Item → Type 0 = λ items. Begins items 0 (p.taken ++ more) in
-          subst P (sym (append_assoc p.items (asks r ∷ []) later))
-          (p.begins (asks r ∷ later) more (lt, (rest ++ more, inr (request_more r false buffer rest more at, m))));
-      told = λ later out last t.
-          let P : List Item → Type 0 = λ items. Told Answers items old ((p.output ++ text) ++ out) last in
-          let Q : List ℕ → Type 0 = λ o. Told Answers (p.items ++ asks r ∷ later) old o last in
-          subst P (sym (append_assoc p.items (asks r ∷ []) later))
-          (subst Q (sym (append_assoc p.output text out)) (p.told (asks r ∷ later) (text ++ out) last (next, reply, out, step, refl, t)));
-    }
+    pub answered : (r : PlainRequest) (rest : List ℕ) (reply : PlainReply) (next : S)
+        (then : Option (List ℕ)) → n < 100 → RequestAt r false buffer rest
+        → Answers new r reply next → Appends after then (reply_text (form_of r.method) reply)
+        → Progress input now before then old next (n + 1) rest
+    answered r rest reply next then lt at step sent = let text =
+        reply_text (form_of r.method) reply in record {
+          items = p.items ++ asks r ∷ [];
+          output = p.output ++ text;
+          taken = p.taken;
+          consumed = p.consumed;
+          written = Appends-trans before after then p.output text p.written sent;
+          count = omega (arith, length-append p.items (asks r ∷ []), p.count);
+          small = omega arith;
+          messages = λ later end more m.
+              let P : List Item → Type 0 = λ items. Messages items end 0 (p.taken ++ more) in
+              subst P (sym (append_assoc p.items (asks r ∷ []) later))
+              (p.messages (asks r ∷ later) end more
+              (lt, (rest ++ more, inr (request_more r false buffer rest more at, m))));
+          begins = λ later more m.
+              let P : List Item → Type 0 = λ items. Begins items 0 (p.taken ++ more) in
+              subst P (sym (append_assoc p.items (asks r ∷ []) later))
+              (p.begins (asks r ∷ later) more
+              (lt, (rest ++ more, inr (request_more r false buffer rest more at, m))));
+          told = λ later out last t.
+              let P : List Item → Type 0 =
+              λ items. Told Answers items old ((p.output ++ text) ++ out) last in
+              let Q : List ℕ → Type 0 = λ o. Told Answers (p.items ++ asks r ∷ later) old o last in
+              subst P (sym (append_assoc p.items (asks r ∷ []) later))
+              (subst Q (sym (append_assoc p.output text out))
+              (p.told (asks r ∷ later) (text ++ out) last (next, reply, out, step, refl, t)));
+        }
 
     -- a message was answered that closes the connection
-    pub asked : (r : PlainRequest) (rest : List ℕ) (reply : PlainReply) (next : S) (then : Option (List ℕ)) (served : Served) → n < 100 → RequestAt r true buffer rest
-        → Answers new r reply next → Appends after then (reply_text (form_of r.method) reply) → served.answered ≡ n + 1 → served.end ≡ Asked
+    pub asked : (r : PlainRequest) (rest : List ℕ) (reply : PlainReply) (next : S)
+        (then : Option (List ℕ)) (served : Served) → n < 100 → RequestAt r true buffer rest
+        → Answers new r reply next → Appends after then (reply_text (form_of r.method) reply)
+        → served.answered ≡ n + 1 → served.end ≡ Asked
         → Serves Answers input before then old next served
-    asked r rest reply next then served lt at step sent count end = let text = reply_text (form_of r.method) reply in record {
-      items = p.items ++ asks r ∷ [];
-      output = p.output ++ text;
-      messages = with_input (Messages (p.items ++ asks r ∷ []) served.end 0) input now p.taken p.consumed
-          (λ more. p.messages (asks r ∷ []) served.end more (lt, (rest ++ more, inl (request_more r true buffer rest more at, refl, end))));
-      told = let Q : List ℕ → Type 0 = λ o. Told Answers (p.items ++ asks r ∷ []) old (p.output ++ o) next in
-          subst Q (append-nil text) (p.told (asks r ∷ []) (text ++ []) next (next, reply, [], step, refl, (refl, refl)));
-      count = omega (arith, length-append p.items (asks r ∷ []), p.count, count);
-      written = Appends-trans before after then p.output text p.written sent;
-    }
+    asked r rest reply next then served lt at step sent count end = let text =
+        reply_text (form_of r.method) reply in record {
+          items = p.items ++ asks r ∷ [];
+          output = p.output ++ text;
+          messages =
+              with_input (Messages (p.items ++ asks r ∷ []) served.end 0) input now p.taken p.consumed
+              (λ more. p.messages (asks r ∷ []) served.end more
+              (lt, (rest ++ more, inl (request_more r true buffer rest more at, refl, end))));
+          told = let Q : List ℕ → Type 0 =
+              λ o. Told Answers (p.items ++ asks r ∷ []) old (p.output ++ o) next in
+              subst Q (append-nil text)
+              (p.told (asks r ∷ []) (text ++ []) next (next, reply, [], step, refl, (refl, refl)));
+          count = omega (arith, length-append p.items (asks r ∷ []), p.count, count);
+          written = Appends-trans before after then p.output text p.written sent;
+        }
 
     -- a fault was answered
-    pub refused : (f : Fault) (form : Form) (then : Option (List ℕ)) (served : Served) → n < 100 → FaultAt f form buffer
-        → Appends after then (reply_text form (fault_reply f)) → served.answered ≡ n + 1 → served.end ≡ Refused
+    pub refused : (f : Fault) (form : Form) (then : Option (List ℕ)) (served : Served) → n < 100
+        → FaultAt f form buffer
+        → Appends after then (reply_text form (fault_reply f)) → served.answered ≡ n + 1
+        → served.end ≡ Refused
         → Serves Answers input before then old new served
-    refused f form then served lt at sent count end = let text = reply_text form (fault_reply f) in record {
-      items = p.items ++ fails f form ∷ [];
-      output = p.output ++ text;
-      messages = with_input (Messages (p.items ++ fails f form ∷ []) served.end 0) input now p.taken p.consumed
-          (λ more. p.messages (fails f form ∷ []) served.end more (lt, fault_more f form buffer more at, refl, end));
-      told = let Q : List ℕ → Type 0 = λ o. Told Answers (p.items ++ fails f form ∷ []) old (p.output ++ o) new in
-          subst Q (append-nil (text)) (p.told (fails f form ∷ []) (text ++ []) new ([], refl, (refl, refl)));
-      count = omega (arith, length-append p.items (fails f form ∷ []), p.count, count);
-      written = Appends-trans before after then p.output (text) p.written sent;
-    }
+    refused f form then served lt at sent count end = let text =
+        reply_text form (fault_reply f) in record {
+          items = p.items ++ fails f form ∷ [];
+          output = p.output ++ text;
+          messages =
+              with_input
+              (Messages (p.items ++ fails f form ∷ []) served.end 0) input now p.taken p.consumed
+              (λ more. p.messages (fails f form ∷ []) served.end more
+              (lt, fault_more f form buffer more at, refl, end));
+          told = let Q : List ℕ → Type 0 =
+              λ o. Told Answers (p.items ++ fails f form ∷ []) old (p.output ++ o) new in
+              subst Q (append-nil (text))
+              (p.told (fails f form ∷ []) (text ++ []) new ([], refl, (refl, refl)));
+          count = omega (arith, length-append p.items (fails f form ∷ []), p.count, count);
+          written = Appends-trans before after then p.output (text) p.written sent;
+        }
 
     -- the end without a further answer
-    finished : (served : Served) → IfSome input (Messages (p.items ++ []) served.end 0) → served.answered ≡ n → Serves Answers input before after old new served
+    finished : (served : Served) → IfSome input (Messages (p.items ++ []) served.end 0)
+        → served.answered ≡ n → Serves Answers input before after old new served
     finished served m count = record {
       items = p.items ++ [];
       output = p.output ++ [];
@@ -163,28 +211,37 @@ module _ {S : Type 0} (Answers : S → PlainRequest → PlainReply → S → Typ
     }
 
     -- the last message allowed was answered
-    pub limit : (served : Served) → n ≡ 100 → served.answered ≡ n → served.end ≡ Limit → Serves Answers input before after old new served
+    pub limit : (served : Served) → n ≡ 100 → served.answered ≡ n → served.end ≡ Limit
+        → Serves Answers input before after old new served
     limit served full count end =
         let P : End → Type 0 = λ e. IfSome input (Messages (p.items ++ []) e 0) in
         finished served
-        (subst P (sym end) (with_input (Messages (p.items ++ []) Limit 0) input now p.taken p.consumed (λ more. p.messages [] Limit more full)))
+        (subst P (sym end)
+        (with_input (Messages (p.items ++ []) Limit 0) input now p.taken p.consumed
+        (λ more. p.messages [] Limit more full)))
         count
 
     -- the input is at its end
-    pub closed : (served : Served) → n < 100 → IsAtEnd now → buffer ≡ [] → served.answered ≡ n → served.end ≡ Closed → Serves Answers input before after old new served
+    pub closed : (served : Served) → n < 100 → IsAtEnd now → buffer ≡ [] → served.answered ≡ n
+        → served.end ≡ Closed → Serves Answers input before after old new served
     closed served lt done empty count end =
         let P : End → Type 0 = λ e. IfSome input (Messages (p.items ++ []) e 0) in
         finished served
-        (subst P (sym end) (with_end (Messages (p.items ++ []) Closed 0) input now p.taken p.consumed done (p.messages [] Closed [] (lt, append-nil buffer ∙ empty))))
+        (subst P (sym end)
+        (with_end (Messages (p.items ++ []) Closed 0) input now p.taken p.consumed done
+        (p.messages [] Closed [] (lt, append-nil buffer ∙ empty))))
         count
 
-    pub cut : (served : Served) → n < 100 → IsAtEnd now → 0 < length buffer → Unfinished buffer → served.answered ≡ n → served.end ≡ Cut → Serves Answers input before after old new served
+    pub cut : (served : Served) → n < 100 → IsAtEnd now → 0 < length buffer → Unfinished buffer
+        → served.answered ≡ n → served.end ≡ Cut → Serves Answers input before after old new served
     cut served lt done some short count end =
         let P : End → Type 0 = λ e. IfSome input (Messages (p.items ++ []) e 0) in
         let whole = sym (append-nil buffer) in
         let Q : List ℕ → Type 0 = λ l. (n < 100) × (0 < length l) × Unfinished l in
         finished served
-        (subst P (sym end) (with_end (Messages (p.items ++ []) Cut 0) input now p.taken p.consumed done (p.messages [] Cut [] (subst Q whole (lt, some, short)))))
+        (subst P (sym end)
+        (with_end (Messages (p.items ++ []) Cut 0) input now p.taken p.consumed done
+        (p.messages [] Cut [] (subst Q whole (lt, some, short)))))
         count
 
     -- a fault of the connection leaves what was answered
@@ -192,29 +249,36 @@ module _ {S : Type 0} (Answers : S → PlainRequest → PlainReply → S → Typ
     front fault = record {
       items = p.items ++ [];
       output = p.output ++ [];
-      begins = with_input (Begins (p.items ++ []) 0) input now p.taken p.consumed (λ more. p.begins [] more p.small);
+      begins = with_input (Begins (p.items ++ []) 0) input now p.taken p.consumed
+          (λ more. p.begins [] more p.small);
       told = p.told [] [] new (refl, refl);
       written = λ _. subst (Appends before after) (sym (append-nil p.output)) p.written;
     }
 
     -- a fault of the writer, after the last command
-    pub unsent : (r : PlainRequest) (last : Bool) (rest : List ℕ) (reply : PlainReply) (next : S) (then : Option (List ℕ)) → n < 100
-        → RequestAt r last buffer rest → Answers new r reply next → ServesFront Answers input before then old next serve_faults.Write
-    unsent r last rest reply next then lt at step = let text = reply_text (form_of r.method) reply in record {
-      items = p.items ++ asks r ∷ [];
-      output = p.output ++ (text ++ []);
-      begins = with_input (Begins (p.items ++ asks r ∷ []) 0) input now p.taken p.consumed
-          (λ more. p.begins (asks r ∷ []) more (lt, (rest ++ more, ends_or_not r last n buffer rest more lt at)));
-      told = p.told (asks r ∷ []) (text ++ []) next (next, reply, [], step, refl, (refl, refl));
-      written = λ different. absurd (different refl);
-    }
+    pub unsent : (r : PlainRequest) (last : Bool) (rest : List ℕ) (reply : PlainReply) (next : S)
+        (then : Option (List ℕ)) → n < 100
+        → RequestAt r last buffer rest → Answers new r reply next
+        → ServesFront Answers input before then old next serve_faults.Write
+    unsent r last rest reply next then lt at step = let text =
+        reply_text (form_of r.method) reply in record {
+          items = p.items ++ asks r ∷ [];
+          output = p.output ++ (text ++ []);
+          begins = with_input (Begins (p.items ++ asks r ∷ []) 0) input now p.taken p.consumed
+              (λ more. p.begins (asks r ∷ []) more
+              (lt, (rest ++ more, ends_or_not r last n buffer rest more lt at)));
+          told = p.told (asks r ∷ []) (text ++ []) next (next, reply, [], step, refl, (refl, refl));
+          written = λ different. absurd (different refl);
+        }
 
     -- the same for the reply to a fault
-    pub unrefused : (then : Option (List ℕ)) → ServesFront Answers input before then old new serve_faults.Write
+    pub unrefused : (then : Option (List ℕ))
+        → ServesFront Answers input before then old new serve_faults.Write
     unrefused then = record {
       items = p.items ++ [];
       output = p.output ++ [];
-      begins = with_input (Begins (p.items ++ []) 0) input now p.taken p.consumed (λ more. p.begins [] more p.small);
+      begins = with_input (Begins (p.items ++ []) 0) input now p.taken p.consumed
+          (λ more. p.begins [] more p.small);
       told = p.told [] [] new (refl, refl);
       written = λ different. absurd (different refl);
     }

@@ -28,3 +28,5 @@ phrase_short status.Conflict = omega arith
 phrase_short status.PayloadTooLarge = omega arith
 phrase_short status.NotImplemented = omega arith
 phrase_short status.ServiceUnavailable = omega arith
+
+pub ruleset status_facts = (reason_of, phrase_short)

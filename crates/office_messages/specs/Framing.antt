@@ -1,11 +1,13 @@
 -- Where a message's body ends, and the faults of the fields that say so, in their order.
-use Rattle.std.specs.Prelude.{ℕ, ◌&&◌, ◌==◌, not, List, [], ◌∷◌, length, Result, Ok, Err, if◌then◌else◌, nat_lt, nat_le, codes}
+use Rattle.std.specs.Prelude.{ℕ, ◌&&◌, ◌==◌, not, List, [], ◌∷◌, length, Result, Ok, Err}
+use Rattle.std.specs.Prelude.{if◌then◌else◌, nat_lt, nat_le, codes}
 use Rattle.std.specs.List.{list_all}
 use Rattle.std.specs.Char.{is_ascii_digit}
 use Rattle.std.specs.Str.Parse.{digits_value}
 use Rattle.office_messages.specs.Fields.{Header, values_named}
 use Rattle.office_messages.specs.declared.framing.Fault.{Fault}
-use Rattle.office_messages.specs.declared.framing.Fault.TheVariants.{Host, Transfer, Length, TooLong}
+use Rattle.office_messages.specs.declared.framing.Fault.TheVariants.{Host, Transfer, Length}
+use Rattle.office_messages.specs.declared.framing.Fault.TheVariants.{TooLong}
 
 -- the longest body
 abbrev pub max_body : ℕ

@@ -1,5 +1,6 @@
 -- Names, and lists of names between commas.
-use Rattle.std.specs.Prelude.{ℕ, Bool, List, [], ◌∷◌, map, Option, Some, None, if◌then◌else◌, ◌==◌, bytes_eq}
+use Rattle.std.specs.Prelude.{ℕ, Bool, List, [], ◌∷◌, map, Option, Some, None, if◌then◌else◌, ◌==◌}
+use Rattle.std.specs.Prelude.{bytes_eq}
 use Rattle.std.specs.List.{list_any}
 use Rattle.std.specs.Char.{to_ascii_lowercase}
 use Rattle.std.specs.Borrow.{Bor}
@@ -19,7 +20,9 @@ add_to_first b (piece ∷ pieces) = (b ∷ piece) ∷ pieces
 -- the pieces between commas
 abbrev pub pieces_of : List ℕ → List (List ℕ)
 pieces_of [] = [] ∷ []
-pieces_of (b ∷ bs) = let pieces = pieces_of bs in if b == comma then [] ∷ pieces else add_to_first b pieces
+pieces_of (b ∷ bs) =
+    let pieces = pieces_of bs in
+    if b == comma then [] ∷ pieces else add_to_first b pieces
 
 -- the pieces without the blanks around each (RFC 9110, section 5.6.1)
 unfoldable pub names_of : List ℕ → List (List ℕ)

@@ -1,5 +1,6 @@
 -- The bytes of a reply.
-use Rattle.std.specs.Prelude.{ℕ, List, [], ◌++◌, length, Option, Some, None, option_map, codes, decimal}
+use Rattle.std.specs.Prelude.{ℕ, List, [], ◌++◌, length, Option, Some, None, option_map, codes}
+use Rattle.std.specs.Prelude.{decimal}
 use Rattle.office_messages.specs.declared.form.Form.{Form}
 use Rattle.office_messages.specs.declared.form.Form.TheVariants.{Full, Bare}
 use Rattle.office_messages.specs.declared.framing.Fault.{Fault}
@@ -51,7 +52,8 @@ length_line n = codes "Content-Length: " ++ decimal n ++ codes "\r\n"
 -- what comes before the body
 unfoldable pub head_text : Form → PlainReply → List ℕ
 head_text Full r =
-    status_line r.status ++ content_line r.content ++ allow_line r.allow ++ length_line (length r.body) ++ codes "\r\n"
+    status_line r.status ++ content_line r.content ++ allow_line r.allow
+    ++ length_line (length r.body) ++ codes "\r\n"
 head_text Bare r = status_line r.status ++ allow_line r.allow ++ codes "\r\n"
 
 -- what comes behind the head

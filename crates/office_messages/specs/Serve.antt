@@ -1,5 +1,6 @@
 -- What one connection does.
-use Rattle.std.specs.Prelude.{◌≡◌, ◌≢◌, ℕ, ◌+◌, ◌<◌, ◌≤◌, ◌⊎◌, true, false, List, [], ◌∷◌, ◌++◌, length, Option, IfSome}
+use Rattle.std.specs.Prelude.{◌≡◌, ◌≢◌, ℕ, ◌+◌, ◌<◌, ◌≤◌, ◌⊎◌, true, false, List, [], ◌∷◌, ◌++◌}
+use Rattle.std.specs.Prelude.{length, Option, IfSome}
 use Rattle.std.specs.Io.KnownBytes.{Appends}
 use Rattle.office_messages.specs.Form.{form_of}
 use Rattle.office_messages.specs.Reply.{PlainReply, fault_reply, reply_text}
@@ -9,7 +10,8 @@ use Rattle.office_messages.specs.declared.form.Form.TheVariants.{Full}
 use Rattle.office_messages.specs.declared.framing.Fault.{Fault}
 use Rattle.office_messages.specs.declared.framing.Fault.TheVariants as faults
 use Rattle.office_messages.specs.declared.connection.End.{End}
-use Rattle.office_messages.specs.declared.connection.End.TheVariants.{Closed, Cut, Refused, Asked, Limit}
+use Rattle.office_messages.specs.declared.connection.End.TheVariants.{Closed, Cut, Refused, Asked}
+use Rattle.office_messages.specs.declared.connection.End.TheVariants.{Limit}
 use Rattle.office_messages.specs.declared.connection.Served.{Served}
 use Rattle.office_messages.specs.declared.connection.ServeFault.{ServeFault}
 use Rattle.office_messages.specs.declared.connection.ServeFault.TheVariants as serve_faults
@@ -60,7 +62,8 @@ module _ {S : Type 0} (Answers : S → PlainRequest → PlainReply → S → Typ
       × (output ≡ reply_text (form_of r.method) reply ++ rest) × Told items mid rest new
 
   -- a connection was served to its end
-  pub record Serves (input before after : Option (List ℕ)) (old new : S) (served : Served) : Type 0 where
+  pub record Serves (input before after : Option (List ℕ)) (old new : S)
+      (served : Served) : Type 0 where
     pub items : List Item
     pub output : List ℕ
     pub messages : IfSome input (Messages items served.end 0)
@@ -70,7 +73,8 @@ module _ {S : Type 0} (Answers : S → PlainRequest → PlainReply → S → Typ
 
   -- a front of it was served; after a fault of the writer how much went out of the last reply,
   -- which may be to a fault of head or framing, is unknown
-  pub record ServesFront (input before after : Option (List ℕ)) (old new : S) (fault : ServeFault) : Type 0 where
+  pub record ServesFront (input before after : Option (List ℕ)) (old new : S)
+      (fault : ServeFault) : Type 0 where
     pub items : List Item
     pub output : List ℕ
     pub begins : IfSome input (Begins items 0)
@@ -85,4 +89,5 @@ Differs items end others last =
 -- two readings of a stream are the same, but for that choice
 abbrev pub Agree : List Item → End → List Item → End → Type 0
 Agree items end others last =
-    ((items ≡ others) × (end ≡ last)) ⊎ (Differs items end others last ⊎ Differs others last items end)
+    ((items ≡ others) × (end ≡ last))
+    ⊎ (Differs items end others last ⊎ Differs others last items end)

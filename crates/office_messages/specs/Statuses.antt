@@ -30,4 +30,5 @@ phrase_of status.ServiceUnavailable = codes "Service Unavailable"
 
 -- the first line of a reply
 unfoldable pub status_line : Status → List ℕ
-status_line s = codes "HTTP/1.1 " ++ code_digits (code_of s) ++ codes " " ++ phrase_of s ++ codes "\r\n"
+status_line s =
+    codes "HTTP/1.1 " ++ code_digits (code_of s) ++ codes " " ++ phrase_of s ++ codes "\r\n"

@@ -1,5 +1,6 @@
 -- The messages at the front of a stream, however it comes.
-use Rattle.std.specs.Prelude.{◌≡◌, ℕ, ◌<◌, ◌≤◌, ◌⊎◌, Bool, ◌||◌, ◌==◌, List, [], ◌∷◌, length, take, drop, map, Option, Some, None, Ok, Err, codes}
+use Rattle.std.specs.Prelude.{◌≡◌, ℕ, ◌<◌, ◌≤◌, ◌⊎◌, Bool, ◌||◌, ◌==◌, List, [], ◌∷◌, length, take}
+use Rattle.std.specs.Prelude.{drop, map, Option, Some, None, Ok, Err, codes}
 use Rattle.std.specs.List.{list_any}
 use Rattle.httparse.specs.Grammar.{RequestHead, ReadsRequest, print_request}
 use Rattle.httparse.specs.Spans.{name_and_value, RequestOverflows}
@@ -77,7 +78,8 @@ pub record RequestAt (r : PlainRequest) (last : Bool) (stream rest : List ℕ) :
 -- it has no head in the limit of bytes, or however it goes on it has more fields than are allowed
 abbrev pub HeadFault : List ℕ → Type 0
 HeadFault stream =
-    (0 < length stream) × (((max_head ≤ length stream) × LacksHead stream) ⊎ RequestOverflows max_headers stream)
+    (0 < length stream)
+    × (((max_head ≤ length stream) × LacksHead stream) ⊎ RequestOverflows max_headers stream)
 
 -- the stream begins with a head with this fault of framing
 pub record FramingFault (f : Fault) (form : Form) (stream : List ℕ) : Type 0 where

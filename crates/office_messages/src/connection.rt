@@ -195,7 +195,8 @@ fn answer<W: Write, M: Machine>(
 }
 
 /// Serves one connection: reads its messages, has the machine answer them one after another, and
-/// writes the replies. A turn is one call of `read`; an interrupted one is tried again.
+/// writes the replies. A turn is one call of `read`; an interrupted one is tried again. Where it
+/// ends the connection itself, bytes of the client may lie unread: `drain` takes them.
 pub fn serve<R: Read, W: Write, M: Machine>(
     alloc: Global,
     reader: &mut R,

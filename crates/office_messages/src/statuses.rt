@@ -39,7 +39,7 @@ impl Status {
     }
 
     /// HTTP's phrase for it.
-    #[tactic(auto, using(crate::proofs::StatusLemmas::reason_of, crate::proofs::StatusLemmas::phrase_short))]
+    #[tactic(auto, using(crate::proofs::StatusLemmas::status_facts))]
     pub(crate) fn phrase(self) -> &'static str
         ensures text { result.now ≡ phrase_of self }
         ensures short { length result.now ≤ 19 }

@@ -3,13 +3,18 @@ use Rattle.std.proofs.lemmas.Result.{err_from_is_err_and}
 use Rattle.std.proofs.lemmas.List.{nil_from_length}
 use Rattle.office_messages.specs.Heads.{Knows, plain_request}
 use Rattle.office_messages.specs.Stream.{RequestAt, FaultAt, Unfinished}
-use Rattle.office_messages.proofs.ServeLemmas.{Progress, start, grown, answered, asked, refused, limit, closed, cut, front, unsent, unrefused, knows_more, knows_nothing}
+use Rattle.office_messages.proofs.ServeLemmas.{Progress, start, grown, answered, asked, refused}
+use Rattle.office_messages.proofs.ServeLemmas.{limit, closed, cut, front, unsent, unrefused}
+use Rattle.office_messages.proofs.ServeLemmas.{knows_more, knows_nothing}
 use Rattle.office_messages.proofs.connection.serve.Goals as goal
 
 pub loop-answered-init : goal.loop-answered-init
 loop-answered-init g c =
-    let P : List ℕ → Type 0 = λ l. Progress g.M.Machine.Answers (g.R.Read.remaining c.args.reader.now) (g.R.Read.remaining c.args.reader.now)
-    (g.W.Write.contents c.args.writer.now) (g.W.Write.contents c.args.writer.now) c.args.machine.now c.args.machine.now 0 l in
+    let P : List ℕ → Type 0 =
+    λ l. Progress g.M.Machine.Answers (g.R.Read.remaining c.args.reader.now)
+    (g.R.Read.remaining c.args.reader.now)
+    (g.W.Write.contents c.args.writer.now)
+    (g.W.Write.contents c.args.writer.now) c.args.machine.now c.args.machine.now 0 l in
     record {
       progress = subst P (sym c.new-buffer.ensures.items) (start g.M.Machine.Answers _ _ _);
       known = knows_nothing c.new-buffer.result.items;
@@ -19,25 +24,44 @@ loop-answered-init g c =
 pub returns-in_err-answer-in-Whole-clause-err : goal.returns-in_err-answer-in-Whole-clause-err
 returns-in_err-answer-in-Whole-clause-err g c =
     let p = err_from_is_err_and c.from_residual.result c.from_residual.ensures.1 in
-    let at = subst (λ (l : List ℕ). RequestAt (plain_request c.request.result) c.in-Whole.head.closes l (drop c.in-Whole.head.body.end l)) c.deref-in-Whole.ensures.value c.request.ensures in
+    let at = subst
+    (λ (l : List ℕ). RequestAt (plain_request c.request.result) c.in-Whole.head.closes l
+    (drop c.in-Whole.head.body.end l)) c.deref-in-Whole.ensures.value c.request.ensures in
     rw (p.1, p.2, c.in_err-answer-in-Whole.ensures.err)
-    (unsent g.M.Machine.Answers _ _ _ _ _ _ _ _ c.loop-answered.invariant.progress _ _ _ _ _ _ c.loop-answered-test.true at c.answer.ensures.step.1)
+    (unsent g.M.Machine.Answers _ _ _ _ _ _ _ _ c.loop-answered.invariant.progress _ _ _ _ _ _
+    c.loop-answered-test.true at c.answer.ensures.step.1)
 
 pub returns-then-head-clause-ok : goal.returns-then-head-clause-ok
 returns-then-head-clause-ok g c =
-    let at = subst (λ (l : List ℕ). RequestAt (plain_request c.request.result) c.in-Whole.head.closes l (drop c.in-Whole.head.body.end l)) c.deref-in-Whole.ensures.value c.request.ensures in
-    let last = subst (λ (b : Bool). RequestAt (plain_request c.request.result) b c.loop-answered.buffer.items (drop c.in-Whole.head.body.end c.loop-answered.buffer.items)) c.if-head.true at in
+    let at = subst
+    (λ (l : List ℕ). RequestAt (plain_request c.request.result) c.in-Whole.head.closes l
+    (drop c.in-Whole.head.body.end l)) c.deref-in-Whole.ensures.value c.request.ensures in
+    let last =
+    subst (λ (b : Bool). RequestAt
+    (plain_request c.request.result) b c.loop-answered.buffer.items
+    (drop c.in-Whole.head.body.end c.loop-answered.buffer.items)) c.if-head.true at in
     rw c.at.ensures
-    (asked g.M.Machine.Answers _ _ _ _ _ _ _ _ c.loop-answered.invariant.progress _ _ _ _ _ _ c.loop-answered-test.true last
+    (asked g.M.Machine.Answers _ _ _ _ _ _ _ _ c.loop-answered.invariant.progress _ _ _ _ _ _
+    c.loop-answered-test.true last
     c.in_ok-answer-in-Whole.ensures.step.1 c.in_ok-answer-in-Whole.ensures.step.2 refl refl)
 
 pub loop-answered-preserved-in-Whole : goal.loop-answered-preserved-in-Whole
 loop-answered-preserved-in-Whole g c =
-    let at = subst (λ (l : List ℕ). RequestAt (plain_request c.request.result) c.in-Whole.head.closes l (drop c.in-Whole.head.body.end l)) c.deref-in-Whole.ensures.value c.request.ensures in
-    let open_still = subst (λ (b : Bool). RequestAt (plain_request c.request.result) b c.loop-answered.buffer.items (drop c.in-Whole.head.body.end c.loop-answered.buffer.items)) c.if-head.false at in
-    let left = subst (λ (l : List ℕ). RequestAt (plain_request c.request.result) false c.loop-answered.buffer.items l) (sym c.drop_front.ensures) open_still in
+    let at = subst
+    (λ (l : List ℕ). RequestAt (plain_request c.request.result) c.in-Whole.head.closes l
+    (drop c.in-Whole.head.body.end l)) c.deref-in-Whole.ensures.value c.request.ensures in
+    let open_still =
+    subst (λ (b : Bool). RequestAt
+    (plain_request c.request.result) b c.loop-answered.buffer.items
+    (drop c.in-Whole.head.body.end c.loop-answered.buffer.items)) c.if-head.false at in
+    let left =
+    subst (λ (l : List ℕ). RequestAt
+    (plain_request c.request.result) false c.loop-answered.buffer.items l)
+    (sym c.drop_front.ensures) open_still in
     record {
-      progress = answered g.M.Machine.Answers _ _ _ _ _ _ _ _ c.loop-answered.invariant.progress _ _ _ _ _ c.loop-answered-test.true left
+      progress =
+          answered g.M.Machine.Answers _ _ _ _ _ _ _ _ c.loop-answered.invariant.progress _ _ _ _ _
+          c.loop-answered-test.true left
           c.in_ok-answer-in-Whole.ensures.step.1 c.in_ok-answer-in-Whole.ensures.step.2;
       known = knows_nothing c.drop_front.new.buffer.items;
       room = c.in_ok-answer-in-Whole.ensures.room;
@@ -45,29 +69,41 @@ loop-answered-preserved-in-Whole g c =
 
 pub returns-in_err-send-in-Faulty-clause-err : goal.returns-in_err-send-in-Faulty-clause-err
 returns-in_err-send-in-Faulty-clause-err g c =
-    let p = err_from_is_err_and c.from_residual-in_err-send-in-Faulty.result c.from_residual-in_err-send-in-Faulty.ensures.1 in
-    rw (p.1, p.2, c.in_err-send-in-Faulty.ensures.err) (unrefused g.M.Machine.Answers _ _ _ _ _ _ _ _ c.loop-answered.invariant.progress _)
+    let p = err_from_is_err_and c.from_residual-in_err-send-in-Faulty.result
+    c.from_residual-in_err-send-in-Faulty.ensures.1 in
+    rw (p.1, p.2, c.in_err-send-in-Faulty.ensures.err)
+    (unrefused g.M.Machine.Answers _ _ _ _ _ _ _ _ c.loop-answered.invariant.progress _)
 
 pub returns-in-Faulty-clause-ok : goal.returns-in-Faulty-clause-ok
 returns-in-Faulty-clause-ok g c =
     rw c.at-in-Faulty.ensures
-    (refused g.M.Machine.Answers _ _ _ _ _ _ _ _ c.loop-answered.invariant.progress c.in-Faulty.bad.fault c.in-Faulty.bad.form _ _ c.loop-answered-test.true
-    (subst (FaultAt c.in-Faulty.bad.fault c.in-Faulty.bad.form) c.deref.ensures.value c.in-Faulty.ensures)
+    (refused g.M.Machine.Answers _ _ _ _ _ _ _ _ c.loop-answered.invariant.progress
+    c.in-Faulty.bad.fault c.in-Faulty.bad.form _ _ c.loop-answered-test.true
+    (subst (FaultAt c.in-Faulty.bad.fault c.in-Faulty.bad.form) c.deref.ensures.value
+    c.in-Faulty.ensures)
     (rw (← c.fault_reply.ensures) c.in_ok-send-in-Faulty.ensures.ok) refl refl)
 
 pub returns-in_err-receive-in-More-clause-err : goal.returns-in_err-receive-in-More-clause-err
 returns-in_err-receive-in-More-clause-err g c =
-    let p = err_from_is_err_and c.from_residual-in_err-receive-in-More.result c.from_residual-in_err-receive-in-More.ensures.1 in
+    let p = err_from_is_err_and c.from_residual-in_err-receive-in-More.result
+    c.from_residual-in_err-receive-in-More.ensures.1 in
     let t = c.receive.ensures.taken in
-    rw (p.1, p.2) (front g.M.Machine.Answers _ _ _ _ _ _ _ _ (grown g.M.Machine.Answers _ _ _ _ _ _ _ _ c.loop-answered.invariant.progress _ t.0 _ t.1 t.2) _)
+    rw (p.1, p.2)
+    (front g.M.Machine.Answers _ _ _ _ _ _ _ _
+    (grown g.M.Machine.Answers _ _ _ _ _ _ _ _ c.loop-answered.invariant.progress _ t.0 _ t.1
+    t.2) _)
 
 pub loop-answered-preserved : goal.loop-answered-preserved
 loop-answered-preserved g c =
     let t = c.receive.ensures.taken in
-    let known = subst (λ (l : List ℕ). Knows l c.in-More.known) c.deref.ensures.value c.in-More.ensures.1 in
+    let known =
+    subst (λ (l : List ℕ). Knows l c.in-More.known) c.deref.ensures.value c.in-More.ensures.1 in
     record {
-      progress = grown g.M.Machine.Answers _ _ _ _ _ _ _ _ c.loop-answered.invariant.progress _ t.0 _ t.1 t.2;
-      known = subst (λ (l : List ℕ). Knows l c.in-More.known) (sym t.2) (knows_more c.in-More.known c.loop-answered.buffer.items t.0 known);
+      progress =
+          grown g.M.Machine.Answers _ _ _ _ _ _ _ _ c.loop-answered.invariant.progress _ t.0 _ t.1
+          t.2;
+      known = subst (λ (l : List ℕ). Knows l c.in-More.known) (sym t.2)
+          (knows_more c.in-More.known c.loop-answered.buffer.items t.0 known);
       room = c.loop-answered.invariant.room;
     }
 
@@ -75,16 +111,23 @@ pub returns-then-is_empty-clause-ok : goal.returns-then-is_empty-clause-ok
 returns-then-is_empty-clause-ok g c =
     let t = c.receive.ensures.taken in
     rw c.at-then-is_empty.ensures
-    (closed g.M.Machine.Answers _ _ _ _ _ _ _ _ (grown g.M.Machine.Answers _ _ _ _ _ _ _ _ c.loop-answered.invariant.progress _ t.0 _ t.1 t.2)
-    _ c.loop-answered-test.true (c.in_ok-receive-in-More.ensures.end c.in-End.is).0 (nil_from_length _ (grind arith)) refl refl)
+    (closed g.M.Machine.Answers _ _ _ _ _ _ _ _
+    (grown g.M.Machine.Answers _ _ _ _ _ _ _ _ c.loop-answered.invariant.progress _ t.0 _ t.1
+    t.2)
+    _ c.loop-answered-test.true (c.in_ok-receive-in-More.ensures.end c.in-End.is).0
+    (nil_from_length _ (grind arith)) refl refl)
 
 pub returns-in-End-clause-ok : goal.returns-in-End-clause-ok
 returns-in-End-clause-ok g c =
     let t = c.receive.ensures.taken in
     rw c.at-in-End.ensures
-    (cut g.M.Machine.Answers _ _ _ _ _ _ _ _ (grown g.M.Machine.Answers _ _ _ _ _ _ _ _ c.loop-answered.invariant.progress _ t.0 _ t.1 t.2)
+    (cut g.M.Machine.Answers _ _ _ _ _ _ _ _
+    (grown g.M.Machine.Answers _ _ _ _ _ _ _ _ c.loop-answered.invariant.progress _ t.0 _ t.1
+    t.2)
     _ c.loop-answered-test.true (c.in_ok-receive-in-More.ensures.end c.in-End.is).0 (grind arith)
-    (subst Unfinished (c.deref.ensures.value ∙ sym (c.in_ok-receive-in-More.ensures.end c.in-End.is).1) c.in-More.ensures.0) refl refl)
+    (subst Unfinished
+    (c.deref.ensures.value
+    ∙ sym (c.in_ok-receive-in-More.ensures.end c.in-End.is).1) c.in-More.ensures.0) refl refl)
 
 pub returns-clause-ok : goal.returns-clause-ok
 returns-clause-ok g c =

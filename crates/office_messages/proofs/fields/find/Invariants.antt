@@ -5,4 +5,6 @@ use Rattle.office_messages.specs.Heads.{Sees}
 use Rattle.office_messages.proofs.fields.find.Given as goal
 
 abbrev pub invariant-loop-header : goal.invariant-loop-header
-invariant-loop-header l = Sees l.bytes (values_named l.name (map (header_bytes l.bytes) (take l.header-index l.headers))) l.seen
+invariant-loop-header l =
+    Sees l.bytes
+    (values_named l.name (map (header_bytes l.bytes) (take l.header-index l.headers))) l.seen

@@ -5,7 +5,9 @@ use Rattle.office_messages.proofs.framing.saturated.Goals as goal
 
 pub loop-digit-preserved : goal.loop-digit-preserved
 loop-digit-preserved c =
-    let more = digits_value_more 10 c.args.digits.now c.loop-digit.digit-index c.loop-digit-test.true in
-    let digit = digit_at c.args.digits.now c.loop-digit.digit-index c.requires c.loop-digit-test.true in
+    let more =
+    digits_value_more 10 c.args.digits.now c.loop-digit.digit-index c.loop-digit-test.true in
+    let digit =
+    digit_at c.args.digits.now c.loop-digit.digit-index c.requires c.loop-digit-test.true in
     let value = value_of_digit (get_or c.args.digits.now c.loop-digit.digit-index 0) digit in
     omega (arith, c.loop-digit.invariant, more, value.2)

@@ -7,4 +7,5 @@ use Rattle.office_messages.proofs.names.lists.Goals as goal
 pub returns : goal.returns
 returns c =
     any_from_yields_List (λ e. same_name e c.args.name.now) _ _ _ c.any.ensures.ran
-    (YieldsList-from_first (λ x. x.now) names_left _ c.of.ensures) (λ x b q k. search (rules, tests))
+    (YieldsList-from_first (λ x. x.now) names_left _ c.of.ensures)
+    (λ x b q k. search (rules, tests))

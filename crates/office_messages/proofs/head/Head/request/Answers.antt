@@ -7,7 +7,8 @@ use Rattle.office_messages.proofs.head.Head.request.Goals as goal
 pub text-requires-clause-text : goal.text-requires-clause-text
 text-requires-clause-text c =
     let at = c.requires.at in
-    subst IsUtf8 (sym at.parts.method.covered) (token_text at.head.method at.has_head.reads.0.method)
+    subst IsUtf8 (sym at.parts.method.covered)
+    (token_text at.head.method at.has_head.reads.0.method)
 
 pub text-requires-2-clause-text : goal.text-requires-2-clause-text
 text-requires-2-clause-text c =
