@@ -164,7 +164,8 @@ module _ {S : Type 0} (Answers : S → PlainRequest → PlainReply → S → Typ
           items = p.items ++ asks r ∷ [];
           output = p.output ++ text;
           messages =
-              with_input (Messages (p.items ++ asks r ∷ []) served.end 0) input now p.taken p.consumed
+              with_input (Messages (p.items ++ asks r ∷ []) served.end 0)
+              input now p.taken p.consumed
               (λ more. p.messages (asks r ∷ []) served.end more
               (lt, (rest ++ more, inl (request_more r true buffer rest more at, refl, end))));
           told = let Q : List ℕ → Type 0 =
