@@ -10,6 +10,8 @@ mod owners;
 mod records;
 mod rows;
 mod schema;
+mod schema_parts;
+mod schema_value;
 mod slots;
 
 pub use creation::{create_tables, is_bare};
@@ -20,6 +22,7 @@ pub use owners::{delete_owner, insert_owner, owners_of};
 pub use rows::{
     DraftRow, EnrolRow, OwnerRow, PartShareRow, PlacedRow, SeatRow, SlotRow, StudentShareRow,
 };
+pub use schema_value::is_office_schema;
 pub use slots::{delete_slot, delete_slots, insert_slot, insert_slots, slots_of};
 
 #[cfg(test)]
