@@ -4,6 +4,7 @@ pub mod DraftLemmas
 pub mod EnrolLemmas
 pub mod Frames
 pub mod Inside
+pub mod ListedTables
 pub mod MetaLemmas
 pub mod OwnerLemmas
 pub mod Queries

@@ -24,6 +24,7 @@ use Rattle.sqlite_rules.proofs.TableLemmas.{int_is}
 use Rattle.sqlite_rules.proofs.ProbeLemmas.{mapped_has}
 use Rattle.std.proofs.lemmas.Int.{ints}
 use Rattle.office_tables.specs.Tables.{HasRowids}
+pub use Rattle.office_tables.specs.Readings.{one_table}
 use Rattle.office_tables.proofs.TableLemmas.{rowid_once}
 use Rattle.sqlite_value.specs.declared.keys.Collation.TheVariants.{Binary}
 use Rattle.sqlite_sql.specs.declared.ops.BinaryOp.TheVariants.{Compare}
@@ -32,20 +33,6 @@ use Rattle.sqlite_sql.specs.Ops.{binary, is_true, from_truth}
 use Rattle.sqlite.specs.Term.{Term, Env, lit, col, op2, eval_all, holds}
 use Rattle.sqlite.specs.Query.{Query, Output, inner, end, matches, IsAnswer, output, output_cmp, page}
 use Rattle.sqlite.specs.Program.{overlay}
-
--- SELECT .. FROM a table WHERE .. ORDER BY ..
-abbrev pub one_table : ℕ → List Term → List Term → List (Term × Key) → Query
-one_table tree where_ shown order = record {
-  from = inner tree end;
-  filter = where_;
-  group = None;
-  project = shown;
-  distinct = false;
-  collations = [];
-  order = order;
-  limit = lit (Int (negsuc 0));
-  offset = lit (Int (pos 0));
-}
 
 -- a column of the row equals a parameter
 abbrev pub equals : ℕ → ℕ → Term

@@ -1,5 +1,6 @@
 pub mod Amounts
 pub mod Changes
+pub mod Readings
 pub mod Records
 pub mod Schema
 pub mod Steps

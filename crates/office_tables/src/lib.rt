@@ -5,6 +5,7 @@ mod amounts;
 mod creation;
 mod drafts;
 mod enrolments;
+mod listing;
 mod meta;
 mod owners;
 mod records;
