@@ -5,6 +5,7 @@ pub mod EnrolLemmas
 pub mod Frames
 pub mod Inside
 pub mod ListedTables
+pub mod ListTexts
 pub mod MetaLemmas
 pub mod OwnerLemmas
 pub mod Queries
@@ -12,3 +13,4 @@ pub mod Reading
 pub mod SlotLemmas
 pub mod Statements
 pub mod TableLemmas
+pub mod WholeRows

@@ -1,6 +1,7 @@
 //! The ten tables of an office's SQLite file: one function for each statement.
 #![tactic(auto)]
 
+mod adopted_rows;
 mod amounts;
 mod creation;
 mod drafts;
@@ -14,6 +15,7 @@ mod schema;
 mod schema_parts;
 mod schema_value;
 mod slots;
+mod vacant_tables;
 
 pub use creation::{create_tables, is_bare};
 pub use drafts::{delete_draft, drafts_of, insert_draft};
