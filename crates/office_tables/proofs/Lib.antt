@@ -6,6 +6,7 @@ pub mod Frames
 pub mod Inside
 pub mod ListedTables
 pub mod ListTexts
+pub mod MetaFound
 pub mod MetaLemmas
 pub mod OwnerLemmas
 pub mod Queries

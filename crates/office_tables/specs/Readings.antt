@@ -1,11 +1,12 @@
 -- What is read of a database of which no more is known than its schema.
-use Rattle.std.specs.Prelude.{◌≡◌, ℕ, zero, suc, ◌≤◌, false, List, [], ◌∷◌, map, length, negsuc, pos, None, Some, Option, Ok, Err, Result, Vec, IfOk, OnOk, IsPermutation}
+use Rattle.std.specs.Prelude.{◌≡◌, ◌≢◌, ◌<◌, ℕ, zero, suc, ◌≤◌, false, List, [], ◌∷◌, map, length, negsuc, pos, None, Some, Option, Ok, Err, Result, Vec, IfOk, OnOk, IsPermutation}
 use Rattle.std.specs.List.{AllByRecursion}
 use Rattle.std.specs.declared.alloc.Global.{Global}
 use Rattle.sqlite_resolve.specs.declared.compiled.Compiled.{Compiled}
 use Rattle.sqlite_resolve.specs.declared.error.CompileError.{CompileError}
 use Rattle.sqlite_trees.specs.Tree.{rowid}
 use Rattle.sqlite_value.specs.declared.keys.Key.{Key}
+use Rattle.sqlite_value.specs.declared.value.Value.{Value}
 use Rattle.sqlite_value.specs.declared.value.Value.TheVariants.{Int}
 use Rattle.sqlite_value.specs.Order.{Row, column}
 use Rattle.sqlite.specs.declared.error.Error.{Error}
@@ -20,7 +21,9 @@ use Rattle.sqlite.specs.Store.{Ghosts}
 use Rattle.sqlite.specs.Term.{Term, lit, eval_all}
 use Rattle.office_tables.specs.Schema.{office_schema}
 use Rattle.office_tables.specs.Steps.{Keeps}
-use Rattle.office_tables.specs.Tables.{Holds}
+use Rattle.office_tables.specs.Tables.{Meta, Holds, keyed, meta_row}
+use Rattle.office_tables.specs.Records.{meta_from}
+use Rattle.office_tables.specs.declared.rows.MetaRow.{MetaRow}
 
 -- ---- the text of a query
 
@@ -118,3 +121,20 @@ IsRead fits row_of width rows (Some made) = map row_of made.items ≡ map (colum
 IsRead {X} fits row_of width rows None =
     AllByRecursion (λ r. width ≤ length r) rows → (made : List X) → AllByRecursion fits made
     → IsPermutation (map (columns_from 0 width) rows) (map row_of made) → ⊥
+
+-- ---- the row about the office
+
+-- the first columns are those of this row; or, if there are enough, of no such row
+abbrev pub IsReadMeta : Row → Option MetaRow → Type 0
+IsReadMeta row (Some read) = columns_from 0 4 row ≡ meta_row (meta_from read)
+IsReadMeta row None = 4 ≤ length row → (m : Meta) → columns_from 0 4 row ≢ meta_row m
+
+-- the table holds this row alone; or there is none that it holds alone
+abbrev pub IsFoundMeta : List Row → Option MetaRow → Type 0
+IsFoundMeta stored (Some found) = Holds keyed (meta_row (meta_from found) ∷ []) stored
+IsFoundMeta stored None = (m : Meta) → Holds keyed (meta_row m ∷ []) stored → ⊥
+
+-- a column reads as a value of this form; or, if the row has it, as none
+abbrev pub IsColumn : {X : Type 0} → (X → Value) → Row → ℕ → Option X → Type 0
+IsColumn value row at (Some x) = column row at ≡ value x
+IsColumn {X} value row at None = at < length row → (x : X) → column row at ≢ value x

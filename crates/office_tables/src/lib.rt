@@ -8,6 +8,7 @@ mod drafts;
 mod enrolments;
 mod listing;
 mod meta;
+mod meta_row;
 mod owners;
 mod records;
 mod rows;
@@ -20,10 +21,10 @@ mod vacant_tables;
 pub use creation::{create_tables, is_bare};
 pub use drafts::{delete_draft, drafts_of, insert_draft};
 pub use enrolments::{enrols, insert_enrol, insert_enrols};
-pub use meta::{delete_meta, put_meta};
+pub use meta::{delete_meta, meta_of, put_meta};
 pub use owners::{delete_owner, insert_owner, owners_of};
 pub use rows::{
-    DraftRow, EnrolRow, OwnerRow, PartShareRow, PlacedRow, SeatRow, SlotRow, StudentShareRow,
+    DraftRow, EnrolRow, MetaRow, OwnerRow, PartShareRow, PlacedRow, SeatRow, SlotRow, StudentShareRow,
 };
 pub use schema_value::is_office_schema;
 pub use slots::{delete_slot, delete_slots, insert_slot, insert_slots, slots_of};

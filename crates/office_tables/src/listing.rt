@@ -74,7 +74,7 @@ fn read_each<R: Record + Copy>(alloc: Global, rows: &[Row]) -> Result<Option<Vec
     Ok(Some(records))
 }
 
-fn is_out_of_memory(error: Error) -> bool
+pub fn is_out_of_memory(error: Error) -> bool
     ensures { IsTrue result ↔ (error ≡ Error.SqliteFailure ErrorCode.OutOfMemory) }
 {
     match error {
