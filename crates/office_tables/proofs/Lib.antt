@@ -1,3 +1,4 @@
+pub mod AdoptLemmas
 pub mod Casts
 pub mod Creates
 pub mod DraftLemmas

@@ -5,3 +5,4 @@ pub mod Records
 pub mod Schema
 pub mod Steps
 pub mod Tables
+pub mod Adopting

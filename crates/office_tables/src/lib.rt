@@ -2,10 +2,12 @@
 #![tactic(auto)]
 
 mod adopted_rows;
+mod adopting;
 mod amounts;
 mod creation;
 mod drafts;
 mod enrolments;
+mod found;
 mod listing;
 mod meta;
 mod meta_row;
@@ -18,9 +20,11 @@ mod schema_value;
 mod slots;
 mod vacant_tables;
 
+pub use adopting::adopt_tables;
 pub use creation::{create_tables, is_bare};
 pub use drafts::{delete_draft, drafts_of, insert_draft};
 pub use enrolments::{enrols, insert_enrol, insert_enrols};
+pub use found::Found;
 pub use meta::{delete_meta, meta_of, put_meta};
 pub use owners::{delete_owner, insert_owner, owners_of};
 pub use rows::{
