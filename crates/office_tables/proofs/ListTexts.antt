@@ -40,7 +40,7 @@ owner_whole db is sound =
     (λ r long. record { columns = ap (λ l. column r 0 ∷ l) (sym (dropped 2 1 r long)); number = refl; wide = omega arith })
     (db.trees 1)
     (rows_long owner_table (take 1 owner_table.columns) (int (codes "dept")) refl refl refl db.trees (db.trees 1)
-        (typed_rows db is sound).1.0 (present_rows db is sound).1.0)
+    (typed_rows db is sound).1.0 (present_rows db is sound).1.0)
 
 pub owner_lists : ListsTable 2 1 keyed owner_text
 owner_lists = record { terms = owner_terms; lists = owner_is; whole = owner_whole }
@@ -70,7 +70,7 @@ enrol_whole db is sound =
     (λ r long. record { columns = sym (dropped 1 2 r long); number = refl; wide = omega arith })
     (db.trees 2)
     (rows_long enrol_table (take 1 enrol_table.columns) (int (codes "exam")) refl refl refl db.trees (db.trees 2)
-        (typed_rows db is sound).1.1.0 (present_rows db is sound).1.1.0)
+    (typed_rows db is sound).1.1.0 (present_rows db is sound).1.1.0)
 
 pub enrol_lists : ListsTable 2 2 keyless enrol_text
 enrol_lists = record { terms = enrol_terms; lists = enrol_is; whole = enrol_whole }
@@ -100,7 +100,7 @@ draft_whole db is sound =
     (λ r long. record { columns = ap (λ l. column r 0 ∷ l) (sym (dropped 2 7 r long)); number = refl; wide = omega arith })
     (db.trees 4)
     (rows_long draft_table (take 7 draft_table.columns) (int (codes "room")) refl refl refl db.trees (db.trees 4)
-        (typed_rows db is sound).1.1.1.0 (present_rows db is sound).1.1.1.0)
+    (typed_rows db is sound).1.1.1.0 (present_rows db is sound).1.1.1.0)
 
 pub draft_lists : ListsTable 8 4 keyed draft_text
 draft_lists = record { terms = draft_terms; lists = draft_is; whole = draft_whole }
@@ -130,7 +130,7 @@ slot_whole db is sound =
     (λ r long. record { columns = sym (dropped 1 4 r long); number = refl; wide = omega arith })
     (db.trees 5)
     (rows_long slot_table (take 3 slot_table.columns) (int (codes "room")) refl refl refl db.trees (db.trees 5)
-        (typed_rows db is sound).1.1.1.1.0 (present_rows db is sound).1.1.1.1.0)
+    (typed_rows db is sound).1.1.1.1.0 (present_rows db is sound).1.1.1.1.0)
 
 pub slot_lists : ListsTable 4 5 keyless slot_text
 slot_lists = record { terms = slot_terms; lists = slot_is; whole = slot_whole }
@@ -205,4 +205,4 @@ meta_whole db is sound =
     (λ r long. ap (λ l. column r 0 ∷ l) (sym (dropped 2 3 r long)))
     (db.trees 0)
     (rows_long meta_table (take 3 meta_table.columns) (blob (codes "instance")) refl refl refl db.trees (db.trees 0)
-        (typed_rows db is sound).0 (present_rows db is sound).0)
+    (typed_rows db is sound).0 (present_rows db is sound).0)

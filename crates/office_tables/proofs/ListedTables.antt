@@ -63,7 +63,7 @@ pub listed_silent : (tree : ℕ) (shown : List Term) (sql : List ℕ) → Lists 
     → Survives old new (CommitsShowing sql [] old) → Survives old new (λ _. HasTables old → ⊥)
 listed_silent tree shown sql lists old new =
     survives_weaker old new _ _ (λ _ db h tables. never_commits sql [] old db
-        (subst (λ s. IsPlain (understood s sql)) (sym tables.schema) lists.plain) h)
+    (subst (λ s. IsPlain (understood s sql)) (sym tables.schema) lists.plain) h)
 
 pub ok_gives : {T E : Type 0} (r : Result T E) (P : T → Type 0) (Q : Type 0) → ((x : T) → P x → Q)
     → IfOk r P → OnOk r Q
@@ -128,15 +128,15 @@ module _ (width : ℕ) (show : Row → Row) (terms : List Term) (stored rows : L
   pub stored_ids : HasRowids (map (only_column width) rows) → HasRowids stored
   stored_ids h =
       let ids = same_map (λ r. only_column width (listed terms r)) (only_column 0) stored
-          (all_weaker _ (λ r. only_column width (listed terms r) ≡ only_column 0 r) (λ r k. ap (λ v. v ∷ []) k.number) stored whole) in
+      (all_weaker _ (λ r. only_column width (listed terms r) ≡ only_column 0 r) (λ r k. ap (λ v. v ∷ []) k.number) stored whole) in
       let moved = subst (λ l. IsPermutation l (map (only_column width) rows))
-          (map-map (only_column width) (listed terms) stored ∙ ids) (IsPermutation-map (only_column width) _ _ same) in
+      (map-map (only_column width) (listed terms) stored ∙ ids) (IsPermutation-map (only_column width) _ _ same) in
       ids_adopted stored _ moved h
 
   pub stored_columns : IsPermutation (map show stored) (map (columns_from 0 width) rows)
   stored_columns =
       let each = same_map (λ r. columns_from 0 width (listed terms r)) show stored
-          (all_weaker _ (λ r. columns_from 0 width (listed terms r) ≡ show r) (λ r k. k.columns) stored whole) in
+      (all_weaker _ (λ r. columns_from 0 width (listed terms r) ≡ show r) (λ r k. k.columns) stored whole) in
       subst (λ l. IsPermutation l (map (columns_from 0 width) rows))
       (map-map (columns_from 0 width) (listed terms) stored ∙ each) (IsPermutation-map (columns_from 0 width) _ _ same)
 

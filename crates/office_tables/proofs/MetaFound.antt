@@ -35,7 +35,7 @@ first_alone (y ∷ z ∷ xs) x long first = absurd (omega (arith, long))
 rowids_of_one : (stored : List Row) (m : Meta) → IsPermutation (map keyed stored) (meta_row m ∷ []) → HasRowids stored
 rowids_of_one stored m same =
     let ints = all_from_map (λ r. IsTrue (is_int (rowid r))) keyed stored
-        (all-permutation (λ r. IsTrue (is_int (rowid r))) (meta_row m ∷ []) (map keyed stored) (IsPermutation-sym _ _ same) (refl, tt)) in
+    (all-permutation (λ r. IsTrue (is_int (rowid r))) (meta_row m ∷ []) (map keyed stored) (IsPermutation-sym _ _ same) (refl, tt)) in
     go stored (sym (length_permutation _ _ same)) ints
   where
     go : (xs : List Row) → length (map keyed xs) ≡ 1 → AllByRecursion (λ r. IsTrue (is_int (rowid r))) xs → HasRowids xs
@@ -59,7 +59,7 @@ module _ (db : Database) (is : db.schema ≡ office_schema) (sound : IsDatabase 
   alone row one (Some m) read =
       let long = (subst (AllByRecursion (λ r. length r ≡ 4)) one four).0 in
       let here : IsPermutation (map keyed (db.trees 0)) (meta_row (meta_from m) ∷ []) =
-          subst (IsPermutation (map keyed (db.trees 0))) (one ∙ ap (λ v. v ∷ []) (dropped 0 4 row long ∙ read)) shown in
+      subst (IsPermutation (map keyed (db.trees 0))) (one ∙ ap (λ v. v ∷ []) (dropped 0 4 row long ∙ read)) shown in
       record { rowids = rowids_of_one (db.trees 0) (meta_from m) here; same = here }
   alone row one None none = λ m holds.
       let long = (subst (AllByRecursion (λ r. length r ≡ 4)) one four).0 in

@@ -82,8 +82,8 @@ pub rows_long : (table : Table) (cols : List Column) (c : Column) → table.colu
     → AllByRecursion (λ r. length r ≡ 2 + length cols) stored
 rows_long table cols c is unkeyed present trees stored typed all =
     all_both _ _ _ (λ r t p. row_long table.key cols c r unkeyed present
-        (subst (λ l. are_typed table.key 0 l (drop 1 r) ≡ true) is (and_parts _ _ t).0)
-        (subst (λ l. are_present table.key 0 l r ≡ true) is p)) stored typed all
+    (subst (λ l. are_typed table.key 0 l (drop 1 r) ≡ true) is (and_parts _ _ t).0)
+    (subst (λ l. are_present table.key 0 l r ≡ true) is p)) stored typed all
 
 pub typed_rows : (db : Database) → db.schema ≡ office_schema → IsDatabase db → Keeps Datatype office_schema db.trees
 typed_rows db is sound = subst (λ (s : Schema). Keeps Datatype s db.trees) is (sound.obeys.rules Datatype)

@@ -36,10 +36,7 @@ pub fn adopt_tables<S: Alter>(
     adopt_rows(alloc, conn)
 }
 
-fn adopt_rows<S: Alter>(
-    alloc: Global,
-    conn: &mut Connection<S>,
-) -> Result<Option<Found>, Error>
+fn adopt_rows<S: Alter>(alloc: Global, conn: &mut Connection<S>) -> Result<Option<Found>, Error>
     ensures found { Finds S.Store IsAdopted conn.old conn.new result }
     ensures same { Leaves S.Store conn.old conn.new result }
     ensures looks { Looks (state S.Store conn.old) (state S.Store conn.new) }
@@ -113,10 +110,7 @@ fn session_of(
     })
 }
 
-fn drafts_of(
-    drafts: Option<Vec<DraftRow>>,
-    slots: Option<Vec<SlotRow>>,
-) -> Option<FoundDrafts>
+fn drafts_of(drafts: Option<Vec<DraftRow>>, slots: Option<Vec<SlotRow>>) -> Option<FoundDrafts>
     ensures { IsDrafts drafts slots result }
 {
     Some(FoundDrafts {

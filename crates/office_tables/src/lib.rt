@@ -28,7 +28,8 @@ pub use found::Found;
 pub use meta::{delete_meta, meta_of, put_meta};
 pub use owners::{delete_owner, insert_owner, owners_of};
 pub use rows::{
-    DraftRow, EnrolRow, MetaRow, OwnerRow, PartShareRow, PlacedRow, SeatRow, SlotRow, StudentShareRow,
+    DraftRow, EnrolRow, MetaRow, OwnerRow, PartShareRow, PlacedRow, SeatRow, SlotRow,
+    StudentShareRow,
 };
 pub use schema_value::is_office_schema;
 pub use slots::{delete_slot, delete_slots, insert_slot, insert_slots, slots_of};

@@ -33,8 +33,8 @@ returns-clause-found g c tree show lists clean tables =
     let list = c.in_ok-rows.ensures.rows tree lists.terms lists.lists clean tables in
     let rising : IsTrue c.in_ok-numbers_rise.field-0 = let f = c.if-not-branch.false in search rules in
     let rise : HasRowids (map (only_column width) rows) =
-        subst₂ (λ w rs. HasRowids (map (only_column w) rs)) c.WIDTH.ensures c.deref.ensures.value (c.in_ok-numbers_rise.ensures rising) in
+    subst₂ (λ w rs. HasRowids (map (only_column w) rs)) c.WIDTH.ensures c.deref.ensures.value (c.in_ok-numbers_rise.ensures rising) in
     IfOk-weaker c.read_each.result _ _
     (λ found is. adopted g.R.Record.fits g.R.Record.columns_of width show lists.terms (old.now.trees tree) rows whole list rise found
-        (subst (λ rs. IsRead g.R.Record.fits g.R.Record.columns_of width rs found) c.deref-2.ensures.value is))
+    (subst (λ rs. IsRead g.R.Record.fits g.R.Record.columns_of width rs found) c.deref-2.ensures.value is))
     c.read_each.ensures
