@@ -5,8 +5,8 @@ pub mod DraftLemmas
 pub mod EnrolLemmas
 pub mod Frames
 pub mod Inside
-pub mod ListedTables
 pub mod ListTexts
+pub mod ListedTables
 pub mod MetaFound
 pub mod MetaLemmas
 pub mod OwnerLemmas

@@ -1,11 +1,10 @@
 -- The texts that list whole tables.
-use Rattle.std.proofs.Common.{◌≡◌, ℕ, List, [], ◌∷◌, codes, length, take, refl, sym, ap, arith}
+use Rattle.std.proofs.Common.{◌≡◌, ℕ, List, [], ◌∷◌, codes, take, refl, sym, ap, arith}
 use Rattle.std.specs.List.{AllByRecursion}
 use Rattle.sqlite_trees.proofs.ListLemmas.{all_weaker}
 use Rattle.sqlite_value.specs.declared.keys.Collation.TheVariants.{Binary}
-use Rattle.sqlite_value.specs.declared.keys.Key.{Key}
 use Rattle.sqlite_value.specs.Keys.{ascending}
-use Rattle.sqlite_value.specs.Order.{Row, column}
+use Rattle.sqlite_value.specs.Order.{column}
 use Rattle.sqlite.specs.Effect.{Database, IsDatabase}
 use Rattle.sqlite.specs.Listing.{understood}
 use Rattle.sqlite.specs.Term.{Term, col}
@@ -37,7 +36,11 @@ owner_whole : (db : Database) → db.schema ≡ office_schema → IsDatabase db
     → AllByRecursion (λ r. IsListed 2 keyed r (listed owner_terms r)) (db.trees 1)
 owner_whole db is sound =
     all_weaker _ (λ r. IsListed 2 keyed r (listed owner_terms r))
-    (λ r long. record { columns = ap (λ l. column r 0 ∷ l) (sym (dropped 2 1 r long)); number = refl; wide = omega arith })
+    (λ r long. record {
+      columns = ap (λ l. column r 0 ∷ l) (sym (dropped 2 1 r long));
+      number = refl;
+      wide = omega arith;
+    })
     (db.trees 1)
     (rows_long owner_table (take 1 owner_table.columns) (int (codes "dept")) refl refl refl db.trees (db.trees 1)
     (typed_rows db is sound).1.0 (present_rows db is sound).1.0)
@@ -81,7 +84,8 @@ abbrev pub draft_text : List ℕ
 draft_text = codes "SELECT no, in_row, in_day, spread, mixed, front, period, room, rowid FROM draft ORDER BY rowid"
 
 abbrev draft_terms : List Term
-draft_terms = col 1 0 ∷ col 1 2 ∷ col 1 3 ∷ col 1 4 ∷ col 1 5 ∷ col 1 6 ∷ col 1 7 ∷ col 1 8 ∷ col 1 0 ∷ []
+draft_terms =
+    col 1 0 ∷ col 1 2 ∷ col 1 3 ∷ col 1 4 ∷ col 1 5 ∷ col 1 6 ∷ col 1 7 ∷ col 1 8 ∷ col 1 0 ∷ []
 
 draft_is : Lists 4 draft_terms draft_text
 unfolding understood everything
@@ -97,7 +101,11 @@ draft_whole : (db : Database) → db.schema ≡ office_schema → IsDatabase db
     → AllByRecursion (λ r. IsListed 8 keyed r (listed draft_terms r)) (db.trees 4)
 draft_whole db is sound =
     all_weaker _ (λ r. IsListed 8 keyed r (listed draft_terms r))
-    (λ r long. record { columns = ap (λ l. column r 0 ∷ l) (sym (dropped 2 7 r long)); number = refl; wide = omega arith })
+    (λ r long. record {
+      columns = ap (λ l. column r 0 ∷ l) (sym (dropped 2 7 r long));
+      number = refl;
+      wide = omega arith;
+    })
     (db.trees 4)
     (rows_long draft_table (take 7 draft_table.columns) (int (codes "room")) refl refl refl db.trees (db.trees 4)
     (typed_rows db is sound).1.1.1.0 (present_rows db is sound).1.1.1.0)

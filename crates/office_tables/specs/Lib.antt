@@ -1,3 +1,4 @@
+pub mod Adopting
 pub mod Amounts
 pub mod Changes
 pub mod Readings
@@ -5,4 +6,3 @@ pub mod Records
 pub mod Schema
 pub mod Steps
 pub mod Tables
-pub mod Adopting

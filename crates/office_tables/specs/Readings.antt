@@ -113,8 +113,8 @@ pub record Looks (old new : State) : Type 0 where
 abbrev pub only_column : ℕ → Row → Row
 only_column at row = column row at ∷ []
 
--- the rows read as typed rows by their first columns; or, if they are wide enough, they are those of
--- no typed rows that fit
+-- the rows read as typed rows by their first columns; or, if they are wide enough, they are those
+-- of no typed rows that fit
 abbrev pub IsRead : {X : Type 0} → (X → Type 0) → (X → Row) → ℕ → List Row
     → Option (Vec X Global) → Type 0
 IsRead fits row_of width rows (Some made) = map row_of made.items ≡ map (columns_from 0 width) rows

@@ -1,5 +1,5 @@
 -- The records that rows are read as.
-use Rattle.std.specs.Prelude.{◌≡◌, ℕ, pos, ◌<◌, ◌^◌}
+use Rattle.std.specs.Prelude.{ℕ, pos, ◌<◌, ◌^◌}
 use Rattle.sqlite_value.specs.declared.value.Value.{Value}
 use Rattle.sqlite_value.specs.declared.value.Value.TheVariants.{Int}
 use Rattle.sqlite_value.specs.Order.{Row, column}

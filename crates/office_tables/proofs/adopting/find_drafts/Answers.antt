@@ -32,7 +32,8 @@ returns-clause-same g c =
     let at_0 = state g.S.Store c.args.conn.now in
     let at_1 = state g.S.Store c.adopt_drafts.new.conn in
     let at_2 = state g.S.Store c.adopt_slots.new.conn in
-    stays_then at_0 at_1 at_2 c.in_ok-drafts.ensures.same c.adopt_slots.ensures.looks c.in_ok-slots.ensures.same
+    stays_then at_0 at_1 at_2 c.in_ok-drafts.ensures.same c.adopt_slots.ensures.looks
+    c.in_ok-slots.ensures.same
 
 pub returns-clause-found : goal.returns-clause-found
 returns-clause-found g c clean tables =
@@ -41,5 +42,7 @@ returns-clause-found g c clean tables =
     let at_2 = state g.S.Store c.adopt_slots.new.conn in
     let clean_1 = clean_before at_1 at_2 c.adopt_slots.ensures.looks clean in
     let found_1 = c.in_ok-drafts.ensures.found clean_1 tables in
-    let found_2 = found_after at_0 at_1 at_2 c.in_ok-drafts.ensures.same c.adopt_slots.ensures.looks (λ db. IsFound FitsSlot slot_row keyless (db.trees 5) c.in_ok-slots.slots) c.in_ok-slots.ensures.found clean tables in
+    let found_2 = found_after at_0 at_1 at_2 c.in_ok-drafts.ensures.same c.adopt_slots.ensures.looks
+    (λ db. IsFound FitsSlot slot_row keyless (db.trees 5) c.in_ok-slots.slots)
+    c.in_ok-slots.ensures.found clean tables in
     drafts_found at_0.now _ _ found_1 found_2 c.drafts_of.result c.drafts_of.ensures

@@ -8,7 +8,8 @@ use Rattle.office_tables.proofs.listing.is_vacant.Goals as goal
 pub returns-clause-found : goal.returns-clause-found
 returns-clause-found g c tree shown lists clean tables =
     let old = state g.S.Store c.args.conn.now in
-    let both = vacant shown (old.now.trees tree) c.in_ok-rows.rows.items (c.in_ok-rows.ensures.rows tree shown lists clean tables) in (
+    let both = vacant shown (old.now.trees tree) c.in_ok-rows.rows.items
+    (c.in_ok-rows.ensures.rows tree shown lists clean tables) in (
       λ h. both.0 (nil_from_length c.in_ok-rows.rows.items (grind (arith, nat_tests))),
       λ h. let none = ap length (both.1 h) in grind (arith, nat_tests),
     )

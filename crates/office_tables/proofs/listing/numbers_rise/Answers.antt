@@ -11,6 +11,8 @@ loop-row-preserved c =
     let on = map_more alone rows c.loop-row.row-index c.row-item.result c.loop-row-test.true in
     let next = c.in_ok-next.ensures in
     let here = rw c.in-Some.is at next in
-    let more = rise_more (map alone (take c.loop-row.row-index rows)) c.loop-row.last c.in-Some.number (alone c.row-item.result) c.loop-row.invariant.ids c.loop-row.invariant.upto here.1 here.0 in
+    let more = rise_more (map alone (take c.loop-row.row-index rows)) c.loop-row.last
+    c.in-Some.number (alone c.row-item.result) c.loop-row.invariant.ids
+    c.loop-row.invariant.upto here.1 here.0 in
     let kept : to_z w64 (of_z w64 c.in-Some.number) ≡ c.in-Some.number = grind (arith, to_z-of_z) in
     rw (kept, on, ← c.row-item.is) (record { ids = more.0; upto = more.1 })

@@ -8,6 +8,9 @@ returns-in-Err g c wide made fit same =
     let fits = g.R.Record.fits in
     let row_of = g.R.Record.columns_of in
     let width = g.R.Record.WIDTH in
-    let known = c.in-Err.ensures.refused (λ is. let yes' = c.is_out_of_memory.ensures.1 is in let no' = c.if-is_out_of_memory.false in cc) in
-    let refused = subst (λ r. width ≤ length r → (x : _) → fits x → row_of x ≢ columns_from 0 width r) c.row-item.is known in
-    unread fits row_of width c.args.rows.now c.loop-row.row-index c.row-item.result c.loop-row-test.true refused wide made fit same
+    let known = c.in-Err.ensures.refused (λ is. let yes' = c.is_out_of_memory.ensures.1 is in
+    let no' = c.if-is_out_of_memory.false in cc) in
+    let refused = subst (λ r. width ≤ length r → (x : _) → fits x
+    → row_of x ≢ columns_from 0 width r) c.row-item.is known in
+    unread fits row_of width c.args.rows.now c.loop-row.row-index c.row-item.result
+    c.loop-row-test.true refused wide made fit same
