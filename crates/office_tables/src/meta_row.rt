@@ -1,5 +1,5 @@
 // The row about the office, read of any row.
-ghost use Rattle.std.specs.Prelude.{◌≡◌, ◌↔◌, ◌<◌, ◌≢◌, ℕ, Bool, List, length, pos, IfOk, IsTrue, option_map};
+ghost use Rattle.std.specs.Prelude.{◌≡◌, ◌↔◌, ◌<◌, ◌≢◌, ℕ, Bool, List, length, pos, IfErr, IfOk, IsTrue, option_map};
 ghost use Rattle.sqlite_value.specs.declared.value.Value.TheVariants.{Blob, Int};
 ghost use Rattle.sqlite_value.specs.Order.{column};
 ghost use Rattle.office_tables.specs.Readings.{IsColumn, IsReadMeta};
@@ -7,11 +7,12 @@ ghost use Rattle.office_tables.specs.Tables.{flag};
 
 use crate::listing::is_out_of_memory;
 use crate::rows::MetaRow;
-use sqlite::{Error, Row};
+use sqlite::{Error, ErrorCode, Row};
 
 // The row, if it is one of version 1 under the key 0.
 pub fn read_meta(row: &Row) -> Result<Option<MetaRow>, Error>
-    ensures { IfOk result (IsReadMeta row.now) }
+    ensures ok { IfOk result (IsReadMeta row.now) }
+    ensures memory { IfErr result (λ e. e ≡ Error.SqliteFailure ErrorCode.OutOfMemory) }
 {
     if !is_number(row, 0, 0)? || !is_number(row, 1, 1)? {
         return Ok(None);
@@ -29,7 +30,8 @@ pub fn read_meta(row: &Row) -> Result<Option<MetaRow>, Error>
 }
 
 fn is_number(row: &Row, at: usize, number: u64) -> Result<bool, Error>
-    ensures { IfOk result (λ is. at < length row.now → (IsTrue is ↔ (column row.now at ≡ Int (pos number)))) }
+    ensures ok { IfOk result (λ is. at < length row.now → (IsTrue is ↔ (column row.now at ≡ Int (pos number)))) }
+    ensures memory { IfErr result (λ e. e ≡ Error.SqliteFailure ErrorCode.OutOfMemory) }
 {
     let Some(found) = number_at(row, at)? else {
         return Ok(false);
@@ -38,7 +40,8 @@ fn is_number(row: &Row, at: usize, number: u64) -> Result<bool, Error>
 }
 
 fn flag_at(row: &Row, at: usize) -> Result<Option<bool>, Error>
-    ensures { IfOk result (IsColumn (λ b. Int (pos (flag b))) row.now at) }
+    ensures ok { IfOk result (IsColumn (λ b. Int (pos (flag b))) row.now at) }
+    ensures memory { IfErr result (λ e. e ≡ Error.SqliteFailure ErrorCode.OutOfMemory) }
 {
     let Some(number) = number_at(row, at)? else {
         return Ok(None);
@@ -51,7 +54,8 @@ fn flag_at(row: &Row, at: usize) -> Result<Option<bool>, Error>
 }
 
 fn number_at(row: &Row, at: usize) -> Result<Option<u64>, Error>
-    ensures { IfOk result (IsColumn (λ n. Int (pos n)) row.now at) }
+    ensures ok { IfOk result (IsColumn (λ n. Int (pos n)) row.now at) }
+    ensures memory { IfErr result (λ e. e ≡ Error.SqliteFailure ErrorCode.OutOfMemory) }
 {
     match row.get(at) {
         Ok(number) => Ok(Some(number)),
@@ -65,7 +69,8 @@ fn number_at(row: &Row, at: usize) -> Result<Option<u64>, Error>
 }
 
 fn bytes_at(row: &Row, at: usize) -> Result<Option<Vec<u8>>, Error>
-    ensures { IfOk result (λ found. IsColumn Blob row.now at (option_map (λ bytes. bytes.items) found)) }
+    ensures ok { IfOk result (λ found. IsColumn Blob row.now at (option_map (λ bytes. bytes.items) found)) }
+    ensures memory { IfErr result (λ e. e ≡ Error.SqliteFailure ErrorCode.OutOfMemory) }
 {
     match row.get(at) {
         Ok(bytes) => Ok(Some(bytes)),

@@ -42,4 +42,4 @@ returns-clause-found g c clean tables =
     IfOk-weaker c.read_meta.result _ _
     (alone old.now tables.schema (tables.live same.0.was_open).0 rows
     (c.in_ok-rows.ensures.rows 0 _ meta_is clean tables) row (first_alone rows row long first))
-    c.read_meta.ensures
+    c.read_meta.ensures.ok
