@@ -1,7 +1,6 @@
 -- What each CREATE TABLE means, one after the other.
 use Rattle.std.proofs.Common.{◌≡◌, ℕ, List, codes, Ok, refl}
 use Rattle.std.specs.Fmt.{digits}
-use Rattle.sqlite.specs.Change.{created}
 use Rattle.sqlite.specs.Command.TheVariants.{CreateTable}
 use Rattle.sqlite.specs.Compile.{table_defined_by}
 use Rattle.sqlite.specs.Listing.{understood}

@@ -1,10 +1,10 @@
 -- What a statement inside a transaction leaves of it.
-use Rattle.std.proofs.Common.{◌+◌, ◌<◌, ◌++◌, ◌∷◌, [], reverse, take, get_or, length, ◌≡◌, ◌⊎◌, inl, inr, ℕ, List, Bool, true, false, Ok, Err, Result, refl, sym, ap, ◌∙◌, IsTrue, arith, subst, IfErr, OnErr}
+use Rattle.std.proofs.Common.{◌+◌, ◌<◌, ◌++◌, ◌∷◌, [], reverse, take, get_or, length, ◌≡◌, inl, inr, ℕ, List, Bool, true, false, Ok, Err, Result, refl, ap, ◌∙◌, IsTrue, arith, subst, IfErr, OnErr}
 use Rattle.std.proofs.lemmas.List.{take_more, reverse-append}
 use Rattle.sqlite_value.specs.Order.{Row}
 use Rattle.sqlite_trees.specs.Tree.{Trees}
 use Rattle.sqlite.specs.declared.error.Error.{Error}
-use Rattle.sqlite.specs.State.{State, HasCleanDisk, Survives, Shows, ExecutesInside, KeepsCommit}
+use Rattle.sqlite.specs.State.{State, HasCleanDisk, Survives, ExecutesInside, KeepsCommit}
 use Rattle.std.proofs.lemmas.Result.{IfErr-weaker}
 use Rattle.sqlite.specs.Effect.{Database}
 use Rattle.sqlite.specs.Held.{Held, state}
@@ -12,7 +12,7 @@ use Rattle.sqlite.specs.Store.{Ghosts}
 use Rattle.sqlite.proofs.Callers.{survives_begin}
 use Rattle.sqlite.specs.Steps.{FailsToCommit}
 use Rattle.sqlite.proofs.StateLemmas.{survives_then}
-use Rattle.office_tables.specs.Tables.{Tables, Stands}
+use Rattle.office_tables.specs.Tables.{Tables}
 use Rattle.office_tables.specs.Steps.{Within, Makes, Undoes, Commits, Leads}
 
 -- what answers `Ok` was inside

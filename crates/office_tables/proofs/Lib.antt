@@ -1,9 +1,13 @@
+pub mod AdoptLemmas
 pub mod Casts
 pub mod Creates
 pub mod DraftLemmas
 pub mod EnrolLemmas
 pub mod Frames
 pub mod Inside
+pub mod ListTexts
+pub mod ListedTables
+pub mod MetaFound
 pub mod MetaLemmas
 pub mod OwnerLemmas
 pub mod Queries
@@ -11,3 +15,4 @@ pub mod Reading
 pub mod SlotLemmas
 pub mod Statements
 pub mod TableLemmas
+pub mod WholeRows

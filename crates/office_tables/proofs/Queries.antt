@@ -1,21 +1,17 @@
 -- What a query over one table answers, and what a DELETE by such a query leaves.
-use Rattle.std.proofs.Common.{◌≡◌, ◌⊎◌, inl, inr, ℕ, ℤ, zero, suc, pos, negsuc, List, [], ◌∷◌, ◌++◌, map, filter, flat_map, drop, not, length, Bool, true, false, cond, ◌&&◌, ◌||◌, ◌==◌, ◌<◌, ◌^◌, Option, Some, None, refl, sym, ap, ap₂, subst, ◌∙◌, IsTrue, arith, Ordering, Less, Equal, Greater, is_eq, int_cmp}
-use Rattle.std.specs.List.{AllByRecursion, list_any, list_all}
-use Rattle.std.specs.Prelude.{IsPermutation, IsSorted, nat_le, unwrap_or}
+use Rattle.std.proofs.Common.{◌≡◌, inl, inr, ℕ, ℤ, suc, pos, List, [], ◌∷◌, ◌++◌, map, filter, flat_map, drop, not, Bool, true, false, cond, ◌&&◌, ◌||◌, ◌==◌, ◌^◌, Some, None, refl, sym, ap, ap₂, subst, ◌∙◌, arith, Ordering, Less, Equal, Greater, is_eq, int_cmp}
+use Rattle.std.specs.List.{list_any, list_all}
+use Rattle.std.specs.Prelude.{IsPermutation, nat_le, unwrap_or}
 use Rattle.std.proofs.lemmas.Bool.{cases_Bool, false_from_ne_true}
 use Rattle.std.proofs.lemmas.Bool.Decides.{nat_tests}
-use Rattle.std.proofs.lemmas.Cmp.{tied_itself, tied_back}
-use Rattle.std.proofs.lemmas.List.Sorted.{IsPermutation-refl, IsPermutation-trans, IsPermutation-sym, IsPermutation-map, list_any-IsPermutation}
-use Rattle.sqlite_value.specs.declared.value.Value.{Value}
-use Rattle.sqlite_value.specs.declared.value.Value.TheVariants.{Null, Int}
+use Rattle.std.proofs.lemmas.Cmp.{tied_itself}
+use Rattle.std.proofs.lemmas.List.Sorted.{IsPermutation-map, list_any-IsPermutation}
+use Rattle.sqlite_value.specs.declared.value.Value.TheVariants.{Int}
 use Rattle.sqlite_value.specs.declared.keys.Key.{Key}
 use Rattle.sqlite_value.specs.Order.{Row, column, value_cmp}
 use Rattle.sqlite_value.proofs.OrderLemmas.{value_cmp_total, value_cmp-Int}
-use Rattle.sqlite_trees.specs.declared.store.Shape.TheVariants.{Table as TableShape}
-use Rattle.sqlite_trees.specs.Tree.{Trees, IsTable, rowid, has_rowid, without_rowid}
-use Rattle.sqlite_trees.specs.View.{IsShaped, is_int}
+use Rattle.sqlite_trees.specs.Tree.{Trees, rowid, has_rowid, without_rowid}
 use Rattle.sqlite_trees.proofs.ListLemmas.{map-map, filter-map, filter_all, filter_same, IsPermutation-filter}
-use Rattle.sqlite_trees.proofs.TreeLemmas.{IsShaped-filter}
 use Rattle.sqlite_rules.specs.Lists.{Has}
 use Rattle.sqlite_rules.specs.Edit.{id_in, without_all}
 use Rattle.sqlite_rules.specs.Calls.{ids_of}
@@ -24,28 +20,15 @@ use Rattle.sqlite_rules.proofs.TableLemmas.{int_is}
 use Rattle.sqlite_rules.proofs.ProbeLemmas.{mapped_has}
 use Rattle.std.proofs.lemmas.Int.{ints}
 use Rattle.office_tables.specs.Tables.{HasRowids}
+pub use Rattle.office_tables.specs.Readings.{one_table}
 use Rattle.office_tables.proofs.TableLemmas.{rowid_once}
 use Rattle.sqlite_value.specs.declared.keys.Collation.TheVariants.{Binary}
 use Rattle.sqlite_sql.specs.declared.ops.BinaryOp.TheVariants.{Compare}
 use Rattle.sqlite_sql.specs.declared.ops.CompareOp.TheVariants.{Eq}
 use Rattle.sqlite_sql.specs.Ops.{binary, is_true, from_truth}
-use Rattle.sqlite.specs.Term.{Term, Env, lit, col, op2, eval_all, holds}
-use Rattle.sqlite.specs.Query.{Query, Output, inner, end, matches, IsAnswer, output, output_cmp, page}
+use Rattle.sqlite.specs.Term.{Term, col, op2, eval_all, holds}
+use Rattle.sqlite.specs.Query.{Output, IsAnswer, output}
 use Rattle.sqlite.specs.Program.{overlay}
-
--- SELECT .. FROM a table WHERE .. ORDER BY ..
-abbrev pub one_table : ℕ → List Term → List Term → List (Term × Key) → Query
-one_table tree where_ shown order = record {
-  from = inner tree end;
-  filter = where_;
-  group = None;
-  project = shown;
-  distinct = false;
-  collations = [];
-  order = order;
-  limit = lit (Int (negsuc 0));
-  offset = lit (Int (pos 0));
-}
 
 -- a column of the row equals a parameter
 abbrev pub equals : ℕ → ℕ → Term

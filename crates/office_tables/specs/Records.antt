@@ -1,12 +1,17 @@
 -- The records that rows are read as.
-use Rattle.std.specs.Prelude.{◌≡◌, ℕ, pos}
+use Rattle.std.specs.Prelude.{ℕ, pos, ◌<◌, ◌^◌}
 use Rattle.sqlite_value.specs.declared.value.Value.{Value}
 use Rattle.sqlite_value.specs.declared.value.Value.TheVariants.{Int}
 use Rattle.sqlite_value.specs.Order.{Row, column}
+use Rattle.office_tables.specs.declared.rows.MetaRow.{MetaRow}
+use Rattle.office_tables.specs.Tables.{Meta}
 use Rattle.office_tables.specs.declared.rows.OwnerRow.{OwnerRow}
 use Rattle.office_tables.specs.declared.rows.EnrolRow.{EnrolRow}
 use Rattle.office_tables.specs.declared.rows.DraftRow.{DraftRow}
 use Rattle.office_tables.specs.declared.rows.SlotRow.{SlotRow}
+
+abbrev pub meta_from : MetaRow → Meta
+meta_from r = record { published = r.published; instance = r.instance.items }
 
 -- a number that is read
 abbrev pub number : Value → ℕ
@@ -44,3 +49,20 @@ slot_of row = record {
   period = number (column row 2);
   room = number (column row 3);
 }
+
+-- ---- which records the program's types hold: numbers of 32 bits
+
+abbrev pub IsNarrow : ℕ → Type 0
+IsNarrow n = n < 2 ^ 32
+
+abbrev pub FitsOwner : OwnerRow → Type 0
+FitsOwner r = IsNarrow r.exam × IsNarrow r.dept
+
+abbrev pub FitsEnrol : EnrolRow → Type 0
+FitsEnrol r = IsNarrow r.student × IsNarrow r.exam
+
+abbrev pub FitsDraft : DraftRow → Type 0
+FitsDraft r = IsNarrow r.no
+
+abbrev pub FitsSlot : SlotRow → Type 0
+FitsSlot r = IsNarrow r.draft × IsNarrow r.exam × IsNarrow r.period × IsNarrow r.room

@@ -1,5 +1,13 @@
 // The rows of the tables.
 
+/// The row about the office: whether there is a publication, and the canonical text of the instance,
+/// or nothing before a load.
+#[derive(Debug, Drop)]
+pub struct MetaRow {
+    pub published: bool,
+    pub instance: Vec<u8>,
+}
+
 /// Who owns an exam: a department, 1 to 999.
 #[derive(Clone, Copy, Debug, PartialEq, Eq)]
 pub struct OwnerRow {

@@ -1,0 +1,216 @@
+-- The texts that list whole tables.
+use Rattle.std.proofs.Common.{◌≡◌, ℕ, List, [], ◌∷◌, codes, take, refl, sym, ap, arith}
+use Rattle.std.specs.List.{AllByRecursion}
+use Rattle.sqlite_trees.proofs.ListLemmas.{all_weaker}
+use Rattle.sqlite_value.specs.declared.keys.Collation.TheVariants.{Binary}
+use Rattle.sqlite_value.specs.Keys.{ascending}
+use Rattle.sqlite_value.specs.Order.{column}
+use Rattle.sqlite.specs.Effect.{Database, IsDatabase}
+use Rattle.sqlite.specs.Listing.{understood}
+use Rattle.sqlite.specs.Term.{Term, col}
+use Rattle.sqlite_tied.specs.Compute.{everything}
+use Rattle.office_tables.specs.Readings.{Lists, ListsTable, IsListed, listed}
+use Rattle.office_tables.specs.Schema.{office_schema, int, blob, meta_table, owner_table, enrol_table, draft_table, slot_table}
+use Rattle.office_tables.specs.Tables.{keyed, keyless}
+use Rattle.office_tables.proofs.WholeRows.{dropped, rows_long, typed_rows, present_rows}
+
+-- ---- owner
+
+abbrev pub owner_text : List ℕ
+owner_text = codes "SELECT exam, dept, rowid FROM owner ORDER BY rowid"
+
+abbrev owner_terms : List Term
+owner_terms = col 1 0 ∷ col 1 2 ∷ col 1 0 ∷ []
+
+owner_is : Lists 1 owner_terms owner_text
+unfolding understood everything
+owner_is = record {
+  order = (col 1 0, ascending Binary) ∷ [];
+  names = codes "exam" ∷ codes "dept" ∷ codes "exam" ∷ [];
+  selects = refl;
+  unlisted = refl;
+  plain = (refl, refl);
+}
+
+owner_whole : (db : Database) → db.schema ≡ office_schema → IsDatabase db
+    → AllByRecursion (λ r. IsListed 2 keyed r (listed owner_terms r)) (db.trees 1)
+owner_whole db is sound =
+    all_weaker _ (λ r. IsListed 2 keyed r (listed owner_terms r))
+    (λ r long. record {
+      columns = ap (λ l. column r 0 ∷ l) (sym (dropped 2 1 r long));
+      number = refl;
+      wide = omega arith;
+    })
+    (db.trees 1)
+    (rows_long owner_table (take 1 owner_table.columns) (int (codes "dept")) refl refl refl db.trees (db.trees 1)
+    (typed_rows db is sound).1.0 (present_rows db is sound).1.0)
+
+pub owner_lists : ListsTable 2 1 keyed owner_text
+owner_lists = record { terms = owner_terms; lists = owner_is; whole = owner_whole }
+
+-- ---- enrol
+
+abbrev pub enrol_text : List ℕ
+enrol_text = codes "SELECT student, exam, rowid FROM enrol ORDER BY rowid"
+
+abbrev enrol_terms : List Term
+enrol_terms = col 1 1 ∷ col 1 2 ∷ col 1 0 ∷ []
+
+enrol_is : Lists 2 enrol_terms enrol_text
+unfolding understood everything
+enrol_is = record {
+  order = (col 1 0, ascending Binary) ∷ [];
+  names = codes "student" ∷ codes "exam" ∷ codes "rowid" ∷ [];
+  selects = refl;
+  unlisted = refl;
+  plain = (refl, refl);
+}
+
+enrol_whole : (db : Database) → db.schema ≡ office_schema → IsDatabase db
+    → AllByRecursion (λ r. IsListed 2 keyless r (listed enrol_terms r)) (db.trees 2)
+enrol_whole db is sound =
+    all_weaker _ (λ r. IsListed 2 keyless r (listed enrol_terms r))
+    (λ r long. record { columns = sym (dropped 1 2 r long); number = refl; wide = omega arith })
+    (db.trees 2)
+    (rows_long enrol_table (take 1 enrol_table.columns) (int (codes "exam")) refl refl refl db.trees (db.trees 2)
+    (typed_rows db is sound).1.1.0 (present_rows db is sound).1.1.0)
+
+pub enrol_lists : ListsTable 2 2 keyless enrol_text
+enrol_lists = record { terms = enrol_terms; lists = enrol_is; whole = enrol_whole }
+
+-- ---- draft
+
+abbrev pub draft_text : List ℕ
+draft_text = codes "SELECT no, in_row, in_day, spread, mixed, front, period, room, rowid FROM draft ORDER BY rowid"
+
+abbrev draft_terms : List Term
+draft_terms =
+    col 1 0 ∷ col 1 2 ∷ col 1 3 ∷ col 1 4 ∷ col 1 5 ∷ col 1 6 ∷ col 1 7 ∷ col 1 8 ∷ col 1 0 ∷ []
+
+draft_is : Lists 4 draft_terms draft_text
+unfolding understood everything
+draft_is = record {
+  order = (col 1 0, ascending Binary) ∷ [];
+  names = codes "no" ∷ codes "in_row" ∷ codes "in_day" ∷ codes "spread" ∷ codes "mixed" ∷ codes "front" ∷ codes "period" ∷ codes "room" ∷ codes "no" ∷ [];
+  selects = refl;
+  unlisted = refl;
+  plain = (refl, refl);
+}
+
+draft_whole : (db : Database) → db.schema ≡ office_schema → IsDatabase db
+    → AllByRecursion (λ r. IsListed 8 keyed r (listed draft_terms r)) (db.trees 4)
+draft_whole db is sound =
+    all_weaker _ (λ r. IsListed 8 keyed r (listed draft_terms r))
+    (λ r long. record {
+      columns = ap (λ l. column r 0 ∷ l) (sym (dropped 2 7 r long));
+      number = refl;
+      wide = omega arith;
+    })
+    (db.trees 4)
+    (rows_long draft_table (take 7 draft_table.columns) (int (codes "room")) refl refl refl db.trees (db.trees 4)
+    (typed_rows db is sound).1.1.1.0 (present_rows db is sound).1.1.1.0)
+
+pub draft_lists : ListsTable 8 4 keyed draft_text
+draft_lists = record { terms = draft_terms; lists = draft_is; whole = draft_whole }
+
+-- ---- slot
+
+abbrev pub slot_text : List ℕ
+slot_text = codes "SELECT draft, exam, period, room, rowid FROM slot ORDER BY rowid"
+
+abbrev slot_terms : List Term
+slot_terms = col 1 1 ∷ col 1 2 ∷ col 1 3 ∷ col 1 4 ∷ col 1 0 ∷ []
+
+slot_is : Lists 5 slot_terms slot_text
+unfolding understood everything
+slot_is = record {
+  order = (col 1 0, ascending Binary) ∷ [];
+  names = codes "draft" ∷ codes "exam" ∷ codes "period" ∷ codes "room" ∷ codes "rowid" ∷ [];
+  selects = refl;
+  unlisted = refl;
+  plain = (refl, refl);
+}
+
+slot_whole : (db : Database) → db.schema ≡ office_schema → IsDatabase db
+    → AllByRecursion (λ r. IsListed 4 keyless r (listed slot_terms r)) (db.trees 5)
+slot_whole db is sound =
+    all_weaker _ (λ r. IsListed 4 keyless r (listed slot_terms r))
+    (λ r long. record { columns = sym (dropped 1 4 r long); number = refl; wide = omega arith })
+    (db.trees 5)
+    (rows_long slot_table (take 3 slot_table.columns) (int (codes "room")) refl refl refl db.trees (db.trees 5)
+    (typed_rows db is sound).1.1.1.1.0 (present_rows db is sound).1.1.1.1.0)
+
+pub slot_lists : ListsTable 4 5 keyless slot_text
+slot_lists = record { terms = slot_terms; lists = slot_is; whole = slot_whole }
+
+-- ---- placed
+
+abbrev pub placed_text : List ℕ
+placed_text = codes "SELECT rowid FROM placed"
+
+pub placed_is : Lists 7 (col 1 0 ∷ []) placed_text
+unfolding understood everything
+placed_is = record { order = []; names = codes "exam" ∷ []; selects = refl; unlisted = refl; plain = (refl, refl) }
+
+-- ---- seat
+
+abbrev pub seat_text : List ℕ
+seat_text = codes "SELECT rowid FROM seat"
+
+pub seat_is : Lists 8 (col 1 0 ∷ []) seat_text
+unfolding understood everything
+seat_is = record { order = []; names = codes "rowid" ∷ []; selects = refl; unlisted = refl; plain = (refl, refl) }
+
+-- ---- share_student
+
+abbrev pub share_student_text : List ℕ
+share_student_text = codes "SELECT rowid FROM share_student"
+
+pub share_student_is : Lists 11 (col 1 0 ∷ []) share_student_text
+unfolding understood everything
+share_student_is = record { order = []; names = codes "student" ∷ []; selects = refl; unlisted = refl; plain = (refl, refl) }
+
+-- ---- share_part
+
+abbrev pub share_part_text : List ℕ
+share_part_text = codes "SELECT rowid FROM share_part"
+
+pub share_part_is : Lists 12 (col 1 0 ∷ []) share_part_text
+unfolding understood everything
+share_part_is = record { order = []; names = codes "rowid" ∷ []; selects = refl; unlisted = refl; plain = (refl, refl) }
+
+-- ---- batch
+
+abbrev pub batch_text : List ℕ
+batch_text = codes "SELECT rowid FROM batch"
+
+pub batch_is : Lists 14 (col 1 0 ∷ []) batch_text
+unfolding understood everything
+batch_is = record { order = []; names = codes "no" ∷ []; selects = refl; unlisted = refl; plain = (refl, refl) }
+
+-- ---- meta
+
+abbrev pub meta_text : List ℕ
+meta_text = codes "SELECT id, version, published, instance FROM meta"
+
+abbrev pub meta_terms : List Term
+meta_terms = col 1 0 ∷ col 1 2 ∷ col 1 3 ∷ col 1 4 ∷ []
+
+pub meta_is : Lists 0 meta_terms meta_text
+unfolding understood everything
+meta_is = record {
+  order = [];
+  names = codes "id" ∷ codes "version" ∷ codes "published" ∷ codes "instance" ∷ [];
+  selects = refl;
+  unlisted = refl;
+  plain = (refl, refl);
+}
+
+pub meta_whole : (db : Database) → db.schema ≡ office_schema → IsDatabase db
+    → AllByRecursion (λ r. listed meta_terms r ≡ keyed r) (db.trees 0)
+meta_whole db is sound =
+    all_weaker _ (λ r. listed meta_terms r ≡ keyed r)
+    (λ r long. ap (λ l. column r 0 ∷ l) (sym (dropped 2 3 r long)))
+    (db.trees 0)
+    (rows_long meta_table (take 3 meta_table.columns) (blob (codes "instance")) refl refl refl db.trees (db.trees 0)
+    (typed_rows db is sound).0 (present_rows db is sound).0)

@@ -1,0 +1,108 @@
+-- Each stored row of the tables has its columns, and no more.
+use Rattle.std.proofs.Common.{◌≡◌, ◌≤◌, ◌<◌, ◌+◌, ◌++◌, ◌&&◌, ◌||◌, not, ℕ, zero, suc, List, [], ◌∷◌, drop, length, Bool, true, false, if◌then◌else◌, Option, refl, sym, ap, subst, ◌∙◌, arith, length-append}
+use Rattle.std.specs.List.{AllByRecursion}
+use Rattle.std.proofs.lemmas.Bool.{and_parts}
+use Rattle.sqlite_schema.specs.declared.schema.Column.{Column}
+use Rattle.sqlite_schema.specs.declared.schema.Constraint.TheVariants.{Datatype, NotNull}
+use Rattle.sqlite_schema.specs.declared.schema.Schema.{Schema}
+use Rattle.sqlite_schema.specs.declared.schema.Table.{Table}
+use Rattle.sqlite_schema.specs.Names.{is_key}
+use Rattle.sqlite_schema.specs.Rules.{are_typed, suits, are_present, passes, Keeps}
+use Rattle.sqlite_sql.specs.Ops.{is_null}
+use Rattle.sqlite_trees.specs.Tree.{Trees}
+use Rattle.sqlite_trees.proofs.ListLemmas.{all_both}
+use Rattle.sqlite_value.specs.declared.value.Value.{Value}
+use Rattle.sqlite_value.specs.Order.{Row, column}
+use Rattle.sqlite.specs.Effect.{Database, IsDatabase}
+use Rattle.office_tables.specs.Readings.{columns_from}
+use Rattle.office_tables.specs.Schema.{office_schema}
+
+-- ---- the columns of a row of known length
+
+shift : (v : Value) (vs : Row) (n at : ℕ) → columns_from (suc at) n (v ∷ vs) ≡ columns_from at n vs
+shift v vs zero at = refl
+shift v vs (suc n) at = ap (λ l. column vs at ∷ l) (shift v vs n (suc at))
+
+pub dropped : (k n : ℕ) (row : Row) → length row ≡ k + n → drop k row ≡ columns_from k n row
+dropped zero zero [] h = refl
+dropped zero zero (v ∷ vs) h = absurd (omega (arith, h))
+dropped zero (suc n) [] h = absurd (omega (arith, h))
+dropped zero (suc n) (v ∷ vs) h = ap (λ l. v ∷ l) (dropped zero n vs (omega (arith, h))
+    ∙ sym (shift v vs n 0))
+dropped (suc k) n [] h = absurd (omega (arith, h))
+dropped (suc k) n (v ∷ vs) h = dropped k n vs (omega (arith, h)) ∙ sym (shift v vs n k)
+
+-- ---- how long a row is
+
+typed_long : (key : Option ℕ) (at : ℕ) (cols : List Column) (vs : Row)
+    → are_typed key at cols vs ≡ true → length vs ≤ length cols
+typed_long key at [] [] h = omega arith
+typed_long key at [] (v ∷ vs) h = absurd (cc)
+typed_long key at (c ∷ cols) [] h = omega arith
+typed_long key at (c ∷ cols) (v ∷ vs) h =
+    let more = typed_long key (at + 1) cols vs
+    (and_parts (if is_key key at then is_null v else suits c v) (are_typed key (at + 1) cols vs)
+    h).1 in omega (arith, more)
+
+there : (row : Row) (k : ℕ) → is_null (column row k) ≡ false → k < length row
+there [] k h = absurd (cc)
+there (v ∷ row) zero h = omega arith
+there (v ∷ row) (suc k) h = let more = there row k h in omega (arith, more)
+
+last_is : (key present null : Bool) → ((key || not present || not null) && true) ≡ true
+    → key ≡ false → present ≡ true → null ≡ false
+last_is true present null h k p = absurd (cc)
+last_is false false null h k p = absurd (cc)
+last_is false true true h k p = absurd (cc)
+last_is false true false h k p = refl
+
+last_present : (key : Option ℕ) (at k : ℕ) (cols : List Column) (c : Column) (row : Row)
+    → at + length cols ≡ k
+    → are_present key at (cols ++ c ∷ []) row ≡ true → is_key key k ≡ false → c.not_null ≡ true
+    → is_null (column row (k + 1)) ≡ false
+last_present key at k [] c row at_is h unkeyed present =
+    let same : at ≡ k = omega (arith, at_is) in
+    last_is (is_key key k) c.not_null (is_null (column row (k + 1)))
+    (subst (λ i. ((is_key key i || not c.not_null || not (is_null (column row (i + 1)))) && true) ≡
+    true) same h) unkeyed present
+last_present key at k (x ∷ cols) c row at_is h unkeyed present =
+    last_present key (at + 1) k cols c row (omega (arith, at_is)) (and_parts _ _ h).1 unkeyed
+    present
+
+exact : (row : Row) (n : ℕ) → length (drop 1 row) ≤ n → n < length row → length row ≡ 1 + n
+exact [] n most least = absurd (omega (arith, least))
+exact (v ∷ row) n most least = omega (arith, most, least)
+
+row_long : (key : Option ℕ) (cols : List Column) (c : Column) (row : Row)
+    → is_key key (length cols) ≡ false → c.not_null ≡ true
+    → are_typed key 0 (cols ++ c ∷ []) (drop 1 row) ≡ true
+    → are_present key 0 (cols ++ c ∷ []) row ≡ true
+    → length row ≡ 2 + length cols
+row_long key cols c row unkeyed present typed all =
+    let most = typed_long key 0 (cols ++ c ∷ []) (drop 1 row) typed in
+    let least = there row (length cols + 1)
+    (last_present key 0 (length cols) cols c row (omega arith) all unkeyed present) in
+    let more = length-append cols (c ∷ []) in
+    exact row (length cols + 1) (omega (arith, most, more)) least ∙ omega arith
+
+-- the rows of a table of the office, by the columns before its last
+pub rows_long : (table : Table) (cols : List Column) (c : Column) → table.columns ≡ cols ++ c ∷ []
+    → is_key table.key (length cols) ≡ false → c.not_null ≡ true
+    → (trees : Trees) (stored : List Row)
+    → AllByRecursion (λ r. passes Datatype office_schema trees table r ≡ true) stored
+    → AllByRecursion (λ r. passes NotNull office_schema trees table r ≡ true) stored
+    → AllByRecursion (λ r. length r ≡ 2 + length cols) stored
+rows_long table cols c is unkeyed present trees stored typed all =
+    all_both _ _ _ (λ r t p. row_long table.key cols c r unkeyed present
+    (subst (λ l. are_typed table.key 0 l (drop 1 r) ≡ true) is (and_parts _ _ t).0)
+    (subst (λ l. are_present table.key 0 l r ≡ true) is p)) stored typed all
+
+pub typed_rows : (db : Database) → db.schema ≡ office_schema → IsDatabase db
+    → Keeps Datatype office_schema db.trees
+typed_rows db is sound = subst (λ (s : Schema). Keeps Datatype s db.trees) is
+    (sound.obeys.rules Datatype)
+
+pub present_rows : (db : Database) → db.schema ≡ office_schema → IsDatabase db
+    → Keeps NotNull office_schema db.trees
+present_rows db is sound = subst (λ (s : Schema). Keeps NotNull s db.trees) is
+    (sound.obeys.rules NotNull)

@@ -1,0 +1,48 @@
+use Rattle.sqlite.specs.Held.{state}
+use Rattle.office_tables.specs.Readings.{IsFound}
+use Rattle.office_tables.specs.Records.{FitsSlot}
+use Rattle.office_tables.specs.Tables.{keyless, slot_row}
+use Rattle.office_tables.proofs.AdoptLemmas.{clean_before, found_after, looks_then, stays_then, drafts_found}
+use Rattle.office_tables.proofs.adopting.find_drafts.Goals as goal
+
+pub returns-in_err-drafts-clause-looks : goal.returns-in_err-drafts-clause-looks
+returns-in_err-drafts-clause-looks g c =
+    let at_0 = state g.S.Store c.args.conn.now in
+    let at_1 = state g.S.Store c.adopt_drafts.new.conn in
+    c.adopt_drafts.ensures.looks
+
+pub returns-in_err-slots-clause-looks : goal.returns-in_err-slots-clause-looks
+returns-in_err-slots-clause-looks g c =
+    let at_0 = state g.S.Store c.args.conn.now in
+    let at_1 = state g.S.Store c.adopt_drafts.new.conn in
+    let at_2 = state g.S.Store c.adopt_slots.new.conn in
+    let looks_1 = c.adopt_drafts.ensures.looks in
+    looks_then at_0 at_1 at_2 c.in_ok-drafts.ensures.same c.adopt_slots.ensures.looks looks_1
+
+pub returns-clause-looks : goal.returns-clause-looks
+returns-clause-looks g c =
+    let at_0 = state g.S.Store c.args.conn.now in
+    let at_1 = state g.S.Store c.adopt_drafts.new.conn in
+    let at_2 = state g.S.Store c.adopt_slots.new.conn in
+    let looks_1 = c.adopt_drafts.ensures.looks in
+    looks_then at_0 at_1 at_2 c.in_ok-drafts.ensures.same c.adopt_slots.ensures.looks looks_1
+
+pub returns-clause-same : goal.returns-clause-same
+returns-clause-same g c =
+    let at_0 = state g.S.Store c.args.conn.now in
+    let at_1 = state g.S.Store c.adopt_drafts.new.conn in
+    let at_2 = state g.S.Store c.adopt_slots.new.conn in
+    stays_then at_0 at_1 at_2 c.in_ok-drafts.ensures.same c.adopt_slots.ensures.looks
+    c.in_ok-slots.ensures.same
+
+pub returns-clause-found : goal.returns-clause-found
+returns-clause-found g c clean tables =
+    let at_0 = state g.S.Store c.args.conn.now in
+    let at_1 = state g.S.Store c.adopt_drafts.new.conn in
+    let at_2 = state g.S.Store c.adopt_slots.new.conn in
+    let clean_1 = clean_before at_1 at_2 c.adopt_slots.ensures.looks clean in
+    let found_1 = c.in_ok-drafts.ensures.found clean_1 tables in
+    let found_2 = found_after at_0 at_1 at_2 c.in_ok-drafts.ensures.same c.adopt_slots.ensures.looks
+    (λ db. IsFound FitsSlot slot_row keyless (db.trees 5) c.in_ok-slots.slots)
+    c.in_ok-slots.ensures.found clean tables in
+    drafts_found at_0.now _ _ found_1 found_2 c.drafts_of.result c.drafts_of.ensures

@@ -1,0 +1,75 @@
+use Rattle.sqlite.specs.Held.{state}
+use Rattle.office_tables.specs.Readings.{IsFound}
+use Rattle.office_tables.specs.Records.{FitsOwner, FitsEnrol}
+use Rattle.office_tables.specs.Tables.{keyed, keyless, owner_row, enrol_row}
+use Rattle.office_tables.proofs.AdoptLemmas.{clean_before, found_after, looks_then, stays_then, session_found}
+use Rattle.office_tables.proofs.adopting.find_session.Goals as goal
+
+pub returns-in_err-meta-clause-looks : goal.returns-in_err-meta-clause-looks
+returns-in_err-meta-clause-looks g c =
+    let at_0 = state g.S.Store c.args.conn.now in
+    let at_1 = state g.S.Store c.adopt_meta.new.conn in
+    c.adopt_meta.ensures.looks
+
+pub returns-in_err-owners-clause-looks : goal.returns-in_err-owners-clause-looks
+returns-in_err-owners-clause-looks g c =
+    let at_0 = state g.S.Store c.args.conn.now in
+    let at_1 = state g.S.Store c.adopt_meta.new.conn in
+    let at_2 = state g.S.Store c.adopt_owners.new.conn in
+    let looks_1 = c.adopt_meta.ensures.looks in
+    looks_then at_0 at_1 at_2 c.in_ok-meta.ensures.same c.adopt_owners.ensures.looks looks_1
+
+pub returns-in_err-enrols-clause-looks : goal.returns-in_err-enrols-clause-looks
+returns-in_err-enrols-clause-looks g c =
+    let at_0 = state g.S.Store c.args.conn.now in
+    let at_1 = state g.S.Store c.adopt_meta.new.conn in
+    let at_2 = state g.S.Store c.adopt_owners.new.conn in
+    let at_3 = state g.S.Store c.adopt_enrols.new.conn in
+    let looks_1 = c.adopt_meta.ensures.looks in
+    let looks_2 = looks_then at_0 at_1 at_2 c.in_ok-meta.ensures.same c.adopt_owners.ensures.looks
+    looks_1 in
+    let stays_2 = stays_then at_0 at_1 at_2 c.in_ok-meta.ensures.same c.adopt_owners.ensures.looks
+    c.in_ok-owners.ensures.same in
+    looks_then at_0 at_2 at_3 stays_2 c.adopt_enrols.ensures.looks looks_2
+
+pub returns-clause-looks : goal.returns-clause-looks
+returns-clause-looks g c =
+    let at_0 = state g.S.Store c.args.conn.now in
+    let at_1 = state g.S.Store c.adopt_meta.new.conn in
+    let at_2 = state g.S.Store c.adopt_owners.new.conn in
+    let at_3 = state g.S.Store c.adopt_enrols.new.conn in
+    let looks_1 = c.adopt_meta.ensures.looks in
+    let looks_2 = looks_then at_0 at_1 at_2 c.in_ok-meta.ensures.same c.adopt_owners.ensures.looks
+    looks_1 in
+    let stays_2 = stays_then at_0 at_1 at_2 c.in_ok-meta.ensures.same c.adopt_owners.ensures.looks
+    c.in_ok-owners.ensures.same in
+    looks_then at_0 at_2 at_3 stays_2 c.adopt_enrols.ensures.looks looks_2
+
+pub returns-clause-same : goal.returns-clause-same
+returns-clause-same g c =
+    let at_0 = state g.S.Store c.args.conn.now in
+    let at_1 = state g.S.Store c.adopt_meta.new.conn in
+    let at_2 = state g.S.Store c.adopt_owners.new.conn in
+    let at_3 = state g.S.Store c.adopt_enrols.new.conn in
+    let stays_2 = stays_then at_0 at_1 at_2 c.in_ok-meta.ensures.same c.adopt_owners.ensures.looks
+    c.in_ok-owners.ensures.same in
+    stays_then at_0 at_2 at_3 stays_2 c.adopt_enrols.ensures.looks c.in_ok-enrols.ensures.same
+
+pub returns-clause-found : goal.returns-clause-found
+returns-clause-found g c clean tables =
+    let at_0 = state g.S.Store c.args.conn.now in
+    let at_1 = state g.S.Store c.adopt_meta.new.conn in
+    let at_2 = state g.S.Store c.adopt_owners.new.conn in
+    let at_3 = state g.S.Store c.adopt_enrols.new.conn in
+    let stays_2 = stays_then at_0 at_1 at_2 c.in_ok-meta.ensures.same c.adopt_owners.ensures.looks
+    c.in_ok-owners.ensures.same in
+    let clean_2 = clean_before at_2 at_3 c.adopt_enrols.ensures.looks clean in
+    let clean_1 = clean_before at_1 at_2 c.adopt_owners.ensures.looks clean_2 in
+    let found_1 = c.in_ok-meta.ensures.found clean_1 tables in
+    let found_2 = found_after at_0 at_1 at_2 c.in_ok-meta.ensures.same c.adopt_owners.ensures.looks
+    (λ db. IsFound FitsOwner owner_row keyed (db.trees 1) c.in_ok-owners.owners)
+    c.in_ok-owners.ensures.found clean_2 tables in
+    let found_3 = found_after at_0 at_2 at_3 stays_2 c.adopt_enrols.ensures.looks
+    (λ db. IsFound FitsEnrol enrol_row keyless (db.trees 2) c.in_ok-enrols.enrols)
+    c.in_ok-enrols.ensures.found clean tables in
+    session_found at_0.now _ _ _ found_1 found_2 found_3 c.session_of.result c.session_of.ensures

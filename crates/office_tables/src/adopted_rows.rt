@@ -1,0 +1,74 @@
+// The tables of an office as they are found when it is taken over.
+ghost use Rattle.sqlite.specs.Held.{state};
+ghost use Rattle.office_tables.specs.Readings.{Finds, IsFound, Leaves, Looks};
+ghost use Rattle.office_tables.specs.Records.{FitsOwner, FitsEnrol, FitsDraft, FitsSlot};
+ghost use Rattle.office_tables.specs.Tables.{owner_row, enrol_row, draft_row, slot_row, keyed, keyless};
+
+use crate::listing::read_table;
+use crate::rows::{DraftRow, EnrolRow, OwnerRow, SlotRow};
+use sqlite::{Alter, Connection, Error};
+use std::alloc::Global;
+
+// All owners, or that a row is of none.
+pub fn adopt_owners<S: Alter>(
+    alloc: Global,
+    conn: &mut Connection<S>,
+) -> Result<Option<Vec<OwnerRow>>, Error>
+    ensures found { Finds S.Store (λ db. IsFound FitsOwner owner_row keyed (db.trees 1)) conn.old conn.new result }
+    ensures same { Leaves S.Store conn.old conn.new result }
+    ensures looks { Looks (state S.Store conn.old) (state S.Store conn.new) }
+{
+    read_table(
+        alloc,
+        conn,
+        "SELECT exam, dept, rowid FROM owner ORDER BY rowid",
+    )
+}
+
+// All enrolments, or that a row is of none.
+pub fn adopt_enrols<S: Alter>(
+    alloc: Global,
+    conn: &mut Connection<S>,
+) -> Result<Option<Vec<EnrolRow>>, Error>
+    ensures found { Finds S.Store (λ db. IsFound FitsEnrol enrol_row keyless (db.trees 2)) conn.old conn.new result }
+    ensures same { Leaves S.Store conn.old conn.new result }
+    ensures looks { Looks (state S.Store conn.old) (state S.Store conn.new) }
+{
+    read_table(
+        alloc,
+        conn,
+        "SELECT student, exam, rowid FROM enrol ORDER BY rowid",
+    )
+}
+
+// All drafts, or that a row is of none.
+pub fn adopt_drafts<S: Alter>(
+    alloc: Global,
+    conn: &mut Connection<S>,
+) -> Result<Option<Vec<DraftRow>>, Error>
+    ensures found { Finds S.Store (λ db. IsFound FitsDraft draft_row keyed (db.trees 4)) conn.old conn.new result }
+    ensures same { Leaves S.Store conn.old conn.new result }
+    ensures looks { Looks (state S.Store conn.old) (state S.Store conn.new) }
+{
+    read_table(
+        alloc,
+        conn,
+        "SELECT no, in_row, in_day, spread, mixed, front, period, room, rowid FROM draft ORDER BY rowid",
+    )
+}
+
+// All placements in drafts, or that a row is of none.
+pub fn adopt_slots<S: Alter>(
+    alloc: Global,
+    conn: &mut Connection<S>,
+) -> Result<Option<Vec<SlotRow>>, Error>
+    ensures found { Finds S.Store (λ db. IsFound FitsSlot slot_row keyless (db.trees 5)) conn.old conn.new result }
+    ensures same { Leaves S.Store conn.old conn.new result }
+    ensures looks { Looks (state S.Store conn.old) (state S.Store conn.new) }
+{
+    read_table(
+        alloc,
+        conn,
+        "SELECT draft, exam, period, room, rowid FROM slot ORDER BY rowid",
+    )
+}

@@ -1,0 +1,27 @@
+// What is found in the tables when an office is taken over.
+use crate::rows::{DraftRow, EnrolRow, MetaRow, OwnerRow, SlotRow};
+
+/// All rows of the tables, in no order that counts.
+#[derive(Debug, Drop)]
+pub struct Found {
+    pub meta: MetaRow,
+    pub owners: Vec<OwnerRow>,
+    pub enrols: Vec<EnrolRow>,
+    pub drafts: Vec<DraftRow>,
+    pub slots: Vec<SlotRow>,
+}
+
+// The part that the session has of them.
+#[derive(Debug, Drop)]
+pub struct FoundSession {
+    pub meta: MetaRow,
+    pub owners: Vec<OwnerRow>,
+    pub enrols: Vec<EnrolRow>,
+}
+
+// The part that the drafts have.
+#[derive(Debug, Drop)]
+pub struct FoundDrafts {
+    pub drafts: Vec<DraftRow>,
+    pub slots: Vec<SlotRow>,
+}
