@@ -11,8 +11,6 @@ mod pair_cost;
 mod parts;
 mod roll;
 mod rules;
-#[cfg(test)]
-mod tests;
 mod timetable;
 
 pub use enrolments::Enrolments;

@@ -13,8 +13,6 @@ mod period_rules;
 mod room_rules;
 mod site;
 mod standing;
-#[cfg(test)]
-mod tests;
 
 pub use breach::{Breach, BreachRule};
 pub use first_breach::first_breach_of;

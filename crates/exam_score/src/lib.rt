@@ -25,8 +25,3 @@ pub use pair_costs::{DayCost, RowCost, SpreadCost};
 pub use parts::Parts;
 pub use personal_parts::PersonalParts;
 pub use track::score;
-
-#[cfg(test)]
-mod cost_tests;
-#[cfg(test)]
-mod tests;

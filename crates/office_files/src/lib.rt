@@ -29,6 +29,3 @@ pub use lines::Token;
 pub use solution_reader::read_solution;
 pub use solution_writer::write_solution;
 pub use tokens::Tokens;
-
-#[cfg(test)]
-mod tests;

@@ -1,0 +1,238 @@
+// Edits of a draft of the small session.
+ghost use Rattle.std.specs.Prelude.{◌≡◌, IfOk};
+
+use crate::given::{PAIRS, WEIGHTS, after, assert_same, enrolled, numbers, place, small};
+use Step::{Clear, Move, Put, Swap};
+use exam_draft::{Draft, EditFault};
+use exam_model::{Enrolments, ExamNo, Instance, PeriodRule};
+use exam_rules::{Breach, BreachRule, first_breach_of};
+use std::alloc::Global;
+use std::process::Abort;
+use std::test::Fail;
+
+// An edit: exams, and a period and a room.
+#[derive(Clone, Copy, Debug)]
+enum Step {
+    Put(u32, (u32, u32)),
+    Move(u32, (u32, u32)),
+    Swap(u32, u32),
+    Clear(u32),
+}
+
+// Edits that place all four exams of the small instance, and the total after each.
+const ALL_PLACED: [(Step, u64); 4] = [
+    (Put(0, (0, 0)), 0),
+    (Put(1, (1, 0)), 8),
+    (Put(2, (3, 1)), 21),
+    (Put(3, (2, 0)), 37),
+];
+
+fn broken(rule: BreachRule, exam: u32, other: u32) -> EditFault {
+    EditFault::Broken(breach(rule, exam, other))
+}
+
+fn breach(rule: BreachRule, exam: u32, other: u32) -> Breach {
+    Breach {
+        rule,
+        exam: ExamNo::new(exam),
+        other: ExamNo::new(other),
+    }
+}
+
+fn apply(alloc: Global, draft: &mut Draft<'_>, step: Step) -> Result<(), EditFault>
+    ensures { draft.new ≡ record draft.old { timetable = draft.new.timetable } }
+{
+    match step {
+        Put(exam, at) => draft.place(alloc, ExamNo::new(exam), place(at.0, at.1)),
+        Move(exam, at) => draft.move_to(alloc, ExamNo::new(exam), place(at.0, at.1)),
+        Swap(one, other) => draft.swap(alloc, ExamNo::new(one), ExamNo::new(other)),
+        Clear(exam) => draft.clear(alloc, ExamNo::new(exam)),
+    }
+}
+
+// The total after an edit, or why it is refused.
+fn edit(alloc: Global, draft: &mut Draft<'_>, step: Step) -> Result<u64, EditFault>
+    ensures { draft.new ≡ record draft.old { timetable = draft.new.timetable } }
+{
+    apply(alloc, draft, step)?;
+    Ok(draft.parts().total())
+}
+
+// The draft in which no exam is placed, taken apart once and resumed.
+fn empty<'a>(
+    alloc: Global,
+    instance: &'a Instance,
+    enrolments: &'a Enrolments,
+) -> Result<Draft<'a>, Fail>
+    ensures { IfOk result (λ made. made.instance ≡ instance.now) }
+{
+    if enrolments.exams() != instance.exams() {
+        return Err("enrolments of other exams")?;
+    }
+    let (timetable, parts) = Draft::new(alloc, instance, enrolments)?.into_parts();
+    Ok(Draft::resume(instance, enrolments, timetable, parts))
+}
+
+// The draft of the small instance's solution.
+fn solved<'a>(
+    alloc: Global,
+    instance: &'a Instance,
+    enrolments: &'a Enrolments,
+) -> Result<Draft<'a>, Fail>
+    ensures { IfOk result (λ made. made.instance ≡ instance.now) }
+{
+    let mut draft = empty(alloc, instance, enrolments)?;
+    'exams: for (step, _) in ALL_PLACED {
+        if edit(alloc, &mut draft, step).is_err() {
+            return Err("an exam that can't be placed")?;
+        }
+    }
+    Ok(draft)
+}
+
+fn session(alloc: Global) -> Result<Instance, Fail> {
+    Ok(small(alloc, &[after()], &[], WEIGHTS)?)
+}
+
+// Edits of the empty draft, and the total after each or why it is refused.
+fn edits<R: Abort>(
+    rt: &R,
+    alloc: Global,
+    steps: &[(Step, Result<u64, EditFault>)],
+) -> Result<(), Fail> {
+    let instance = session(alloc)?;
+    let enrolments = enrolled(alloc, &PAIRS)?;
+    let mut draft = empty(alloc, &instance, &enrolments)?;
+    for (step, wanted) in steps {
+        assert_same(rt, edit(alloc, &mut draft, *step), *wanted, *step);
+    }
+    Ok(())
+}
+
+#[test]
+fn clash_comes_first(rt: HostRuntime) -> Result<(), Fail> {
+    let clash = Err(broken(BreachRule::Clash, 0, 1));
+    let steps = [(Put(0, (0, 0)), Ok(0)), (Put(1, (0, 0)), clash)];
+    edits(&rt, rt.alloc(), &steps)
+}
+
+#[test]
+fn too_long_for_period(rt: HostRuntime) -> Result<(), Fail> {
+    let too_long = Err(broken(BreachRule::Duration, 0, 0));
+    let steps = [(Put(0, (2, 0)), too_long), (Put(0, (1, 0)), Ok(0))];
+    edits(&rt, rt.alloc(), &steps)
+}
+
+#[test]
+fn edit_refusals_in_order(rt: HostRuntime) -> Result<(), Fail> {
+    let steps = [
+        (Put(0, (0, 0)), Ok(0)),
+        (Put(0, (0, 0)), Err(EditFault::AlreadyPlaced)),
+        (Put(0, (4, 0)), Err(EditFault::NoSuch)),
+        (Move(1, (1, 0)), Err(EditFault::NotPlaced)),
+        (Clear(1), Err(EditFault::NotPlaced)),
+        (Swap(0, 1), Err(EditFault::NotPlaced)),
+        (Swap(1, 1), Err(EditFault::NotPlaced)),
+        (Swap(0, 0), Err(EditFault::SameExam)),
+        (Put(9, (0, 0)), Err(EditFault::NoSuch)),
+        (Put(1, (4, 0)), Err(EditFault::NoSuch)),
+        (Put(1, (0, 2)), Err(EditFault::NoSuch)),
+        (Move(9, (0, 0)), Err(EditFault::NoSuch)),
+        (Swap(0, 9), Err(EditFault::NoSuch)),
+        (Clear(9), Err(EditFault::NoSuch)),
+        (Clear(0), Ok(0)),
+    ];
+    edits(&rt, rt.alloc(), &steps)
+}
+
+#[test]
+fn swap(rt: HostRuntime) -> Result<(), Fail> {
+    let instance = session(rt.alloc())?;
+    let enrolments = enrolled(rt.alloc(), &PAIRS)?;
+    let too_long = Err(broken(BreachRule::Duration, 0, 0));
+    // two exams, the answer, and the parts afterwards
+    let cases = [
+        (1, 2, Ok(30), [0, 5, 3, 0, 0, 15, 7]),
+        (0, 3, too_long, [7, 5, 3, 0, 0, 15, 7]),
+    ];
+    for (one, other, wanted, parts) in cases {
+        let mut draft = solved(rt.alloc(), &instance, &enrolments)?;
+        let found = edit(rt.alloc(), &mut draft, Swap(one, other));
+        assert_same(&rt, found, wanted, (one, other));
+        assert_same(&rt, numbers(&draft.parts()), parts, (one, other));
+    }
+    Ok(())
+}
+
+#[test]
+fn publish_twice(rt: HostRuntime) -> Result<(), Fail> {
+    let instance = session(rt.alloc())?;
+    let enrolments = enrolled(rt.alloc(), &PAIRS)?;
+    let mut draft = empty(rt.alloc(), &instance, &enrolments)?;
+    for (step, total) in ALL_PLACED {
+        assert_same(&rt, draft.timetable().complete().is_some(), true, step);
+        assert_same(&rt, edit(rt.alloc(), &mut draft, step), Ok(total), step);
+    }
+    assert_same(&rt, draft.timetable().complete(), None, "all placed");
+    let moved = edit(rt.alloc(), &mut draft, Move(3, (3, 1)));
+    assert_same(&rt, moved, Ok(44), "moved");
+    Ok(())
+}
+
+// The small session, in which exams 0 and 1 are to coincide besides.
+fn coinciding(alloc: Global) -> Result<Instance, Fail> {
+    let (zero, one) = (ExamNo::new(0), ExamNo::new(1));
+    let rules = [after(), PeriodRule::Coincidence(zero, one)];
+    Ok(small(alloc, &rules, &[], WEIGHTS)?)
+}
+
+// The solution's draft, with these enrolments in the place of its own.
+fn enrolled_anew<'a>(
+    alloc: Global,
+    instance: &'a Instance,
+    enrolments: &'a Enrolments,
+    fewer: &'a Enrolments,
+) -> Result<Draft<'a>, Fail>
+    ensures { IfOk result (λ made. (made.instance ≡ instance.now) × (made.enrolments ≡ fewer.now)) }
+{
+    if fewer.exams() != instance.exams() {
+        return Err("enrolments of other exams")?;
+    }
+    match solved(alloc, instance, enrolments)?.enrol(alloc, fewer) {
+        Ok(draft) => Ok(draft),
+        Err(_) => Err("no memory")?,
+    }
+}
+
+#[test]
+fn coincidence_by_enrolment(rt: HostRuntime) -> Result<(), Fail> {
+    let instance = coinciding(rt.alloc())?;
+    let enrolments = enrolled(rt.alloc(), &PAIRS)?;
+    let fewer = enrolled(rt.alloc(), &[(1, 0), (2, 0), (3, 1), (3, 2), (1, 3)])?;
+    let solved = solved(rt.alloc(), &instance, &enrolments)?;
+    assert_same(&rt, solved.parts().total(), 37, "solved");
+    let mut draft = enrolled_anew(rt.alloc(), &instance, &enrolments, &fewer)?;
+    assert_same(&rt, draft.parts().total(), 29, "fewer enrolments");
+    if instance.exams() != 4 {
+        return Err("four exams")?;
+    }
+    let one = [ExamNo::new(1)];
+    let found = first_breach_of(rt.alloc(), &instance, &fewer, draft.timetable(), &one)?;
+    assert_same(
+        &rt,
+        found,
+        Some(breach(BreachRule::Coincidence, 0, 1)),
+        "it stands",
+    );
+    // It refuses just the edits of these two exams.
+    let refused = Err(broken(BreachRule::Coincidence, 0, 1));
+    let steps = [
+        (Move(3, (3, 1)), Ok(36)),
+        (Move(0, (0, 1)), refused),
+        (Clear(0), Ok(35)),
+    ];
+    for (step, wanted) in steps {
+        assert_same(&rt, edit(rt.alloc(), &mut draft, step), wanted, step);
+    }
+    Ok(())
+}

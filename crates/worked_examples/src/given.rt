@@ -1,0 +1,164 @@
+// What the examples share: numbers, and a small session with its students and timetables.
+ghost use Rattle.std.specs.Prelude.{◌↔◌, IsTrue};
+ghost use Rattle.exam_model.specs.Fits.{Fits, PlaceExists};
+
+use exam_model::{
+    Enrolments, Exam, ExamNo, Instance, ModelFault, Period, PeriodNo, PeriodRule, Place, Room,
+    RoomNo, RoomRule, StudentNo, Timetable, Weights,
+};
+use exam_score::Parts;
+use jiff::civil::{Date, date};
+use std::alloc::{AllocError, Global};
+use std::fmt::Debug;
+use std::process::Abort;
+use std::test::Fail;
+
+/// Ends the test where the two differ, and says in which case.
+pub(crate) fn assert_same<T: PartialEq + Debug + Drop, C: Debug + Drop>(
+    rt: &impl Abort,
+    found: T,
+    wanted: T,
+    case: C,
+) {
+    assert_eq!(rt; found, wanted, "{case:?}");
+}
+
+/// Where four exams stand, by period and room.
+pub(crate) type Places = [Option<(u32, u32)>; 4];
+
+/// Each student and exam of the small session.
+pub(crate) const PAIRS: [(u32, u32); 6] = [(1, 0), (2, 0), (2, 1), (3, 1), (3, 2), (1, 3)];
+
+/// The small session's solution.
+pub(crate) const APART: Places = [Some((0, 0)), Some((1, 0)), Some((3, 1)), Some((2, 0))];
+
+/// The same with the last two exams in one room and period.
+pub(crate) const ONE_ROOM: Places = [Some((0, 0)), Some((1, 0)), Some((3, 1)), Some((3, 1))];
+
+pub(crate) const WEIGHTS: Weights = Weights {
+    row: 7,
+    day: 5,
+    spread: 3,
+    mixed: 10,
+    front_exams: 1,
+    front_periods: 2,
+    front: 4,
+};
+
+pub(crate) fn student(number: u32) -> Result<StudentNo, &'static str> {
+    StudentNo::new(number).ok_or("no number of a student")
+}
+
+pub(crate) fn period(date: Date, hour: u8, length: u32, penalty: u32) -> Period {
+    Period {
+        date,
+        hour,
+        minute: 0,
+        second: 0,
+        length,
+        penalty,
+    }
+}
+
+pub(crate) fn room(capacity: u32, penalty: u32) -> Room {
+    Room { capacity, penalty }
+}
+
+pub(crate) fn place(period: u32, room: u32) -> Place {
+    Place {
+        period: PeriodNo::new(period),
+        room: RoomNo::new(room),
+    }
+}
+
+/// The small session's one rule: exam 1 comes after exam 0.
+pub(crate) fn after() -> PeriodRule {
+    PeriodRule::After(ExamNo::new(1), ExamNo::new(0))
+}
+
+/// The small session: four exams; three periods of one day and one of another; two rooms.
+pub(crate) fn small(
+    alloc: Global,
+    rules: &[PeriodRule],
+    alone: &[RoomRule],
+    weights: Weights,
+) -> Result<Instance, ModelFault> {
+    let exams = [
+        Exam { minutes: 120 },
+        Exam { minutes: 90 },
+        Exam { minutes: 120 },
+        Exam { minutes: 60 },
+    ];
+    let (friday, monday) = (date(2005, 4, 15), date(2005, 4, 18));
+    let periods = [
+        period(friday, 9, 120, 0),
+        period(friday, 14, 120, 0),
+        period(friday, 17, 90, 10),
+        period(monday, 9, 120, 5),
+    ];
+    let rooms = [room(3, 0), room(2, 7)];
+    Instance::new(alloc, &exams, &periods, &rooms, rules, alone, weights)
+}
+
+/// These students and exams, of four exams.
+pub(crate) fn enrolled(alloc: Global, pairs: &[(u32, u32)]) -> Result<Enrolments, Fail> {
+    let mut enrolments = Enrolments::new(alloc, 4)?;
+    for (number, exam) in pairs {
+        enrolments.add(student(*number)?, ExamNo::new(*exam))?;
+    }
+    Ok(enrolments)
+}
+
+/// Four exams at these places.
+pub(crate) fn placed(alloc: Global, places: &Places) -> Result<Timetable, AllocError> {
+    let mut timetable = Timetable::new(alloc, 4)?;
+    for (exam, at) in places.iter().enumerate() {
+        let exam = ExamNo::new(exam as u32);
+        if let Some((period, room)) = at
+            && exam.get() < timetable.exams()
+        {
+            timetable.set(exam, place(*period, *room));
+        }
+    }
+    Ok(timetable)
+}
+
+/// Row, day, spread, mixed, front, period and room.
+pub(crate) fn numbers(parts: &Parts) -> [u64; 7] {
+    [
+        parts.row(),
+        parts.day(),
+        parts.spread(),
+        parts.mixed(),
+        parts.front(),
+        parts.period(),
+        parts.room(),
+    ]
+}
+
+fn place_exists(instance: &Instance, place: Option<Place>) -> bool
+    ensures { IsTrue result ↔ PlaceExists instance.now place }
+{
+    match place {
+        Some(place) => {
+            place.period.get() < instance.periods() && place.room.get() < instance.rooms()
+        }
+        None => true,
+    }
+}
+
+/// Whether these go together, as every reader of files sees to.
+pub(crate) fn fits(instance: &Instance, enrolments: &Enrolments, timetable: &Timetable) -> bool
+    ensures { IsTrue result → Fits instance.now enrolments.now timetable.now }
+{
+    let exams = instance.exams();
+    if enrolments.exams() != exams || timetable.exams() != exams {
+        return false;
+    }
+    'exams: for exam in 0..exams {
+        if !place_exists(instance, timetable.get(ExamNo::new(exam))) {
+            return false;
+        }
+    }
+    true
+}

@@ -1,0 +1,19 @@
+//! Worked examples of the libraries, by subject: what no clause says, with values from outside.
+#![tactic(auto)]
+
+#[cfg(test)]
+mod drafts;
+#[cfg(test)]
+mod enrolments;
+#[cfg(test)]
+mod files;
+#[cfg(test)]
+mod given;
+#[cfg(test)]
+mod model;
+#[cfg(test)]
+mod publication;
+#[cfg(test)]
+mod rules;
+#[cfg(test)]
+mod score;

@@ -1,0 +1,156 @@
+// Seats, shares and publications of the small session.
+ghost use Rattle.std.specs.Prelude.{IfOk};
+ghost use Rattle.exam_publish.specs.Rows.{AreRowsOf};
+
+use crate::given::{
+    APART, ONE_ROOM, PAIRS, Places, WEIGHTS, after, assert_same, enrolled, fits, placed, small,
+    student,
+};
+use exam_model::{Enrolments, ExamNo, Instance, PeriodNo, RoomNo, StudentNo, Timetable};
+use exam_publish::{PublishFault, RoomShare, SeatRow, Shares, changed, permit, seats, shares};
+use std::alloc::Global;
+use std::process::Abort;
+use std::test::Fail;
+
+fn session(alloc: Global) -> Result<(Instance, Enrolments), Fail> {
+    let instance = small(alloc, &[after()], &[], WEIGHTS)?;
+    Ok((instance, enrolled(alloc, &PAIRS)?))
+}
+
+// Why a timetable of the small session may not be published.
+fn refusal(alloc: Global, places: &Places) -> Result<Option<PublishFault>, Fail> {
+    let (instance, enrolments) = session(alloc)?;
+    let timetable = placed(alloc, places)?;
+    if !fits(&instance, &enrolments, &timetable) {
+        return Err("a place that doesn't exist")?;
+    }
+    Ok(permit(alloc, &instance, &enrolments, &timetable).err())
+}
+
+// The rows of a timetable that may be published.
+fn published(
+    alloc: Global,
+    instance: &Instance,
+    enrolments: &Enrolments,
+    timetable: &Timetable,
+) -> Result<Vec<SeatRow>, Fail>
+    ensures { IfOk result (λ rows. AreRowsOf instance.now rows.items timetable.now) }
+{
+    if !fits(instance, enrolments, timetable) {
+        return Err("a place that doesn't exist")?;
+    }
+    permit(alloc, instance, enrolments, timetable)?;
+    Ok(seats(alloc, instance, enrolments, timetable)?)
+}
+
+// Rows of exam, student, period, room and seat.
+fn rows(alloc: Global, numbers: &[(u32, u32, u32, u32, u32)]) -> Result<Vec<SeatRow>, Fail> {
+    let mut rows = Vec::new(alloc);
+    for (exam, number, period, room, seat) in numbers {
+        rows.push(SeatRow {
+            student: student(*number)?,
+            exam: ExamNo::new(*exam),
+            period: PeriodNo::new(*period),
+            room: RoomNo::new(*room),
+            seat: *seat,
+        })?;
+    }
+    Ok(rows)
+}
+
+// Whether the small session has just these rows with its exams at these places.
+fn has_rows<R: Abort>(
+    rt: &R,
+    alloc: Global,
+    places: &Places,
+    wanted: &[(u32, u32, u32, u32, u32)],
+) -> Result<(), Fail> {
+    let (instance, enrolments) = session(alloc)?;
+    let timetable = placed(alloc, places)?;
+    let found = published(alloc, &instance, &enrolments, &timetable)?;
+    let wanted = rows(alloc, wanted)?;
+    assert_same(rt, found.as_slice(), wanted.as_slice(), places);
+    Ok(())
+}
+
+#[test]
+fn worked_seats(rt: HostRuntime) -> Result<(), Fail> {
+    let wanted = [
+        (0, 1, 0, 0, 1),
+        (0, 2, 0, 0, 2),
+        (1, 2, 1, 0, 1),
+        (1, 3, 1, 0, 2),
+        (2, 3, 3, 1, 1),
+        (3, 1, 2, 0, 1),
+    ];
+    has_rows(&rt, rt.alloc(), &APART, &wanted)
+}
+
+#[test]
+fn two_exams_in_one_room(rt: HostRuntime) -> Result<(), Fail> {
+    let wanted = [
+        (0, 1, 0, 0, 1),
+        (0, 2, 0, 0, 2),
+        (1, 2, 1, 0, 1),
+        (1, 3, 1, 0, 2),
+        (2, 3, 3, 1, 1),
+        (3, 1, 3, 1, 2),
+    ];
+    has_rows(&rt, rt.alloc(), &ONE_ROOM, &wanted)
+}
+
+// The shares of the small session's solution.
+fn solution_shares(alloc: Global) -> Result<Shares, Fail> {
+    let (instance, enrolments) = session(alloc)?;
+    let timetable = placed(alloc, &APART)?;
+    let rows = published(alloc, &instance, &enrolments, &timetable)?;
+    Ok(shares(alloc, &instance, &rows, &timetable)?)
+}
+
+#[test]
+fn worked_shares(rt: HostRuntime) -> Result<(), Fail> {
+    let shares = solution_shares(rt.alloc())?;
+    // a student, and the row, day and spread of her penalty
+    let wanted = [(1, [0, 5, 1]), (2, [7, 0, 1]), (3, [0, 0, 1])];
+    assert_same(&rt, shares.students().len(), wanted.len(), "students");
+    for ((number, parts), (student, share)) in wanted.iter().zip(shares.students()) {
+        let found = [share.row(), share.day(), share.spread()];
+        assert_same(&rt, (student.get(), found), (*number, *parts), *number);
+    }
+    assert_same(&rt, shares.exams(), [0, 0, 0, 0].as_slice(), "exams");
+    assert_same(&rt, shares.periods(), [0, 0, 10, 5].as_slice(), "periods");
+    let rooms = [0, 7].map(|penalty| RoomShare { penalty, mixed: 0 });
+    assert_same(&rt, shares.rooms(), rooms.as_slice(), "rooms");
+    Ok(())
+}
+
+// Whose rows are new in a first publication, and whose change with one in its place.
+fn publications(
+    alloc: Global,
+    places: &Places,
+    next: &Places,
+) -> Result<(Vec<StudentNo>, Vec<StudentNo>), Fail> {
+    let (instance, enrolments) = session(alloc)?;
+    let (first, second) = (placed(alloc, places)?, placed(alloc, next)?);
+    let old = published(alloc, &instance, &enrolments, &first)?;
+    let new = published(alloc, &instance, &enrolments, &second)?;
+    let all = changed(alloc, &[], old.as_slice())?;
+    let moved = changed(alloc, old.as_slice(), new.as_slice())?;
+    Ok((all, moved))
+}
+
+#[test]
+fn publish_twice(rt: HostRuntime) -> Result<(), Fail> {
+    let partial = [APART[0], APART[1], APART[2], None];
+    let refused = refusal(rt.alloc(), &partial)?;
+    assert_same(
+        &rt,
+        refused,
+        Some(PublishFault::Unplaced(ExamNo::new(3))),
+        "partial",
+    );
+    let (all, moved) = publications(rt.alloc(), &APART, &ONE_ROOM)?;
+    assert_same(&rt, all.len(), 3, "first");
+    assert_same(&rt, moved.as_slice(), [student(1)?].as_slice(), "second");
+    Ok(())
+}
