@@ -11,3 +11,4 @@ pub mod Reading
 pub mod SlotLemmas
 pub mod Statements
 pub mod TableLemmas
+pub mod LookLemmas

@@ -5,6 +5,7 @@ mod amounts;
 mod creation;
 mod drafts;
 mod enrolments;
+mod looking;
 mod meta;
 mod owners;
 mod records;
@@ -15,6 +16,7 @@ mod slots;
 pub use creation::{create_tables, is_bare};
 pub use drafts::{delete_draft, drafts_of, insert_draft};
 pub use enrolments::{enrols, insert_enrol, insert_enrols};
+pub use looking::look;
 pub use meta::{delete_meta, put_meta};
 pub use owners::{delete_owner, insert_owner, owners_of};
 pub use rows::{

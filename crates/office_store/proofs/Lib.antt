@@ -1,0 +1,5 @@
+pub mod KeyLemmas
+pub mod OwnerLemmas
+pub mod TurnLemmas
+pub mod MemoryLemmas
+pub mod RunLemmas
