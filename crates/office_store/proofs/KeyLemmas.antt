@@ -13,13 +13,13 @@ module _ {X : Type 0} (key : X → ℕ) (d : ℕ) where
       go : (b : Bool) → eqb (key x) d ≡ b
           → filter (λ x. eqb (key x) n) (filter (λ x. not (eqb (key x) d)) xs) ≡ []
           → filter (λ x. eqb (key x) n)
-            (cond (not b) (x ∷ filter (λ x. not (eqb (key x) d)) xs)
-              (filter (λ x. not (eqb (key x) d)) xs)) ≡ []
+          (cond (not b) (x ∷ filter (λ x. not (eqb (key x) d)) xs)
+          (filter (λ x. not (eqb (key x) d)) xs)) ≡ []
       go true f more = more
       go false f more =
           ap (λ b. cond b (x ∷ filter (λ x. eqb (key x) n) (filter (λ x. not (eqb (key x) d)) xs))
-              (filter (λ x. eqb (key x) n) (filter (λ x. not (eqb (key x) d)) xs)))
-            (ap (eqb (key x)) e ∙ f)
+          (filter (λ x. eqb (key x) n) (filter (λ x. not (eqb (key x) d)) xs)))
+          (ap (eqb (key x)) e ∙ f)
           ∙ more
 
   -- all of another are left
@@ -36,13 +36,13 @@ module _ {X : Type 0} (key : X → ℕ) (d : ℕ) where
           → filter (λ x. eqb (key x) n) (filter (λ x. not (eqb (key x) d)) xs)
           ≡ filter (λ x. eqb (key x) n) xs
           → filter (λ x. eqb (key x) n)
-            (cond (not b) (x ∷ filter (λ x. not (eqb (key x) d)) xs)
-              (filter (λ x. not (eqb (key x) d)) xs))
+          (cond (not b) (x ∷ filter (λ x. not (eqb (key x) d)) xs)
+          (filter (λ x. not (eqb (key x) d)) xs))
           ≡ filter (λ x. eqb (key x) n) (x ∷ xs)
       go true f more =
           more
           ∙ sym (ap (λ b. cond b (x ∷ filter (λ x. eqb (key x) n) xs)
-              (filter (λ x. eqb (key x) n) xs)) (differs (key x) f))
+          (filter (λ x. eqb (key x) n) xs)) (differs (key x) f))
       go false f more = ap (λ l. cond (eqb (key x) n) (x ∷ l) l) more
 
   -- what holds of each row of another key holds of each that is left
@@ -55,6 +55,6 @@ module _ {X : Type 0} (key : X → ℕ) (d : ℕ) where
       go : (b : Bool) → eqb (key x) d ≡ b
           → AllByRecursion Q (filter (λ x. not (eqb (key x) d)) xs)
           → AllByRecursion Q (cond (not b) (x ∷ filter (λ x. not (eqb (key x) d)) xs)
-              (filter (λ x. not (eqb (key x) d)) xs))
+          (filter (λ x. not (eqb (key x) d)) xs))
       go true f more = more
       go false f more = (h x a.0 f, more)

@@ -3,3 +3,4 @@ pub mod OwnerLemmas
 pub mod TurnLemmas
 pub mod MemoryLemmas
 pub mod RunLemmas
+pub mod LoadLemmas

@@ -38,7 +38,7 @@ module _ {X : Type 0} (show : Row → Row) (row : X → Row) (back : Row → X)
       let both = IsPermutation-trans _ _ _ (IsPermutation-sym _ _ p.same) q.same in
       let mapped = IsPermutation-map back _ _ both in
       subst (λ l. IsPermutation l ys) (backs xs)
-        (subst (λ l. IsPermutation (map back (map row xs)) l) (backs ys) mapped)
+      (subst (λ l. IsPermutation (map back (map row xs)) l) (backs ys) mapped)
 
 pub same_one : {X : Type 0} (x y : X) → IsPermutation (x ∷ []) (y ∷ []) → y ≡ x
 same_one x y p = All-permutation (λ z. z ≡ x) (x ∷ []) (y ∷ []) p one 0 x (omega arith)
@@ -89,10 +89,10 @@ pub read_back : (I : Session) → IsInstance I
 read_back I is =
     let n = length I.exams in
     instance_same I (no_pairs n) is
-      (no_enrolments n is.limits.counts.0.0 is.limits.counts.0.1) (length-replicate n [])
-      (λ e h k d within. absurd (let none = no_students n e in
-        let empty : length (students (no_pairs n) e) ≡ 0 = ap length none in
-        omega (arith, empty, within)))
+    (no_enrolments n is.limits.counts.0.0 is.limits.counts.0.1) (length-replicate n [])
+    (λ e h k d within. absurd (let none = no_students n e in
+    let empty : length (students (no_pairs n) e) ≡ 0 = ap length none in
+    omega (arith, empty, within)))
 
 ok_is : {A F : Type 0} (x y : A) → (◌≡◌ {A = Result A F} (Ok x) (Ok y)) → x ≡ y
 ok_is x y e = cc
@@ -129,13 +129,13 @@ same_enrolments : (I : Session) (E F : Enrolled) → AreEnrolled I E → AreEnro
     → IsPermutation (map enrol_row (pairs_of E)) (map enrol_row (pairs_of F)) → E ≡ F
 same_enrolments I E F e f p =
     let pairs : IsPermutation (pairs_of E) (pairs_of F) =
-      subst (λ l. IsPermutation l (pairs_of F)) (pairs_back (pairs_of E))
-        (subst (λ l. IsPermutation (map pair_back (map enrol_row (pairs_of E))) l)
-          (pairs_back (pairs_of F)) (IsPermutation-map pair_back _ _ p)) in
+    subst (λ l. IsPermutation l (pairs_of F)) (pairs_back (pairs_of E))
+    (subst (λ l. IsPermutation (map pair_back (map enrol_row (pairs_of E))) l)
+    (pairs_back (pairs_of F)) (IsPermutation-map pair_back _ _ p)) in
     same_set E F (e.exams ∙ sym f.exams) e.set.ascending f.set.ascending
-      (λ s x. sym ((are_pairs E e.set).members s x)
-        ∙ list_any-IsPermutation (is_pair s x) (pairs_of E) (pairs_of F) pairs
-        ∙ (are_pairs F f.set).members s x)
+    (λ s x. sym ((are_pairs E e.set).members s x)
+    ∙ list_any-IsPermutation (is_pair s x) (pairs_of E) (pairs_of F) pairs
+    ∙ (are_pairs F f.set).members s x)
 
 -- ---- both
 
@@ -145,13 +145,13 @@ module _ (db : Database) (p q : Tables) (held : Held db p) (held2 : Held db q) w
 
   enrols : IsPermutation p.enrol q.enrol
   enrols = same_rows keyless enrol_columns columns_back columns_are p.enrol q.enrol (db.trees 2)
-    held.enrol held2.enrol
+      held.enrol held2.enrol
 
   nothing_loaded : (r : Records) → Stands p None → StandsLoaded q r → ⊥
   nothing_loaded r none some =
       let is : IsPermutation (record { published = false; instance = [] } ∷ []) (session_row r.session ∷ [])
-        = subst (λ l. IsPermutation (record { published = false; instance = [] } ∷ []) l) some.meta
-          (subst (λ (t : Tables). IsPermutation t.meta q.meta) none metas) in
+      = subst (λ l. IsPermutation (record { published = false; instance = [] } ∷ []) l) some.meta
+      (subst (λ (t : Tables). IsPermutation t.meta q.meta) none metas) in
       let same = ap (λ (m : Meta). m.instance) (same_one _ _ is) in
       absurd (let long = ap length same in omega (arith, long))
 
@@ -159,14 +159,14 @@ module _ (db : Database) (p q : Tables) (held : Held db p) (held2 : Held db q) w
       → memory_of (Some r) ≡ memory_of (Some s)
   loaded_same r s a b first second =
       let one : IsPermutation (session_row r.session ∷ []) (session_row s.session ∷ [])
-        = subst (λ l. IsPermutation l (session_row s.session ∷ [])) a.meta
-          (subst (λ l. IsPermutation p.meta l) b.meta metas) in
+      = subst (λ l. IsPermutation l (session_row s.session ∷ [])) a.meta
+      (subst (λ l. IsPermutation p.meta l) b.meta metas) in
       let texts = ap (λ (m : Meta). m.instance) (sym (same_one _ _ one)) in
       let sessions = same_session r.session s.session first.session second.session texts in
       let rows = IsPermutation-trans _ _ _ (IsPermutation-sym _ _ a.enrol)
-        (IsPermutation-trans _ _ _ enrols b.enrol) in
+      (IsPermutation-trans _ _ _ enrols b.enrol) in
       let sets = same_enrolments s.session r.enrolments s.enrolments
-        (subst (λ I. AreEnrolled I r.enrolments) sessions first.enrolled) second.enrolled rows in
+      (subst (λ I. AreEnrolled I r.enrolments) sessions first.enrolled) second.enrolled rows in
       ap (λ I. Some (I, r.enrolments)) sessions ∙ ap (λ E. Some (s.session, E)) sets
 
 -- a database stands for one session with one set of enrolments

@@ -28,7 +28,7 @@ module _ (t : Tables) (r : Records) (e d : ℕ) (h : StandsLoaded t r) where
       → map (λ (o : OwnerRow). o.dept) (owners_at x left) ≡ some_dept (cond b 0 (r.owner_of x))
   none x true f =
       ap (map (λ (o : OwnerRow). o.dept))
-        (none_of (λ (o : OwnerRow). o.exam) e x (grind (arith, nat_tests, f)) t.owner)
+      (none_of (λ (o : OwnerRow). o.exam) e x (grind (arith, nat_tests, f)) t.owner)
   none x false f =
       ap (map (λ (o : OwnerRow). o.dept)) (all_of_other (λ (o : OwnerRow). o.exam) e x f t.owner)
       ∙ h.owner x
@@ -41,14 +41,14 @@ module _ (t : Tables) (r : Records) (e d : ℕ) (h : StandsLoaded t r) where
   one x true f is =
       let passes : eqb e x ≡ true = grind (arith, nat_tests, f) in
       ap (λ c. map (λ (o : OwnerRow). o.dept) (cond c (row ∷ owners_at x left) (owners_at x left)))
-        passes
+      passes
       ∙ ap (λ (l : List OwnerRow). d ∷ map (λ (o : OwnerRow). o.dept) l)
-        (none_of (λ (o : OwnerRow). o.exam) e x (grind (arith, nat_tests, f)) t.owner)
+      (none_of (λ (o : OwnerRow). o.exam) e x (grind (arith, nat_tests, f)) t.owner)
       ∙ sym (ap (λ c. cond c [] (d ∷ [])) is)
   one x false f is =
       let fails : eqb e x ≡ false = grind (arith, nat_tests, f) in
       ap (λ c. map (λ (o : OwnerRow). o.dept) (cond c (row ∷ owners_at x left) (owners_at x left)))
-        fails
+      fails
       ∙ none x false f
 
   zero_is : eqb d 0 ≡ true → 0 ≡ d
@@ -56,7 +56,7 @@ module _ (t : Tables) (r : Records) (e d : ℕ) (h : StandsLoaded t r) where
 
   pub owner_stands : (b : Bool) → eqb d 0 ≡ b
       → StandsLoaded (cond b (without_owner e t) (with_owner row (without_owner e t)))
-        (record r { owner_of = set_at e d r.owner_of })
+      (record r { owner_of = set_at e d r.owner_of })
   owner_stands true is = record {
     meta = h.meta;
     owner = λ x. none x (eqb x e) refl
@@ -92,7 +92,7 @@ pub put_none : (db : Database) (e d : ℕ) (t : Tables) → d ≡ 0 → Held db 
     → Held db (owner_put e d t)
 put_none db e d t is h =
     subst (λ b. Held db (cond b (without_owner e t)
-      (with_owner (record { exam = e; dept = d }) (without_owner e t))))
+    (with_owner (record { exam = e; dept = d }) (without_owner e t))))
     {x = true} (grind (arith, nat_tests, is)) h
 
 pub put_one : (db : Database) (e d : ℕ) (t : Tables) → d ≢ 0
@@ -100,7 +100,7 @@ pub put_one : (db : Database) (e d : ℕ) (t : Tables) → d ≢ 0
     → Held db (owner_put e d t)
 put_one db e d t is h =
     subst (λ b. Held db (cond b (without_owner e t)
-      (with_owner (record { exam = e; dept = d }) (without_owner e t))))
+    (with_owner (record { exam = e; dept = d }) (without_owner e t))))
     {x = false} (grind (arith, nat_tests, is)) h
 
 -- the records are still those of an office
@@ -126,8 +126,8 @@ owner_records r e d exists few h = record {
 -- the parts that are stored for drafts are as before
 owner_sound : (t : Tables) (r : Records) (e d : ℕ) (b : Bool) → IsSound t (Some r)
     → IsSound (cond b (without_owner e t)
-      (with_owner (record { exam = e; dept = d }) (without_owner e t)))
-      (Some (record r { owner_of = set_at e d r.owner_of }))
+    (with_owner (record { exam = e; dept = d }) (without_owner e t)))
+    (Some (record r { owner_of = set_at e d r.owner_of }))
 owner_sound t r e d true h = h
 owner_sound t r e d false h = h
 
@@ -171,9 +171,9 @@ pub owner_read : (t : Tables) (o : OfficeState) (e : ℕ) (rows : List OwnerRow)
     → map (λ r. r.dept) rows ≡ some_dept (owner_in e o)
 owner_read t None e rows stands p =
     few 0 true _ (subst (λ l. IsPermutation l (map (λ (r : OwnerRow). r.dept) rows))
-      (ap (λ (t : Tables). map (λ (r : OwnerRow). r.dept) (filter (λ r. eqb r.exam e) t.owner)) stands)
-      (IsPermutation-map (λ (r : OwnerRow). r.dept) _ _ p))
+    (ap (λ (t : Tables). map (λ (r : OwnerRow). r.dept) (filter (λ r. eqb r.exam e) t.owner)) stands)
+    (IsPermutation-map (λ (r : OwnerRow). r.dept) _ _ p))
 owner_read t (Some r) e rows stands p =
     few (r.owner_of e) (eqb (r.owner_of e) 0) _
-      (subst (λ l. IsPermutation l (map (λ (r : OwnerRow). r.dept) rows)) (stands.owner e)
-        (IsPermutation-map (λ (r : OwnerRow). r.dept) _ _ p))
+    (subst (λ l. IsPermutation l (map (λ (r : OwnerRow). r.dept) rows)) (stands.owner e)
+    (IsPermutation-map (λ (r : OwnerRow). r.dept) _ _ p))

@@ -22,16 +22,16 @@ module _ {S : Type 0} (g : Ghosts S) (old begun last end : Held S)
 
   pub changed : (f : Tables → Tables)
       → (HasCleanDisk (state g last) → IsTrue begun.in_transaction
-        → Makes f (state g begun) (state g last))
+      → Makes f (state g begun) (state g last))
       → (r : Result (Unit {0}) Error)
       → (HasCleanDisk (state g end) → OnOk r (IsTrue (state g last).in_transaction
-        × Shows (state g last) (state g end) (state g last).now (state g last).now false
-        × KeepsCounts (state g last) (state g end) × ((state g end).marks ≡ [])))
+      × Shows (state g last) (state g end) (state g last).now (state g last).now false
+      × KeepsCounts (state g last) (state g end) × ((state g end).marks ≡ [])))
       → HasCleanDisk (state g end) → OnOk r (Changed f (state g old) (state g end))
   changed f makes r ok clean =
       let before = last_clean clean in
       let made = subst (λ h. IsTrue h.in_transaction → Makes f (state g h) (state g last)) begins
-        (makes before) refl in
+      (makes before) refl in
       on_ok_weaker r (λ done. record {
         was_open = was_open before done.1.was_open;
         makes = λ t h. subst (λ db. Stands db (f t)) (sym done.1.now_is) (made.1 t h);

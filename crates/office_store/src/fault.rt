@@ -1,7 +1,10 @@
 // Why a call of the office is refused.
+ghost use Rattle.std.specs.Prelude.{◌≡◌, ◌≢◌};
+
 use exam_draft::EditFault;
-use office_files::FileFault;
+use office_files::{FaultKind, FileFault};
 use sqlite::Error;
+use std::alloc::AllocError;
 
 /// What a file or an edit was refused for; never want of memory, which is [`StoreFault::Store`].
 #[derive(Clone, Copy, Debug, PartialEq, Eq)]
@@ -43,5 +46,30 @@ impl From<Error> for StoreFault {
 
     fn from(_error: Error) -> StoreFault {
         StoreFault::Store
+    }
+}
+
+impl From<AllocError> for StoreFault {
+    ghost use Rattle.std.specs.Prelude.{◌≡◌};
+    ghost use Rattle.office_store.specs.declared.fault.StoreFault.TheVariants.{Store};
+
+    ghost from_gives = { λ _ e. e ≡ Store };
+
+    fn from(_error: AllocError) -> StoreFault {
+        StoreFault::Store
+    }
+}
+
+impl StoreFault {
+    // The refusal of a file; want of memory is no refusal.
+    pub(crate) fn of_file(fault: FileFault) -> StoreFault
+        ensures memory { fault.what ≡ FaultKind.NoMemory → result ≡ StoreFault.Store }
+        ensures refused { fault.what ≢ FaultKind.NoMemory
+            → result ≡ StoreFault.Refused (Refusal.File fault) }
+    {
+        match fault.what {
+            FaultKind::NoMemory => StoreFault::Store,
+            _ => StoreFault::Refused(Refusal::File(fault)),
+        }
     }
 }

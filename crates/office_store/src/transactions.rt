@@ -54,7 +54,7 @@ pub fn put_session<S: Alter>(
     requires rests { conn.old.in_transaction ≡ false }
     ensures done { HasCleanDisk (state S.Store conn.new)
         → OnOk result (Changed (session_put instance.now pairs.now) (state S.Store conn.old)
-            (state S.Store conn.new)) }
+        (state S.Store conn.new)) }
     ensures undone { HasCleanDisk (state S.Store conn.new)
         → OnErr result (Undone (state S.Store conn.old) (state S.Store conn.new)) }
     ensures rests { conn.new.in_transaction ≡ false }

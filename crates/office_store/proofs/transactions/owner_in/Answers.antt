@@ -16,4 +16,4 @@ returns-clause-makes g c clean inside =
     let clean_1 = clean_before after_1 after_2 c.insert_owner.ensures.within clean in
     let step_1 = c.in_ok-delete_owner.ensures.makes clean_1 inside in
     on_ok_weaker c.insert_owner.result (λ last. (last.0, λ t stands. put_one _ c.args.exam c.args.dept t c.if-dept-eq0.false (last.1 _ (step_1.1 t stands))))
-      (c.insert_owner.ensures.makes clean step_1.0)
+    (c.insert_owner.ensures.makes clean step_1.0)

@@ -13,5 +13,5 @@ returns-clause-makes g c clean inside =
     let step_1 = c.in_ok-delete_meta.ensures.makes clean_1 inside in
     let step_2 = c.in_ok-put_meta.ensures.makes clean_2 step_1.0 in
     on_ok_weaker c.insert_enrols.result
-      (λ last. (last.0, λ t stands. last.1 _ (step_2.1 _ (step_1.1 t stands))))
-      (c.insert_enrols.ensures.makes clean step_2.0)
+    (λ last. (last.0, λ t stands. last.1 _ (step_2.1 _ (step_1.1 t stands))))
+    (c.insert_enrols.ensures.makes clean step_2.0)
