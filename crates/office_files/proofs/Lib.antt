@@ -27,4 +27,4 @@ mod CanonicalDigits
 mod CanonicalSteps
 mod CanonicalItems
 mod CanonicalSections
-mod CanonicalInstance
+pub mod CanonicalInstance

@@ -16,3 +16,4 @@ pub mod SlotLemmas
 pub mod Statements
 pub mod TableLemmas
 pub mod WholeRows
+pub mod LookLemmas

@@ -9,6 +9,7 @@ mod drafts;
 mod enrolments;
 mod found;
 mod listing;
+mod looking;
 mod meta;
 mod meta_row;
 mod owners;
@@ -25,6 +26,7 @@ pub use creation::{create_tables, is_bare};
 pub use drafts::{delete_draft, drafts_of, insert_draft};
 pub use enrolments::{enrols, insert_enrol, insert_enrols};
 pub use found::Found;
+pub use looking::look;
 pub use meta::{delete_meta, meta_of, put_meta};
 pub use owners::{delete_owner, insert_owner, owners_of};
 pub use rows::{

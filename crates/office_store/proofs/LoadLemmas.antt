@@ -1,0 +1,151 @@
+-- A session that is put in.
+use Rattle.std.proofs.Common.{◌≡◌, ◌≢◌, ℕ, zero, suc, ◌+◌, ◌<◌, ◌≤◌, List, [], ◌∷◌, ◌++◌, map, length, take, get_or, Some, None, refl, sym, ◌∙◌, ap, arith, subst, All, reverse, Bool, true, false, eqb}
+use Rattle.std.specs.Prelude.{IsPermutation, is_some, is_none, Ok, Err}
+use Rattle.std.proofs.lemmas.Bool.Decides.{nat_tests}
+use Rattle.std.proofs.lemmas.List.{append-nil, append_assoc, map-append, take_more, length-take, length-map}
+use Rattle.std.proofs.lemmas.List.Sorted.{IsPermutation-sym, IsPermutation-reverse, IsPermutation-refl}
+use Rattle.exam_model.specs.Enrolments.{Enrolled, AreEnrolments, students, no_pairs}
+use Rattle.exam_model.specs.Instance.{Session, IsInstance}
+use Rattle.exam_model.specs.Pairs.{Pair, pairs_at, pairs_from, pairs_of}
+use Rattle.sqlite.specs.Effect.{Database}
+use Rattle.office_files.specs.CanonicalText.{canonical_instance}
+use Rattle.office_files.specs.ExamLines.{ExamLine}
+use Rattle.office_files.specs.InstanceText.{InstanceText, instance_in, session_of}
+use Rattle.office_tables.specs.Tables.{Tables, Stands as Held, empty_tables, Meta}
+use Rattle.office_tables.specs.declared.rows.EnrolRow.{EnrolRow}
+use Rattle.office_store.specs.Changes.{session_put}
+use Rattle.office_store.specs.Commands.{fresh, counts_of, loaded}
+use Rattle.office_store.specs.Office.{OfficeState, Records, AreRecords, AreEnrolled}
+use Rattle.office_store.specs.Running.{Memory, memory_of}
+use Rattle.office_store.specs.declared.fault.StoreFault.TheVariants.{Loaded}
+use Rattle.office_store.specs.Stands.{StandsLoaded, IsKept, enrol_row, meta_row}
+
+-- ---- the rows of pairs
+
+one_more_at : (e : ℕ) (xs : List ℕ) (i : ℕ) (d : ℕ) → i < length xs
+    → map enrol_row (pairs_at e (take (i + 1) xs))
+    ≡ map enrol_row (pairs_at e (take i xs)) ++ record { student = get_or xs i d; exam = e } ∷ []
+one_more_at e xs i d lt =
+    ap (λ l. map enrol_row (pairs_at e l)) (take_more xs i d lt)
+    ∙ ap (map enrol_row) (map-append _ (take i xs) (get_or xs i d ∷ []))
+    ∙ map-append enrol_row (pairs_at e (take i xs)) (record { exam = e; student = get_or xs i d } ∷ [])
+
+-- one student more
+pub added : (rows : List EnrolRow) (e : ℕ) (xs : List ℕ) (i : ℕ) (d : ℕ) → i < length xs
+    → (rows ++ map enrol_row (pairs_at e (take i xs)))
+    ++ record { student = get_or xs i d; exam = e } ∷ []
+    ≡ rows ++ map enrol_row (pairs_at e (take (i + 1) xs))
+added rows e xs i d lt =
+    append_assoc rows (map enrol_row (pairs_at e (take i xs))) _
+    ∙ ap (λ l. rows ++ l) (sym (one_more_at e xs i d lt))
+
+pairs_from-push : (k : ℕ) (E : Enrolled) (xs : List ℕ)
+    → pairs_from k (E ++ xs ∷ []) ≡ pairs_from k E ++ pairs_at (k + length E) xs
+pairs_from-push k [] xs = append-nil (pairs_at k xs) ∙ ap (λ n. pairs_at n xs) (omega arith)
+pairs_from-push k (ys ∷ E) xs =
+    ap (λ ps. pairs_at k ys ++ ps)
+    (pairs_from-push (k + 1) E xs ∙ ap (λ n. pairs_from (k + 1) E ++ pairs_at n xs) (omega arith))
+    ∙ sym (append_assoc (pairs_at k ys) (pairs_from (k + 1) E) (pairs_at (k + length (ys ∷ E)) xs))
+
+-- one exam more
+pub exam_added : (E : Enrolled) (e : ℕ) → e < length E
+    → map enrol_row (pairs_of (take e E)) ++ map enrol_row (pairs_at e (students E e))
+    ≡ map enrol_row (pairs_of (take (e + 1) E))
+exam_added E e lt =
+    sym (ap (map enrol_row)
+    (ap (pairs_from 0) (take_more E e [] lt) ∙ pairs_from-push 0 (take e E) (students E e)
+    ∙ ap (λ n. pairs_of (take e E) ++ pairs_at n (students E e))
+    (let l = length-take e E in omega arith))
+    ∙ map-append enrol_row (pairs_of (take e E)) (pairs_at e (students E e)))
+
+-- ---- the tables
+
+module _ (I : Session) (E : Enrolled) (text : List ℕ) (rows : List EnrolRow)
+    (is_text : text ≡ canonical_instance I (no_pairs (length I.exams)))
+    (are_rows : rows ≡ map enrol_row (pairs_of E)) where
+  session_stands : StandsLoaded (session_put text rows empty_tables) (fresh (I, E))
+  session_stands = record {
+    meta = ap (λ b. record { published = false; instance = b } ∷ []) is_text;
+    owner = λ e. refl;
+    enrol = subst (λ l. IsPermutation l (map enrol_row (pairs_of E))) (sym (append-nil (reverse rows)))
+        (subst (λ l. IsPermutation (reverse rows) l) are_rows
+        (IsPermutation-sym _ _ (IsPermutation-reverse rows)));
+    draft = λ d. refl;
+    slot = λ d. IsPermutation-refl [];
+    unpublished = record {
+      placed = refl;
+      seat = refl;
+      share_student = refl;
+      share_part = refl;
+      batch = refl;
+    };
+  }
+
+  -- the database stands for the office with that session alone
+  pub session_kept : (a b : Database) → IsKept a None → ((t : Tables) → Held a t → Held b (session_put text rows t))
+      → IsInstance I → AreEnrolled I E → IsKept b (Some (fresh (I, E)))
+  session_kept a b kept makes is are = record {
+    held = session_put text rows empty_tables;
+    tables = makes empty_tables (subst (Held a) kept.stands kept.tables);
+    stands = session_stands;
+    sound = tt;
+    office = record {
+      session = is;
+      enrolled = are;
+      departments = λ e. omega arith;
+      owned = λ e no. absurd (no refl);
+      numbered = λ d no. absurd cc;
+      drafts = λ d T no. absurd cc;
+    };
+  }
+
+-- ---- bounds
+
+pub one_more_below : (xs : List ℕ) (i most : ℕ) → ((k d : ℕ) → k < i → get_or xs k d ≤ most)
+    → ((d : ℕ) → get_or xs i d ≤ most) → (k d : ℕ) → k < i + 1 → get_or xs k d ≤ most
+one_more_below xs i most before here k d lt = go (eqb k i) refl
+  where
+    go : (b : Bool) → eqb k i ≡ b → get_or xs k d ≤ most
+    go true is =
+        let same : k ≡ i = grind (arith, nat_tests, is) in
+        subst (λ n. get_or xs n d ≤ most) (sym same) (here d)
+    go false is = before k d (grind (arith, nat_tests, is, lt))
+
+pub one_more_all : (P : ℕ → Type 0) (i : ℕ) → ((e : ℕ) → e < i → P e) → P i
+    → (e : ℕ) → e < i + 1 → P e
+one_more_all P i before here e lt = go (eqb e i) refl
+  where
+    go : (b : Bool) → eqb e i ≡ b → P e
+    go true is =
+        let same : e ≡ i = grind (arith, nat_tests, is) in
+        subst P (sym same) here
+    go false is = before e (grind (arith, nat_tests, is, lt))
+
+-- ---- the command
+
+-- a text that is read has a list of students for each exam
+pub as_many : (b : List ℕ) (I : Session) (E : Enrolled) → InstanceText b I E → length E ≡ length I.exams
+as_many b I E text =
+    let exams = ap (λ (I : Session). length I.exams) text.session in
+    let lists = ap length text.enrolled in
+    let one : length (map (λ (l : ExamLine). l.students) text.said.exams) ≡ length text.said.exams
+    = length-map text.said.exams _ in
+    let other : length (session_of text.said).exams ≡ length text.said.exams
+    = length-map text.said.exams _ in
+    omega (arith, exams, lists, one, other)
+
+pub loaded_first : (b : List ℕ) (s : Session × Enrolled) → instance_in b ≡ Ok s
+    → loaded b None ≡ Ok (counts_of s, Some (fresh s))
+loaded_first b s is = rw is refl
+
+pub loaded_again : (b : List ℕ) (s : Session × Enrolled) (o : OfficeState) → instance_in b ≡ Ok s
+    → is_none o ≡ false → loaded b o ≡ Err Loaded
+loaded_again b s o is some = rw (is, some) refl
+
+pub some_kept : (m : Memory) (o : OfficeState) → memory_of o ≡ m → is_some m ≡ true → is_none o ≡ false
+some_kept m None e is = absurd (let no = ap is_some e ∙ is in cc)
+some_kept m (Some r) e is = refl
+
+pub none_kept : (m : Memory) (o : OfficeState) → memory_of o ≡ m → is_some m ≡ false → o ≡ None
+none_kept m None e is = refl
+none_kept m (Some r) e is = absurd (let no = ap is_some e ∙ is in cc)

@@ -1,0 +1,179 @@
+-- An owner in place of another.
+use Rattle.std.proofs.Common.{◌≡◌, ◌≢◌, ℕ, ◌<◌, ◌≤◌, Bool, true, false, cond, not, eqb, List, [], ◌∷◌, map, filter, refl, sym, ◌∙◌, ap, arith, subst, Ok, Err}
+use Rattle.std.proofs.lemmas.Bool.Decides.{nat_tests}
+use Rattle.std.specs.Prelude.{Some, None, length, IsPermutation}
+use Rattle.std.proofs.lemmas.List.Sorted.{IsPermutation-map, length_permutation}
+use Rattle.exam_model.specs.Instance.{Session}
+use Rattle.sqlite.specs.Effect.{Database}
+use Rattle.office_tables.specs.Tables.{Tables, Stands as Held}
+use Rattle.office_tables.specs.Changes.{without_owner, with_owner}
+use Rattle.office_tables.specs.declared.rows.OwnerRow.{OwnerRow}
+use Rattle.office_store.specs.Changes.{owner_put}
+use Rattle.office_store.specs.Office.{OfficeState, Records, AreRecords, set_at}
+use Rattle.exam_draft.specs.Edits.{exam_exists}
+use Rattle.exam_draft.specs.declared.fault.EditFault.TheVariants.{NoSuch}
+use Rattle.office_store.specs.Commands.{owned, owner_in}
+use Rattle.office_store.specs.Stands.{Stands, StandsLoaded, IsSound, IsKept, owners_at, some_dept}
+use Rattle.office_store.specs.declared.fault.Refusal.TheVariants.{Edit}
+use Rattle.office_store.specs.declared.fault.StoreFault.TheVariants.{Refused}
+use Rattle.office_store.proofs.KeyLemmas.{none_of, all_of_other}
+use Rattle.office_store.proofs.MemoryLemmas.{same_one}
+
+-- the rows of the exam that is set, and of the others
+module _ (t : Tables) (r : Records) (e d : ℕ) (h : StandsLoaded t r) where
+  abbrev pub left : List OwnerRow
+  left = filter (λ o. not (eqb o.exam e)) t.owner
+
+  none : (x : ℕ) (b : Bool) → eqb x e ≡ b
+      → map (λ (o : OwnerRow). o.dept) (owners_at x left) ≡ some_dept (cond b 0 (r.owner_of x))
+  none x true f =
+      ap (map (λ (o : OwnerRow). o.dept))
+      (none_of (λ (o : OwnerRow). o.exam) e x (grind (arith, nat_tests, f)) t.owner)
+  none x false f =
+      ap (map (λ (o : OwnerRow). o.dept)) (all_of_other (λ (o : OwnerRow). o.exam) e x f t.owner)
+      ∙ h.owner x
+
+  abbrev pub row : OwnerRow
+  row = record { exam = e; dept = d }
+
+  one : (x : ℕ) (b : Bool) → eqb x e ≡ b → eqb d 0 ≡ false
+      → map (λ (o : OwnerRow). o.dept) (owners_at x (row ∷ left)) ≡ some_dept (cond b d (r.owner_of x))
+  one x true f is =
+      let passes : eqb e x ≡ true = grind (arith, nat_tests, f) in
+      ap (λ c. map (λ (o : OwnerRow). o.dept) (cond c (row ∷ owners_at x left) (owners_at x left)))
+      passes
+      ∙ ap (λ (l : List OwnerRow). d ∷ map (λ (o : OwnerRow). o.dept) l)
+      (none_of (λ (o : OwnerRow). o.exam) e x (grind (arith, nat_tests, f)) t.owner)
+      ∙ sym (ap (λ c. cond c [] (d ∷ [])) is)
+  one x false f is =
+      let fails : eqb e x ≡ false = grind (arith, nat_tests, f) in
+      ap (λ c. map (λ (o : OwnerRow). o.dept) (cond c (row ∷ owners_at x left) (owners_at x left)))
+      fails
+      ∙ none x false f
+
+  zero_is : eqb d 0 ≡ true → 0 ≡ d
+  zero_is is = grind (arith, nat_tests, is)
+
+  pub owner_stands : (b : Bool) → eqb d 0 ≡ b
+      → StandsLoaded (cond b (without_owner e t) (with_owner row (without_owner e t)))
+      (record r { owner_of = set_at e d r.owner_of })
+  owner_stands true is = record {
+    meta = h.meta;
+    owner = λ x. none x (eqb x e) refl
+        ∙ ap (λ n. some_dept (cond (eqb x e) n (r.owner_of x))) (zero_is is);
+    enrol = h.enrol;
+    draft = h.draft;
+    slot = h.slot;
+    unpublished = record {
+      placed = h.unpublished.placed;
+      seat = h.unpublished.seat;
+      share_student = h.unpublished.share_student;
+      share_part = h.unpublished.share_part;
+      batch = h.unpublished.batch;
+    };
+  }
+  owner_stands false is = record {
+    meta = h.meta;
+    owner = λ x. one x (eqb x e) refl is;
+    enrol = h.enrol;
+    draft = h.draft;
+    slot = h.slot;
+    unpublished = record {
+      placed = h.unpublished.placed;
+      seat = h.unpublished.seat;
+      share_student = h.unpublished.share_student;
+      share_part = h.unpublished.share_part;
+      batch = h.unpublished.batch;
+    };
+  }
+
+-- what is put where a department is 0, and where it is not
+pub put_none : (db : Database) (e d : ℕ) (t : Tables) → d ≡ 0 → Held db (without_owner e t)
+    → Held db (owner_put e d t)
+put_none db e d t is h =
+    subst (λ b. Held db (cond b (without_owner e t)
+    (with_owner (record { exam = e; dept = d }) (without_owner e t))))
+    {x = true} (grind (arith, nat_tests, is)) h
+
+pub put_one : (db : Database) (e d : ℕ) (t : Tables) → d ≢ 0
+    → Held db (with_owner (record { exam = e; dept = d }) (without_owner e t))
+    → Held db (owner_put e d t)
+put_one db e d t is h =
+    subst (λ b. Held db (cond b (without_owner e t)
+    (with_owner (record { exam = e; dept = d }) (without_owner e t))))
+    {x = false} (grind (arith, nat_tests, is)) h
+
+-- the records are still those of an office
+pub owner_records : (r : Records) (e d : ℕ) → e < length r.session.exams → d ≤ 999 → AreRecords r
+    → AreRecords (record r { owner_of = set_at e d r.owner_of })
+owner_records r e d exists few h = record {
+  session = h.session;
+  enrolled = h.enrolled;
+  departments = λ x. department x (eqb x e);
+  owned = λ x. exam x (eqb x e) refl;
+  numbered = h.numbered;
+  drafts = h.drafts;
+}
+  where
+    department : (x : ℕ) (b : Bool) → cond b d (r.owner_of x) ≤ 999
+    department x true = few
+    department x false = h.departments x
+
+    exam : (x : ℕ) (b : Bool) → eqb x e ≡ b → cond b d (r.owner_of x) ≢ 0 → x < length r.session.exams
+    exam x true f has = grind (arith, nat_tests, f, exists)
+    exam x false f has = h.owned x has
+
+-- the parts that are stored for drafts are as before
+owner_sound : (t : Tables) (r : Records) (e d : ℕ) (b : Bool) → IsSound t (Some r)
+    → IsSound (cond b (without_owner e t)
+    (with_owner (record { exam = e; dept = d }) (without_owner e t)))
+    (Some (record r { owner_of = set_at e d r.owner_of }))
+owner_sound t r e d true h = h
+owner_sound t r e d false h = h
+
+-- the database stands for the office with that owner
+pub owner_kept : (a b : Database) (r : Records) (e d : ℕ) → IsKept a (Some r)
+    → ((t : Tables) → Held a t → Held b (owner_put e d t)) → e < length r.session.exams → d ≤ 999
+    → IsKept b (Some (record r { owner_of = set_at e d r.owner_of }))
+owner_kept a b r e d kept makes exists few = record {
+  held = owner_put e d kept.held;
+  tables = makes kept.held kept.tables;
+  stands = owner_stands kept.held r e d kept.stands (eqb d 0) refl;
+  sound = owner_sound kept.held r e d (eqb d 0) kept.sound;
+  office = owner_records r e d exists few kept.office;
+}
+
+-- what the command gives, where there is such an exam and where there is not
+pub owned_there : (r : Records) (e d : ℕ) → e < length r.session.exams
+    → owned e d (Some r) ≡ Ok (tt, Some (record r { owner_of = set_at e d r.owner_of }))
+owned_there r e d exists =
+    let is : exam_exists r.session e ≡ true = grind (arith, nat_tests, exists) in
+    rw is refl
+
+pub owned_nowhere : (r : Records) (e d : ℕ) → length r.session.exams ≤ e
+    → owned e d (Some r) ≡ Err (Refused (Edit NoSuch))
+owned_nowhere r e d none =
+    let is : exam_exists r.session e ≡ false = grind (arith, nat_tests, none) in
+    rw is refl
+
+-- ---- the owner that is read
+
+few : {X : Type 0} (x : X) (b : Bool) (ys : List X) → IsPermutation (cond b [] (x ∷ [])) ys
+    → ys ≡ cond b [] (x ∷ [])
+few x true [] p = refl
+few x true (y ∷ ys) p = absurd (let long = length_permutation _ _ p in omega (arith, long))
+few x false [] p = absurd (let long = length_permutation _ _ p in omega (arith, long))
+few x false (y ∷ []) p = ap (λ z. z ∷ []) (same_one x y p)
+few x false (y ∷ z ∷ ys) p = absurd (let long = length_permutation _ _ p in omega (arith, long))
+
+pub owner_read : (t : Tables) (o : OfficeState) (e : ℕ) (rows : List OwnerRow) → Stands t o
+    → IsPermutation (filter (λ r. eqb r.exam e) t.owner) rows
+    → map (λ r. r.dept) rows ≡ some_dept (owner_in e o)
+owner_read t None e rows stands p =
+    few 0 true _ (subst (λ l. IsPermutation l (map (λ (r : OwnerRow). r.dept) rows))
+    (ap (λ (t : Tables). map (λ (r : OwnerRow). r.dept) (filter (λ r. eqb r.exam e) t.owner)) stands)
+    (IsPermutation-map (λ (r : OwnerRow). r.dept) _ _ p))
+owner_read t (Some r) e rows stands p =
+    few (r.owner_of e) (eqb (r.owner_of e) 0) _
+    (subst (λ l. IsPermutation l (map (λ (r : OwnerRow). r.dept) rows)) (stands.owner e)
+    (IsPermutation-map (λ (r : OwnerRow). r.dept) _ _ p))

@@ -1,0 +1,87 @@
+-- What a call leaves of the office.
+use Rattle.std.proofs.Common.{◌≡◌, ◌⊎◌, ℕ, Some, None, Option, refl, sym, ◌∙◌, ap, subst, IsTrue, true, false, inl, inr}
+use Rattle.std.specs.Prelude.{option_map}
+use Rattle.exam_model.specs.Enrolments.{Enrolled}
+use Rattle.exam_model.specs.Instance.{Session}
+use Rattle.sqlite.specs.State.{State, HasCleanDisk}
+use Rattle.sqlite.specs.Effect.{Database}
+use Rattle.office_tables.specs.Steps.{Keeps}
+use Rattle.office_tables.specs.Tables.{Tables, Stands as Held}
+use Rattle.office_store.specs.Office.{OfficeState, Records}
+use Rattle.office_store.specs.Running.{Now, Memory, memory_of, IsAtRest, IsAwake, IsStill}
+use Rattle.office_store.specs.Stands.{IsKept}
+use Rattle.office_store.specs.Turning.{Undone}
+use Rattle.office_store.proofs.MemoryLemmas.{same_memory}
+
+-- ---- nothing has changed
+
+pub now_still : (a b : State) (o : OfficeState) → IsStill a b → Now a o → Now b o
+now_still a b o still now opened =
+    let is = still opened in
+    subst (λ db. IsKept db o) (sym is.1) (now is.0)
+
+pub rest_still : (a b : State) (m : Memory) → (HasCleanDisk b → HasCleanDisk a)
+    → (HasCleanDisk b → IsStill a b) → IsAtRest a m → IsAtRest b m
+rest_still a b m clean still rest is_clean opened =
+    let is = still is_clean opened in
+    let here = rest (clean is_clean) is.0 in
+    (here.0, subst (λ db. IsKept db here.0) (sym is.1) here.1, here.2)
+
+-- a reader that failed, where all that was written was committed
+pub still_kept : (a b : State) → (IsTrue a.is_open → a.now ≡ a.committed) → Keeps a b → IsStill a b
+still_kept a b settled kept opened =
+    let was = kept.was_open opened in
+    (was, elim (kept.now opened) [ inl same ↦ same | inr back ↦ back ∙ sym (settled was) ])
+
+-- a transaction that failed
+pub still_undone : (a b : State) → (IsTrue a.is_open → a.now ≡ a.committed) → Undone a b → IsStill a b
+still_undone a b settled undone opened =
+    let was = undone.was_open opened in
+    (was, undone.now opened ∙ sym (settled was))
+
+-- ---- what is in memory
+
+pub at_hand : (s : State) (m : Memory) (o : OfficeState) → IsAtRest s m → HasCleanDisk s → IsTrue s.is_open
+    → IsKept s.now o → memory_of o ≡ m
+at_hand s m o rest clean opened kept =
+    let here = rest clean opened in
+    same_memory s.now o here.0 kept here.1 ∙ here.2
+
+pub nothing_kept : (o : OfficeState) → memory_of o ≡ None → o ≡ None
+nothing_kept None h = refl
+nothing_kept (Some r) h = absurd cc
+
+-- the records of which this is in memory
+pub record IsKeptOf (o : OfficeState) (I : Session) (E : Enrolled) : Type 0 where
+  pub records : Records
+  pub is : o ≡ Some records
+  pub session : records.session ≡ I
+  pub enrolments : records.enrolments ≡ E
+
+pub kept_of : (o : OfficeState) (I : Session) (E : Enrolled) → memory_of o ≡ Some (I, E) → IsKeptOf o I E
+kept_of None I E h = absurd cc
+kept_of (Some r) I E h = record {
+  records = r;
+  is = refl;
+  session = ap (λ (p : Session × Enrolled). p.0) (some_is h);
+  enrolments = ap (λ (p : Session × Enrolled). p.1) (some_is h);
+}
+  where
+    some_is : {X : Type 0} {x y : X} → Some x ≡ Some y → x ≡ y
+    some_is e = cc
+
+-- ---- a reader, of a file that can be read
+
+pub now_read : (a b : State) (o : OfficeState) → IsAwake a → IsKept a.now o
+    → ((t : Tables) → Held a.now t → Keeps a b) → Now b o
+now_read a b o awake kept reads opened =
+    let still = still_kept a b (λ _. awake.1) (reads kept.held kept.tables) opened in
+    subst (λ db. IsKept db o) (sym still.1) kept
+
+pub rest_read : (a b : State) (m : Memory) → IsAtRest a m → (HasCleanDisk b → HasCleanDisk a)
+    → (HasCleanDisk b → IsAwake a) → (HasCleanDisk b → (t : Tables) → Held a.now t → Keeps a b)
+    → IsAtRest b m
+rest_read a b m rest clean awake reads is_clean opened =
+    let woken = awake is_clean in
+    let here = rest (clean is_clean) woken.0 in
+    (here.0, now_read a b here.0 woken here.1 (reads is_clean) opened, here.2)

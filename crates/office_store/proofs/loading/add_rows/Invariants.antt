@@ -1,0 +1,11 @@
+use Rattle.std.specs.Prelude.{◌≡◌, ◌++◌, ℕ, ◌<◌, ◌≤◌, map, slice_index_or, take}
+use Rattle.exam_model.specs.Pairs.{pairs_at}
+use Rattle.office_store.specs.Stands.{enrol_row}
+use Rattle.office_store.proofs.loading.add_rows.Given as goal
+
+abbrev pub invariant-loop-student : goal.invariant-loop-student
+invariant-loop-student l = record {
+  rows : l.rows.items
+      ≡ l.fn.rows.items ++ map enrol_row (pairs_at l.exam (take l.student-index l.students));
+  numbers : (k d : ℕ) → k < l.student-index → slice_index_or l.students k d ≤ 999999999;
+}

@@ -1,0 +1,35 @@
+-- What the transaction of each command makes of the tables.
+use Rattle.std.specs.Prelude.{ℕ, false, ◌==◌, if◌then◌else◌, List, [], ◌∷◌, Option, Some, None, map}
+use Rattle.exam_model.specs.Enrolments.{Enrolled}
+use Rattle.exam_model.specs.Pairs.{pairs_of}
+use Rattle.exam_model.specs.Timetable.{Placing, place_of}
+use Rattle.exam_model.specs.declared.parts.Place.{Place}
+use Rattle.office_tables.specs.Changes.{with_meta, no_meta, with_owner, without_owner, with_enrols, with_draft, without_draft, with_slot, with_slots, without_slot, without_slots}
+use Rattle.office_tables.specs.Tables.{Tables}
+use Rattle.office_tables.specs.declared.rows.DraftRow.{DraftRow}
+use Rattle.office_tables.specs.declared.rows.EnrolRow.{EnrolRow}
+use Rattle.office_tables.specs.declared.rows.SlotRow.{SlotRow}
+use Rattle.office_store.specs.Stands.{slot_row}
+
+-- a session is put in, with its enrolments
+abbrev pub session_put : List ℕ → List EnrolRow → Tables → Tables
+session_put instance pairs t = with_enrols pairs (with_meta false instance (no_meta t))
+
+-- an owner in place of another; a department 0 is none
+abbrev pub owner_put : ℕ → ℕ → Tables → Tables
+owner_put exam dept t =
+    if dept == 0 then without_owner exam t
+    else with_owner (record { exam = exam; dept = dept }) (without_owner exam t)
+
+-- a draft is put in, with the places of its exams
+abbrev pub draft_put : DraftRow → List SlotRow → Tables → Tables
+draft_put row slots t = with_slots slots (with_draft row t)
+
+-- a draft is taken out, with the places of its exams
+abbrev pub draft_removed : ℕ → Tables → Tables
+draft_removed d t = without_slots d (without_draft d t)
+
+-- an exam stands there in a draft, or nowhere
+abbrev pub slot_put : ℕ → ℕ → Option Place → Tables → Tables
+slot_put d e None t = without_slot d e t
+slot_put d e (Some at) t = with_slot (slot_row d e at) (without_slot d e t)

@@ -1,0 +1,65 @@
+-- What each command makes of the office, its refusals in their order. A refusal changes nothing: it
+-- has no new office.
+use Rattle.std.specs.Prelude.{◌≡◌, ℕ, ◌&&◌, ◌==◌, nat_le, List, [], ◌∷◌, length, Option, Some, None, is_none, Result, Ok, Err}
+use Rattle.exam_model.specs.Enrolments.{Enrolled, pair_count}
+use Rattle.exam_model.specs.Instance.{Session}
+use Rattle.exam_model.specs.Refusing.{◌>>=◌, unless, else_err}
+use Rattle.exam_model.specs.Timetable.{Placing, unplaced}
+use Rattle.exam_score.specs.Penalty.{total_of}
+use Rattle.exam_score.specs.Track.{track}
+use Rattle.exam_draft.specs.Edits.{Edited, exam_exists, after_place, after_move, after_swap, after_clear}
+use Rattle.exam_draft.specs.declared.fault.EditFault.TheVariants.{NoSuch}
+use Rattle.office_files.specs.InstanceText.{instance_in}
+use Rattle.office_files.specs.SolutionText.{solution_in}
+use Rattle.office_store.specs.Office.{OfficeState, Records, set_at}
+use Rattle.office_store.specs.declared.loading.Loaded as loading
+use Rattle.office_store.specs.declared.fault.Refusal.TheVariants as refusal
+use Rattle.office_store.specs.declared.fault.StoreFault.{StoreFault}
+use Rattle.office_store.specs.declared.fault.StoreFault.TheVariants.{Loaded, NotLoaded, NoDraft, DraftTaken, Refused}
+
+-- what a command gives, with the office after it
+abbrev pub Gives : Type 0 → Type 0
+Gives A = Result (A × OfficeState) StoreFault
+
+-- a fault by another name
+abbrev pub named : {A F G : Type 0} → (F → G) → Result A F → Result A G
+named name (Ok x) = Ok x
+named name (Err e) = Err (name e)
+
+-- the records, once there is a session
+abbrev pub when_loaded : OfficeState → Result Records StoreFault
+when_loaded office = else_err NotLoaded office
+
+-- ---- load
+
+-- a session with its enrolments, and nothing else
+abbrev pub fresh : Session × Enrolled → Records
+fresh s = record { session = s.0; owner_of = λ e. 0; enrolments = s.1; draft = λ d. None }
+
+-- how much there is of it
+abbrev pub counts_of : Session × Enrolled → loading.Loaded
+counts_of s = record {
+  exams = length s.0.exams;
+  pairs = pair_count s.1;
+  periods = length s.0.periods;
+  rooms = length s.0.rooms;
+}
+
+abbrev pub loaded : List ℕ → OfficeState → Gives loading.Loaded
+loaded bytes office = do
+  s ← named (λ f. Refused (refusal.File f)) (instance_in bytes)
+  _ ← unless (is_none office) Loaded
+  Ok (counts_of s, Some (fresh s))
+
+-- ---- owners
+
+abbrev pub owned : ℕ → ℕ → OfficeState → Gives (Unit {0})
+owned exam dept office = do
+  r ← when_loaded office
+  _ ← unless (exam_exists r.session exam) (Refused (refusal.Edit NoSuch))
+  Ok (tt, Some (record r { owner_of = set_at exam dept r.owner_of }))
+
+-- the department that owns an exam, 0 for none
+abbrev pub owner_in : ℕ → OfficeState → ℕ
+owner_in exam None = 0
+owner_in exam (Some r) = r.owner_of exam

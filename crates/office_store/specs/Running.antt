@@ -1,0 +1,71 @@
+-- What a call of the office makes of the office that its file stands for.
+use Rattle.std.specs.Prelude.{◌≡◌, ◌⊎◌, false, IsTrue, Option, Some, None, option_map, Result, Ok, Err}
+use Rattle.exam_model.specs.Enrolments.{Enrolled}
+use Rattle.exam_model.specs.Instance.{Session}
+use Rattle.sqlite.specs.Held.{Held, state}
+use Rattle.sqlite.specs.State.{State, HasCleanDisk}
+use Rattle.sqlite.specs.Store.{Ghosts}
+use Rattle.office_store.specs.Commands.{Gives}
+use Rattle.office_store.specs.Office.{OfficeState, Records}
+use Rattle.office_store.specs.Stands.{IsKept}
+use Rattle.office_store.specs.declared.fault.StoreFault.{StoreFault}
+use Rattle.office_store.specs.declared.fault.StoreFault.TheVariants.{Store, BadSchema}
+
+-- while the store is open, its tables stand for this office
+abbrev pub Now : State → OfficeState → Type 0
+Now s office = IsTrue s.is_open → IsKept s.now office
+
+-- the command's own refusal, or a failed statement; an honest store never answers BadSchema
+abbrev pub IsFault : {A : Type 0} → Gives A → StoreFault → Type 0
+IsFault gives Store = Unit {0}
+IsFault gives BadSchema = ⊥
+IsFault gives fault = gives ≡ Err fault
+
+-- it gave what the command gives and that office stands now, or it was refused and the old one does
+abbrev pub Does : {A : Type 0} → Gives A → OfficeState → (OfficeState → Type 0) → Result A StoreFault → Type 0
+Does gives old Stays (Ok x) = (new : OfficeState) × (gives ≡ Ok (x, new)) × Stays new
+Does gives old Stays (Err fault) = IsFault gives fault × Stays old
+
+-- a changing command, over a disk that returns what was written
+abbrev pub Runs : {S A : Type 0} → Ghosts S → (OfficeState → Gives A) → Held S → Held S
+    → Result A StoreFault → Type 0
+Runs store command old new result =
+    HasCleanDisk (state store new) → (office : OfficeState) → Now (state store old) office
+    → Does (command office) office (Now (state store new)) result
+
+-- a call that only reads answers what the office says, or a statement failed; the office stays
+abbrev pub Shows : {A : Type 0} → A → OfficeState → (OfficeState → Type 0) → Result A StoreFault → Type 0
+Shows says office Stays (Ok x) = (x ≡ says) × Stays office
+Shows says office Stays (Err fault) = (fault ≡ Store) × Stays office
+
+-- the same, over a disk that returns what was written
+abbrev pub Reads : {S A : Type 0} → Ghosts S → (OfficeState → A) → Held S → Held S
+    → Result A StoreFault → Type 0
+Reads store says old new result =
+    HasCleanDisk (state store new) → (office : OfficeState) → Now (state store old) office
+    → Shows (says office) office (Now (state store new)) result
+
+-- ---- what is kept in memory
+
+-- the session and its live enrolments
+abbrev pub Memory : Type 0
+Memory = Option (Session × Enrolled)
+
+abbrev pub memory_of : OfficeState → Memory
+memory_of office = option_map (λ r. (r.session, r.enrolments)) office
+
+-- over a clean disk, while it is open, the file stands for an office, of which this is in memory
+abbrev pub IsAtRest : State → Memory → Type 0
+IsAtRest s memory =
+    HasCleanDisk s → IsTrue s.is_open
+    → (office : OfficeState) × IsKept s.now office × (memory_of office ≡ memory)
+
+-- ---- a look at the file
+
+-- nothing has changed
+abbrev pub IsStill : State → State → Type 0
+IsStill old new = IsTrue new.is_open → IsTrue old.is_open × (new.now ≡ old.now)
+
+-- it is open, and all that was written is committed
+abbrev pub IsAwake : State → Type 0
+IsAwake s = IsTrue s.is_open × (s.now ≡ s.committed)

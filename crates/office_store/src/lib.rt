@@ -1,0 +1,12 @@
+//! The office over its tables: one SQLite file that stands for an examination session.
+#![tactic(auto)]
+
+mod fault;
+mod loading;
+mod office;
+mod owning;
+mod transactions;
+
+pub use fault::{Refusal, StoreFault};
+pub use loading::Loaded;
+pub use office::Office;

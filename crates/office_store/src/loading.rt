@@ -1,0 +1,114 @@
+// The session is loaded once.
+ghost use Rattle.std.specs.Prelude.{◌≡◌, ◌++◌, ◌<◌, ◌≤◌, ℕ, All, IfErr, IfOk, OnOk, length, map};
+ghost use Rattle.sqlite.specs.Held.{state};
+ghost use Rattle.sqlite.specs.State.{HasCleanDisk};
+ghost use Rattle.exam_model.specs.Enrolments.{AreEnrolments, no_pairs, students};
+ghost use Rattle.exam_model.specs.Instance.{IsInstance};
+ghost use Rattle.exam_model.specs.Pairs.{pairs_at, pairs_of};
+ghost use Rattle.office_files.specs.CanonicalText.{canonical_instance};
+ghost use Rattle.office_store.specs.Commands.{counts_of, loaded};
+ghost use Rattle.office_store.specs.Running.{Runs};
+ghost use Rattle.office_store.specs.Stands.{enrol_row};
+
+use crate::fault::StoreFault;
+use crate::office::Office;
+use crate::transactions::put_session;
+use exam_model::{Enrolments, ExamNo, Instance, StudentNo};
+use office_files::{read_instance, write_instance};
+use office_tables::EnrolRow;
+use sqlite::Alter;
+use std::alloc::{AllocError, Global};
+
+/// How much was loaded.
+#[derive(Clone, Copy, Debug, PartialEq, Eq)]
+pub struct Loaded {
+    /// 1 to 2,000.
+    pub exams: u32,
+    /// Pairs of a student and an exam that she sits, at most 200,000.
+    pub pairs: u32,
+    /// 1 to 200.
+    pub periods: u32,
+    /// 1 to 200.
+    pub rooms: u32,
+}
+
+impl<S: Alter> Office<S> {
+    /// Loads the session of an instance file with its enrolments, once. `Refused`: the file is faulty;
+    /// then `Loaded`: there is a session already.
+    pub fn load(&mut self, alloc: Global, text: &[u8]) -> Result<Loaded, StoreFault>
+        ensures runs { Runs S.Store (loaded text.now) self.old self.new result }
+        ensures clean { HasCleanDisk (state S.Store self.new) → HasCleanDisk (state S.Store self.old) }
+    {
+        let (instance, enrolments) = match read_instance(alloc, text) {
+            Ok(read) => read,
+            Err(fault) => return Err(StoreFault::of_file(fault)),
+        };
+        self.look()?;
+        if self.kept.is_some() {
+            return Err(StoreFault::Loaded);
+        }
+        let loaded = counts_of(&instance, &enrolments);
+        let stored = text_of(alloc, &instance)?;
+        let rows = enrol_rows(alloc, &enrolments)?;
+        put_session(&mut self.conn, &stored, &rows)?;
+        self.kept = Some((instance, enrolments));
+        Ok(loaded)
+    }
+}
+
+fn counts_of(instance: &Instance, enrolments: &Enrolments) -> Loaded
+    ensures counts { result ≡ counts_of (instance.now, enrolments.now) }
+    ensures instance { IsInstance instance.now }
+    ensures enrolments { AreEnrolments enrolments.now }
+{
+    Loaded {
+        exams: instance.exams(),
+        pairs: enrolments.pairs(),
+        periods: instance.periods(),
+        rooms: instance.rooms(),
+    }
+}
+
+// The text that is kept of an instance, which names no student.
+fn text_of(alloc: Global, instance: &Instance) -> Result<Vec<u8>, StoreFault>
+    ensures text { IfOk result (λ text. text.items
+        ≡ canonical_instance instance.now (no_pairs (length instance.now.exams))) }
+    ensures fault { IfErr result (λ e. e ≡ StoreFault.Store) }
+{
+    let exams = instance.exams();
+    let Ok(nobody) = Enrolments::new(alloc, exams) else {
+        return Err(StoreFault::Store);
+    };
+    match write_instance(alloc, instance, &nobody) {
+        Ok(text) => Ok(text),
+        Err(_) => Err(StoreFault::Store),
+    }
+}
+
+fn add_rows(rows: &mut Vec<EnrolRow>, exam: u32, students: &[StudentNo]) -> Result<(), AllocError>
+    ensures rows { OnOk result (rows.new.items
+        ≡ rows.old.items ++ map enrol_row (pairs_at exam students.now)) }
+    ensures numbers { OnOk result (All (λ s. s ≤ 999999999) students.now) }
+{
+    for student in students {
+        rows.push(EnrolRow {
+            student: student.get(),
+            exam,
+        })?;
+    }
+    Ok(())
+}
+
+// The rows of the pairs, by exam and then by student.
+fn enrol_rows(alloc: Global, enrolments: &Enrolments) -> Result<Vec<EnrolRow>, AllocError>
+    ensures rows { IfOk result (λ rows. rows.items ≡ map enrol_row (pairs_of enrolments.now)) }
+    ensures numbers { IfOk result (λ _. (e : ℕ) → e < length enrolments.now
+        → All (λ s. s ≤ 999999999) (students enrolments.now e)) }
+{
+    let mut rows = Vec::new(alloc);
+    for number in 0..enrolments.exams() {
+        let students = enrolments.students(ExamNo::new(number));
+        add_rows(&mut rows, number, students)?;
+    }
+    Ok(rows)
+}

@@ -1,0 +1,89 @@
+// The office, and how it comes to its file.
+ghost use Rattle.std.specs.Prelude.{◌≡◌, ◌≢◌, ◌⊎◌, IfErr, IfOk, IsTrue, None, OnOk};
+ghost use Rattle.sqlite.specs.Held.{state};
+ghost use Rattle.sqlite.specs.State.{HasCleanDisk};
+ghost use Rattle.office_tables.specs.Schema.{no_schema};
+ghost use Rattle.office_store.specs.Running.{IsAwake, IsStill};
+ghost use Rattle.office_store.specs.Turning.{Undone};
+ghost use Rattle.office_store.specs.Stands.{IsKept};
+
+use crate::fault::StoreFault;
+use crate::transactions::make_tables;
+use exam_model::{Enrolments, Instance};
+use office_tables::{is_bare, look};
+use sqlite::{Alter, Connection};
+use std::marker::Model;
+
+/// An examination office in one SQLite database. Contracts see the connection; over a disk that
+/// returns what was written, its tables stand for an office.
+#[derive(Drop)]
+pub struct Office<S: Alter> {
+    pub(crate) conn: Connection<S>,
+    // The session and its live enrolments, once there is one: what the tables say, at hand.
+    pub(crate) kept: Option<(Instance, Enrolments)>,
+}
+
+impl<S: Alter> Model for Office<S> {
+    ghost use Rattle.std.specs.Prelude.{◌≡◌, false};
+    ghost use Rattle.sqlite.specs.Held.{Held, held_code, state};
+    ghost use Rattle.office_store.specs.Running.{IsAtRest};
+
+    ghost Value = { Held S };
+
+    ghost coded = { held_code S.code };
+
+    ghost view = { λ o. o.conn };
+
+    ghost invariant = { λ o. (o.conn.in_transaction ≡ false) × IsAtRest (state S.Store o.conn) o.kept };
+}
+
+impl<S: Alter> Office<S> {
+    /// Makes the tables of an office in a database that has none. `BadSchema`: there are tables,
+    /// indexes or views. `Store`: a statement failed, or a transaction is open. A refusal hands the
+    /// connection back.
+    pub fn create(conn: Connection<S>) -> Result<Office<S>, (StoreFault, Connection<S>)>
+        // The tables stand for the office without a session.
+        ensures made { IfOk result (λ office. HasCleanDisk (state S.Store office)
+            → IsKept (state S.Store office).now None) }
+        // There were none.
+        ensures bare { IfOk result (λ _. (state S.Store conn).now.schema ≡ no_schema) }
+        ensures not_bare { IfErr result (λ e. e.0 ≡ StoreFault.BadSchema
+            → ((state S.Store conn).now.schema ≢ no_schema) × (e.1 ≡ conn)) }
+        // Whatever the refusal, the tables are as they were.
+        ensures undone { IfErr result (λ e. (e.1 ≡ conn) ⊎ (HasCleanDisk (state S.Store e.1)
+            → Undone (state S.Store conn) (state S.Store e.1))) }
+    {
+        if !conn.is_autocommit() {
+            return Err((StoreFault::Store, conn));
+        }
+        if !is_bare(&conn) {
+            return Err((StoreFault::BadSchema, conn));
+        }
+        let mut conn = conn;
+        match make_tables(&mut conn) {
+            Ok(()) => Ok(Office { conn, kept: None }),
+            Err(_) => Err((StoreFault::Store, conn)),
+        }
+    }
+
+    // Looks whether the file can be read; what is in memory is then what it says.
+    pub(crate) fn look(&mut self) -> Result<(), StoreFault>
+        ensures awake { HasCleanDisk (state S.Store self.new) → OnOk result (IsAwake (state S.Store self.new)) }
+        ensures still { HasCleanDisk (state S.Store self.new)
+            → IsStill (state S.Store self.old) (state S.Store self.new) }
+        ensures fault { IfErr result (λ e. e ≡ StoreFault.Store) }
+        ensures clean { HasCleanDisk (state S.Store self.new) → HasCleanDisk (state S.Store self.old) }
+    {
+        let _at_rest = self.conn.is_autocommit(); // read for what it says of the last commit
+        look(&mut self.conn)?;
+        Ok(())
+    }
+
+    /// Gives the connection back, with its tables.
+    pub fn release(self) -> Connection<S>
+        ensures { result ≡ self }
+    {
+        let Office { conn, kept: _ } = self;
+        conn
+    }
+}

@@ -1,0 +1,65 @@
+// Who owns an exam.
+ghost use Rattle.std.specs.Prelude.{◌≡◌, ◌≤◌, IfErr, IfOk, map};
+ghost use Rattle.sqlite.specs.Held.{state};
+ghost use Rattle.sqlite.specs.State.{HasCleanDisk};
+ghost use Rattle.office_store.specs.Commands.{owned, owner_in};
+ghost use Rattle.office_store.specs.Office.{OfficeState};
+ghost use Rattle.office_store.specs.Running.{Now, Reads, Runs};
+ghost use Rattle.office_store.specs.Stands.{some_dept};
+
+use crate::fault::{Refusal, StoreFault};
+use crate::office::Office;
+use crate::transactions::put_owner;
+use exam_draft::EditFault;
+use exam_model::ExamNo;
+use office_tables::{OwnerRow, owners_of};
+use sqlite::Alter;
+use std::alloc::Global;
+
+impl<S: Alter> Office<S> {
+    /// Makes a department, 1 to 999, the owner of an exam; 0 takes the owner away. `NotLoaded`: there
+    /// is no session; then `Refused` with `NoSuch`: there is no such exam.
+    pub fn set_owner(&mut self, exam: ExamNo, dept: u32) -> Result<(), StoreFault>
+        requires dept { dept ≤ 999 }
+        ensures runs { Runs S.Store (owned exam dept) self.old self.new result }
+        ensures clean { HasCleanDisk (state S.Store self.new) → HasCleanDisk (state S.Store self.old) }
+    {
+        self.look()?;
+        let Some((instance, _)) = &self.kept else {
+            return Err(StoreFault::NotLoaded);
+        };
+        if exam.get() >= instance.exams() {
+            return Err(StoreFault::Refused(Refusal::Edit(EditFault::NoSuch)));
+        }
+        put_owner(&mut self.conn, exam.get(), dept)?;
+        Ok(())
+    }
+
+    /// The department that owns an exam; 0 where there is no such exam or owner.
+    pub fn owner(&mut self, alloc: Global, exam: ExamNo) -> Result<u32, StoreFault>
+        ensures reads { Reads S.Store (owner_in exam) self.old self.new result }
+        ensures clean { HasCleanDisk (state S.Store self.new) → HasCleanDisk (state S.Store self.old) }
+    {
+        let rows = self.owners(alloc, exam)?;
+        match rows.as_slice() {
+            [] => Ok(0),
+            [row] => Ok(row.dept),
+            _ => Err(StoreFault::BadSchema),
+        }
+    }
+
+    // The rows of an exam's owner: one, or none.
+    fn owners(&mut self, alloc: Global, exam: ExamNo) -> Result<Vec<OwnerRow>, StoreFault>
+        ensures rows { HasCleanDisk (state S.Store self.new) → (office : OfficeState)
+            → Now (state S.Store self.old) office
+            → IfOk result (λ rows. map (λ r. r.dept) rows.items ≡ some_dept (owner_in exam office)) }
+        ensures still { HasCleanDisk (state S.Store self.new) → (office : OfficeState)
+            → Now (state S.Store self.old) office → Now (state S.Store self.new) office }
+        ensures fault { IfErr result (λ e. e ≡ StoreFault.Store) }
+        ensures clean { HasCleanDisk (state S.Store self.new) → HasCleanDisk (state S.Store self.old) }
+    {
+        self.look()?;
+        let rows = owners_of(alloc, &mut self.conn, exam.get())?;
+        Ok(rows)
+    }
+}

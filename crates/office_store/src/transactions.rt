@@ -1,0 +1,94 @@
+// One function for each transaction: all of it is done, or nothing.
+ghost use Rattle.std.specs.Prelude.{◌≡◌, ◌<◌, ◌≤◌, ◌^◌, false, OnOk, OnErr};
+ghost use Rattle.sqlite.specs.Held.{state};
+ghost use Rattle.sqlite.specs.State.{HasCleanDisk};
+ghost use Rattle.office_tables.specs.Schema.{no_schema, IsBlank};
+ghost use Rattle.office_tables.specs.Steps.{Changes, Within};
+ghost use Rattle.office_tables.specs.Tables.{Stands, empty_tables};
+ghost use Rattle.office_store.specs.Changes.{owner_put, session_put};
+ghost use Rattle.office_store.specs.Turning.{Changed, Turned, Undone};
+
+use office_tables::{
+    EnrolRow, OwnerRow, create_tables, delete_meta, delete_owner, insert_enrols, insert_owner,
+    put_meta,
+};
+use sqlite::{Alter, Connection, Error, Transaction};
+
+// Makes the ten tables, which then stand for the office without a session.
+pub fn make_tables<S: Alter>(conn: &mut Connection<S>) -> Result<(), Error>
+    requires rests { conn.old.in_transaction ≡ false }
+    ensures done { HasCleanDisk (state S.Store conn.new) → OnOk result (Turned (IsBlank no_schema)
+        (λ db. Stands db empty_tables) (state S.Store conn.old) (state S.Store conn.new)) }
+    ensures undone { HasCleanDisk (state S.Store conn.new)
+        → OnErr result (Undone (state S.Store conn.old) (state S.Store conn.new)) }
+    ensures rests { conn.new.in_transaction ≡ false }
+    ensures clean { HasCleanDisk (state S.Store conn.new) → HasCleanDisk (state S.Store conn.old) }
+{
+    let mut tx = conn.transaction();
+    create_tables(&mut tx)?;
+    tx.commit()
+}
+
+// The session in place of none, and its enrolments.
+fn session_in<S: Alter>(
+    tx: &mut Transaction<'_, S>,
+    instance: &[u8],
+    pairs: &[EnrolRow],
+) -> Result<(), Error>
+    ensures same_reference { tx.new.conn.ghost_name ≡ tx.old.conn.ghost_name }
+    ensures makes { Changes S.Store (session_put instance.now pairs.now) tx.old.conn.now
+        tx.new.conn.now result }
+    ensures within { Within (state S.Store tx.old.conn.now) (state S.Store tx.new.conn.now) }
+{
+    delete_meta(tx)?;
+    put_meta(tx, false, instance)?;
+    insert_enrols(tx, pairs)
+}
+
+// Puts a session in, with its enrolments.
+pub fn put_session<S: Alter>(
+    conn: &mut Connection<S>,
+    instance: &[u8],
+    pairs: &[EnrolRow],
+) -> Result<(), Error>
+    requires rests { conn.old.in_transaction ≡ false }
+    ensures done { HasCleanDisk (state S.Store conn.new)
+        → OnOk result (Changed (session_put instance.now pairs.now) (state S.Store conn.old)
+        (state S.Store conn.new)) }
+    ensures undone { HasCleanDisk (state S.Store conn.new)
+        → OnErr result (Undone (state S.Store conn.old) (state S.Store conn.new)) }
+    ensures rests { conn.new.in_transaction ≡ false }
+    ensures clean { HasCleanDisk (state S.Store conn.new) → HasCleanDisk (state S.Store conn.old) }
+{
+    let mut tx = conn.transaction();
+    session_in(&mut tx, instance, pairs)?;
+    tx.commit()
+}
+
+// An owner in place of another; a department 0 is none.
+fn owner_in<S: Alter>(tx: &mut Transaction<'_, S>, exam: u32, dept: u32) -> Result<(), Error>
+    ensures same_reference { tx.new.conn.ghost_name ≡ tx.old.conn.ghost_name }
+    ensures makes { Changes S.Store (owner_put exam dept) tx.old.conn.now tx.new.conn.now result }
+    ensures within { Within (state S.Store tx.old.conn.now) (state S.Store tx.new.conn.now) }
+{
+    delete_owner(tx, exam)?;
+    if dept == 0 {
+        return Ok(());
+    }
+    insert_owner(tx, OwnerRow { exam, dept })
+}
+
+// Puts an exam's owner in place of another.
+pub fn put_owner<S: Alter>(conn: &mut Connection<S>, exam: u32, dept: u32) -> Result<(), Error>
+    requires rests { conn.old.in_transaction ≡ false }
+    ensures done { HasCleanDisk (state S.Store conn.new) → OnOk result (Changed (owner_put exam dept)
+        (state S.Store conn.old) (state S.Store conn.new)) }
+    ensures undone { HasCleanDisk (state S.Store conn.new)
+        → OnErr result (Undone (state S.Store conn.old) (state S.Store conn.new)) }
+    ensures rests { conn.new.in_transaction ≡ false }
+    ensures clean { HasCleanDisk (state S.Store conn.new) → HasCleanDisk (state S.Store conn.old) }
+{
+    let mut tx = conn.transaction();
+    owner_in(&mut tx, exam, dept)?;
+    tx.commit()
+}

@@ -1,0 +1,19 @@
+// Whether the file can be read.
+ghost use Rattle.std.specs.Prelude.{◌≡◌, false, IsTrue, OnErr, OnOk};
+ghost use Rattle.sqlite.specs.Held.{state};
+ghost use Rattle.sqlite.specs.State.{HasCleanDisk, Survives};
+ghost use Rattle.office_tables.specs.Steps.{Keeps, LeavesAll, Nothing};
+
+use sqlite::{Alter, Connection, Error};
+
+/// Looks whether the file can still be read: a store that was shut by a fault answers nothing.
+pub fn look<S: Alter>(conn: &mut Connection<S>) -> Result<(), Error>
+    ensures open { HasCleanDisk (state S.Store conn.new) → OnOk result (IsTrue (state S.Store conn.old).is_open) }
+    ensures same { LeavesAll S.Store conn.old conn.new result }
+    ensures failed { HasCleanDisk (state S.Store conn.new) → OnErr result (Keeps (state S.Store conn.old) (state S.Store conn.new)) }
+    ensures mode { conn.old.in_transaction ≡ false → conn.new.in_transaction ≡ false }
+    ensures survives { Survives (state S.Store conn.old) (state S.Store conn.new) (Nothing (state S.Store conn.old)) }
+{
+    let _rows = conn.query_all("SELECT id FROM meta", &[])?;
+    Ok(())
+}
