@@ -4,8 +4,6 @@
 mod draft;
 mod editing;
 mod fault;
-#[cfg(test)]
-mod tests;
 
 pub use draft::Draft;
 pub use fault::EditFault;

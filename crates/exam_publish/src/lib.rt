@@ -22,6 +22,3 @@ pub use seat_row::SeatRow;
 pub use seating::seats;
 pub use share_lists::{RoomShare, Shares};
 pub use sharing::shares;
-
-#[cfg(test)]
-mod tests;
