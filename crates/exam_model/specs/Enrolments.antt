@@ -92,9 +92,3 @@ pub record Leaves (old new : List ℕ) (s : ℕ) : Type 0 where
   pub members : (t : ℕ) → has_student new t ≡ (not (s == t) && has_student old t)
   pub size : length old ≡ (if has_student old s then length new + 1 else length new)
   pub ascending : IsAscending new
-
--- why a student is not put in: she is new, and there is no room
-abbrev pub RefusesStudent : List ℕ → ℕ → Bool → ModelFault → Type 0
-RefusesStudent xs s full NoSuch = ⊥
-RefusesStudent xs s full Range = (has_student xs s ≡ false) × (full ≡ true)
-RefusesStudent xs s full NoMemory = Unit {0}
