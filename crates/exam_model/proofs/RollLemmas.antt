@@ -1,6 +1,6 @@
 -- What a search finds among ascending numbers, and what an insert at that place leaves.
-use Rattle.std.proofs.Common.{◌≡◌, ℕ, suc, ◌+◌, ◌-◌, ◌<◌, ◌≤◌, Bool, true, false, List, [], ◌∷◌, ◌++◌, length, Result, Ok, Err, IfOk, IfErr, refl, ap, subst, sym, ◌∙◌, inl, inr, arith, take, drop}
-use Rattle.std.specs.Prelude.{◌==◌, ◌||◌, ◌&&◌, not, slice_index}
+use Rattle.std.proofs.Common.{◌≡◌, ℕ, suc, ◌+◌, ◌-◌, ◌<◌, ◌≤◌, Bool, true, false, List, ◌∷◌, ◌++◌, length, Result, Ok, Err, IfOk, IfErr, refl, ap, subst, sym, ◌∙◌, inl, inr, arith, take, drop}
+use Rattle.std.specs.Prelude.{◌==◌, ◌||◌, ◌&&◌, not, is_ok, slice_index}
 use Rattle.std.specs.List.{insert, remove, list_any}
 use Rattle.std.specs.List.Sorted.{IsBinarySearchResult}
 use Rattle.std.specs.Ordering.{nat_cmp}
@@ -8,7 +8,7 @@ use Rattle.std.proofs.Math.Seq.{split_at}
 use Rattle.std.proofs.lemmas.Bool.{eq-eqb, eqb-true, ne_eqb, cases_lt}
 use Rattle.std.proofs.lemmas.List.{get_or_default, take-append-drop}
 use Rattle.std.proofs.lemmas.List.Sorted.{searched}
-use Rattle.std.proofs.lemmas.List.Edits.{length-insert, get_or-insert_below, get_or-insert_at, get_or-insert_above, insert_end, length-remove, get_or-remove_below, get_or-remove_above}
+use Rattle.std.proofs.lemmas.List.Edits.{length-insert, get_or-insert_below, get_or-insert_at, get_or-insert_above, length-remove, get_or-remove_below, get_or-remove_above}
 use Rattle.std.proofs.lemmas.List.Folds.{list_any_at, list_any_none, list_any-append}
 use Rattle.exam_model.specs.Enrolments.{IsAscending, IsAt, IsGap, Enters, Leaves, has_student}
 
@@ -28,15 +28,6 @@ searched_roll xs x (Err at) up is =
     let f = searched xs x (Err at) is (rise xs up) in
     record { found = tt; absent = record { within = f.0; before = f.1; after = f.2 } }
 
--- behind the greatest is a gap for what is greater
-pub gap_at_end : (xs : List ℕ) (s : ℕ) → IsAscending xs → 0 < length xs
-    → slice_index xs (length xs - 1) < s → IsGap xs s (length xs)
-gap_at_end xs s up some lt = record {
-  within = omega arith;
-  before = λ k below. omega (arith, rise xs up k (length xs - 1) (omega arith) (omega arith));
-  after = λ k le within. absurd (omega arith);
-}
-
 pub has_at : (xs : List ℕ) (x i : ℕ) → IsAt xs x i → has_student xs x ≡ true
 has_at xs x i at = list_any_at _ xs i 0 at.within (eq-eqb _ _ at.here)
 
@@ -46,6 +37,12 @@ has_gap xs x i gap = list_any_none _ xs (λ k d lt.
       | inl below ↦ ne_eqb _ _ (omega (arith, gap.before k below))
       | inr above ↦ ne_eqb _ _ (omega (arith, gap.after k above lt))
     ]))
+
+-- a search tells whether a student is there
+pub has_searched : (xs : List ℕ) (x : ℕ) (r : Result ℕ ℕ) → IfOk r (IsAt xs x)
+    → IfErr r (IsGap xs x) → is_ok r ≡ has_student xs x
+has_searched xs x (Ok at) found absent = sym (has_at xs x at found)
+has_searched xs x (Err at) found absent = sym (has_gap xs x at absent)
 
 -- an insert in the gap keeps the order
 pub ascending_insert : (xs : List ℕ) (x at : ℕ) → IsGap xs x at → IsAscending xs
@@ -110,12 +107,6 @@ enters_again xs x i at up = record {
   size = rw (has_at xs x i at) refl;
   ascending = up;
 }
-
--- a student behind all others keeps the order
-pub enters_push : (xs : List ℕ) (x : ℕ) → IsGap xs x (length xs) → IsAscending xs
-    → Enters xs (xs ++ x ∷ []) x
-enters_push xs x gap up =
-    subst (λ ys. Enters xs ys x) (insert_end xs x) (enters_insert xs x (length xs) gap up)
 
 -- the place of a student taken out is her gap
 gap_remove : (xs : List ℕ) (x i : ℕ) → IsAt xs x i → IsAscending xs → IsGap (remove xs i) x i
@@ -189,4 +180,4 @@ leaves_again xs x i gap up = record {
   ascending = up;
 }
 
-pub ruleset roll_facts = (has_at, has_gap, ascending_insert, enters_insert, enters_push, enters_again, leaves_remove, leaves_again)
+pub ruleset roll_facts = (has_at, has_gap, ascending_insert, enters_insert, enters_again, leaves_remove, leaves_again)

@@ -1,5 +1,5 @@
 -- A set of pairs (student, exam), seen as the students of each exam in ascending order.
-use Rattle.std.specs.Prelude.{◌≡◌, ℕ, ◌+◌, ◌<◌, ◌≤◌, Bool, true, false, not, ◌&&◌, ◌||◌, ◌==◌, if◌then◌else◌, List, [], length, slice_index, slice_index_or, sum_by, count_by, replicate}
+use Rattle.std.specs.Prelude.{◌≡◌, ℕ, ◌+◌, ◌<◌, ◌≤◌, Bool, false, not, ◌&&◌, ◌||◌, ◌==◌, if◌then◌else◌, List, [], length, slice_index, slice_index_or, sum_by, count_by, replicate}
 use Rattle.std.specs.List.{list_any}
 use Rattle.exam_model.specs.declared.fault.ModelFault.{ModelFault}
 use Rattle.exam_model.specs.declared.fault.ModelFault.TheVariants.{Range, NoSuch, NoMemory}
@@ -92,9 +92,3 @@ pub record Leaves (old new : List ℕ) (s : ℕ) : Type 0 where
   pub members : (t : ℕ) → has_student new t ≡ (not (s == t) && has_student old t)
   pub size : length old ≡ (if has_student old s then length new + 1 else length new)
   pub ascending : IsAscending new
-
--- why a student is not put in: she is new, and there is no room
-abbrev pub RefusesStudent : List ℕ → ℕ → Bool → ModelFault → Type 0
-RefusesStudent xs s full NoSuch = ⊥
-RefusesStudent xs s full Range = (has_student xs s ≡ false) × (full ≡ true)
-RefusesStudent xs s full NoMemory = Unit {0}

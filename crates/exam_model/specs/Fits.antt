@@ -1,5 +1,5 @@
 -- What is taken together fits: one number of exams throughout, and places that exist.
-use Rattle.std.specs.Prelude.{◌≡◌, ℕ, ◌<◌, List, length, All, Option, Some, None, option_map}
+use Rattle.std.specs.Prelude.{◌≡◌, ℕ, ◌<◌, length, All, Option, Some, None, option_map}
 use Rattle.exam_model.specs.declared.parts.Place.{Place}
 use Rattle.exam_model.specs.Instance.{Session}
 use Rattle.exam_model.specs.Enrolments.{Enrolled}

@@ -37,7 +37,9 @@ impl Enrolments {
     {
         let mut rolls: Vec<Roll> = Vec::new(alloc);
         'rolls: for _ in 0..exams {
-            rolls.push(Roll::new(alloc))?;
+            rolls
+                .push(Roll::new(alloc))
+                .map_err(|_| ModelFault::NoMemory)?;
         }
         Ok(Enrolments { rolls, pairs: 0 })
     }
@@ -120,7 +122,10 @@ impl Enrolments {
         let Some(roll) = self.rolls.get_mut(exam.get() as usize) else {
             return Err(ModelFault::NoSuch);
         };
-        let fresh = roll.add(student, full)?;
+        if full && !roll.has(student) {
+            return Err(ModelFault::Range);
+        }
+        let fresh = roll.add(student)?;
         if fresh {
             self.pairs += 1;
         }

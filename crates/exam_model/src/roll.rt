@@ -1,8 +1,7 @@
 // The students of one exam, ascending: contracts see the list of their numbers.
-ghost use Rattle.std.specs.Prelude.{◌≡◌, ℕ, List, [], true, false, IfOk, IfErr, OnOk, OnErr, not};
-ghost use Rattle.exam_model.specs.Enrolments.{IsAscending, IsAt, IsGap, Enters, Leaves, RefusesStudent, has_student};
+ghost use Rattle.std.specs.Prelude.{◌≡◌, ℕ, List, [], IfOk, IfErr, OnOk, OnErr, not};
+ghost use Rattle.exam_model.specs.Enrolments.{IsAscending, IsAt, IsGap, Enters, Leaves, has_student};
 
-use crate::fault::ModelFault;
 use crate::numbers::StudentNo;
 use std::alloc::{AllocError, Global};
 use std::marker::Model;
@@ -46,41 +45,30 @@ impl Roll {
         self.students.extend_from_slice(students)
     }
 
-    // Where the student is, or where she would go: behind all at once, if she is greater.
-    #[tactic(auto, using(crate::proofs::RollLemmas::gap_at_end))]
+    // Where the student is, or where she would go.
     fn search(&self, student: StudentNo) -> Result<usize, usize>
         ensures found { IfOk result (IsAt self.now student) }
         ensures absent { IfErr result (IsGap self.now student) }
     {
-        match self.students.last() {
-            Some(last) if *last >= student => self.students.binary_search(&student),
-            _ => Err(self.students.len()),
-        }
+        self.students.binary_search(&student)
     }
 
     #[tactic(auto, using(crate::proofs::RollLemmas::roll_facts))]
     pub fn has(&self, student: StudentNo) -> bool
         ensures { result ≡ has_student self.now student }
     {
-        match self.search(student) {
-            Ok(_) => true,
-            Err(_) => false,
-        }
+        self.search(student).is_ok()
     }
 
-    // Puts a student in unless the roll is full, and answers whether she is new.
+    // Puts a student in, and answers whether she is new.
     #[tactic(auto, using(crate::proofs::RollLemmas::roll_facts))]
-    pub fn add(&mut self, student: StudentNo, full: bool) -> Result<bool, ModelFault>
+    pub fn add(&mut self, student: StudentNo) -> Result<bool, AllocError>
         ensures fresh { IfOk result (λ fresh. fresh ≡ not (has_student self.old student)) }
         ensures ok { OnOk result (Enters self.old self.new student) }
         ensures err { OnErr result (self.new ≡ self.old) }
-        ensures within { IfOk result (λ fresh. fresh ≡ true → full ≡ false) }
-        ensures refused { IfErr result (RefusesStudent self.old student full) }
     {
         match self.search(student) {
             Ok(_) => return Ok(false),
-            Err(_) if full => return Err(ModelFault::Range),
-            Err(at) if at == self.students.len() => self.students.push(student)?,
             Err(at) => self.students.insert(at, student)?,
         }
         Ok(true)

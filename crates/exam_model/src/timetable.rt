@@ -81,11 +81,7 @@ impl Timetable {
             → IsSome (place_of self.now e)) }
         ensures first { IfSome result (IsFirstUnplaced self.now) }
     {
-        for (at, place) in self.places.iter().enumerate() {
-            if place.is_none() {
-                return Some(ExamNo::new(at as u32));
-            }
-        }
-        None
+        let first = self.places.iter().position(|place| place.is_none())?;
+        Some(ExamNo::new(first as u32))
     }
 }

@@ -1,5 +1,5 @@
 -- The costs of all pairs of periods as a table: a line for each period.
-use Rattle.std.specs.Prelude.{◌≡◌, ℕ, ◌<◌, List, length, Some, slice_get}
+use Rattle.std.specs.Prelude.{◌≡◌, ◌≢◌, ℕ, ◌<◌, ◌≤◌, List, length, Some, slice_get}
 use Rattle.exam_model.specs.Instance.{Session}
 use Rattle.exam_score.specs.Cost.{row_cost, day_cost, spread_cost}
 use Rattle.exam_score.specs.declared.lines.PairCosts.{PairCosts}
@@ -22,8 +22,14 @@ pub record IsLine (s : Session) (p : ℕ) (line : List PairCosts) : Type 0 where
 pub record IsFree (s : Session) (p n : ℕ) : Type 0 where
   pub each : (q : ℕ) → q < n → costs_of s p q ≡ record { row = 0; day = 0; spread = 0 }
 
--- a line for each period, and how many periods before the first that costs anything
+-- period n is the first that costs anything with period p; n is their number where none does
+pub record IsFirstCost (s : Session) (p n : ℕ) : Type 0 where
+  pub free : IsFree s p n
+  pub within : n ≤ length s.periods
+  pub costs : n < length s.periods → costs_of s p n ≢ record { row = 0; day = 0; spread = 0 }
+
+-- a line for each period, and the first period that costs anything with it
 pub record IsTable (s : Session) (lines : List Line) : Type 0 where
   pub count : length lines ≡ length s.periods
   pub each : (p : ℕ) (line : Line) → slice_get lines p ≡ Some line → IsLine s p line.costs.items
-  pub free : (p : ℕ) (line : Line) → slice_get lines p ≡ Some line → IsFree s p line.first
+  pub first : (p : ℕ) (line : Line) → slice_get lines p ≡ Some line → IsFirstCost s p line.first

@@ -1,6 +1,6 @@
 // The costs of all pairs of periods, each looked up once.
-ghost use Rattle.std.specs.Prelude.{◌≡◌, ◌<◌, ℕ, true, length, IfOk};
-ghost use Rattle.exam_score.specs.Lines.{costs_of, IsFree, IsLine, IsTable};
+ghost use Rattle.std.specs.Prelude.{◌≡◌, ◌<◌, ℕ, ◌↔◌, IsTrue, length, IfOk};
+ghost use Rattle.exam_score.specs.Lines.{costs_of, IsFirstCost, IsLine, IsTable};
 
 use crate::pair_costs::{DayCost, RowCost, SpreadCost};
 use exam_model::{Instance, PairCost, PeriodNo};
@@ -63,7 +63,7 @@ fn costs_between(instance: &Instance, period: PeriodNo, other: PeriodNo) -> Pair
 // The first period that costs anything with a period, by its line; none is the number of periods.
 fn first_cost(instance: &Instance, line: &[PairCosts], period: PeriodNo) -> u32
     requires { IsLine instance.now period line.now }
-    ensures { IsFree instance.now period result }
+    ensures { IsFirstCost instance.now period result }
 {
     for other in 0..instance.periods() {
         let costs = costs_in(instance, line, period, PeriodNo::new(other));
@@ -75,7 +75,7 @@ fn first_cost(instance: &Instance, line: &[PairCosts], period: PeriodNo) -> u32
 }
 
 fn is_free(costs: PairCosts) -> bool
-    ensures { result ≡ true → costs ≡ record { row = 0; day = 0; spread = 0 } }
+    ensures { IsTrue result ↔ (costs ≡ record { row = 0; day = 0; spread = 0 }) }
 {
     costs.row == 0 && costs.day == 0 && costs.spread == 0
 }

@@ -1,5 +1,5 @@
 // How many exams each student has in each period.
-ghost use Rattle.std.specs.Prelude.{◌≡◌, ℕ, ◌+◌, ◌-◌, ◌%◌, ◌^◌, ◌≤◌, ◌<◌, true, length, slice_index, slice_index_or, slice_set, sum_by, All, AllPairs, IfOk, OnOk};
+ghost use Rattle.std.specs.Prelude.{◌≡◌, ℕ, ◌+◌, ◌-◌, ◌%◌, ◌^◌, ◌≤◌, ◌<◌, ◌↔◌, IsTrue, length, slice_index, slice_index_or, slice_set, sum_by, All, AllPairs, IfOk, OnOk};
 ghost use Rattle.exam_model.specs.Enrolments.{size_of};
 ghost use Rattle.exam_score.specs.Rows.{row_at};
 ghost use Rattle.exam_score.specs.Tallies.{tally_sum, slot_of, AreCounted, AreFiled, AreLinked, Grows, Extends};
@@ -200,7 +200,7 @@ fn slot_of(student: StudentNo, slots: u32) -> usize
 // Whether the tally before this place is one of that student in that period, and not full.
 fn extends(tallies: &[Tally], before: u32, student: StudentNo, period: PeriodNo) -> bool
     requires within { before ≤ length tallies.now }
-    ensures { result ≡ true → Extends tallies.now before student period }
+    ensures { IsTrue result ↔ Extends tallies.now before student period }
 {
     if before == 0 {
         return false;

@@ -1,7 +1,7 @@
 // Row, day and spread: each tally beside the earlier ones of its student.
 ghost use Rattle.std.specs.Prelude.{◌≡◌, ℕ, ◌-◌, ◌≤◌, ◌<◌, length, take, slice_index_or, sum_by, IfSome, IfNone};
 ghost use Rattle.exam_score.specs.Cost.{row_cost, day_cost, spread_cost};
-ghost use Rattle.exam_score.specs.Lines.{IsLine, IsTable, IsFree};
+ghost use Rattle.exam_score.specs.Lines.{IsLine, IsTable, IsFirstCost};
 ghost use Rattle.exam_score.specs.Tallies.{tally_beside, tally_cost, row_count, AreLinked, IsReached};
 ghost use Rattle.exam_score.specs.declared.tallies.Tally.{Tally};
 
@@ -81,7 +81,7 @@ fn along(instance: &Instance, line: &Line, tallies: &[Tally], at: usize, tally: 
     requires within { at < length tallies.now }
     requires here { (d : Tally) → slice_index_or tallies.now at d ≡ tally.now }
     requires line { IsLine instance.now tally.now.period line.now.costs.items }
-    requires free { IsFree instance.now tally.now.period line.now.first }
+    requires first { IsFirstCost instance.now tally.now.period line.now.first }
     requires linked { AreLinked tallies.now }
     requires few { row_count tallies.now ≤ 200000 }
     ensures row { result.row
@@ -112,6 +112,7 @@ fn along(instance: &Instance, line: &Line, tallies: &[Tally], at: usize, tally: 
 fn reached(tallies: &[Tally], next: u32, first: u32) -> Option<Tally>
     requires within { next ≤ length tallies.now }
     ensures some { IfSome result (IsReached tallies.now next) }
+    ensures useful { IfSome result (λ other. first ≤ other.period) }
     ensures none { IfNone result ((d : Tally) → 0 < next
         → (slice_index_or tallies.now (next - 1) d).period < first) }
 {

@@ -11,7 +11,7 @@ returns-then-extends-clause-counted c =
     let xs = c.args.tallies.now.items in
     let n = c.index-before.result.now in
     let x = c.index-tally.result.now in
-    let last : Extends xs n c.args.student c.args.period = subst (λ ys. Extends ys n c.args.student c.args.period) c.deref.ensures.value (c.extends.ensures c.if-extends.true) in
+    let last : Extends xs n c.args.student c.args.period = subst (λ ys. Extends ys n c.args.student c.args.period) c.deref.ensures.value (c.extends.ensures.0 c.if-extends.true) in
     let within : n - 1 < length xs = place_within c.args.slots xs c.args.last.now.items c.slot_of-slot.result n c.args.student c.args.period c.requires.filed c.slot_of-slot.ensures.exists c.index-before.ensures last in
     let student : x.student ≡ c.args.student = ap (λ z. z.student) c.index-tally.ensures ∙ last.student x in
     let period : x.period ≡ c.args.period = ap (λ z. z.period) c.index-tally.ensures ∙ last.period x in
@@ -23,7 +23,7 @@ returns-then-extends-clause-filed c =
     let xs = c.args.tallies.now.items in
     let n = c.index-before.result.now in
     let x = c.index-tally.result.now in
-    let last : Extends xs n c.args.student c.args.period = subst (λ ys. Extends ys n c.args.student c.args.period) c.deref.ensures.value (c.extends.ensures c.if-extends.true) in
+    let last : Extends xs n c.args.student c.args.period = subst (λ ys. Extends ys n c.args.student c.args.period) c.deref.ensures.value (c.extends.ensures.0 c.if-extends.true) in
     let within : n - 1 < length xs = place_within c.args.slots xs c.args.last.now.items c.slot_of-slot.result n c.args.student c.args.period c.requires.filed c.slot_of-slot.ensures.exists c.index-before.ensures last in
     let y : Tally = record { student = x.student; period = x.period; exams = x.exams + 1; before = x.before } in
     filed_alike c.args.slots xs (set xs (n - 1) y) c.args.last.now.items

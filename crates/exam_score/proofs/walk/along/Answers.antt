@@ -120,15 +120,15 @@ returns c =
     let le : n ≤ length xs = omega (arith, c.loop-other.invariant.within, c.requires.within) in
     record {
       row =
-          let end = walk_ends c.loop-other.invariant.linked.slots (row_cost s.periods s.weights) xs y n first c.loop-other.invariant.linked.links le (λ q lt. ap (λ z. z.row) (c.requires.free.each q lt)) c.in_default.ensures.none in
+          let end = walk_ends c.loop-other.invariant.linked.slots (row_cost s.periods s.weights) xs y n first c.loop-other.invariant.linked.links le (λ q lt. ap (λ z. z.row) (c.requires.first.free.each q lt)) c.in_default.ensures.none in
           let was = c.loop-other.invariant.row in
           omega arith;
       day =
-          let end = walk_ends c.loop-other.invariant.linked.slots (day_cost s.periods s.weights) xs y n first c.loop-other.invariant.linked.links le (λ q lt. ap (λ z. z.day) (c.requires.free.each q lt)) c.in_default.ensures.none in
+          let end = walk_ends c.loop-other.invariant.linked.slots (day_cost s.periods s.weights) xs y n first c.loop-other.invariant.linked.links le (λ q lt. ap (λ z. z.day) (c.requires.first.free.each q lt)) c.in_default.ensures.none in
           let was = c.loop-other.invariant.day in
           omega arith;
       spread =
-          let end = walk_ends c.loop-other.invariant.linked.slots (spread_cost s.periods s.weights) xs y n first c.loop-other.invariant.linked.links le (λ q lt. ap (λ z. z.spread) (c.requires.free.each q lt)) c.in_default.ensures.none in
+          let end = walk_ends c.loop-other.invariant.linked.slots (spread_cost s.periods s.weights) xs y n first c.loop-other.invariant.linked.links le (λ q lt. ap (λ z. z.spread) (c.requires.first.free.each q lt)) c.in_default.ensures.none in
           let was = c.loop-other.invariant.spread in
           omega arith;
     }

@@ -1,6 +1,8 @@
-use Rattle.std.proofs.Common.{sym}
-use Rattle.exam_model.proofs.RollLemmas.{has_gap}
+use Rattle.std.proofs.Common.{◌∙◌}
+use Rattle.exam_model.proofs.RollLemmas.{has_searched}
 use Rattle.exam_model.proofs.roll.Roll.has.Goals as goal
 
-pub returns-in-Err : goal.returns-in-Err
-returns-in-Err c = sym (has_gap _ _ _ c.in-Err.ensures.absent)
+pub returns : goal.returns
+returns c =
+    c.is_ok.ensures.value
+    ∙ has_searched _ _ _ c.search.ensures.found c.search.ensures.absent
