@@ -93,16 +93,6 @@ below_more {test} {i} {before} {after} {added} so_far adds is =
     step : (e : ℕ) (b : Bool) → ((nat_lt e i && b) || ((i == e) && b)) ≡ (nat_lt e (i + 1) && b)
     step e b = grind (arith, nat_tests)
 
--- an exam with no pairs that pass
-pub below_skip : {test : ℕ → ℕ → Bool} {i : ℕ} {found : List ExamPair} → AreFoundBelow test i found
-    → ((f : ℕ) → test i f ≡ false) → AreFoundBelow test (i + 1) found
-below_skip {test} {i} {found} so_far none =
-    below_more so_far (λ e f. sym (or_false (list_any (is_pair e f) found))) (λ e f. skipped e f (i == e) refl)
-  where
-    skipped : (e f : ℕ) (b : Bool) → (i == e) ≡ b → false ≡ (b && test e f)
-    skipped e f true same = sym (none f) ∙ ap (λ k. test k f) (eqb-true i e same)
-    skipped e f false other = refl
-
 pub below_all : {test : ℕ → ℕ → Bool} {i n : ℕ} {found : List ExamPair} → AreFoundBelow test i found → i ≡ n
     → ((e f : ℕ) → test e f ≡ true → (e < n) × (f < n)) → HasJust test n found
 below_all {test} {i} {n} {found} all end exist = record {

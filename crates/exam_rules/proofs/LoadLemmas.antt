@@ -29,15 +29,6 @@ this_place : (E : Enrolled) (T : Placing) (p : Place) (i : ℕ) → where_placed
     → load_below E T p (i + 1) ≡ load_below E T p i + size_of E i
 this_place E T p i here = rw add-one (ap (λ b. load_below E T p i + cond b (size_of E i) 0) here)
 
--- an exam without a place
-pub loads_skip : {E : Enrolled} {T : Placing} {periods rooms i : ℕ} {loads : List ℕ}
-    → AreLoads E T periods rooms i loads → place_of T i ≡ None → AreLoads E T periods rooms (i + 1) loads
-loads_skip {E} {T} {periods} {rooms} {i} {loads} so_far unplaced = record {
-  count = so_far.count;
-  each = λ p hp hr. so_far.each p hp hr ∙ sym (other_place E T p i (ap (where_placed (is_one_place p)) unplaced));
-  small = λ k. omega (arith, so_far.small k);
-}
-
 -- an exam at place q
 pub loads_more : {E : Enrolled} {T : Placing} {periods rooms i : ℕ} {loads : List ℕ} {q : Place} {load : ℕ}
     → AreLoads E T periods rooms i loads → place_of T i ≡ Some q → q.period < periods → q.room < rooms
