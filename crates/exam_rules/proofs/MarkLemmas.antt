@@ -88,11 +88,13 @@ cleared_more {old} {students} {i} {slots} x so_far within here = record {
     slot = omega (arith, so_far.count)
 
     stays : (k : ℕ) → get_or slots k 0 ≡ 0 → get_or (slice_set slots (x % 65536) 0) k 0 ≡ 0
-    stays k h = elim (cases_eq k (x % 65536)) as (λ _. get_or (slice_set slots (x % 65536) 0) k 0 ≡ 0) [
-      | inl same ↦ ap (λ j. get_or (slice_set slots (x % 65536) 0) j 0) same
-          ∙ get_or-set_same slots (x % 65536) 0 0 slot
-      | inr other ↦ get_or-set_other slots (x % 65536) k 0 0 other ∙ h
-    ]
+    stays k h =
+        let after = slice_set slots (x % 65536) 0 in
+        elim (cases_eq k (x % 65536)) as (λ _. get_or after k 0 ≡ 0) [
+          | inl same ↦
+              ap (λ j. get_or after j 0) same ∙ get_or-set_same slots (x % 65536) 0 0 slot
+          | inr other ↦ get_or-set_other slots (x % 65536) k 0 0 other ∙ h
+        ]
 
     cleared : (s : ℕ) → (has_student (take i students) s ≡ true) ⊎ (x ≡ s)
         → get_or (slice_set slots (x % 65536) 0) (s % 65536) 0 ≡ 0

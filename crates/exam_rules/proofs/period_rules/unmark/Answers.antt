@@ -7,7 +7,8 @@ use Rattle.exam_rules.proofs.period_rules.unmark.Goals as goal
 pub exams-preserved : goal.exams-preserved
 exams-preserved c e s among sits =
     let x : ℕ = c.exam-item.result in
-    elim (before_or_here c.args.group.now c.exams.exam-index x e c.exams-test.true c.exam-item.is among)
+    let group = c.args.group.now in
+    elim (before_or_here group c.exams.exam-index x e c.exams-test.true c.exam-item.is among)
     as (λ _. marks_of c.clear.new.self s ≡ 0) [
       | inl before ↦ c.clear.ensures.kept s (c.exams.invariant e s before sits)
       | inr same ↦ c.clear.ensures.cleared s (ap (λ xs. has_student xs s) c.students.ensures.all
