@@ -1,5 +1,6 @@
 -- What is known of a run from its parts.
-use Rattle.std.proofs.Common.{◌≡◌, ◌∙◌, ℕ, ◌⊎◌, List, [], ◌∷◌, Option, Some, None, IfSome, inl, inr, sym, subst}
+use Rattle.std.proofs.Common.{◌≡◌, ◌∙◌, ℕ, ◌⊎◌, List, [], ◌∷◌, Option, Some, None, IfSome}
+use Rattle.std.proofs.Common.{inl, inr, sym, subst}
 use Rattle.std.specs.Io.KnownBytes.{Appends}
 use Rattle.exam_model.specs.Enrolments.{Enrolled}
 use Rattle.exam_model.specs.Instance.{Session}

@@ -1,5 +1,5 @@
 -- The lines of the program's own faults, as they are printed.
-use Rattle.std.specs.Prelude.{ℕ, ◌++◌, List, codes, decimal}
+use Rattle.std.specs.Prelude.{◌≡◌, ℕ, ◌++◌, List, codes, decimal}
 use Rattle.office_files.specs.declared.fault.FaultKind.{FaultKind}
 use Rattle.office_files.specs.declared.fault.FaultKind.TheVariants as kind
 use Rattle.office_files.specs.declared.fault.FileFault.{FileFault}
@@ -42,6 +42,11 @@ check_line instance solution (check.Instance f) = fault_line (fault.Instance f)
 check_line instance solution (check.Solution f) = fault_line (fault.Solution f)
 check_line instance solution check.Write = fault_line fault.CannotWrite
 check_line instance solution check.NoMemory = fault_line fault.NoMemory
+
+-- the fault shows as one of `check` on the files of two paths
+pub record IsOfCheck (instance solution : List ℕ) (shown : ProgramFault) : Type 0 where
+  pub of : CheckFault
+  pub line : fault_line shown ≡ check_line instance solution of
 
 -- the line for words that are no texts, without its end
 abbrev pub not_text_line : List ℕ

@@ -1,5 +1,5 @@
 // The whole program, over a file system and two writers.
-ghost use Rattle.std.specs.Prelude.{◌≡◌, ◌≢◌, ◌≤◌, ◌↔◌, ◌⊎◌, ◌++◌, ◌∷◌, [], IfOk, OnOk};
+ghost use Rattle.std.specs.Prelude.{◌≡◌, ◌≢◌, ◌≤◌, ◌↔◌, ◌⊎◌, ◌++◌, ◌∷◌, [], IfErr, IfOk, OnOk};
 ghost use Rattle.std.specs.Prelude.{map, string_bytes};
 ghost use Rattle.std.specs.Io.KnownBytes.{Appends};
 ghost use Rattle.std.specs.IoError.{error_kind};
@@ -9,6 +9,7 @@ ghost use Rattle.clap.specs.Faults.{fault_of};
 ghost use Rattle.clap.specs.declared.error.kind.ErrorKind.TheVariants as kind;
 ghost use Rattle.examoffice.specs.Check.{WritesReport};
 ghost use Rattle.examoffice.specs.FaultLines.{check_line, fault_line, not_text_line, number_of};
+ghost use Rattle.examoffice.specs.FaultLines.{IsOfCheck};
 ghost use Rattle.examoffice.specs.Program.{AreAnswered, IsMistake, program};
 
 use crate::checking::{CheckFault, check_run};
@@ -83,6 +84,9 @@ fn check<'a, R: Files + AllocGlobal, W: Write>(
 ) -> Result<u8, ProgramFault<'a>>
     ensures status { IfOk result (λ status. (status ≡ 0) ⊎ (status ≡ 3)) }
     ensures reported { IfOk result (WritesReport (W.contents out.old) (W.contents out.new)) }
+
+    // A line that names a file names one of the two.
+    ensures fault { IfErr result (IsOfCheck instance.now solution.now) }
 {
     let Ok(mut instance_file) = fs::open(rt, instance) else {
         return Err(ProgramFault::CannotRead(instance));
