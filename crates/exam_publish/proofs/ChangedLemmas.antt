@@ -57,19 +57,6 @@ right_step q rs qs above s = go (eqb q.student s)
     go true = sym (ap not (second_alone q (rows_of s rs) (rows_of s qs) (each_filter (RowBefore q) (λ row. eqb row.student s) rs above)))
     go false = refl
 
-pub both_step : (r q : SeatRow) (rs qs : List SeatRow) → r.student ≡ q.student → (s : ℕ)
-    → ((eqb r.student s && not (same_row r q)) || is_changed rs qs s) ≡ is_changed (r ∷ rs) (q ∷ qs) s
-both_step r q rs qs same s =
-    go (eqb r.student s) ∙ ap (λ n. not (same_rows (cond (eqb r.student s) (r ∷ rows_of s rs) (rows_of s rs)) (cond (eqb n s) (q ∷ rows_of s qs) (rows_of s qs)))) same
-  where
-    either : (a b : Bool) → (not a || not b) ≡ not (a && b)
-    either true b = refl
-    either false b = refl
-
-    go : (b : Bool) → ((b && not (same_row r q)) || not (same_rows (rows_of s rs) (rows_of s qs))) ≡ not (same_rows (cond b (r ∷ rows_of s rs) (rows_of s rs)) (cond b (q ∷ rows_of s qs) (rows_of s qs)))
-    go true = either (same_row r q) (same_rows (rows_of s rs) (rows_of s qs))
-    go false = refl
-
 -- ---- one list alone
 
 pub left_alone : (rows : List SeatRow) (s : ℕ) → is_changed rows [] s ≡ has_row rows s
@@ -141,26 +128,6 @@ step_right {old} {new} {left} {right} {found} {more} r q rs qs was l m lt is =
           ∙ or_assoc (has_student found s) (eqb q.student s) (is_changed left qs s)
           ∙ ap (λ b. has_student found s || b) (right_step q left qs above s) ∙ ap (λ xs. has_student found s || is_changed left xs s) (sym m) ∙ was.members s;
       left_order = was.left_order;
-      right_order = ms.1;
-    }
-
--- neither pair comes before the other
-one_student : (p q : Pair) → comes_before p q ≡ false → comes_before q p ≡ false → p.student ≡ q.student
-one_student p q h k = grind (arith, nat_tests, h, k)
-
-pub step_both : {old new left right : List SeatRow} {found more : List ℕ} (r q : SeatRow) (rs qs : List SeatRow) (differs : Bool) → IsCompared old new left right found
-    → left ≡ r ∷ rs → right ≡ q ∷ qs → comes_before (row_pair r) (row_pair q) ≡ false → comes_before (row_pair q) (row_pair r) ≡ false
-    → differs ≡ not (same_row r q) → ((s : ℕ) → has_student more s ≡ (has_student found s || (eqb r.student s && differs)))
-    → IsCompared old new rs qs more
-step_both {old} {new} {left} {right} {found} {more} r q rs qs differs was l m lt gt d is =
-    let ls = subst (IsChain RowBefore) l was.left_order in
-    let ms = subst (IsChain RowBefore) m was.right_order in
-    record {
-      members = λ s. ap (λ b. b || is_changed rs qs s) (is s ∙ ap (λ b. has_student found s || (eqb r.student s && b)) d)
-          ∙ or_assoc (has_student found s) (eqb r.student s && not (same_row r q)) (is_changed rs qs s)
-          ∙ ap (λ b. has_student found s || b) (both_step r q rs qs (one_student (row_pair r) (row_pair q) lt gt) s)
-          ∙ ap₂ (λ xs ys. has_student found s || is_changed xs ys s) (sym l) (sym m) ∙ was.members s;
-      left_order = ls.1;
       right_order = ms.1;
     }
 

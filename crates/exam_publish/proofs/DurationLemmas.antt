@@ -4,13 +4,13 @@ use Rattle.std.specs.List.Sorted.{IsStrictlySortedBy}
 use Rattle.std.specs.Ordering.{nat_cmp, ordering_then, eq_by_cmp}
 use Rattle.std.specs.Cmp.{then_total, on_total, nat_cmp_total, IsTotalOrder, IsEquivalence}
 use Rattle.std.specs.Prelude.{slice_get, slice_index, nat_lt, ◌==◌, ◌&&◌}
-use Rattle.std.proofs.Common.{◌≡◌, ℕ, ◌+◌, ◌-◌, ◌*◌, ◌<◌, ◌≤◌, ◌⊎◌, inl, inr, Bool, true, false, cond, ◌||◌, eqb, ltb, List, [], ◌∷◌, ◌++◌, length, get_or, Some, None, count_by, All, Contains, IsPermutation, IsSorted, Ordering, Less, refl, sym, ◌∙◌, ap, ap₂, subst, arith, add-zero, eqb-true, lt-ltb, length-append, one-mul}
+use Rattle.std.proofs.Common.{◌≡◌, ℕ, ◌+◌, ◌-◌, ◌*◌, ◌<◌, ◌≤◌, ◌⊎◌, inl, inr, Bool, true, false, cond, ◌||◌, eqb, ltb, List, [], ◌∷◌, ◌++◌, length, get_or, Some, count_by, All, Contains, IsPermutation, IsSorted, Ordering, Less, refl, sym, ◌∙◌, ap, ap₂, subst, arith, eqb-true, lt-ltb, length-append, one-mul}
 use Rattle.std.proofs.lemmas.Bool.{cases_eq, cases_lt, cond-true, ne_eqb, and_parts, and_from, eq-eqb, false_from_ne_true}
 use Rattle.std.proofs.lemmas.Bool.Decides.{nat_tests}
 use Rattle.std.proofs.lemmas.Nat.{same_from_place}
 use Rattle.std.proofs.lemmas.Option.{get_or_from_slice_get}
 use Rattle.std.proofs.lemmas.List.{get_or_past}
-use Rattle.std.proofs.lemmas.List.Elements.{All-nil, All-push, recursion_from_All}
+use Rattle.std.proofs.lemmas.List.Elements.{All-push, recursion_from_All}
 use Rattle.std.proofs.lemmas.List.Filters.{All-dedup}
 use Rattle.std.proofs.lemmas.List.Folds.{Any-from_list_any, list_any_at}
 use Rattle.std.proofs.lemmas.List.Kept.{Contains-dedup, Contains-from_dedup, IsStrictlySortedBy-dedup}
@@ -18,7 +18,7 @@ use Rattle.std.proofs.lemmas.List.Sorted.{list_any-IsPermutation, All-permutatio
 use Rattle.std.proofs.lemmas.List.Sums.{sum_by_push, sum_by-cons, count_by-le-length}
 use Rattle.exam_model.specs.Fits.{PlaceExists}
 use Rattle.exam_model.specs.Instance.{Session, IsInstance}
-use Rattle.exam_model.specs.Sums.{sum_below, count_below}
+use Rattle.exam_model.specs.Sums.{sum_below}
 use Rattle.exam_model.specs.Timetable.{Placing, place_of}
 use Rattle.exam_model.specs.declared.parts.Exam.{Exam}
 use Rattle.exam_model.specs.declared.parts.Place.{Place}
@@ -30,22 +30,6 @@ use Rattle.exam_publish.specs.Tallies.{AreTallied}
 use Rattle.exam_publish.proofs.SeatingLemmas.{slot_within}
 
 -- ---- one exam more
-
-pub stays_none : (I : Session) (T : Placing) (stays : List Stay) → stays ≡ [] → AreStaysBelow I T 0 stays
-stays_none I T stays none = record {
-  counts = λ p r m. ap (count_by (is_stay p r m)) none;
-  few = let h = ap length none in omega arith;
-  exist = subst (All (StayExists I)) (sym none) (All-nil (StayExists I));
-}
-
-pub stays_skip : (I : Session) (T : Placing) (e : ℕ) (stays : List Stay) → place_of T e ≡ None → AreStaysBelow I T e stays → AreStaysBelow I T (e + 1) stays
-stays_skip I T e stays unplaced was = record {
-  counts = λ p r m. was.counts p r m ∙ sym (add-zero (count_below e (lasts I T p r m)))
-      ∙ (λ i. count_below e (lasts I T p r m) + cond (is_at p r (sym unplaced i) && (minutes_of (slice_get I.exams e) == m)) 1 0)
-      ∙ sym (sum_below_more (λ e. cond (lasts I T p r m e) 1 0) e);
-  few = let h = was.few in omega arith;
-  exist = was.exist;
-}
 
 pub stays_more : (I : Session) (T : Placing) (e : ℕ) (stays : List Stay) (at : Place) (x : Exam) → place_of T e ≡ Some at → slice_get I.exams e ≡ Some x
     → StayExists I (record { period = at.period; room = at.room; minutes = x.minutes }) → AreStaysBelow I T e stays

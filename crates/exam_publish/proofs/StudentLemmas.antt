@@ -137,10 +137,6 @@ start I rows sorted shares none are = record {
   whole = λ s h. are.same s;
 }
 
-pub at_end : (I : Session) (rows rest : List SeatRow) (shares : List (ℕ × PersonalPenalty)) → IsShared I rows shares rest → rest ≡ [] → shares ≡ student_shares I rows
-at_end I rows rest shares was none =
-    sym (append-nil shares) ∙ ap (λ xs. shares ++ shares_in I rows (students_of xs)) (sym none) ∙ was.shared
-
 -- the first student's rows are all that she has
 pub own_is : (I : Session) (rows rest : List SeatRow) (shares : List (ℕ × PersonalPenalty)) (r : SeatRow) (n : ℕ) → IsShared I rows shares rest
     → r ≡ get_or rest 0 r → 0 < length rest → IsRun rest r.student n → take n rest ≡ rows_of r.student rows

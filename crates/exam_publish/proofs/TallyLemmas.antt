@@ -1,9 +1,9 @@
 -- Sums in a table: one element more, and the whole table as a list.
 use Rattle.std.specs.List.{range_with_len}
-use Rattle.std.proofs.Common.{◌≡◌, ℕ, zero, suc, ◌+◌, ◌*◌, ◌<◌, ◌≤◌, ◌⊎◌, inl, inr, Bool, false, cond, eqb, List, [], ◌∷◌, ◌++◌, length, get_or, map, count_by, refl, sym, ◌∙◌, ap, arith, length-append}
+use Rattle.std.proofs.Common.{◌≡◌, ℕ, zero, suc, ◌+◌, ◌*◌, ◌<◌, ◌≤◌, ◌⊎◌, inl, inr, Bool, cond, eqb, List, [], ◌∷◌, ◌++◌, length, get_or, map, count_by, refl, sym, ◌∙◌, ap, arith, length-append}
 use Rattle.std.specs.Prelude.{slice_set, slice_index, replicate}
 use Rattle.std.proofs.lemmas.Bool.{cases_eq, eq-eqb, ne_eqb}
-use Rattle.std.proofs.lemmas.List.{length-set, length-replicate, get_or-set_same, get_or-set_other, ext_get_or}
+use Rattle.std.proofs.lemmas.List.{length-set, get_or-set_same, get_or-set_other, ext_get_or}
 use Rattle.std.proofs.lemmas.List.FromFn.{length-map-range_with_len, get_or-map-range_with_len}
 use Rattle.std.proofs.lemmas.List.Sums.{sum_by_push}
 use Rattle.exam_publish.specs.Tallies.{AreTallied}
@@ -12,27 +12,6 @@ zeros : (n k : ℕ) → ◌≡◌ {A = ℕ} (get_or (replicate n 0) k 0) 0
 zeros zero k = refl
 zeros (suc n) zero = refl
 zeros (suc n) (suc k) = zeros n k
-
-pub tally_start : {X : Type 0} (amount : ℕ → ℕ) (test : ℕ → X → Bool) (n : ℕ) (sums : List ℕ) → sums ≡ replicate n 0 → AreTallied amount test n [] sums
-tally_start amount test n sums is = record {
-  count = ap length is ∙ length-replicate n 0;
-  each = λ k lt. ap (λ xs. get_or xs k 0) is ∙ zeros n k ∙ (let h : 0 ≡ amount k * 0 = omega arith in h);
-  small = λ k. let h = ap (λ xs. get_or xs k 0) is ∙ zeros n k in omega arith;
-}
-
-pub tally_skip : {X : Type 0} (amount : ℕ → ℕ) (test : ℕ → X → Bool) (n : ℕ) (xs : List X) (sums : List ℕ) (x : X)
-    → AreTallied amount test n xs sums → ((k : ℕ) → test k x ≡ false) → AreTallied amount test n (xs ++ x ∷ []) sums
-tally_skip {X} amount test n xs sums x was none = record {
-  count = was.count;
-  each = λ k lt. was.each k lt ∙ ap (λ c. amount k * c) (sym (same k));
-  small = λ k. let h = was.small k in let l = length-append xs (x ∷ []) in omega arith;
-}
-  where
-    same : (k : ℕ) → count_by (test k) (xs ++ x ∷ []) ≡ count_by (test k) xs
-    same k =
-        let push = sum_by_push (λ z. cond (test k z) 1 0) xs x in
-        let here : ◌≡◌ {A = ℕ} (cond (test k x) 1 0) 0 = ap (λ b. cond b 1 0) (none k) in
-        omega arith
 
 pub tally_more : {X : Type 0} (amount : ℕ → ℕ) (test : ℕ → X → Bool) (n : ℕ) (xs : List X) (sums : List ℕ) (x : X) (key new : ℕ)
     → AreTallied amount test n xs sums → key < n → ((k : ℕ) → test k x ≡ eqb key k) → amount key ≤ 100000

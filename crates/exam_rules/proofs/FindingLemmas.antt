@@ -1,6 +1,6 @@
 -- What a walk along a list has found so far.
 use Rattle.std.specs.List.{list_any}
-use Rattle.std.proofs.Common.{◌≡◌, ℕ, ◌+◌, ◌<◌, ◌≤◌, Bool, true, false, ◌&&◌, ◌||◌, ◌==◌, nat_lt, eqb-true, List, [], length, take, get_or, refl, sym, ◌∙◌, ap, ap₂, arith}
+use Rattle.std.proofs.Common.{◌≡◌, ℕ, ◌+◌, ◌<◌, ◌≤◌, Bool, true, false, ◌&&◌, ◌||◌, ◌==◌, nat_lt, List, [], length, take, get_or, refl, sym, ◌∙◌, ap, ap₂, arith}
 use Rattle.std.proofs.lemmas.Bool.{and_from, lt-ltb}
 use Rattle.std.proofs.lemmas.List.{take_all}
 use Rattle.std.proofs.lemmas.List.Folds.{list_any_more}
@@ -92,16 +92,6 @@ below_more {test} {i} {before} {after} {added} so_far adds is =
   where
     step : (e : ℕ) (b : Bool) → ((nat_lt e i && b) || ((i == e) && b)) ≡ (nat_lt e (i + 1) && b)
     step e b = grind (arith, nat_tests)
-
--- an exam with no pairs that pass
-pub below_skip : {test : ℕ → ℕ → Bool} {i : ℕ} {found : List ExamPair} → AreFoundBelow test i found
-    → ((f : ℕ) → test i f ≡ false) → AreFoundBelow test (i + 1) found
-below_skip {test} {i} {found} so_far none =
-    below_more so_far (λ e f. sym (or_false (list_any (is_pair e f) found))) (λ e f. skipped e f (i == e) refl)
-  where
-    skipped : (e f : ℕ) (b : Bool) → (i == e) ≡ b → false ≡ (b && test e f)
-    skipped e f true same = sym (none f) ∙ ap (λ k. test k f) (eqb-true i e same)
-    skipped e f false other = refl
 
 pub below_all : {test : ℕ → ℕ → Bool} {i n : ℕ} {found : List ExamPair} → AreFoundBelow test i found → i ≡ n
     → ((e f : ℕ) → test e f ≡ true → (e < n) × (f < n)) → HasJust test n found

@@ -32,35 +32,6 @@ group_exists {T} {periods} {n} {groups} are p within k d lt =
     let there = list_any_at (λ y. y == x) group k d lt (eq-eqb x x refl) in
     ltb-true x n (and_parts (nat_lt x n) (stands_in T p x) (sym (are.members p x within) ∙ there)).0
 
--- the pairs with an exam's group, as the rules on one period say it
-pub one_period_group : {T : Placing} {periods n : ℕ} {groups : List (List ℕ)} → AreGroups T periods n groups → length T ≡ n
-    → (k : ℕ) (q : Place) → place_of T k ≡ Some q → q.period < periods → (share : ℕ → ℕ → Bool) (e f : ℕ)
-    → (has_exam (get_or groups q.period []) f && ((k == e) && (nat_lt e f && share e f)))
-    ≡ ((k == e) && (nat_lt e f && (in_one_period T e f && share e f)))
-one_period_group {T} {periods} {n} {groups} are same k q placed within share e f =
-    ap (λ b. b && ((k == e) && (nat_lt e f && share e f))) (in_group are same q.period f within ∙ sym here)
-    ∙ at (k == e) refl
-  where
-    here : in_one_period T k f ≡ stands_in T q.period f
-    here = ap (λ o. where_both (λ p q. p.period == q.period) o (place_of T f)) placed
-
-    moved : (a b c : Bool) → (a && (b && c)) ≡ (b && (a && c))
-    moved true true c = refl
-    moved true false c = refl
-    moved false true c = refl
-    moved false false c = refl
-
-    at : (b : Bool) → (k == e) ≡ b → (in_one_period T k f && (b && (nat_lt e f && share e f))) ≡ (b && (nat_lt e f && (in_one_period T e f && share e f)))
-    at true is = ap (λ m. in_one_period T m f && (nat_lt e f && share e f)) (eqb-true k e is) ∙ moved (in_one_period T e f) (nat_lt e f) (share e f)
-    at false is = and_false (in_one_period T k f)
-
--- an exam without a place stands in no period with another
-pub no_period : (T : Placing) (k : ℕ) → place_of T k ≡ None → (share : ℕ → ℕ → Bool) (f : ℕ)
-    → (nat_lt k f && (in_one_period T k f && share k f)) ≡ false
-no_period T k unplaced share f =
-    ap (λ o. nat_lt k f && (where_both (λ p q. p.period == q.period) o (place_of T f) && share k f)) unplaced
-    ∙ and_false (nat_lt k f)
-
 -- the pairs with an exam's group, as the rule on rooms says it
 pub one_place_group : {T : Placing} {periods n : ℕ} {groups : List (List ℕ)} → AreGroups T periods n groups → length T ≡ n
     → (k : ℕ) (q : Place) → place_of T k ≡ Some q → q.period < periods → (e f : ℕ)

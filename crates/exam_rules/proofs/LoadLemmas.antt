@@ -1,5 +1,5 @@
 -- The table of loads, one more exam at a time.
-use Rattle.std.proofs.Common.{◌≡◌, ℕ, ◌+◌, ◌*◌, ◌^◌, ◌<◌, ◌≤◌, ◌⊎◌, inl, inr, true, false, cond, ◌==◌, List, length, get_or, slice_set, Some, None, sym, ◌∙◌, ap, ap₂, arith, add-one, eqb-true, eq-eqb}
+use Rattle.std.proofs.Common.{◌≡◌, ℕ, ◌+◌, ◌*◌, ◌^◌, ◌<◌, ◌≤◌, ◌⊎◌, inl, inr, true, false, cond, ◌==◌, List, length, get_or, slice_set, Some, sym, ◌∙◌, ap, ap₂, arith, add-one, eqb-true, eq-eqb}
 use Rattle.std.proofs.lemmas.Bool.{and_parts, and_from, cases_eq, false_from_ne_true}
 use Rattle.std.proofs.lemmas.List.{length-set, get_or-set_same, get_or-set_other}
 use Rattle.std.proofs.lemmas.Nat.{mul-add-lt, same_from_place}
@@ -28,15 +28,6 @@ other_place E T p i elsewhere =
 this_place : (E : Enrolled) (T : Placing) (p : Place) (i : ℕ) → where_placed (is_one_place p) (place_of T i) ≡ true
     → load_below E T p (i + 1) ≡ load_below E T p i + size_of E i
 this_place E T p i here = rw add-one (ap (λ b. load_below E T p i + cond b (size_of E i) 0) here)
-
--- an exam without a place
-pub loads_skip : {E : Enrolled} {T : Placing} {periods rooms i : ℕ} {loads : List ℕ}
-    → AreLoads E T periods rooms i loads → place_of T i ≡ None → AreLoads E T periods rooms (i + 1) loads
-loads_skip {E} {T} {periods} {rooms} {i} {loads} so_far unplaced = record {
-  count = so_far.count;
-  each = λ p hp hr. so_far.each p hp hr ∙ sym (other_place E T p i (ap (where_placed (is_one_place p)) unplaced));
-  small = λ k. omega (arith, so_far.small k);
-}
 
 -- an exam at place q
 pub loads_more : {E : Enrolled} {T : Placing} {periods rooms i : ℕ} {loads : List ℕ} {q : Place} {load : ℕ}

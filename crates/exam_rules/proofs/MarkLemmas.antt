@@ -69,6 +69,40 @@ marked_more {old} {students} {exam} {i} {slots} x so_far within here = record {
         ∙ ap (λ m. bit_at m (exam % 64)) (get_or-set_same slots (x % 65536) marks 0 slot)
         ∙ bit_at_set_same w64 (get_or slots (x % 65536) 0) (exam % 64) (omega arith)
 
+-- the first i students have no marks, nor has one who had none before
+pub record AreCleared (old students : List ℕ) (i : ℕ) (slots : List ℕ) : Type 0 where
+  pub count : length slots ≡ 65536
+  pub cleared : (s : ℕ) → has_student (take i students) s ≡ true → marks_of slots s ≡ 0
+  pub kept : (s : ℕ) → marks_of old s ≡ 0 → marks_of slots s ≡ 0
+
+pub cleared_more : {old students : List ℕ} {i : ℕ} {slots : List ℕ} (x : ℕ)
+    → AreCleared old students i slots → i < length students → x ≡ get_or students i x
+    → AreCleared old students (i + 1) (slice_set slots (x % 65536) 0)
+cleared_more {old} {students} {i} {slots} x so_far within here = record {
+  count = length-set slots (x % 65536) 0 ∙ so_far.count;
+  cleared = λ s h. cleared s (before_or_here students i x s within here h);
+  kept = λ s h. stays (s % 65536) (so_far.kept s h);
+}
+  where
+    slot : x % 65536 < length slots
+    slot = omega (arith, so_far.count)
+
+    stays : (k : ℕ) → get_or slots k 0 ≡ 0 → get_or (slice_set slots (x % 65536) 0) k 0 ≡ 0
+    stays k h =
+        let after = slice_set slots (x % 65536) 0 in
+        elim (cases_eq k (x % 65536)) as (λ _. get_or after k 0 ≡ 0) [
+          | inl same ↦
+              ap (λ j. get_or after j 0) same ∙ get_or-set_same slots (x % 65536) 0 0 slot
+          | inr other ↦ get_or-set_other slots (x % 65536) k 0 0 other ∙ h
+        ]
+
+    cleared : (s : ℕ) → (has_student (take i students) s ≡ true) ⊎ (x ≡ s)
+        → get_or (slice_set slots (x % 65536) 0) (s % 65536) 0 ≡ 0
+    cleared s (inl before) = stays (s % 65536) (so_far.cleared s before)
+    cleared s (inr same) =
+        ap (λ t. get_or (slice_set slots (x % 65536) 0) (t % 65536) 0) (sym same)
+        ∙ get_or-set_same slots (x % 65536) 0 0 slot
+
 -- what is marked for one of the first i students
 pub record AreOf (slots students : List ℕ) (i all : ℕ) : Type 0 where
   pub each : (s e : ℕ) → has_student (take i students) s ≡ true → Has (marks_of slots s) e → Has all e

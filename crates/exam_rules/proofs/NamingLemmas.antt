@@ -72,12 +72,6 @@ pub record AreFoundWith (a : ℕ) (test : ℕ → ℕ → Bool) (before : List E
   pub members : (e f : ℕ) → list_any (is_pair e f) found
       ≡ (list_any (is_pair e f) before || (is_with a i e f && test e f))
 
-pub with_none : {a : ℕ} {test : ℕ → ℕ → Bool} {before : List ExamPair} → AreFoundWith a test before 0 before
-with_none {a} {test} {before} = record { members = λ e f. nothing e f (list_any (is_pair e f) before) (test e f) }
-  where
-    nothing : (e f : ℕ) (b c : Bool) → b ≡ (b || (is_with a 0 e f && c))
-    nothing e f b c = grind (arith, nat_tests)
-
 -- one more exam, before a and behind it
 pub with_more : {a : ℕ} {test : ℕ → ℕ → Bool} {before : List ExamPair} {i : ℕ} {found two : List ExamPair}
     (one : List ExamPair) {first second : ℕ → ℕ → Bool}

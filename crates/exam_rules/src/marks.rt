@@ -1,5 +1,5 @@
 // Marks for students, by which most exams of a period are told apart without a look at the lists.
-ghost use Rattle.std.specs.Prelude.{◌≡◌, ℕ, true, ◌%◌, ◌==◌};
+ghost use Rattle.std.specs.Prelude.{◌≡◌, ℕ, true, ◌%◌, ◌==◌, replicate, IfOk};
 ghost use Rattle.std.specs.Int.{bit_at};
 ghost use Rattle.exam_model.specs.Enrolments.{has_student};
 ghost use Rattle.exam_rules.specs.Marks.{marks_of, Has};
@@ -29,7 +29,9 @@ impl Model for Marks {
 
 impl Marks {
     /// No marks.
-    pub fn new(alloc: Global) -> Result<Marks, AllocError> {
+    pub fn new(alloc: Global) -> Result<Marks, AllocError>
+        ensures { IfOk result (λ marks. marks ≡ replicate 65536 0) }
+    {
         let slots = vec![in alloc; 0u64; SLOTS]?;
         Ok(Marks { slots })
     }
@@ -62,7 +64,10 @@ impl Marks {
     }
 
     /// Takes all marks of these students away, so that the next period begins with few.
-    pub fn clear(&mut self, students: &[StudentNo]) {
+    pub fn clear(&mut self, students: &[StudentNo])
+        ensures cleared { (s : ℕ) → has_student students.now s ≡ true → marks_of self.new s ≡ 0 }
+        ensures kept { (s : ℕ) → marks_of self.old s ≡ 0 → marks_of self.new s ≡ 0 }
+    {
         'students: for student in students {
             let slot = student.get() as usize % SLOTS;
             self.slots[slot] = 0;

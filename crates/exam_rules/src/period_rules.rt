@@ -100,6 +100,8 @@ fn mark(marks: &mut Marks, group: &[ExamNo], enrolments: &Enrolments)
 // Takes the marks of a group away.
 fn unmark(marks: &mut Marks, group: &[ExamNo], enrolments: &Enrolments)
     requires exist { All (λ e. e < length enrolments.now) group.now }
+    ensures { (e s : ℕ) → has_exam group.now e ≡ true → has enrolments.now s e ≡ true
+        → marks_of marks.new s ≡ 0 }
 {
     'exams: for exam in group {
         marks.clear(enrolments.students(*exam));

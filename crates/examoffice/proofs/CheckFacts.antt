@@ -1,15 +1,17 @@
 -- What is known of a run from its parts.
-use Rattle.std.proofs.Common.{◌≡◌, ◌∙◌, ℕ, List, Option, Some, None, IfSome, sym, subst}
+use Rattle.std.proofs.Common.{◌≡◌, ◌∙◌, ℕ, ◌⊎◌, List, [], ◌∷◌, Option, Some, None, IfSome}
+use Rattle.std.proofs.Common.{inl, inr, sym, subst}
 use Rattle.std.specs.Io.KnownBytes.{Appends}
 use Rattle.exam_model.specs.Enrolments.{Enrolled}
 use Rattle.exam_model.specs.Instance.{Session}
 use Rattle.exam_model.specs.Timetable.{Placing}
+use Rattle.exam_rules.specs.declared.breach.Breach.{Breach}
 use Rattle.office_files.specs.FirstFault.{first_solution_fault}
 use Rattle.office_files.specs.InstanceText.{InstanceText}
 use Rattle.office_files.specs.SolutionText.{SolutionText}
 use Rattle.examoffice.specs.Inputs.{RefusesFile}
 use Rattle.examoffice.specs.Check.{IsRead, IsJudgement, Refuses, Reports, of_solution, report}
-use Rattle.examoffice.specs.Check.{exit_status}
+use Rattle.examoffice.specs.Check.{IsSomeJudgement, WritesReport, exit_status, status_of}
 use Rattle.examoffice.specs.declared.checking.CheckFault.{CheckFault}
 use Rattle.examoffice.specs.declared.reading.InputFault.{InputFault}
 use Rattle.examoffice.specs.declared.reading.InputFault.TheVariants.{Read, File, NoMemory}
@@ -50,6 +52,44 @@ written (Some instance) (Some solution) old new text answer known appended = rec
   read = known.read;
   written = subst (Appends old new) known.spells appended;
   status = known.status;
+}
+
+-- there is no other exit status
+pub one_of_two : (breaches : List Breach) (answer : ℕ) → answer ≡ status_of breaches
+    → (answer ≡ 0) ⊎ (answer ≡ 3)
+one_of_two [] answer is = inl is
+one_of_two (breach ∷ breaches) answer is = inr is
+
+-- readings of some two texts have a judgement
+pub some_judged : (a b : List ℕ) (session : Session) (enrolled : Enrolled) (placing : Placing)
+    (text : List ℕ) (answer : ℕ) → InstanceText a session enrolled
+    → SolutionText b session placing → text ≡ report session enrolled placing
+    → answer ≡ exit_status session enrolled placing → IsSomeJudgement text answer
+some_judged a b session enrolled placing text answer one two same status = record {
+  instance = a;
+  solution = b;
+  judged = record {
+    read = record {
+      first = record { session = session; enrolled = enrolled; spells = one };
+      placing = placing;
+      spells = two;
+    };
+    spells = same;
+    status = status;
+  };
+}
+
+-- a judgement of some two texts that is written
+pub some_written : (old new : Option (List ℕ)) (text : List ℕ) (answer : ℕ)
+    → IsSomeJudgement text answer → Appends old new text → WritesReport old new answer
+some_written old new text answer some appended = record {
+  instance = some.instance;
+  solution = some.solution;
+  reports = record {
+    read = some.judged.read;
+    written = subst (Appends old new) some.judged.spells appended;
+    status = some.judged.status;
+  };
 }
 
 -- what holds of the whole text that was read holds of the input

@@ -57,6 +57,18 @@ pub record Reports (instance solution : List ℕ) (old new : Option (List ℕ)) 
   pub written : Appends old new (report read.first.session read.first.enrolled read.placing)
   pub status : answer ≡ exit_status read.first.session read.first.enrolled read.placing
 
+-- whatever the texts were: some two have a reading, and these are its report and its status
+pub record IsSomeJudgement (text : List ℕ) (answer : ℕ) : Type 0 where
+  pub instance : List ℕ
+  pub solution : List ℕ
+  pub judged : IsJudgement instance solution text answer
+
+-- some two texts have a reading, its report is written, and its status is answered
+pub record WritesReport (old new : Option (List ℕ)) (answer : ℕ) : Type 0 where
+  pub instance : List ℕ
+  pub solution : List ℕ
+  pub reports : Reports instance solution old new answer
+
 -- what a fault of the instance's input is to the whole run
 abbrev pub of_instance : InputFault → CheckFault
 of_instance input.Read = fault.ReadInstance

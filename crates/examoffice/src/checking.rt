@@ -1,5 +1,6 @@
 // One solution judged.
-ghost use Rattle.std.specs.Prelude.{◌≡◌, ◌≢◌, ◌⊎◌, All, IfErr, IfOk, IfSome, length, string_bytes};
+ghost use Rattle.std.specs.Prelude.{◌≡◌, ◌≢◌, ◌⊎◌, ℕ, List, All, length, string_bytes};
+ghost use Rattle.std.specs.Prelude.{IfErr, IfOk, IfSome};
 ghost use Rattle.std.specs.Io.KnownBytes.{Keeps};
 ghost use Rattle.exam_model.specs.Fits.{Fits, PlaceExists};
 ghost use Rattle.office_files.specs.FirstFault.{first_fault, first_solution_fault};
@@ -7,7 +8,7 @@ ghost use Rattle.office_files.specs.InstanceText.{InstanceText};
 ghost use Rattle.office_files.specs.SolutionText.{SolutionText};
 ghost use Rattle.examoffice.specs.Inputs.{RefusesFile, TakesAtMost};
 ghost use Rattle.examoffice.specs.Check.{IsJudgement, Refuses, Reports, of_instance, of_solution};
-ghost use Rattle.examoffice.specs.Check.{exit_status, report};
+ghost use Rattle.examoffice.specs.Check.{IsSomeJudgement, WritesReport, exit_status, report};
 
 use crate::reading::{InputFault, whole_text};
 use crate::reports::{penalty_report, violation_report};
@@ -63,6 +64,7 @@ fn of_solution(fault: InputFault) -> CheckFault
 fn instance_of<R: Read>(alloc: Global, reader: &mut R) -> Result<(Instance, Enrolments), InputFault>
     ensures reading { IfOk result (λ read. IfSome (R.remaining reader.old)
         (λ input. InstanceText input read.0 read.1)) }
+    ensures spelled { IfOk result (λ read. (input : List ℕ) × InstanceText input read.0 read.1) }
     ensures refused { IfErr result (λ fault. IfSome (R.remaining reader.old)
         (λ input. RefusesFile (first_fault input) fault)) }
     ensures fits { IfOk result (λ read. length read.1 ≡ length read.0.exams) }
@@ -80,6 +82,8 @@ fn solution_of<R: Read>(
 ) -> Result<Timetable, InputFault>
     ensures reading { IfOk result (λ timetable. IfSome (R.remaining reader.old)
         (λ input. SolutionText input instance.now timetable)) }
+    ensures spelled { IfOk result (λ timetable.
+        (input : List ℕ) × SolutionText input instance.now timetable) }
     ensures refused { IfErr result (λ fault. IfSome (R.remaining reader.old)
         (λ input. RefusesFile (first_solution_fault instance.now input) fault)) }
     ensures fits { IfOk result (λ timetable. length timetable ≡ length instance.now.exams) }
@@ -127,6 +131,8 @@ fn judgement_of<R: Read, Q: Read>(
     ensures ok { IfOk result (λ judged. IfSome (R.remaining instance_reader.old) (λ instance.
         IfSome (Q.remaining solution_reader.old) (λ solution.
         IsJudgement instance solution (string_bytes judged.text) judged.status))) }
+    ensures judged { IfOk result (λ judged.
+        IsSomeJudgement (string_bytes judged.text) judged.status) }
     ensures within { IfOk result (λ judged. (judged.status ≡ 0) ⊎ (judged.status ≡ 3)) }
     ensures refused { IfErr result (λ fault. IfSome (R.remaining instance_reader.old) (λ instance.
         IfSome (Q.remaining solution_reader.old) (λ solution. Refuses instance solution fault))) }
@@ -162,6 +168,10 @@ pub fn check_run<R: Read, Q: Read, W: Write>(
         IfSome (Q.remaining solution_reader.old) (λ solution.
         Reports instance solution (W.contents writer.old) (W.contents writer.new) status))) }
     ensures status { IfOk result (λ status. (status ≡ 0) ⊎ (status ≡ 3)) }
+
+    // Also where the readers' bytes are not known, what is written is the report of two texts.
+    ensures reported { IfOk result
+        (WritesReport (W.contents writer.old) (W.contents writer.new)) }
 
     // In the order of the work: the instance, the solution, the report.
     ensures refused { IfErr result (λ fault. IfSome (R.remaining instance_reader.old) (λ instance.

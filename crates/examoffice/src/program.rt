@@ -1,5 +1,5 @@
 // The whole program, over a file system and two writers.
-ghost use Rattle.std.specs.Prelude.{◌≡◌, ◌≢◌, ◌≤◌, ◌↔◌, ◌⊎◌, ◌++◌, ◌∷◌, [], IfOk, OnOk};
+ghost use Rattle.std.specs.Prelude.{◌≡◌, ◌≢◌, ◌≤◌, ◌↔◌, ◌⊎◌, ◌++◌, ◌∷◌, [], IfErr, IfOk, OnOk};
 ghost use Rattle.std.specs.Prelude.{map, string_bytes};
 ghost use Rattle.std.specs.Io.KnownBytes.{Appends};
 ghost use Rattle.std.specs.IoError.{error_kind};
@@ -7,7 +7,9 @@ ghost use Rattle.std.specs.declared.io.ErrorKind.TheVariants as failure;
 ghost use Rattle.clap.specs.Words.{kind_of};
 ghost use Rattle.clap.specs.Faults.{fault_of};
 ghost use Rattle.clap.specs.declared.error.kind.ErrorKind.TheVariants as kind;
-ghost use Rattle.examoffice.specs.FaultLines.{fault_line, number_of};
+ghost use Rattle.examoffice.specs.Check.{WritesReport};
+ghost use Rattle.examoffice.specs.FaultLines.{check_line, fault_line, not_text_line, number_of};
+ghost use Rattle.examoffice.specs.FaultLines.{IsOfCheck};
 ghost use Rattle.examoffice.specs.Program.{AreAnswered, IsMistake, program};
 
 use crate::checking::{CheckFault, check_run};
@@ -59,6 +61,20 @@ impl fmt::Display for ProgramFault<'_> {
     }
 }
 
+// What a fault of `check` on two files is to the program.
+fn fault_on<'a>(fault: CheckFault, instance: &'a str, solution: &'a str) -> ProgramFault<'a>
+    ensures { fault_line result ≡ check_line instance.now solution.now fault }
+{
+    match fault {
+        CheckFault::ReadInstance => ProgramFault::CannotRead(instance),
+        CheckFault::ReadSolution => ProgramFault::CannotRead(solution),
+        CheckFault::Instance(fault) => ProgramFault::Instance(fault),
+        CheckFault::Solution(fault) => ProgramFault::Solution(fault),
+        CheckFault::Write => ProgramFault::CannotWrite,
+        CheckFault::NoMemory => ProgramFault::NoMemory,
+    }
+}
+
 // `check`. Both files are open before either is read.
 fn check<'a, R: Files + AllocGlobal, W: Write>(
     rt: &R,
@@ -66,7 +82,11 @@ fn check<'a, R: Files + AllocGlobal, W: Write>(
     solution: &'a str,
     out: &mut W,
 ) -> Result<u8, ProgramFault<'a>>
-    ensures { IfOk result (λ status. (status ≡ 0) ⊎ (status ≡ 3)) }
+    ensures status { IfOk result (λ status. (status ≡ 0) ⊎ (status ≡ 3)) }
+    ensures reported { IfOk result (WritesReport (W.contents out.old) (W.contents out.new)) }
+
+    // A line that names a file names one of the two.
+    ensures fault { IfErr result (IsOfCheck instance.now solution.now) }
 {
     let Ok(mut instance_file) = fs::open(rt, instance) else {
         return Err(ProgramFault::CannotRead(instance));
@@ -76,14 +96,7 @@ fn check<'a, R: Files + AllocGlobal, W: Write>(
     };
     match check_run(rt.alloc(), &mut instance_file, &mut solution_file, out) {
         Ok(status) => Ok(status),
-        Err(fault) => Err(match fault {
-            CheckFault::ReadInstance => ProgramFault::CannotRead(instance),
-            CheckFault::ReadSolution => ProgramFault::CannotRead(solution),
-            CheckFault::Instance(fault) => ProgramFault::Instance(fault),
-            CheckFault::Solution(fault) => ProgramFault::Solution(fault),
-            CheckFault::Write => ProgramFault::CannotWrite,
-            CheckFault::NoMemory => ProgramFault::NoMemory,
-        }),
+        Err(fault) => Err(fault_on(fault, instance, solution)),
     }
 }
 
@@ -123,6 +136,14 @@ fn refuse_words<O: Write, E: Write>(error: &Error, out: &mut O, err: &mut E) -> 
     }
 }
 
+// Prints the line for words that are no texts.
+fn print_not_text<W: Write>(err: &mut W) -> io::Result<()>
+    ensures { OnOk result
+        (Appends (W.contents err.old) (W.contents err.new) (not_text_line ++ 10 ∷ [])) }
+{
+    writeln!(err, "error: the words are not all UTF-8")
+}
+
 // Answers a command line that is no list of texts.
 pub fn refuse_arguments<E: Write>(fault: &io::Error, err: &mut E) -> u8
     ensures { (result ≡ 1) ↔ (error_kind fault.now ≡ failure.OutOfMemory) }
@@ -130,7 +151,7 @@ pub fn refuse_arguments<E: Write>(fault: &io::Error, err: &mut E) -> u8
     if fault.kind() == io::ErrorKind::OutOfMemory {
         return complain(ProgramFault::NoMemory, err);
     }
-    let _ = writeln!(err, "error: the words are not all UTF-8");
+    let _ = print_not_text(err);
     2
 }
 
@@ -150,6 +171,12 @@ pub fn run_program<R: Files + AllocGlobal, O: Write, E: Write>(
     ensures answered { result ≡ 0 → AreAnswered (map string_bytes words.now) }
     ensures mistake { result ≡ 2 → fault_of program (map string_bytes words.now) ≢ [] }
     ensures broken { result ≡ 3 → fault_of program (map string_bytes words.now) ≡ [] }
+
+    // A judgement is the report of two texts, written whole.
+    ensures reported { result ≡ 3
+        → WritesReport (O.contents out.old) (O.contents out.new) 3 }
+    ensures done { result ≡ 0 → fault_of program (map string_bytes words.now) ≡ []
+        → WritesReport (O.contents out.old) (O.contents out.new) 0 }
 {
     let task = match read_words(rt.alloc(), words) {
         Ok(task) => task,

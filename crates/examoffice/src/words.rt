@@ -1,5 +1,9 @@
 // The words of a command line.
+ghost use Rattle.std.specs.IoError.{error_kind};
+ghost use Rattle.std.specs.Iterator.{Drains};
 ghost use Rattle.std.specs.Prelude.{◌≡◌, IfErr, IfOk, false, map, string_bytes};
+ghost use Rattle.std.specs.Vec.Iter.{into_iter_steps};
+ghost use Rattle.std.specs.declared.io.ErrorKind.TheVariants as failure;
 ghost use Rattle.clap.specs.Words.{FailsBy, found_of, kind_of, rows_of, rule_of};
 ghost use Rattle.clap.specs.Words.{subcommand_of, subcommand_rows_of};
 ghost use Rattle.clap.specs.Faults.{fault_of};
@@ -9,12 +13,22 @@ ghost use Rattle.examoffice.specs.Program.{program, required_rule};
 
 use clap::{Arg, ArgMatches, Command, Error};
 use std::alloc::{AllocError, Global};
+use std::env::Args;
+use std::io;
 
 /// What the program is to do, with the paths of the files that it names.
 #[derive(Debug, Drop)]
 pub enum Task {
     /// Judges a solution: the instance's file, then the solution's.
     Check(String, String),
+}
+
+// The words of the command line, in their order.
+pub fn words_of(alloc: Global, args: Args) -> io::Result<Vec<String>>
+    ensures all { IfOk result (λ words. Drains into_iter_steps args words.items) }
+    ensures err { IfErr result (λ fault. error_kind fault ≡ failure.OutOfMemory) }
+{
+    Ok(args.collect(alloc)?)
 }
 
 // An argument that has to be there.

@@ -17,12 +17,6 @@ goes_on limit n ds =
     then (if nat_le (read_on n ds) limit then Ok (read_on n ds) else Err OutOfRange)
     else Err BadNumber
 
--- a field goes on from nothing
-pub goes_on-start : (limit : ℕ) (text : List ℕ) → 0 < length text →
-    goes_on limit 0 text ≡ number limit text
-goes_on-start limit [] some = absurd (omega arith)
-goes_on-start limit (b ∷ bs) some = rw (lt-ltb 0 (suc (length bs)) (omega arith)) refl
-
 -- further digits make no number smaller
 le-read_on : (n : ℕ) (ds : List ℕ) → n ≤ read_on n ds
 le-read_on n [] = omega arith

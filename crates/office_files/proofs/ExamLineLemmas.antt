@@ -184,37 +184,6 @@ pub record IsUpTo (xs : List ℕ) (least : ℕ) : Type 0 where
   pub ascending : IsAscending xs
   pub below : (k : ℕ) → k < length xs → slice_index xs k < least
 
-pub up_to_none : IsUpTo [] 0
-up_to_none = record { ascending = ascending-none; below = λ k within. absurd (omega arith) }
-
--- one more at the end
-pub up_to_push : (xs : List ℕ) (least x : ℕ) → IsUpTo xs least → least ≤ x →
-    IsUpTo (xs ++ x ∷ []) (x + 1)
-up_to_push xs least x is le = record { ascending = rises; below = under } where
-  size : length (xs ++ x ∷ []) ≡ length xs + 1
-  size = length-append xs (x ∷ [])
-
-  before : (k : ℕ) → k < length xs → slice_index (xs ++ x ∷ []) k ≡ slice_index xs k
-  before k within = get_or_append_left xs (x ∷ []) 0 k within
-
-  last : slice_index (xs ++ x ∷ []) (length xs) ≡ x
-  last = get_or_push xs x 0 (length xs) refl
-
-  rises : IsAscending (xs ++ x ∷ [])
-  rises i j lt within = elim (cases_lt j (length xs)) as (λ _. slice_index (xs ++ x ∷ []) i < slice_index (xs ++ x ∷ []) j) [
-    | inl inner ↦ rw (before i (omega arith), before j inner) (is.ascending i j lt inner)
-    | inr at_end ↦
-        let same : j ≡ length xs = omega (arith, size) in
-        let low = is.below i (omega (arith, size)) in
-        rw (same, last, before i (omega (arith, size))) (omega arith)
-  ]
-
-  under : (k : ℕ) → k < length (xs ++ x ∷ []) → slice_index (xs ++ x ∷ []) k < x + 1
-  under k within = elim (cases_lt k (length xs)) as (λ _. slice_index (xs ++ x ∷ []) k < x + 1) [
-    | inl inner ↦ rw (before k inner) (omega (arith, is.below k inner))
-    | inr at_end ↦ let same : k ≡ length xs = omega (arith, size) in rw (same, last) (omega arith)
-  ]
-
 -- numbers each below the next are ascending
 ascending-increasing : (xs : List ℕ) → IsStrictlyIncreasing xs → IsAscending xs
 ascending-increasing xs up i zero lt within = absurd (omega arith)

@@ -254,25 +254,7 @@ sections_are_instance said lines b1 b2 b3 b4 b5 b6 exams periods rooms on_period
       };
     }
 
--- six sections that were read one behind the other are an instance
-pub said_is_instance : (said : Spelled) (end : ℕ) (lines b1 b2 b3 b4 b5 b6 : List Located) →
-    section_in exams_heading exam_line end lines ≡ Ok (said.exams, b1) →
-    periods_in said.exams end b1 ≡ Ok (said.periods, b2) →
-    rooms_in said.exams end b2 ≡ Ok (said.rooms, b3) →
-    period_rules_in said.exams end b3 ≡ Ok (said.period_rules, b4) →
-    room_rules_in said.exams end b4 ≡ Ok (said.room_rules, b5) →
-    weightings_in said.exams end b5 ≡ Ok (said.weightings, b6) →
-    IsInstance (session_of said)
-said_is_instance said end lines b1 b2 b3 b4 b5 b6 exams periods rooms on_periods on_rooms weighed =
-    sections_are_instance said lines b1 b2 b3 b4 b5 b6
-    (section_is _ _ end lines said.exams b1 exams)
-    (section_is _ _ end b1 said.periods b2 periods)
-    (section_is _ _ end b2 said.rooms b3 rooms)
-    (section_is _ _ end b3 said.period_rules b4 on_periods)
-    (section_is _ _ end b4 said.room_rules b5 on_rooms)
-    (section_is _ _ end b5 said.weightings b6 weighed)
-
--- so is what the exams and the later sections said
+-- what the exams and the later sections said is an instance
 pub later_is_instance : (said : Spelled) (end : ℕ) (lines behind : List Located)
     (exams : List ExamLine) →
     section_in exams_heading exam_line end lines ≡ Ok (exams, behind) →
@@ -284,13 +266,3 @@ later_is_instance said end lines behind exams e more =
     sections_are_instance said lines behind s.behind_periods s.behind_rooms
     s.behind_period_rules s.behind_room_rules []
     (rw later.0 first) s.periods s.rooms s.period_rules s.room_rules s.weightings
-
--- and what was read of a file
-pub spelled_is_instance : (b : List ℕ) (I : Session) (E : Enrolled) → instance_in b ≡ Ok (I, E) →
-    IsInstance I
-spelled_is_instance b I E e =
-    let t = read_is_text b I E e in
-    let is = sections_are_instance t.said (lines_of b) t.behind_exams t.behind_periods
-    t.behind_rooms t.behind_period_rules t.behind_room_rules []
-    t.exams t.periods t.rooms t.period_rules t.room_rules t.weightings in
-    rw t.session is

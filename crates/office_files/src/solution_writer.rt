@@ -35,6 +35,10 @@ pub fn write_solution(alloc: Global, timetable: &Timetable) -> Result<Vec<u8>, F
         → IsIncomplete timetable.now fault) }
     ensures memory { IfErr result IsOfNoLine }
 
+    // Memory is asked for only where each exam has a place.
+    ensures placed { IfErr result (λ fault. fault.what ≡ FaultKind.NoMemory → (e : ℕ)
+        → e < length timetable.now → IsSome (place_of timetable.now e)) }
+
     // What is written reads back as the same, for each instance that the timetable fits.
     ensures spells { IfOk result (λ text. (I : Session) → SuitsTimetable I timetable.now
         → SolutionText text.items I timetable.now) }

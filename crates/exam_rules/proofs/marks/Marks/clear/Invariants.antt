@@ -1,5 +1,5 @@
-use Rattle.std.proofs.Common.{◌≡◌, length}
+use Rattle.exam_rules.proofs.MarkLemmas.{AreCleared}
 use Rattle.exam_rules.proofs.marks.Marks.clear.Given as goal
 
 abbrev pub invariant-students : goal.invariant-students
-invariant-students l = length l.self-inside.slots.items ≡ 65536
+invariant-students l = AreCleared l.fn.self l.students l.student-index l.self-inside.slots.items
