@@ -35,6 +35,3 @@ pub use rows::{
 };
 pub use schema_value::is_office_schema;
 pub use slots::{delete_slot, delete_slots, insert_slot, insert_slots, slots_of};
-
-#[cfg(test)]
-mod tests;

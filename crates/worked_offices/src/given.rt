@@ -1,0 +1,13 @@
+// What the examples share.
+use std::fmt::Debug;
+use std::process::Abort;
+
+/// Ends the test where the two differ, and says in which case.
+pub(crate) fn assert_same<T: PartialEq + Debug + Drop>(
+    rt: &impl Abort,
+    found: T,
+    wanted: T,
+    case: &str,
+) {
+    assert_eq!(rt; found, wanted, "{case}");
+}
