@@ -10,6 +10,3 @@ pub use callers::Caller;
 pub use command::{Body, Command};
 pub use numbers::read_number;
 pub use policy::{Denial, allowed};
-
-#[cfg(test)]
-mod tests;

@@ -21,8 +21,3 @@ pub use pages::Page;
 pub use requests::{Asked, Refusal, read_request};
 pub use routes::{Routes, one_page};
 pub use texts::FixedError;
-
-#[cfg(test)]
-mod request_tests;
-#[cfg(test)]
-mod tests;

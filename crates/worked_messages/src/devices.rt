@@ -1,7 +1,7 @@
-//! A small machine, and readers and writers that come in pieces or fail.
+// A small machine, and readers and writers that come in pieces or fail.
 ghost use Rattle.std.specs.Prelude.{⊤};
 
-use crate::{
+use office_http::{
     Allow, Content, Machine, Payload, Reply, Request, ServeFault, Served, Status, serve,
     unavailable,
 };
@@ -14,7 +14,7 @@ const NO_EXAMS: &[u8] = b"{\"candidate\":99,\"exams\":[],\"penalty\":0}";
 
 /// A machine that counts what it answers.
 #[derive(Drop)]
-pub(super) struct Board {
+pub(crate) struct Board {
     pub answered: u32,
 }
 
@@ -61,7 +61,7 @@ impl Machine for Board {
 
 /// A reader that gives a few bytes at a time.
 #[derive(Drop)]
-pub(super) struct Pieces<'a> {
+pub(crate) struct Pieces<'a> {
     pub rest: &'a [u8],
     pub size: usize,
     pub turn: u64,
@@ -106,7 +106,7 @@ impl Read for Pieces<'_> {
 
 /// A writer that fails at once.
 #[derive(Drop)]
-pub(super) struct Deaf {
+struct Deaf {
     pub tried: u32,
 }
 
@@ -121,9 +121,20 @@ impl Write for Deaf {
     }
 }
 
-/// What `serve` answers on a stream of which the reader gives so many bytes at a time, and what
-/// it writes.
-pub(super) fn run(
+/// What `serve` answers on what the reader gives, and what it writes.
+pub(crate) fn served(
+    alloc: Global,
+    reader: &mut Pieces<'_>,
+    turns: u64,
+) -> (Result<Served, ServeFault>, Vec<u8>) {
+    let mut written = Vec::new(alloc);
+    let mut board = Board { answered: 0 };
+    let served = serve(alloc, reader, &mut written, &mut board, turns);
+    (served, written)
+}
+
+/// The same on a stream of which the reader gives so many bytes at a time.
+pub(crate) fn run(
     alloc: Global,
     stream: &[u8],
     size: usize,
@@ -131,24 +142,40 @@ pub(super) fn run(
 ) -> (Result<Served, ServeFault>, Vec<u8>) {
     let mut reader = Pieces::of(stream, size);
     reader.interrupts = interrupts;
-    let mut written = Vec::new(alloc);
+    served(alloc, &mut reader, 10_000_000)
+}
+
+/// What `serve` answers where nothing can be written, and how many messages were answered.
+pub(crate) fn unheard(alloc: Global, stream: &[u8]) -> (Result<Served, ServeFault>, u32) {
+    let mut reader = Pieces::of(stream, stream.len());
     let mut board = Board { answered: 0 };
-    let served = serve(alloc, &mut reader, &mut written, &mut board, 10_000_000);
-    (served, written)
+    let mut deaf = Deaf { tried: 0 };
+    let served = serve(alloc, &mut reader, &mut deaf, &mut board, 9);
+    (served, board.answered)
+}
+
+fn agrees(
+    (outcome, written): (Result<Served, ServeFault>, Vec<u8>),
+    served: Served,
+    replies: &[u8],
+) -> bool {
+    outcome == Ok(served) && written.as_slice() == replies
 }
 
 /// Whether the stream has this outcome in every cutting into equal pieces, if it is short, and
 /// these bytes are written.
-pub(super) fn is_served_so(alloc: Global, stream: &[u8], served: Served, replies: &[u8]) -> bool {
+pub(crate) fn is_served_so(alloc: Global, stream: &[u8], served: Served, replies: &[u8]) -> bool {
     let sizes: usize = if stream.len() > 1_000 { 4 } else { 80 };
     for size in 1..sizes {
         for interrupts in [false, true] {
-            let (outcome, written) = run(alloc, stream, size, interrupts);
-            if outcome != Ok(served) || written.as_slice() != replies {
+            if !agrees(run(alloc, stream, size, interrupts), served, replies) {
                 return false;
             }
         }
     }
-    let (outcome, written) = run(alloc, stream, stream.len().max(1), false);
-    outcome == Ok(served) && written.as_slice() == replies
+    agrees(
+        run(alloc, stream, stream.len().max(1), false),
+        served,
+        replies,
+    )
 }

@@ -1,3 +1,0 @@
-mod devices;
-mod loopback;
-mod messages;

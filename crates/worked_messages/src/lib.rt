@@ -1,0 +1,15 @@
+//! Worked examples of the messages and of what may be asked, by subject, with values from outside.
+#![tactic(auto)]
+
+#[cfg(test)]
+mod devices;
+#[cfg(test)]
+mod given;
+#[cfg(test)]
+mod loopback;
+#[cfg(test)]
+mod messages;
+#[cfg(test)]
+mod policy;
+#[cfg(test)]
+mod requests;

@@ -1,0 +1,54 @@
+// A connection over a socket of this machine.
+use crate::devices::Board;
+use crate::given::assert_same;
+use office_http::{End, Served, drain, serve};
+use std::alloc::Global;
+use std::io;
+use std::io::{Read, Write};
+use std::net::{Ipv4Addr, Shutdown, SocketAddr, TcpListener, TcpStream};
+
+const REQUEST: &[u8] =
+    b"GET /me HTTP/1.1\r\nHost: office\r\nX-Caller: cand:99\r\nConnection: close\r\n\r\n";
+
+const REPLY: &[u8] = b"HTTP/1.1 200 OK\r\nContent-Type: application/json\r\n\
+Content-Length: 39\r\n\r\n{\"candidate\":99,\"exams\":[],\"penalty\":0}";
+
+// Serves one end of a connection, and drains it; whether it ended as it was asked to.
+fn serves(alloc: Global, stream: TcpStream) -> bool {
+    let mut board = Board { answered: 0 };
+    let served = serve(alloc, &mut &stream, &mut &stream, &mut board, 100);
+    let asked = Served {
+        answered: 1,
+        end: End::Asked,
+    };
+    drain(&mut &stream, 100).is_ok() && served == Ok(asked)
+}
+
+// Asks on a socket, and goes on behind what is answered.
+fn ask(asking: &mut TcpStream) -> io::Result<()> {
+    asking.write_all(REQUEST)?;
+    asking.write_all(REQUEST)?;
+    asking.write_all(&[b'x'; 20_000])?;
+    asking.shutdown(Shutdown::Write)
+}
+
+// Asks on a socket; serves the other end, and reads what came back. What lies unread would reset
+// the connection, were the other end closed at once.
+fn talk(rt: &HostRuntime) -> io::Result<(bool, Vec<u8>)> {
+    let listener = TcpListener::bind(rt, SocketAddr::from((Ipv4Addr::LOCALHOST, 0)))?;
+    let mut asking = TcpStream::connect(rt, listener.local_addr()?)?;
+    ask(&mut asking)?;
+    let (stream, _) = listener.accept()?;
+    let is_served = serves(rt.alloc(), stream);
+    let mut reply = Vec::new(rt.alloc());
+    asking.read_to_end(&mut reply)?;
+    Ok((is_served, reply))
+}
+
+#[test]
+fn a_socket_is_served(rt: HostRuntime) -> io::Result<()> {
+    let (is_served, reply) = talk(&rt)?;
+    assert_same(&rt, is_served, true, "outcome");
+    assert_same(&rt, reply.as_slice(), REPLY, "reply");
+    Ok(())
+}
