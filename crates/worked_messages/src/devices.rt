@@ -125,11 +125,11 @@ impl Write for Deaf {
 pub(crate) fn served(
     alloc: Global,
     reader: &mut Pieces<'_>,
+    board: &mut Board,
     turns: u64,
 ) -> (Result<Served, ServeFault>, Vec<u8>) {
     let mut written = Vec::new(alloc);
-    let mut board = Board { answered: 0 };
-    let served = serve(alloc, reader, &mut written, &mut board, turns);
+    let served = serve(alloc, reader, &mut written, board, turns);
     (served, written)
 }
 
@@ -142,16 +142,18 @@ pub(crate) fn run(
 ) -> (Result<Served, ServeFault>, Vec<u8>) {
     let mut reader = Pieces::of(stream, size);
     reader.interrupts = interrupts;
-    served(alloc, &mut reader, 10_000_000)
+    let mut board = Board { answered: 0 };
+    served(alloc, &mut reader, &mut board, 10_000_000)
 }
 
-/// What `serve` answers where nothing can be written, and how many messages were answered.
-pub(crate) fn unheard(alloc: Global, stream: &[u8]) -> (Result<Served, ServeFault>, u32) {
+/// What `serve` answers where nothing can be written.
+pub(crate) fn unheard(
+    alloc: Global,
+    stream: &[u8],
+    board: &mut Board,
+) -> Result<Served, ServeFault> {
     let mut reader = Pieces::of(stream, stream.len());
-    let mut board = Board { answered: 0 };
-    let mut deaf = Deaf { tried: 0 };
-    let served = serve(alloc, &mut reader, &mut deaf, &mut board, 9);
-    (served, board.answered)
+    serve(alloc, &mut reader, &mut Deaf { tried: 0 }, board, 9)
 }
 
 fn agrees(

@@ -1,5 +1,5 @@
 // Messages of a connection: their replies, and how it ends.
-use crate::devices::{Pieces, is_served_so, run, served, unheard};
+use crate::devices::{Board, Pieces, is_served_so, run, served, unheard};
 use crate::given::assert_same;
 use office_http::{End, ServeFault, Served};
 use std::alloc::{AllocError, Global};
@@ -41,7 +41,7 @@ fn repeated(alloc: Global, part: &[u8], times: usize) -> Result<Vec<u8>, AllocEr
     Ok(whole)
 }
 
-// Whether each stream has the one outcome and reply in every cutting.
+// Ends the test where a stream has another outcome or reply in some cutting.
 fn are_served<R: Abort>(rt: &R, alloc: Global, streams: &[&[u8]], outcome: Served, reply: &[u8]) {
     for stream in streams {
         assert_same(
@@ -217,7 +217,8 @@ fn a_faulty_head_is_answered_at_once(rt: HostRuntime) {
     let faulty: &[u8] = b"\r\n\r\nGET /me HTTP/1.1\r\r\n\r\n";
     let mut reader = Pieces::of(faulty, 1);
     reader.endless = true;
-    let (outcome, written) = served(rt.alloc(), &mut reader, 40);
+    let mut board = Board { answered: 0 };
+    let (outcome, written) = served(rt.alloc(), &mut reader, &mut board, 40);
     assert_same(&rt, outcome, Ok(ended(1, End::Refused)), "outcome");
     assert_same(&rt, written.as_slice(), REQUEST_REPLY, "reply");
 }
@@ -226,15 +227,16 @@ fn a_faulty_head_is_answered_at_once(rt: HostRuntime) {
 fn failing_reader_and_writer(rt: HostRuntime) {
     let mut reader = Pieces::of(ME, ME.len());
     reader.fails_at = 2;
-    let (outcome, written) = served(rt.alloc(), &mut reader, 9);
+    let mut board = Board { answered: 0 };
+    let (outcome, written) = served(rt.alloc(), &mut reader, &mut board, 9);
     assert_same(&rt, outcome, Err(ServeFault::Read), "a failing reader");
     assert_same(&rt, written.as_slice(), ME_REPLY, "its reply");
-    let (outcome, answered) = unheard(rt.alloc(), ME);
+    let outcome = unheard(rt.alloc(), ME, &mut board);
     assert_same(&rt, outcome, Err(ServeFault::Write), "a failing writer");
-    assert_same(&rt, answered, 1, "its message");
+    assert_same(&rt, board.answered, 2, "messages answered");
     let mut reader = Pieces::of(b"", 1);
     reader.endless = true;
-    let (outcome, _) = served(rt.alloc(), &mut reader, 3);
+    let (outcome, _) = served(rt.alloc(), &mut reader, &mut board, 3);
     assert_same(&rt, outcome, Err(ServeFault::TooMany), "too many turns");
 }
 

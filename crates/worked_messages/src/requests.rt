@@ -65,7 +65,7 @@ fn refusal<'a>(
     }
 }
 
-// Whether these requests of one caller are answered so.
+// Ends the test where a request of this caller is refused otherwise.
 fn refuses<'a, R: Abort>(
     rt: &R,
     alloc: Global,
@@ -83,7 +83,7 @@ fn refuses<'a, R: Abort>(
 #[test]
 fn refusals_in_order(rt: HostRuntime) -> Result<(), Fail> {
     let alloc = rt.alloc();
-    let everyone = [
+    let office = [
         ("GET", "/drafts/123456789", None),
         (
             "POST",
@@ -98,7 +98,7 @@ fn refusals_in_order(rt: HostRuntime) -> Result<(), Fail> {
         ("get", "/drafts/1", Some(Refusal::Method(Page::Draft))),
         ("HEAD", "/drafts/1", Some(Refusal::Method(Page::Draft))),
     ];
-    refuses(&rt, alloc, "office", &everyone)?;
+    refuses(&rt, alloc, "office", &office)?;
     let department = [("PUT", "/instance", None), ("GET", "/me", None)];
     refuses(&rt, alloc, "dept:3", &department)?;
     let nobody = Some(Refusal::Caller);
