@@ -37,6 +37,11 @@ fn three_slots() -> [SlotRow; 3] {
     [slot(1, 0, 0, 0), slot(1, 2, 3, 1), slot(2, 0, 1, 1)]
 }
 
+// Those of draft 1.
+fn slots_of_the_first() -> [SlotRow; 2] {
+    [slot(1, 0, 0, 0), slot(1, 2, 3, 1)]
+}
+
 // A database with the tables, and nothing in them.
 fn created(alloc: Global) -> Result<Connection<MemStore>, Fail> {
     let mut conn = Connection::open_in_memory(alloc)?;
@@ -101,8 +106,14 @@ fn holds<R: Abort>(
 fn rows_come_back(rt: HostRuntime) -> Result<(), Fail> {
     let pairs = [(2, 0), (1, 0), (2, 1)].map(|(student, exam)| EnrolRow { student, exam });
     let mut conn = filled(rt.alloc(), &pairs)?;
-    let slots = three_slots();
-    holds(&rt, rt.alloc(), &mut conn, &[OWNER], &[DRAFT], &slots[..2])?;
+    holds(
+        &rt,
+        rt.alloc(),
+        &mut conn,
+        &[OWNER],
+        &[DRAFT],
+        &slots_of_the_first(),
+    )?;
     let others = owners_of(rt.alloc(), &mut conn, 1)?;
     assert_same(&rt, others.len(), 0, "owners of exam 1");
     let by_exam = [pairs[1], pairs[0], pairs[2]];
