@@ -15,10 +15,10 @@ use Rattle.office_tables.specs.Tables.{Tables, Stands as Held, empty_tables, Met
 use Rattle.office_tables.specs.declared.rows.EnrolRow.{EnrolRow}
 use Rattle.office_store.specs.Changes.{session_put}
 use Rattle.office_store.specs.Commands.{fresh, counts_of, loaded}
-use Rattle.office_store.specs.Office.{OfficeState, Records, AreRecords, AreEnrolled}
-use Rattle.office_store.specs.Running.{Memory, memory_of}
+use Rattle.office_records.specs.Office.{OfficeState, Records, AreRecords, AreEnrolled}
+use Rattle.office_records.specs.Office.{Memory, memory_of}
 use Rattle.office_store.specs.declared.fault.StoreFault.TheVariants.{Loaded}
-use Rattle.office_store.specs.Stands.{StandsLoaded, IsKept, enrol_row, meta_row}
+use Rattle.office_records.specs.Stands.{StandsLoaded, IsKept, enrol_row, meta_row}
 
 -- ---- the rows of pairs
 

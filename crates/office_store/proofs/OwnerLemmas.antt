@@ -9,15 +9,15 @@ use Rattle.office_tables.specs.Tables.{Tables, Stands as Held}
 use Rattle.office_tables.specs.Changes.{without_owner, with_owner}
 use Rattle.office_tables.specs.declared.rows.OwnerRow.{OwnerRow}
 use Rattle.office_store.specs.Changes.{owner_put}
-use Rattle.office_store.specs.Office.{OfficeState, Records, AreRecords, set_at}
+use Rattle.office_records.specs.Office.{OfficeState, Records, AreRecords, set_at}
 use Rattle.exam_draft.specs.Edits.{exam_exists}
 use Rattle.exam_draft.specs.declared.fault.EditFault.TheVariants.{NoSuch}
 use Rattle.office_store.specs.Commands.{owned, owner_in}
-use Rattle.office_store.specs.Stands.{Stands, StandsLoaded, IsSound, IsKept, owners_at, some_dept}
+use Rattle.office_records.specs.Stands.{Stands, StandsLoaded, IsSound, IsKept, owners_at, some_dept}
 use Rattle.office_store.specs.declared.fault.Refusal.TheVariants.{Edit}
 use Rattle.office_store.specs.declared.fault.StoreFault.TheVariants.{Refused}
-use Rattle.office_store.proofs.KeyLemmas.{none_of, all_of_other}
-use Rattle.office_store.proofs.MemoryLemmas.{same_one}
+use Rattle.office_records.proofs.KeyLemmas.{none_of, all_of_other}
+use Rattle.office_records.proofs.MemoryLemmas.{same_one}
 
 -- the rows of the exam that is set, and of the others
 module _ (t : Tables) (r : Records) (e d : ℕ) (h : StandsLoaded t r) where

@@ -7,11 +7,12 @@ use Rattle.sqlite.specs.State.{State, HasCleanDisk}
 use Rattle.sqlite.specs.Effect.{Database}
 use Rattle.office_tables.specs.Steps.{Keeps}
 use Rattle.office_tables.specs.Tables.{Tables, Stands as Held}
-use Rattle.office_store.specs.Office.{OfficeState, Records}
-use Rattle.office_store.specs.Running.{Now, Memory, memory_of, IsAtRest, IsAwake, IsStill}
-use Rattle.office_store.specs.Stands.{IsKept}
+use Rattle.office_records.specs.Office.{OfficeState, Records}
+use Rattle.office_records.specs.Office.{Memory, memory_of}
+use Rattle.office_store.specs.Running.{Now, IsAtRest, IsAwake, IsStill}
+use Rattle.office_records.specs.Stands.{IsKept}
 use Rattle.office_store.specs.Turning.{Undone}
-use Rattle.office_store.proofs.MemoryLemmas.{same_memory}
+use Rattle.office_records.proofs.MemoryLemmas.{same_memory}
 
 -- ---- nothing has changed
 

@@ -9,7 +9,7 @@ use Rattle.office_tables.specs.Tables.{Tables}
 use Rattle.office_tables.specs.declared.rows.DraftRow.{DraftRow}
 use Rattle.office_tables.specs.declared.rows.EnrolRow.{EnrolRow}
 use Rattle.office_tables.specs.declared.rows.SlotRow.{SlotRow}
-use Rattle.office_store.specs.Stands.{slot_row}
+use Rattle.office_records.specs.Stands.{slot_row}
 
 -- a session is put in, with its enrolments
 abbrev pub session_put : List ℕ → List EnrolRow → Tables → Tables

@@ -1,17 +1,19 @@
 -- What each command makes of the office, its refusals in their order. A refusal changes nothing: it
 -- has no new office.
-use Rattle.std.specs.Prelude.{◌≡◌, ℕ, ◌&&◌, ◌==◌, nat_le, List, [], ◌∷◌, length, Option, Some, None, is_none, Result, Ok, Err}
+use Rattle.std.specs.Prelude.{◌≡◌, ℕ, Bool, ◌&&◌, ◌==◌, nat_le, List, [], ◌∷◌, length, Option, Some, None, is_none, Result, Ok, Err}
 use Rattle.exam_model.specs.Enrolments.{Enrolled, pair_count}
 use Rattle.exam_model.specs.Instance.{Session}
 use Rattle.exam_model.specs.Refusing.{◌>>=◌, unless, else_err}
 use Rattle.exam_model.specs.Timetable.{Placing, unplaced}
-use Rattle.exam_score.specs.Penalty.{total_of}
+use Rattle.exam_score.specs.Penalty.{Penalty, total_of}
 use Rattle.exam_score.specs.Track.{track}
 use Rattle.exam_draft.specs.Edits.{Edited, exam_exists, after_place, after_move, after_swap, after_clear}
 use Rattle.exam_draft.specs.declared.fault.EditFault.TheVariants.{NoSuch}
 use Rattle.office_files.specs.InstanceText.{instance_in}
 use Rattle.office_files.specs.SolutionText.{solution_in}
-use Rattle.office_store.specs.Office.{OfficeState, Records, set_at}
+use Rattle.office_records.specs.Office.{OfficeState, Records, set_at}
+use Rattle.office_store.specs.declared.edit.Edit.{Edit}
+use Rattle.office_store.specs.declared.edit.Edit.TheVariants as edit
 use Rattle.office_store.specs.declared.loading.Loaded as loading
 use Rattle.office_store.specs.declared.fault.Refusal.TheVariants as refusal
 use Rattle.office_store.specs.declared.fault.StoreFault.{StoreFault}
@@ -63,3 +65,65 @@ owned exam dept office = do
 abbrev pub owner_in : ℕ → OfficeState → ℕ
 owner_in exam None = 0
 owner_in exam (Some r) = r.owner_of exam
+
+-- ---- drafts
+
+-- the penalty of a timetable with the live enrolments
+abbrev pub penalty_now : Records → Placing → ℕ
+penalty_now r T = total_of (track r.session r.enrolments T)
+
+-- a timetable with no exam placed, or the one that a text spells
+abbrev pub first_timetable : List ℕ → Session → Result Placing StoreFault
+first_timetable [] I = Ok (unplaced (length I.exams))
+first_timetable (b ∷ bytes) I = named (λ f. Refused (refusal.File f)) (solution_in I (b ∷ bytes))
+
+abbrev pub is_draft_number : ℕ → Bool
+is_draft_number d = nat_le 1 d && nat_le d 8
+
+abbrev pub draft_made : ℕ → List ℕ → OfficeState → Gives ℕ
+draft_made d bytes office = do
+  r ← when_loaded office
+  _ ← unless (is_draft_number d) NoDraft
+  _ ← unless (is_none (r.draft d)) DraftTaken
+  T ← first_timetable bytes r.session
+  Ok (penalty_now r T, Some (record r { draft = set_at d (Some T) r.draft }))
+
+abbrev pub draft_dropped : ℕ → OfficeState → Gives (Unit {0})
+draft_dropped d office = do
+  r ← when_loaded office
+  _ ← else_err NoDraft (r.draft d)
+  Ok (tt, Some (record r { draft = set_at d None r.draft }))
+
+-- the timetable of a draft, if there is one
+abbrev pub draft_in : ℕ → OfficeState → Option Placing
+draft_in d None = None
+draft_in d (Some r) = r.draft d
+
+-- ---- what is shown
+
+abbrev pub session_shown : OfficeState → Gives (Session × Enrolled)
+session_shown office = do
+  r ← when_loaded office
+  Ok ((r.session, r.enrolments), office)
+
+-- a draft, with its penalty
+abbrev pub draft_shown : ℕ → OfficeState → Gives (Placing × Penalty)
+draft_shown d office = do
+  r ← when_loaded office
+  T ← else_err NoDraft (r.draft d)
+  Ok ((T, track r.session r.enrolments T), office)
+
+-- ---- edits
+
+abbrev pub edited : Session → Enrolled → Placing → Edit → Edited
+edited I E T (edit.Place e at) = after_place I E T e at
+edited I E T (edit.Move e at) = after_move I E T e at
+edited I E T (edit.Swap a b) = after_swap I E T a b
+edited I E T (edit.Clear e) = after_clear I T e
+
+abbrev pub draft_edited : ℕ → Edit → OfficeState → Gives ℕ
+draft_edited d change office = do
+  r ← when_loaded office
+  T ← else_err NoDraft (r.draft d)
+  new ← named (λ f. Refused (refusal.Edit f)) (edited r.session r.enrolments T change)
+  Ok (penalty_now r new, Some (record r { draft = set_at d (Some new) r.draft }))

@@ -1,6 +1,5 @@
-pub mod Office
 pub mod Commands
-pub mod Stands
 pub mod Changes
+pub mod Faults
 pub mod Turning
 pub mod Running

@@ -6,8 +6,8 @@ use Rattle.sqlite.specs.Held.{Held, state}
 use Rattle.sqlite.specs.State.{State, HasCleanDisk}
 use Rattle.sqlite.specs.Store.{Ghosts}
 use Rattle.office_store.specs.Commands.{Gives}
-use Rattle.office_store.specs.Office.{OfficeState, Records}
-use Rattle.office_store.specs.Stands.{IsKept}
+use Rattle.office_records.specs.Office.{OfficeState, Memory, memory_of}
+use Rattle.office_records.specs.Stands.{IsKept}
 use Rattle.office_store.specs.declared.fault.StoreFault.{StoreFault}
 use Rattle.office_store.specs.declared.fault.StoreFault.TheVariants.{Store, BadSchema}
 
@@ -46,13 +46,6 @@ Reads store says old new result =
     → Shows (says office) office (Now (state store new)) result
 
 -- ---- what is kept in memory
-
--- the session and its live enrolments
-abbrev pub Memory : Type 0
-Memory = Option (Session × Enrolled)
-
-abbrev pub memory_of : OfficeState → Memory
-memory_of office = option_map (λ r. (r.session, r.enrolments)) office
 
 -- over a clean disk, while it is open, the file stands for an office, of which this is in memory
 abbrev pub IsAtRest : State → Memory → Type 0

@@ -3,6 +3,7 @@ ghost use Rattle.std.specs.Prelude.{◌≡◌, ◌≢◌};
 
 use exam_draft::EditFault;
 use office_files::{FaultKind, FileFault};
+use office_records::RecordFault;
 use sqlite::Error;
 use std::alloc::AllocError;
 
@@ -70,6 +71,20 @@ impl StoreFault {
         match fault.what {
             FaultKind::NoMemory => StoreFault::Store,
             _ => StoreFault::Refused(Refusal::File(fault)),
+        }
+    }
+}
+
+impl From<RecordFault> for StoreFault {
+    ghost use Rattle.office_store.specs.Faults.{store_fault};
+    ghost use Rattle.std.specs.Prelude.{◌≡◌};
+
+    ghost from_gives = { λ fault e. e ≡ store_fault fault };
+
+    fn from(fault: RecordFault) -> StoreFault {
+        match fault {
+            RecordFault::NoMemory => StoreFault::Store,
+            RecordFault::BadRows => StoreFault::BadSchema,
         }
     }
 }

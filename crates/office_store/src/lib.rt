@@ -1,12 +1,15 @@
 //! The office over its tables: one SQLite file that stands for an examination session.
 #![tactic(auto)]
 
+mod drafting;
+mod edit;
 mod fault;
 mod loading;
 mod office;
 mod owning;
 mod transactions;
 
+pub use edit::Edit;
 pub use fault::{Refusal, StoreFault};
 pub use loading::Loaded;
 pub use office::Office;

@@ -8,7 +8,7 @@ ghost use Rattle.exam_model.specs.Pairs.{pairs_at, pairs_of};
 ghost use Rattle.office_files.specs.CanonicalText.{canonical_instance};
 ghost use Rattle.office_store.specs.Commands.{counts_of, loaded};
 ghost use Rattle.office_store.specs.Running.{Runs};
-ghost use Rattle.office_store.specs.Stands.{enrol_row};
+ghost use Rattle.office_records.specs.Stands.{enrol_row};
 
 use crate::fault::StoreFault;
 use crate::office::Office;

@@ -3,9 +3,9 @@ ghost use Rattle.std.specs.Prelude.{◌≡◌, ◌≤◌, IfErr, IfOk, map};
 ghost use Rattle.sqlite.specs.Held.{state};
 ghost use Rattle.sqlite.specs.State.{HasCleanDisk};
 ghost use Rattle.office_store.specs.Commands.{owned, owner_in};
-ghost use Rattle.office_store.specs.Office.{OfficeState};
+ghost use Rattle.office_records.specs.Office.{OfficeState};
 ghost use Rattle.office_store.specs.Running.{Now, Reads, Runs};
-ghost use Rattle.office_store.specs.Stands.{some_dept};
+ghost use Rattle.office_records.specs.Stands.{some_dept};
 
 use crate::fault::{Refusal, StoreFault};
 use crate::office::Office;

@@ -2,15 +2,16 @@
 ghost use Rattle.std.specs.Prelude.{◌≡◌, ◌<◌, ◌≤◌, ◌^◌, false, OnOk, OnErr};
 ghost use Rattle.sqlite.specs.Held.{state};
 ghost use Rattle.sqlite.specs.State.{HasCleanDisk};
+ghost use Rattle.office_tables.specs.Amounts.{AreAmounts};
 ghost use Rattle.office_tables.specs.Schema.{no_schema, IsBlank};
 ghost use Rattle.office_tables.specs.Steps.{Changes, Within};
 ghost use Rattle.office_tables.specs.Tables.{Stands, empty_tables};
-ghost use Rattle.office_store.specs.Changes.{owner_put, session_put};
+ghost use Rattle.office_store.specs.Changes.{draft_put, draft_removed, owner_put, session_put};
 ghost use Rattle.office_store.specs.Turning.{Changed, Turned, Undone};
 
 use office_tables::{
-    EnrolRow, OwnerRow, create_tables, delete_meta, delete_owner, insert_enrols, insert_owner,
-    put_meta,
+    DraftRow, EnrolRow, OwnerRow, SlotRow, create_tables, delete_draft, delete_meta, delete_owner,
+    delete_slots, insert_draft, insert_enrols, insert_owner, insert_slots, put_meta,
 };
 use sqlite::{Alter, Connection, Error, Transaction};
 
@@ -90,5 +91,65 @@ pub fn put_owner<S: Alter>(conn: &mut Connection<S>, exam: u32, dept: u32) -> Re
 {
     let mut tx = conn.transaction();
     owner_in(&mut tx, exam, dept)?;
+    tx.commit()
+}
+
+// A draft, with the places of its exams.
+fn draft_in<S: Alter>(
+    tx: &mut Transaction<'_, S>,
+    row: DraftRow,
+    slots: &[SlotRow],
+) -> Result<(), Error>
+    requires amounts { AreAmounts row }
+    ensures same_reference { tx.new.conn.ghost_name ≡ tx.old.conn.ghost_name }
+    ensures makes { Changes S.Store (draft_put row slots.now) tx.old.conn.now tx.new.conn.now result }
+    ensures within { Within (state S.Store tx.old.conn.now) (state S.Store tx.new.conn.now) }
+{
+    insert_draft(tx, row)?;
+    insert_slots(tx, slots)
+}
+
+// Puts a draft in, with the places of its exams.
+pub fn put_draft<S: Alter>(
+    conn: &mut Connection<S>,
+    row: DraftRow,
+    slots: &[SlotRow],
+) -> Result<(), Error>
+    requires rests { conn.old.in_transaction ≡ false }
+    requires amounts { AreAmounts row }
+    ensures done { HasCleanDisk (state S.Store conn.new) → OnOk result (Changed (draft_put row slots.now)
+        (state S.Store conn.old) (state S.Store conn.new)) }
+    ensures undone { HasCleanDisk (state S.Store conn.new)
+        → OnErr result (Undone (state S.Store conn.old) (state S.Store conn.new)) }
+    ensures rests { conn.new.in_transaction ≡ false }
+    ensures clean { HasCleanDisk (state S.Store conn.new) → HasCleanDisk (state S.Store conn.old) }
+{
+    let mut tx = conn.transaction();
+    draft_in(&mut tx, row, slots)?;
+    tx.commit()
+}
+
+// A draft goes, with the places of its exams.
+fn draft_out<S: Alter>(tx: &mut Transaction<'_, S>, number: u32) -> Result<(), Error>
+    ensures same_reference { tx.new.conn.ghost_name ≡ tx.old.conn.ghost_name }
+    ensures makes { Changes S.Store (draft_removed number) tx.old.conn.now tx.new.conn.now result }
+    ensures within { Within (state S.Store tx.old.conn.now) (state S.Store tx.new.conn.now) }
+{
+    delete_draft(tx, number)?;
+    delete_slots(tx, number)
+}
+
+// Takes a draft out, with the places of its exams.
+pub fn remove_draft<S: Alter>(conn: &mut Connection<S>, number: u32) -> Result<(), Error>
+    requires rests { conn.old.in_transaction ≡ false }
+    ensures done { HasCleanDisk (state S.Store conn.new) → OnOk result (Changed (draft_removed number)
+        (state S.Store conn.old) (state S.Store conn.new)) }
+    ensures undone { HasCleanDisk (state S.Store conn.new)
+        → OnErr result (Undone (state S.Store conn.old) (state S.Store conn.new)) }
+    ensures rests { conn.new.in_transaction ≡ false }
+    ensures clean { HasCleanDisk (state S.Store conn.new) → HasCleanDisk (state S.Store conn.old) }
+{
+    let mut tx = conn.transaction();
+    draft_out(&mut tx, number)?;
     tx.commit()
 }

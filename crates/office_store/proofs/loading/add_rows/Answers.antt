@@ -2,7 +2,7 @@ use Rattle.std.proofs.Common.{rules, ◌≡◌, ◌≤◌, ℕ, List, ◌++◌, 
 use Rattle.std.proofs.lemmas.List.{append-nil, get_or_default}
 use Rattle.exam_model.specs.Pairs.{pairs_at}
 use Rattle.office_tables.specs.declared.rows.EnrolRow.{EnrolRow}
-use Rattle.office_store.specs.Stands.{enrol_row}
+use Rattle.office_records.specs.Stands.{enrol_row}
 use Rattle.office_store.proofs.LoadLemmas.{added, one_more_below}
 use Rattle.office_store.proofs.loading.add_rows.Goals as goal
 

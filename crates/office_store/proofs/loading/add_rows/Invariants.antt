@@ -1,6 +1,6 @@
 use Rattle.std.specs.Prelude.{◌≡◌, ◌++◌, ℕ, ◌<◌, ◌≤◌, map, slice_index_or, take}
 use Rattle.exam_model.specs.Pairs.{pairs_at}
-use Rattle.office_store.specs.Stands.{enrol_row}
+use Rattle.office_records.specs.Stands.{enrol_row}
 use Rattle.office_store.proofs.loading.add_rows.Given as goal
 
 abbrev pub invariant-loop-student : goal.invariant-loop-student

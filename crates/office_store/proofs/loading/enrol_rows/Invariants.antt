@@ -1,7 +1,7 @@
 use Rattle.std.specs.Prelude.{◌≡◌, ℕ, ◌<◌, ◌≤◌, All, map, take}
 use Rattle.exam_model.specs.Enrolments.{students}
 use Rattle.exam_model.specs.Pairs.{pairs_of}
-use Rattle.office_store.specs.Stands.{enrol_row}
+use Rattle.office_records.specs.Stands.{enrol_row}
 use Rattle.office_store.proofs.loading.enrol_rows.Given as goal
 
 abbrev pub invariant-loop-number : goal.invariant-loop-number

@@ -5,9 +5,10 @@ use Rattle.sqlite.specs.State.{HasCleanDisk}
 use Rattle.office_files.specs.InstanceText.{instance_in}
 use Rattle.office_store.specs.Changes.{session_put}
 use Rattle.office_store.specs.Commands.{loaded, fresh}
-use Rattle.office_store.specs.Office.{AreEnrolled}
-use Rattle.office_store.specs.Running.{IsAtRest, memory_of}
-use Rattle.office_store.specs.Stands.{IsKept}
+use Rattle.office_records.specs.Office.{AreEnrolled}
+use Rattle.office_records.specs.Office.{memory_of}
+use Rattle.office_store.specs.Running.{IsAtRest}
+use Rattle.office_records.specs.Stands.{IsKept}
 use Rattle.office_store.specs.Turning.{Changed}
 use Rattle.office_store.proofs.LoadLemmas.{session_kept, loaded_first, loaded_again, some_kept, none_kept, as_many}
 use Rattle.office_store.proofs.RunLemmas.{now_still, at_hand}

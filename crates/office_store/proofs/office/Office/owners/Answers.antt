@@ -4,7 +4,7 @@ use Rattle.sqlite.specs.Held.{state}
 use Rattle.sqlite.specs.State.{HasCleanDisk}
 use Rattle.office_tables.specs.declared.rows.OwnerRow.{OwnerRow}
 use Rattle.office_store.specs.Running.{IsAwake}
-use Rattle.office_store.specs.Stands.{IsKept}
+use Rattle.office_records.specs.Stands.{IsKept}
 use Rattle.office_store.proofs.OwnerLemmas.{owner_read}
 use Rattle.office_store.proofs.RunLemmas.{now_still, rest_read}
 use Rattle.office_store.proofs.office.Office.owners.Goals as goal

@@ -3,8 +3,9 @@ use Rattle.sqlite.specs.Held.{state}
 use Rattle.office_store.specs.Commands.{owned}
 use Rattle.sqlite.specs.State.{HasCleanDisk}
 use Rattle.office_store.specs.Changes.{owner_put}
-use Rattle.office_store.specs.Running.{IsAtRest, memory_of}
-use Rattle.office_store.specs.Stands.{IsKept}
+use Rattle.office_records.specs.Office.{memory_of}
+use Rattle.office_store.specs.Running.{IsAtRest}
+use Rattle.office_records.specs.Stands.{IsKept}
 use Rattle.office_store.specs.Turning.{Changed}
 use Rattle.office_store.proofs.OwnerLemmas.{owner_kept, owned_there, owned_nowhere}
 use Rattle.office_store.proofs.RunLemmas.{now_still, at_hand, nothing_kept, kept_of}

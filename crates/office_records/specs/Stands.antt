@@ -16,7 +16,7 @@ use Rattle.office_tables.specs.declared.rows.OwnerRow.{OwnerRow}
 use Rattle.office_tables.specs.declared.rows.EnrolRow.{EnrolRow}
 use Rattle.office_tables.specs.declared.rows.DraftRow.{DraftRow}
 use Rattle.office_tables.specs.declared.rows.SlotRow.{SlotRow}
-use Rattle.office_store.specs.Office.{OfficeState, Records, IsOffice}
+use Rattle.office_records.specs.Office.{OfficeState, Records, IsOffice}
 
 -- ---- the rows of an office
 

@@ -1,5 +1,5 @@
 -- The office: nothing, or the records of one examination session.
-use Rattle.std.specs.Prelude.{◌≡◌, ◌≢◌, ℕ, ◌<◌, ◌≤◌, ◌==◌, if◌then◌else◌, length, All, Option, Some, None, IsSome}
+use Rattle.std.specs.Prelude.{◌≡◌, ◌≢◌, ℕ, ◌<◌, ◌≤◌, ◌==◌, if◌then◌else◌, length, All, Option, Some, None, option_map, IsSome}
 use Rattle.exam_model.specs.Enrolments.{Enrolled, AreEnrolments, students}
 use Rattle.exam_model.specs.Fits.{Fits}
 use Rattle.exam_model.specs.Instance.{Session, IsInstance}
@@ -38,3 +38,12 @@ pub record AreRecords (r : Records) : Type 0 where
 abbrev pub IsOffice : OfficeState → Type 0
 IsOffice None = Unit {0}
 IsOffice (Some r) = AreRecords r
+
+-- ---- what is kept in memory
+
+-- the session and its live enrolments
+abbrev pub Memory : Type 0
+Memory = Option (Session × Enrolled)
+
+abbrev pub memory_of : OfficeState → Memory
+memory_of office = option_map (λ r. (r.session, r.enrolments)) office

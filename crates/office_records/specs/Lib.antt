@@ -1,0 +1,3 @@
+pub mod Office
+pub mod Stands
+pub mod Found

@@ -1,0 +1,10 @@
+-- What a refusal is called by the office.
+use Rattle.office_records.specs.declared.fault.RecordFault.{RecordFault}
+use Rattle.office_records.specs.declared.fault.RecordFault.TheVariants.{NoMemory, BadRows}
+use Rattle.office_store.specs.declared.fault.StoreFault.{StoreFault}
+use Rattle.office_store.specs.declared.fault.StoreFault.TheVariants.{Store, BadSchema}
+
+-- want of memory is no word on the rows
+abbrev pub store_fault : RecordFault → StoreFault
+store_fault NoMemory = Store
+store_fault BadRows = BadSchema

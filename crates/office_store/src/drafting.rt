@@ -1,0 +1,131 @@
+// Drafts: timetables in the making, with their penalties.
+ghost use Rattle.std.specs.Prelude.{◌≡◌, ◌⊎◌, ◌<◌, ◌^◌, All, Err, IfErr, IfOk, Ok, OnOk, is_some, length, map};
+ghost use Rattle.sqlite.specs.Held.{state};
+ghost use Rattle.sqlite.specs.State.{HasCleanDisk};
+ghost use Rattle.exam_model.specs.Fits.{PlaceExists};
+ghost use Rattle.office_tables.specs.Amounts.{AreAmounts};
+ghost use Rattle.office_store.specs.Commands.{draft_dropped, draft_in, draft_made, first_timetable};
+ghost use Rattle.office_records.specs.Office.{OfficeState};
+ghost use Rattle.office_store.specs.Running.{IsAwake, Now, Runs};
+ghost use Rattle.office_records.specs.Stands.{once, parts_of, slots_from};
+
+use crate::fault::StoreFault;
+use crate::office::Office;
+use crate::transactions::{put_draft, remove_draft};
+use exam_model::{ExamNo, Instance, Timetable};
+use exam_score::{Parts, score};
+use office_files::read_solution;
+use office_tables::{DraftRow, SlotRow, drafts_of};
+use sqlite::Alter;
+use std::alloc::{AllocError, Global};
+
+impl<S: Alter> Office<S> {
+    /// Makes a draft, 1 to 8, and answers its penalty: no exam is placed where the text is empty, else
+    /// it is the timetable of a solution file, with or without breaches. `NotLoaded`, `NoDraft`: not 1
+    /// to 8, `DraftTaken`, then `Refused`: the file is faulty.
+    pub fn new_draft(&mut self, alloc: Global, number: u32, text: &[u8]) -> Result<u64, StoreFault>
+        ensures runs { Runs S.Store (draft_made number text.now) self.old self.new result }
+        ensures clean { HasCleanDisk (state S.Store self.new) → HasCleanDisk (state S.Store self.old) }
+    {
+        let rows = self.drafts(alloc, number)?;
+        let Some((instance, enrolments)) = &self.kept else {
+            return Err(StoreFault::NotLoaded);
+        };
+        if !(1..=8).contains(&number) {
+            return Err(StoreFault::NoDraft);
+        }
+        if !rows.is_empty() {
+            return Err(StoreFault::DraftTaken);
+        }
+        let timetable = first_timetable(alloc, instance, text)?;
+        let parts = score(alloc, instance, enrolments, &timetable)?;
+        let slots = slot_rows(alloc, number, &timetable)?;
+        put_draft(&mut self.conn, draft_row(number, parts), &slots)?;
+        Ok(parts.total())
+    }
+
+    /// Takes a draft out. `NotLoaded`, then `NoDraft`: there is none of this number.
+    pub fn drop_draft(&mut self, alloc: Global, number: u32) -> Result<(), StoreFault>
+        ensures runs { Runs S.Store (draft_dropped number) self.old self.new result }
+        ensures clean { HasCleanDisk (state S.Store self.new) → HasCleanDisk (state S.Store self.old) }
+    {
+        let rows = self.drafts(alloc, number)?;
+        if self.kept.is_none() {
+            return Err(StoreFault::NotLoaded);
+        }
+        if rows.is_empty() {
+            return Err(StoreFault::NoDraft);
+        }
+        remove_draft(&mut self.conn, number)?;
+        Ok(())
+    }
+
+    // The row of a draft: one, or none.
+    fn drafts(&mut self, alloc: Global, number: u32) -> Result<Vec<DraftRow>, StoreFault>
+        ensures rows { HasCleanDisk (state S.Store self.new) → (office : OfficeState)
+            → Now (state S.Store self.old) office
+            → IfOk result (λ rows. map (λ r. r.no) rows.items
+                ≡ once (is_some (draft_in number office)) number) }
+        ensures still { HasCleanDisk (state S.Store self.new) → (office : OfficeState)
+            → Now (state S.Store self.old) office → Now (state S.Store self.new) office }
+        ensures awake { HasCleanDisk (state S.Store self.new) → OnOk result (IsAwake (state S.Store self.new)) }
+        ensures fault { IfErr result (λ e. e ≡ StoreFault.Store) }
+        ensures clean { HasCleanDisk (state S.Store self.new) → HasCleanDisk (state S.Store self.old) }
+    {
+        self.look()?;
+        let rows = drafts_of(alloc, &mut self.conn, number)?;
+        Ok(rows)
+    }
+}
+
+fn first_timetable(alloc: Global, instance: &Instance, text: &[u8]) -> Result<Timetable, StoreFault>
+    ensures ok { IfOk result (λ t. first_timetable text.now instance.now ≡ Ok t) }
+    ensures err { IfErr result (λ e. (e ≡ StoreFault.Store)
+        ⊎ (first_timetable text.now instance.now ≡ Err e)) }
+    ensures exams { IfOk result (λ t. length t ≡ length instance.now.exams) }
+    ensures places { IfOk result (All (PlaceExists instance.now)) }
+{
+    if text.is_empty() {
+        let empty = Timetable::new(alloc, instance.exams())?;
+        return Ok(empty);
+    }
+    match read_solution(alloc, text, instance) {
+        Ok(timetable) => Ok(timetable),
+        Err(fault) => Err(StoreFault::of_file(fault)),
+    }
+}
+
+fn draft_row(number: u32, parts: Parts) -> DraftRow
+    ensures number { result.no ≡ number }
+    ensures parts { parts_of result ≡ parts }
+    ensures amounts { AreAmounts result }
+{
+    DraftRow {
+        no: number,
+        in_row: parts.row(),
+        in_day: parts.day(),
+        spread: parts.spread(),
+        mixed: parts.mixed(),
+        front: parts.front(),
+        period: parts.period(),
+        room: parts.room(),
+    }
+}
+
+// The rows of the placed exams, by exam.
+fn slot_rows(alloc: Global, draft: u32, timetable: &Timetable) -> Result<Vec<SlotRow>, AllocError>
+    ensures { IfOk result (λ rows. rows.items ≡ slots_from draft 0 timetable.now) }
+{
+    let mut rows = Vec::new(alloc);
+    for exam in 0..timetable.exams() {
+        if let Some(place) = timetable.get(ExamNo::new(exam)) {
+            rows.push(SlotRow {
+                draft,
+                exam,
+                period: place.period.get(),
+                room: place.room.get(),
+            })?;
+        }
+    }
+    Ok(rows)
+}
