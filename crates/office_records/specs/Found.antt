@@ -16,33 +16,33 @@ use Rattle.office_records.specs.Office.{AreEnrolled}
 use Rattle.office_records.specs.Stands.{meta_row, enrol_row, slots_from, slot_rows, once, some_dept, owners_at, drafts_at, slots_at, parts_of}
 
 -- the row of this session, which nobody has published
-pub record IsSessionRow (row : Meta) (I : Session) : Type 0 where
+pub record IsSessionRow (found : Meta) (I : Session) : Type 0 where
   pub session : IsInstance I
-  pub row : row ≡ meta_row I
+  pub row : found ≡ meta_row I
 
 -- these rows name the owners of this session's exams
-pub record AreOwners (I : Session) (rows : List OwnerRow) (owner_of : ℕ → ℕ) : Type 0 where
-  pub rows : (e : ℕ) → map (λ o. o.dept) (owners_at e rows) ≡ some_dept (owner_of e)
+pub record AreOwners (I : Session) (found : List OwnerRow) (owner_of : ℕ → ℕ) : Type 0 where
+  pub rows : (e : ℕ) → map (λ o. o.dept) (owners_at e found) ≡ some_dept (owner_of e)
   pub departments : (e : ℕ) → owner_of e ≤ 999
   pub owned : (e : ℕ) → owner_of e ≢ 0 → e < length I.exams
 
 -- these rows are the pairs of enrolments of this session's exams
-pub record AreEnrolRows (I : Session) (rows : List EnrolRow) (E : Enrolled) : Type 0 where
+pub record AreEnrolRows (I : Session) (found : List EnrolRow) (E : Enrolled) : Type 0 where
   pub enrolled : AreEnrolled I E
-  pub rows : IsPermutation rows (map enrol_row (pairs_of E))
+  pub rows : IsPermutation found (map enrol_row (pairs_of E))
 
 -- the rows of this draft, among others, are the places of this timetable
-pub record AreSlots (I : Session) (d : ℕ) (rows : List SlotRow) (T : Placing) : Type 0 where
+pub record AreSlots (I : Session) (d : ℕ) (found : List SlotRow) (T : Placing) : Type 0 where
   pub exams : length T ≡ length I.exams
   pub places : All (PlaceExists I) T
-  pub rows : IsPermutation (slots_at d rows) (slots_from d 0 T)
+  pub rows : IsPermutation (slots_at d found) (slots_from d 0 T)
 
 -- these rows are drafts, with their places and their penalties
-pub record AreDrafts (I : Session) (E : Enrolled) (rows : List DraftRow) (slots : List SlotRow)
+pub record AreDrafts (I : Session) (E : Enrolled) (found : List DraftRow) (places : List SlotRow)
     (draft : ℕ → Option Placing) : Type 0 where
   pub numbered : (d : ℕ) → IsSome (draft d) → (1 ≤ d) × (d ≤ 8)
   pub fits : (d : ℕ) (T : Placing) → draft d ≡ Some T → Fits I E T
-  pub rows : (d : ℕ) → map (λ row. row.no) (drafts_at d rows) ≡ once (is_some (draft d)) d
-  pub slots : (d : ℕ) → IsPermutation (slots_at d slots) (slot_rows d (draft d))
+  pub rows : (d : ℕ) → map (λ row. row.no) (drafts_at d found) ≡ once (is_some (draft d)) d
+  pub slots : (d : ℕ) → IsPermutation (slots_at d places) (slot_rows d (draft d))
   pub scored : AllByRecursion
-    (λ row. (T : Placing) → draft row.no ≡ Some T → parts_of row ≡ track I E T) rows
+    (λ row. (T : Placing) → draft row.no ≡ Some T → parts_of row ≡ track I E T) found
