@@ -61,11 +61,11 @@ impl<S: Alter> Office<S> {
     }
 
     // The row of a draft: one, or none.
-    fn drafts(&mut self, alloc: Global, number: u32) -> Result<Vec<DraftRow>, StoreFault>
+    pub(crate) fn drafts(&mut self, alloc: Global, number: u32) -> Result<Vec<DraftRow>, StoreFault>
         ensures rows { HasCleanDisk (state S.Store self.new) → (office : OfficeState)
             → Now (state S.Store self.old) office
             → IfOk result (λ rows. map (λ r. r.no) rows.items
-                ≡ once (is_some (draft_in number office)) number) }
+            ≡ once (is_some (draft_in number office)) number) }
         ensures still { HasCleanDisk (state S.Store self.new) → (office : OfficeState)
             → Now (state S.Store self.old) office → Now (state S.Store self.new) office }
         ensures awake { HasCleanDisk (state S.Store self.new) → OnOk result (IsAwake (state S.Store self.new)) }
@@ -95,7 +95,7 @@ fn first_timetable(alloc: Global, instance: &Instance, text: &[u8]) -> Result<Ti
     }
 }
 
-fn draft_row(number: u32, parts: Parts) -> DraftRow
+pub(crate) fn draft_row(number: u32, parts: Parts) -> DraftRow
     ensures number { result.no ≡ number }
     ensures parts { parts_of result ≡ parts }
     ensures amounts { AreAmounts result }

@@ -7,6 +7,7 @@ mod fault;
 mod loading;
 mod office;
 mod owning;
+mod reading;
 mod transactions;
 
 pub use edit::Edit;
