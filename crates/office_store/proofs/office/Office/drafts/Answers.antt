@@ -4,6 +4,7 @@ use Rattle.sqlite.specs.State.{HasCleanDisk}
 use Rattle.office_store.specs.Running.{IsAwake}
 use Rattle.office_records.specs.Stands.{IsKept}
 use Rattle.office_store.proofs.DraftLemmas.{draft_read}
+use Rattle.office_store.proofs.ReadLemmas.{scored_read}
 use Rattle.office_store.proofs.RunLemmas.{now_still, rest_read}
 use Rattle.office_store.proofs.office.Office.drafts.Goals as goal
 
@@ -34,3 +35,16 @@ returns-clause-rows g c clean office now =
     let kept = subst (λ h. IsKept (state g.S.Store h).now office) (sym c.self.view_is) here in
     let read = c.in_ok-rows.ensures.rows clean kept.held kept.tables in
     draft_read kept.held office c.args.number c.in_ok-rows.rows.items kept.stands read
+
+pub returns-clause-scored : goal.returns-clause-scored
+returns-clause-scored g c clean office now =
+    let old = state g.S.Store c.args.self.now in
+    let mid = state g.S.Store c.look.new.self in
+    let clean_in : HasCleanDisk (state g.S.Store c.self.inside.conn)
+    = omega (arith, c.drafts_of.ensures.survives.clean, clean) in
+    let clean_mid = subst (λ h. HasCleanDisk (state g.S.Store h)) c.self.view_is clean_in in
+    let awake = c.in_ok-look.ensures.awake clean_mid in
+    let here = now_still old mid office (c.in_ok-look.ensures.still clean_mid) now awake.0 in
+    let kept = subst (λ h. IsKept (state g.S.Store h).now office) (sym c.self.view_is) here in
+    scored_read kept.held office c.args.number c.in_ok-rows.rows.items kept.sound
+    (c.in_ok-rows.ensures.rows clean kept.held kept.tables)
