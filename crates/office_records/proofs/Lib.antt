@@ -1,2 +1,4 @@
 pub mod KeyLemmas
 pub mod MemoryLemmas
+pub mod OwnerRowLemmas
+pub mod ResultLemmas
