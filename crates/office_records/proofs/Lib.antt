@@ -1,3 +1,5 @@
 pub mod KeyLemmas
 pub mod MemoryLemmas
 pub mod SlotLemmas
+pub mod OwnerRowLemmas
+pub mod ResultLemmas
