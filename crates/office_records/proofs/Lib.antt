@@ -1,3 +1,4 @@
+pub mod DraftRowLemmas
 pub mod KeyLemmas
 pub mod MemoryLemmas
 pub mod SlotLemmas
