@@ -1,12 +1,14 @@
 -- Rows of drafts, one after another.
-use Rattle.std.proofs.Common.{◌≡◌, ◌≢◌, ℕ, ◌+◌, ◌<◌, ◌≤◌, zero, suc, Bool, true, false, cond, eqb, List, [], ◌∷◌, ◌++◌, map, filter, length, get_or, take, refl, sym, ◌∙◌, ap, arith, subst}
+use Rattle.std.proofs.Common.{◌≡◌, ◌≢◌, ℕ, ◌+◌, ◌<◌, ◌≤◌, Bool, true, false, cond, eqb, List, []}
+use Rattle.std.proofs.Common.{◌∷◌, ◌++◌, map, length, get_or, take, refl, sym, ◌∙◌, ap, arith, subst}
 use Rattle.std.proofs.lemmas.Bool.Decides.{nat_tests}
-use Rattle.std.proofs.lemmas.List.{length-map, length-take, append-nil, get_or-take, get_or_default, take_more}
-use Rattle.std.proofs.lemmas.List.Elements.{All-nil, All-push, filter-append, recursion_from_All, All-from_recursion}
-use Rattle.std.proofs.lemmas.List.Folds.{list_any_at, list_all_at}
+use Rattle.std.proofs.lemmas.List.{length-map, length-take, append-nil}
+use Rattle.std.proofs.lemmas.List.{get_or-take, get_or_default, take_more}
+use Rattle.std.proofs.lemmas.List.Elements.{All-nil, All-push, filter-append}
+use Rattle.std.proofs.lemmas.List.Elements.{recursion_from_All, All-from_recursion}
 use Rattle.std.proofs.lemmas.List.Sorted.{IsPermutation-refl, length_permutation}
 use Rattle.std.specs.List.{list_all, list_any}
-use Rattle.std.specs.Prelude.{All, IsSome, IsPermutation, Option, Some, None, is_some, ◌&&◌, ◌||◌}
+use Rattle.std.specs.Prelude.{All, IsSome, IsPermutation, Option, Some, None, is_some}
 use Rattle.exam_model.specs.Enrolments.{Enrolled}
 use Rattle.exam_model.specs.Instance.{Session}
 use Rattle.exam_model.specs.Timetable.{Placing}
@@ -16,74 +18,22 @@ use Rattle.office_tables.specs.declared.rows.SlotRow.{SlotRow}
 use Rattle.office_records.specs.Found.{AreDrafts, AreSlots}
 use Rattle.office_records.specs.Office.{set_at}
 use Rattle.office_records.specs.Stands.{drafts_at, slots_at, slot_rows, once, parts_of}
+use Rattle.office_records.proofs.PassLemmas.{none_pass, one_passes, found_one, passes_at}
+use Rattle.office_records.proofs.PassLemmas.{each_passes, all_pass, two_pass}
 
--- ---- the rows that pass a test
+abbrev no_of : DraftRow → ℕ
+no_of row = row.no
 
-module _ {X : Type 0} (p : X → Bool) where
-  -- none does
-  none_pass : (xs : List X) → All (λ x. p x ≡ false) xs → filter p xs ≡ []
-  none_pass [] h = refl
-  none_pass (x ∷ xs) h =
-      ap (λ b. cond b (x ∷ filter p xs) (filter p xs)) {y = false} (h 0 x (omega arith))
-      ∙ none_pass xs (λ k d lt. h (suc k) d (omega (arith, lt)))
+-- whether a row is of this draft
+abbrev is_of : ℕ → DraftRow → Bool
+is_of d row = eqb row.no d
 
-  -- one does
-  one_passes : (xs : List X) → list_any p xs ≡ true → 1 ≤ length (filter p xs)
-  one_passes [] h = absurd (cc)
-  one_passes (x ∷ xs) h = go (p x) h (one_passes xs)
-    where
-      go : (b : Bool) → (b || list_any p xs) ≡ true
-          → (list_any p xs ≡ true → 1 ≤ length (filter p xs))
-          → 1 ≤ length (cond b (x ∷ filter p xs) (filter p xs))
-      go true h more = omega arith
-      go false h more = more h
+abbrev is_slot_of : ℕ → SlotRow → Bool
+is_slot_of d slot = eqb slot.draft d
 
-  found_one : (xs : List X) → 1 ≤ length (filter p xs) → list_any p xs ≡ true
-  found_one [] h = absurd (omega (arith, h))
-  found_one (x ∷ xs) h = go (p x) h (found_one xs)
-    where
-      go : (b : Bool) → 1 ≤ length (cond b (x ∷ filter p xs) (filter p xs))
-          → (1 ≤ length (filter p xs) → list_any p xs ≡ true) → (b || list_any p xs) ≡ true
-      go true h more = refl
-      go false h more = more h
-
-  pub passes_at : (xs : List X) (k : ℕ) (d : X) → k < length xs → p (get_or xs k d) ≡ true
-      → 1 ≤ length (filter p xs)
-  passes_at xs k d lt h = one_passes xs (list_any_at p xs k d lt h)
-
-  each_passes : (xs : List X) → list_all p xs ≡ true → All (λ x. p x ≡ true) xs
-  each_passes xs h k d lt = go (p (get_or xs k d)) refl
-    where
-      go : (b : Bool) → p (get_or xs k d) ≡ b → b ≡ true
-      go true f = refl
-      go false f = absurd (let no = list_all_at p xs k d lt f in cc)
-
-  all_pass : (xs : List X) → All (λ x. p x ≡ true) xs → list_all p xs ≡ true
-  all_pass [] h = refl
-  all_pass (x ∷ xs) h =
-      ap (λ b. b && list_all p xs) {y = true} (h 0 x (omega arith))
-      ∙ all_pass xs (λ k d lt. h (suc k) d (omega (arith, lt)))
-
-  -- two do
-  two_pass : (xs : List X) (j i : ℕ) (d : X) → j < i → i < length xs
-      → p (get_or xs j d) ≡ true → p (get_or xs i d) ≡ true → 2 ≤ length (filter p xs)
-  two_pass [] j i d below lt e f = absurd (omega (arith, lt))
-  two_pass (x ∷ xs) j i d below lt e f =
-      go (p x) refl j i below lt e f (λ j i. two_pass xs j i d)
-    where
-      go : (b : Bool) → p x ≡ b → (j i : ℕ) → j < i → i < length (x ∷ xs)
-          → p (get_or (x ∷ xs) j d) ≡ true → p (get_or (x ∷ xs) i d) ≡ true
-          → ((j i : ℕ) → j < i → i < length xs → p (get_or xs j d) ≡ true
-          → p (get_or xs i d) ≡ true → 2 ≤ length (filter p xs))
-          → 2 ≤ length (cond b (x ∷ filter p xs) (filter p xs))
-      go b is j zero below lt e f more = absurd (omega (arith, below))
-      go true is zero (suc i) below lt e f more =
-          let one = passes_at xs i d (omega (arith, lt)) f in omega (arith, one)
-      go false is zero (suc i) below lt e f more = absurd (cc)
-      go true is (suc j) (suc i) below lt e f more =
-          let two = more j i (omega (arith, below)) (omega (arith, lt)) e f in omega (arith, two)
-      go false is (suc j) (suc i) below lt e f more =
-          more j i (omega (arith, below)) (omega (arith, lt)) e f
+-- whether a slot's draft has a row
+abbrev has_row : List DraftRow → SlotRow → Bool
+has_row found slot = list_any (is_of slot.draft) found
 
 -- ---- the first rows
 
@@ -91,11 +41,12 @@ module _ {X : Type 0} (p : X → Bool) where
 pub record Begun (I : Session) (E : Enrolled) (found : List DraftRow) (places : List SlotRow)
     (draft : ℕ → Option Placing) : Type 0 where
   pub numbered : (d : ℕ) → IsSome (draft d) → (1 ≤ d) × (d ≤ 8)
-  pub rows : (d : ℕ) → map (λ (row : DraftRow). row.no) (drafts_at d found) ≡ once (is_some (draft d)) d
+  pub rows : (d : ℕ) → map no_of (drafts_at d found) ≡ once (is_some (draft d)) d
   pub slots : (d : ℕ) (T : Placing) → draft d ≡ Some T → AreSlots I d places T
   pub scored : All
       (λ row. (T : Placing) → draft row.no ≡ Some T → parts_of row ≡ track I E T) found
 
+-- no rows are no drafts
 pub begun_none : (I : Session) (E : Enrolled) (places : List SlotRow)
     → Begun I E [] places (λ d. None)
 begun_none I E places = record {
@@ -121,20 +72,20 @@ module _ (I : Session) (E : Enrolled) (found : List DraftRow) (places : List Slo
   number d false f is = h.numbered d is
 
   row_of : (d : ℕ) (b : Bool) → eqb d row.no ≡ b
-      → map (λ (row : DraftRow). row.no) (drafts_at d found ++ cond (eqb row.no d) (row ∷ []) [])
+      → map no_of (drafts_at d found ++ cond (eqb row.no d) (row ∷ []) [])
       ≡ once (is_some (cond b (Some T) (draft d))) d
   row_of d true f =
       let same : row.no ≡ d = grind (arith, nat_tests, f) in
       let here : eqb row.no d ≡ true = grind (arith, nat_tests, f) in
-      let none : drafts_at d found ≡ [] = none_pass (λ (r : DraftRow). eqb r.no d) found
+      let none : drafts_at d found ≡ [] = none_pass (is_of d) found
       (λ k r lt. let other = new k r lt in grind (arith, nat_tests, other, same)) in
-      ap (λ l. map (λ (row : DraftRow). row.no) (l ++ cond (eqb row.no d) (row ∷ []) [])) none
-      ∙ ap (λ b. map (λ (row : DraftRow). row.no) (cond b (row ∷ []) [])) here
+      ap (λ l. map no_of (l ++ cond (eqb row.no d) (row ∷ []) [])) none
+      ∙ ap (λ b. map no_of (cond b (row ∷ []) [])) here
       ∙ ap (λ n. n ∷ []) same
   row_of d false f =
       let other : eqb row.no d ≡ false = grind (arith, nat_tests, f) in
-      ap (λ b. map (λ (row : DraftRow). row.no) (drafts_at d found ++ cond b (row ∷ []) [])) other
-      ∙ ap (map (λ (row : DraftRow). row.no)) (append-nil (drafts_at d found))
+      ap (λ b. map no_of (drafts_at d found ++ cond b (row ∷ []) [])) other
+      ∙ ap (map no_of) (append-nil (drafts_at d found))
       ∙ h.rows d
 
   slots_of : (d : ℕ) (b : Bool) → eqb d row.no ≡ b → (U : Placing)
@@ -160,8 +111,7 @@ module _ (I : Session) (E : Enrolled) (found : List DraftRow) (places : List Slo
   pub begun_more : Begun I E (found ++ row ∷ []) places drafted
   begun_more = record {
     numbered = λ d. number d (eqb d row.no) refl;
-    rows = λ d. ap (map (λ (row : DraftRow). row.no))
-        (filter-append (λ (r : DraftRow). eqb r.no d) found (row ∷ []))
+    rows = λ d. ap (map no_of) (filter-append (is_of d) found (row ∷ []))
         ∙ row_of d (eqb d row.no) refl;
     slots = λ d. slots_of d (eqb d row.no) refl;
     scored = All-push (λ r. (U : Placing) → drafted r.no ≡ Some U → parts_of r ≡ track I E U)
@@ -192,29 +142,28 @@ begun_next I E found places i z lt old next placed =
 -- all of them, where each slot is of a draft that has a row
 module _ (I : Session) (E : Enrolled) (found : List DraftRow) (places : List SlotRow)
     (draft : ℕ → Option Placing) (h : Begun I E found places draft)
-    (each : list_all (λ (slot : SlotRow). list_any (λ (row : DraftRow). eqb row.no slot.draft) found)
-    places ≡ true) where
+    (each : list_all (has_row found) places ≡ true) where
+  -- a draft without a row has no slot
   no_slot : (d : ℕ) → draft d ≡ None → (slot : SlotRow) (b : Bool) → eqb slot.draft d ≡ b
-      → list_any (λ (row : DraftRow). eqb row.no slot.draft) found ≡ true → b ≡ false
+      → list_any (is_of slot.draft) found ≡ true → b ≡ false
   no_slot d f slot false g some = refl
   no_slot d f slot true g some =
       let same : slot.draft ≡ d = grind (arith, nat_tests, g) in
       let one : 1 ≤ length (drafts_at d found) =
       subst (λ n. 1 ≤ length (drafts_at n found)) same
-      (one_passes (λ (row : DraftRow). eqb row.no slot.draft) found some) in
-      let rows : map (λ (row : DraftRow). row.no) (drafts_at d found) ≡ []
+      (one_passes (is_of slot.draft) found some) in
+      let rows : map no_of (drafts_at d found) ≡ []
       = h.rows d ∙ ap (λ o. once (is_some o) d) f in
       absurd (let long = ap length rows in
-      omega (arith, long, length-map (drafts_at d found) (λ (row : DraftRow). row.no), one))
+      omega (arith, long, length-map (drafts_at d found) no_of, one))
 
   places_of : (d : ℕ) (o : Option Placing) → draft d ≡ o
       → IsPermutation (slots_at d places) (slot_rows d o)
   places_of d (Some T) f = (h.slots d T f).rows
   places_of d None f =
-      let none : slots_at d places ≡ [] = none_pass (λ (slot : SlotRow). eqb slot.draft d) places
+      let none : slots_at d places ≡ [] = none_pass (is_slot_of d) places
       (λ k slot lt. no_slot d f (get_or places k slot) (eqb (get_or places k slot).draft d) refl
-      (each_passes (λ (slot : SlotRow). list_any (λ (row : DraftRow). eqb row.no slot.draft) found)
-      places each k slot lt)) in
+      (each_passes (has_row found) places each k slot lt)) in
       subst (λ l. IsPermutation l []) (sym none) (IsPermutation-refl [])
 
   pub begun_all : length E ≡ length I.exams → AreDrafts I E found places draft
@@ -235,55 +184,56 @@ module _ (I : Session) (E : Enrolled) (found : List DraftRow) (places : List Slo
 
 module _ (I : Session) (E : Enrolled) (found : List DraftRow) (places : List SlotRow)
     (draft : ℕ → Option Placing) (h : AreDrafts I E found places draft) where
-  few : (b : Bool) (d : ℕ) → map (λ (row : DraftRow). row.no) (drafts_at d found) ≡ once b d
+  -- how many rows a draft has
+  few : (b : Bool) (d : ℕ) → map no_of (drafts_at d found) ≡ once b d
       → length (drafts_at d found) ≡ cond b 1 0
-  few true d e = sym (length-map (drafts_at d found) (λ (row : DraftRow). row.no)) ∙ ap length e
-  few false d e = sym (length-map (drafts_at d found) (λ (row : DraftRow). row.no)) ∙ ap length e
+  few true d e = sym (length-map (drafts_at d found) no_of) ∙ ap length e
+  few false d e = sym (length-map (drafts_at d found) no_of) ∙ ap length e
 
   count : (d : ℕ) (o : Option Placing) → draft d ≡ o
       → length (drafts_at d found) ≡ cond (is_some o) 1 0
   count d o f = few (is_some o) d (h.rows d ∙ ap (λ o. once (is_some o) d) f)
 
+  -- a row is of a draft
   drafted_at : (d : ℕ) → 1 ≤ length (drafts_at d found) → (o : Option Placing) → draft d ≡ o
       → (T : Placing) × (o ≡ Some T)
   drafted_at d one (Some T) f = (T, refl)
   drafted_at d one None f = absurd (omega (arith, one, count d None f))
 
+  -- and so is a slot
   row_at : (d : ℕ) → 1 ≤ length (slots_at d places) → (o : Option Placing) → draft d ≡ o
-      → list_any (λ (row : DraftRow). eqb row.no d) found ≡ true
-  row_at d one (Some T) f =
-      found_one (λ (row : DraftRow). eqb row.no d) found (omega (arith, count d (Some T) f))
+      → list_any (is_of d) found ≡ true
+  row_at d one (Some T) f = found_one (is_of d) found (omega (arith, count d (Some T) f))
   row_at d one None f =
       absurd (let none : IsPermutation (slots_at d places) []
       = subst (λ o. IsPermutation (slots_at d places) (slot_rows d o)) f (h.slots d) in
       omega (arith, one, length_permutation (slots_at d places) [] none))
 
   -- each slot is of a draft that has a row
-  pub each_slot : list_all
-      (λ (slot : SlotRow). list_any (λ (row : DraftRow). eqb row.no slot.draft) found) places ≡ true
+  pub each_slot : list_all (has_row found) places ≡ true
   each_slot =
-      all_pass (λ (slot : SlotRow). list_any (λ (row : DraftRow). eqb row.no slot.draft) found) places
+      all_pass (has_row found) places
       (λ k slot lt. let d = (get_or places k slot).draft in
-      row_at d (passes_at (λ (s : SlotRow). eqb s.draft d) places k slot lt (grind (arith, nat_tests)))
-      (draft d) refl)
+      let here : is_slot_of d (get_or places k slot) ≡ true = grind (arith, nat_tests) in
+      row_at d (passes_at (is_slot_of d) places k slot lt here) (draft d) refl)
 
   module _ (i : ℕ) (z : DraftRow) (lt : i < length found) where
     abbrev row : DraftRow
     row = get_or found i z
 
+    -- whatever stands past the end
     number_is : (d : DraftRow) → eqb (get_or found i d).no row.no ≡ true
     number_is d =
-        let same : (get_or found i d).no ≡ row.no =
-        ap (λ (r : DraftRow). r.no) (get_or_default found i d z lt) in
+        let same : (get_or found i d).no ≡ row.no = ap no_of (get_or_default found i d z lt) in
         grind (arith, nat_tests, same)
 
     placing : (T : Placing) × (draft row.no ≡ Some T)
-    placing = drafted_at row.no
-        (passes_at (λ (r : DraftRow). eqb r.no row.no) found i z lt (number_is z))
+    placing = drafted_at row.no (passes_at (is_of row.no) found i z lt (number_is z))
         (draft row.no) refl
 
     -- a row has a number that no earlier row has
-    pub next_row : (1 ≤ row.no) × (row.no ≤ 8) × All (λ (r : DraftRow). r.no ≢ row.no) (take i found)
+    pub next_row : (1 ≤ row.no) × (row.no ≤ 8)
+        × All (λ (r : DraftRow). r.no ≢ row.no) (take i found)
     next_row =
         let within = h.numbered row.no (ap is_some placing.1) in (
           within.0,
@@ -291,8 +241,8 @@ module _ (I : Session) (E : Enrolled) (found : List DraftRow) (places : List Slo
           λ j r below same.
               let before : j < i = omega (arith, below, length-take {A = DraftRow}) in
               let there : (get_or found j r).no ≡ row.no =
-              ap (λ (r : DraftRow). r.no) (sym (get_or-take i found j r before)) ∙ same in
-              let two = two_pass (λ (r : DraftRow). eqb r.no row.no) found j i r before lt
+              ap no_of (sym (get_or-take i found j r before)) ∙ same in
+              let two = two_pass (is_of row.no) found j i r before lt
               (grind (arith, nat_tests, there)) (number_is r) in
               omega (arith, two, count row.no (Some placing.0) placing.1),
         )

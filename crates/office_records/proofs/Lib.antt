@@ -1,4 +1,5 @@
 pub mod DraftRowLemmas
 pub mod KeyLemmas
 pub mod MemoryLemmas
+pub mod PassLemmas
 pub mod SlotLemmas

@@ -1,5 +1,6 @@
 // Rows of drafts.
-ghost use Rattle.std.specs.Prelude.{◌≡◌, ◌≢◌, ◌≤◌, ◌↔◌, ◌==◌, ℕ, All, Option, IfErr, IsTrue, OnOk, length};
+ghost use Rattle.std.specs.Prelude.{◌≡◌, ◌≢◌, ◌≤◌, ◌↔◌, ◌==◌, ℕ, length};
+ghost use Rattle.std.specs.Prelude.{All, IfErr, IsTrue, OnOk, Option};
 ghost use Rattle.std.specs.List.{list_all, list_any};
 ghost use Rattle.exam_model.specs.Timetable.{Placing};
 ghost use Rattle.exam_score.specs.Track.{track};

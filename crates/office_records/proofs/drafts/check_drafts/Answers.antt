@@ -1,7 +1,8 @@
 use Rattle.std.proofs.Common.{◌∙◌, sym, subst}
 use Rattle.std.proofs.lemmas.List.{take_all}
 use Rattle.std.proofs.lemmas.Result.{err_from_is_err_and}
-use Rattle.office_records.proofs.DraftRowLemmas.{Begun, begun_none, begun_next, begun_all, each_slot, next_row, scored_row}
+use Rattle.office_records.proofs.DraftRowLemmas.{Begun, begun_none, begun_next, begun_all}
+use Rattle.office_records.proofs.DraftRowLemmas.{each_slot, next_row, scored_row}
 use Rattle.office_records.proofs.drafts.check_drafts.Goals as goal
 
 pub rows-init : goal.rows-init
@@ -26,8 +27,8 @@ returns-in_err-check_draft-clause-none c =
 -- one row more
 pub rows-preserved : goal.rows-preserved
 rows-preserved c =
-    begun_next c.args.instance.now c.args.enrolments.now c.args.rows.now c.args.slots.now c.rows.at _
-    c.rows-test.true c.rows.invariant (c.is_next.ensures.0 c.if-not-is_next.false)
+    begun_next c.args.instance.now c.args.enrolments.now c.args.rows.now c.args.slots.now
+    c.rows.at _ c.rows-test.true c.rows.invariant (c.is_next.ensures.0 c.if-not-is_next.false)
     c.in_ok-check_draft.ensures.is
 
 -- each slot is of a draft that has a row
