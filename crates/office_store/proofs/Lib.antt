@@ -4,3 +4,4 @@ pub mod RunLemmas
 pub mod LoadLemmas
 pub mod DraftLemmas
 pub mod ReadLemmas
+pub mod CallLemmas
