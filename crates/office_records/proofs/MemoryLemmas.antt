@@ -1,7 +1,6 @@
 -- A database stands for one session, with one set of enrolments.
-use Rattle.std.proofs.Common.{◌≡◌, ◌≢◌, ℕ, zero, suc, ◌<◌, ◌≤◌, pos, Bool, true, false, List, [], ◌∷◌, map, length, Some, None, Ok, Err, Result, refl, sym, ◌∙◌, ap, arith, subst, All, inl, inr}
-use Rattle.std.specs.Prelude.{IsPermutation, option_map}
-use Rattle.std.specs.List.{list_any}
+use Rattle.std.proofs.Common.{◌≡◌, ℕ, zero, suc, ◌≤◌, pos, Bool, true, false, List, [], ◌∷◌, map, length, Some, None, Ok, Result, refl, sym, ◌∙◌, ap, arith, subst, All}
+use Rattle.std.specs.Prelude.{IsPermutation}
 use Rattle.std.proofs.lemmas.List.{length-replicate}
 use Rattle.std.proofs.lemmas.List.Folds.{sum_by-replicate}
 use Rattle.std.proofs.lemmas.List.Sorted.{IsPermutation-sym, IsPermutation-trans, IsPermutation-map, All-permutation, list_any-IsPermutation}
@@ -9,17 +8,17 @@ use Rattle.sqlite_value.specs.declared.value.Value.{Value}
 use Rattle.sqlite_value.specs.declared.value.Value.TheVariants.{Int, Blob}
 use Rattle.sqlite_value.specs.Order.{Row, column}
 use Rattle.sqlite.specs.Effect.{Database}
-use Rattle.exam_model.specs.Enrolments.{Enrolled, AreEnrolments, has, no_pairs, students}
+use Rattle.exam_model.specs.Enrolments.{Enrolled, AreEnrolments, no_pairs, students}
 use Rattle.exam_model.specs.Instance.{Session, IsInstance}
-use Rattle.exam_model.specs.Pairs.{Pair, pairs_of, is_pair, ArePairsOf}
+use Rattle.exam_model.specs.Pairs.{Pair, pairs_of, is_pair}
 use Rattle.exam_model.proofs.PairLemmas.{are_pairs}
 use Rattle.exam_model.proofs.SameSet.{same_set}
 use Rattle.office_files.specs.CanonicalText.{canonical_instance}
 use Rattle.office_files.specs.InstanceText.{instance_in}
 use Rattle.office_files.proofs.CanonicalInstance.{instance_same}
-use Rattle.office_tables.specs.Tables.{Tables, Stands as Held, Holds, Meta, meta_row, flag, keyed, keyless, enrol_row as enrol_columns, empty_tables}
+use Rattle.office_tables.specs.Tables.{Tables, Stands as Held, Holds, Meta, meta_row, flag, keyed, keyless, enrol_row as enrol_columns}
 use Rattle.office_tables.specs.declared.rows.EnrolRow.{EnrolRow}
-use Rattle.office_records.specs.Office.{OfficeState, Records, AreRecords, AreEnrolled, IsOffice}
+use Rattle.office_records.specs.Office.{OfficeState, Records, AreRecords, AreEnrolled}
 use Rattle.office_records.specs.Office.{memory_of}
 use Rattle.office_records.specs.Stands.{IsKept, Stands, StandsLoaded, enrol_row, meta_row as session_row}
 
