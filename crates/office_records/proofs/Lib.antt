@@ -1,3 +1,5 @@
 pub mod KeyLemmas
 pub mod MemoryLemmas
+pub mod SameTables
 pub mod SessionLemmas
+pub mod UnpublishedLemmas

@@ -31,7 +31,7 @@ module _ {X : Type 0} (show : Row → Row) (row : X → Row) (back : Row → X)
   backs (x ∷ xs) = ap (λ y. y ∷ map back (map row xs)) (is x) ∙ ap (λ l. x ∷ l) (backs xs)
 
   -- two lists of rows that one table holds are the same, up to order
-  same_rows : (xs ys : List X) (stored : List Row) → Holds show (map row xs) stored
+  pub same_rows : (xs ys : List X) (stored : List Row) → Holds show (map row xs) stored
       → Holds show (map row ys) stored → IsPermutation xs ys
   same_rows xs ys stored p q =
       let both = IsPermutation-trans _ _ _ (IsPermutation-sym _ _ p.same) q.same in
@@ -56,7 +56,7 @@ blob_of : Value → List ℕ
 blob_of (Blob b) = b
 blob_of _ = []
 
-meta_back : Row → Meta
+pub meta_back : Row → Meta
 meta_back row = record { published = is_one (column row 2); instance = blob_of (column row 3) }
 
 flags : (b : Bool) → is_one (Int (pos (flag b))) ≡ b
@@ -64,7 +64,7 @@ unfolding is_one
 flags true = refl
 flags false = refl
 
-meta_is : (m : Meta) → meta_back (meta_row m) ≡ m
+pub meta_is : (m : Meta) → meta_back (meta_row m) ≡ m
 unfolding meta_back blob_of
 meta_is m = ap (λ b. record { published = b; instance = m.instance }) (flags m.published)
 
