@@ -1,5 +1,6 @@
 pub mod KeyLemmas
 pub mod MemoryLemmas
+pub mod RecordLemmas
 pub mod SameTables
 pub mod SessionLemmas
 pub mod UnpublishedLemmas

@@ -124,7 +124,7 @@ columns_are : (r : EnrolRow) → columns_back (enrol_columns r) ≡ r
 unfolding columns_back
 columns_are r = refl
 
-same_enrolments : (I : Session) (E F : Enrolled) → AreEnrolled I E → AreEnrolled I F
+pub same_enrolments : (I : Session) (E F : Enrolled) → AreEnrolled I E → AreEnrolled I F
     → IsPermutation (map enrol_row (pairs_of E)) (map enrol_row (pairs_of F)) → E ≡ F
 same_enrolments I E F e f p =
     let pairs : IsPermutation (pairs_of E) (pairs_of F) =
