@@ -7,3 +7,7 @@ pub mod SlotLemmas
 pub mod OwnerRowLemmas
 pub mod ReorderLemmas
 pub mod ResultLemmas
+pub mod RecordLemmas
+pub mod SameTables
+pub mod SessionLemmas
+pub mod UnpublishedLemmas
