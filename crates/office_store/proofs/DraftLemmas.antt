@@ -26,7 +26,7 @@ use Rattle.office_records.proofs.MemoryLemmas.{same_one}
 -- ---- the rows of one draft
 
 -- the places of a draft are of that draft
-slots_are : (d n k : ℕ) (b : Bool) → eqb d n ≡ b → (T : Placing)
+pub slots_are : (d n k : ℕ) (b : Bool) → eqb d n ≡ b → (T : Placing)
     → slots_at n (slots_from d k T) ≡ cond b (slots_from d k T) []
 slots_are d n k true e [] = refl
 slots_are d n k false e [] = refl

@@ -5,3 +5,4 @@ pub mod RunLemmas
 pub mod LoadLemmas
 pub mod DraftLemmas
 pub mod CallLemmas
+pub mod ReadLemmas

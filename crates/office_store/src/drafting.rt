@@ -7,6 +7,7 @@ ghost use Rattle.office_tables.specs.Amounts.{AreAmounts};
 ghost use Rattle.office_store.specs.Beginning.{Begins};
 ghost use Rattle.office_store.specs.Commands.{draft_dropped, draft_in, draft_made, first_timetable};
 ghost use Rattle.office_records.specs.Office.{OfficeState};
+ghost use Rattle.office_store.specs.Reading.{AreScored};
 ghost use Rattle.office_store.specs.Running.{IsAwake, Now, Runs};
 ghost use Rattle.office_records.specs.Stands.{IsKept, once, parts_of, slots_from};
 
@@ -70,6 +71,8 @@ impl<S: Alter> Office<S> {
             → IsKept (state S.Store self.new).now office
             → IfOk result (λ rows. map (λ r. r.no) rows.items
                 ≡ once (is_some (draft_in number office)) number) }
+        ensures scored { HasCleanDisk (state S.Store self.new) → (office : OfficeState)
+            → Now (state S.Store self.old) office → IfOk result (λ rows. AreScored rows.items office) }
         ensures still { HasCleanDisk (state S.Store self.new) → (office : OfficeState)
             → Now (state S.Store self.old) office → Now (state S.Store self.new) office }
         ensures awake { HasCleanDisk (state S.Store self.new) → OnOk result (IsAwake (state S.Store self.new)) }
