@@ -5,7 +5,7 @@ ghost use Rattle.sqlite.specs.State.{HasCleanDisk};
 ghost use Rattle.exam_model.specs.Fits.{PlaceExists};
 ghost use Rattle.office_tables.specs.Amounts.{AreAmounts};
 ghost use Rattle.office_store.specs.Beginning.{Begins};
-ghost use Rattle.office_store.specs.Commands.{draft_dropped, draft_in, draft_made, first_timetable};
+ghost use Rattle.office_store.specs.Commands.{draft_dropped, draft_in, draft_made, first_timetable, is_draft_number};
 ghost use Rattle.office_records.specs.Office.{OfficeState};
 ghost use Rattle.office_store.specs.Running.{IsAwake, Now, Runs};
 ghost use Rattle.office_records.specs.Stands.{IsKept, once, parts_of, slots_from};
@@ -32,7 +32,7 @@ impl<S: Alter> Office<S> {
         let Some((instance, enrolments)) = &self.kept else {
             return Err(StoreFault::NotLoaded);
         };
-        if !(1..=8).contains(&number) {
+        if !is_draft_number(number) {
             return Err(StoreFault::NoDraft);
         }
         if !rows.is_empty() {
@@ -80,6 +80,12 @@ impl<S: Alter> Office<S> {
         let rows = drafts_of(alloc, &mut self.conn, number)?;
         Ok(rows)
     }
+}
+
+fn is_draft_number(number: u32) -> bool
+    ensures { result ≡ is_draft_number number }
+{
+    (1..=8).contains(&number)
 }
 
 // The penalty of a draft as it begins, and the rows of its places.
