@@ -133,8 +133,8 @@ pub begins_in : (o : OfficeState) (I : Session) (E : Enrolled) (of : IsKeptOf o 
     → Begins d bytes of.records.session of.records.enrolments penalty rows
 begins_in o I E of d bytes penalty slots rows same begins =
     subst (λ I. Begins d bytes I of.records.enrolments penalty rows) (sym of.session)
-      (subst (λ E. Begins d bytes I E penalty rows) (sym of.enrolments)
-        (subst (Begins d bytes I E penalty) (sym same) begins))
+    (subst (λ E. Begins d bytes I E penalty rows) (sym of.enrolments)
+    (subst (Begins d bytes I E penalty) (sym same) begins))
 
 pub begun_kept : (a b : Database) (r : Records) (d : ℕ) (bytes : List ℕ) (penalty : Penalty)
     (row : DraftRow) (slots : List SlotRow)
@@ -145,7 +145,7 @@ pub begun_kept : (a b : Database) (r : Records) (d : ℕ) (bytes : List ℕ) (pe
 begun_kept a b r d bytes penalty row slots begins number parts numbered free kept makes =
     let within = in_range d numbered in
     made_kept a b r d begins.timetable row slots number begins.rows (parts ∙ begins.scored)
-      (nothing (r.draft d) free) within.0 within.1 begins.fits kept makes
+    (nothing (r.draft d) free) within.0 within.1 begins.fits kept makes
 
 pub begun_made : (r : Records) (d : ℕ) (bytes : List ℕ) (penalty : Penalty) (slots : List SlotRow)
     (begins : Begins d bytes r.session r.enrolments penalty slots) → true ≡ is_draft_number d
@@ -155,4 +155,4 @@ pub begun_made : (r : Records) (d : ℕ) (bytes : List ℕ) (penalty : Penalty) 
 begun_made r d bytes penalty slots begins numbered free total is =
     made r d bytes numbered free begins.timetable begins.first
     ∙ ap (λ n. Ok (n, Some (record r { draft = set_at d (Some begins.timetable) r.draft })))
-      (ap total_of (sym begins.scored) ∙ sym is)
+    (ap total_of (sym begins.scored) ∙ sym is)

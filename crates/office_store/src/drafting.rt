@@ -64,12 +64,12 @@ impl<S: Alter> Office<S> {
         ensures rows { HasCleanDisk (state S.Store self.new) → (office : OfficeState)
             → Now (state S.Store self.old) office
             → IfOk result (λ rows. map (λ r. r.no) rows.items
-                ≡ once (is_some (draft_in number office)) number) }
+            ≡ once (is_some (draft_in number office)) number) }
         // The same of an office that the tables stand for now.
         ensures now { HasCleanDisk (state S.Store self.new) → (office : OfficeState)
             → IsKept (state S.Store self.new).now office
             → IfOk result (λ rows. map (λ r. r.no) rows.items
-                ≡ once (is_some (draft_in number office)) number) }
+            ≡ once (is_some (draft_in number office)) number) }
         ensures still { HasCleanDisk (state S.Store self.new) → (office : OfficeState)
             → Now (state S.Store self.old) office → Now (state S.Store self.new) office }
         ensures awake { HasCleanDisk (state S.Store self.new) → OnOk result (IsAwake (state S.Store self.new)) }
@@ -143,7 +143,11 @@ pub(crate) fn draft_row(number: u32, parts: Parts) -> DraftRow
 }
 
 // The rows of the placed exams, by exam.
-pub(crate) fn slot_rows(alloc: Global, draft: u32, timetable: &Timetable) -> Result<Vec<SlotRow>, AllocError>
+pub(crate) fn slot_rows(
+    alloc: Global,
+    draft: u32,
+    timetable: &Timetable,
+) -> Result<Vec<SlotRow>, AllocError>
     ensures { IfOk result (λ rows. rows.items ≡ slots_from draft 0 timetable.now) }
 {
     let mut rows = Vec::new(alloc);

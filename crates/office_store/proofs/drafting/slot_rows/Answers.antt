@@ -20,7 +20,7 @@ loop-exam-preserved c =
           ap (λ r. r.items) w.rows-is ∙ w.in_ok-push.ensures.items
           ∙ ap (λ l. l ++ row ∷ []) c.loop-exam.invariant
           ∙ ap (λ r. slots_from d 0 (take e T) ++ r ∷ [])
-            (same_row d e at _ _ w.get-in-Some.ensures w.get-in-Some-2.ensures)
+          (same_row d e at _ _ w.get-in-Some.ensures w.get-in-Some-2.ensures)
           ∙ sym (slots_more d e T (Some at) within (read ∙ w.in-Some.is))
       | in_default w ↦
           ap (λ r. r.items) w.rows-is ∙ c.loop-exam.invariant

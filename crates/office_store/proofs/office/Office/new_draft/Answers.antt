@@ -1,9 +1,8 @@
-use Rattle.std.proofs.Common.{rules, ◌≡◌, ◌≤◌, length, Some, None, Ok, Err, ap, ◌∙◌, sym, subst, arith, true, false}
+use Rattle.std.proofs.Common.{Some, None, Err, ap, ◌∙◌, sym, subst}
 use Rattle.std.specs.Prelude.{is_some}
 use Rattle.std.proofs.lemmas.Result.{err_from_is_err_and}
 use Rattle.sqlite.specs.Held.{state}
 use Rattle.sqlite.specs.State.{HasCleanDisk}
-use Rattle.exam_score.specs.Penalty.{total_of}
 use Rattle.office_store.specs.Changes.{draft_put}
 use Rattle.office_store.specs.Commands.{draft_in, draft_made, first_timetable}
 use Rattle.office_store.specs.Running.{Does, IsAtRest, Now}
@@ -140,7 +139,7 @@ returns-clause-runs g c clean office now =
       _,
       ap (draft_made d text) of.is
           ∙ begun_made of.records d text c.in_ok-parts.parts c.deref.result.now begins
-            c.if-not-is_draft_number.ensures free c.total.result c.total.ensures.total,
+          c.if-not-is_draft_number.ensures free c.total.result c.total.ensures.total,
       λ _. begun_kept mid.now new.now of.records d text c.in_ok-parts.parts c.draft_row.result
           c.deref.result.now begins
           c.draft_row.ensures.number c.draft_row.ensures.parts c.if-not-is_draft_number.ensures free
