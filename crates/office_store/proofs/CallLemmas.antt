@@ -1,27 +1,27 @@
 -- What a command on a draft gives, by whether there is one.
-use Rattle.std.proofs.Common.{◌≡◌, ◌⊎◌, ◌≤◌, inl, inr, subst, ℕ, Bool, true, false, not, eqb, List, [], ◌∷◌, map, length, Option, Some, None, Result, Ok, Err, refl, sym, ◌∙◌, ap, arith}
+use Rattle.std.proofs.Common.{◌≡◌, ◌⊎◌, ◌≤◌, inl, inr, ℕ, Bool, true, false, not, eqb, List, [], ◌∷◌, map, length, Option, Some, None, Result, Ok, Err, refl, sym, subst, ap, ◌∙◌, arith}
 use Rattle.std.specs.Prelude.{is_some}
 use Rattle.std.proofs.lemmas.Bool.Decides.{nat_tests}
-use Rattle.exam_model.specs.Refusing.{◌>>=◌, else_err}
-use Rattle.office_tables.specs.declared.rows.DraftRow.{DraftRow}
-use Rattle.office_store.specs.Commands.{Gives, draft_dropped, draft_made, first_timetable, is_draft_number, named, penalty_now}
-use Rattle.office_store.specs.declared.fault.StoreFault.TheVariants.{NoDraft, DraftTaken, Refused, Store}
-use Rattle.office_store.specs.declared.fault.StoreFault.{StoreFault}
-use Rattle.office_store.specs.declared.fault.Refusal.TheVariants.{File}
-use Rattle.office_store.specs.Running.{IsFault}
-use Rattle.office_files.specs.SolutionText.{solution_in}
-use Rattle.office_files.specs.declared.fault.FileFault.{FileFault}
-use Rattle.exam_model.specs.Instance.{Session}
-use Rattle.exam_model.specs.Timetable.{Placing}
-use Rattle.office_records.specs.Office.{OfficeState, Records, Memory, memory_of, set_at}
-use Rattle.office_records.specs.Stands.{IsKept, once, parts_of}
-use Rattle.office_tables.specs.declared.rows.SlotRow.{SlotRow}
-use Rattle.office_tables.specs.Tables.{Tables, Stands as Held}
 use Rattle.sqlite.specs.Effect.{Database}
 use Rattle.exam_model.specs.Enrolments.{Enrolled}
+use Rattle.exam_model.specs.Instance.{Session}
+use Rattle.exam_model.specs.Refusing.{◌>>=◌, else_err}
+use Rattle.exam_model.specs.Timetable.{Placing}
 use Rattle.exam_score.specs.Penalty.{Penalty, total_of}
+use Rattle.office_files.specs.SolutionText.{solution_in}
+use Rattle.office_files.specs.declared.fault.FileFault.{FileFault}
+use Rattle.office_tables.specs.Tables.{Tables, Stands as Held}
+use Rattle.office_tables.specs.declared.rows.DraftRow.{DraftRow}
+use Rattle.office_tables.specs.declared.rows.SlotRow.{SlotRow}
+use Rattle.office_records.specs.Office.{OfficeState, Records, Memory, memory_of, set_at}
+use Rattle.office_records.specs.Stands.{IsKept, once, parts_of}
 use Rattle.office_store.specs.Beginning.{Begins}
 use Rattle.office_store.specs.Changes.{draft_put}
+use Rattle.office_store.specs.Commands.{Gives, draft_dropped, draft_made, first_timetable, is_draft_number, named, penalty_now}
+use Rattle.office_store.specs.Running.{IsFault}
+use Rattle.office_store.specs.declared.fault.Refusal.TheVariants.{File}
+use Rattle.office_store.specs.declared.fault.StoreFault.{StoreFault}
+use Rattle.office_store.specs.declared.fault.StoreFault.TheVariants.{NoDraft, DraftTaken, Refused, Store}
 use Rattle.office_store.proofs.DraftLemmas.{made_kept}
 use Rattle.office_store.proofs.RunLemmas.{IsKeptOf}
 
@@ -35,17 +35,18 @@ row_tells [] false d e = refl
 row_tells (r ∷ rows) true d e = grind (arith, nat_tests)
 row_tells (r ∷ rows) false d e = absurd cc
 
+-- both ways round
 turned : (b c : Bool) → c ≡ not b → b ≡ not c
 turned true c e = ap not (sym e)
 turned false c e = ap not (sym e)
 
-pub no_row : (rows : List DraftRow) (n : ℕ) → n ≡ length rows → (b : Bool) (d : ℕ) → map (λ r. r.no) rows ≡ once b d
-    → true ≡ eqb n 0 → b ≡ false
+pub no_row : (rows : List DraftRow) (n : ℕ) → n ≡ length rows → (b : Bool) (d : ℕ)
+    → map (λ r. r.no) rows ≡ once b d → true ≡ eqb n 0 → b ≡ false
 no_row rows n is b d e none =
     turned b (eqb n 0) (ap (λ k. eqb k 0) is ∙ row_tells rows b d e) ∙ ap not (sym none)
 
-pub a_row : (rows : List DraftRow) (n : ℕ) → n ≡ length rows → (b : Bool) (d : ℕ) → map (λ r. r.no) rows ≡ once b d
-    → false ≡ eqb n 0 → b ≡ true
+pub a_row : (rows : List DraftRow) (n : ℕ) → n ≡ length rows → (b : Bool) (d : ℕ)
+    → map (λ r. r.no) rows ≡ once b d → false ≡ eqb n 0 → b ≡ true
 a_row rows n is b d e some =
     turned b (eqb n 0) (ap (λ k. eqb k 0) is ∙ row_tells rows b d e) ∙ ap not (sym some)
 
@@ -58,6 +59,7 @@ pub has_records : (o : OfficeState) (m : Memory) → memory_of o ≡ m → is_so
 has_records None m e some = absurd (let is : is_some m ≡ false = ap is_some (sym e) in cc)
 has_records (Some r) m e some = record { records = r; is = refl }
 
+-- where nothing is there
 nothing : {X : Type 0} (o : Option X) → is_some o ≡ false → o ≡ None
 nothing None e = refl
 nothing (Some x) e = absurd cc
@@ -115,6 +117,7 @@ first_fault (b ∷ bytes) I e h = go (solution_in I (b ∷ bytes)) h
     go (Ok T) h = absurd cc
     go (Err f) h = (f, cc)
 
+-- its own refusal, or want of memory
 pub made_fault : (gives : Gives ℕ) (bytes : List ℕ) (I : Session) (e : StoreFault)
     → (first_timetable bytes I ≡ Err e → gives ≡ Err e)
     → (e ≡ Store) ⊎ (first_timetable bytes I ≡ Err e) → IsFault gives e
@@ -136,6 +139,7 @@ begins_in o I E of d bytes penalty slots rows same begins =
     (subst (λ E. Begins d bytes I E penalty rows) (sym of.enrolments)
     (subst (Begins d bytes I E penalty) (sym same) begins))
 
+-- what stands then, and what is answered
 pub begun_kept : (a b : Database) (r : Records) (d : ℕ) (bytes : List ℕ) (penalty : Penalty)
     (row : DraftRow) (slots : List SlotRow)
     (begins : Begins d bytes r.session r.enrolments penalty slots) → row.no ≡ d

@@ -75,13 +75,15 @@ module _ (t : Tables) (r : Records) (d : ℕ) (T : Placing) (row : DraftRow) (sl
   made_draft n true e =
       let same : row.no ≡ n = grind (arith, nat_tests, e, number_is) in
       let passes : eqb row.no n ≡ true = grind (arith, nat_tests, same) in
-      ap (λ c. map (λ (x : DraftRow). x.no) (cond c (row ∷ drafts_at n t.draft) (drafts_at n t.draft)))
+      ap (λ c. map (λ (x : DraftRow). x.no)
+      (cond c (row ∷ drafts_at n t.draft) (drafts_at n t.draft)))
       passes
       ∙ ap (λ l. row.no ∷ l) (h.draft n ∙ ap (λ o. once (is_some o) n) (free_at n e))
       ∙ ap (λ m. m ∷ []) same
   made_draft n false e =
       let fails : eqb row.no n ≡ false = grind (arith, nat_tests, e, number_is) in
-      ap (λ c. map (λ (x : DraftRow). x.no) (cond c (row ∷ drafts_at n t.draft) (drafts_at n t.draft)))
+      ap (λ c. map (λ (x : DraftRow). x.no)
+      (cond c (row ∷ drafts_at n t.draft) (drafts_at n t.draft)))
       fails
       ∙ h.draft n
 
@@ -98,12 +100,14 @@ module _ (t : Tables) (r : Records) (d : ℕ) (T : Placing) (row : DraftRow) (sl
       (IsPermutation-filter (λ (s : SlotRow). eqb s.draft n) _ _ turned)
 
   made_slot : (n : ℕ) (b : Bool) → eqb n d ≡ b
-      → IsPermutation (slots_at n (reverse slots ++ t.slot)) (slot_rows n (cond b (Some T) (r.draft n)))
+      → IsPermutation (slots_at n (reverse slots ++ t.slot))
+      (slot_rows n (cond b (Some T) (r.draft n)))
   made_slot n true e =
       let same : d ≡ n = grind (arith, nat_tests, e) in
       let passes : eqb d n ≡ true = grind (arith, nat_tests, e) in
       let empty : slots_at n t.slot ≡ [] =
-      no_rows _ (subst (λ o. IsPermutation (slots_at n t.slot) (slot_rows n o)) (free_at n e) (h.slot n)) in
+      no_rows _ (subst (λ o. IsPermutation (slots_at n t.slot) (slot_rows n o)) (free_at n e)
+      (h.slot n)) in
       let is : slots_at n (slots_from d 0 T) ++ slots_at n t.slot ≡ slot_rows n (Some T) =
       ap (λ l. l ++ slots_at n t.slot) (slots_are d n 0 true passes T)
       ∙ ap (λ l. slots_from d 0 T ++ l) empty
@@ -114,9 +118,11 @@ module _ (t : Tables) (r : Records) (d : ℕ) (T : Placing) (row : DraftRow) (sl
       let is : slots_at n (slots_from d 0 T) ++ slots_at n t.slot ≡ slots_at n t.slot =
       ap (λ l. l ++ slots_at n t.slot) (slots_are d n 0 false fails T) in
       IsPermutation-trans _ _ _
-      (subst (λ l. IsPermutation (slots_at n (reverse slots ++ t.slot)) l) is (made_rows n)) (h.slot n)
+      (subst (λ l. IsPermutation (slots_at n (reverse slots ++ t.slot)) l) is (made_rows n))
+      (h.slot n)
 
-  made_stands : StandsLoaded (draft_put row slots t) (record r { draft = set_at d (Some T) r.draft })
+  made_stands : StandsLoaded (draft_put row slots t)
+      (record r { draft = set_at d (Some T) r.draft })
   made_stands = record {
     meta = h.meta;
     owner = h.owner;
@@ -140,7 +146,8 @@ module _ (t : Tables) (r : Records) (d : ℕ) (T : Placing) (row : DraftRow) (sl
   made_sound scored sound = (
     own,
     none_pass (λ (x : DraftRow). eqb x.no d) (IsScoredRow r)
-        (IsScoredRow (record r { draft = set_at d (Some T) r.draft })) other t.draft none_there sound,
+        (IsScoredRow (record r { draft = set_at d (Some T) r.draft })) other t.draft none_there
+        sound,
   )
     where
       own : (S : Placing) → cond (eqb row.no d) (Some T) (r.draft row.no) ≡ Some S
@@ -165,16 +172,19 @@ made_records r d T low high fits h = record {
   drafts = λ n S. fit n S (eqb n d);
 }
   where
-    number : (n : ℕ) (b : Bool) → eqb n d ≡ b → IsSome (cond b (Some T) (r.draft n)) → (1 ≤ n) × (n ≤ 8)
+    number : (n : ℕ) (b : Bool) → eqb n d ≡ b → IsSome (cond b (Some T) (r.draft n))
+        → (1 ≤ n) × (n ≤ 8)
     number n true e some = (grind (arith, nat_tests, e, low), grind (arith, nat_tests, e, high))
     number n false e some = h.numbered n some
 
-    fit : (n : ℕ) (S : Placing) (b : Bool) → cond b (Some T) (r.draft n) ≡ Some S → Fits r.session r.enrolments S
+    fit : (n : ℕ) (S : Placing) (b : Bool) → cond b (Some T) (r.draft n) ≡ Some S
+        → Fits r.session r.enrolments S
     fit n S true e = subst (Fits r.session r.enrolments) (some_is T S e) fits
     fit n S false e = h.drafts n S e
 
-pub made_kept : (a b : Database) (r : Records) (d : ℕ) (T : Placing) (row : DraftRow) (slots : List SlotRow)
-    → row.no ≡ d → slots ≡ slots_from d 0 T → parts_of row ≡ track r.session r.enrolments T
+pub made_kept : (a b : Database) (r : Records) (d : ℕ) (T : Placing) (row : DraftRow)
+    (slots : List SlotRow) → row.no ≡ d → slots ≡ slots_from d 0 T
+    → parts_of row ≡ track r.session r.enrolments T
     → r.draft d ≡ None → 1 ≤ d → d ≤ 8 → Fits r.session r.enrolments T → IsKept a (Some r)
     → ((t : Tables) → Held a t → Held b (draft_put row slots t))
     → IsKept b (Some (record r { draft = set_at d (Some T) r.draft }))
@@ -251,7 +261,8 @@ left_records r d h = record {
     number n true some = absurd cc
     number n false some = h.numbered n some
 
-    fit : (n : ℕ) (S : Placing) (b : Bool) → cond b None (r.draft n) ≡ Some S → Fits r.session r.enrolments S
+    fit : (n : ℕ) (S : Placing) (b : Bool) → cond b None (r.draft n) ≡ Some S
+        → Fits r.session r.enrolments S
     fit n S true e = absurd cc
     fit n S false e = h.drafts n S e
 
@@ -273,7 +284,8 @@ one_or_none false n [] p = refl
 one_or_none false n (y ∷ ys) p = absurd (let long = length_permutation _ _ p in omega (arith, long))
 one_or_none true n [] p = absurd (let long = length_permutation _ _ p in omega (arith, long))
 one_or_none true n (y ∷ []) p = ap (λ z. z ∷ []) (same_one n y p)
-one_or_none true n (y ∷ z ∷ ys) p = absurd (let long = length_permutation _ _ p in omega (arith, long))
+one_or_none true n (y ∷ z ∷ ys) p =
+    absurd (let long = length_permutation _ _ p in omega (arith, long))
 
 pub draft_read : (t : Tables) (o : OfficeState) (d : ℕ) (rows : List DraftRow) → Stands t o
     → IsPermutation (filter (λ r. eqb r.no d) t.draft) rows

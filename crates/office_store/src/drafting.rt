@@ -21,12 +21,13 @@ use sqlite::Alter;
 use std::alloc::{AllocError, Global};
 
 impl<S: Alter> Office<S> {
-    /// Makes a draft, 1 to 8, and answers its penalty: no exam is placed where the text is empty, else
-    /// it is the timetable of a solution file, with or without breaches. `NotLoaded`, `NoDraft`: not 1
-    /// to 8, `DraftTaken`, then `Refused`: the file is faulty.
+    /// Makes a draft, 1 to 8, and answers its penalty. No exam is placed where the text is empty,
+    /// else it is the timetable of a solution file, with or without breaches. `NotLoaded`; then
+    /// `NoDraft`: not 1 to 8; then `DraftTaken`; then `Refused`: the file is faulty.
     pub fn new_draft(&mut self, alloc: Global, number: u32, text: &[u8]) -> Result<u64, StoreFault>
         ensures runs { Runs S.Store (draft_made number text.now) self.old self.new result }
-        ensures clean { HasCleanDisk (state S.Store self.new) → HasCleanDisk (state S.Store self.old) }
+        ensures clean { HasCleanDisk (state S.Store self.new)
+            → HasCleanDisk (state S.Store self.old) }
     {
         let rows = self.drafts(alloc, number)?;
         let Some((instance, enrolments)) = &self.kept else {
@@ -46,7 +47,8 @@ impl<S: Alter> Office<S> {
     /// Takes a draft out. `NotLoaded`, then `NoDraft`: there is none of this number.
     pub fn drop_draft(&mut self, alloc: Global, number: u32) -> Result<(), StoreFault>
         ensures runs { Runs S.Store (draft_dropped number) self.old self.new result }
-        ensures clean { HasCleanDisk (state S.Store self.new) → HasCleanDisk (state S.Store self.old) }
+        ensures clean { HasCleanDisk (state S.Store self.new)
+            → HasCleanDisk (state S.Store self.old) }
     {
         let rows = self.drafts(alloc, number)?;
         if self.kept.is_none() {
@@ -72,9 +74,11 @@ impl<S: Alter> Office<S> {
             ≡ once (is_some (draft_in number office)) number) }
         ensures still { HasCleanDisk (state S.Store self.new) → (office : OfficeState)
             → Now (state S.Store self.old) office → Now (state S.Store self.new) office }
-        ensures awake { HasCleanDisk (state S.Store self.new) → OnOk result (IsAwake (state S.Store self.new)) }
+        ensures awake { HasCleanDisk (state S.Store self.new)
+            → OnOk result (IsAwake (state S.Store self.new)) }
         ensures fault { IfErr result (λ e. e ≡ StoreFault.Store) }
-        ensures clean { HasCleanDisk (state S.Store self.new) → HasCleanDisk (state S.Store self.old) }
+        ensures clean { HasCleanDisk (state S.Store self.new)
+            → HasCleanDisk (state S.Store self.old) }
     {
         self.look()?;
         let rows = drafts_of(alloc, &mut self.conn, number)?;

@@ -16,7 +16,9 @@ loop-exam-preserved c =
     elim c.match-get.branch [
       | in-Some+in_ok-push w ↦
           let at = w.in-Some.place in
-          let row = slot_row d e (record { period = w.get-in-Some.result; room = w.get-in-Some-2.result }) in
+          let period = w.get-in-Some.result in
+          let room = w.get-in-Some-2.result in
+          let row = slot_row d e (record { period = period; room = room }) in
           ap (λ r. r.items) w.rows-is ∙ w.in_ok-push.ensures.items
           ∙ ap (λ l. l ++ row ∷ []) c.loop-exam.invariant
           ∙ ap (λ r. slots_from d 0 (take e T) ++ r ∷ [])

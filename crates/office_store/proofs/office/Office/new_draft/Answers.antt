@@ -51,7 +51,7 @@ returns-then-not-is_empty-clause-runs g c clean office now =
     (subst (λ h. IsAtRest (state g.S.Store h) c.self.inside.kept) c.self.view_is
     c.self.invariant.1) in
     let of = kept_of office _ _ (at_hand mid _ office rest clean awake.0 here) in
-    let there = a_row c.in_ok-rows.rows.items _ c.in_ok-rows.rows.ok.0 (is_some (draft_in d office)) d
+    let there = a_row c.in_ok-rows.rows.items _ c.in_ok-rows.rows.ok.0 _ d
     (c.in_ok-rows.ensures.rows clean office now) c.if-not-is_empty.ensures in (
       ap (draft_made d c.args.text.now) of.is
           ∙ made_taken of.records d c.args.text.now c.if-not-is_draft_number.ensures
@@ -71,7 +71,7 @@ returns-in_err-parts-clause-runs g c clean office now =
     (subst (λ h. IsAtRest (state g.S.Store h) c.self.inside.kept) c.self.view_is
     c.self.invariant.1) in
     let of = kept_of office _ _ (at_hand mid _ office rest clean awake.0 here) in
-    let free = no_row c.in_ok-rows.rows.items _ c.in_ok-rows.rows.ok.0 (is_some (draft_in d office)) d
+    let free = no_row c.in_ok-rows.rows.items _ c.in_ok-rows.rows.ok.0 _ d
     (c.in_ok-rows.ensures.rows clean office now) c.if-not-is_empty.ensures in
     let error = c.in_err-parts.field-0.0 in
     let gives = made_refused of.records d text c.if-not-is_draft_number.ensures
@@ -80,7 +80,8 @@ returns-in_err-parts-clause-runs g c clean office now =
     c.from_residual-in_err-parts.ensures.1 in
     subst (Does (draft_made d text office) office (Now mid)) (sym (given.1 ∙ ap Err given.2)) (
       made_fault (draft_made d text office) text c.in-Some.instance error
-          (λ none. ap (draft_made d text) of.is ∙ gives (ap (first_timetable text) of.session ∙ none))
+          (λ none. ap (draft_made d text) of.is
+          ∙ gives (ap (first_timetable text) of.session ∙ none))
           c.in_err-parts.ensures.err,
       λ _. here,
     )
@@ -97,14 +98,16 @@ invariant_of-self-2 g c = (
       let here = c.self.invariant.1 clean_in done.was_open in
       let kept = subst (λ h. IsKept (state g.S.Store h).now here.0) c.self.view_is here.1 in
       let of = kept_of here.0 _ _ (here.2 ∙ c.in-Some.is) in
-      let free = no_row c.in_ok-rows.rows.items _ c.in_ok-rows.rows.ok.0 (is_some (draft_in d here.0)) d
+      let free = no_row c.in_ok-rows.rows.items _ c.in_ok-rows.rows.ok.0 _ d
       (c.in_ok-rows.ensures.now
       (subst (λ h. HasCleanDisk (state g.S.Store h)) c.self.view_is clean_in) here.0 kept)
       c.if-not-is_empty.ensures in
-      let begins = begins_in here.0 c.in-Some.instance c.in-Some.enrolments of d c.args.text.now
-      c.in_ok-parts.parts c.in_ok-parts.slots.items c.deref.result.now c.deref.ensures.value c.in_ok-parts.ensures.ok in (
+      let text = c.args.text.now in
+      let begins = begins_in here.0 c.in-Some.instance c.in-Some.enrolments of d text
+      c.in_ok-parts.parts c.in_ok-parts.slots.items c.deref.result.now c.deref.ensures.value
+      c.in_ok-parts.ensures.ok in (
         _,
-        begun_kept inside.now new.now of.records d c.args.text.now c.in_ok-parts.parts c.draft_row.result
+        begun_kept inside.now new.now of.records d text c.in_ok-parts.parts c.draft_row.result
             c.deref.result.now begins
             c.draft_row.ensures.number c.draft_row.ensures.parts c.if-not-is_draft_number.ensures
             (ap (λ o. is_some (draft_in d o)) (sym of.is) ∙ free)
@@ -129,11 +132,12 @@ returns-clause-runs g c clean office now =
     (subst (λ h. IsAtRest (state g.S.Store h) c.self.inside.kept) c.self.view_is
     c.self.invariant.1) in
     let of = kept_of office _ _ (at_hand mid _ office rest clean_mid awake.0 here) in
-    let none = no_row c.in_ok-rows.rows.items _ c.in_ok-rows.rows.ok.0 (is_some (draft_in d office)) d
+    let none = no_row c.in_ok-rows.rows.items _ c.in_ok-rows.rows.ok.0 _ d
     (c.in_ok-rows.ensures.rows clean_mid office now) c.if-not-is_empty.ensures in
     let free = ap (λ o. is_some (draft_in d o)) (sym of.is) ∙ none in
-    let begins = begins_in office c.in-Some.instance c.in-Some.enrolments of d text c.in_ok-parts.parts
-    c.in_ok-parts.slots.items c.deref.result.now c.deref.ensures.value c.in_ok-parts.ensures.ok in
+    let begins = begins_in office c.in-Some.instance c.in-Some.enrolments of d text
+    c.in_ok-parts.parts c.in_ok-parts.slots.items c.deref.result.now c.deref.ensures.value
+    c.in_ok-parts.ensures.ok in
     let changed = subst (λ h. Changed (draft_put c.draft_row.result c.deref.result.now)
     (state g.S.Store h) new) c.self.view_is (c.in_ok-put_draft.ensures.done clean) in (
       _,
