@@ -95,7 +95,7 @@ fn first_timetable(alloc: Global, instance: &Instance, text: &[u8]) -> Result<Ti
     }
 }
 
-fn draft_row(number: u32, parts: Parts) -> DraftRow
+pub(crate) fn draft_row(number: u32, parts: Parts) -> DraftRow
     ensures number { result.no ≡ number }
     ensures parts { parts_of result ≡ parts }
     ensures amounts { AreAmounts result }

@@ -3,6 +3,7 @@
 
 mod drafting;
 mod edit;
+mod editing;
 mod fault;
 mod loading;
 mod office;
