@@ -3,3 +3,4 @@ pub mod Changes
 pub mod Faults
 pub mod Turning
 pub mod Running
+pub mod Reading

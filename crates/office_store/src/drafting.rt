@@ -61,11 +61,11 @@ impl<S: Alter> Office<S> {
     }
 
     // The row of a draft: one, or none.
-    fn drafts(&mut self, alloc: Global, number: u32) -> Result<Vec<DraftRow>, StoreFault>
+    pub(crate) fn drafts(&mut self, alloc: Global, number: u32) -> Result<Vec<DraftRow>, StoreFault>
         ensures rows { HasCleanDisk (state S.Store self.new) → (office : OfficeState)
             → Now (state S.Store self.old) office
             → IfOk result (λ rows. map (λ r. r.no) rows.items
-                ≡ once (is_some (draft_in number office)) number) }
+            ≡ once (is_some (draft_in number office)) number) }
         ensures still { HasCleanDisk (state S.Store self.new) → (office : OfficeState)
             → Now (state S.Store self.old) office → Now (state S.Store self.new) office }
         ensures awake { HasCleanDisk (state S.Store self.new) → OnOk result (IsAwake (state S.Store self.new)) }

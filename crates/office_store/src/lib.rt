@@ -8,6 +8,7 @@ mod fault;
 mod loading;
 mod office;
 mod owning;
+mod reading;
 mod transactions;
 
 pub use edit::Edit;
