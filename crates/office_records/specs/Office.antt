@@ -47,3 +47,8 @@ Memory = Option (Session × Enrolled)
 
 abbrev pub memory_of : OfficeState → Memory
 memory_of office = option_map (λ r. (r.session, r.enrolments)) office
+
+-- they speak of one number of exams
+abbrev pub AreTogether : Memory → Type 0
+AreTogether None = Unit {0}
+AreTogether (Some kept) = length kept.1 ≡ length kept.0.exams

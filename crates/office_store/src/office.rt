@@ -26,6 +26,7 @@ pub struct Office<S: Alter> {
 impl<S: Alter> Model for Office<S> {
     ghost use Rattle.std.specs.Prelude.{◌≡◌, false};
     ghost use Rattle.sqlite.specs.Held.{Held, held_code, state};
+    ghost use Rattle.office_records.specs.Office.{AreTogether};
     ghost use Rattle.office_store.specs.Running.{IsAtRest};
 
     ghost Value = { Held S };
@@ -34,7 +35,8 @@ impl<S: Alter> Model for Office<S> {
 
     ghost view = { λ o. o.conn };
 
-    ghost invariant = { λ o. (o.conn.in_transaction ≡ false) × IsAtRest (state S.Store o.conn) o.kept };
+    ghost invariant = { λ o. (o.conn.in_transaction ≡ false)
+        × IsAtRest (state S.Store o.conn) o.kept × AreTogether o.kept };
 }
 
 impl<S: Alter> Office<S> {

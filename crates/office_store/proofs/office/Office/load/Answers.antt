@@ -86,4 +86,5 @@ invariant_of-self-2 g c = (
             }),
         refl,
       ),
+  as_many c.args.text.now c.in-Ok.read.0 c.in-Ok.read.1 c.in-Ok.ensures.reading,
 )

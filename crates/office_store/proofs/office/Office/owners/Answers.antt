@@ -21,6 +21,7 @@ invariant_of-self g c =
           (c.in_ok-look.ensures.awake
           (subst (λ h. HasCleanDisk (state g.S.Store h)) c.self.view_is (clean k))))
           c.owners_of.ensures.kept,
+      c.self.invariant.2,
     )
 
 pub returns-clause-rows : goal.returns-clause-rows

@@ -87,4 +87,5 @@ invariant_of-self-2 g c = (
             (subst (λ o. IsKept inside.now o) of.is here.1) done.makes exists c.requires.dept,
         ap memory_of (sym of.is) ∙ here.2,
       ),
+  c.self.invariant.2,
 )
