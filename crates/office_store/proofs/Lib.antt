@@ -3,3 +3,4 @@ pub mod TurnLemmas
 pub mod RunLemmas
 pub mod LoadLemmas
 pub mod DraftLemmas
+pub mod EditLemmas

@@ -57,8 +57,9 @@ fn apply(alloc: Global, draft: &mut Draft<'_>, edit: Edit) -> Result<(), EditFau
 fn exams_of(alloc: Global, edit: Edit) -> Result<Vec<ExamNo>, AllocError>
     ensures { IfOk result (λ exams. exams.items ≡ exams_of edit) }
 {
-    match edit {
-        Edit::Place(exam, _) | Edit::Move(exam, _) | Edit::Clear(exam) => vec![in alloc; exam],
-        Edit::Swap(one, other) => vec![in alloc; one, other],
-    }
+    let exams = match edit {
+        Edit::Place(exam, _) | Edit::Move(exam, _) | Edit::Clear(exam) => vec![in alloc; exam]?,
+        Edit::Swap(one, other) => vec![in alloc; one, other]?,
+    };
+    Ok(exams)
 }
