@@ -1,225 +1,191 @@
--- A draft that is edited: the rows of the exams that it places anew.
-use Rattle.std.proofs.Common.{◌≡◌, ◌≢◌, ℕ, zero, suc, ◌+◌, ◌<◌, ◌≤◌, Bool, true, false, cond, not, eqb, ◌&&◌, ◌||◌, List, [], ◌∷◌, ◌++◌, filter, set, Option, Some, None, refl, sym, ◌∙◌, ap, subst, arith, length, take, get_or, inl, inr}
-use Rattle.std.specs.Prelude.{IsPermutation, All}
+-- A draft that is edited.
+use Rattle.std.proofs.Common.{◌≡◌, ℕ, ◌<◌, Bool, true, false, cond, not, eqb, ◌&&◌, ◌||◌, List, [], ◌∷◌, map, filter, set, Option, Some, None, Result, Ok, Err, refl, sym, ◌∙◌, ap, subst, arith, length}
+use Rattle.std.specs.Prelude.{IsPermutation, IsSome, is_some}
 use Rattle.std.specs.List.{AllByRecursion}
-use Rattle.std.proofs.lemmas.Bool.{cases_Bool}
 use Rattle.std.proofs.lemmas.Bool.Decides.{nat_tests}
-use Rattle.std.proofs.lemmas.Grind.{get_or-set_at}
-use Rattle.std.proofs.lemmas.List.{ext_get_or, get_or-set_other, take_all, take_more}
-use Rattle.std.proofs.Math.ListN.{length-set}
-use Rattle.std.proofs.lemmas.List.Sorted.{IsPermutation-refl, IsPermutation-sym, IsPermutation-trans, IsPermutation-cons, IsPermutation-middle}
-use Rattle.sqlite_trees.proofs.ListLemmas.{IsPermutation-filter, filter-filter}
+use Rattle.std.proofs.lemmas.List.{get_or-set_other}
 use Rattle.sqlite.specs.Effect.{Database}
+use Rattle.exam_model.specs.Enrolments.{Enrolled}
+use Rattle.exam_model.specs.Fits.{Fits}
+use Rattle.exam_model.specs.Instance.{Session}
+use Rattle.exam_model.specs.Refusing.{◌>>=◌, unless, else_err}
 use Rattle.exam_model.specs.Timetable.{Placing, place_of}
-use Rattle.exam_model.specs.declared.parts.Place.{Place}
-use Rattle.exam_score.specs.Changes.{DiffersAtMost, is_among}
-use Rattle.office_tables.specs.Changes.{with_slot, without_slot}
+use Rattle.exam_rules.specs.declared.breach.Breach.{Breach}
+use Rattle.exam_rules.specs.Breaches.{least_breach_of}
+use Rattle.exam_score.specs.Changes.{DiffersAtMost}
+use Rattle.exam_score.specs.Track.{track}
+use Rattle.exam_draft.specs.Edits.{exam_exists, place_exists, is_placed, if_unbroken, unless_broken}
 use Rattle.office_tables.specs.Tables.{Tables, Stands as Held}
-use Rattle.office_tables.specs.declared.rows.SlotRow.{SlotRow}
-use Rattle.office_store.specs.Changes.{slot_put, slots_put}
-use Rattle.office_records.specs.Stands.{slots_at, slots_from, slot_row}
+use Rattle.office_tables.specs.Changes.{with_draft, without_draft}
+use Rattle.office_tables.specs.declared.rows.DraftRow.{DraftRow}
+use Rattle.office_store.specs.Changes.{edit_put}
+use Rattle.office_store.specs.Commands.{edited, exams_of}
+use Rattle.office_store.specs.declared.edit.Edit.{Edit}
+use Rattle.office_store.specs.declared.edit.Edit.TheVariants as edit
+use Rattle.office_records.specs.Office.{Records, set_at}
+use Rattle.office_records.specs.Stands.{StandsLoaded, IsSound, IsScoredRow, IsKept, drafts_at, slots_at, slots_from, slot_rows, parts_of, once}
+use Rattle.office_records.proofs.KeyLemmas.{none_of, all_of_other, each_left}
+use Rattle.office_store.proofs.DraftLemmas.{made_records}
+use Rattle.office_store.proofs.SlotLemmas.{only_slots, others_as_before, places_put}
 
--- two filters, in either order
-filter_swap : {X : Type 0} (p q : X → Bool) (xs : List X)
-    → filter p (filter q xs) ≡ filter q (filter p xs)
-filter_swap p q [] = refl
-filter_swap p q (x ∷ xs) = elim (cases_Bool (p x)) [
-  | inl a ↦ elim (cases_Bool (q x)) [
-      | inl b ↦ rw (b, a, b) (ap (λ l. x ∷ l) (filter_swap p q xs))
-      | inr b ↦ rw (b, a, b) (filter_swap p q xs)
-    ]
-  | inr a ↦ elim (cases_Bool (q x)) [
-      | inl b ↦ rw (b, a) (filter_swap p q xs)
-      | inr b ↦ rw (b, a) (filter_swap p q xs)
-    ]
-]
+-- ---- what an edit changes
 
--- ---- the places of a timetable but one
+-- the exams exist, and the others stand where they stood
+pub record Touches (exams : List ℕ) (old new : Placing) (count : ℕ) : Type 0 where
+  pub exist : AllByRecursion (λ e. e < count) exams
+  pub others : DiffersAtMost exams old new
 
-abbrev is_slot : ℕ → ℕ → SlotRow → Bool
-is_slot d e s = eqb s.draft d && eqb s.exam e
+-- what went on was not refused
+goes_on : {B F : Type 0} (b : Bool) (f : F) (x : Result B F) (y : B) → (unless b f >>= (λ _. x)) ≡ Ok y
+    → (b ≡ true) × (x ≡ Ok y)
+goes_on true f x y h = (refl, h)
+goes_on false f x y h = absurd cc
 
-abbrev but_slot : ℕ → ℕ → List SlotRow → List SlotRow
-but_slot d e rows = filter (λ s. not (is_slot d e s)) rows
+unbroken : (o : Option Breach) (S new : Placing) → unless_broken o S ≡ Ok new → S ≡ new
+unbroken None S new h = cc
+unbroken (Some b) S new h = absurd cc
 
--- a row that is another's, or the exam's own, in front of others
-stays : (d e : ℕ) (s : SlotRow) (rows : List SlotRow) → is_slot d e s ≡ false
-    → but_slot d e (s ∷ rows) ≡ s ∷ but_slot d e rows
-stays d e s rows f =
-    ap (λ b. cond (not b) (s ∷ but_slot d e rows) (but_slot d e rows)) f
+one_differs : (T : Placing) (e : ℕ) (o : _) → DiffersAtMost (e ∷ []) T (set T e o)
+one_differs T e o x none = get_or-set_other T e x o None (grind (arith, nat_tests, none))
 
-goes : (d e : ℕ) (s : SlotRow) (rows : List SlotRow) → is_slot d e s ≡ true
-    → but_slot d e (s ∷ rows) ≡ but_slot d e rows
-goes d e s rows f =
-    ap (λ b. cond (not b) (s ∷ but_slot d e rows) (but_slot d e rows)) f
+two_differ : (T : Placing) (a b : ℕ) (p q : _) → DiffersAtMost (a ∷ (b ∷ [])) T (set (set T a p) b q)
+two_differ T a b p q x none =
+    get_or-set_other (set T a p) b x q None (grind (arith, nat_tests, none))
+    ∙ get_or-set_other T a x p None (grind (arith, nat_tests, none))
 
-not_of_exam : (d e k : ℕ) → k ≢ e → (eqb d d && eqb k e) ≡ false
-not_of_exam d e k differ = grind (arith, nat_tests, differ)
+pub touched : (I : Session) (E : Enrolled) (T new : Placing) (change : Edit) → edited I E T change ≡ Ok new
+    → Touches (exams_of change) T new (length I.exams)
+touched I E T new (edit.Place e at) h =
+    let known = goes_on (exam_exists I e && place_exists I at) _ _ _ h in
+    let free = goes_on (not (is_placed T e)) _ _ _ known.1 in
+    let is = unbroken (least_breach_of I E (set T e (Some at)) (e ∷ [])) (set T e (Some at)) new free.1 in
+    record {
+      exist = (grind (arith, nat_tests, known.0), tt);
+      others = subst (DiffersAtMost (e ∷ []) T) is (one_differs T e (Some at));
+    }
+touched I E T new (edit.Move e at) h =
+    let known = goes_on (exam_exists I e && place_exists I at) _ _ _ h in
+    let placed = goes_on (is_placed T e) _ _ _ known.1 in
+    let is = unbroken (least_breach_of I E (set T e (Some at)) (e ∷ [])) (set T e (Some at)) new placed.1 in
+    record {
+      exist = (grind (arith, nat_tests, known.0), tt);
+      others = subst (DiffersAtMost (e ∷ []) T) is (one_differs T e (Some at));
+    }
+touched I E T new (edit.Swap a b) h =
+    let known = goes_on (exam_exists I a && exam_exists I b) _ _ _ h in
+    let placed = goes_on (is_placed T a && is_placed T b) _ _ _ known.1 in
+    let two = goes_on (not (eqb a b)) _ _ _ placed.1 in
+    let swapped = set (set T a (place_of T b)) b (place_of T a) in
+    let is = unbroken (least_breach_of I E swapped (a ∷ (b ∷ []))) swapped new two.1 in
+    record {
+      exist = (grind (arith, nat_tests, known.0), (grind (arith, nat_tests, known.0), tt));
+      others = subst (DiffersAtMost (a ∷ (b ∷ [])) T) is (two_differ T a b (place_of T b) (place_of T a));
+    }
+touched I E T new (edit.Clear e) h =
+    let known = goes_on (exam_exists I e) _ _ _ h in
+    let placed = goes_on (is_placed T e) _ _ _ known.1 in
+    let is : set T e None ≡ new = let ok = placed.1 in cc in
+    record {
+      exist = (grind (arith, nat_tests, known.0), tt);
+      others = subst (DiffersAtMost (e ∷ []) T) is (one_differs T e None);
+    }
 
-of_exam : (d e k : ℕ) → k ≡ e → (eqb d d && eqb k e) ≡ true
-of_exam d e k same = grind (arith, nat_tests, same)
+-- ---- the tables after it
 
--- an exam below has no place among them
-none_below : (d e k : ℕ) (T : Placing) → e < k → but_slot d e (slots_from d k T) ≡ slots_from d k T
-none_below d e k [] below = refl
-none_below d e k (None ∷ T) below = none_below d e (k + 1) T (omega arith)
-none_below d e k (Some at ∷ T) below =
-    stays d e (slot_row d k at) _ (not_of_exam d e k (omega arith))
-    ∙ ap (λ l. slot_row d k at ∷ l) (none_below d e (k + 1) T (omega arith))
+module _ (t : Tables) (r : Records) (T new : Placing) (row : DraftRow) (exams : List ℕ)
+    (h : StandsLoaded t r) (there : r.draft row.no ≡ Some T) where
+  abbrev replaced : Tables
+  replaced = with_draft row (without_draft row.no t)
 
--- what is left is the timetable without the exam's place
-left_places : (d e k i : ℕ) (T : Placing) → k + i ≡ e
-    → but_slot d e (slots_from d k T) ≡ slots_from d k (set T i None)
-left_places d e k i [] is = refl
-left_places d e k zero (None ∷ T) is = none_below d e (k + 1) T (omega arith)
-left_places d e k zero (Some at ∷ T) is =
-    goes d e (slot_row d k at) _ (of_exam d e k (omega arith))
-    ∙ none_below d e (k + 1) T (omega arith)
-left_places d e k (suc i) (None ∷ T) is = left_places d e (k + 1) i T (omega arith)
-left_places d e k (suc i) (Some at ∷ T) is =
-    stays d e (slot_row d k at) _ (not_of_exam d e k (omega arith))
-    ∙ ap (λ l. slot_row d k at ∷ l) (left_places d e (k + 1) i T (omega arith))
+  abbrev after : Records
+  after = record r { draft = set_at row.no (Some new) r.draft }
 
--- a place more
-one_place : (d e k i : ℕ) (at : Place) (T : Placing) → k + i ≡ e → i < length T
-    → IsPermutation (slot_row d e at ∷ slots_from d k (set T i None))
-    (slots_from d k (set T i (Some at)))
-one_place d e k i at [] is lt = absurd (omega arith)
-one_place d e k zero at (o ∷ T) is lt =
-    subst (λ n. IsPermutation (slot_row d n at ∷ slots_from d (k + 1) T)
-    (slot_row d k at ∷ slots_from d (k + 1) T)) (let same : k ≡ e = omega arith in same)
-    (IsPermutation-refl _)
-one_place d e k (suc i) at (None ∷ T) is lt =
-    one_place d e (k + 1) i at T (omega arith) (omega arith)
-one_place d e k (suc i) at (Some b ∷ T) is lt =
-    IsPermutation-trans _ _ _
-    (IsPermutation-sym _ _ (IsPermutation-middle (slot_row d k b ∷ []) (slot_row d e at)
-    (slots_from d (k + 1) (set T i None))))
-    (IsPermutation-cons (slot_row d k b) _ _
-    (one_place d e (k + 1) i at T (omega arith) (omega arith)))
+  only : edit_put row new exams t ≡ record replaced { slot = (edit_put row new exams t).slot }
+  only = only_slots row.no new exams replaced
 
--- ---- one exam stands elsewhere
+  edit_draft : (n : ℕ) (b : Bool) → eqb n row.no ≡ b
+      → map (λ (x : DraftRow). x.no) (drafts_at n replaced.draft)
+      ≡ once (is_some (cond b (Some new) (r.draft n))) n
+  edit_draft n true e =
+      let same : n ≡ row.no = grind (arith, nat_tests, e) in
+      let passes : eqb row.no n ≡ true = grind (arith, nat_tests, e) in
+      let others = filter (λ (x : DraftRow). not (eqb x.no row.no)) t.draft in
+      ap (λ c. map (λ (x : DraftRow). x.no) (cond c (row ∷ drafts_at n others) (drafts_at n others))) passes
+      ∙ ap (λ l. row.no ∷ map (λ (x : DraftRow). x.no) l)
+      (none_of (λ (x : DraftRow). x.no) row.no n same t.draft)
+      ∙ ap (λ m. m ∷ []) (sym same)
+  edit_draft n false e =
+      let fails : eqb row.no n ≡ false = grind (arith, nat_tests, e) in
+      let others = filter (λ (x : DraftRow). not (eqb x.no row.no)) t.draft in
+      ap (λ c. map (λ (x : DraftRow). x.no) (cond c (row ∷ drafts_at n others) (drafts_at n others))) fails
+      ∙ ap (map (λ (x : DraftRow). x.no)) (all_of_other (λ (x : DraftRow). x.no) row.no n e t.draft)
+      ∙ h.draft n
 
-module _ (d e : ℕ) where
-  other_draft : (n : ℕ) → eqb n d ≡ false → (s : SlotRow) → eqb s.draft n ≡ true
-      → not (is_slot d e s) ≡ true
-  other_draft n f s is =
-      let differs : eqb s.draft d ≡ false = grind (arith, nat_tests, f, is) in
-      ap (λ b. not (b && eqb s.exam e)) differs
+  module _ (long : length T ≡ length new) (touches : Touches exams T new (length T)) where
+    edit_slot : (n : ℕ) (b : Bool) → eqb n row.no ≡ b
+        → IsPermutation (slots_at n (edit_put row new exams t).slot)
+        (slot_rows n (cond b (Some new) (r.draft n)))
+    edit_slot n true e =
+        let same : row.no ≡ n = grind (arith, nat_tests, e) in
+        let own : IsPermutation (slots_at row.no t.slot) (slots_from row.no 0 T)
+        = subst (λ o. IsPermutation (slots_at row.no t.slot) (slot_rows row.no o)) there (h.slot row.no) in
+        subst (λ m. IsPermutation (slots_at m (edit_put row new exams t).slot) (slots_from m 0 new)) same
+        (places_put row.no new exams T replaced long touches.exist touches.others own)
+    edit_slot n false e =
+        subst (λ l. IsPermutation l (slot_rows n (r.draft n)))
+        (sym (others_as_before row.no new n e exams replaced)) (h.slot n)
 
-  others_left : (n : ℕ) → eqb n d ≡ false → (t : Tables)
-      → slots_at n (but_slot d e t.slot) ≡ slots_at n t.slot
-  others_left n f t =
-      filter-filter (λ (s : SlotRow). eqb s.draft n) (λ s. not (is_slot d e s)) (other_draft n f) t.slot
+    edit_stands : StandsLoaded (edit_put row new exams t) after
+    edit_stands =
+        subst (λ u. StandsLoaded u after) (sym only) (record {
+          meta = h.meta;
+          owner = h.owner;
+          enrol = h.enrol;
+          draft = λ n. edit_draft n (eqb n row.no) refl;
+          slot = λ n. edit_slot n (eqb n row.no) refl;
+          unpublished = record {
+            placed = h.unpublished.placed;
+            seat = h.unpublished.seat;
+            share_student = h.unpublished.share_student;
+            share_part = h.unpublished.share_part;
+            batch = h.unpublished.batch;
+          };
+        })
 
-  -- the places of other drafts are as they were
-  others_put : (n : ℕ) → eqb n d ≡ false → (o : Option Place) (t : Tables)
-      → slots_at n (slot_put d e o t).slot ≡ slots_at n t.slot
-  others_put n f None t = others_left n f t
-  others_put n f (Some at) t =
-      let fails : eqb d n ≡ false = grind (arith, nat_tests, f) in
-      ap (λ b. cond b (slot_row d e at ∷ slots_at n (but_slot d e t.slot))
-      (slots_at n (but_slot d e t.slot))) fails
-      ∙ others_left n f t
-
-  module _ (T : Placing) (t : Tables) (stands : IsPermutation (slots_at d t.slot) (slots_from d 0 T)) where
-    left_there : IsPermutation (slots_at d (but_slot d e t.slot)) (slots_from d 0 (set T e None))
-    left_there =
-        subst (λ l. IsPermutation l (slots_from d 0 (set T e None)))
-        (sym (filter_swap (λ (s : SlotRow). eqb s.draft d) (λ s. not (is_slot d e s)) t.slot))
-        (subst (λ l. IsPermutation (but_slot d e (slots_at d t.slot)) l)
-        (left_places d e 0 e T (omega arith))
-        (IsPermutation-filter (λ s. not (is_slot d e s)) _ _ stands))
-
-    -- the draft's are those of the timetable where the exam stands there
-    pub own_put : (o : Option Place) → e < length T
-        → IsPermutation (slots_at d (slot_put d e o t).slot) (slots_from d 0 (set T e o))
-    own_put None lt = left_there
-    own_put (Some at) lt =
-        let passes : eqb d d ≡ true = grind (arith, nat_tests) in
-        subst (λ b. IsPermutation (cond b (slot_row d e at ∷ slots_at d (but_slot d e t.slot))
-        (slots_at d (but_slot d e t.slot))) (slots_from d 0 (set T e (Some at)))) (sym passes)
-        (IsPermutation-trans _ _ _
-        (IsPermutation-cons (slot_row d e at) _ _ left_there)
-        (one_place d e 0 e at T (omega arith) lt))
-
--- only places have changed
-only_slot : (d e : ℕ) (o : Option Place) (t : Tables)
-    → slot_put d e o t ≡ record t { slot = (slot_put d e o t).slot }
-only_slot d e None t = refl
-only_slot d e (Some at) t = refl
-
--- ---- some exams stand elsewhere
-
-module _ (d : ℕ) (new : Placing) where
-  pub only_slots : (exams : List ℕ) (t : Tables)
-      → slots_put d new exams t ≡ record t { slot = (slots_put d new exams t).slot }
-  only_slots [] t = refl
-  only_slots (e ∷ exams) t =
-      only_slots exams (slot_put d e (place_of new e) t)
-      ∙ ap (λ (u : Tables). record u { slot = (slots_put d new (e ∷ exams) t).slot })
-      (only_slot d e (place_of new e) t)
-
-  pub others_as_before : (n : ℕ) → eqb n d ≡ false → (exams : List ℕ) (t : Tables)
-      → slots_at n (slots_put d new exams t).slot ≡ slots_at n t.slot
-  others_as_before n f [] t = refl
-  others_as_before n f (e ∷ exams) t =
-      others_as_before n f exams (slot_put d e (place_of new e) t)
-      ∙ others_put d e n f (place_of new e) t
-
-  -- those that are left differ from the new timetable at the rest of the exams
-  fewer : (e : ℕ) (exams : List ℕ) (T : Placing) → e < length T → DiffersAtMost (e ∷ exams) T new
-      → DiffersAtMost exams (set T e (place_of new e)) new
-  fewer e exams T lt differs x none = go (eqb e x) refl
+  edit_sound : parts_of row ≡ track r.session r.enrolments new → IsSound t (Some r)
+      → IsSound (edit_put row new exams t) (Some after)
+  edit_sound scored sound =
+      subst (λ u. IsSound u (Some after)) (sym only) (own, each_left (λ (x : DraftRow). x.no) row.no
+      (IsScoredRow r) (IsScoredRow after) other t.draft sound)
     where
-      go : (b : Bool) → eqb e x ≡ b → place_of new x ≡ place_of (set T e (place_of new e)) x
-      go true f =
-          let same : x ≡ e = grind (arith, nat_tests, f) in
-          ap (place_of new) same ∙ sym (get_or-set_at T e x (place_of new e) None same lt)
-      go false f =
-          differs x (ap (λ b. b || is_among exams x) f ∙ none)
-          ∙ sym (get_or-set_other T e x (place_of new e) None (grind (arith, nat_tests, f)))
+      own : (S : Placing) → cond (eqb row.no row.no) (Some new) (r.draft row.no) ≡ Some S
+          → parts_of row ≡ track r.session r.enrolments S
+      own S e =
+          let same : eqb row.no row.no ≡ true = grind (arith, nat_tests) in
+          let put : Some new ≡ Some S = sym (ap (λ b. cond b (Some new) (r.draft row.no)) same) ∙ e in
+          scored ∙ ap (track r.session r.enrolments) (let is : new ≡ S = cc in is)
 
-  pub places_put : (exams : List ℕ) (T : Placing) (t : Tables) → length T ≡ length new
-      → AllByRecursion (λ e. e < length T) exams → DiffersAtMost exams T new
-      → IsPermutation (slots_at d t.slot) (slots_from d 0 T)
-      → IsPermutation (slots_at d (slots_put d new exams t).slot) (slots_from d 0 new)
-  places_put [] T t long exist differs stands =
-      subst (λ X. IsPermutation (slots_at d t.slot) (slots_from d 0 X))
-      (sym (ext_get_or None new T (sym long) (λ x lt. differs x refl))) stands
-  places_put (e ∷ exams) T t long exist differs stands =
-      let o = place_of new e in
-      let same : length (set T e o) ≡ length T = length-set T e o in
-      places_put exams (set T e o) (slot_put d e o t) (same ∙ long)
-      (subst (λ n. AllByRecursion (λ x. x < n) exams) (sym same) exist.1)
-      (fewer e exams T exist.0 differs) (own_put d e T t stands o exist.0)
+      other : (x : DraftRow) → IsScoredRow r x → eqb x.no row.no ≡ false → IsScoredRow after x
+      other x k e S f = k S (sym (ap (λ b. cond b (Some new) (r.draft x.no)) e) ∙ f)
 
--- ---- what a transaction puts in
-
-pub put_nowhere : (db : Database) (d e n : ℕ) (o : Option Place) (t : Tables) → o ≡ None → n ≡ e
-    → Held db (without_slot d n t) → Held db (slot_put d e o t)
-put_nowhere db d e n o t nowhere exam h = rw (nowhere, ← exam) h
-
-pub put_there : (db : Database) (d e n : ℕ) (o : Option Place) (at : Place) (row : SlotRow) (t : Tables)
-    → o ≡ Some at → n ≡ e → row ≡ slot_row d e at
-    → Held db (with_slot row (without_slot d n t)) → Held db (slot_put d e o t)
-put_there db d e n o at row t there exam is h = rw (there, ← is, ← exam) h
-
--- one more of the exams
-put_last : (d : ℕ) (new : Placing) (exams : List ℕ) (e : ℕ) (t : Tables)
-    → slots_put d new (exams ++ e ∷ []) t ≡ slot_put d e (place_of new e) (slots_put d new exams t)
-put_last d new [] e t = refl
-put_last d new (x ∷ exams) e t = put_last d new exams e (slot_put d x (place_of new x) t)
-
-pub put_more : (d : ℕ) (new : Placing) (exams : List ℕ) (i e : ℕ) (o : Option Place) (t : Tables)
-    → i < length exams → e ≡ get_or exams i e → o ≡ place_of new e
-    → slots_put d new (take (i + 1) exams) t ≡ slot_put d e o (slots_put d new (take i exams) t)
-put_more d new exams i e o t lt is placed =
-    ap (λ l. slots_put d new l t) (take_more exams i e lt)
-    ∙ ap (λ x. slots_put d new (take i exams ++ x ∷ []) t) (sym is)
-    ∙ put_last d new (take i exams) e t
-    ∙ ap (λ x. slot_put d e x (slots_put d new (take i exams) t)) (sym placed)
-
-pub put_all : (d : ℕ) (new : Placing) (exams : List ℕ) (i : ℕ) (t : Tables) → length exams ≤ i
-    → slots_put d new (take i exams) t ≡ slots_put d new exams t
-put_all d new exams i t le = ap (λ l. slots_put d new l t) (take_all i exams le)
+-- the database stands for the office with the edited draft
+pub edit_kept : (a b : Database) (r : Records) (T new : Placing) (row : DraftRow) (change : Edit)
+    → r.draft row.no ≡ Some T → edited r.session r.enrolments T change ≡ Ok new
+    → parts_of row ≡ track r.session r.enrolments new → Fits r.session r.enrolments new
+    → IsKept a (Some r)
+    → ((t : Tables) → Held a t → Held b (edit_put row new (exams_of change) t))
+    → IsKept b (Some (record r { draft = set_at row.no (Some new) r.draft }))
+edit_kept a b r T new row change there made scored fits kept makes =
+    let before = kept.office.drafts row.no T there in
+    let long : length T ≡ length new = before.timetable ∙ sym fits.timetable in
+    let all : Touches (exams_of change) T new (length T)
+    = subst (Touches (exams_of change) T new) (sym before.timetable)
+    (touched r.session r.enrolments T new change made) in
+    let number = kept.office.numbered row.no (subst (λ o. IsSome o) (sym there) tt) in
+    record {
+      held = edit_put row new (exams_of change) kept.held;
+      tables = makes kept.held kept.tables;
+      stands = edit_stands kept.held r T new row (exams_of change) kept.stands there long all;
+      sound = edit_sound kept.held r T new row (exams_of change) kept.stands there scored kept.sound;
+      office = made_records r row.no new number.0 number.1 fits kept.office;
+    }

@@ -1,7 +1,7 @@
 use Rattle.std.proofs.lemmas.Result.{on_ok_weaker}
 use Rattle.sqlite.specs.Held.{state}
 use Rattle.office_tables.proofs.Inside.{clean_before}
-use Rattle.office_store.proofs.EditLemmas.{put_nowhere, put_there}
+use Rattle.office_store.proofs.SlotLemmas.{put_nowhere, put_there}
 use Rattle.office_store.proofs.transactions.slot_in.Goals as goal
 
 pub returns-in_default-clause-makes : goal.returns-in_default-clause-makes

@@ -2,7 +2,7 @@ use Rattle.std.proofs.Common.{rules, refl, sym, subst}
 use Rattle.sqlite.specs.Held.{state}
 use Rattle.office_tables.specs.Tables.{Tables, Stands}
 use Rattle.office_tables.proofs.Inside.{within_then, within_same, clean_before}
-use Rattle.office_store.proofs.EditLemmas.{put_all, put_more}
+use Rattle.office_store.proofs.SlotLemmas.{put_all, put_more}
 use Rattle.office_store.proofs.transactions.slots_in.Goals as goal
 
 pub loop-exam-init : goal.loop-exam-init
