@@ -45,7 +45,7 @@ pub record AreDrafts (I : Session) (E : Enrolled) (found : List DraftRow) (place
   pub rows : (d : ℕ) → map (λ row. row.no) (drafts_at d found) ≡ once (is_some (draft d)) d
   pub slots : (d : ℕ) → IsPermutation (slots_at d places) (slot_rows d (draft d))
   pub scored : AllByRecursion
-    (λ row. (T : Placing) → draft row.no ≡ Some T → parts_of row ≡ track I E T) found
+      (λ row. (T : Placing) → draft row.no ≡ Some T → parts_of row ≡ track I E T) found
 
 -- ---- one row more
 

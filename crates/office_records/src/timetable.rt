@@ -29,11 +29,7 @@ pub fn timetable_of(
 }
 
 // Places an exam that stands nowhere yet.
-fn put_slot(
-    timetable: &mut Timetable,
-    instance: &Instance,
-    row: SlotRow,
-) -> Result<(), RecordFault>
+fn put_slot(timetable: &mut Timetable, instance: &Instance, row: SlotRow) -> Result<(), RecordFault>
     requires exams { length timetable.old ≡ length instance.now.exams }
     ensures put { OnOk result (IsPut instance.now row timetable.old timetable.new) }
     ensures bad { IfErr result (λ e. IsFree instance.now row timetable.old → ⊥) }
