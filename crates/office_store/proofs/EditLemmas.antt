@@ -1,6 +1,6 @@
 -- A draft that is edited.
-use Rattle.std.proofs.Common.{◌≡◌, ℕ, ◌<◌, Bool, true, false, cond, not, eqb, ◌&&◌, ◌||◌, List, [], ◌∷◌, map, filter, set, Option, Some, None, Result, Ok, Err, refl, sym, ◌∙◌, ap, subst, arith, length}
-use Rattle.std.specs.Prelude.{IsPermutation, IsSome, is_some}
+use Rattle.std.proofs.Common.{◌≡◌, ℕ, ◌<◌, Bool, true, false, cond, not, eqb, ◌&&◌, ◌||◌, List, [], ◌∷◌, map, filter, set, Option, Some, None, Result, Ok, Err, refl, sym, ◌∙◌, ap, subst, arith, length, ◌⊎◌, inl, inr}
+use Rattle.std.specs.Prelude.{IfOk, IfErr, IsPermutation, IsSome, is_some}
 use Rattle.std.specs.List.{AllByRecursion}
 use Rattle.std.proofs.lemmas.Bool.Decides.{nat_tests}
 use Rattle.std.proofs.lemmas.List.{get_or-set_other}
@@ -13,16 +13,21 @@ use Rattle.exam_model.specs.Timetable.{Placing, place_of}
 use Rattle.exam_rules.specs.declared.breach.Breach.{Breach}
 use Rattle.exam_rules.specs.Breaches.{least_breach_of}
 use Rattle.exam_score.specs.Changes.{DiffersAtMost}
+use Rattle.exam_score.specs.Penalty.{Penalty}
 use Rattle.exam_score.specs.Track.{track}
-use Rattle.exam_draft.specs.Edits.{exam_exists, place_exists, is_placed, if_unbroken, unless_broken}
+use Rattle.exam_draft.specs.Edits.{Edited, exam_exists, place_exists, is_placed, if_unbroken, unless_broken}
 use Rattle.office_tables.specs.Tables.{Tables, Stands as Held}
 use Rattle.office_tables.specs.Changes.{with_draft, without_draft}
 use Rattle.office_tables.specs.declared.rows.DraftRow.{DraftRow}
 use Rattle.office_store.specs.Changes.{edit_put}
-use Rattle.office_store.specs.Commands.{edited, exams_of}
+use Rattle.office_store.specs.Commands.{draft_edited, draft_shown, edited, exams_of, named, penalty_now}
+use Rattle.office_store.specs.Running.{Edits, IsFault}
+use Rattle.office_store.specs.declared.fault.Refusal.TheVariants as refusal
+use Rattle.office_store.specs.declared.fault.StoreFault.{StoreFault}
+use Rattle.office_store.specs.declared.fault.StoreFault.TheVariants.{BadSchema, NoDraft, Refused, Store}
 use Rattle.office_store.specs.declared.edit.Edit.{Edit}
 use Rattle.office_store.specs.declared.edit.Edit.TheVariants as edit
-use Rattle.office_records.specs.Office.{Records, set_at}
+use Rattle.office_records.specs.Office.{OfficeState, Records, memory_of, set_at}
 use Rattle.office_records.specs.Stands.{StandsLoaded, IsSound, IsScoredRow, IsKept, drafts_at, slots_at, slots_from, slot_rows, parts_of, once}
 use Rattle.office_records.proofs.KeyLemmas.{none_of, all_of_other, each_left}
 use Rattle.office_store.proofs.DraftLemmas.{made_records}
@@ -181,7 +186,7 @@ edit_kept a b r T new row change there made scored fits kept makes =
     let all : Touches (exams_of change) T new (length T)
     = subst (Touches (exams_of change) T new) (sym before.timetable)
     (touched r.session r.enrolments T new change made) in
-    let number = kept.office.numbered row.no (subst (λ o. IsSome o) (sym there) tt) in
+    let number = kept.office.numbered row.no (subst (λ o. IsSome o) (sym there) refl) in
     record {
       held = edit_put row new (exams_of change) kept.held;
       tables = makes kept.held kept.tables;
@@ -189,3 +194,83 @@ edit_kept a b r T new row change there made scored fits kept makes =
       sound = edit_sound kept.held r T new row (exams_of change) kept.stands there scored kept.sound;
       office = made_records r row.no new number.0 number.1 fits kept.office;
     }
+
+-- ---- what the command gives
+
+ok_is : {X F : Type 0} {x y : X} → ◌≡◌ {A = Result X F} (Ok x) (Ok y) → x ≡ y
+ok_is e = cc
+
+-- a draft that is there
+pub there_of : (d : ℕ) (r : Records) (T : Placing) (P : Penalty) (new : OfficeState)
+    → draft_shown d (Some r) ≡ Ok ((T, P), new) → r.draft d ≡ Some T
+there_of d r T P new h = go (r.draft d) refl
+  where
+    go : (o : Option Placing) → r.draft d ≡ o → r.draft d ≡ Some T
+    go None is = absurd (let e = rw is at h in cc)
+    go (Some S) is =
+        let shown = rw is at h in
+        is ∙ ap (λ (x : (Placing × Penalty) × OfficeState). Some x.0.0) (ok_is shown)
+
+-- a draft that isn't there is not edited either
+not_there : (d : ℕ) (change : Edit) (r : Records) (e : StoreFault) → draft_shown d (Some r) ≡ Err e
+    → draft_edited d change (Some r) ≡ Err e
+not_there d change r e h = go (r.draft d) refl
+  where
+    go : (o : Option Placing) → r.draft d ≡ o → draft_edited d change (Some r) ≡ Err e
+    go None is = rw is (let none = rw is at h in cc)
+    go (Some S) is = absurd (let shown = rw is at h in cc)
+
+pub not_shown : (d : ℕ) (change : Edit) (r : Records) (e : StoreFault) → IsFault (draft_shown d (Some r)) e
+    → IsFault (draft_edited d change (Some r)) e
+not_shown d change r Store h = tt
+not_shown d change r BadSchema h = h
+not_shown d change r e h = not_there d change r e h
+
+pub edit_gives : (d : ℕ) (change : Edit) (r : Records) (T new : Placing) → r.draft d ≡ Some T
+    → edited r.session r.enrolments T change ≡ Ok new
+    → draft_edited d change (Some r)
+    ≡ Ok (penalty_now r new, Some (record r { draft = set_at d (Some new) r.draft }))
+edit_gives d change r T new there made = rw (there, made) refl
+
+refused_so : (d : ℕ) (change : Edit) (r : Records) (T : Placing) (e : StoreFault) → r.draft d ≡ Some T
+    → named (λ f. Refused (refusal.Edit f)) (edited r.session r.enrolments T change) ≡ Err e
+    → draft_edited d change (Some r) ≡ Err e
+refused_so d change r T e there is = rw (there, is) refl
+
+pub edit_refused : (d : ℕ) (change : Edit) (r : Records) (T : Placing) (e : StoreFault) → r.draft d ≡ Some T
+    → (e ≡ Store) ⊎ (named (λ f. Refused (refusal.Edit f)) (edited r.session r.enrolments T change) ≡ Err e)
+    → IsFault (draft_edited d change (Some r)) e
+edit_refused d change r T e there (inl is) =
+    subst (IsFault (draft_edited d change (Some r))) (sym is) tt
+edit_refused d change r T e there (inr is) = own (edited r.session r.enrolments T change) e is (refused_so d change r T e there is)
+  where
+    own : (x : Edited) (e : StoreFault) → named (λ f. Refused (refusal.Edit f)) x ≡ Err e
+        → draft_edited d change (Some r) ≡ Err e → IsFault (draft_edited d change (Some r)) e
+    own x Store is gives = tt
+    own (Ok T) BadSchema is gives = absurd cc
+    own (Err f) BadSchema is gives = absurd cc
+    own x e is gives = gives
+
+pub edit_comes : (d : ℕ) (change : Edit) (r : Records) (I : Session) (E : Enrolled) (T : Placing)
+    (result : Result (Placing × Penalty) StoreFault) → memory_of (Some r) ≡ Some (I, E) → r.draft d ≡ Some T
+    → IfOk result (λ new. edited I E T change ≡ Ok new.0)
+    → IfErr result (λ e. (e ≡ Store)
+      ⊎ (named (λ f. Refused (refusal.Edit f)) (edited I E T change) ≡ Err e))
+    → Edits d change r result
+edit_comes d change r I E T result memory there ok err =
+    go result ok err
+  where
+    both : ◌≡◌ {A = Session × Enrolled} (r.session, r.enrolments) (I, E)
+    both = cc
+
+    same : edited r.session r.enrolments T change ≡ edited I E T change
+    same =
+        ap (λ (p : Session × Enrolled). edited p.0 p.1 T change) both
+
+    go : (x : Result (Placing × Penalty) StoreFault) → IfOk x (λ new. edited I E T change ≡ Ok new.0)
+        → IfErr x (λ e. (e ≡ Store) ⊎ (named (λ f. Refused (refusal.Edit f)) (edited I E T change) ≡ Err e))
+        → Edits d change r x
+    go (Ok new) ok err = (T, there, same ∙ ok)
+    go (Err e) ok err =
+        edit_refused d change r T e there
+        (subst (λ (x : Edited). (e ≡ Store) ⊎ (named (λ f. Refused (refusal.Edit f)) x ≡ Err e)) (sym same) err)

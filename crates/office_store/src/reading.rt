@@ -3,7 +3,8 @@ ghost use Rattle.std.specs.Prelude.{◌≡◌, IfErr, IfOk, IsPermutation, OnOk,
 ghost use Rattle.sqlite.specs.Held.{state};
 ghost use Rattle.sqlite.specs.State.{HasCleanDisk};
 ghost use Rattle.exam_model.specs.Fits.{Fits};
-ghost use Rattle.office_records.specs.Office.{OfficeState, memory_of};
+ghost use Rattle.exam_score.specs.Track.{track};
+ghost use Rattle.office_records.specs.Office.{IsOffice, OfficeState, memory_of};
 ghost use Rattle.office_store.specs.Commands.{draft_in, draft_shown};
 ghost use Rattle.office_records.specs.Stands.{slot_rows};
 ghost use Rattle.office_store.specs.Reading.{AreRowsOf};
@@ -81,10 +82,11 @@ pub(crate) fn draft_of(
     found: &DraftRows,
 ) -> Result<(Timetable, Parts), StoreFault>
     requires exams { length enrolments.now ≡ length instance.now.exams }
-    ensures shown { (office : OfficeState) → memory_of office ≡ Some (instance.now, enrolments.now)
+    ensures shown { (office : OfficeState) → IsOffice office → memory_of office ≡ Some (instance.now, enrolments.now)
         → AreRowsOf office number found.now.rows.items found.now.slots.items
         → Does (draft_shown number office) office (λ new. new ≡ office) result }
     ensures fits { IfOk result (λ shown. Fits instance.now enrolments.now shown.0) }
+    ensures scored { IfOk result (λ shown. shown.1 ≡ track instance.now enrolments.now shown.0) }
 {
     let row = match found.rows.as_slice() {
         [] => return Err(StoreFault::NoDraft),
