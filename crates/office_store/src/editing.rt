@@ -34,7 +34,7 @@ impl<S: Alter> Office<S> {
             return Err(StoreFault::NotLoaded);
         };
         let (timetable, parts) = edited_draft(alloc, instance, enrolments, number, &found, edit)?;
-        let exams = exams_of(alloc, edit)?;
+        let exams = exams_of(alloc, &edit)?;
         put_edit(&mut self.conn, draft_row(number, parts), &timetable, &exams)?;
         Ok(parts.total())
     }
@@ -104,10 +104,10 @@ fn apply(alloc: Global, draft: &mut Draft<'_>, edit: Edit) -> Result<(), EditFau
 }
 
 // The exams that get or lose a place.
-fn exams_of(alloc: Global, edit: Edit) -> Result<Vec<ExamNo>, AllocError>
-    ensures { IfOk result (λ exams. exams.items ≡ exams_of edit) }
+fn exams_of(alloc: Global, edit: &Edit) -> Result<Vec<ExamNo>, AllocError>
+    ensures { IfOk result (λ exams. exams.items ≡ exams_of edit.now) }
 {
-    let exams = match edit {
+    let exams = match *edit {
         Edit::Place(exam, _) | Edit::Move(exam, _) | Edit::Clear(exam) => vec![in alloc; exam]?,
         Edit::Swap(one, other) => vec![in alloc; one, other]?,
     };
