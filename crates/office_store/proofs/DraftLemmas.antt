@@ -26,7 +26,7 @@ use Rattle.office_records.proofs.MemoryLemmas.{same_one}
 -- ---- the rows of one draft
 
 -- the places of a draft are of that draft
-slots_are : (d n k : ℕ) (b : Bool) → eqb d n ≡ b → (T : Placing)
+pub slots_are : (d n k : ℕ) (b : Bool) → eqb d n ≡ b → (T : Placing)
     → slots_at n (slots_from d k T) ≡ cond b (slots_from d k T) []
 slots_are d n k true e [] = refl
 slots_are d n k false e [] = refl
@@ -305,3 +305,10 @@ slots_more d e T o lt is =
     ∙ ap (λ n. slots_from d 0 (take e T) ++ slots_from d n (get_or T e None ∷ []))
       (let l = length-take e T in omega arith)
     ∙ ap (λ x. slots_from d 0 (take e T) ++ slots_from d e (x ∷ [])) is
+
+-- a row of a place's two numbers
+pub same_row : (d e : ℕ) (at : Place) (period room : ℕ) → period ≡ at.period → room ≡ at.room
+    → slot_row d e (record { period = period; room = room }) ≡ slot_row d e at
+same_row d e at period room p r =
+    ap (λ n. slot_row d e (record { period = n; room = room })) p
+    ∙ ap (λ n. slot_row d e (record { period = at.period; room = n })) r

@@ -4,3 +4,4 @@ pub mod Faults
 pub mod Turning
 pub mod Running
 pub mod Reading
+pub mod Beginning
