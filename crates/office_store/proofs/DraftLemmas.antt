@@ -161,7 +161,7 @@ module _ (t : Tables) (r : Records) (d : ℕ) (T : Placing) (row : DraftRow) (sl
           → IsScoredRow (record r { draft = set_at d (Some T) r.draft }) x
       other x k e S f = k S (sym (ap (λ b. cond b (Some T) (r.draft x.no)) e) ∙ f)
 
-made_records : (r : Records) (d : ℕ) (T : Placing) → 1 ≤ d → d ≤ 8 → Fits r.session r.enrolments T
+pub made_records : (r : Records) (d : ℕ) (T : Placing) → 1 ≤ d → d ≤ 8 → Fits r.session r.enrolments T
     → AreRecords r → AreRecords (record r { draft = set_at d (Some T) r.draft })
 made_records r d T low high fits h = record {
   session = h.session;

@@ -4,5 +4,7 @@ pub mod TurnLemmas
 pub mod RunLemmas
 pub mod LoadLemmas
 pub mod DraftLemmas
-pub mod CallLemmas
 pub mod ReadLemmas
+pub mod CallLemmas
+pub mod SlotLemmas
+pub mod EditLemmas

@@ -30,3 +30,12 @@ draft_removed d t = without_slots d (without_draft d t)
 abbrev pub slot_put : ℕ → ℕ → Option Place → Tables → Tables
 slot_put d e None t = without_slot d e t
 slot_put d e (Some at) t = with_slot (slot_row d e at) (without_slot d e t)
+
+-- these exams stand in a draft where they stand in the timetable, or nowhere
+abbrev pub slots_put : ℕ → Placing → List ℕ → Tables → Tables
+slots_put d T [] t = t
+slots_put d T (e ∷ exams) t = slots_put d T exams (slot_put d e (place_of T e) t)
+
+-- a draft in place of another, where these exams stand elsewhere
+abbrev pub edit_put : DraftRow → Placing → List ℕ → Tables → Tables
+edit_put row T exams t = slots_put row.no T exams (with_draft row (without_draft row.no t))

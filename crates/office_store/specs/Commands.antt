@@ -121,6 +121,13 @@ edited I E T (edit.Move e at) = after_move I E T e at
 edited I E T (edit.Swap a b) = after_swap I E T a b
 edited I E T (edit.Clear e) = after_clear I T e
 
+-- the exams that get or lose a place
+abbrev pub exams_of : Edit → List ℕ
+exams_of (edit.Place e at) = e ∷ []
+exams_of (edit.Move e at) = e ∷ []
+exams_of (edit.Swap a b) = a ∷ (b ∷ [])
+exams_of (edit.Clear e) = e ∷ []
+
 abbrev pub draft_edited : ℕ → Edit → OfficeState → Gives ℕ
 draft_edited d change office = do
   r ← when_loaded office

@@ -72,9 +72,10 @@ impl<S: Alter> Office<S> {
         ensures now { HasCleanDisk (state S.Store self.new) → (office : OfficeState)
             → IsKept (state S.Store self.new).now office
             → IfOk result (λ rows. map (λ r. r.no) rows.items
-                ≡ once (is_some (draft_in number office)) number) }
+            ≡ once (is_some (draft_in number office)) number) }
         ensures scored { HasCleanDisk (state S.Store self.new) → (office : OfficeState)
-            → Now (state S.Store self.old) office → IfOk result (λ rows. AreScored rows.items office) }
+            → IsKept (state S.Store self.new).now office
+            → IfOk result (λ rows. AreScored rows.items office) }
         ensures still { HasCleanDisk (state S.Store self.new) → (office : OfficeState)
             → Now (state S.Store self.old) office → Now (state S.Store self.new) office }
         ensures awake { HasCleanDisk (state S.Store self.new)

@@ -4,6 +4,7 @@
 mod adopting;
 mod drafting;
 mod edit;
+mod editing;
 mod fault;
 mod loading;
 mod office;

@@ -3,11 +3,12 @@ ghost use Rattle.std.specs.Prelude.{◌≡◌, IfErr, IfOk, IsPermutation, OnOk,
 ghost use Rattle.sqlite.specs.Held.{state};
 ghost use Rattle.sqlite.specs.State.{HasCleanDisk};
 ghost use Rattle.exam_model.specs.Fits.{Fits};
+ghost use Rattle.exam_score.specs.Track.{track};
 ghost use Rattle.office_records.specs.Office.{IsOffice, OfficeState, memory_of};
 ghost use Rattle.office_store.specs.Commands.{draft_in, draft_shown};
-ghost use Rattle.office_records.specs.Stands.{slot_rows};
+ghost use Rattle.office_records.specs.Stands.{IsKept, slot_rows};
 ghost use Rattle.office_store.specs.Reading.{AreRowsOf};
-ghost use Rattle.office_store.specs.Running.{Does, IsAwake, Now, Runs};
+ghost use Rattle.office_store.specs.Running.{Does, IsAwake, IsStill, Now, Runs};
 
 use crate::drafting::draft_row;
 use crate::fault::StoreFault;
@@ -44,6 +45,10 @@ impl<S: Alter> Office<S> {
         ensures rows { HasCleanDisk (state S.Store self.new) → (office : OfficeState)
             → Now (state S.Store self.old) office
             → IfOk result (λ found. AreRowsOf office number found.rows.items found.slots.items) }
+        // The same of an office that the tables stand for now.
+        ensures now { HasCleanDisk (state S.Store self.new) → (office : OfficeState)
+            → IsKept (state S.Store self.new).now office
+            → IfOk result (λ found. AreRowsOf office number found.rows.items found.slots.items) }
         ensures still { HasCleanDisk (state S.Store self.new) → (office : OfficeState)
             → Now (state S.Store self.old) office → Now (state S.Store self.new) office }
         ensures awake { HasCleanDisk (state S.Store self.new) → OnOk result (IsAwake (state S.Store self.new)) }
@@ -58,10 +63,10 @@ impl<S: Alter> Office<S> {
     // The rows of a draft's places.
     fn slots(&mut self, alloc: Global, number: u32) -> Result<Vec<SlotRow>, StoreFault>
         ensures rows { HasCleanDisk (state S.Store self.new) → (office : OfficeState)
-            → Now (state S.Store self.old) office
+            → IsKept (state S.Store self.new).now office
             → IfOk result (λ rows. IsPermutation rows.items (slot_rows number (draft_in number office))) }
-        ensures still { HasCleanDisk (state S.Store self.new) → (office : OfficeState)
-            → Now (state S.Store self.old) office → Now (state S.Store self.new) office }
+        ensures still { HasCleanDisk (state S.Store self.new)
+            → IsStill (state S.Store self.old) (state S.Store self.new) }
         ensures awake { HasCleanDisk (state S.Store self.new) → OnOk result (IsAwake (state S.Store self.new)) }
         ensures fault { IfErr result (λ e. e ≡ StoreFault.Store) }
         ensures clean { HasCleanDisk (state S.Store self.new) → HasCleanDisk (state S.Store self.old) }
@@ -85,6 +90,7 @@ pub(crate) fn draft_of(
         → AreRowsOf office number found.now.rows.items found.now.slots.items
         → Does (draft_shown number office) office (λ new. new ≡ office) result }
     ensures fits { IfOk result (λ shown. Fits instance.now enrolments.now shown.0) }
+    ensures scored { IfOk result (λ shown. shown.1 ≡ track instance.now enrolments.now shown.0) }
 {
     let row = match found.rows.as_slice() {
         [] => return Err(StoreFault::NoDraft),

@@ -23,14 +23,14 @@ invariant_of-self g c =
     )
 
 pub returns-clause-rows : goal.returns-clause-rows
-returns-clause-rows g c clean office now =
-    let old = state g.S.Store c.args.self.now in
-    let mid = state g.S.Store c.look.new.self in
-    let clean_in : HasCleanDisk (state g.S.Store c.self.inside.conn)
-    = omega (arith, c.slots_of.ensures.survives.clean, clean) in
-    let clean_mid = subst (λ h. HasCleanDisk (state g.S.Store h)) c.self.view_is clean_in in
-    let awake = c.in_ok-look.ensures.awake clean_mid in
-    let here = now_still old mid office (c.in_ok-look.ensures.still clean_mid) now awake.0 in
-    let kept = subst (λ h. IsKept (state g.S.Store h).now office) (sym c.self.view_is) here in
-    let read = c.in_ok-rows.ensures.rows clean kept.held kept.tables in
-    places_read kept.held office c.args.number c.in_ok-rows.rows.items kept.stands read
+returns-clause-rows g c clean office here =
+    let mid = state g.S.Store c.self.inside.conn in
+    let clean_mid : HasCleanDisk mid = omega (arith, c.slots_of.ensures.survives.clean, clean) in
+    let awake = subst (λ h. IsAwake (state g.S.Store h)) (sym c.self.view_is)
+    (c.in_ok-look.ensures.awake
+    (subst (λ h. HasCleanDisk (state g.S.Store h)) c.self.view_is clean_mid)) in
+    let was = c.self.invariant.1 clean_mid awake.0 in
+    let same = c.in_ok-rows.ensures.same clean was.1.held was.1.tables in
+    let kept : IsKept mid.now office = subst (λ db. IsKept db office) same.0.now_is here in
+    places_read kept.held office c.args.number c.in_ok-rows.rows.items kept.stands
+    (c.in_ok-rows.ensures.rows clean kept.held kept.tables)
