@@ -1,6 +1,6 @@
 -- What each command makes of the office, its refusals in their order. A refusal changes nothing: it
 -- has no new office.
-use Rattle.std.specs.Prelude.{◌≡◌, ℕ, Bool, ◌&&◌, ◌==◌, nat_le, List, [], ◌∷◌, length, Option, Some, None, is_none, Result, Ok, Err}
+use Rattle.std.specs.Prelude.{ℕ, Bool, ◌&&◌, nat_le, List, [], ◌∷◌, length, Option, Some, None, is_none, Result, Ok, Err}
 use Rattle.exam_model.specs.Enrolments.{Enrolled, pair_count}
 use Rattle.exam_model.specs.Instance.{Session}
 use Rattle.exam_model.specs.Refusing.{◌>>=◌, unless, else_err}

@@ -12,8 +12,8 @@ ghost use Rattle.office_store.specs.Turning.{Changed, Turned, Undone};
 use exam_model::{ExamNo, Place, Timetable};
 use office_tables::{
     DraftRow, EnrolRow, OwnerRow, SlotRow, create_tables, delete_draft, delete_meta, delete_owner,
-    delete_slot, delete_slots, insert_draft, insert_enrols, insert_owner, insert_slot, insert_slots,
-    put_meta,
+    delete_slot, delete_slots, insert_draft, insert_enrols, insert_owner, insert_slot,
+    insert_slots, put_meta,
 };
 use sqlite::{Alter, Connection, Error, Transaction};
 
@@ -164,7 +164,8 @@ fn slot_in<S: Alter>(
     place: Option<Place>,
 ) -> Result<(), Error>
     ensures same_reference { tx.new.conn.ghost_name ≡ tx.old.conn.ghost_name }
-    ensures makes { Changes S.Store (slot_put draft exam place) tx.old.conn.now tx.new.conn.now result }
+    ensures makes { Changes S.Store (slot_put draft exam place) tx.old.conn.now tx.new.conn.now
+        result }
     ensures within { Within (state S.Store tx.old.conn.now) (state S.Store tx.new.conn.now) }
 {
     delete_slot(tx, draft, exam.get())?;
