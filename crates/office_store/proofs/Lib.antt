@@ -1,3 +1,4 @@
+pub mod AdoptLemmas
 pub mod OwnerLemmas
 pub mod TurnLemmas
 pub mod RunLemmas

@@ -71,8 +71,7 @@ draft_told r d row slots (Some T) is records rows =
     let number : row.no ≡ d
     = same_head row.no d (rows.numbers ∙ ap (λ o. once (is_some o) d) is) in
     let places : IsPermutation slots (slots_from d 0 T)
-    = subst (λ o. IsPermutation slots (slot_rows d o)) is rows.places in
-    (
+    = subst (λ o. IsPermutation slots (slot_rows d o)) is rows.places in (
       T,
       record {
         is = is;

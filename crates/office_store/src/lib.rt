@@ -1,6 +1,7 @@
 //! The office over its tables: one SQLite file that stands for an examination session.
 #![tactic(auto)]
 
+mod adopting;
 mod drafting;
 mod edit;
 mod editing;
