@@ -31,10 +31,6 @@ module _ (found : Found) where
 
   -- ---- from the rows to the office
 
-  pub empty_office : t ≡ empty_tables → (office : OfficeState) × Stands t office × IsSound t office
-      × IsOffice office × (memory_of office ≡ None)
-  empty_office is = (None, is, tt, tt, refl)
-
   pub office_of : (I : Session) (E : Enrolled) → IsSessionRow (meta_from found.meta) I
       → (owner_of : ℕ → ℕ) × AreOwners I found.owners.items owner_of
       → AreEnrolRows I found.enrols.items E

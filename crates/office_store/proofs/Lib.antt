@@ -4,3 +4,7 @@ pub mod TurnLemmas
 pub mod RunLemmas
 pub mod LoadLemmas
 pub mod DraftLemmas
+pub mod ReadLemmas
+pub mod CallLemmas
+pub mod SlotLemmas
+pub mod EditLemmas

@@ -4,10 +4,12 @@
 mod adopting;
 mod drafting;
 mod edit;
+mod editing;
 mod fault;
 mod loading;
 mod office;
 mod owning;
+mod reading;
 mod transactions;
 
 pub use edit::Edit;
