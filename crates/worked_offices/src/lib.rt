@@ -4,6 +4,8 @@
 #[cfg(test)]
 mod drafting;
 #[cfg(test)]
+mod editing;
+#[cfg(test)]
 mod given;
 #[cfg(test)]
 mod offices;
