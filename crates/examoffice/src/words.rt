@@ -1,12 +1,13 @@
 // The words of a command line.
 ghost use Rattle.std.specs.IoError.{error_kind};
 ghost use Rattle.std.specs.Iterator.{Drains};
-ghost use Rattle.std.specs.Prelude.{◌≡◌, IfErr, IfOk, false, map, string_bytes};
+ghost use Rattle.std.specs.Prelude.{◌≡◌, IfErr, IfOk, Some, false, map, string_bytes};
 ghost use Rattle.std.specs.Vec.Iter.{into_iter_steps};
 ghost use Rattle.std.specs.declared.io.ErrorKind.TheVariants as failure;
 ghost use Rattle.clap.specs.Words.{FailsBy, found_of, kind_of, rows_of, rule_of};
 ghost use Rattle.clap.specs.Words.{subcommand_of, subcommand_rows_of};
 ghost use Rattle.clap.specs.Faults.{fault_of};
+ghost use Rattle.clap.specs.declared.builder.texts.Texts.TheVariants.{One};
 ghost use Rattle.clap.specs.declared.error.kind.ErrorKind.TheVariants.{OutOfMemory};
 ghost use Rattle.examoffice.specs.Program.{AddsShape, HasCheckValues, IsTask, check_app};
 ghost use Rattle.examoffice.specs.Program.{program, required_rule};
@@ -35,6 +36,8 @@ pub fn words_of(alloc: Global, args: Args) -> io::Result<Vec<String>>
 fn required<'a>(alloc: Global, id: &'a str, name: &'a str, help: &'a str) -> Arg<'a>
     ensures rule { rule_of result ≡ required_rule id.now }
     ensures local { result.global ≡ false }
+    ensures name { result.val_names ≡ One name.entry }
+    ensures help { result.help ≡ Some help.entry }
 {
     Arg::new(alloc, id)
         .value_name(name)

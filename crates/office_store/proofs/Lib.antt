@@ -1,3 +1,4 @@
+pub mod AdoptLemmas
 pub mod OwnerLemmas
 pub mod TurnLemmas
 pub mod RunLemmas
@@ -5,3 +6,6 @@ pub mod LoadLemmas
 pub mod DraftLemmas
 pub mod ReadLemmas
 pub mod CallLemmas
+pub mod SlotLemmas
+pub mod EditLemmas
+pub mod EditCallLemmas

@@ -1,8 +1,10 @@
 //! The office over its tables: one SQLite file that stands for an examination session.
 #![tactic(auto)]
 
+mod adopting;
 mod drafting;
 mod edit;
+mod editing;
 mod fault;
 mod loading;
 mod office;

@@ -1,7 +1,7 @@
 // Edits of a draft of the small session.
 ghost use Rattle.std.specs.Prelude.{◌≡◌, IfOk};
 
-use crate::given::{PAIRS, WEIGHTS, after, assert_same, enrolled, numbers, place, small};
+use crate::given::{PAIRS, WEIGHTS, after, assert_same, enrolled, numbers, place, small, student};
 use Step::{Clear, Move, Put, Swap};
 use exam_draft::{Draft, EditFault};
 use exam_model::{Enrolments, ExamNo, Instance, PeriodRule};
@@ -186,6 +186,18 @@ fn coinciding(alloc: Global) -> Result<Instance, Fail> {
     Ok(small(alloc, &rules, &[], WEIGHTS)?)
 }
 
+// The small session's enrolments, without a student at an exam.
+fn enrolled_without(alloc: Global, number: u32, exam: u32) -> Result<Enrolments, Fail> {
+    let mut enrolments = enrolled(alloc, &PAIRS)?;
+    if exam >= enrolments.exams() {
+        return Err("no such exam")?;
+    }
+    if !enrolments.remove(student(number)?, ExamNo::new(exam)) {
+        return Err("no such pair")?;
+    }
+    Ok(enrolments)
+}
+
 // The solution's draft, with these enrolments in the place of its own.
 fn enrolled_anew<'a>(
     alloc: Global,
@@ -208,7 +220,7 @@ fn enrolled_anew<'a>(
 fn coincidence_by_enrolment(rt: HostRuntime) -> Result<(), Fail> {
     let instance = coinciding(rt.alloc())?;
     let enrolments = enrolled(rt.alloc(), &PAIRS)?;
-    let fewer = enrolled(rt.alloc(), &[(1, 0), (2, 0), (3, 1), (3, 2), (1, 3)])?;
+    let fewer = enrolled_without(rt.alloc(), 2, 1)?;
     let solved = solved(rt.alloc(), &instance, &enrolments)?;
     assert_same(&rt, solved.parts().total(), 37, "solved");
     let mut draft = enrolled_anew(rt.alloc(), &instance, &enrolments, &fewer)?;

@@ -2,6 +2,10 @@
 #![tactic(auto)]
 
 #[cfg(test)]
+mod drafting;
+#[cfg(test)]
+mod editing;
+#[cfg(test)]
 mod given;
 #[cfg(test)]
 mod offices;

@@ -16,11 +16,13 @@ loop-exam-preserved c =
     elim c.match-get.branch [
       | in-Some+in_ok-push w ↦
           let at = w.in-Some.place in
-          let row = slot_row d e (record { period = w.get-in-Some.result; room = w.get-in-Some-2.result }) in
+          let period = w.get-in-Some.result in
+          let room = w.get-in-Some-2.result in
+          let row = slot_row d e (record { period = period; room = room }) in
           ap (λ r. r.items) w.rows-is ∙ w.in_ok-push.ensures.items
           ∙ ap (λ l. l ++ row ∷ []) c.loop-exam.invariant
           ∙ ap (λ r. slots_from d 0 (take e T) ++ r ∷ [])
-            (same_row d e at _ _ w.get-in-Some.ensures w.get-in-Some-2.ensures)
+          (same_row d e at _ _ w.get-in-Some.ensures w.get-in-Some-2.ensures)
           ∙ sym (slots_more d e T (Some at) within (read ∙ w.in-Some.is))
       | in_default w ↦
           ap (λ r. r.items) w.rows-is ∙ c.loop-exam.invariant

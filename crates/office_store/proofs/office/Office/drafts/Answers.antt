@@ -1,4 +1,4 @@
-use Rattle.std.proofs.Common.{◌≡◌, sym, subst, arith}
+use Rattle.std.proofs.Common.{sym, subst, arith}
 use Rattle.sqlite.specs.Held.{state}
 use Rattle.sqlite.specs.State.{HasCleanDisk}
 use Rattle.office_store.specs.Running.{IsAwake}
@@ -48,7 +48,7 @@ returns-clause-now g c clean office here =
     let same = c.in_ok-rows.ensures.same clean was.1.held was.1.tables in
     let kept : IsKept mid.now office = subst (λ db. IsKept db office) same.0.now_is here in
     draft_read kept.held office c.args.number c.in_ok-rows.rows.items kept.stands
-      (c.in_ok-rows.ensures.rows clean kept.held kept.tables)
+    (c.in_ok-rows.ensures.rows clean kept.held kept.tables)
 
 pub returns-clause-scored : goal.returns-clause-scored
 returns-clause-scored g c clean office here =

@@ -1,4 +1,4 @@
-use Rattle.std.proofs.Common.{rules, ◌≡◌, Some, None, ap, ◌∙◌, sym, subst, arith, true, false}
+use Rattle.std.proofs.Common.{rules, ◌≡◌, None, ap, ◌∙◌, sym, subst}
 use Rattle.std.specs.Prelude.{is_some}
 use Rattle.sqlite.specs.Held.{state}
 use Rattle.sqlite.specs.State.{HasCleanDisk}
@@ -38,7 +38,7 @@ returns-then-is_empty-clause-runs g c clean office now =
     c.self.invariant.1 in
     let is = at_hand mid c.self.inside.kept office rest clean awake.0 here in
     let of = has_records office c.self.inside.kept is c.if-is_none.ensures in
-    let none = no_row c.in_ok-rows.rows.items _ c.in_ok-rows.rows.ok.0 (is_some (draft_in d office)) d
+    let none = no_row c.in_ok-rows.rows.items _ c.in_ok-rows.rows.ok.0 _ d
     (c.in_ok-rows.ensures.rows clean office now) c.if-is_empty.ensures in (
       ap (draft_dropped d) of.is ∙ dropped_none of.records d
           (ap (λ o. is_some (draft_in d o)) (sym of.is) ∙ none),
@@ -76,7 +76,7 @@ returns-clause-runs g c clean office now =
     c.self.invariant.1 in
     let is = at_hand mid c.self.inside.kept office rest clean_mid awake.0 here in
     let of = has_records office c.self.inside.kept is c.if-is_none.ensures in
-    let some = a_row c.in_ok-rows.rows.items _ c.in_ok-rows.rows.ok.0 (is_some (draft_in d office)) d
+    let some = a_row c.in_ok-rows.rows.items _ c.in_ok-rows.rows.ok.0 _ d
     (c.in_ok-rows.ensures.rows clean_mid office now) c.if-is_empty.ensures in
     let changed = subst (λ h. Changed (draft_removed d) (state g.S.Store h) new)
     c.self.view_is (c.in_ok-remove_draft.ensures.done clean) in (
