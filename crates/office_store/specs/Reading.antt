@@ -20,7 +20,7 @@ pub record AreRowsOf (office : OfficeState) (d : ℕ) (rows : List DraftRow) (sl
   pub scored : AreScored rows office
   pub places : IsPermutation slots (slot_rows d (draft_in d office))
 
--- what references show, at the time of the call
-abbrev pub shown : {X Y : Type 0} {E : Type 0} → Result (Bor X × Bor Y) E → Result (X × Y) E
-shown (Ok p) = Ok (p.0.now, p.1.now)
-shown (Err e) = Err e
+-- the values behind two references
+abbrev pub shown : {X Y F : Type 0} → Result (Bor X × Bor Y) F → Result (X × Y) F
+shown (Ok pair) = Ok (pair.0.now, pair.1.now)
+shown (Err fault) = Err fault
