@@ -6,6 +6,8 @@ mod adopting;
 #[cfg(test)]
 mod drafting;
 #[cfg(test)]
+mod editing;
+#[cfg(test)]
 mod given;
 #[cfg(test)]
 mod offices;
