@@ -2,8 +2,6 @@
 #![tactic(auto)]
 
 #[cfg(test)]
-mod adopting;
-#[cfg(test)]
 mod drafting;
 #[cfg(test)]
 mod editing;
@@ -13,3 +11,5 @@ mod given;
 mod offices;
 #[cfg(test)]
 mod tables;
+#[cfg(test)]
+mod wrong_tables;

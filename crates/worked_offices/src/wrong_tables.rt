@@ -1,4 +1,4 @@
-// An office that is taken over from its database.
+// Tables that are not those of an office.
 use crate::given::assert_same;
 use crate::offices::{SMALL, created, refusal};
 use exam_model::ExamNo;
@@ -19,36 +19,6 @@ fn filled(alloc: Global) -> Result<Connection<MemStore>, Fail> {
         return Err("not filled")?;
     }
     Ok(office.release())
-}
-
-fn adopted(alloc: Global, conn: Connection<MemStore>) -> Result<Office<MemStore>, Fail> {
-    match Office::adopt(alloc, conn) {
-        Ok(office) => Ok(office),
-        Err(_) => Err("not adopted")?,
-    }
-}
-
-#[test]
-fn an_office_is_taken_over(rt: HostRuntime) -> Result<(), Fail> {
-    let mut office = adopted(rt.alloc(), filled(rt.alloc())?)?;
-    let again = office.load(rt.alloc(), SMALL);
-    assert_same(&rt, again, Err(StoreFault::Loaded), "the session");
-    let owner = office.owner(rt.alloc(), ExamNo::new(2));
-    assert_same(&rt, owner, Ok(999), "the owner");
-    let taken = office.new_draft(rt.alloc(), 3, b"");
-    assert_same(&rt, taken, Err(StoreFault::DraftTaken), "the draft");
-    let second = office.new_draft(rt.alloc(), 4, SOLUTION);
-    assert_same(&rt, second, Ok(37), "another draft");
-    Ok(())
-}
-
-#[test]
-fn an_office_without_a_session_is_taken_over(rt: HostRuntime) -> Result<(), Fail> {
-    let office = created(rt.alloc())?;
-    let mut office = adopted(rt.alloc(), office.release())?;
-    let loaded = office.load(rt.alloc(), SMALL).is_ok();
-    assert_same(&rt, loaded, true, "a load");
-    Ok(())
 }
 
 // Why the database is refused after a statement, if it is.
@@ -85,6 +55,14 @@ fn what_is_no_office_is_refused(rt: HostRuntime) -> Result<(), Fail> {
         ),
         ("DELETE FROM draft", Some(StoreFault::BadSchema)),
         ("DROP TABLE batch", Some(StoreFault::BadSchema)),
+        (
+            "CREATE TABLE more (x INTEGER)",
+            Some(StoreFault::BadSchema),
+        ),
+        (
+            "INSERT INTO batch (no, bytes, added, dropped, unchanged) VALUES (1, x'', 0, 0, 0)",
+            Some(StoreFault::BadSchema),
+        ),
     ] {
         assert_same(&rt, refused_after(rt.alloc(), text)?, wanted, text);
     }
