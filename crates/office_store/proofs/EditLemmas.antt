@@ -13,21 +13,23 @@ use Rattle.exam_model.specs.Timetable.{Placing, place_of}
 use Rattle.exam_rules.specs.declared.breach.Breach.{Breach}
 use Rattle.exam_rules.specs.Breaches.{least_breach_of}
 use Rattle.exam_score.specs.Changes.{DiffersAtMost}
-use Rattle.exam_score.specs.Penalty.{Penalty}
+use Rattle.exam_score.specs.Penalty.{Penalty, total_of}
 use Rattle.exam_score.specs.Track.{track}
 use Rattle.exam_draft.specs.Edits.{Edited, exam_exists, place_exists, is_placed, if_unbroken, unless_broken}
 use Rattle.office_tables.specs.Tables.{Tables, Stands as Held}
 use Rattle.office_tables.specs.Changes.{with_draft, without_draft}
 use Rattle.office_tables.specs.declared.rows.DraftRow.{DraftRow}
+use Rattle.office_tables.specs.declared.rows.SlotRow.{SlotRow}
 use Rattle.office_store.specs.Changes.{edit_put}
 use Rattle.office_store.specs.Commands.{draft_edited, draft_shown, edited, exams_of, named, penalty_now}
+use Rattle.office_store.specs.Reading.{AreRowsOf}
 use Rattle.office_store.specs.Running.{Edits, IsFault}
 use Rattle.office_store.specs.declared.fault.Refusal.TheVariants as refusal
 use Rattle.office_store.specs.declared.fault.StoreFault.{StoreFault}
 use Rattle.office_store.specs.declared.fault.StoreFault.TheVariants.{BadSchema, NoDraft, Refused, Store}
 use Rattle.office_store.specs.declared.edit.Edit.{Edit}
 use Rattle.office_store.specs.declared.edit.Edit.TheVariants as edit
-use Rattle.office_records.specs.Office.{OfficeState, Records, memory_of, set_at}
+use Rattle.office_records.specs.Office.{IsOffice, OfficeState, Records, memory_of, set_at}
 use Rattle.office_records.specs.Stands.{StandsLoaded, IsSound, IsScoredRow, IsKept, drafts_at, slots_at, slots_from, slot_rows, parts_of, once}
 use Rattle.office_records.proofs.KeyLemmas.{none_of, all_of_other, each_left}
 use Rattle.office_store.proofs.DraftLemmas.{made_records}
@@ -277,3 +279,63 @@ edit_comes d change r I E T result memory there ok err =
     go (Err e) ok err =
         edit_refused d change r T e there
         (subst (λ (x : Edited). (e ≡ Store) ⊎ (named (λ f. Refused (refusal.Edit f)) x ≡ Err e)) (sym same) err)
+
+-- ---- what is stored
+
+-- the office of what is at hand, and what the edit makes of its draft
+pub record IsEditedOf (o : OfficeState) (I : Session) (E : Enrolled) (d : ℕ) (change : Edit)
+    (result : Result (Placing × Penalty) StoreFault) : Type 0 where
+  pub records : Records
+  pub is : o ≡ Some records
+  pub both : ◌≡◌ {A = Session × Enrolled} (records.session, records.enrolments) (I, E)
+  pub edits : Edits d change records result
+
+pub edited_of : (o : OfficeState) (I : Session) (E : Enrolled) (d : ℕ) (change : Edit)
+    (result : Result (Placing × Penalty) StoreFault) (rows : List DraftRow) (slots : List SlotRow)
+    → IsOffice o → memory_of o ≡ Some (I, E) → AreRowsOf o d rows slots
+    → ((r : Records) → IsOffice (Some r) → memory_of (Some r) ≡ Some (I, E)
+      → AreRowsOf (Some r) d rows slots → Edits d change r result)
+    → IsEditedOf o I E d change result
+edited_of None I E d change result rows slots office memory are edits = absurd cc
+edited_of (Some r) I E d change result rows slots office memory are edits = record {
+  records = r;
+  is = refl;
+  both = cc;
+  edits = edits r office memory are;
+}
+
+-- what is stored is what the command gives
+pub record IsStored (b : Database) (o : OfficeState) (I : Session) (E : Enrolled) (d : ℕ)
+    (change : Edit) (P : Penalty) : Type 0 where
+  pub office : OfficeState
+  pub gives : draft_edited d change o ≡ Ok (total_of P, office)
+  pub kept : IsKept b office
+  pub memory : memory_of office ≡ Some (I, E)
+
+module _ (a b : Database) (o : OfficeState) (I : Session) (E : Enrolled) (d : ℕ) (change : Edit)
+    (new : Placing) (P : Penalty) (row : DraftRow) (of : IsEditedOf o I E d change (Ok (new, P)))
+    (number : row.no ≡ d) (parts : parts_of row ≡ P) (scored : P ≡ track I E new) (fits : Fits I E new)
+    (kept : IsKept a o)
+    (makes : (t : Tables) → Held a t → Held b (edit_put row new (exams_of change) t)) where
+  abbrev edited_office : OfficeState
+  edited_office = Some (record of.records { draft = set_at d (Some new) of.records.draft })
+
+  penalty_is : P ≡ track of.records.session of.records.enrolments new
+  penalty_is = scored ∙ sym (ap (λ (p : Session × Enrolled). track p.0 p.1 new) of.both)
+
+  gives : draft_edited d change o ≡ Ok (total_of P, edited_office)
+  gives =
+      ap (draft_edited d change) of.is
+      ∙ edit_gives d change of.records of.edits.0 new of.edits.1 of.edits.2
+      ∙ ap (λ (p : Penalty). Ok (total_of p, edited_office)) (sym penalty_is)
+
+  is_kept : IsKept b edited_office
+  is_kept =
+      subst (λ n. IsKept b (Some (record of.records { draft = set_at n (Some new) of.records.draft }))) number
+      (edit_kept a b of.records of.edits.0 new row change (ap of.records.draft number ∙ of.edits.1)
+      of.edits.2 (parts ∙ penalty_is)
+      (subst (λ (p : Session × Enrolled). Fits p.0 p.1 new) (sym of.both) fits)
+      (subst (IsKept a) of.is kept) makes)
+
+  pub edit_stored : IsStored b o I E d change P
+  edit_stored = record { office = edited_office; gives = gives; kept = is_kept; memory = ap Some of.both }
