@@ -1,7 +1,6 @@
 -- A database stands for one session, with one set of enrolments.
-use Rattle.std.proofs.Common.{◌≡◌, ◌≢◌, ℕ, zero, suc, ◌<◌, ◌≤◌, pos, Bool, true, false, List, [], ◌∷◌, map, length, Some, None, Ok, Err, Result, refl, sym, ◌∙◌, ap, arith, subst, All, inl, inr}
-use Rattle.std.specs.Prelude.{IsPermutation, option_map}
-use Rattle.std.specs.List.{list_any}
+use Rattle.std.proofs.Common.{◌≡◌, ℕ, zero, suc, ◌≤◌, pos, Bool, true, false, List, [], ◌∷◌, map, length, Some, None, Ok, Result, refl, sym, ◌∙◌, ap, arith, subst, All}
+use Rattle.std.specs.Prelude.{IsPermutation}
 use Rattle.std.proofs.lemmas.List.{length-replicate}
 use Rattle.std.proofs.lemmas.List.Folds.{sum_by-replicate}
 use Rattle.std.proofs.lemmas.List.Sorted.{IsPermutation-sym, IsPermutation-trans, IsPermutation-map, All-permutation, list_any-IsPermutation}
@@ -9,17 +8,17 @@ use Rattle.sqlite_value.specs.declared.value.Value.{Value}
 use Rattle.sqlite_value.specs.declared.value.Value.TheVariants.{Int, Blob}
 use Rattle.sqlite_value.specs.Order.{Row, column}
 use Rattle.sqlite.specs.Effect.{Database}
-use Rattle.exam_model.specs.Enrolments.{Enrolled, AreEnrolments, has, no_pairs, students}
+use Rattle.exam_model.specs.Enrolments.{Enrolled, AreEnrolments, no_pairs, students}
 use Rattle.exam_model.specs.Instance.{Session, IsInstance}
-use Rattle.exam_model.specs.Pairs.{Pair, pairs_of, is_pair, ArePairsOf}
+use Rattle.exam_model.specs.Pairs.{Pair, pairs_of, is_pair}
 use Rattle.exam_model.proofs.PairLemmas.{are_pairs}
 use Rattle.exam_model.proofs.SameSet.{same_set}
 use Rattle.office_files.specs.CanonicalText.{canonical_instance}
 use Rattle.office_files.specs.InstanceText.{instance_in}
 use Rattle.office_files.proofs.CanonicalInstance.{instance_same}
-use Rattle.office_tables.specs.Tables.{Tables, Stands as Held, Holds, Meta, meta_row, flag, keyed, keyless, enrol_row as enrol_columns, empty_tables}
+use Rattle.office_tables.specs.Tables.{Tables, Stands as Held, Holds, Meta, meta_row, flag, keyed, keyless, enrol_row as enrol_columns}
 use Rattle.office_tables.specs.declared.rows.EnrolRow.{EnrolRow}
-use Rattle.office_records.specs.Office.{OfficeState, Records, AreRecords, AreEnrolled, IsOffice}
+use Rattle.office_records.specs.Office.{OfficeState, Records, AreRecords, AreEnrolled}
 use Rattle.office_records.specs.Office.{memory_of}
 use Rattle.office_records.specs.Stands.{IsKept, Stands, StandsLoaded, enrol_row, meta_row as session_row}
 
@@ -32,7 +31,7 @@ module _ {X : Type 0} (show : Row → Row) (row : X → Row) (back : Row → X)
   backs (x ∷ xs) = ap (λ y. y ∷ map back (map row xs)) (is x) ∙ ap (λ l. x ∷ l) (backs xs)
 
   -- two lists of rows that one table holds are the same, up to order
-  same_rows : (xs ys : List X) (stored : List Row) → Holds show (map row xs) stored
+  pub same_rows : (xs ys : List X) (stored : List Row) → Holds show (map row xs) stored
       → Holds show (map row ys) stored → IsPermutation xs ys
   same_rows xs ys stored p q =
       let both = IsPermutation-trans _ _ _ (IsPermutation-sym _ _ p.same) q.same in
@@ -57,7 +56,7 @@ blob_of : Value → List ℕ
 blob_of (Blob b) = b
 blob_of _ = []
 
-meta_back : Row → Meta
+pub meta_back : Row → Meta
 meta_back row = record { published = is_one (column row 2); instance = blob_of (column row 3) }
 
 flags : (b : Bool) → is_one (Int (pos (flag b))) ≡ b
@@ -65,7 +64,7 @@ unfolding is_one
 flags true = refl
 flags false = refl
 
-meta_is : (m : Meta) → meta_back (meta_row m) ≡ m
+pub meta_is : (m : Meta) → meta_back (meta_row m) ≡ m
 unfolding meta_back blob_of
 meta_is m = ap (λ b. record { published = b; instance = m.instance }) (flags m.published)
 
@@ -125,7 +124,7 @@ columns_are : (r : EnrolRow) → columns_back (enrol_columns r) ≡ r
 unfolding columns_back
 columns_are r = refl
 
-same_enrolments : (I : Session) (E F : Enrolled) → AreEnrolled I E → AreEnrolled I F
+pub same_enrolments : (I : Session) (E F : Enrolled) → AreEnrolled I E → AreEnrolled I F
     → IsPermutation (map enrol_row (pairs_of E)) (map enrol_row (pairs_of F)) → E ≡ F
 same_enrolments I E F e f p =
     let pairs : IsPermutation (pairs_of E) (pairs_of F) =

@@ -1,11 +1,11 @@
 -- When rows that were found are those of an office's records, table by table.
-use Rattle.std.specs.Prelude.{◌≡◌, ◌≢◌, ℕ, ◌<◌, ◌≤◌, List, map, length, All, Option, Some, None, IsSome, is_some, IsPermutation}
+use Rattle.std.specs.Prelude.{◌≡◌, ◌≢◌, ℕ, ◌<◌, ◌≤◌, List, map, length, All, Option, Some, None, IsSome, is_some, slice_set, IsPermutation}
 use Rattle.std.specs.List.{AllByRecursion}
 use Rattle.exam_model.specs.Enrolments.{Enrolled}
 use Rattle.exam_model.specs.Fits.{Fits, PlaceExists}
 use Rattle.exam_model.specs.Instance.{Session, IsInstance}
 use Rattle.exam_model.specs.Pairs.{pairs_of}
-use Rattle.exam_model.specs.Timetable.{Placing}
+use Rattle.exam_model.specs.Timetable.{Placing, place_of}
 use Rattle.exam_score.specs.Track.{track}
 use Rattle.office_tables.specs.Tables.{Meta}
 use Rattle.office_tables.specs.declared.rows.OwnerRow.{OwnerRow}
@@ -45,4 +45,18 @@ pub record AreDrafts (I : Session) (E : Enrolled) (found : List DraftRow) (place
   pub rows : (d : ℕ) → map (λ row. row.no) (drafts_at d found) ≡ once (is_some (draft d)) d
   pub slots : (d : ℕ) → IsPermutation (slots_at d places) (slot_rows d (draft d))
   pub scored : AllByRecursion
-    (λ row. (T : Placing) → draft row.no ≡ Some T → parts_of row ≡ track I E T) found
+      (λ row. (T : Placing) → draft row.no ≡ Some T → parts_of row ≡ track I E T) found
+
+-- ---- one row more
+
+-- the exam and the place of a row exist, and the exam stands nowhere yet
+pub record IsFree (I : Session) (row : SlotRow) (T : Placing) : Type 0 where
+  pub exam : row.exam < length I.exams
+  pub period : row.period < length I.periods
+  pub room : row.room < length I.rooms
+  pub nowhere : place_of T row.exam ≡ None
+
+-- it stands there then
+pub record IsPut (I : Session) (row : SlotRow) (old new : Placing) : Type 0 where
+  pub free : IsFree I row old
+  pub set : new ≡ slice_set old row.exam (Some (record { period = row.period; room = row.room }))

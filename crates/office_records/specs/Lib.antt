@@ -1,3 +1,4 @@
 pub mod Office
 pub mod Stands
 pub mod Found
+pub mod NextRow

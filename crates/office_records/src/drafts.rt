@@ -1,10 +1,16 @@
 // Rows of drafts.
-ghost use Rattle.std.specs.Prelude.{◌≡◌, ℕ, Option, IfErr, OnOk, length};
+ghost use Rattle.std.specs.Prelude.{◌≡◌, ◌≢◌, ◌≤◌, ◌↔◌, ◌==◌, ℕ, length};
+ghost use Rattle.std.specs.Prelude.{All, IfErr, IsTrue, OnOk, Option};
+ghost use Rattle.std.specs.List.{list_all, list_any};
 ghost use Rattle.exam_model.specs.Timetable.{Placing};
-ghost use Rattle.office_records.specs.Found.{AreDrafts};
+ghost use Rattle.exam_score.specs.Track.{track};
+ghost use Rattle.office_records.specs.Found.{AreDrafts, AreSlots};
+ghost use Rattle.office_records.specs.Stands.{parts_of};
 
 use crate::fault::RecordFault;
+use crate::timetable::timetable_of;
 use exam_model::{Enrolments, Instance};
+use exam_score::{Parts, score};
 use office_tables::{DraftRow, SlotRow};
 use std::alloc::Global;
 
@@ -23,5 +29,75 @@ pub fn check_drafts(
     ensures none { IfErr result (λ e. e ≡ RecordFault.BadRows → (draft : ℕ → Option Placing)
         → AreDrafts instance.now enrolments.now rows.now slots.now draft → ⊥) }
 {
-    Err(RecordFault::NoMemory)
+    'rows: for (at, row) in rows.iter().enumerate() {
+        if !is_next(row.no, &rows[..at]) {
+            return Err(RecordFault::BadRows);
+        }
+        check_draft(alloc, instance, enrolments, row, slots)?;
+    }
+    if are_of_drafts(slots, rows) {
+        Ok(())
+    } else {
+        Err(RecordFault::BadRows)
+    }
+}
+
+// Whether a draft after these may have this number.
+fn is_next(no: u32, earlier: &[DraftRow]) -> bool
+    ensures { IsTrue result ↔ ((1 ≤ no) × (no ≤ 8) × All (λ row. row.no ≢ no) earlier.now) }
+{
+    let exists = 1 <= no && no <= 8;
+    exists && earlier.iter().all(|row| row.no != no)
+}
+
+// Whether each slot is of a draft that has a row.
+fn are_of_drafts(slots: &[SlotRow], rows: &[DraftRow]) -> bool
+    ensures { result
+        ≡ list_all (λ slot. list_any (λ row. row.no == slot.draft) rows.now) slots.now }
+{
+    slots.iter().all(|slot| has_row(slot.draft, rows))
+}
+
+// Whether a draft has a row.
+fn has_row(draft: u32, rows: &[DraftRow]) -> bool
+    ensures { result ≡ list_any (λ row. row.no == draft) rows.now }
+{
+    rows.iter().any(|row| row.no == draft)
+}
+
+// Whether a draft's slots are a timetable, and its row has that one's penalty.
+fn check_draft(
+    alloc: Global,
+    instance: &Instance,
+    enrolments: &Enrolments,
+    row: &DraftRow,
+    slots: &[SlotRow],
+) -> Result<(), RecordFault>
+    requires exams { length enrolments.now ≡ length instance.now.exams }
+    ensures is { OnOk result ((T : Placing) × AreSlots instance.now row.now.no slots.now T
+        × (parts_of row.now ≡ track instance.now enrolments.now T)) }
+    ensures none { IfErr result (λ e. e ≡ RecordFault.BadRows → (T : Placing)
+        → AreSlots instance.now row.now.no slots.now T
+        → parts_of row.now ≡ track instance.now enrolments.now T → ⊥) }
+{
+    let timetable = timetable_of(alloc, instance, row.no, slots)?;
+    let parts = score(alloc, instance, enrolments, &timetable)?;
+    if are_parts(row, &parts) {
+        Ok(())
+    } else {
+        Err(RecordFault::BadRows)
+    }
+}
+
+// Whether a draft's row stores these parts.
+fn are_parts(row: &DraftRow, parts: &Parts) -> bool
+    ensures { IsTrue result ↔ (parts_of row.now ≡ parts.now) }
+{
+    row.in_row == parts.row()
+        && row.in_day == parts.day()
+        && row.spread == parts.spread()
+        && row.mixed == parts.mixed()
+        && row.front == parts.front()
+        && row.period == parts.period()
+        && row.room == parts.room()
 }

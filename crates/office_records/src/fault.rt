@@ -1,4 +1,5 @@
 // Why rows are not taken for records.
+use office_files::{FaultKind, FileFault};
 use std::alloc::AllocError;
 
 /// Why rows are not taken for records.
@@ -18,5 +19,20 @@ impl From<AllocError> for RecordFault {
 
     fn from(_error: AllocError) -> RecordFault {
         RecordFault::NoMemory
+    }
+}
+
+impl From<FileFault> for RecordFault {
+    ghost use Rattle.std.specs.Prelude.{◌≡◌, ◌≢◌};
+    ghost use Rattle.office_files.specs.declared.fault.FaultKind.TheVariants.{NoMemory};
+    ghost use Rattle.office_records.specs.declared.fault.RecordFault.TheVariants.{BadRows};
+
+    ghost from_gives = { λ fault e. e ≡ BadRows → fault.what ≢ NoMemory };
+
+    fn from(fault: FileFault) -> RecordFault {
+        match fault.what {
+            FaultKind::NoMemory => RecordFault::NoMemory,
+            _ => RecordFault::BadRows,
+        }
     }
 }

@@ -11,4 +11,5 @@ mod timetable;
 
 pub use fault::RecordFault;
 pub use records::kept_of;
+pub use session::text_of;
 pub use timetable::timetable_of;

@@ -1,24 +1,46 @@
 // The records that rows stand for.
-ghost use Rattle.std.specs.Prelude.{◌≡◌, IfErr, IfOk};
+ghost use Rattle.std.specs.Prelude.{◌≡◌, ◌↔◌, IfErr, IfOk, IsTrue};
 ghost use Rattle.office_tables.specs.Adopting.{tables_of};
+ghost use Rattle.office_tables.specs.Tables.{empty_tables};
 ghost use Rattle.office_records.specs.Office.{IsOffice, OfficeState, memory_of};
 ghost use Rattle.office_records.specs.Stands.{IsSound, Stands};
 
+use crate::drafts::check_drafts;
+use crate::enrolments::enrolments_of;
 use crate::fault::RecordFault;
+use crate::owners::check_owners;
+use crate::session::session_of;
 use exam_model::{Enrolments, Instance};
 use office_tables::Found;
 use std::alloc::Global;
 
-/// What an office keeps in memory of the rows that stand for it. `BadRows`: they stand for no office.
-pub fn kept_of(
-    alloc: Global,
-    found: &Found,
-) -> Result<Option<(Instance, Enrolments)>, RecordFault>
+/// What an office keeps in memory of the rows that stand for it. `BadRows`: they stand for no
+/// office.
+pub fn kept_of(alloc: Global, found: &Found) -> Result<Option<(Instance, Enrolments)>, RecordFault>
     ensures are { IfOk result (λ kept. (office : OfficeState) × Stands (tables_of found.now) office
         × IsSound (tables_of found.now) office × IsOffice office × (memory_of office ≡ kept)) }
     ensures none { IfErr result (λ e. e ≡ RecordFault.BadRows → (office : OfficeState)
         → Stands (tables_of found.now) office → IsSound (tables_of found.now) office
         → IsOffice office → ⊥) }
 {
-    Err(RecordFault::NoMemory)
+    if is_unloaded(found) {
+        return Ok(None);
+    }
+    let instance = session_of(alloc, &found.meta)?;
+    check_owners(alloc, &instance, &found.owners)?;
+    let enrolments = enrolments_of(alloc, &instance, &found.enrols)?;
+    check_drafts(alloc, &instance, &enrolments, &found.drafts, &found.slots)?;
+    Ok(Some((instance, enrolments)))
+}
+
+// Whether the tables are those before a load.
+fn is_unloaded(found: &Found) -> bool
+    ensures { IsTrue result ↔ (tables_of found.now ≡ empty_tables) }
+{
+    !found.meta.published
+        && found.meta.instance.is_empty()
+        && found.owners.is_empty()
+        && found.enrols.is_empty()
+        && found.drafts.is_empty()
+        && found.slots.is_empty()
 }

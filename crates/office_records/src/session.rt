@@ -1,13 +1,31 @@
 // The row of a session.
 ghost use Rattle.std.specs.Prelude.{◌≡◌, IfErr, IfOk};
-ghost use Rattle.exam_model.specs.Instance.{Session};
+ghost use Rattle.exam_model.specs.Instance.{IsInstance, Session};
 ghost use Rattle.office_tables.specs.Records.{meta_from};
 ghost use Rattle.office_records.specs.Found.{IsSessionRow};
+ghost use Rattle.office_records.specs.Stands.{meta_row};
 
 use crate::fault::RecordFault;
-use exam_model::Instance;
+use exam_model::{Enrolments, Instance};
+use office_files::{read_instance, write_instance};
 use office_tables::MetaRow;
 use std::alloc::Global;
+
+/// The text that is kept of a session: its canonical text, which names no student.
+pub fn text_of(alloc: Global, instance: &Instance) -> Result<Vec<u8>, RecordFault>
+    ensures text { IfOk result (λ text. text.items ≡ (meta_row instance.now).instance) }
+    ensures memory { IfErr result (λ e. e ≡ RecordFault.NoMemory) }
+    ensures instance { IsInstance instance.now }
+{
+    let exams = instance.exams();
+    let Ok(nobody) = Enrolments::new(alloc, exams) else {
+        return Err(RecordFault::NoMemory);
+    };
+    match write_instance(alloc, instance, &nobody) {
+        Ok(text) => Ok(text),
+        Err(_) => Err(RecordFault::NoMemory),
+    }
+}
 
 /// The session whose row this is. `BadRows`: it is the row of none.
 pub fn session_of(alloc: Global, row: &MetaRow) -> Result<Instance, RecordFault>
@@ -15,5 +33,13 @@ pub fn session_of(alloc: Global, row: &MetaRow) -> Result<Instance, RecordFault>
     ensures none { IfErr result (λ e. e ≡ RecordFault.BadRows
         → (I : Session) → IsSessionRow (meta_from row.now) I → ⊥) }
 {
-    Err(RecordFault::NoMemory)
+    if row.published {
+        return Err(RecordFault::BadRows);
+    }
+    let (instance, _students) = read_instance(alloc, &row.instance)?;
+    let text = text_of(alloc, &instance)?;
+    if text.as_slice() != row.instance.as_slice() {
+        return Err(RecordFault::BadRows);
+    }
+    Ok(instance)
 }

@@ -1,10 +1,10 @@
 // Rows of the places of a draft.
-ghost use Rattle.std.specs.Prelude.{◌≡◌, IfErr, IfOk};
+ghost use Rattle.std.specs.Prelude.{◌≡◌, IfErr, IfOk, OnOk, length};
 ghost use Rattle.exam_model.specs.Timetable.{Placing};
-ghost use Rattle.office_records.specs.Found.{AreSlots};
+ghost use Rattle.office_records.specs.Found.{AreSlots, IsFree, IsPut};
 
 use crate::fault::RecordFault;
-use exam_model::{Instance, Timetable};
+use exam_model::{ExamNo, Instance, PeriodNo, Place, RoomNo, Timetable};
 use office_tables::SlotRow;
 use std::alloc::Global;
 
@@ -19,5 +19,30 @@ pub fn timetable_of(
     ensures none { IfErr result (λ e. e ≡ RecordFault.BadRows
         → (T : Placing) → AreSlots instance.now draft slots.now T → ⊥) }
 {
-    Err(RecordFault::NoMemory)
+    let mut timetable = Timetable::new(alloc, instance.exams())?;
+    for row in slots {
+        if row.draft == draft {
+            put_slot(&mut timetable, instance, *row)?;
+        }
+    }
+    Ok(timetable)
+}
+
+// Places an exam that stands nowhere yet.
+fn put_slot(timetable: &mut Timetable, instance: &Instance, row: SlotRow) -> Result<(), RecordFault>
+    requires exams { length timetable.old ≡ length instance.now.exams }
+    ensures put { OnOk result (IsPut instance.now row timetable.old timetable.new) }
+    ensures bad { IfErr result (λ e. IsFree instance.now row timetable.old → ⊥) }
+{
+    let exam = ExamNo::new(row.exam);
+    let place = Place {
+        period: PeriodNo::new(row.period),
+        room: RoomNo::new(row.room),
+    };
+    let room_exists = row.period < instance.periods() && row.room < instance.rooms();
+    if row.exam >= instance.exams() || !room_exists || timetable.get(exam).is_some() {
+        return Err(RecordFault::BadRows);
+    }
+    timetable.set(exam, place);
+    Ok(())
 }

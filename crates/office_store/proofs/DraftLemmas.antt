@@ -1,5 +1,5 @@
 -- A draft that is put in, or taken out.
-use Rattle.std.proofs.Common.{◌≡◌, ◌≢◌, ℕ, ◌+◌, ◌≤◌, Bool, true, false, cond, not, eqb, List, [], ◌∷◌, ◌++◌, map, filter, reverse, Option, Some, None, refl, sym, ◌∙◌, ap, subst, arith, length, take, get_or, ◌<◌}
+use Rattle.std.proofs.Common.{◌≡◌, ℕ, ◌+◌, ◌≤◌, Bool, true, false, cond, not, eqb, List, [], ◌∷◌, ◌++◌, map, filter, reverse, Option, Some, None, refl, sym, ◌∙◌, ap, subst, arith, length, take, get_or, ◌<◌}
 use Rattle.std.specs.Prelude.{IsPermutation, is_some, IsSome}
 use Rattle.std.specs.List.{AllByRecursion}
 use Rattle.std.proofs.lemmas.Bool.Decides.{nat_tests}
@@ -13,7 +13,6 @@ use Rattle.exam_model.specs.Timetable.{Placing}
 use Rattle.exam_model.specs.declared.parts.Place.{Place}
 use Rattle.exam_score.specs.Track.{track}
 use Rattle.office_tables.specs.Tables.{Tables, Stands as Held}
-use Rattle.office_tables.specs.Changes.{without_draft, without_slots}
 use Rattle.office_tables.specs.declared.rows.DraftRow.{DraftRow}
 use Rattle.office_tables.specs.declared.rows.SlotRow.{SlotRow}
 use Rattle.office_store.specs.Changes.{draft_put, draft_removed}
@@ -26,18 +25,18 @@ use Rattle.office_records.proofs.MemoryLemmas.{same_one}
 -- ---- the rows of one draft
 
 -- the places of a draft are of that draft
-slots_are : (d n k : ℕ) (b : Bool) → eqb d n ≡ b → (T : Placing)
+pub slots_are : (d n k : ℕ) (b : Bool) → eqb d n ≡ b → (T : Placing)
     → slots_at n (slots_from d k T) ≡ cond b (slots_from d k T) []
 slots_are d n k true e [] = refl
 slots_are d n k false e [] = refl
 slots_are d n k b e (None ∷ T) = slots_are d n (k + 1) b e T
 slots_are d n k true e (Some at ∷ T) =
     ap (λ c. cond c (slot_row d k at ∷ slots_at n (slots_from d (k + 1) T))
-      (slots_at n (slots_from d (k + 1) T))) e
+    (slots_at n (slots_from d (k + 1) T))) e
     ∙ ap (λ l. slot_row d k at ∷ l) (slots_are d n (k + 1) true e T)
 slots_are d n k false e (Some at ∷ T) =
     ap (λ c. cond c (slot_row d k at ∷ slots_at n (slots_from d (k + 1) T))
-      (slots_at n (slots_from d (k + 1) T))) e
+    (slots_at n (slots_from d (k + 1) T))) e
     ∙ slots_are d n (k + 1) false e T
 
 no_rows : {X : Type 0} (xs : List X) → IsPermutation xs [] → xs ≡ []
@@ -76,14 +75,16 @@ module _ (t : Tables) (r : Records) (d : ℕ) (T : Placing) (row : DraftRow) (sl
   made_draft n true e =
       let same : row.no ≡ n = grind (arith, nat_tests, e, number_is) in
       let passes : eqb row.no n ≡ true = grind (arith, nat_tests, same) in
-      ap (λ c. map (λ (x : DraftRow). x.no) (cond c (row ∷ drafts_at n t.draft) (drafts_at n t.draft)))
-        passes
+      ap (λ c. map (λ (x : DraftRow). x.no)
+      (cond c (row ∷ drafts_at n t.draft) (drafts_at n t.draft)))
+      passes
       ∙ ap (λ l. row.no ∷ l) (h.draft n ∙ ap (λ o. once (is_some o) n) (free_at n e))
       ∙ ap (λ m. m ∷ []) same
   made_draft n false e =
       let fails : eqb row.no n ≡ false = grind (arith, nat_tests, e, number_is) in
-      ap (λ c. map (λ (x : DraftRow). x.no) (cond c (row ∷ drafts_at n t.draft) (drafts_at n t.draft)))
-        fails
+      ap (λ c. map (λ (x : DraftRow). x.no)
+      (cond c (row ∷ drafts_at n t.draft) (drafts_at n t.draft)))
+      fails
       ∙ h.draft n
 
   -- the slots of a draft, in any order, before those that were there
@@ -91,33 +92,37 @@ module _ (t : Tables) (r : Records) (d : ℕ) (T : Placing) (row : DraftRow) (sl
       (slots_at n (slots_from d 0 T) ++ slots_at n t.slot)
   made_rows n =
       let turned : IsPermutation (reverse slots ++ t.slot) (slots_from d 0 T ++ t.slot) =
-        subst (λ l. IsPermutation (reverse slots ++ t.slot) (l ++ t.slot)) are
-          (IsPermutation-append (reverse slots) slots t.slot t.slot
-            (IsPermutation-sym _ _ (IsPermutation-reverse slots)) (IsPermutation-refl t.slot)) in
+      subst (λ l. IsPermutation (reverse slots ++ t.slot) (l ++ t.slot)) are
+      (IsPermutation-append (reverse slots) slots t.slot t.slot
+      (IsPermutation-sym _ _ (IsPermutation-reverse slots)) (IsPermutation-refl t.slot)) in
       subst (λ l. IsPermutation (slots_at n (reverse slots ++ t.slot)) l)
-        (filter-append (λ (s : SlotRow). eqb s.draft n) (slots_from d 0 T) t.slot)
-        (IsPermutation-filter (λ (s : SlotRow). eqb s.draft n) _ _ turned)
+      (filter-append (λ (s : SlotRow). eqb s.draft n) (slots_from d 0 T) t.slot)
+      (IsPermutation-filter (λ (s : SlotRow). eqb s.draft n) _ _ turned)
 
   made_slot : (n : ℕ) (b : Bool) → eqb n d ≡ b
-      → IsPermutation (slots_at n (reverse slots ++ t.slot)) (slot_rows n (cond b (Some T) (r.draft n)))
+      → IsPermutation (slots_at n (reverse slots ++ t.slot))
+      (slot_rows n (cond b (Some T) (r.draft n)))
   made_slot n true e =
       let same : d ≡ n = grind (arith, nat_tests, e) in
       let passes : eqb d n ≡ true = grind (arith, nat_tests, e) in
       let empty : slots_at n t.slot ≡ [] =
-        no_rows _ (subst (λ o. IsPermutation (slots_at n t.slot) (slot_rows n o)) (free_at n e) (h.slot n)) in
+      no_rows _ (subst (λ o. IsPermutation (slots_at n t.slot) (slot_rows n o)) (free_at n e)
+      (h.slot n)) in
       let is : slots_at n (slots_from d 0 T) ++ slots_at n t.slot ≡ slot_rows n (Some T) =
-        ap (λ l. l ++ slots_at n t.slot) (slots_are d n 0 true passes T)
-        ∙ ap (λ l. slots_from d 0 T ++ l) empty
-        ∙ append-nil (slots_from d 0 T) ∙ ap (λ m. slots_from m 0 T) same in
+      ap (λ l. l ++ slots_at n t.slot) (slots_are d n 0 true passes T)
+      ∙ ap (λ l. slots_from d 0 T ++ l) empty
+      ∙ append-nil (slots_from d 0 T) ∙ ap (λ m. slots_from m 0 T) same in
       subst (λ l. IsPermutation (slots_at n (reverse slots ++ t.slot)) l) is (made_rows n)
   made_slot n false e =
       let fails : eqb d n ≡ false = grind (arith, nat_tests, e) in
       let is : slots_at n (slots_from d 0 T) ++ slots_at n t.slot ≡ slots_at n t.slot =
-        ap (λ l. l ++ slots_at n t.slot) (slots_are d n 0 false fails T) in
+      ap (λ l. l ++ slots_at n t.slot) (slots_are d n 0 false fails T) in
       IsPermutation-trans _ _ _
-        (subst (λ l. IsPermutation (slots_at n (reverse slots ++ t.slot)) l) is (made_rows n)) (h.slot n)
+      (subst (λ l. IsPermutation (slots_at n (reverse slots ++ t.slot)) l) is (made_rows n))
+      (h.slot n)
 
-  made_stands : StandsLoaded (draft_put row slots t) (record r { draft = set_at d (Some T) r.draft })
+  made_stands : StandsLoaded (draft_put row slots t)
+      (record r { draft = set_at d (Some T) r.draft })
   made_stands = record {
     meta = h.meta;
     owner = h.owner;
@@ -138,22 +143,25 @@ module _ (t : Tables) (r : Records) (d : ℕ) (T : Placing) (row : DraftRow) (sl
 
   made_sound : parts_of row ≡ track r.session r.enrolments T → IsSound t (Some r)
       → IsSound (draft_put row slots t) (Some (record r { draft = set_at d (Some T) r.draft }))
-  made_sound scored sound =
-      (own, none_pass (λ (x : DraftRow). eqb x.no d) (IsScoredRow r)
-        (IsScoredRow (record r { draft = set_at d (Some T) r.draft })) other t.draft none_there sound)
+  made_sound scored sound = (
+    own,
+    none_pass (λ (x : DraftRow). eqb x.no d) (IsScoredRow r)
+        (IsScoredRow (record r { draft = set_at d (Some T) r.draft })) other t.draft none_there
+        sound,
+  )
     where
       own : (S : Placing) → cond (eqb row.no d) (Some T) (r.draft row.no) ≡ Some S
           → parts_of row ≡ track r.session r.enrolments S
       own S e =
           let same : eqb row.no d ≡ true = grind (arith, nat_tests, number_is) in
           scored ∙ ap (track r.session r.enrolments)
-            (some_is T S (sym (ap (λ b. cond b (Some T) (r.draft row.no)) same) ∙ e))
+          (some_is T S (sym (ap (λ b. cond b (Some T) (r.draft row.no)) same) ∙ e))
 
       other : (x : DraftRow) → IsScoredRow r x → eqb x.no d ≡ false
           → IsScoredRow (record r { draft = set_at d (Some T) r.draft }) x
       other x k e S f = k S (sym (ap (λ b. cond b (Some T) (r.draft x.no)) e) ∙ f)
 
-made_records : (r : Records) (d : ℕ) (T : Placing) → 1 ≤ d → d ≤ 8 → Fits r.session r.enrolments T
+pub made_records : (r : Records) (d : ℕ) (T : Placing) → 1 ≤ d → d ≤ 8 → Fits r.session r.enrolments T
     → AreRecords r → AreRecords (record r { draft = set_at d (Some T) r.draft })
 made_records r d T low high fits h = record {
   session = h.session;
@@ -164,16 +172,19 @@ made_records r d T low high fits h = record {
   drafts = λ n S. fit n S (eqb n d);
 }
   where
-    number : (n : ℕ) (b : Bool) → eqb n d ≡ b → IsSome (cond b (Some T) (r.draft n)) → (1 ≤ n) × (n ≤ 8)
+    number : (n : ℕ) (b : Bool) → eqb n d ≡ b → IsSome (cond b (Some T) (r.draft n))
+        → (1 ≤ n) × (n ≤ 8)
     number n true e some = (grind (arith, nat_tests, e, low), grind (arith, nat_tests, e, high))
     number n false e some = h.numbered n some
 
-    fit : (n : ℕ) (S : Placing) (b : Bool) → cond b (Some T) (r.draft n) ≡ Some S → Fits r.session r.enrolments S
+    fit : (n : ℕ) (S : Placing) (b : Bool) → cond b (Some T) (r.draft n) ≡ Some S
+        → Fits r.session r.enrolments S
     fit n S true e = subst (Fits r.session r.enrolments) (some_is T S e) fits
     fit n S false e = h.drafts n S e
 
-pub made_kept : (a b : Database) (r : Records) (d : ℕ) (T : Placing) (row : DraftRow) (slots : List SlotRow)
-    → row.no ≡ d → slots ≡ slots_from d 0 T → parts_of row ≡ track r.session r.enrolments T
+pub made_kept : (a b : Database) (r : Records) (d : ℕ) (T : Placing) (row : DraftRow)
+    (slots : List SlotRow) → row.no ≡ d → slots ≡ slots_from d 0 T
+    → parts_of row ≡ track r.session r.enrolments T
     → r.draft d ≡ None → 1 ≤ d → d ≤ 8 → Fits r.session r.enrolments T → IsKept a (Some r)
     → ((t : Tables) → Held a t → Held b (draft_put row slots t))
     → IsKept b (Some (record r { draft = set_at d (Some T) r.draft }))
@@ -193,21 +204,21 @@ module _ (t : Tables) (r : Records) (d : ℕ) (h : StandsLoaded t r) where
       ≡ once (is_some (cond b None (r.draft n))) n
   left_draft n true e =
       ap (map (λ (x : DraftRow). x.no))
-        (none_of (λ (x : DraftRow). x.no) d n (grind (arith, nat_tests, e)) t.draft)
+      (none_of (λ (x : DraftRow). x.no) d n (grind (arith, nat_tests, e)) t.draft)
   left_draft n false e =
       ap (map (λ (x : DraftRow). x.no)) (all_of_other (λ (x : DraftRow). x.no) d n e t.draft)
       ∙ h.draft n
 
   left_slot : (n : ℕ) (b : Bool) → eqb n d ≡ b
       → IsPermutation (slots_at n (filter (λ s. not (eqb s.draft d)) t.slot))
-        (slot_rows n (cond b None (r.draft n)))
+      (slot_rows n (cond b None (r.draft n)))
   left_slot n true e =
       subst (λ l. IsPermutation l [])
-        (sym (none_of (λ (s : SlotRow). s.draft) d n (grind (arith, nat_tests, e)) t.slot))
-        (IsPermutation-refl [])
+      (sym (none_of (λ (s : SlotRow). s.draft) d n (grind (arith, nat_tests, e)) t.slot))
+      (IsPermutation-refl [])
   left_slot n false e =
       subst (λ l. IsPermutation l (slot_rows n (r.draft n)))
-        (sym (all_of_other (λ (s : SlotRow). s.draft) d n e t.slot)) (h.slot n)
+      (sym (all_of_other (λ (s : SlotRow). s.draft) d n e t.slot)) (h.slot n)
 
   left_stands : StandsLoaded (draft_removed d t) (record r { draft = set_at d None r.draft })
   left_stands = record {
@@ -229,7 +240,7 @@ left_sound : (t : Tables) (r : Records) (d : ℕ) → IsSound t (Some r)
     → IsSound (draft_removed d t) (Some (record r { draft = set_at d None r.draft }))
 left_sound t r d sound =
     each_left (λ (x : DraftRow). x.no) d (IsScoredRow r)
-      (IsScoredRow (record r { draft = set_at d None r.draft })) other t.draft sound
+    (IsScoredRow (record r { draft = set_at d None r.draft })) other t.draft sound
   where
     other : (x : DraftRow) → IsScoredRow r x → eqb x.no d ≡ false
         → IsScoredRow (record r { draft = set_at d None r.draft }) x
@@ -250,7 +261,8 @@ left_records r d h = record {
     number n true some = absurd cc
     number n false some = h.numbered n some
 
-    fit : (n : ℕ) (S : Placing) (b : Bool) → cond b None (r.draft n) ≡ Some S → Fits r.session r.enrolments S
+    fit : (n : ℕ) (S : Placing) (b : Bool) → cond b None (r.draft n) ≡ Some S
+        → Fits r.session r.enrolments S
     fit n S true e = absurd cc
     fit n S false e = h.drafts n S e
 
@@ -272,19 +284,20 @@ one_or_none false n [] p = refl
 one_or_none false n (y ∷ ys) p = absurd (let long = length_permutation _ _ p in omega (arith, long))
 one_or_none true n [] p = absurd (let long = length_permutation _ _ p in omega (arith, long))
 one_or_none true n (y ∷ []) p = ap (λ z. z ∷ []) (same_one n y p)
-one_or_none true n (y ∷ z ∷ ys) p = absurd (let long = length_permutation _ _ p in omega (arith, long))
+one_or_none true n (y ∷ z ∷ ys) p =
+    absurd (let long = length_permutation _ _ p in omega (arith, long))
 
 pub draft_read : (t : Tables) (o : OfficeState) (d : ℕ) (rows : List DraftRow) → Stands t o
     → IsPermutation (filter (λ r. eqb r.no d) t.draft) rows
     → map (λ (r : DraftRow). r.no) rows ≡ once (is_some (draft_in d o)) d
 draft_read t None d rows stands p =
     one_or_none false d _ (subst (λ l. IsPermutation l (map (λ (r : DraftRow). r.no) rows))
-      (ap (λ (t : Tables). map (λ (r : DraftRow). r.no) (filter (λ r. eqb r.no d) t.draft)) stands)
-      (IsPermutation-map (λ (r : DraftRow). r.no) _ _ p))
+    (ap (λ (t : Tables). map (λ (r : DraftRow). r.no) (filter (λ r. eqb r.no d) t.draft)) stands)
+    (IsPermutation-map (λ (r : DraftRow). r.no) _ _ p))
 draft_read t (Some r) d rows stands p =
     one_or_none (is_some (r.draft d)) d _
-      (subst (λ l. IsPermutation l (map (λ (r : DraftRow). r.no) rows)) (stands.draft d)
-        (IsPermutation-map (λ (r : DraftRow). r.no) _ _ p))
+    (subst (λ l. IsPermutation l (map (λ (r : DraftRow). r.no) rows)) (stands.draft d)
+    (IsPermutation-map (λ (r : DraftRow). r.no) _ _ p))
 
 -- ---- the rows that are put in
 
@@ -296,12 +309,19 @@ slots-push d k (None ∷ T) o =
     ∙ ap (λ n. slots_from d (k + 1) T ++ slots_from d n (o ∷ [])) (omega arith)
 slots-push d k (Some at ∷ T) o =
     ap (λ l. slot_row d k at ∷ l) (slots-push d (k + 1) T o
-      ∙ ap (λ n. slots_from d (k + 1) T ++ slots_from d n (o ∷ [])) (omega arith))
+    ∙ ap (λ n. slots_from d (k + 1) T ++ slots_from d n (o ∷ [])) (omega arith))
 
 pub slots_more : (d e : ℕ) (T : Placing) (o : Option Place) → e < length T → get_or T e None ≡ o
     → slots_from d 0 (take (e + 1) T) ≡ slots_from d 0 (take e T) ++ slots_from d e (o ∷ [])
 slots_more d e T o lt is =
     ap (slots_from d 0) (take_more T e None lt) ∙ slots-push d 0 (take e T) (get_or T e None)
     ∙ ap (λ n. slots_from d 0 (take e T) ++ slots_from d n (get_or T e None ∷ []))
-      (let l = length-take e T in omega arith)
+    (let l = length-take e T in omega arith)
     ∙ ap (λ x. slots_from d 0 (take e T) ++ slots_from d e (x ∷ [])) is
+
+-- a row of a place's two numbers
+pub same_row : (d e : ℕ) (at : Place) (period room : ℕ) → period ≡ at.period → room ≡ at.room
+    → slot_row d e (record { period = period; room = room }) ≡ slot_row d e at
+same_row d e at period room p r =
+    ap (λ n. slot_row d e (record { period = n; room = room })) p
+    ∙ ap (λ n. slot_row d e (record { period = at.period; room = n })) r

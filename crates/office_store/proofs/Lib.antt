@@ -1,5 +1,11 @@
+pub mod AdoptLemmas
 pub mod OwnerLemmas
 pub mod TurnLemmas
 pub mod RunLemmas
 pub mod LoadLemmas
 pub mod DraftLemmas
+pub mod ReadLemmas
+pub mod CallLemmas
+pub mod SlotLemmas
+pub mod EditLemmas
+pub mod EditCallLemmas

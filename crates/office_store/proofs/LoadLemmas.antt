@@ -1,24 +1,24 @@
 -- A session that is put in.
-use Rattle.std.proofs.Common.{◌≡◌, ◌≢◌, ℕ, zero, suc, ◌+◌, ◌<◌, ◌≤◌, List, [], ◌∷◌, ◌++◌, map, length, take, get_or, Some, None, refl, sym, ◌∙◌, ap, arith, subst, All, reverse, Bool, true, false, eqb}
+use Rattle.std.proofs.Common.{◌≡◌, ℕ, ◌+◌, ◌<◌, ◌≤◌, List, [], ◌∷◌, ◌++◌, map, length, take, get_or, Some, None, refl, sym, ◌∙◌, ap, arith, subst, reverse, Bool, true, false, eqb}
 use Rattle.std.specs.Prelude.{IsPermutation, is_some, is_none, Ok, Err}
 use Rattle.std.proofs.lemmas.Bool.Decides.{nat_tests}
 use Rattle.std.proofs.lemmas.List.{append-nil, append_assoc, map-append, take_more, length-take, length-map}
 use Rattle.std.proofs.lemmas.List.Sorted.{IsPermutation-sym, IsPermutation-reverse, IsPermutation-refl}
-use Rattle.exam_model.specs.Enrolments.{Enrolled, AreEnrolments, students, no_pairs}
+use Rattle.exam_model.specs.Enrolments.{Enrolled, students, no_pairs}
 use Rattle.exam_model.specs.Instance.{Session, IsInstance}
-use Rattle.exam_model.specs.Pairs.{Pair, pairs_at, pairs_from, pairs_of}
+use Rattle.exam_model.specs.Pairs.{pairs_at, pairs_from, pairs_of}
 use Rattle.sqlite.specs.Effect.{Database}
 use Rattle.office_files.specs.CanonicalText.{canonical_instance}
 use Rattle.office_files.specs.ExamLines.{ExamLine}
 use Rattle.office_files.specs.InstanceText.{InstanceText, instance_in, session_of}
-use Rattle.office_tables.specs.Tables.{Tables, Stands as Held, empty_tables, Meta}
+use Rattle.office_tables.specs.Tables.{Tables, Stands as Held, empty_tables}
 use Rattle.office_tables.specs.declared.rows.EnrolRow.{EnrolRow}
 use Rattle.office_store.specs.Changes.{session_put}
 use Rattle.office_store.specs.Commands.{fresh, counts_of, loaded}
-use Rattle.office_records.specs.Office.{OfficeState, Records, AreRecords, AreEnrolled}
+use Rattle.office_records.specs.Office.{OfficeState, AreEnrolled}
 use Rattle.office_records.specs.Office.{Memory, memory_of}
 use Rattle.office_store.specs.declared.fault.StoreFault.TheVariants.{Loaded}
-use Rattle.office_records.specs.Stands.{StandsLoaded, IsKept, enrol_row, meta_row}
+use Rattle.office_records.specs.Stands.{StandsLoaded, IsKept, enrol_row}
 
 -- ---- the rows of pairs
 

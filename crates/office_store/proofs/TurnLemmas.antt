@@ -1,10 +1,9 @@
 -- A whole transaction, from a connection at rest to its commit.
-use Rattle.std.proofs.Common.{◌≡◌, refl, sym, subst, ap, ◌∙◌, IsTrue, Result, OnOk, arith, true, false, []}
+use Rattle.std.proofs.Common.{◌≡◌, refl, sym, subst, IsTrue, Result, OnOk, arith, true, false, []}
 use Rattle.std.proofs.lemmas.Result.{on_ok_weaker}
 use Rattle.sqlite.specs.declared.error.Error.{Error}
-use Rattle.sqlite.specs.Effect.{Database}
 use Rattle.sqlite.specs.Held.{Held, state}
-use Rattle.sqlite.specs.State.{State, HasCleanDisk, Survives, Shows, KeepsCounts}
+use Rattle.sqlite.specs.State.{HasCleanDisk, Survives, Shows, KeepsCounts}
 use Rattle.sqlite.specs.Store.{Ghosts}
 use Rattle.office_tables.specs.Steps.{Within, Makes}
 use Rattle.office_tables.specs.Tables.{Tables, Stands}

@@ -1,7 +1,5 @@
 -- What the transaction of each command makes of the tables.
-use Rattle.std.specs.Prelude.{ℕ, false, ◌==◌, if◌then◌else◌, List, [], ◌∷◌, Option, Some, None, map}
-use Rattle.exam_model.specs.Enrolments.{Enrolled}
-use Rattle.exam_model.specs.Pairs.{pairs_of}
+use Rattle.std.specs.Prelude.{ℕ, false, ◌==◌, if◌then◌else◌, List, [], ◌∷◌, Option, Some, None}
 use Rattle.exam_model.specs.Timetable.{Placing, place_of}
 use Rattle.exam_model.specs.declared.parts.Place.{Place}
 use Rattle.office_tables.specs.Changes.{with_meta, no_meta, with_owner, without_owner, with_enrols, with_draft, without_draft, with_slot, with_slots, without_slot, without_slots}
@@ -33,3 +31,12 @@ draft_removed d t = without_slots d (without_draft d t)
 abbrev pub slot_put : ℕ → ℕ → Option Place → Tables → Tables
 slot_put d e None t = without_slot d e t
 slot_put d e (Some at) t = with_slot (slot_row d e at) (without_slot d e t)
+
+-- these exams stand in a draft where they stand in the timetable, or nowhere
+abbrev pub slots_put : ℕ → Placing → List ℕ → Tables → Tables
+slots_put d T [] t = t
+slots_put d T (e ∷ exams) t = slots_put d T exams (slot_put d e (place_of T e) t)
+
+-- a draft in place of another, where these exams stand elsewhere
+abbrev pub edit_put : DraftRow → Placing → List ℕ → Tables → Tables
+edit_put row T exams t = slots_put row.no T exams (with_draft row (without_draft row.no t))

@@ -1,6 +1,6 @@
 -- What each command makes of the office, its refusals in their order. A refusal changes nothing: it
 -- has no new office.
-use Rattle.std.specs.Prelude.{◌≡◌, ℕ, Bool, ◌&&◌, ◌==◌, nat_le, List, [], ◌∷◌, length, Option, Some, None, is_none, Result, Ok, Err}
+use Rattle.std.specs.Prelude.{ℕ, Bool, ◌&&◌, nat_le, List, [], ◌∷◌, length, Option, Some, None, is_none, Result, Ok, Err}
 use Rattle.exam_model.specs.Enrolments.{Enrolled, pair_count}
 use Rattle.exam_model.specs.Instance.{Session}
 use Rattle.exam_model.specs.Refusing.{◌>>=◌, unless, else_err}
@@ -120,6 +120,13 @@ edited I E T (edit.Place e at) = after_place I E T e at
 edited I E T (edit.Move e at) = after_move I E T e at
 edited I E T (edit.Swap a b) = after_swap I E T a b
 edited I E T (edit.Clear e) = after_clear I T e
+
+-- the exams that get or lose a place
+abbrev pub exams_of : Edit → List ℕ
+exams_of (edit.Place e at) = e ∷ []
+exams_of (edit.Move e at) = e ∷ []
+exams_of (edit.Swap a b) = a ∷ (b ∷ [])
+exams_of (edit.Clear e) = e ∷ []
 
 abbrev pub draft_edited : ℕ → Edit → OfficeState → Gives ℕ
 draft_edited d change office = do

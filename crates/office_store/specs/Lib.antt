@@ -3,3 +3,5 @@ pub mod Changes
 pub mod Faults
 pub mod Turning
 pub mod Running
+pub mod Reading
+pub mod Beginning

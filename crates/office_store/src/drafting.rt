@@ -4,15 +4,17 @@ ghost use Rattle.sqlite.specs.Held.{state};
 ghost use Rattle.sqlite.specs.State.{HasCleanDisk};
 ghost use Rattle.exam_model.specs.Fits.{PlaceExists};
 ghost use Rattle.office_tables.specs.Amounts.{AreAmounts};
-ghost use Rattle.office_store.specs.Commands.{draft_dropped, draft_in, draft_made, first_timetable};
+ghost use Rattle.office_store.specs.Beginning.{Begins};
+ghost use Rattle.office_store.specs.Commands.{draft_dropped, draft_in, draft_made, first_timetable, is_draft_number};
 ghost use Rattle.office_records.specs.Office.{OfficeState};
+ghost use Rattle.office_store.specs.Reading.{AreScored};
 ghost use Rattle.office_store.specs.Running.{IsAwake, Now, Runs};
-ghost use Rattle.office_records.specs.Stands.{once, parts_of, slots_from};
+ghost use Rattle.office_records.specs.Stands.{IsKept, once, parts_of, slots_from};
 
 use crate::fault::StoreFault;
 use crate::office::Office;
 use crate::transactions::{put_draft, remove_draft};
-use exam_model::{ExamNo, Instance, Timetable};
+use exam_model::{Enrolments, ExamNo, Instance, Timetable};
 use exam_score::{Parts, score};
 use office_files::read_solution;
 use office_tables::{DraftRow, SlotRow, drafts_of};
@@ -20,26 +22,25 @@ use sqlite::Alter;
 use std::alloc::{AllocError, Global};
 
 impl<S: Alter> Office<S> {
-    /// Makes a draft, 1 to 8, and answers its penalty: no exam is placed where the text is empty, else
-    /// it is the timetable of a solution file, with or without breaches. `NotLoaded`, `NoDraft`: not 1
-    /// to 8, `DraftTaken`, then `Refused`: the file is faulty.
+    /// Makes a draft, 1 to 8, and answers its penalty. No exam is placed where the text is empty,
+    /// else it is the timetable of a solution file, with or without breaches. `NotLoaded`; then
+    /// `NoDraft`: not 1 to 8; then `DraftTaken`; then `Refused`: the file is faulty.
     pub fn new_draft(&mut self, alloc: Global, number: u32, text: &[u8]) -> Result<u64, StoreFault>
         ensures runs { Runs S.Store (draft_made number text.now) self.old self.new result }
-        ensures clean { HasCleanDisk (state S.Store self.new) → HasCleanDisk (state S.Store self.old) }
+        ensures clean { HasCleanDisk (state S.Store self.new)
+            → HasCleanDisk (state S.Store self.old) }
     {
         let rows = self.drafts(alloc, number)?;
         let Some((instance, enrolments)) = &self.kept else {
             return Err(StoreFault::NotLoaded);
         };
-        if !(1..=8).contains(&number) {
+        if !is_draft_number(number) {
             return Err(StoreFault::NoDraft);
         }
         if !rows.is_empty() {
             return Err(StoreFault::DraftTaken);
         }
-        let timetable = first_timetable(alloc, instance, text)?;
-        let parts = score(alloc, instance, enrolments, &timetable)?;
-        let slots = slot_rows(alloc, number, &timetable)?;
+        let (parts, slots) = begin(alloc, number, instance, enrolments, text)?;
         put_draft(&mut self.conn, draft_row(number, parts), &slots)?;
         Ok(parts.total())
     }
@@ -47,7 +48,8 @@ impl<S: Alter> Office<S> {
     /// Takes a draft out. `NotLoaded`, then `NoDraft`: there is none of this number.
     pub fn drop_draft(&mut self, alloc: Global, number: u32) -> Result<(), StoreFault>
         ensures runs { Runs S.Store (draft_dropped number) self.old self.new result }
-        ensures clean { HasCleanDisk (state S.Store self.new) → HasCleanDisk (state S.Store self.old) }
+        ensures clean { HasCleanDisk (state S.Store self.new)
+            → HasCleanDisk (state S.Store self.old) }
     {
         let rows = self.drafts(alloc, number)?;
         if self.kept.is_none() {
@@ -61,21 +63,57 @@ impl<S: Alter> Office<S> {
     }
 
     // The row of a draft: one, or none.
-    fn drafts(&mut self, alloc: Global, number: u32) -> Result<Vec<DraftRow>, StoreFault>
+    pub(crate) fn drafts(&mut self, alloc: Global, number: u32) -> Result<Vec<DraftRow>, StoreFault>
         ensures rows { HasCleanDisk (state S.Store self.new) → (office : OfficeState)
             → Now (state S.Store self.old) office
             → IfOk result (λ rows. map (λ r. r.no) rows.items
-                ≡ once (is_some (draft_in number office)) number) }
+            ≡ once (is_some (draft_in number office)) number) }
+        // The same of an office that the tables stand for now.
+        ensures now { HasCleanDisk (state S.Store self.new) → (office : OfficeState)
+            → IsKept (state S.Store self.new).now office
+            → IfOk result (λ rows. map (λ r. r.no) rows.items
+            ≡ once (is_some (draft_in number office)) number) }
+        ensures scored { HasCleanDisk (state S.Store self.new) → (office : OfficeState)
+            → IsKept (state S.Store self.new).now office
+            → IfOk result (λ rows. AreScored rows.items office) }
         ensures still { HasCleanDisk (state S.Store self.new) → (office : OfficeState)
             → Now (state S.Store self.old) office → Now (state S.Store self.new) office }
-        ensures awake { HasCleanDisk (state S.Store self.new) → OnOk result (IsAwake (state S.Store self.new)) }
+        ensures awake { HasCleanDisk (state S.Store self.new)
+            → OnOk result (IsAwake (state S.Store self.new)) }
         ensures fault { IfErr result (λ e. e ≡ StoreFault.Store) }
-        ensures clean { HasCleanDisk (state S.Store self.new) → HasCleanDisk (state S.Store self.old) }
+        ensures clean { HasCleanDisk (state S.Store self.new)
+            → HasCleanDisk (state S.Store self.old) }
     {
         self.look()?;
         let rows = drafts_of(alloc, &mut self.conn, number)?;
         Ok(rows)
     }
+}
+
+fn is_draft_number(number: u32) -> bool
+    ensures { result ≡ is_draft_number number }
+{
+    (1..=8).contains(&number)
+}
+
+// The penalty of a draft as it begins, and the rows of its places.
+fn begin(
+    alloc: Global,
+    number: u32,
+    instance: &Instance,
+    enrolments: &Enrolments,
+    text: &[u8],
+) -> Result<(Parts, Vec<SlotRow>), StoreFault>
+    requires together { length enrolments.now ≡ length instance.now.exams }
+    ensures ok { IfOk result (λ begun.
+        Begins number text.now instance.now enrolments.now begun.0 begun.1.items) }
+    ensures err { IfErr result (λ e. (e ≡ StoreFault.Store)
+        ⊎ (first_timetable text.now instance.now ≡ Err e)) }
+{
+    let timetable = first_timetable(alloc, instance, text)?;
+    let parts = score(alloc, instance, enrolments, &timetable)?;
+    let slots = slot_rows(alloc, number, &timetable)?;
+    Ok((parts, slots))
 }
 
 fn first_timetable(alloc: Global, instance: &Instance, text: &[u8]) -> Result<Timetable, StoreFault>
@@ -95,7 +133,7 @@ fn first_timetable(alloc: Global, instance: &Instance, text: &[u8]) -> Result<Ti
     }
 }
 
-fn draft_row(number: u32, parts: Parts) -> DraftRow
+pub(crate) fn draft_row(number: u32, parts: Parts) -> DraftRow
     ensures number { result.no ≡ number }
     ensures parts { parts_of result ≡ parts }
     ensures amounts { AreAmounts result }
@@ -113,7 +151,11 @@ fn draft_row(number: u32, parts: Parts) -> DraftRow
 }
 
 // The rows of the placed exams, by exam.
-fn slot_rows(alloc: Global, draft: u32, timetable: &Timetable) -> Result<Vec<SlotRow>, AllocError>
+pub(crate) fn slot_rows(
+    alloc: Global,
+    draft: u32,
+    timetable: &Timetable,
+) -> Result<Vec<SlotRow>, AllocError>
     ensures { IfOk result (λ rows. rows.items ≡ slots_from draft 0 timetable.now) }
 {
     let mut rows = Vec::new(alloc);

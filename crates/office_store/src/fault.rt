@@ -73,6 +73,18 @@ impl StoreFault {
             _ => StoreFault::Refused(Refusal::File(fault)),
         }
     }
+
+    // The refusal of an edit; want of memory is no refusal.
+    pub(crate) fn of_edit(fault: EditFault) -> StoreFault
+        ensures memory { fault ≡ EditFault.NoMemory → result ≡ StoreFault.Store }
+        ensures refused { fault ≢ EditFault.NoMemory
+            → result ≡ StoreFault.Refused (Refusal.Edit fault) }
+    {
+        match fault {
+            EditFault::NoMemory => StoreFault::Store,
+            _ => StoreFault::Refused(Refusal::Edit(fault)),
+        }
+    }
 }
 
 impl From<RecordFault> for StoreFault {

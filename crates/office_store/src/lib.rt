@@ -1,12 +1,15 @@
 //! The office over its tables: one SQLite file that stands for an examination session.
 #![tactic(auto)]
 
+mod adopting;
 mod drafting;
 mod edit;
+mod editing;
 mod fault;
 mod loading;
 mod office;
 mod owning;
+mod reading;
 mod transactions;
 
 pub use edit::Edit;

@@ -1,11 +1,10 @@
 // The session is loaded once.
-ghost use Rattle.std.specs.Prelude.{◌≡◌, ◌++◌, ◌<◌, ◌≤◌, ℕ, All, IfErr, IfOk, OnOk, length, map};
+ghost use Rattle.std.specs.Prelude.{◌≡◌, ◌++◌, ◌<◌, ◌≤◌, ℕ, All, IfOk, OnOk, length, map};
 ghost use Rattle.sqlite.specs.Held.{state};
 ghost use Rattle.sqlite.specs.State.{HasCleanDisk};
-ghost use Rattle.exam_model.specs.Enrolments.{AreEnrolments, no_pairs, students};
+ghost use Rattle.exam_model.specs.Enrolments.{AreEnrolments, students};
 ghost use Rattle.exam_model.specs.Instance.{IsInstance};
 ghost use Rattle.exam_model.specs.Pairs.{pairs_at, pairs_of};
-ghost use Rattle.office_files.specs.CanonicalText.{canonical_instance};
 ghost use Rattle.office_store.specs.Commands.{counts_of, loaded};
 ghost use Rattle.office_store.specs.Running.{Runs};
 ghost use Rattle.office_records.specs.Stands.{enrol_row};
@@ -14,7 +13,8 @@ use crate::fault::StoreFault;
 use crate::office::Office;
 use crate::transactions::put_session;
 use exam_model::{Enrolments, ExamNo, Instance, StudentNo};
-use office_files::{read_instance, write_instance};
+use office_files::read_instance;
+use office_records::text_of;
 use office_tables::EnrolRow;
 use sqlite::Alter;
 use std::alloc::{AllocError, Global};
@@ -66,22 +66,6 @@ fn counts_of(instance: &Instance, enrolments: &Enrolments) -> Loaded
         pairs: enrolments.pairs(),
         periods: instance.periods(),
         rooms: instance.rooms(),
-    }
-}
-
-// The text that is kept of an instance, which names no student.
-fn text_of(alloc: Global, instance: &Instance) -> Result<Vec<u8>, StoreFault>
-    ensures text { IfOk result (λ text. text.items
-        ≡ canonical_instance instance.now (no_pairs (length instance.now.exams))) }
-    ensures fault { IfErr result (λ e. e ≡ StoreFault.Store) }
-{
-    let exams = instance.exams();
-    let Ok(nobody) = Enrolments::new(alloc, exams) else {
-        return Err(StoreFault::Store);
-    };
-    match write_instance(alloc, instance, &nobody) {
-        Ok(text) => Ok(text),
-        Err(_) => Err(StoreFault::Store),
     }
 }
 

@@ -154,15 +154,16 @@ fn names_the_fault_where_a_file_is_cut(rt: HostRuntime) -> Result<(), Fail> {
 }
 
 #[test]
-fn names_the_first_fault_of_a_solution(rt: HostRuntime) -> Result<(), Fail> {
+fn solution_faults(rt: HostRuntime) -> Result<(), Fail> {
     let (instance, _enrolments) = read_instance(rt.alloc(), &small_text(rt.alloc())?)?;
     let cases = [
         (b"0, 0\n1, 0\n3, 1\n".as_slice(), (4, CountMismatch)),
+        (b"0, 0\n1, 0\n3, 1\n2, 0\n0, 0\n", (5, CountMismatch)),
         (b"0, 0\n1, 0\n3, 1\n2, 0\n\nx", (6, CountMismatch)),
         (b"0, 0\n4, 0\n3, 1\n2, 0\n", (2, OutOfRange)),
-        (b"-1, -1\n1, 0\n3, 1\n2, 0\n", (1, BadNumber)),
-        (b"0\n1, 0\n3, 1\n2, 0\n", (1, BadNumber)),
-        (b"0, 0, 0\n1, 0\n3, 1\n2, 0\n", (1, StrayText)),
+        (b"0, 0\n-1, -1\n3, 1\n2, 0\n", (2, BadNumber)),
+        (b"0, 0\n0\n3, 1\n2, 0\n", (2, BadNumber)),
+        (b"0, 0\n0, 0, 0\n3, 1\n2, 0\n", (2, StrayText)),
     ];
     for (text, wanted) in cases {
         let found = fault_of(read_solution(rt.alloc(), text, &instance));
@@ -172,7 +173,7 @@ fn names_the_first_fault_of_a_solution(rt: HostRuntime) -> Result<(), Fail> {
 }
 
 #[test]
-fn writes_the_small_instance_with_line_ends_of_two_bytes(rt: HostRuntime) -> Result<(), Fail> {
+fn crlf_and_canonical_text(rt: HostRuntime) -> Result<(), Fail> {
     let (instance, enrolments) = read_instance(rt.alloc(), &small_text(rt.alloc())?)?;
     if enrolments.exams() != instance.exams() {
         return Err("enrolments of other exams")?;

@@ -2,6 +2,8 @@
 #![tactic(auto)]
 
 #[cfg(test)]
+mod drafting;
+#[cfg(test)]
 mod given;
 #[cfg(test)]
 mod offices;

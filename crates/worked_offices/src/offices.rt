@@ -8,17 +8,20 @@ use sqlite::{Connection, MemStore};
 use std::alloc::Global;
 use std::test::Fail;
 
-const SMALLEST: &[u8] = b"[Exams:1]\n0\n[Periods:1]\n01:01:2000,00:00:00,0,0\n[Rooms:1]\n0,0\n\
+/// One exam that nobody sits, one period and one room.
+pub(crate) const SMALLEST: &[u8] =
+    b"[Exams:1]\n0\n[Periods:1]\n01:01:2000,00:00:00,0,0\n[Rooms:1]\n0,0\n\
     [PeriodHardConstraints]\n[RoomHardConstraints]\n[InstitutionalWeightings]\n";
 
-const SMALL: &[u8] = b"[Exams:4]\n120, 1, 2\n90, 2, 3\n120, 3\n60, 1\n[Periods:4]\n\
+/// Four exams, three periods of one day and one of another, and two rooms.
+pub(crate) const SMALL: &[u8] = b"[Exams:4]\n120, 1, 2\n90, 2, 3\n120, 3\n60, 1\n[Periods:4]\n\
     15:04:2005, 09:30:00, 120, 0\n15:04:2005, 14:00:00, 120, 0\n15:04:2005, 17:00:00, 90, 10\n\
     18:04:2005, 09:30:00, 120, 5\n[Rooms:2]\n3, 0\n2, 7\n[PeriodHardConstraints]\n1, AFTER, 0\n\
     [RoomHardConstraints]\n[InstitutionalWeightings]\nTWOINAROW,7\nTWOINADAY,5\nPERIODSPREAD,3\n\
     NONMIXEDDURATIONS,10\nFRONTLOAD,1,2,4\n";
 
-// The office of a new database.
-fn created(alloc: Global) -> Result<Office<MemStore>, Fail> {
+/// The office of a new database.
+pub(crate) fn created(alloc: Global) -> Result<Office<MemStore>, Fail> {
     let conn = Connection::open_in_memory(alloc)?;
     match Office::create(conn) {
         Ok(office) => Ok(office),

@@ -1,4 +1,4 @@
-use Rattle.std.proofs.Common.{rules, ◌≡◌, ◌≤◌, ℕ, List, ◌++◌, [], ◌∷◌, map, take, get_or, sym, ◌∙◌, ap, arith, subst}
+use Rattle.std.proofs.Common.{◌≡◌, ◌≤◌, ℕ, List, ◌++◌, [], ◌∷◌, map, take, get_or, sym, ◌∙◌, ap, arith, subst}
 use Rattle.std.proofs.lemmas.List.{append-nil, get_or_default}
 use Rattle.exam_model.specs.Pairs.{pairs_at}
 use Rattle.office_tables.specs.declared.rows.EnrolRow.{EnrolRow}

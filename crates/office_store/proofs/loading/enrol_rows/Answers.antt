@@ -1,4 +1,4 @@
-use Rattle.std.proofs.Common.{rules, ◌≡◌, ◌<◌, ◌≤◌, ℕ, List, All, length, ◌++◌, map, take, sym, ◌∙◌, ap, arith, subst}
+use Rattle.std.proofs.Common.{rules, ◌≡◌, ◌<◌, ◌≤◌, List, All, length, ◌++◌, map, take, ◌∙◌, ap, subst}
 use Rattle.exam_model.specs.Enrolments.{students}
 use Rattle.exam_model.specs.Pairs.{pairs_at, pairs_of}
 use Rattle.office_tables.specs.declared.rows.EnrolRow.{EnrolRow}

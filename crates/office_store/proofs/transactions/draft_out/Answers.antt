@@ -10,4 +10,4 @@ returns-clause-makes g c clean inside =
     let clean_1 = clean_before after_1 after_2 c.delete_slots.ensures.within clean in
     let step_1 = c.in_ok-delete_draft.ensures.makes clean_1 inside in
     on_ok_weaker c.delete_slots.result (λ last. (last.0, λ t stands. last.1 _ (step_1.1 t stands)))
-      (c.delete_slots.ensures.makes clean step_1.0)
+    (c.delete_slots.ensures.makes clean step_1.0)

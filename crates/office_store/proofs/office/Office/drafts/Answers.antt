@@ -1,9 +1,10 @@
-use Rattle.std.proofs.Common.{◌≡◌, sym, subst, arith}
+use Rattle.std.proofs.Common.{sym, subst, arith}
 use Rattle.sqlite.specs.Held.{state}
 use Rattle.sqlite.specs.State.{HasCleanDisk}
 use Rattle.office_store.specs.Running.{IsAwake}
 use Rattle.office_records.specs.Stands.{IsKept}
 use Rattle.office_store.proofs.DraftLemmas.{draft_read}
+use Rattle.office_store.proofs.ReadLemmas.{scored_read}
 use Rattle.office_store.proofs.RunLemmas.{now_still, rest_read}
 use Rattle.office_store.proofs.office.Office.drafts.Goals as goal
 
@@ -34,3 +35,30 @@ returns-clause-rows g c clean office now =
     let kept = subst (λ h. IsKept (state g.S.Store h).now office) (sym c.self.view_is) here in
     let read = c.in_ok-rows.ensures.rows clean kept.held kept.tables in
     draft_read kept.held office c.args.number c.in_ok-rows.rows.items kept.stands read
+
+pub returns-clause-now : goal.returns-clause-now
+returns-clause-now g c clean office here =
+    let mid = state g.S.Store c.self.inside.conn in
+    let new = state g.S.Store c.drafts_of.new.conn in
+    let clean_mid : HasCleanDisk mid = omega (arith, c.drafts_of.ensures.survives.clean, clean) in
+    let awake = subst (λ h. IsAwake (state g.S.Store h)) (sym c.self.view_is)
+    (c.in_ok-look.ensures.awake
+    (subst (λ h. HasCleanDisk (state g.S.Store h)) c.self.view_is clean_mid)) in
+    let was = c.self.invariant.1 clean_mid awake.0 in
+    let same = c.in_ok-rows.ensures.same clean was.1.held was.1.tables in
+    let kept : IsKept mid.now office = subst (λ db. IsKept db office) same.0.now_is here in
+    draft_read kept.held office c.args.number c.in_ok-rows.rows.items kept.stands
+    (c.in_ok-rows.ensures.rows clean kept.held kept.tables)
+
+pub returns-clause-scored : goal.returns-clause-scored
+returns-clause-scored g c clean office here =
+    let mid = state g.S.Store c.self.inside.conn in
+    let clean_mid : HasCleanDisk mid = omega (arith, c.drafts_of.ensures.survives.clean, clean) in
+    let awake = subst (λ h. IsAwake (state g.S.Store h)) (sym c.self.view_is)
+    (c.in_ok-look.ensures.awake
+    (subst (λ h. HasCleanDisk (state g.S.Store h)) c.self.view_is clean_mid)) in
+    let was = c.self.invariant.1 clean_mid awake.0 in
+    let same = c.in_ok-rows.ensures.same clean was.1.held was.1.tables in
+    let kept : IsKept mid.now office = subst (λ db. IsKept db office) same.0.now_is here in
+    scored_read kept.held office c.args.number c.in_ok-rows.rows.items kept.sound
+    (c.in_ok-rows.ensures.rows clean kept.held kept.tables)

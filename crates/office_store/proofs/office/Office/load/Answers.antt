@@ -1,12 +1,9 @@
-use Rattle.std.proofs.Common.{rules, ◌≡◌, ◌<◌, ◌≤◌, ℕ, length, Some, None, Ok, ap, ◌∙◌, sym, subst, arith, refl, true, false}
+use Rattle.std.proofs.Common.{rules, ◌≡◌, Some, Ok, ap, ◌∙◌, sym, subst, refl, true, false}
 use Rattle.std.specs.Prelude.{is_some}
 use Rattle.sqlite.specs.Held.{state}
 use Rattle.sqlite.specs.State.{HasCleanDisk}
-use Rattle.office_files.specs.InstanceText.{instance_in}
 use Rattle.office_store.specs.Changes.{session_put}
 use Rattle.office_store.specs.Commands.{loaded, fresh}
-use Rattle.office_records.specs.Office.{AreEnrolled}
-use Rattle.office_records.specs.Office.{memory_of}
 use Rattle.office_store.specs.Running.{IsAtRest}
 use Rattle.office_records.specs.Stands.{IsKept}
 use Rattle.office_store.specs.Turning.{Changed}

@@ -1,4 +1,4 @@
-use Rattle.std.proofs.Common.{◌≡◌, ◌==◌, filter, sym, subst, arith}
+use Rattle.std.proofs.Common.{◌==◌, filter, sym, subst, arith}
 use Rattle.std.specs.Prelude.{IsPermutation}
 use Rattle.sqlite.specs.Held.{state}
 use Rattle.sqlite.specs.State.{HasCleanDisk}

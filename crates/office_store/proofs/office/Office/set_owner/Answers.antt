@@ -1,4 +1,4 @@
-use Rattle.std.proofs.Common.{rules, ◌≡◌, ◌<◌, ◌≤◌, ℕ, length, Some, None, ap, ◌∙◌, sym, subst, arith}
+use Rattle.std.proofs.Common.{◌<◌, ◌≤◌, length, Some, None, ap, ◌∙◌, sym, subst, arith}
 use Rattle.sqlite.specs.Held.{state}
 use Rattle.office_store.specs.Commands.{owned}
 use Rattle.sqlite.specs.State.{HasCleanDisk}

@@ -1,0 +1,161 @@
+-- Tables that one database stands for stand for the same offices.
+use Rattle.std.proofs.Common.{◌≡◌, ℕ, ◌≤◌, Bool, true, false, List, [], ◌∷◌, map, length, Some}
+use Rattle.std.proofs.Common.{None, refl, ap, arith, subst, eqb, cond}
+use Rattle.std.specs.Prelude.{IsPermutation, is_some}
+use Rattle.std.proofs.lemmas.List.{nil_from_length, length-map}
+use Rattle.std.proofs.lemmas.List.Sorted.{IsPermutation-sym, IsPermutation-trans, IsPermutation-map}
+use Rattle.std.proofs.lemmas.List.Sorted.{length_permutation}
+use Rattle.sqlite_value.specs.Order.{Row}
+use Rattle.sqlite.specs.Effect.{Database}
+use Rattle.sqlite_trees.proofs.ListLemmas.{IsPermutation-filter, all-permutation}
+use Rattle.office_tables.specs.Records.{owner_of, enrol_of, draft_of, slot_of}
+use Rattle.office_tables.specs.Tables.{Tables, Meta, Holds, Stands as Held, keyed, keyless}
+use Rattle.office_tables.specs.Tables.{empty_tables}
+use Rattle.office_tables.specs.Tables.{owner_row, enrol_row as enrol_columns, draft_row, slot_row}
+use Rattle.office_tables.specs.Tables.{placed_row, seat_row, share_student_row, share_part_row}
+use Rattle.office_tables.specs.Tables.{batch_row, meta_row}
+use Rattle.office_tables.specs.declared.rows.OwnerRow.{OwnerRow}
+use Rattle.office_tables.specs.declared.rows.DraftRow.{DraftRow}
+use Rattle.office_tables.specs.declared.rows.SlotRow.{SlotRow}
+use Rattle.office_records.specs.Office.{OfficeState, Records}
+use Rattle.office_records.specs.Stands.{IsScoredRow, IsSound, Stands, StandsLoaded, some_dept, once}
+use Rattle.office_records.proofs.MemoryLemmas.{same_rows, same_one, meta_back, meta_is}
+
+-- ---- lists
+
+-- at most one element, in any order
+pub same_few : {X : Type 0} (xs ys : List X) → length xs ≤ 1 → IsPermutation xs ys → ys ≡ xs
+same_few [] ys few p = nil_from_length ys (length_permutation _ _ p)
+same_few (x ∷ z ∷ xs) ys few p = absurd (omega arith)
+same_few (x ∷ []) [] few p = absurd (let long = length_permutation _ _ p in omega (arith, long))
+same_few (x ∷ []) (y ∷ []) few p = ap (λ w. w ∷ []) (same_one x y p)
+same_few (x ∷ []) (y ∷ z ∷ ys) few p =
+    absurd (let long = length_permutation _ _ p in omega (arith, long))
+
+-- what is read of the rows, where it is at most one thing
+few_read : {X Y : Type 0} (f : X → Y) (xs ys : List X) (zs : List Y) → IsPermutation xs ys
+    → map f xs ≡ zs → length zs ≤ 1 → map f ys ≡ zs
+few_read f xs ys zs p is few =
+    same_few zs (map f ys) few
+    (subst (λ l. IsPermutation l (map f ys)) is (IsPermutation-map f _ _ p))
+
+few_depts : (n : ℕ) → length (some_dept n) ≤ 1
+few_depts n = go (eqb n 0)
+  where
+    go : (b : Bool) → length (cond b [] (n ∷ [])) ≤ 1
+    go true = omega arith
+    go false = omega arith
+
+few_once : (b : Bool) (n : ℕ) → length (once b n) ≤ 1
+few_once true n = omega arith
+few_once false n = omega arith
+
+-- a table that holds no row
+none_held : {X : Type 0} (show : Row → Row) (row : X → Row) (xs ys : List X) (stored : List Row)
+    → Holds show (map row xs) stored → Holds show (map row ys) stored → xs ≡ [] → ys ≡ []
+none_held show row xs ys stored p q none =
+    nil_from_length ys
+    (let long = length_permutation _ _ p.same in
+    let other = length_permutation _ _ q.same in
+    let short : length xs ≡ 0 = ap length none in
+    omega (arith, long, other, short, length-map xs row, length-map ys row))
+
+-- ---- the tables
+
+-- ten empty tables, but for the one row about the office
+pub all_empty : (t : Tables) → t.meta ≡ empty_tables.meta → t.owner ≡ [] → t.enrol ≡ []
+    → t.draft ≡ [] → t.slot ≡ [] → t.placed ≡ [] → t.seat ≡ [] → t.share_student ≡ [] → t.share_part ≡ []
+    → t.batch ≡ [] → t ≡ empty_tables
+all_empty t m o e d s p z x y b = λ i. record {
+  meta = m i;
+  owner = o i;
+  enrol = e i;
+  draft = d i;
+  slot = s i;
+  placed = p i;
+  seat = z i;
+  share_student = x i;
+  share_part = y i;
+  batch = b i;
+}
+
+module _ (db : Database) (t u : Tables) (p : Held db t) (q : Held db u) where
+  metas : IsPermutation t.meta u.meta
+  metas = same_rows keyed meta_row meta_back meta_is _ _ _ p.meta q.meta
+
+  owners : IsPermutation t.owner u.owner
+  owners = same_rows keyed owner_row owner_of (λ r. refl) _ _ _ p.owner q.owner
+
+  enrols : IsPermutation t.enrol u.enrol
+  enrols = same_rows keyless enrol_columns enrol_of (λ r. refl) _ _ _ p.enrol q.enrol
+
+  drafts : IsPermutation t.draft u.draft
+  drafts = same_rows keyed draft_row draft_of (λ r. refl) _ _ _ p.draft q.draft
+
+  slots : IsPermutation t.slot u.slot
+  slots = same_rows keyless slot_row slot_of (λ r. refl) _ _ _ p.slot q.slot
+
+  one_meta : (m : Meta) → t.meta ≡ m ∷ [] → u.meta ≡ m ∷ []
+  one_meta m is =
+      same_few (m ∷ []) u.meta (omega arith) (subst (λ l. IsPermutation l u.meta) is metas)
+
+  no_owner : t.owner ≡ [] → u.owner ≡ []
+  no_owner = none_held keyed owner_row _ _ _ p.owner q.owner
+
+  no_placed : t.placed ≡ [] → u.placed ≡ []
+  no_placed = none_held keyed placed_row _ _ _ p.placed q.placed
+
+  no_seat : t.seat ≡ [] → u.seat ≡ []
+  no_seat = none_held keyless seat_row _ _ _ p.seat q.seat
+
+  no_share_student : t.share_student ≡ [] → u.share_student ≡ []
+  no_share_student = none_held keyed share_student_row _ _ _ p.share_student q.share_student
+
+  no_share_part : t.share_part ≡ [] → u.share_part ≡ []
+  no_share_part = none_held keyless share_part_row _ _ _ p.share_part q.share_part
+
+  no_batch : t.batch ≡ [] → u.batch ≡ []
+  no_batch = none_held keyed batch_row _ _ _ p.batch q.batch
+
+  empty : t ≡ empty_tables → u ≡ empty_tables
+  empty is =
+      all_empty u (one_meta _ (ap (λ (t : Tables). t.meta) is))
+      (no_owner (ap (λ (t : Tables). t.owner) is))
+      (none_held keyless enrol_columns _ _ _ p.enrol q.enrol (ap (λ (t : Tables). t.enrol) is))
+      (none_held keyed draft_row _ _ _ p.draft q.draft (ap (λ (t : Tables). t.draft) is))
+      (none_held keyless slot_row _ _ _ p.slot q.slot (ap (λ (t : Tables). t.slot) is))
+      (no_placed (ap (λ (t : Tables). t.placed) is)) (no_seat (ap (λ (t : Tables). t.seat) is))
+      (no_share_student (ap (λ (t : Tables). t.share_student) is))
+      (no_share_part (ap (λ (t : Tables). t.share_part) is))
+      (no_batch (ap (λ (t : Tables). t.batch) is))
+
+  loaded : (r : Records) → StandsLoaded t r → StandsLoaded u r
+  loaded r h = record {
+    meta = one_meta _ h.meta;
+    owner = λ e. few_read (λ (o : OwnerRow). o.dept) _ _ _
+        (IsPermutation-filter (λ o. eqb o.exam e) _ _ owners) (h.owner e) (few_depts (r.owner_of e));
+    enrol = IsPermutation-trans _ _ _ (IsPermutation-sym _ _ enrols) h.enrol;
+    draft = λ d. few_read (λ (x : DraftRow). x.no) _ _ _
+        (IsPermutation-filter (λ x. eqb x.no d) _ _ drafts) (h.draft d)
+        (few_once (is_some (r.draft d)) d);
+    slot = λ d. IsPermutation-trans _ _ _
+        (IsPermutation-filter (λ (x : SlotRow). eqb x.draft d) _ _ (IsPermutation-sym _ _ slots))
+        (h.slot d);
+    unpublished = record {
+      placed = no_placed h.unpublished.placed;
+      seat = no_seat h.unpublished.seat;
+      share_student = no_share_student h.unpublished.share_student;
+      share_part = no_share_part h.unpublished.share_part;
+      batch = no_batch h.unpublished.batch;
+    };
+  }
+
+  -- they stand for the same offices
+  pub same_stands : (o : OfficeState) → Stands t o → Stands u o
+  same_stands None h = empty h
+  same_stands (Some r) h = loaded r h
+
+  -- and are as sound
+  pub same_sound : (o : OfficeState) → IsSound t o → IsSound u o
+  same_sound None h = tt
+  same_sound (Some r) h = all-permutation (IsScoredRow r) _ _ drafts h

@@ -1,0 +1,59 @@
+use Rattle.std.proofs.Common.{◌≡◌, ◌≢◌, ℕ, Bool, true, false, not, ◌&&◌, List, [], ◌∷◌, Result, Ok}
+use Rattle.std.proofs.Common.{Err, refl, sym, ◌∙◌, ap, subst, nat_eq}
+use Rattle.std.specs.Prelude.{IfErr}
+use Rattle.std.specs.Cmp.Lexicographic.{pointwise}
+use Rattle.std.specs.Result.{IsErrAnd}
+use Rattle.std.proofs.lemmas.Bool.{eq-eqb}
+use Rattle.exam_model.specs.Instance.{Session}
+use Rattle.office_files.specs.declared.fault.FaultKind.TheVariants.{NoMemory}
+use Rattle.office_files.specs.declared.fault.FileFault.{FileFault}
+use Rattle.office_files.specs.InstanceText.{instance_in}
+use Rattle.office_tables.specs.Records.{meta_from}
+use Rattle.office_tables.specs.Tables.{Meta}
+use Rattle.office_records.specs.Found.{IsSessionRow}
+use Rattle.office_records.specs.Stands.{meta_row}
+use Rattle.office_records.specs.declared.fault.RecordFault.{RecordFault}
+use Rattle.office_records.specs.declared.fault.RecordFault.TheVariants.{BadRows}
+use Rattle.office_records.proofs.SessionLemmas.{no_row, row_of}
+use Rattle.office_records.proofs.session.session_of.Goals as goal
+
+refused : {X : Type 0} (m : Meta) (fault : FileFault) (r : Result X RecordFault)
+    → IsErrAnd r (λ e. e ≡ BadRows → fault.what ≢ NoMemory)
+    → (fault.what ≢ NoMemory → instance_in m.instance ≡ Err fault)
+    → IfErr r (λ e. e ≡ BadRows → (I : Session) → IsSessionRow m I → ⊥)
+refused m fault (Ok x) named reads = tt
+refused m fault (Err e) named reads = λ bad I is. no_row m I fault (reads (named bad)) is
+
+itself : (xs : List ℕ) → pointwise nat_eq xs xs ≡ true
+itself [] = refl
+itself (x ∷ xs) = ap (λ b. b && pointwise nat_eq xs xs) (eq-eqb x x refl) ∙ itself xs
+
+not_other : (xs ys : List ℕ) (other : Bool) → other ≡ not (pointwise nat_eq xs ys) → other ≡ true
+    → xs ≡ ys → ⊥
+not_other xs ys other tested told same =
+    let equal : pointwise nat_eq xs ys ≡ true
+    = subst (λ zs. pointwise nat_eq xs zs ≡ true) same (itself xs) in
+    absurd (clash (sym told ∙ tested ∙ ap not equal))
+  where
+    clash : true ≡ false → ⊥
+    clash e = absurd cc
+
+pub returns-in_err-instance-clause-none : goal.returns-in_err-instance-clause-none
+returns-in_err-instance-clause-none c =
+    let fault = c.in_err-instance.field-0.0 in
+    refused (meta_from c.args.row.now) fault c.from_residual.result c.from_residual.ensures.1
+    (subst (λ b. fault.what ≢ NoMemory → instance_in b ≡ Err fault) c.deref.ensures.value
+    c.in_err-instance.ensures.exact)
+
+-- the text is that of the session
+pub returns-then-ne-clause-none : goal.returns-then-ne-clause-none
+returns-then-ne-clause-none c bad I is =
+    let m = meta_from c.args.row.now in
+    let J = c.in_ok-instance.instance in
+    let read = subst (λ b. instance_in b ≡ Ok (J, c.in_ok-instance._students)) c.deref.ensures.value
+    c.in_ok-instance.ensures.exact in
+    let same : J ≡ I = row_of m J I _ read is in
+    let row : (meta_row J).instance ≡ m.instance
+    = ap (λ s. (meta_row s).instance) same ∙ sym (ap (λ (r : Meta). r.instance) is.row) in
+    not_other c.as_slice.result.now c.as_slice-2.result.now c.ne.result c.ne.ensures c.if-ne.true
+    (c.as_slice.ensures.value ∙ c.in_ok-text.ensures.text ∙ row ∙ sym c.as_slice-2.ensures.value)

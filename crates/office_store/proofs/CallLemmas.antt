@@ -1,0 +1,162 @@
+-- What a command on a draft gives, by whether there is one.
+use Rattle.std.proofs.Common.{◌≡◌, ◌⊎◌, ◌≤◌, inl, inr, ℕ, Bool, true, false, not, eqb, List, [], ◌∷◌, map, length, Option, Some, None, Result, Ok, Err, refl, sym, subst, ap, ◌∙◌, arith}
+use Rattle.std.specs.Prelude.{is_some}
+use Rattle.std.proofs.lemmas.Bool.Decides.{nat_tests}
+use Rattle.sqlite.specs.Effect.{Database}
+use Rattle.exam_model.specs.Enrolments.{Enrolled}
+use Rattle.exam_model.specs.Instance.{Session}
+use Rattle.exam_model.specs.Refusing.{◌>>=◌, else_err}
+use Rattle.exam_model.specs.Timetable.{Placing}
+use Rattle.exam_score.specs.Penalty.{Penalty, total_of}
+use Rattle.office_files.specs.SolutionText.{solution_in}
+use Rattle.office_files.specs.declared.fault.FileFault.{FileFault}
+use Rattle.office_tables.specs.Tables.{Tables, Stands as Held}
+use Rattle.office_tables.specs.declared.rows.DraftRow.{DraftRow}
+use Rattle.office_tables.specs.declared.rows.SlotRow.{SlotRow}
+use Rattle.office_records.specs.Office.{OfficeState, Records, Memory, memory_of, set_at}
+use Rattle.office_records.specs.Stands.{IsKept, once, parts_of}
+use Rattle.office_store.specs.Beginning.{Begins}
+use Rattle.office_store.specs.Changes.{draft_put}
+use Rattle.office_store.specs.Commands.{Gives, draft_dropped, draft_made, first_timetable, is_draft_number, named, penalty_now}
+use Rattle.office_store.specs.Running.{IsFault}
+use Rattle.office_store.specs.declared.fault.Refusal.TheVariants.{File}
+use Rattle.office_store.specs.declared.fault.StoreFault.{StoreFault}
+use Rattle.office_store.specs.declared.fault.StoreFault.TheVariants.{NoDraft, DraftTaken, Refused, Store}
+use Rattle.office_store.proofs.DraftLemmas.{made_kept}
+use Rattle.office_store.proofs.RunLemmas.{IsKeptOf}
+
+-- ---- what was looked up
+
+-- there is a row just where there is a draft
+row_tells : (rows : List DraftRow) (b : Bool) (d : ℕ) → map (λ r. r.no) rows ≡ once b d
+    → eqb (length rows) 0 ≡ not b
+row_tells [] true d e = absurd cc
+row_tells [] false d e = refl
+row_tells (r ∷ rows) true d e = grind (arith, nat_tests)
+row_tells (r ∷ rows) false d e = absurd cc
+
+-- both ways round
+turned : (b c : Bool) → c ≡ not b → b ≡ not c
+turned true c e = ap not (sym e)
+turned false c e = ap not (sym e)
+
+pub no_row : (rows : List DraftRow) (n : ℕ) → n ≡ length rows → (b : Bool) (d : ℕ)
+    → map (λ r. r.no) rows ≡ once b d → true ≡ eqb n 0 → b ≡ false
+no_row rows n is b d e none =
+    turned b (eqb n 0) (ap (λ k. eqb k 0) is ∙ row_tells rows b d e) ∙ ap not (sym none)
+
+pub a_row : (rows : List DraftRow) (n : ℕ) → n ≡ length rows → (b : Bool) (d : ℕ)
+    → map (λ r. r.no) rows ≡ once b d → false ≡ eqb n 0 → b ≡ true
+a_row rows n is b d e some =
+    turned b (eqb n 0) (ap (λ k. eqb k 0) is ∙ row_tells rows b d e) ∙ ap not (sym some)
+
+-- the records, where something is in memory
+pub record HasRecords (o : OfficeState) : Type 0 where
+  pub records : Records
+  pub is : o ≡ Some records
+
+pub has_records : (o : OfficeState) (m : Memory) → memory_of o ≡ m → is_some m ≡ true → HasRecords o
+has_records None m e some = absurd (let is : is_some m ≡ false = ap is_some (sym e) in cc)
+has_records (Some r) m e some = record { records = r; is = refl }
+
+-- where nothing is there
+nothing : {X : Type 0} (o : Option X) → is_some o ≡ false → o ≡ None
+nothing None e = refl
+nothing (Some x) e = absurd cc
+
+-- ---- what is asked for is there, or not
+
+pub goes_on : {A B F : Type 0} (f : F) (o : Option A) (x : Result B F) → is_some o ≡ true
+    → (else_err f o >>= λ _. x) ≡ x
+goes_on f None x h = absurd cc
+goes_on f (Some y) x h = refl
+
+pub refused : {A B F : Type 0} (f : F) (o : Option A) (k : A → Result B F) → is_some o ≡ false
+    → (else_err f o >>= k) ≡ Err f
+refused f None k h = refl
+refused f (Some y) k h = absurd cc
+
+-- ---- a draft is dropped
+
+pub dropped_none : (r : Records) (d : ℕ) → is_some (r.draft d) ≡ false
+    → draft_dropped d (Some r) ≡ Err NoDraft
+dropped_none r d h = refused NoDraft (r.draft d) _ h
+
+pub dropped_one : (r : Records) (d : ℕ) → is_some (r.draft d) ≡ true
+    → draft_dropped d (Some r) ≡ Ok (tt, Some (record r { draft = set_at d None r.draft }))
+dropped_one r d h = goes_on NoDraft (r.draft d) _ h
+
+-- ---- a draft is made
+
+module _ (r : Records) (d : ℕ) (bytes : List ℕ) where
+  pub made_nowhere : false ≡ is_draft_number d → draft_made d bytes (Some r) ≡ Err NoDraft
+  made_nowhere beyond = rw (sym beyond) refl
+
+  pub made_taken : true ≡ is_draft_number d → is_some (r.draft d) ≡ true
+      → draft_made d bytes (Some r) ≡ Err DraftTaken
+  made_taken in_range there = rw (sym in_range, there) refl
+
+  pub made_refused : true ≡ is_draft_number d → is_some (r.draft d) ≡ false → (e : StoreFault)
+      → first_timetable bytes r.session ≡ Err e → draft_made d bytes (Some r) ≡ Err e
+  made_refused in_range free e none = rw (sym in_range, free, none) refl
+
+  made : true ≡ is_draft_number d → is_some (r.draft d) ≡ false → (T : Placing)
+      → first_timetable bytes r.session ≡ Ok T
+      → draft_made d bytes (Some r)
+      ≡ Ok (penalty_now r T, Some (record r { draft = set_at d (Some T) r.draft }))
+  made in_range free T first = rw (sym in_range, free, first) refl
+
+-- a text is refused for a fault of the file
+first_fault : (bytes : List ℕ) (I : Session) (e : StoreFault) → first_timetable bytes I ≡ Err e
+    → (f : FileFault) × (e ≡ Refused (File f))
+first_fault [] I e h = absurd cc
+first_fault (b ∷ bytes) I e h = go (solution_in I (b ∷ bytes)) h
+  where
+    go : (read : Result Placing FileFault) → named (λ f. Refused (File f)) read ≡ Err e
+        → (f : FileFault) × (e ≡ Refused (File f))
+    go (Ok T) h = absurd cc
+    go (Err f) h = (f, cc)
+
+-- its own refusal, or want of memory
+pub made_fault : (gives : Gives ℕ) (bytes : List ℕ) (I : Session) (e : StoreFault)
+    → (first_timetable bytes I ≡ Err e → gives ≡ Err e)
+    → (e ≡ Store) ⊎ (first_timetable bytes I ≡ Err e) → IsFault gives e
+made_fault gives bytes I e refuses (inl is) = subst (IsFault gives) (sym is) tt
+made_fault gives bytes I e refuses (inr is) =
+    let file = first_fault bytes I e is in
+    subst (IsFault gives) (sym file.1) (refuses is ∙ ap Err file.1)
+
+in_range : (d : ℕ) → true ≡ is_draft_number d → (1 ≤ d) × (d ≤ 8)
+in_range d e = (grind (arith, nat_tests, e), grind (arith, nat_tests, e))
+
+-- it begins so in the office of which this is in memory
+pub begins_in : (o : OfficeState) (I : Session) (E : Enrolled) (of : IsKeptOf o I E) (d : ℕ)
+    (bytes : List ℕ) (penalty : Penalty) (slots rows : List SlotRow) → rows ≡ slots
+    → Begins d bytes I E penalty slots
+    → Begins d bytes of.records.session of.records.enrolments penalty rows
+begins_in o I E of d bytes penalty slots rows same begins =
+    subst (λ I. Begins d bytes I of.records.enrolments penalty rows) (sym of.session)
+    (subst (λ E. Begins d bytes I E penalty rows) (sym of.enrolments)
+    (subst (Begins d bytes I E penalty) (sym same) begins))
+
+-- what stands then, and what is answered
+pub begun_kept : (a b : Database) (r : Records) (d : ℕ) (bytes : List ℕ) (penalty : Penalty)
+    (row : DraftRow) (slots : List SlotRow)
+    (begins : Begins d bytes r.session r.enrolments penalty slots) → row.no ≡ d
+    → parts_of row ≡ penalty → true ≡ is_draft_number d → is_some (r.draft d) ≡ false
+    → IsKept a (Some r) → ((t : Tables) → Held a t → Held b (draft_put row slots t))
+    → IsKept b (Some (record r { draft = set_at d (Some begins.timetable) r.draft }))
+begun_kept a b r d bytes penalty row slots begins number parts numbered free kept makes =
+    let within = in_range d numbered in
+    made_kept a b r d begins.timetable row slots number begins.rows (parts ∙ begins.scored)
+    (nothing (r.draft d) free) within.0 within.1 begins.fits kept makes
+
+pub begun_made : (r : Records) (d : ℕ) (bytes : List ℕ) (penalty : Penalty) (slots : List SlotRow)
+    (begins : Begins d bytes r.session r.enrolments penalty slots) → true ≡ is_draft_number d
+    → is_some (r.draft d) ≡ false → (total : ℕ) → total ≡ total_of penalty
+    → draft_made d bytes (Some r)
+    ≡ Ok (total, Some (record r { draft = set_at d (Some begins.timetable) r.draft }))
+begun_made r d bytes penalty slots begins numbered free total is =
+    made r d bytes numbered free begins.timetable begins.first
+    ∙ ap (λ n. Ok (n, Some (record r { draft = set_at d (Some begins.timetable) r.draft })))
+    (ap total_of (sym begins.scored) ∙ sym is)

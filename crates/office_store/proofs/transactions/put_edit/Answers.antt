@@ -1,0 +1,19 @@
+use Rattle.std.proofs.Common.{rules, ◌≡◌, subst, OnOk}
+use Rattle.sqlite.specs.Held.{state}
+use Rattle.sqlite.specs.State.{HasCleanDisk}
+use Rattle.office_store.specs.Changes.{edit_put}
+use Rattle.office_store.specs.Turning.{Changed}
+use Rattle.office_store.proofs.TurnLemmas.{changed}
+use Rattle.office_store.proofs.transactions.put_edit.Goals as goal
+
+pub returns-clause-done : goal.returns-clause-done
+returns-clause-done g c =
+    let old = c.args.conn.now in
+    let same : c.commit.new.self.0 ≡ c.conn-2-1.given.0 = search rules in
+    let all = changed g.S.Store old c.transaction-tx.result.conn.now c.edit_in.new.tx.conn.now
+    c.commit.new.self.0 c.transaction-tx.ensures.begun c.edit_in.ensures.within
+    c.commit.ensures.survives _ c.in_ok-edit_in.ensures.makes c.commit.result
+    c.commit.ensures.ok in
+    subst (λ h. HasCleanDisk (state g.S.Store h) → OnOk c.commit.result
+    (Changed (edit_put c.args.row c.args.timetable.now c.args.exams.now) (state g.S.Store old)
+    (state g.S.Store h))) same all

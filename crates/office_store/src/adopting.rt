@@ -1,0 +1,72 @@
+// A database that holds an office, taken over.
+ghost use Rattle.std.specs.Prelude.{◌≡◌, ◌⊎◌, false, IfErr, IfOk, OnOk};
+ghost use Rattle.sqlite.specs.Held.{state};
+ghost use Rattle.sqlite.specs.State.{HasCleanDisk, IsUnchanged};
+ghost use Rattle.office_tables.specs.Steps.{Keeps};
+ghost use Rattle.office_records.specs.Office.{AreTogether, OfficeState, memory_of};
+ghost use Rattle.office_records.specs.Stands.{IsKept};
+ghost use Rattle.office_store.specs.Turning.{Undone};
+
+use crate::fault::StoreFault;
+use crate::office::Office;
+use exam_model::{Enrolments, Instance};
+use office_records::kept_of;
+use office_tables::adopt_tables;
+use sqlite::{Alter, Connection};
+use std::alloc::Global;
+
+impl<S: Alter> Office<S> {
+    /// Takes over a database that holds an office. `BadSchema`: the tables are not those of an
+    /// office, or what they hold is not what it should be. `Store`: a statement failed, memory was
+    /// refused, or a transaction is open. A refusal hands the connection back; nothing changes.
+    pub fn adopt(
+        alloc: Global,
+        conn: Connection<S>,
+    ) -> Result<Office<S>, (StoreFault, Connection<S>)>
+        // The tables stand for an office.
+        ensures adopted { IfOk result (λ office. HasCleanDisk (state S.Store office)
+            → (o : OfficeState) × IsKept (state S.Store office).now o) }
+        ensures same { IfOk result (λ office. HasCleanDisk (state S.Store office)
+            → (office ≡ conn) ⊎ IsUnchanged (state S.Store conn) (state S.Store office)) }
+        // They stand for none.
+        ensures no_office { IfErr result (λ e. e.0 ≡ StoreFault.BadSchema
+            → HasCleanDisk (state S.Store e.1)
+            → (o : OfficeState) → IsKept (state S.Store conn).now o → ⊥) }
+        // Whatever the refusal, the tables are as they were.
+        ensures undone { IfErr result (λ e. (e.1 ≡ conn) ⊎ (HasCleanDisk (state S.Store e.1)
+            → Undone (state S.Store conn) (state S.Store e.1))) }
+    {
+        if !conn.is_autocommit() {
+            return Err((StoreFault::Store, conn));
+        }
+        let mut conn = conn;
+        match kept_in(alloc, &mut conn) {
+            Ok(kept) => Ok(Office { conn, kept }),
+            Err(fault) => Err((fault, conn)),
+        }
+    }
+}
+
+// What is kept in memory of the office that the tables stand for. `BadSchema`: they stand for none.
+fn kept_in<S: Alter>(
+    alloc: Global,
+    conn: &mut Connection<S>,
+) -> Result<Option<(Instance, Enrolments)>, StoreFault>
+    ensures kept { HasCleanDisk (state S.Store conn.new) → IfOk result (λ kept. (o : OfficeState)
+        × IsKept (state S.Store conn.old).now o × (memory_of o ≡ kept)) }
+    ensures together { IfOk result AreTogether }
+    ensures same { HasCleanDisk (state S.Store conn.new) → OnOk result ((conn.new ≡ conn.old)
+        ⊎ IsUnchanged (state S.Store conn.old) (state S.Store conn.new)) }
+    ensures none { HasCleanDisk (state S.Store conn.new)
+        → IfErr result (λ e. e ≡ StoreFault.BadSchema
+        → (o : OfficeState) → IsKept (state S.Store conn.old).now o → ⊥) }
+    ensures keeps { HasCleanDisk (state S.Store conn.new)
+        → Keeps (state S.Store conn.old) (state S.Store conn.new) }
+    ensures rests { conn.old.in_transaction ≡ false → conn.new.in_transaction ≡ false }
+{
+    let Some(found) = adopt_tables(alloc, conn)? else {
+        return Err(StoreFault::BadSchema);
+    };
+    let kept = kept_of(alloc, &found)?;
+    Ok(kept)
+}

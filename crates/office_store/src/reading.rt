@@ -1,0 +1,106 @@
+// What is shown of the office: its session, and its drafts.
+ghost use Rattle.std.specs.Prelude.{◌≡◌, IfErr, IfOk, IsPermutation, OnOk, Some, length};
+ghost use Rattle.sqlite.specs.Held.{state};
+ghost use Rattle.sqlite.specs.State.{HasCleanDisk};
+ghost use Rattle.exam_model.specs.Fits.{Fits};
+ghost use Rattle.exam_score.specs.Track.{track};
+ghost use Rattle.office_records.specs.Office.{IsOffice, OfficeState, memory_of};
+ghost use Rattle.office_store.specs.Commands.{draft_in, draft_shown};
+ghost use Rattle.office_records.specs.Stands.{IsKept, slot_rows};
+ghost use Rattle.office_store.specs.Reading.{AreRowsOf};
+ghost use Rattle.office_store.specs.Running.{Does, IsAwake, IsStill, Now, Runs};
+
+use crate::drafting::draft_row;
+use crate::fault::StoreFault;
+use crate::office::Office;
+use exam_model::{Enrolments, Instance, Timetable};
+use exam_score::{Parts, score};
+use office_records::timetable_of;
+use office_tables::{DraftRow, SlotRow, slots_of};
+use sqlite::Alter;
+use std::alloc::Global;
+
+// The rows of a draft, one or none, and those of its places.
+#[derive(Drop)]
+pub(crate) struct DraftRows {
+    pub(crate) rows: Vec<DraftRow>,
+    pub(crate) slots: Vec<SlotRow>,
+}
+
+impl<S: Alter> Office<S> {
+    /// A draft's timetable with its penalty. `NotLoaded`, then `NoDraft`: there is none of this number.
+    pub fn draft(&mut self, alloc: Global, number: u32) -> Result<(Timetable, Parts), StoreFault>
+        ensures runs { Runs S.Store (draft_shown number) self.old self.new result }
+        ensures clean { HasCleanDisk (state S.Store self.new) → HasCleanDisk (state S.Store self.old) }
+    {
+        let found = self.draft_rows(alloc, number)?;
+        let Some((instance, enrolments)) = &self.kept else {
+            return Err(StoreFault::NotLoaded);
+        };
+        draft_of(alloc, instance, enrolments, number, &found)
+    }
+
+    // The rows of a draft and of its places.
+    pub(crate) fn draft_rows(&mut self, alloc: Global, number: u32) -> Result<DraftRows, StoreFault>
+        ensures rows { HasCleanDisk (state S.Store self.new) → (office : OfficeState)
+            → Now (state S.Store self.old) office
+            → IfOk result (λ found. AreRowsOf office number found.rows.items found.slots.items) }
+        // The same of an office that the tables stand for now.
+        ensures now { HasCleanDisk (state S.Store self.new) → (office : OfficeState)
+            → IsKept (state S.Store self.new).now office
+            → IfOk result (λ found. AreRowsOf office number found.rows.items found.slots.items) }
+        ensures still { HasCleanDisk (state S.Store self.new) → (office : OfficeState)
+            → Now (state S.Store self.old) office → Now (state S.Store self.new) office }
+        ensures awake { HasCleanDisk (state S.Store self.new) → OnOk result (IsAwake (state S.Store self.new)) }
+        ensures fault { IfErr result (λ e. e ≡ StoreFault.Store) }
+        ensures clean { HasCleanDisk (state S.Store self.new) → HasCleanDisk (state S.Store self.old) }
+    {
+        let rows = self.drafts(alloc, number)?;
+        let slots = self.slots(alloc, number)?;
+        Ok(DraftRows { rows, slots })
+    }
+
+    // The rows of a draft's places.
+    fn slots(&mut self, alloc: Global, number: u32) -> Result<Vec<SlotRow>, StoreFault>
+        ensures rows { HasCleanDisk (state S.Store self.new) → (office : OfficeState)
+            → IsKept (state S.Store self.new).now office
+            → IfOk result (λ rows. IsPermutation rows.items (slot_rows number (draft_in number office))) }
+        ensures still { HasCleanDisk (state S.Store self.new)
+            → IsStill (state S.Store self.old) (state S.Store self.new) }
+        ensures awake { HasCleanDisk (state S.Store self.new) → OnOk result (IsAwake (state S.Store self.new)) }
+        ensures fault { IfErr result (λ e. e ≡ StoreFault.Store) }
+        ensures clean { HasCleanDisk (state S.Store self.new) → HasCleanDisk (state S.Store self.old) }
+    {
+        self.look()?;
+        let rows = slots_of(alloc, &mut self.conn, number)?;
+        Ok(rows)
+    }
+}
+
+// The draft of the session at hand that these rows tell, with its penalty.
+pub(crate) fn draft_of(
+    alloc: Global,
+    instance: &Instance,
+    enrolments: &Enrolments,
+    number: u32,
+    found: &DraftRows,
+) -> Result<(Timetable, Parts), StoreFault>
+    requires exams { length enrolments.now ≡ length instance.now.exams }
+    ensures shown { (office : OfficeState) → IsOffice office → memory_of office ≡ Some (instance.now, enrolments.now)
+        → AreRowsOf office number found.now.rows.items found.now.slots.items
+        → Does (draft_shown number office) office (λ new. new ≡ office) result }
+    ensures fits { IfOk result (λ shown. Fits instance.now enrolments.now shown.0) }
+    ensures scored { IfOk result (λ shown. shown.1 ≡ track instance.now enrolments.now shown.0) }
+{
+    let row = match found.rows.as_slice() {
+        [] => return Err(StoreFault::NoDraft),
+        [row] => *row,
+        _ => return Err(StoreFault::BadSchema),
+    };
+    let timetable = timetable_of(alloc, instance, number, &found.slots)?;
+    let parts = score(alloc, instance, enrolments, &timetable)?;
+    if draft_row(number, parts) != row {
+        return Err(StoreFault::BadSchema);
+    }
+    Ok((timetable, parts))
+}
