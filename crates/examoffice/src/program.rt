@@ -89,6 +89,24 @@ fn load<'a, W: Write>(
     done
 }
 
+// Does a task.
+fn run_task<'a, W: Write>(
+    rt: &HostRuntime,
+    task: &'a Task,
+    out: &mut W,
+) -> Result<u8, ProgramFault<'a>>
+    ensures status { IfOk result (λ status. (status ≡ 0) ⊎ (status ≡ 3)) }
+    ensures broken { IfOk result (λ status. status ≡ 3
+        → WritesReport (W.contents out.old) (W.contents out.new) 3) }
+    ensures done { IfOk result (λ status. status ≡ 0
+        → Prints task.now (W.contents out.old) (W.contents out.new)) }
+{
+    match task {
+        Task::Check(instance, solution) => check(rt, instance, solution, out),
+        Task::Load(database, instance) => load(rt, database, instance, out),
+    }
+}
+
 // Prints the line of a fault.
 fn print_fault<W: Write>(fault: &ProgramFault<'_>, err: &mut W) -> io::Result<()>
     ensures { OnOk result
@@ -174,11 +192,7 @@ pub fn run_program<O: Write, E: Write>(
         Ok(task) => task,
         Err(error) => return refuse_words(&error, out, err),
     };
-    let done = match &task {
-        Task::Check(instance, solution) => check(rt, instance, solution, out),
-        Task::Load(database, instance) => load(rt, database, instance, out),
-    };
-    match done {
+    match run_task(rt, &task, out) {
         Ok(status) => status,
         Err(fault) => complain(&fault, err),
     }
