@@ -109,15 +109,17 @@ fn edit_refusals_in_order(rt: HostRuntime) -> Result<(), Fail> {
 #[test]
 fn swaps_are_judged(rt: HostRuntime) -> Result<(), Fail> {
     let mut office = drafted(rt.alloc(), b"0, 0\n1, 0\n3, 1\n2, 0\n")?;
-    let short = edited(&mut office, rt.alloc(), swap(0, 3));
-    assert_same(
-        &rt,
-        short,
-        broken(BreachRule::Duration, 0),
-        "too short a period",
-    );
-    let better = edited(&mut office, rt.alloc(), swap(1, 2));
-    assert_same(&rt, better, Ok(30), "two other exams");
+    for (edit, wanted, case) in [
+        (
+            swap(0, 3),
+            broken(BreachRule::Duration, 0),
+            "too short a period",
+        ),
+        (swap(1, 2), Ok(30), "two other exams"),
+    ] {
+        let found = edited(&mut office, rt.alloc(), edit);
+        assert_same(&rt, found, wanted, case);
+    }
     Ok(())
 }
 
