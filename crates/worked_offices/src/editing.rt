@@ -37,7 +37,7 @@ fn broken(rule: BreachRule, other: u32) -> Result<u64, StoreFault> {
 }
 
 // The office of the small session, with this draft 1.
-fn drafted(alloc: Global, text: &[u8]) -> Result<Office<MemStore>, Fail> {
+pub(crate) fn drafted(alloc: Global, text: &[u8]) -> Result<Office<MemStore>, Fail> {
     let mut office = created(alloc)?;
     if office.load(alloc, SMALL).is_err() || office.new_draft(alloc, 1, text).is_err() {
         return Err("no draft")?;

@@ -12,6 +12,8 @@ mod given;
 #[cfg(test)]
 mod offices;
 #[cfg(test)]
+mod reading;
+#[cfg(test)]
 mod tables;
 #[cfg(test)]
 mod wrong_tables;
