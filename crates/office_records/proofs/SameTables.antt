@@ -64,8 +64,8 @@ none_held show row xs ys stored p q none =
 
 -- ten empty tables, but for the one row about the office
 pub all_empty : (t : Tables) → t.meta ≡ empty_tables.meta → t.owner ≡ [] → t.enrol ≡ []
-    → t.draft ≡ [] → t.slot ≡ [] → t.placed ≡ [] → t.seat ≡ [] → t.share_student ≡ [] → t.share_part ≡ []
-    → t.batch ≡ [] → t ≡ empty_tables
+    → t.draft ≡ [] → t.slot ≡ [] → t.placed ≡ [] → t.seat ≡ [] → t.share_student ≡ []
+    → t.share_part ≡ [] → t.batch ≡ [] → t ≡ empty_tables
 all_empty t m o e d s p z x y b = λ i. record {
   meta = m i;
   owner = o i;
@@ -133,7 +133,8 @@ module _ (db : Database) (t u : Tables) (p : Held db t) (q : Held db u) where
   loaded r h = record {
     meta = one_meta _ h.meta;
     owner = λ e. few_read (λ (o : OwnerRow). o.dept) _ _ _
-        (IsPermutation-filter (λ o. eqb o.exam e) _ _ owners) (h.owner e) (few_depts (r.owner_of e));
+        (IsPermutation-filter (λ o. eqb o.exam e) _ _ owners) (h.owner e)
+        (few_depts (r.owner_of e));
     enrol = IsPermutation-trans _ _ _ (IsPermutation-sym _ _ enrols) h.enrol;
     draft = λ d. few_read (λ (x : DraftRow). x.no) _ _ _
         (IsPermutation-filter (λ x. eqb x.no d) _ _ drafts) (h.draft d)

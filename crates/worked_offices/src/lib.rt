@@ -2,6 +2,8 @@
 #![tactic(auto)]
 
 #[cfg(test)]
+mod adopting;
+#[cfg(test)]
 mod drafting;
 #[cfg(test)]
 mod editing;
@@ -11,3 +13,5 @@ mod given;
 mod offices;
 #[cfg(test)]
 mod tables;
+#[cfg(test)]
+mod wrong_tables;
