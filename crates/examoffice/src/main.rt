@@ -4,6 +4,8 @@
 
 mod checking;
 mod faults;
+#[cfg(test)]
+mod load_tests;
 mod loading;
 mod program;
 mod reading;
