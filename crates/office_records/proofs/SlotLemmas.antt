@@ -51,7 +51,8 @@ slots_set d e at T within free =
     let left = slots_from d 0 (take e T) in
     let right = slots_from d (e + 1) (drop (suc e) T) in
     subst (λ l. IsPermutation l (slot_row d e at ∷ slots_from d 0 T))
-    (sym (ap (slots_from d 0) (set_split T e (Some at) within) ∙ slots_parted d e T (Some at) within))
+    (sym (ap (slots_from d 0) (set_split T e (Some at) within)
+    ∙ slots_parted d e T (Some at) within))
     (subst (λ l. IsPermutation (left ++ slot_row d e at ∷ right) (slot_row d e at ∷ l))
     (sym (slots_split d e T None within free))
     (IsPermutation-middle left (slot_row d e at) right))
@@ -106,7 +107,8 @@ pub rows_say : (d : ℕ) (T : Placing)
     → AllByRecursion (λ row. get_or T row.exam None ≡ Some (place_in row)) (slots_from d 0 T)
 rows_say d T =
     rows_each (λ row. get_or T row.exam None ≡ Some (place_in row)) d 0 T
-    (λ e at is. ap (λ n. get_or T n None) (let zero_first : 0 + e ≡ e = omega arith in zero_first) ∙ is)
+    (λ e at is. ap (λ n. get_or T n None)
+    (let zero_first : 0 + e ≡ e = omega arith in zero_first) ∙ is)
 
 -- ---- one timetable has the rows
 
@@ -194,7 +196,8 @@ no_slots I d = record {
   exams = length-replicate (length I.exams) None;
   places = λ e o within.
       subst (PlaceExists I) (sym (get_or-replicate (length I.exams) e None o
-      (let long = length-replicate {A = Option Place} (length I.exams) None in omega (arith, long, within)))) tt;
+      (let long = length-replicate {A = Option Place} (length I.exams) None in
+      omega (arith, long, within)))) tt;
   rows = subst (λ l. IsPermutation [] l) (sym (none_placed d 0 (length I.exams)))
       (IsPermutation-refl []);
 }

@@ -1,11 +1,10 @@
 -- What the rows that are read say of an office.
-use Rattle.std.proofs.Common.{◌≡◌, ℕ, Bool, true, false, not, eqb, List, [], ◌∷◌, map, filter, length, get_or, ◌<◌, ◌≤◌, Option, Some, None, Ok, Err, Result, refl, sym, ◌∙◌, ap, ap₂, subst, arith}
+use Rattle.std.proofs.Common.{◌≡◌, ℕ, Bool, true, not, eqb, List, [], ◌∷◌, length, get_or, ◌<◌, ◌≤◌, Option, Some, None, Ok, Err, Result, refl, sym, ◌∙◌, ap, ap₂, subst, arith}
 use Rattle.std.specs.Prelude.{◌==◌, ◌&&◌, IsErrAnd, IsPermutation, is_some}
 use Rattle.std.proofs.lemmas.Bool.Decides.{nat_tests}
 use Rattle.std.proofs.lemmas.List.Sorted.{IsPermutation-sym, IsPermutation-trans}
 use Rattle.sqlite_trees.proofs.ListLemmas.{all-permutation, all-filter, IsPermutation-filter}
 use Rattle.exam_model.specs.Enrolments.{Enrolled}
-use Rattle.exam_model.specs.Fits.{Fits}
 use Rattle.exam_model.specs.Instance.{Session}
 use Rattle.exam_model.specs.Timetable.{Placing}
 use Rattle.exam_score.specs.Penalty.{Penalty}
@@ -104,9 +103,9 @@ shows : (r : Records) (d : ℕ) (T : Placing) → r.draft d ≡ Some T
     → draft_shown d (Some r) ≡ Ok ((T, track r.session r.enrolments T), Some r)
 shows r d T is = rw is refl
 
-one_told : (r : Records) (I : Session) (E : Enrolled) (d : ℕ) (row : DraftRow) (slots : List SlotRow)
-    → r.session ≡ I → r.enrolments ≡ E → (T : Placing) → IsDraftOf r d row slots T
-    → IsTold (Some r) I E d row slots
+one_told : (r : Records) (I : Session) (E : Enrolled) (d : ℕ) (row : DraftRow)
+    (slots : List SlotRow) → r.session ≡ I → r.enrolments ≡ E → (T : Placing)
+    → IsDraftOf r d row slots T → IsTold (Some r) I E d row slots
 one_told r I E d row slots session enrolments T is =
     let now : track r.session r.enrolments T ≡ track I E T
     = ap (λ s. track s r.enrolments T) session ∙ ap (λ e. track I e T) enrolments in
@@ -194,7 +193,8 @@ pub fault_of : {A : Type 0} (gives : Gives A) (o : OfficeState) (r : Result A St
     (f : RecordFault) → IsErrAnd r (λ e. e ≡ store_fault f) → (f ≡ BadRows → ⊥)
     → Does gives o (λ new. new ≡ o) r
 fault_of gives o (Ok x) f is not_bad = absurd is
-fault_of gives o (Err e) NoMemory is not_bad = subst (λ e. IsFault gives e × (o ≡ o)) (sym is) (tt, refl)
+fault_of gives o (Err e) NoMemory is not_bad =
+    subst (λ e. IsFault gives e × (o ≡ o)) (sym is) (tt, refl)
 fault_of gives o (Err e) BadRows is not_bad = absurd (not_bad refl)
 
 -- where the office stays, it stands after the call as before

@@ -28,11 +28,12 @@ pub(crate) struct DraftRows {
 }
 
 impl<S: Alter> Office<S> {
-    /// The session with its live enrolments, as they are at hand. They are what the file says while it
-    /// can be read: `look` asks that. `NotLoaded`: there is none yet.
+    /// The session with its live enrolments, as they are at hand: what the file says while it can be
+    /// read, which `look` asks. `NotLoaded`: there is none yet.
     pub fn session(&self) -> Result<(&Instance, &Enrolments), StoreFault>
-        ensures shown { HasCleanDisk (state S.Store self.now) → IsTrue (state S.Store self.now).is_open
-            → (office : OfficeState) → IsKept (state S.Store self.now).now office
+        ensures shown { HasCleanDisk (state S.Store self.now)
+            → IsTrue (state S.Store self.now).is_open → (office : OfficeState)
+            → IsKept (state S.Store self.now).now office
             → Does (session_shown office) office (λ new. new ≡ office) (shown result) }
         ensures fault { IfErr result (λ e. e ≡ StoreFault.NotLoaded) }
         ensures exams { IfOk result (λ shown. length shown.1.now ≡ length shown.0.now.exams) }
@@ -43,7 +44,8 @@ impl<S: Alter> Office<S> {
         }
     }
 
-    /// A draft's timetable with its penalty. `NotLoaded`, then `NoDraft`: there is none of this number.
+    /// A draft's timetable with its penalty. `NotLoaded`, then `NoDraft`: there is none of this
+    /// number.
     pub fn draft(&mut self, alloc: Global, number: u32) -> Result<(Timetable, Parts), StoreFault>
         ensures runs { Runs S.Store (draft_shown number) self.old self.new result }
         ensures clean { HasCleanDisk (state S.Store self.new) → HasCleanDisk (state S.Store self.old) }
@@ -66,7 +68,8 @@ impl<S: Alter> Office<S> {
             → IfOk result (λ found. AreRowsOf office number found.rows.items found.slots.items) }
         ensures still { HasCleanDisk (state S.Store self.new) → (office : OfficeState)
             → Now (state S.Store self.old) office → Now (state S.Store self.new) office }
-        ensures awake { HasCleanDisk (state S.Store self.new) → OnOk result (IsAwake (state S.Store self.new)) }
+        ensures awake { HasCleanDisk (state S.Store self.new)
+            → OnOk result (IsAwake (state S.Store self.new)) }
         ensures fault { IfErr result (λ e. e ≡ StoreFault.Store) }
         ensures clean { HasCleanDisk (state S.Store self.new) → HasCleanDisk (state S.Store self.old) }
     {
@@ -79,10 +82,12 @@ impl<S: Alter> Office<S> {
     fn slots(&mut self, alloc: Global, number: u32) -> Result<Vec<SlotRow>, StoreFault>
         ensures rows { HasCleanDisk (state S.Store self.new) → (office : OfficeState)
             → IsKept (state S.Store self.new).now office
-            → IfOk result (λ rows. IsPermutation rows.items (slot_rows number (draft_in number office))) }
+            → IfOk result (λ rows.
+            IsPermutation rows.items (slot_rows number (draft_in number office))) }
         ensures still { HasCleanDisk (state S.Store self.new)
             → IsStill (state S.Store self.old) (state S.Store self.new) }
-        ensures awake { HasCleanDisk (state S.Store self.new) → OnOk result (IsAwake (state S.Store self.new)) }
+        ensures awake { HasCleanDisk (state S.Store self.new)
+            → OnOk result (IsAwake (state S.Store self.new)) }
         ensures fault { IfErr result (λ e. e ≡ StoreFault.Store) }
         ensures clean { HasCleanDisk (state S.Store self.new) → HasCleanDisk (state S.Store self.old) }
     {
@@ -101,7 +106,8 @@ pub(crate) fn draft_of(
     found: &DraftRows,
 ) -> Result<(Timetable, Parts), StoreFault>
     requires exams { length enrolments.now ≡ length instance.now.exams }
-    ensures shown { (office : OfficeState) → IsOffice office → memory_of office ≡ Some (instance.now, enrolments.now)
+    ensures shown { (office : OfficeState) → IsOffice office
+        → memory_of office ≡ Some (instance.now, enrolments.now)
         → AreRowsOf office number found.now.rows.items found.now.slots.items
         → Does (draft_shown number office) office (λ new. new ≡ office) result }
     ensures fits { IfOk result (λ shown. Fits instance.now enrolments.now shown.0) }

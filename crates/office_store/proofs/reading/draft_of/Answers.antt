@@ -1,4 +1,4 @@
-use Rattle.std.proofs.Common.{◌≡◌, Ok, refl, sym, ◌∙◌, ap, subst}
+use Rattle.std.proofs.Common.{Ok, refl, sym, ◌∙◌, ap, subst}
 use Rattle.exam_score.specs.Track.{track}
 use Rattle.office_records.specs.Found.{AreSlots}
 use Rattle.office_records.proofs.SlotLemmas.{same_timetable}

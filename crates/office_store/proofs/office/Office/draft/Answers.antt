@@ -1,7 +1,6 @@
-use Rattle.std.proofs.Common.{◌≡◌, Some, None, ap, sym, subst}
+use Rattle.std.proofs.Common.{Some, None, ap, subst}
 use Rattle.sqlite.specs.Held.{state}
 use Rattle.office_store.specs.Commands.{draft_shown}
-use Rattle.office_store.specs.Reading.{AreRowsOf}
 use Rattle.office_store.specs.Running.{IsAtRest, Now}
 use Rattle.office_store.proofs.ReadLemmas.{does_now}
 use Rattle.office_store.proofs.RunLemmas.{at_hand, nothing_kept}
@@ -30,4 +29,5 @@ returns-clause-runs g c clean office now =
     c.self.invariant.1) in
     let is = at_hand mid _ office rest clean awake.0 here in
     does_now (draft_shown c.args.number office) office (Now mid) _
-    (c.draft_of.ensures.shown office here.office is (c.in_ok-found.ensures.rows clean office now)) (λ _. here)
+    (c.draft_of.ensures.shown office here.office is
+    (c.in_ok-found.ensures.rows clean office now)) (λ _. here)

@@ -1,4 +1,4 @@
-use Rattle.std.proofs.Common.{◌≡◌, Some, None, refl, ap, subst}
+use Rattle.std.proofs.Common.{Some, None, refl, ap, subst}
 use Rattle.sqlite.specs.Held.{state}
 use Rattle.office_store.specs.Commands.{session_shown}
 use Rattle.office_store.specs.Running.{IsAtRest}

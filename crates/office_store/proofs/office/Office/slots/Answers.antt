@@ -1,10 +1,10 @@
-use Rattle.std.proofs.Common.{◌≡◌, sym, subst, arith}
+use Rattle.std.proofs.Common.{sym, subst, arith}
 use Rattle.sqlite.specs.Held.{state}
 use Rattle.sqlite.specs.State.{HasCleanDisk}
 use Rattle.office_store.specs.Running.{IsAwake}
 use Rattle.office_records.specs.Stands.{IsKept}
 use Rattle.office_store.proofs.ReadLemmas.{places_read}
-use Rattle.office_store.proofs.RunLemmas.{now_still, rest_read}
+use Rattle.office_store.proofs.RunLemmas.{rest_read}
 use Rattle.office_store.proofs.office.Office.slots.Goals as goal
 
 pub invariant_of-self : goal.invariant_of-self
