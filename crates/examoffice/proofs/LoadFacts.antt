@@ -1,5 +1,5 @@
 -- What is known of a load from its parts.
-use Rattle.std.proofs.Common.{◌≡◌, ◌∙◌, ℕ, ◌⊎◌, List, length, Option, Some, None, inl, inr, sym, ap}
+use Rattle.std.proofs.Common.{◌≡◌, ◌∙◌, ◌⊎◌, length, None, inl, inr, sym, ap}
 use Rattle.std.proofs.Common.{subst, arith, Bool, true, false}
 use Rattle.std.specs.Prelude.{IsTrue}
 use Rattle.sqlite_schema.specs.declared.schema.Schema.{Schema}
