@@ -74,6 +74,7 @@ def files():
         "beyond.sol": with_line(solution, 2, b"4, 0"),
         "at_limit.sol": solution.ljust(SOLUTION_LIMIT),
         "long.sol": solution.ljust(SOLUTION_LIMIT + 1),
+        "empty.db": b"",
     }
 
 
@@ -91,6 +92,15 @@ def check(name, instance, solution, penalties, *breaches):
 
 def fault(name, instance, solution, text):
     return Case(name, ("check", instance, solution), 1, b"", b"examoffice: %s\n" % text)
+
+
+def load(name, database, instance, exams, pairs, periods, rooms):
+    line = b"loaded exams %d pairs %d periods %d rooms %d\n" % (exams, pairs, periods, rooms)
+    return Case(name, ("load", "--db", database, instance), 0, line)
+
+
+def unloaded(name, database, instance, text):
+    return Case(name, ("load", "--db", database, instance), 1, b"", b"examoffice: %s\n" % text)
 
 
 def usage(name, *words):
@@ -134,7 +144,31 @@ CASES = [
     fault("a solution that is too long", "small.exam", "long.sol", b"solution line 0: fault 1"),
     Case("a full device", ("check", "small.exam", "small.sol"), 1, b"",
          b"examoffice: cannot write\n", "/dev/full"),
+    load("a new database", "term.db", "small.exam", 4, 6, 4, 2),
+    unloaded("a second load", "term.db", "small.exam", b"store fault 1"),
+    unloaded("a second load, of a faulty instance", "term.db", "april.exam",
+             b"instance line 8: fault 5"),
+    load("the smallest instance in an empty file", "empty.db", "smallest.exam", 1, 0, 1, 1),
+    unloaded("a faulty instance", "spring.db", "five.exam", b"instance line 1: fault 3"),
+    load("a right instance after a faulty one", "spring.db", "small.exam", 4, 6, 4, 2),
+    Case("the database behind the instance", ("load", "crlf.exam", "--db=crlf.db"), 0,
+         b"loaded exams 4 pairs 6 periods 4 rooms 2\n"),
+    Case("a load told to a full device", ("load", "--db", "full.db", "small.exam"), 1, b"",
+         b"examoffice: cannot write\n", "/dev/full"),
+    unloaded("a load that was not told", "full.db", "small.exam", b"store fault 1"),
+    unloaded("no instance to load", "none.db", "none.exam", b"cannot read none.exam"),
+    unloaded("neither instance nor database", "none/none.db", "none.exam",
+             b"cannot read none.exam"),
+    unloaded("a folder to load", "none.db", "a folder", b"cannot read a folder"),
+    unloaded("an instance to load that is too long", "none/none.db", "long.exam",
+             b"instance line 0: fault 1"),
+    unloaded("a database in no folder", "none/none.db", "small.exam", b"cannot open database"),
+    unloaded("a folder as database", "a folder", "small.exam", b"cannot open database"),
+    unloaded("a file that is no database", "small.sol", "small.exam", b"cannot open database"),
+    unloaded("a database in memory", ":memory:", "small.exam", b"cannot open database"),
     Case("help", ("--help",), 0, Holding(b"check"), b""),
+    Case("help names the load", ("--help",), 0, Holding(b"load"), b""),
+    Case("help for the load", ("load", "--help"), 0, Holding(b"--db <FILE>"), b""),
     Case("help for the check", ("check", "--help"), 0, Holding(b"check"), b""),
     usage("no words"),
     usage("an unknown command", "frobnicate"),
@@ -142,6 +176,9 @@ CASES = [
     usage("no files", "check"),
     usage("one file", "check", "small.exam"),
     usage("three files", "check", "small.exam", "small.sol", "small.sol"),
+    usage("a load into no database", "load", "small.exam"),
+    usage("a load of no instance", "load", "--db", "none.db"),
+    usage("a load into two databases", "load", "--db", "a.db", "--db", "b.db", "small.exam"),
     usage("a check with an unknown option", "check", "--frobnicate", "small.exam", "small.sol"),
 ]
 

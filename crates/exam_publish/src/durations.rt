@@ -9,7 +9,7 @@ use exam_model::{ExamNo, Instance, PeriodNo, RoomNo, Timetable};
 use std::alloc::{AllocError, Global};
 
 // An exam's place and duration; ordered by period, then room, then minutes.
-#[derive(Clone, Copy, Debug, PartialEq, Eq, PartialOrd, Ord)]
+#[derive(Clone, Copy, PartialEq, Eq, PartialOrd, Ord)]
 pub struct Stay {
     pub period: PeriodNo,
     pub room: RoomNo,

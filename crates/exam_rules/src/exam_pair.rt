@@ -6,7 +6,7 @@ ghost use Rattle.exam_rules.specs.Breach.{HasJust, passing, is_pair, is_some_pai
 use exam_model::ExamNo;
 use std::alloc::AllocError;
 
-#[derive(Clone, Copy, Debug, PartialEq, Eq, PartialOrd, Ord)]
+#[derive(Clone, Copy, PartialEq, Eq, PartialOrd, Ord)]
 pub struct ExamPair {
     pub exam: ExamNo,
     pub other: ExamNo,

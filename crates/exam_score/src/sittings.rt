@@ -8,7 +8,7 @@ use exam_model::{ExamNo, PeriodNo, Timetable};
 use std::alloc::{AllocError, Global};
 
 // An exam in its period; ordered by period, and then by exam.
-#[derive(Clone, Copy, Debug, PartialEq, Eq, PartialOrd, Ord)]
+#[derive(Clone, Copy, PartialEq, Eq, PartialOrd, Ord)]
 pub struct Sitting {
     pub period: PeriodNo,
     pub exam: ExamNo,

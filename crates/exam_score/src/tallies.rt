@@ -20,7 +20,7 @@ const MORE: u32 = 31;
 const FEW_STEPS: u64 = 30_000_000;
 
 // So many exams of one student in one period.
-#[derive(Clone, Copy, Debug)]
+#[derive(Clone, Copy)]
 pub struct Tally {
     pub student: StudentNo,
     pub period: PeriodNo,

@@ -1,1 +1,2 @@
 mod CheckFacts
+pub mod LoadFacts

@@ -36,7 +36,7 @@ pub enum CheckFault {
     NoMemory,
 }
 
-const INSTANCE_BYTES: usize = 4_194_304;
+pub const INSTANCE_BYTES: usize = 4_194_304;
 
 const SOLUTION_BYTES: usize = 1_048_576;
 

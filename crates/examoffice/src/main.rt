@@ -1,8 +1,10 @@
 #![tactic(auto)]
 //! The examination office's program: it judges solutions of examination timetables by the rules
-//! of the International Timetabling Competition 2007.
+//! of the International Timetabling Competition 2007, and loads an office.
 
 mod checking;
+mod faults;
+mod loading;
 mod program;
 mod reading;
 mod reports;
@@ -11,6 +13,7 @@ mod tests;
 mod words;
 
 pub use checking::{CheckFault, check_run};
+pub use loading::{LoadFault, load_run};
 pub use program::run_program;
 use std::env;
 use std::process::ExitCode;

@@ -8,72 +8,23 @@ ghost use Rattle.clap.specs.Words.{kind_of};
 ghost use Rattle.clap.specs.Faults.{fault_of};
 ghost use Rattle.clap.specs.declared.error.kind.ErrorKind.TheVariants as kind;
 ghost use Rattle.examoffice.specs.Check.{WritesReport};
-ghost use Rattle.examoffice.specs.FaultLines.{check_line, fault_line, not_text_line, number_of};
-ghost use Rattle.examoffice.specs.FaultLines.{IsOfCheck};
-ghost use Rattle.examoffice.specs.Program.{AreAnswered, IsMistake, program};
+ghost use Rattle.examoffice.specs.FaultLines.{IsOfCheck, IsOfLoad, fault_line, not_text_line};
+ghost use Rattle.examoffice.specs.Load.{PrintsCounts};
+ghost use Rattle.examoffice.specs.Program.{AreAnswered, IsMistake, IsTask, program};
+ghost use Rattle.examoffice.specs.Tasks.{Prints};
+ghost use Rattle.examoffice.specs.declared.words.Task.{Task};
 
-use crate::checking::{CheckFault, check_run};
+use crate::checking::{INSTANCE_BYTES, check_run};
+use crate::faults::{ProgramFault, fault_of_input, fault_of_load, fault_of_open, fault_on};
+use crate::loading::load_run;
+use crate::reading::{InputFault, whole_text};
 use crate::words::{Task, read_words};
 use clap::Error;
 use clap::error::ErrorKind;
-use office_files::{FaultKind, FileFault};
+use sqlite::Connection;
 use std::io::Write;
 use std::rt::Files;
-use std::{fmt, fs, io};
-
-// What ends the program with status 1; it shows as the line that is printed.
-#[derive(Clone, Copy, Debug, PartialEq, Eq)]
-enum ProgramFault<'a> {
-    CannotRead(&'a str),
-    Instance(FileFault),
-    Solution(FileFault),
-    CannotWrite,
-    NoMemory,
-}
-
-// The number by which a fault is printed.
-fn number_of(what: FaultKind) -> u8
-    ensures { result ≡ number_of what }
-{
-    what as u8
-}
-
-impl fmt::Display for ProgramFault<'_> {
-    ghost use Rattle.std.specs.Prelude.{Some};
-    ghost use Rattle.examoffice.specs.FaultLines.{fault_line};
-
-    ghost output = { λ fault. Some (fault_line fault) };
-
-    fn fmt<W: fmt::Write>(&self, f: &mut fmt::Formatter<W>) -> fmt::Result {
-        match self {
-            ProgramFault::CannotRead(path) => write!(f, "examoffice: cannot read {path}"),
-            ProgramFault::Instance(FileFault { line, what }) => {
-                let number = number_of(*what);
-                write!(f, "examoffice: instance line {line}: fault {number}")
-            }
-            ProgramFault::Solution(FileFault { line, what }) => {
-                let number = number_of(*what);
-                write!(f, "examoffice: solution line {line}: fault {number}")
-            }
-            ProgramFault::CannotWrite => write!(f, "examoffice: cannot write"),
-            ProgramFault::NoMemory => write!(f, "examoffice: no memory"),
-        }
-    }
-}
-
-// What a fault of `check` on two files is to the program.
-fn fault_on<'a>(fault: CheckFault, instance: &'a str, solution: &'a str) -> ProgramFault<'a>
-    ensures { fault_line result ≡ check_line instance.now solution.now fault }
-{
-    match fault {
-        CheckFault::ReadInstance => ProgramFault::CannotRead(instance),
-        CheckFault::ReadSolution => ProgramFault::CannotRead(solution),
-        CheckFault::Instance(fault) => ProgramFault::Instance(fault),
-        CheckFault::Solution(fault) => ProgramFault::Solution(fault),
-        CheckFault::Write => ProgramFault::CannotWrite,
-        CheckFault::NoMemory => ProgramFault::NoMemory,
-    }
-}
+use std::{fs, io};
 
 // `check`. Both files are open before either is read.
 fn check<'a, R: Files + AllocGlobal, W: Write>(
@@ -100,16 +51,72 @@ fn check<'a, R: Files + AllocGlobal, W: Write>(
     }
 }
 
+// The whole text of an instance's file.
+fn text_at<R: Files + AllocGlobal>(rt: &R, path: &str) -> Result<Vec<u8>, InputFault> {
+    let Ok(mut file) = fs::open(rt, path) else {
+        return Err(InputFault::Read);
+    };
+    whole_text(rt.alloc(), &mut file, INSTANCE_BYTES)
+}
+
+// `load`. The instance's file is read before the database is opened.
+fn load<'a, W: Write>(
+    rt: &HostRuntime,
+    database: &str,
+    instance: &'a str,
+    out: &mut W,
+) -> Result<u8, ProgramFault<'a>>
+    ensures status { IfOk result (λ status. status ≡ 0) }
+    ensures printed { IfOk result (λ _. PrintsCounts (W.contents out.old) (W.contents out.new)) }
+
+    // A line that names a file names the instance's.
+    ensures fault { IfErr result (IsOfLoad instance.now) }
+{
+    let text = match text_at(rt, instance) {
+        Ok(text) => text,
+        Err(fault) => return Err(fault_of_input(fault, instance)),
+    };
+    let conn = match Connection::open(rt, database) {
+        Ok(conn) => conn,
+        Err(error) => return Err(fault_of_open(error)),
+    };
+    let (conn, done) = match load_run(rt.alloc(), conn, &text, out) {
+        Ok(conn) => (conn, Ok(0)),
+        Err((fault, conn)) => (conn, Err(fault_of_load(fault))),
+    };
+    // A log that can't be copied into the file stays beside it, and is read there.
+    let _ = conn.close();
+    done
+}
+
+// Does a task.
+fn run_task<'a, W: Write>(
+    rt: &HostRuntime,
+    task: &'a Task,
+    out: &mut W,
+) -> Result<u8, ProgramFault<'a>>
+    ensures status { IfOk result (λ status. (status ≡ 0) ⊎ (status ≡ 3)) }
+    ensures broken { IfOk result (λ status. status ≡ 3
+        → WritesReport (W.contents out.old) (W.contents out.new) 3) }
+    ensures done { IfOk result (λ status. status ≡ 0
+        → Prints task.now (W.contents out.old) (W.contents out.new)) }
+{
+    match task {
+        Task::Check(instance, solution) => check(rt, instance, solution, out),
+        Task::Load(database, instance) => load(rt, database, instance, out),
+    }
+}
+
 // Prints the line of a fault.
-fn print_fault<W: Write>(fault: ProgramFault<'_>, err: &mut W) -> io::Result<()>
+fn print_fault<W: Write>(fault: &ProgramFault<'_>, err: &mut W) -> io::Result<()>
     ensures { OnOk result
-        (Appends (W.contents err.old) (W.contents err.new) (fault_line fault.entry ++ 10 ∷ [])) }
+        (Appends (W.contents err.old) (W.contents err.new) (fault_line fault.now ++ 10 ∷ [])) }
 {
     writeln!(err, "{fault}")
 }
 
 // Where the line of a fault can't be printed, nothing more can be done.
-fn complain<W: Write>(fault: ProgramFault<'_>, err: &mut W) -> u8
+fn complain<W: Write>(fault: &ProgramFault<'_>, err: &mut W) -> u8
     ensures { result ≡ 1 }
 {
     let _ = print_fault(fault, err);
@@ -124,7 +131,7 @@ fn refuse_words<O: Write, E: Write>(error: &Error, out: &mut O, err: &mut E) -> 
     ensures mistake { (result ≡ 2) ↔ IsMistake (kind_of error.now) }
 {
     if error.kind() == ErrorKind::OutOfMemory {
-        return complain(ProgramFault::NoMemory, err);
+        return complain(&ProgramFault::NoMemory, err);
     }
     if error.use_stderr() {
         let _ = write!(err, "{error}");
@@ -132,7 +139,7 @@ fn refuse_words<O: Write, E: Write>(error: &Error, out: &mut O, err: &mut E) -> 
     }
     match write!(out, "{error}") {
         Ok(()) => 0,
-        Err(_) => complain(ProgramFault::CannotWrite, err),
+        Err(_) => complain(&ProgramFault::CannotWrite, err),
     }
 }
 
@@ -149,18 +156,18 @@ pub fn refuse_arguments<E: Write>(fault: &io::Error, err: &mut E) -> u8
     ensures { (result ≡ 1) ↔ (error_kind fault.now ≡ failure.OutOfMemory) }
 {
     if fault.kind() == io::ErrorKind::OutOfMemory {
-        return complain(ProgramFault::NoMemory, err);
+        return complain(&ProgramFault::NoMemory, err);
     }
     let _ = print_not_text(err);
     2
 }
 
 /// Does what the words say, of which the first is the program's name, and answers the exit
-/// status: 0 done, 1 a fault of a file, of `out` or of memory, 2 a mistake in the words, 3 a
+/// status: 0 done, 1 a fault of a file, of an office, of `out` or of memory, 2 a mistake in the words, 3 a
 /// solution that breaks a hard rule. The line of a fault and the text of a mistake go to `err`,
 /// all else goes to `out`.
-pub fn run_program<R: Files + AllocGlobal, O: Write, E: Write>(
-    rt: &R,
+pub fn run_program<O: Write, E: Write>(
+    rt: &HostRuntime,
     words: &[String],
     out: &mut O,
     err: &mut E,
@@ -175,18 +182,18 @@ pub fn run_program<R: Files + AllocGlobal, O: Write, E: Write>(
     // A judgement is the report of two texts, written whole.
     ensures reported { result ≡ 3
         → WritesReport (O.contents out.old) (O.contents out.new) 3 }
+
+    // What is done is the task of the words, and what it prints is written whole.
     ensures done { result ≡ 0 → fault_of program (map string_bytes words.now) ≡ []
-        → WritesReport (O.contents out.old) (O.contents out.new) 0 }
+        → (task : Task) × IsTask (map string_bytes words.now) task
+        × Prints task (O.contents out.old) (O.contents out.new) }
 {
     let task = match read_words(rt.alloc(), words) {
         Ok(task) => task,
         Err(error) => return refuse_words(&error, out, err),
     };
-    let done = match &task {
-        Task::Check(instance, solution) => check(rt, instance, solution, out),
-    };
-    match done {
+    match run_task(rt, &task, out) {
         Ok(status) => status,
-        Err(fault) => complain(fault, err),
+        Err(fault) => complain(&fault, err),
     }
 }

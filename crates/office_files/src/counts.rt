@@ -1,7 +1,7 @@
 // How many things there are that a line may name.
 
 /// How many exams, periods and rooms there are.
-#[derive(Clone, Copy, Debug)]
+#[derive(Clone, Copy)]
 pub struct Counts {
     pub exams: u32,
     pub periods: u32,

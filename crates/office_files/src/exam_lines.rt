@@ -27,7 +27,7 @@ fn next_student(fields: &mut Fields<'_>) -> Result<StudentNo, FaultKind>
 }
 
 // What the fields of students told beside their names.
-#[derive(Clone, Copy, Debug)]
+#[derive(Clone, Copy)]
 struct Gathered {
     ascending: bool,
     fault: Option<FaultKind>,

@@ -7,7 +7,7 @@ use crate::words::same_word;
 use exam_model::{ExamNo, PeriodRule};
 
 /// What a rule asks of the periods of two exams.
-#[derive(Clone, Copy, Debug)]
+#[derive(Clone, Copy)]
 pub enum RuleWord {
     After,
     Coincidence,

@@ -14,7 +14,7 @@ use crate::words::same_word;
 use exam_model::Weights;
 
 /// The word of a weighting line.
-#[derive(Clone, Copy, Debug)]
+#[derive(Clone, Copy)]
 pub enum WeightWord {
     Row,
     Day,
@@ -24,7 +24,7 @@ pub enum WeightWord {
 }
 
 /// What a weighting line says; of the front load how many exams, how many periods, what weight.
-#[derive(Clone, Copy, Debug)]
+#[derive(Clone, Copy)]
 pub enum Weighting {
     Row(u32),
     Day(u32),

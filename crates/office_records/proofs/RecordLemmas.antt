@@ -1,12 +1,12 @@
 -- The rows of each table make an office's records, and an office's records the rows of each table.
-use Rattle.std.proofs.Common.{◌≡◌, ℕ, List, [], ◌∷◌, map, length, Some, None, Option, refl, sym, ◌∙◌, ap, subst}
+use Rattle.std.proofs.Common.{◌≡◌, ℕ, List, [], ◌∷◌, Some, Option, refl, ap, subst}
 use Rattle.std.proofs.lemmas.List.Sorted.{IsPermutation-sym, IsPermutation-trans}
 use Rattle.exam_model.specs.Enrolments.{Enrolled}
 use Rattle.exam_model.specs.Instance.{Session}
 use Rattle.exam_model.specs.Timetable.{Placing}
 use Rattle.office_tables.specs.Adopting.{tables_of}
 use Rattle.office_tables.specs.Records.{meta_from}
-use Rattle.office_tables.specs.Tables.{Tables, Meta, empty_tables}
+use Rattle.office_tables.specs.Tables.{Tables}
 use Rattle.office_tables.specs.declared.found.Found.{Found}
 use Rattle.office_tables.specs.declared.rows.EnrolRow.{EnrolRow}
 use Rattle.office_records.specs.Found.{IsSessionRow, AreOwners, AreEnrolRows, AreDrafts}
@@ -30,10 +30,6 @@ module _ (found : Found) where
   t = tables_of found
 
   -- ---- from the rows to the office
-
-  pub empty_office : t ≡ empty_tables → (office : OfficeState) × Stands t office × IsSound t office
-      × IsOffice office × (memory_of office ≡ None)
-  empty_office is = (None, is, tt, tt, refl)
 
   pub office_of : (I : Session) (E : Enrolled) → IsSessionRow (meta_from found.meta) I
       → (owner_of : ℕ → ℕ) × AreOwners I found.owners.items owner_of
@@ -71,7 +67,8 @@ module _ (found : Found) where
 
   -- ---- from the office to its rows
 
-  module _ (r : Records) (stands : StandsLoaded t r) (sound : IsSound t (Some r)) (is : AreRecords r) where
+  module _ (r : Records) (stands : StandsLoaded t r) (sound : IsSound t (Some r))
+      (is : AreRecords r) where
     pub session_row : IsSessionRow (meta_from found.meta) r.session
     session_row = record { session = is.session; row = head_is stands.meta }
 
@@ -105,4 +102,5 @@ module _ (found : Found) where
           } in
           subst (λ F. AreDrafts I F found.drafts.items found.slots.items r.draft)
           (one_set I found.enrols.items r.enrolments E enrol_rows rows)
-          (subst (λ J. AreDrafts J r.enrolments found.drafts.items found.slots.items r.draft) same whose)
+          (subst (λ J. AreDrafts J r.enrolments found.drafts.items found.slots.items r.draft) same
+          whose)

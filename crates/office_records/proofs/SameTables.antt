@@ -1,14 +1,19 @@
 -- Tables that one database stands for stand for the same offices.
-use Rattle.std.proofs.Common.{◌≡◌, ℕ, ◌≤◌, Bool, true, false, List, [], ◌∷◌, map, length, Some, None, refl, ap, arith, subst, eqb, cond}
+use Rattle.std.proofs.Common.{◌≡◌, ℕ, ◌≤◌, Bool, true, false, List, [], ◌∷◌, map, length, Some}
+use Rattle.std.proofs.Common.{None, refl, ap, arith, subst, eqb, cond}
 use Rattle.std.specs.Prelude.{IsPermutation, is_some}
 use Rattle.std.proofs.lemmas.List.{nil_from_length, length-map}
-use Rattle.std.proofs.lemmas.List.Sorted.{IsPermutation-sym, IsPermutation-trans, IsPermutation-map, length_permutation}
+use Rattle.std.proofs.lemmas.List.Sorted.{IsPermutation-sym, IsPermutation-trans, IsPermutation-map}
+use Rattle.std.proofs.lemmas.List.Sorted.{length_permutation}
 use Rattle.sqlite_value.specs.Order.{Row}
 use Rattle.sqlite.specs.Effect.{Database}
 use Rattle.sqlite_trees.proofs.ListLemmas.{IsPermutation-filter, all-permutation}
 use Rattle.office_tables.specs.Records.{owner_of, enrol_of, draft_of, slot_of}
-use Rattle.office_tables.specs.Tables.{Tables, Meta, Holds, Stands as Held, keyed, keyless, empty_tables}
-use Rattle.office_tables.specs.Tables.{owner_row, enrol_row as enrol_columns, draft_row, slot_row, placed_row, seat_row, share_student_row, share_part_row, batch_row, meta_row}
+use Rattle.office_tables.specs.Tables.{Tables, Meta, Holds, Stands as Held, keyed, keyless}
+use Rattle.office_tables.specs.Tables.{empty_tables}
+use Rattle.office_tables.specs.Tables.{owner_row, enrol_row as enrol_columns, draft_row, slot_row}
+use Rattle.office_tables.specs.Tables.{placed_row, seat_row, share_student_row, share_part_row}
+use Rattle.office_tables.specs.Tables.{batch_row, meta_row}
 use Rattle.office_tables.specs.declared.rows.OwnerRow.{OwnerRow}
 use Rattle.office_tables.specs.declared.rows.DraftRow.{DraftRow}
 use Rattle.office_tables.specs.declared.rows.SlotRow.{SlotRow}
@@ -58,9 +63,9 @@ none_held show row xs ys stored p q none =
 -- ---- the tables
 
 -- ten empty tables, but for the one row about the office
-pub all_empty : (t : Tables) → t.meta ≡ empty_tables.meta → t.owner ≡ [] → t.enrol ≡ [] → t.draft ≡ []
-    → t.slot ≡ [] → t.placed ≡ [] → t.seat ≡ [] → t.share_student ≡ [] → t.share_part ≡ []
-    → t.batch ≡ [] → t ≡ empty_tables
+pub all_empty : (t : Tables) → t.meta ≡ empty_tables.meta → t.owner ≡ [] → t.enrol ≡ []
+    → t.draft ≡ [] → t.slot ≡ [] → t.placed ≡ [] → t.seat ≡ [] → t.share_student ≡ []
+    → t.share_part ≡ [] → t.batch ≡ [] → t ≡ empty_tables
 all_empty t m o e d s p z x y b = λ i. record {
   meta = m i;
   owner = o i;
@@ -114,7 +119,8 @@ module _ (db : Database) (t u : Tables) (p : Held db t) (q : Held db u) where
 
   empty : t ≡ empty_tables → u ≡ empty_tables
   empty is =
-      all_empty u (one_meta _ (ap (λ (t : Tables). t.meta) is)) (no_owner (ap (λ (t : Tables). t.owner) is))
+      all_empty u (one_meta _ (ap (λ (t : Tables). t.meta) is))
+      (no_owner (ap (λ (t : Tables). t.owner) is))
       (none_held keyless enrol_columns _ _ _ p.enrol q.enrol (ap (λ (t : Tables). t.enrol) is))
       (none_held keyed draft_row _ _ _ p.draft q.draft (ap (λ (t : Tables). t.draft) is))
       (none_held keyless slot_row _ _ _ p.slot q.slot (ap (λ (t : Tables). t.slot) is))
@@ -126,11 +132,16 @@ module _ (db : Database) (t u : Tables) (p : Held db t) (q : Held db u) where
   loaded : (r : Records) → StandsLoaded t r → StandsLoaded u r
   loaded r h = record {
     meta = one_meta _ h.meta;
-    owner = λ e. few_read (λ (o : OwnerRow). o.dept) _ _ _ (IsPermutation-filter (λ o. eqb o.exam e) _ _ owners) (h.owner e) (few_depts (r.owner_of e));
+    owner = λ e. few_read (λ (o : OwnerRow). o.dept) _ _ _
+        (IsPermutation-filter (λ o. eqb o.exam e) _ _ owners) (h.owner e)
+        (few_depts (r.owner_of e));
     enrol = IsPermutation-trans _ _ _ (IsPermutation-sym _ _ enrols) h.enrol;
-    draft = λ d. few_read (λ (x : DraftRow). x.no) _ _ _ (IsPermutation-filter (λ x. eqb x.no d) _ _ drafts) (h.draft d) (few_once (is_some (r.draft d)) d);
+    draft = λ d. few_read (λ (x : DraftRow). x.no) _ _ _
+        (IsPermutation-filter (λ x. eqb x.no d) _ _ drafts) (h.draft d)
+        (few_once (is_some (r.draft d)) d);
     slot = λ d. IsPermutation-trans _ _ _
-        (IsPermutation-filter (λ (x : SlotRow). eqb x.draft d) _ _ (IsPermutation-sym _ _ slots)) (h.slot d);
+        (IsPermutation-filter (λ (x : SlotRow). eqb x.draft d) _ _ (IsPermutation-sym _ _ slots))
+        (h.slot d);
     unpublished = record {
       placed = no_placed h.unpublished.placed;
       seat = no_seat h.unpublished.seat;

@@ -1,5 +1,7 @@
 -- The tables of an office have numbers of 32 bits, so none is passed over as foreign.
-use Rattle.std.proofs.Common.{◌≡◌, ℕ, suc, ◌+◌, ◌<◌, ◌≤◌, Bool, true, false, List, [], ◌∷◌, map, filter, length, Some, None, Option, refl, sym, arith, subst, eqb, cond}
+use Rattle.std.proofs.Common.{◌≡◌, ℕ, suc, ◌+◌, ◌<◌, ◌≤◌, Bool, true, false, List, [], ◌∷◌, map}
+use Rattle.std.proofs.Common.{filter, length, Some, None, Option, refl, sym, arith, subst, eqb}
+use Rattle.std.proofs.Common.{cond}
 use Rattle.std.specs.Prelude.{All, IsSome, is_some}
 use Rattle.std.specs.List.{AllByRecursion}
 use Rattle.std.proofs.lemmas.Bool.{eq-eqb}
@@ -7,7 +9,8 @@ use Rattle.std.proofs.lemmas.Bool.Decides.{nat_tests}
 use Rattle.std.proofs.lemmas.List.Sorted.{IsPermutation-sym}
 use Rattle.std.proofs.lemmas.List.Elements.{recursion_from_All}
 use Rattle.sqlite.specs.Effect.{Database}
-use Rattle.sqlite_trees.proofs.ListLemmas.{all-permutation, all_weaker, all_both, all-map, all-append, all_from_map}
+use Rattle.sqlite_trees.proofs.ListLemmas.{all-permutation, all_weaker, all_both, all-map}
+use Rattle.sqlite_trees.proofs.ListLemmas.{all-append, all_from_map}
 use Rattle.exam_model.specs.Enrolments.{Enrolled, students}
 use Rattle.exam_model.specs.Fits.{PlaceExists}
 use Rattle.exam_model.specs.Pairs.{pairs_at, pairs_from, pairs_of}
@@ -19,7 +22,8 @@ use Rattle.office_tables.specs.declared.rows.OwnerRow.{OwnerRow}
 use Rattle.office_tables.specs.declared.rows.DraftRow.{DraftRow}
 use Rattle.office_tables.specs.declared.rows.SlotRow.{SlotRow}
 use Rattle.office_records.specs.Office.{OfficeState, Records, AreRecords, IsOffice}
-use Rattle.office_records.specs.Stands.{IsKept, Stands, some_dept, once, slot_rows, slots_from, enrol_row}
+use Rattle.office_records.specs.Stands.{IsKept, Stands, some_dept, once, slot_rows, slots_from}
+use Rattle.office_records.specs.Stands.{enrol_row}
 
 -- ---- lists
 
@@ -55,7 +59,8 @@ each_key {X} key P (x ∷ xs) each = (
 
 module _ (r : Records) (is : AreRecords r) where
   dept_is : (e : ℕ) (b : Bool) → eqb (r.owner_of e) 0 ≡ b
-      → AllByRecursion (λ d. (d ≤ 999) × (e < length r.session.exams)) (cond b [] (r.owner_of e ∷ []))
+      → AllByRecursion (λ d. (d ≤ 999) × (e < length r.session.exams))
+      (cond b [] (r.owner_of e ∷ []))
   dept_is e true f = tt
   dept_is e false f = ((is.departments e, is.owned e (grind (arith, nat_tests, f))), tt)
 
@@ -105,7 +110,8 @@ module _ (r : Records) (is : AreRecords r) where
       places_fit d 0 T number.1 (omega (arith, fits.timetable, is.session.limits.counts.0.1))
       (recursion_from_All (PlaceExists r.session) T fits.places)
 
-  narrow_enrol : (e s : ℕ) → e < 2000 → s ≤ 999999999 → FitsEnrol (enrol_row (record { exam = e; student = s }))
+  narrow_enrol : (e s : ℕ) → e < 2000 → s ≤ 999999999
+      → FitsEnrol (enrol_row (record { exam = e; student = s }))
   narrow_enrol e s low few = (omega (arith, few), omega (arith, low))
 
   pairs_fit : (k : ℕ) (E : Enrolled) → k + length E ≤ 2000
@@ -115,7 +121,8 @@ module _ (r : Records) (is : AreRecords r) where
   pairs_fit k (ss ∷ E) few all =
       all-append (λ p. FitsEnrol (enrol_row p)) (pairs_at k ss) (pairs_from (k + 1) E)
       (all-map (λ p. FitsEnrol (enrol_row p)) (λ s. record { exam = k; student = s }) ss
-      (all_weaker (λ s. s ≤ 999999999) (λ s. FitsEnrol (enrol_row (record { exam = k; student = s })))
+      (all_weaker (λ s. s ≤ 999999999)
+      (λ s. FitsEnrol (enrol_row (record { exam = k; student = s })))
       (λ s. narrow_enrol k s (omega arith)) ss all.0))
       (pairs_fit (k + 1) E (omega arith) all.1)
 
@@ -123,8 +130,10 @@ module _ (r : Records) (is : AreRecords r) where
 each_exam : (E : Enrolled) → ((e : ℕ) → e < length E → All (λ s. s ≤ 999999999) (students E e))
     → AllByRecursion (AllByRecursion (λ s. s ≤ 999999999)) E
 each_exam [] h = tt
-each_exam (ss ∷ E) h =
-    (recursion_from_All (λ s. s ≤ 999999999) ss (h 0 (omega arith)), each_exam E (λ e lt. h (suc e) (omega arith)))
+each_exam (ss ∷ E) h = (
+  recursion_from_All (λ s. s ≤ 999999999) ss (h 0 (omega arith)),
+  each_exam E (λ e lt. h (suc e) (omega arith)),
+)
 
 -- ---- the tables
 
@@ -151,7 +160,8 @@ is_unpublished t (Some r) stands is = record {
       (all-map FitsEnrol enrol_row (pairs_of r.enrolments) (pairs_fit r is 0 r.enrolments
       (omega (arith, is.enrolled.exams, is.session.limits.counts.0.1))
       (each_exam r.enrolments is.enrolled.students)));
-  draft = each_key (λ (x : DraftRow). x.no) FitsDraft t.draft (λ d. drafts_fit r is d _ (stands.draft d));
+  draft = each_key (λ (x : DraftRow). x.no) FitsDraft t.draft
+      (λ d. drafts_fit r is d _ (stands.draft d));
   slot = each_key (λ (x : SlotRow). x.draft) FitsSlot t.slot
       (λ d. all-permutation FitsSlot _ _ (IsPermutation-sym _ _ (stands.slot d))
       (slots_fit r is d (r.draft d) refl));

@@ -14,7 +14,8 @@ use exam_model::{Enrolments, Instance};
 use office_tables::Found;
 use std::alloc::Global;
 
-/// What an office keeps in memory of the rows that stand for it. `BadRows`: they stand for no office.
+/// What an office keeps in memory of the rows that stand for it. `BadRows`: they stand for no
+/// office.
 pub fn kept_of(alloc: Global, found: &Found) -> Result<Option<(Instance, Enrolments)>, RecordFault>
     ensures are { IfOk result (λ kept. (office : OfficeState) × Stands (tables_of found.now) office
         × IsSound (tables_of found.now) office × IsOffice office × (memory_of office ≡ kept)) }

@@ -36,7 +36,7 @@ pub fn session_of(alloc: Global, row: &MetaRow) -> Result<Instance, RecordFault>
     if row.published {
         return Err(RecordFault::BadRows);
     }
-    let (instance, _nobody) = read_instance(alloc, &row.instance)?;
+    let (instance, _students) = read_instance(alloc, &row.instance)?;
     let text = text_of(alloc, &instance)?;
     if text.as_slice() != row.instance.as_slice() {
         return Err(RecordFault::BadRows);

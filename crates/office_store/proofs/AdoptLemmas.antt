@@ -20,7 +20,8 @@ kept_still g old new o (inl same) kept = subst (λ h. IsKept (state g h).now o) 
 kept_still g old new o (inr still) kept = subst (λ db. IsKept db o) (sym still.0.now_is) kept
 
 -- what was read had been committed
-pub undone_reading : (a b : State) → (IsTrue a.is_open → a.now ≡ a.committed) → Keeps a b → Undone a b
+pub undone_reading : (a b : State) → (IsTrue a.is_open → a.now ≡ a.committed) → Keeps a b
+    → Undone a b
 undone_reading a b settled keeps = record {
   was_open = keeps.was_open;
   now = λ opened. elim (keeps.now opened) [

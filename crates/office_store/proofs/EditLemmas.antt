@@ -1,6 +1,6 @@
 -- A draft that is edited.
-use Rattle.std.proofs.Common.{◌≡◌, ℕ, ◌<◌, Bool, true, false, cond, not, eqb, ◌&&◌, ◌||◌, List, [], ◌∷◌, map, filter, set, Option, Some, None, Result, Ok, Err, refl, sym, ◌∙◌, ap, subst, arith, length, ◌⊎◌, inl, inr}
-use Rattle.std.specs.Prelude.{IfOk, IfErr, IsPermutation, IsSome, is_some}
+use Rattle.std.proofs.Common.{◌≡◌, ℕ, ◌<◌, Bool, true, false, cond, not, eqb, ◌&&◌, List, [], ◌∷◌, map, filter, set, Option, Some, None, Result, Ok, refl, sym, ◌∙◌, ap, subst, arith, length}
+use Rattle.std.specs.Prelude.{IsPermutation, IsSome, is_some}
 use Rattle.std.specs.List.{AllByRecursion}
 use Rattle.std.proofs.lemmas.Bool.Decides.{nat_tests}
 use Rattle.std.proofs.lemmas.List.{get_or-set_other}
@@ -8,28 +8,21 @@ use Rattle.sqlite.specs.Effect.{Database}
 use Rattle.exam_model.specs.Enrolments.{Enrolled}
 use Rattle.exam_model.specs.Fits.{Fits}
 use Rattle.exam_model.specs.Instance.{Session}
-use Rattle.exam_model.specs.Refusing.{◌>>=◌, unless, else_err}
+use Rattle.exam_model.specs.Refusing.{◌>>=◌, unless}
 use Rattle.exam_model.specs.Timetable.{Placing, place_of}
 use Rattle.exam_rules.specs.declared.breach.Breach.{Breach}
 use Rattle.exam_rules.specs.Breaches.{least_breach_of}
 use Rattle.exam_score.specs.Changes.{DiffersAtMost}
-use Rattle.exam_score.specs.Penalty.{Penalty, total_of}
 use Rattle.exam_score.specs.Track.{track}
-use Rattle.exam_draft.specs.Edits.{Edited, exam_exists, place_exists, is_placed, if_unbroken, unless_broken}
+use Rattle.exam_draft.specs.Edits.{exam_exists, place_exists, is_placed, unless_broken}
 use Rattle.office_tables.specs.Tables.{Tables, Stands as Held}
 use Rattle.office_tables.specs.Changes.{with_draft, without_draft}
 use Rattle.office_tables.specs.declared.rows.DraftRow.{DraftRow}
-use Rattle.office_tables.specs.declared.rows.SlotRow.{SlotRow}
 use Rattle.office_store.specs.Changes.{edit_put}
-use Rattle.office_store.specs.Commands.{draft_edited, draft_shown, edited, exams_of, named, penalty_now}
-use Rattle.office_store.specs.Reading.{AreRowsOf}
-use Rattle.office_store.specs.Running.{Edits, IsFault}
-use Rattle.office_store.specs.declared.fault.Refusal.TheVariants as refusal
-use Rattle.office_store.specs.declared.fault.StoreFault.{StoreFault}
-use Rattle.office_store.specs.declared.fault.StoreFault.TheVariants.{BadSchema, NoDraft, Refused, Store}
+use Rattle.office_store.specs.Commands.{edited, exams_of}
 use Rattle.office_store.specs.declared.edit.Edit.{Edit}
 use Rattle.office_store.specs.declared.edit.Edit.TheVariants as edit
-use Rattle.office_records.specs.Office.{IsOffice, OfficeState, Records, memory_of, set_at}
+use Rattle.office_records.specs.Office.{Records, set_at}
 use Rattle.office_records.specs.Stands.{StandsLoaded, IsSound, IsScoredRow, IsKept, drafts_at, slots_at, slots_from, slot_rows, parts_of, once}
 use Rattle.office_records.proofs.KeyLemmas.{none_of, all_of_other, each_left}
 use Rattle.office_store.proofs.DraftLemmas.{made_records}
@@ -43,8 +36,8 @@ pub record Touches (exams : List ℕ) (old new : Placing) (count : ℕ) : Type 0
   pub others : DiffersAtMost exams old new
 
 -- what went on was not refused
-goes_on : {B F : Type 0} (b : Bool) (f : F) (x : Result B F) (y : B) → (unless b f >>= (λ _. x)) ≡ Ok y
-    → (b ≡ true) × (x ≡ Ok y)
+goes_on : {B F : Type 0} (b : Bool) (f : F) (x : Result B F) (y : B)
+    → (unless b f >>= (λ _. x)) ≡ Ok y → (b ≡ true) × (x ≡ Ok y)
 goes_on true f x y h = (refl, h)
 goes_on false f x y h = absurd cc
 
@@ -55,17 +48,19 @@ unbroken (Some b) S new h = absurd cc
 one_differs : (T : Placing) (e : ℕ) (o : _) → DiffersAtMost (e ∷ []) T (set T e o)
 one_differs T e o x none = get_or-set_other T e x o None (grind (arith, nat_tests, none))
 
-two_differ : (T : Placing) (a b : ℕ) (p q : _) → DiffersAtMost (a ∷ (b ∷ [])) T (set (set T a p) b q)
+two_differ : (T : Placing) (a b : ℕ) (p q : _)
+    → DiffersAtMost (a ∷ (b ∷ [])) T (set (set T a p) b q)
 two_differ T a b p q x none =
     get_or-set_other (set T a p) b x q None (grind (arith, nat_tests, none))
     ∙ get_or-set_other T a x p None (grind (arith, nat_tests, none))
 
-pub touched : (I : Session) (E : Enrolled) (T new : Placing) (change : Edit) → edited I E T change ≡ Ok new
-    → Touches (exams_of change) T new (length I.exams)
+pub touched : (I : Session) (E : Enrolled) (T new : Placing) (change : Edit)
+    → edited I E T change ≡ Ok new → Touches (exams_of change) T new (length I.exams)
 touched I E T new (edit.Place e at) h =
     let known = goes_on (exam_exists I e && place_exists I at) _ _ _ h in
     let free = goes_on (not (is_placed T e)) _ _ _ known.1 in
-    let is = unbroken (least_breach_of I E (set T e (Some at)) (e ∷ [])) (set T e (Some at)) new free.1 in
+    let put = set T e (Some at) in
+    let is = unbroken (least_breach_of I E put (e ∷ [])) put new free.1 in
     record {
       exist = (grind (arith, nat_tests, known.0), tt);
       others = subst (DiffersAtMost (e ∷ []) T) is (one_differs T e (Some at));
@@ -73,7 +68,8 @@ touched I E T new (edit.Place e at) h =
 touched I E T new (edit.Move e at) h =
     let known = goes_on (exam_exists I e && place_exists I at) _ _ _ h in
     let placed = goes_on (is_placed T e) _ _ _ known.1 in
-    let is = unbroken (least_breach_of I E (set T e (Some at)) (e ∷ [])) (set T e (Some at)) new placed.1 in
+    let put = set T e (Some at) in
+    let is = unbroken (least_breach_of I E put (e ∷ [])) put new placed.1 in
     record {
       exist = (grind (arith, nat_tests, known.0), tt);
       others = subst (DiffersAtMost (e ∷ []) T) is (one_differs T e (Some at));
@@ -86,7 +82,8 @@ touched I E T new (edit.Swap a b) h =
     let is = unbroken (least_breach_of I E swapped (a ∷ (b ∷ []))) swapped new two.1 in
     record {
       exist = (grind (arith, nat_tests, known.0), (grind (arith, nat_tests, known.0), tt));
-      others = subst (DiffersAtMost (a ∷ (b ∷ [])) T) is (two_differ T a b (place_of T b) (place_of T a));
+      others = subst (DiffersAtMost (a ∷ (b ∷ [])) T) is
+          (two_differ T a b (place_of T b) (place_of T a));
     }
 touched I E T new (edit.Clear e) h =
     let known = goes_on (exam_exists I e) _ _ _ h in
@@ -117,14 +114,16 @@ module _ (t : Tables) (r : Records) (T new : Placing) (row : DraftRow) (exams : 
       let same : n ≡ row.no = grind (arith, nat_tests, e) in
       let passes : eqb row.no n ≡ true = grind (arith, nat_tests, e) in
       let others = filter (λ (x : DraftRow). not (eqb x.no row.no)) t.draft in
-      ap (λ c. map (λ (x : DraftRow). x.no) (cond c (row ∷ drafts_at n others) (drafts_at n others))) passes
+      ap (λ c. map (λ (x : DraftRow). x.no)
+      (cond c (row ∷ drafts_at n others) (drafts_at n others))) passes
       ∙ ap (λ l. row.no ∷ map (λ (x : DraftRow). x.no) l)
       (none_of (λ (x : DraftRow). x.no) row.no n same t.draft)
       ∙ ap (λ m. m ∷ []) (sym same)
   edit_draft n false e =
       let fails : eqb row.no n ≡ false = grind (arith, nat_tests, e) in
       let others = filter (λ (x : DraftRow). not (eqb x.no row.no)) t.draft in
-      ap (λ c. map (λ (x : DraftRow). x.no) (cond c (row ∷ drafts_at n others) (drafts_at n others))) fails
+      ap (λ c. map (λ (x : DraftRow). x.no)
+      (cond c (row ∷ drafts_at n others) (drafts_at n others))) fails
       ∙ ap (map (λ (x : DraftRow). x.no)) (all_of_other (λ (x : DraftRow). x.no) row.no n e t.draft)
       ∙ h.draft n
 
@@ -135,9 +134,10 @@ module _ (t : Tables) (r : Records) (T new : Placing) (row : DraftRow) (exams : 
     edit_slot n true e =
         let same : row.no ≡ n = grind (arith, nat_tests, e) in
         let own : IsPermutation (slots_at row.no t.slot) (slots_from row.no 0 T)
-        = subst (λ o. IsPermutation (slots_at row.no t.slot) (slot_rows row.no o)) there (h.slot row.no) in
-        subst (λ m. IsPermutation (slots_at m (edit_put row new exams t).slot) (slots_from m 0 new)) same
-        (places_put row.no new exams T replaced long touches.exist touches.others own)
+        = subst (λ o. IsPermutation (slots_at row.no t.slot) (slot_rows row.no o)) there
+        (h.slot row.no) in
+        subst (λ m. IsPermutation (slots_at m (edit_put row new exams t).slot) (slots_from m 0 new))
+        same (places_put row.no new exams T replaced long touches.exist touches.others own)
     edit_slot n false e =
         subst (λ l. IsPermutation l (slot_rows n (r.draft n)))
         (sym (others_as_before row.no new n e exams replaced)) (h.slot n)
@@ -172,7 +172,8 @@ module _ (t : Tables) (r : Records) (T new : Placing) (row : DraftRow) (exams : 
           → parts_of row ≡ track r.session r.enrolments S
       own S e =
           let same : eqb row.no row.no ≡ true = grind (arith, nat_tests) in
-          let put : Some new ≡ Some S = sym (ap (λ b. cond b (Some new) (r.draft row.no)) same) ∙ e in
+          let put : Some new ≡ Some S
+          = sym (ap (λ b. cond b (Some new) (r.draft row.no)) same) ∙ e in
           scored ∙ ap (track r.session r.enrolments) (let is : new ≡ S = cc in is)
 
       other : (x : DraftRow) → IsScoredRow r x → eqb x.no row.no ≡ false → IsScoredRow after x
@@ -196,146 +197,7 @@ edit_kept a b r T new row change there made scored fits kept makes =
       held = edit_put row new (exams_of change) kept.held;
       tables = makes kept.held kept.tables;
       stands = edit_stands kept.held r T new row (exams_of change) kept.stands there long all;
-      sound = edit_sound kept.held r T new row (exams_of change) kept.stands there scored kept.sound;
+      sound = edit_sound kept.held r T new row (exams_of change) kept.stands there scored
+          kept.sound;
       office = made_records r row.no new number.0 number.1 fits kept.office;
     }
-
--- ---- what the command gives
-
-ok_is : {X F : Type 0} {x y : X} → ◌≡◌ {A = Result X F} (Ok x) (Ok y) → x ≡ y
-ok_is e = cc
-
--- a draft that is there
-pub there_of : (d : ℕ) (r : Records) (T : Placing) (P : Penalty) (new : OfficeState)
-    → draft_shown d (Some r) ≡ Ok ((T, P), new) → r.draft d ≡ Some T
-there_of d r T P new h = go (r.draft d) refl
-  where
-    go : (o : Option Placing) → r.draft d ≡ o → r.draft d ≡ Some T
-    go None is = absurd (let e = rw is at h in cc)
-    go (Some S) is =
-        let shown = rw is at h in
-        is ∙ ap (λ (x : (Placing × Penalty) × OfficeState). Some x.0.0) (ok_is shown)
-
--- a draft that isn't there is not edited either
-not_there : (d : ℕ) (change : Edit) (r : Records) (e : StoreFault) → draft_shown d (Some r) ≡ Err e
-    → draft_edited d change (Some r) ≡ Err e
-not_there d change r e h = go (r.draft d) refl
-  where
-    go : (o : Option Placing) → r.draft d ≡ o → draft_edited d change (Some r) ≡ Err e
-    go None is = rw is (let none = rw is at h in cc)
-    go (Some S) is = absurd (let shown = rw is at h in cc)
-
-pub not_shown : (d : ℕ) (change : Edit) (r : Records) (e : StoreFault) → IsFault (draft_shown d (Some r)) e
-    → IsFault (draft_edited d change (Some r)) e
-not_shown d change r Store h = tt
-not_shown d change r BadSchema h = h
-not_shown d change r e h = not_there d change r e h
-
-pub edit_gives : (d : ℕ) (change : Edit) (r : Records) (T new : Placing) → r.draft d ≡ Some T
-    → edited r.session r.enrolments T change ≡ Ok new
-    → draft_edited d change (Some r)
-    ≡ Ok (penalty_now r new, Some (record r { draft = set_at d (Some new) r.draft }))
-edit_gives d change r T new there made = rw (there, made) refl
-
-refused_so : (d : ℕ) (change : Edit) (r : Records) (T : Placing) (e : StoreFault) → r.draft d ≡ Some T
-    → named (λ f. Refused (refusal.Edit f)) (edited r.session r.enrolments T change) ≡ Err e
-    → draft_edited d change (Some r) ≡ Err e
-refused_so d change r T e there is = rw (there, is) refl
-
-pub edit_refused : (d : ℕ) (change : Edit) (r : Records) (T : Placing) (e : StoreFault) → r.draft d ≡ Some T
-    → (e ≡ Store) ⊎ (named (λ f. Refused (refusal.Edit f)) (edited r.session r.enrolments T change) ≡ Err e)
-    → IsFault (draft_edited d change (Some r)) e
-edit_refused d change r T e there (inl is) =
-    subst (IsFault (draft_edited d change (Some r))) (sym is) tt
-edit_refused d change r T e there (inr is) = own (edited r.session r.enrolments T change) e is (refused_so d change r T e there is)
-  where
-    own : (x : Edited) (e : StoreFault) → named (λ f. Refused (refusal.Edit f)) x ≡ Err e
-        → draft_edited d change (Some r) ≡ Err e → IsFault (draft_edited d change (Some r)) e
-    own x Store is gives = tt
-    own (Ok T) BadSchema is gives = absurd cc
-    own (Err f) BadSchema is gives = absurd cc
-    own x e is gives = gives
-
-pub edit_comes : (d : ℕ) (change : Edit) (r : Records) (I : Session) (E : Enrolled) (T : Placing)
-    (result : Result (Placing × Penalty) StoreFault) → memory_of (Some r) ≡ Some (I, E) → r.draft d ≡ Some T
-    → IfOk result (λ new. edited I E T change ≡ Ok new.0)
-    → IfErr result (λ e. (e ≡ Store)
-    ⊎ (named (λ f. Refused (refusal.Edit f)) (edited I E T change) ≡ Err e))
-    → Edits d change r result
-edit_comes d change r I E T result memory there ok err =
-    go result ok err
-  where
-    both : ◌≡◌ {A = Session × Enrolled} (r.session, r.enrolments) (I, E)
-    both = cc
-
-    same : edited r.session r.enrolments T change ≡ edited I E T change
-    same =
-        ap (λ (p : Session × Enrolled). edited p.0 p.1 T change) both
-
-    go : (x : Result (Placing × Penalty) StoreFault) → IfOk x (λ new. edited I E T change ≡ Ok new.0)
-        → IfErr x (λ e. (e ≡ Store) ⊎ (named (λ f. Refused (refusal.Edit f)) (edited I E T change) ≡ Err e))
-        → Edits d change r x
-    go (Ok new) ok err = (T, there, same ∙ ok)
-    go (Err e) ok err =
-        edit_refused d change r T e there
-        (subst (λ (x : Edited). (e ≡ Store) ⊎ (named (λ f. Refused (refusal.Edit f)) x ≡ Err e)) (sym same) err)
-
--- ---- what is stored
-
--- the office of what is at hand, and what the edit makes of its draft
-pub record IsEditedOf (o : OfficeState) (I : Session) (E : Enrolled) (d : ℕ) (change : Edit)
-    (result : Result (Placing × Penalty) StoreFault) : Type 0 where
-  pub records : Records
-  pub is : o ≡ Some records
-  pub both : ◌≡◌ {A = Session × Enrolled} (records.session, records.enrolments) (I, E)
-  pub edits : Edits d change records result
-
-pub edited_of : (o : OfficeState) (I : Session) (E : Enrolled) (d : ℕ) (change : Edit)
-    (result : Result (Placing × Penalty) StoreFault) (rows : List DraftRow) (slots : List SlotRow)
-    → IsOffice o → memory_of o ≡ Some (I, E) → AreRowsOf o d rows slots
-    → ((r : Records) → IsOffice (Some r) → memory_of (Some r) ≡ Some (I, E)
-      → AreRowsOf (Some r) d rows slots → Edits d change r result)
-    → IsEditedOf o I E d change result
-edited_of None I E d change result rows slots office memory are edits = absurd cc
-edited_of (Some r) I E d change result rows slots office memory are edits = record {
-  records = r;
-  is = refl;
-  both = cc;
-  edits = edits r office memory are;
-}
-
--- what is stored is what the command gives
-pub record IsStored (b : Database) (o : OfficeState) (I : Session) (E : Enrolled) (d : ℕ)
-    (change : Edit) (P : Penalty) : Type 0 where
-  pub office : OfficeState
-  pub gives : draft_edited d change o ≡ Ok (total_of P, office)
-  pub kept : IsKept b office
-  pub memory : memory_of office ≡ Some (I, E)
-
-module _ (a b : Database) (o : OfficeState) (I : Session) (E : Enrolled) (d : ℕ) (change : Edit)
-    (new : Placing) (P : Penalty) (row : DraftRow) (of : IsEditedOf o I E d change (Ok (new, P)))
-    (number : row.no ≡ d) (parts : parts_of row ≡ P) (scored : P ≡ track I E new) (fits : Fits I E new)
-    (kept : IsKept a o)
-    (makes : (t : Tables) → Held a t → Held b (edit_put row new (exams_of change) t)) where
-  abbrev edited_office : OfficeState
-  edited_office = Some (record of.records { draft = set_at d (Some new) of.records.draft })
-
-  penalty_is : P ≡ track of.records.session of.records.enrolments new
-  penalty_is = scored ∙ sym (ap (λ (p : Session × Enrolled). track p.0 p.1 new) of.both)
-
-  gives : draft_edited d change o ≡ Ok (total_of P, edited_office)
-  gives =
-      ap (draft_edited d change) of.is
-      ∙ edit_gives d change of.records of.edits.0 new of.edits.1 of.edits.2
-      ∙ ap (λ (p : Penalty). Ok (total_of p, edited_office)) (sym penalty_is)
-
-  is_kept : IsKept b edited_office
-  is_kept =
-      subst (λ n. IsKept b (Some (record of.records { draft = set_at n (Some new) of.records.draft }))) number
-      (edit_kept a b of.records of.edits.0 new row change (ap of.records.draft number ∙ of.edits.1)
-      of.edits.2 (parts ∙ penalty_is)
-      (subst (λ (p : Session × Enrolled). Fits p.0 p.1 new) (sym of.both) fits)
-      (subst (IsKept a) of.is kept) makes)
-
-  pub edit_stored : IsStored b o I E d change P
-  edit_stored = record { office = edited_office; gives = gives; kept = is_kept; memory = ap Some of.both }

@@ -8,3 +8,4 @@ pub mod ReadLemmas
 pub mod CallLemmas
 pub mod SlotLemmas
 pub mod EditLemmas
+pub mod EditCallLemmas

@@ -1,6 +1,6 @@
 -- The rows of places that stand elsewhere after an edit.
 use Rattle.std.proofs.Common.{◌≡◌, ◌≢◌, ℕ, zero, suc, ◌+◌, ◌<◌, ◌≤◌, Bool, true, false, cond, not, eqb, ◌&&◌, ◌||◌, List, [], ◌∷◌, ◌++◌, filter, set, Option, Some, None, refl, sym, ◌∙◌, ap, subst, arith, length, take, get_or, inl, inr}
-use Rattle.std.specs.Prelude.{IsPermutation, All}
+use Rattle.std.specs.Prelude.{IsPermutation}
 use Rattle.std.specs.List.{AllByRecursion}
 use Rattle.std.proofs.lemmas.Bool.{cases_Bool}
 use Rattle.std.proofs.lemmas.Bool.Decides.{nat_tests}
@@ -110,7 +110,8 @@ module _ (d e : ℕ) where
   others_left : (n : ℕ) → eqb n d ≡ false → (t : Tables)
       → slots_at n (but_slot d e t.slot) ≡ slots_at n t.slot
   others_left n f t =
-      filter-filter (λ (s : SlotRow). eqb s.draft n) (λ s. not (is_slot d e s)) (other_draft n f) t.slot
+      filter-filter (λ (s : SlotRow). eqb s.draft n) (λ s. not (is_slot d e s)) (other_draft n f)
+      t.slot
 
   -- the places of other drafts are as they were
   others_put : (n : ℕ) → eqb n d ≡ false → (o : Option Place) (t : Tables)
@@ -122,7 +123,8 @@ module _ (d e : ℕ) where
       (slots_at n (but_slot d e t.slot))) fails
       ∙ others_left n f t
 
-  module _ (T : Placing) (t : Tables) (stands : IsPermutation (slots_at d t.slot) (slots_from d 0 T)) where
+  module _ (T : Placing) (t : Tables)
+      (stands : IsPermutation (slots_at d t.slot) (slots_from d 0 T)) where
     left_there : IsPermutation (slots_at d (but_slot d e t.slot)) (slots_from d 0 (set T e None))
     left_there =
         subst (λ l. IsPermutation l (slots_from d 0 (set T e None)))
@@ -200,8 +202,8 @@ pub put_nowhere : (db : Database) (d e n : ℕ) (o : Option Place) (t : Tables) 
     → Held db (without_slot d n t) → Held db (slot_put d e o t)
 put_nowhere db d e n o t nowhere exam h = rw (nowhere, ← exam) h
 
-pub put_there : (db : Database) (d e n : ℕ) (o : Option Place) (at : Place) (row : SlotRow) (t : Tables)
-    → o ≡ Some at → n ≡ e → row ≡ slot_row d e at
+pub put_there : (db : Database) (d e n : ℕ) (o : Option Place) (at : Place) (row : SlotRow)
+    (t : Tables) → o ≡ Some at → n ≡ e → row ≡ slot_row d e at
     → Held db (with_slot row (without_slot d n t)) → Held db (slot_put d e o t)
 put_there db d e n o at row t there exam is h = rw (there, ← is, ← exam) h
 

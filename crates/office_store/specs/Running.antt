@@ -1,7 +1,5 @@
 -- What a call of the office makes of the office that its file stands for.
-use Rattle.std.specs.Prelude.{◌≡◌, ◌⊎◌, ℕ, false, IsTrue, Option, Some, None, option_map, Result, Ok, Err}
-use Rattle.exam_model.specs.Enrolments.{Enrolled}
-use Rattle.exam_model.specs.Instance.{Session}
+use Rattle.std.specs.Prelude.{◌≡◌, ℕ, IsTrue, Some, Result, Ok, Err}
 use Rattle.exam_model.specs.Timetable.{Placing}
 use Rattle.exam_score.specs.Penalty.{Penalty}
 use Rattle.sqlite.specs.Held.{Held, state}

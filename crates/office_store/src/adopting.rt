@@ -16,9 +16,9 @@ use sqlite::{Alter, Connection};
 use std::alloc::Global;
 
 impl<S: Alter> Office<S> {
-    /// Takes over a database that holds an office. `BadSchema`: the tables are not those of an office,
-    /// or what they hold is not what it should be. `Store`: a statement failed, memory was refused, or
-    /// a transaction is open. A refusal hands the connection back; nothing changes.
+    /// Takes over a database that holds an office. `BadSchema`: the tables are not those of an
+    /// office, or what they hold is not what it should be. `Store`: a statement failed, memory was
+    /// refused, or a transaction is open. A refusal hands the connection back; nothing changes.
     pub fn adopt(
         alloc: Global,
         conn: Connection<S>,
@@ -57,7 +57,8 @@ fn kept_in<S: Alter>(
     ensures together { IfOk result AreTogether }
     ensures same { HasCleanDisk (state S.Store conn.new) → OnOk result ((conn.new ≡ conn.old)
         ⊎ IsUnchanged (state S.Store conn.old) (state S.Store conn.new)) }
-    ensures none { HasCleanDisk (state S.Store conn.new) → IfErr result (λ e. e ≡ StoreFault.BadSchema
+    ensures none { HasCleanDisk (state S.Store conn.new)
+        → IfErr result (λ e. e ≡ StoreFault.BadSchema
         → (o : OfficeState) → IsKept (state S.Store conn.old).now o → ⊥) }
     ensures keeps { HasCleanDisk (state S.Store conn.new)
         → Keeps (state S.Store conn.old) (state S.Store conn.new) }

@@ -1,5 +1,5 @@
 // Drafts are edited.
-ghost use Rattle.std.specs.Prelude.{◌≡◌, ◌⊎◌, ◌<◌, length, All, Err, IfErr, IfOk, Ok, OnErr, OnOk, Some};
+ghost use Rattle.std.specs.Prelude.{◌≡◌, ◌⊎◌, ◌<◌, length, All, Err, IfErr, IfOk, Ok, OnOk, Some};
 ghost use Rattle.sqlite.specs.Held.{state};
 ghost use Rattle.sqlite.specs.State.{HasCleanDisk};
 ghost use Rattle.exam_model.specs.Fits.{Fits};
@@ -23,11 +23,12 @@ use sqlite::Alter;
 use std::alloc::{AllocError, Global};
 
 impl<S: Alter> Office<S> {
-    /// Edits a draft, and answers its penalty. `NotLoaded`, `NoDraft`: there is none of this number,
-    /// then `Refused` with the edit's own fault.
+    /// Edits a draft, and answers its penalty. `NotLoaded`, `NoDraft`: there is none of this
+    /// number, then `Refused` with the edit's own fault.
     pub fn edit(&mut self, alloc: Global, number: u32, edit: Edit) -> Result<u64, StoreFault>
         ensures runs { Runs S.Store (draft_edited number edit) self.old self.new result }
-        ensures clean { HasCleanDisk (state S.Store self.new) → HasCleanDisk (state S.Store self.old) }
+        ensures clean { HasCleanDisk (state S.Store self.new)
+            → HasCleanDisk (state S.Store self.old) }
     {
         let found = self.draft_rows(alloc, number)?;
         let Some((instance, enrolments)) = &self.kept else {

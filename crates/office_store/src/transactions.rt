@@ -164,7 +164,8 @@ fn slot_in<S: Alter>(
     place: Option<Place>,
 ) -> Result<(), Error>
     ensures same_reference { tx.new.conn.ghost_name ≡ tx.old.conn.ghost_name }
-    ensures makes { Changes S.Store (slot_put draft exam place) tx.old.conn.now tx.new.conn.now result }
+    ensures makes { Changes S.Store (slot_put draft exam place) tx.old.conn.now tx.new.conn.now
+        result }
     ensures within { Within (state S.Store tx.old.conn.now) (state S.Store tx.new.conn.now) }
 {
     delete_slot(tx, draft, exam.get())?;

@@ -12,7 +12,7 @@ pub struct Found {
 }
 
 // The part that the session has of them.
-#[derive(Debug, Drop)]
+#[derive(Drop)]
 pub struct FoundSession {
     pub meta: MetaRow,
     pub owners: Vec<OwnerRow>,
@@ -20,7 +20,7 @@ pub struct FoundSession {
 }
 
 // The part that the drafts have.
-#[derive(Debug, Drop)]
+#[derive(Drop)]
 pub struct FoundDrafts {
     pub drafts: Vec<DraftRow>,
     pub slots: Vec<SlotRow>,

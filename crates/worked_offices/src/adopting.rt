@@ -102,46 +102,6 @@ fn draft_survives_adopt(rt: HostRuntime) -> Result<(), Fail> {
     stands(&rt, rt.alloc(), &mut adopted)
 }
 
-// Adopts what a statement makes of an office, which is refused; another statement undoes it.
-fn altered<R: Abort>(
-    rt: &R,
-    alloc: Global,
-    conn: Connection<MemStore>,
-    text: &str,
-    undo: &str,
-) -> Result<Connection<MemStore>, Fail> {
-    let mut conn = conn;
-    let _rows = conn.execute(text, &[])?;
-    let (fault, mut conn) = refused(Office::adopt(alloc, conn))?;
-    assert_same(rt, fault, StoreFault::BadSchema, text);
-    let _rows = conn.execute(undo, &[])?;
-    Ok(conn)
-}
-
-#[test]
-fn other_tables_are_not_adopted(rt: HostRuntime) -> Result<(), Fail> {
-    let mut conn = worked_on(&rt, rt.alloc())?.release();
-    for (text, undo) in [
-        (
-            "UPDATE draft SET spread = spread + 1",
-            "UPDATE draft SET spread = spread - 1",
-        ),
-        ("CREATE TABLE more (x INTEGER)", "DROP TABLE more"),
-        (
-            "INSERT INTO batch (no, bytes, added, dropped, unchanged) VALUES (1, x'', 0, 0, 0)",
-            "DELETE FROM batch",
-        ),
-        (
-            "UPDATE meta SET published = 1",
-            "UPDATE meta SET published = 0",
-        ),
-    ] {
-        conn = altered(&rt, rt.alloc(), conn, text, undo)?;
-    }
-    let mut adopted = office_of(Office::adopt(rt.alloc(), conn))?;
-    stands(&rt, rt.alloc(), &mut adopted)
-}
-
 // A connection to these files.
 fn opened(alloc: Global, files: Files<Memory>) -> Result<Connection<FileStore<Memory>>, Error>
     requires { IsTrue (memory_is_usable files.log) × IsTrue (memory_is_usable files.db) }

@@ -6,8 +6,12 @@ mod adopting;
 #[cfg(test)]
 mod drafting;
 #[cfg(test)]
+mod editing;
+#[cfg(test)]
 mod given;
 #[cfg(test)]
 mod offices;
 #[cfg(test)]
 mod tables;
+#[cfg(test)]
+mod wrong_tables;

@@ -113,7 +113,7 @@ fn owners_come_and_go(rt: HostRuntime) -> Result<(), Fail> {
 }
 
 // Why no office was made, if none was.
-fn refusal(
+pub(crate) fn refusal(
     made: Result<Office<MemStore>, (StoreFault, Connection<MemStore>)>,
 ) -> Option<StoreFault> {
     match made {

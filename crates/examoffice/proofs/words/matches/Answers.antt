@@ -3,7 +3,7 @@ use Rattle.std.proofs.lemmas.Result.{IfOk-weaker}
 use Rattle.clap.specs.Words.{FailsBy, app_of, is_simple, new_app, subcommand_of, with_subcommand}
 use Rattle.clap.specs.Faults.{fault_of, is_simple_and_free}
 use Rattle.clap.specs.Simple.{app_of_fields}
-use Rattle.examoffice.specs.Program.{check_app, program, wants_subcommand}
+use Rattle.examoffice.specs.Program.{check_app, load_app, program, wants_subcommand}
 use Rattle.examoffice.proofs.words.matches.Goals as goal
 
 -- the command that is built is the program
@@ -13,8 +13,12 @@ whole_is c =
     ap app_of_fields c.about.ensures ∙ c.new.ensures.app in
     let wants : app_of c.subcommand_required.result ≡ wants_subcommand (new_app (codes "examoffice")) =
     ap app_of_fields c.subcommand_required.ensures ∙ ap wants_subcommand named in
-    c.in_ok-check.ensures _ _ c.in_ok-whole.ensures
-    ∙ ap (λ a. with_subcommand a check_app.top) wants
+    let judges : app_of c.in_ok-subcommand.field-0 ≡ with_subcommand
+    (wants_subcommand (new_app (codes "examoffice"))) check_app.top =
+    c.in_ok-check.ensures _ _ c.in_ok-subcommand.ensures
+    ∙ ap (λ a. with_subcommand a check_app.top) wants in
+    c.in_ok-load.ensures _ _ c.in_ok-whole.ensures
+    ∙ ap (λ a. with_subcommand a load_app.top) judges
 
 pub returns-clause-found : goal.returns-clause-found
 returns-clause-found c =

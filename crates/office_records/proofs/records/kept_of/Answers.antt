@@ -1,4 +1,5 @@
-use Rattle.std.proofs.Common.{◌≡◌, ◌↔◌, ℕ, Bool, false, IsTrue, Result, Ok, Err, Some, None, sym, ◌∙◌, subst}
+use Rattle.std.proofs.Common.{◌≡◌, ◌↔◌, ℕ, Bool, false, IsTrue, Result, Ok, Err, Some, None, sym}
+use Rattle.std.proofs.Common.{◌∙◌, subst}
 use Rattle.std.specs.Prelude.{IfErr, Option}
 use Rattle.std.specs.Result.{IsErrAnd}
 use Rattle.exam_model.specs.Timetable.{Placing}
@@ -16,7 +17,8 @@ abbrev StandsForNone : Tables → Type 0
 StandsForNone t = (office : OfficeState) → Stands t office → IsSound t office → IsOffice office → ⊥
 
 -- it is no office with a session, and not the one without
-refused : {X : Type 0} (t : Tables) (unloaded : Bool) (fault : RecordFault) (r : Result X RecordFault)
+refused : {X : Type 0} (t : Tables) (unloaded : Bool) (fault : RecordFault)
+    (r : Result X RecordFault)
     → (IsTrue unloaded ↔ (t ≡ empty_tables)) → unloaded ≡ false → IsErrAnd r (λ e. e ≡ fault)
     → (fault ≡ BadRows → (r : Records) → StandsLoaded t r → IsSound t (Some r) → AreRecords r → ⊥)
     → IfErr r (λ e. e ≡ BadRows → StandsForNone t)
@@ -46,7 +48,8 @@ returns-in_err-enrolments-clause-none c =
     c.from_residual-in_err-enrolments.result c.is_unloaded.ensures c.if-is_unloaded.false
     c.from_residual-in_err-enrolments.ensures.1
     (λ bad r stands sound is. none bad r.enrolments
-    (subst (λ rows. AreEnrolRows c.in_ok-instance.instance rows r.enrolments) (sym c.deref-2.ensures.value)
+    (subst (λ rows. AreEnrolRows c.in_ok-instance.instance rows r.enrolments)
+    (sym c.deref-2.ensures.value)
     (enrol_rows found r stands sound is c.in_ok-instance.instance c.in_ok-instance.ensures.is)))
 
 pub returns-in_err-check_drafts-clause-none : goal.returns-in_err-check_drafts-clause-none

@@ -1,4 +1,5 @@
-use Rattle.std.proofs.Common.{◌≡◌, ◌≢◌, ℕ, Bool, true, false, not, ◌&&◌, List, [], ◌∷◌, Result, Ok, Err, refl, sym, ◌∙◌, ap, subst, nat_eq}
+use Rattle.std.proofs.Common.{◌≡◌, ◌≢◌, ℕ, Bool, true, false, not, ◌&&◌, List, [], ◌∷◌, Result, Ok}
+use Rattle.std.proofs.Common.{Err, refl, sym, ◌∙◌, ap, subst, nat_eq}
 use Rattle.std.specs.Prelude.{IfErr}
 use Rattle.std.specs.Cmp.Lexicographic.{pointwise}
 use Rattle.std.specs.Result.{IsErrAnd}
@@ -49,7 +50,7 @@ pub returns-then-ne-clause-none : goal.returns-then-ne-clause-none
 returns-then-ne-clause-none c bad I is =
     let m = meta_from c.args.row.now in
     let J = c.in_ok-instance.instance in
-    let read = subst (λ b. instance_in b ≡ Ok (J, c.in_ok-instance._nobody)) c.deref.ensures.value
+    let read = subst (λ b. instance_in b ≡ Ok (J, c.in_ok-instance._students)) c.deref.ensures.value
     c.in_ok-instance.ensures.exact in
     let same : J ≡ I = row_of m J I _ read is in
     let row : (meta_row J).instance ≡ m.instance

@@ -1,6 +1,6 @@
 use Rattle.std.proofs.Common.{rules, ◌≡◌, Some, Err, sym, subst}
 use Rattle.office_store.specs.Running.{Edits}
-use Rattle.office_store.proofs.EditLemmas.{there_of, not_shown, edit_comes}
+use Rattle.office_store.proofs.EditCallLemmas.{there_of, not_shown, edit_comes}
 use Rattle.office_store.proofs.editing.edited_draft.Goals as goal
 
 pub returns-in_err-timetable-clause-edits : goal.returns-in_err-timetable-clause-edits

@@ -1,5 +1,6 @@
 use Rattle.std.proofs.lemmas.Result.{on_ok_weaker}
 use Rattle.sqlite.specs.Held.{state}
+use Rattle.office_tables.specs.declared.rows.SlotRow.{SlotRow}
 use Rattle.office_tables.proofs.Inside.{clean_before}
 use Rattle.office_store.proofs.SlotLemmas.{put_nowhere, put_there}
 use Rattle.office_store.proofs.transactions.slot_in.Goals as goal
@@ -18,11 +19,16 @@ returns-clause-makes g c clean inside =
     let after_2 = state g.S.Store c.insert_slot.new.tx.conn.now in
     let clean_1 = clean_before after_1 after_2 c.insert_slot.ensures.within clean in
     let step_1 = c.in_ok-delete_slot.ensures.makes clean_1 inside in
+    let row : SlotRow = record {
+      draft = c.args.draft;
+      exam = c.get-2.result;
+      period = c.get-3.result;
+      room = c.get-4.result;
+    } in
     on_ok_weaker c.insert_slot.result
     (λ last. (
       last.0,
-      λ t stands. put_there _ c.args.draft c.args.exam c.get.result c.args.place c.in-Some.at
-          (record { draft = c.args.draft; exam = c.get-2.result; period = c.get-3.result; room = c.get-4.result })
-          t c.in-Some.is c.get.ensures (cc) (last.1 _ (step_1.1 t stands)),
+      λ t stands. put_there _ c.args.draft c.args.exam c.get.result c.args.place c.in-Some.at row t
+          c.in-Some.is c.get.ensures (cc) (last.1 _ (step_1.1 t stands)),
     ))
     (c.insert_slot.ensures.makes clean step_1.0)

@@ -1,6 +1,6 @@
 use Rattle.std.proofs.Common.{rules, refl, sym, subst}
 use Rattle.sqlite.specs.Held.{state}
-use Rattle.office_tables.specs.Tables.{Tables, Stands}
+use Rattle.office_tables.specs.Tables.{Stands}
 use Rattle.office_tables.proofs.Inside.{within_then, within_same, clean_before}
 use Rattle.office_store.proofs.SlotLemmas.{put_all, put_more}
 use Rattle.office_store.proofs.transactions.slots_in.Goals as goal
@@ -17,7 +17,8 @@ loop-exam-preserved g c =
     record {
       same = search rules;
       makes = λ clean inside.
-          let first = c.loop-exam.invariant.makes (clean_before mid new c.slot_in.ensures.within clean) inside in
+          let clean_mid = clean_before mid new c.slot_in.ensures.within clean in
+          let first = c.loop-exam.invariant.makes clean_mid inside in
           let then = c.in_ok-slot_in.ensures.makes clean first.0 in (
             then.0,
             λ t h. subst (Stands new.now)

@@ -14,7 +14,8 @@ invariant_of-result g c =
       (λ clean opened.
           let here = c.in-Ok.ensures.kept clean in (
             here.0,
-            kept_still g.S.Store c.args.conn c.kept_in.new.conn here.0 (c.in-Ok.ensures.same clean) here.1,
+            kept_still g.S.Store c.args.conn c.kept_in.new.conn here.0 (c.in-Ok.ensures.same clean)
+                here.1,
             here.2,
           )),
       c.in-Ok.ensures.together,
@@ -24,7 +25,8 @@ pub returns-in-Ok-clause-adopted : goal.returns-in-Ok-clause-adopted
 returns-in-Ok-clause-adopted g c clean =
     let here = c.in-Ok.ensures.kept clean in (
       here.0,
-      kept_still g.S.Store c.args.conn c.kept_in.new.conn here.0 (c.in-Ok.ensures.same clean) here.1,
+      kept_still g.S.Store c.args.conn c.kept_in.new.conn here.0 (c.in-Ok.ensures.same clean)
+          here.1,
     )
 
 pub returns-in-Err-clause-no_office : goal.returns-in-Err-clause-no_office

@@ -1,14 +1,13 @@
-use Rattle.std.proofs.Common.{rules, ◌≡◌, List, ℕ, Some, None, Ok, Err, ap, ◌∙◌, sym, subst}
+use Rattle.std.proofs.Common.{rules, ◌≡◌, Some, None, Ok, Err, ap, ◌∙◌, sym, subst}
 use Rattle.sqlite.specs.Held.{state}
 use Rattle.sqlite.specs.State.{HasCleanDisk}
-use Rattle.exam_score.specs.Penalty.{total_of}
 use Rattle.office_records.specs.Office.{memory_of}
 use Rattle.office_records.specs.Stands.{IsKept}
 use Rattle.office_store.specs.Changes.{edit_put}
 use Rattle.office_store.specs.Commands.{draft_edited, exams_of}
 use Rattle.office_store.specs.Running.{Does, IsAtRest, IsFault, Now}
 use Rattle.office_store.specs.Turning.{Changed}
-use Rattle.office_store.proofs.EditLemmas.{edited_of, edit_stored}
+use Rattle.office_store.proofs.EditCallLemmas.{edited_of, edit_stored}
 use Rattle.office_store.proofs.RunLemmas.{at_hand, nothing_kept}
 use Rattle.office_store.proofs.office.Office.edit.Goals as goal
 
@@ -37,9 +36,10 @@ returns-in_err-timetable-clause-runs g c clean office now =
     let of = edited_of office _ _ d c.args.edit (Err c.in_err-timetable.field-0.0) _ _ here.office
     (at_hand mid _ office rest clean awake.0 here) (c.in_ok-found.ensures.rows clean office now)
     c.in_err-timetable.ensures.edits in
-    let is : c.from_residual-in_err-timetable.result ≡ Err c.in_err-timetable.field-0.0 = search rules in
+    let fault = c.in_err-timetable.field-0.0 in
+    let is : c.from_residual-in_err-timetable.result ≡ Err fault = search rules in
     subst (Does (draft_edited d c.args.edit office) office (Now mid)) (sym is) (
-      subst (λ o. IsFault (draft_edited d c.args.edit o) c.in_err-timetable.field-0.0) (sym of.is) of.edits,
+      subst (λ o. IsFault (draft_edited d c.args.edit o) fault) (sym of.is) of.edits,
       λ _. here,
     )
 
@@ -66,8 +66,8 @@ returns-clause-runs g c clean office now =
     let changed = subst (λ h. Changed (edit_put c.draft_row.result c.in_ok-timetable.timetable
     (exams_of c.args.edit)) (state g.S.Store h) new) c.self.view_is done in
     let stored = edit_stored mid.now new.now office _ _ d c.args.edit c.in_ok-timetable.timetable
-    c.in_ok-timetable.parts c.draft_row.result of c.draft_row.ensures.number c.draft_row.ensures.parts
-    c.in_ok-timetable.ensures.scored c.in_ok-timetable.ensures.fits here changed.makes in (
+    c.in_ok-timetable.parts c.draft_row.result of c.draft_row.ensures.number
+    c.draft_row.ensures.parts c.in_ok-timetable.ensures.scored c.in_ok-timetable.ensures.fits here changed.makes in (
       stored.office,
       stored.gives ∙ ap (λ n. Ok (n, stored.office)) (sym c.total.ensures.total),
       λ _. stored.kept,
@@ -93,7 +93,10 @@ invariant_of-self-2 g c = (
       let stored = edit_stored inside.now new.now here.0 _ _ c.args.number c.args.edit
       c.in_ok-timetable.timetable c.in_ok-timetable.parts c.draft_row.result of
       c.draft_row.ensures.number c.draft_row.ensures.parts c.in_ok-timetable.ensures.scored
-      c.in_ok-timetable.ensures.fits here.1 done.makes in
-      (stored.office, stored.kept, stored.memory ∙ sym c.in-Some.is),
+      c.in_ok-timetable.ensures.fits here.1 done.makes in (
+        stored.office,
+        stored.kept,
+        subst (λ m. memory_of stored.office ≡ m) (sym c.in-Some.is) stored.memory,
+      ),
   c.self.invariant.2,
 )
