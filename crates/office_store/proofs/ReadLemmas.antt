@@ -19,7 +19,7 @@ use Rattle.office_records.specs.Stands.{Stands, IsSound, IsScoredRow, drafts_at,
 use Rattle.office_records.specs.declared.fault.RecordFault.{RecordFault}
 use Rattle.office_records.specs.declared.fault.RecordFault.TheVariants.{NoMemory, BadRows}
 use Rattle.office_store.specs.declared.fault.StoreFault.{StoreFault}
-use Rattle.office_store.specs.Commands.{Gives, draft_in, draft_shown}
+use Rattle.office_store.specs.Commands.{Gives, draft_in, draft_shown, session_shown}
 use Rattle.office_store.specs.Faults.{store_fault}
 use Rattle.office_store.specs.Running.{Does, IsFault}
 use Rattle.office_store.specs.Reading.{AreRowsOf, AreScored}
@@ -202,3 +202,12 @@ pub does_now : {A : Type 0} (gives : Gives A) (o : OfficeState) (Stays : OfficeS
     (r : Result A StoreFault) → Does gives o (λ new. new ≡ o) r → Stays o → Does gives o Stays r
 does_now gives o Stays (Ok x) does here = (does.0, does.1, subst Stays (sym does.2) here)
 does_now gives o Stays (Err e) does here = (does.0, here)
+
+-- ---- the session
+
+-- what is at hand is what the office shows
+pub session_told : (o : OfficeState) (I : Session) (E : Enrolled) → memory_of o ≡ Some (I, E)
+    → session_shown o ≡ Ok ((I, E), o)
+session_told None I E here = absurd cc
+session_told (Some r) I E here =
+    ap (λ (s : Session × Enrolled). Ok (s, Some r)) (some_is (r.session, r.enrolments) (I, E) here)

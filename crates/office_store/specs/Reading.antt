@@ -1,5 +1,6 @@
 -- What the rows that are read say of an office.
-use Rattle.std.specs.Prelude.{◌≡◌, ℕ, List, map, Some, None, is_some, IsPermutation}
+use Rattle.std.specs.Prelude.{◌≡◌, ℕ, List, map, Some, None, is_some, Result, Ok, Err, IsPermutation}
+use Rattle.std.specs.Borrow.{Bor}
 use Rattle.std.specs.List.{AllByRecursion}
 use Rattle.office_tables.specs.declared.rows.DraftRow.{DraftRow}
 use Rattle.office_tables.specs.declared.rows.SlotRow.{SlotRow}
@@ -18,3 +19,8 @@ pub record AreRowsOf (office : OfficeState) (d : ℕ) (rows : List DraftRow) (sl
   pub numbers : map (λ row. row.no) rows ≡ once (is_some (draft_in d office)) d
   pub scored : AreScored rows office
   pub places : IsPermutation slots (slot_rows d (draft_in d office))
+
+-- the values behind two references
+abbrev pub shown : {X Y F : Type 0} → Result (Bor X × Bor Y) F → Result (X × Y) F
+shown (Ok pair) = Ok (pair.0.now, pair.1.now)
+shown (Err fault) = Err fault

@@ -68,8 +68,8 @@ impl<S: Alter> Office<S> {
         }
     }
 
-    // Looks whether the file can be read; what is in memory is then what it says.
-    pub(crate) fn look(&mut self) -> Result<(), StoreFault>
+    /// Looks whether the file can still be read; what is at hand is then what it says.
+    pub fn look(&mut self) -> Result<(), StoreFault>
         ensures awake { HasCleanDisk (state S.Store self.new) → OnOk result (IsAwake (state S.Store self.new)) }
         ensures still { HasCleanDisk (state S.Store self.new)
             → IsStill (state S.Store self.old) (state S.Store self.new) }

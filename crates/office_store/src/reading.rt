@@ -1,13 +1,13 @@
 // What is shown of the office: its session, and its drafts.
-ghost use Rattle.std.specs.Prelude.{◌≡◌, IfErr, IfOk, IsPermutation, OnOk, Some, length};
+ghost use Rattle.std.specs.Prelude.{◌≡◌, IfErr, IfOk, IsPermutation, IsTrue, OnOk, Some, length};
 ghost use Rattle.sqlite.specs.Held.{state};
 ghost use Rattle.sqlite.specs.State.{HasCleanDisk};
 ghost use Rattle.exam_model.specs.Fits.{Fits};
 ghost use Rattle.exam_score.specs.Track.{track};
 ghost use Rattle.office_records.specs.Office.{IsOffice, OfficeState, memory_of};
-ghost use Rattle.office_store.specs.Commands.{draft_in, draft_shown};
+ghost use Rattle.office_store.specs.Commands.{draft_in, draft_shown, session_shown};
 ghost use Rattle.office_records.specs.Stands.{IsKept, slot_rows};
-ghost use Rattle.office_store.specs.Reading.{AreRowsOf};
+ghost use Rattle.office_store.specs.Reading.{AreRowsOf, shown};
 ghost use Rattle.office_store.specs.Running.{Does, IsAwake, IsStill, Now, Runs};
 
 use crate::drafting::draft_row;
@@ -28,6 +28,21 @@ pub(crate) struct DraftRows {
 }
 
 impl<S: Alter> Office<S> {
+    /// The session with its live enrolments, as they are at hand. They are what the file says while it
+    /// can be read: `look` asks that. `NotLoaded`: there is none yet.
+    pub fn session(&self) -> Result<(&Instance, &Enrolments), StoreFault>
+        ensures shown { HasCleanDisk (state S.Store self.now) → IsTrue (state S.Store self.now).is_open
+            → (office : OfficeState) → IsKept (state S.Store self.now).now office
+            → Does (session_shown office) office (λ new. new ≡ office) (shown result) }
+        ensures fault { IfErr result (λ e. e ≡ StoreFault.NotLoaded) }
+        ensures exams { IfOk result (λ shown. length shown.1.now ≡ length shown.0.now.exams) }
+    {
+        match &self.kept {
+            Some((instance, enrolments)) => Ok((instance, enrolments)),
+            None => Err(StoreFault::NotLoaded),
+        }
+    }
+
     /// A draft's timetable with its penalty. `NotLoaded`, then `NoDraft`: there is none of this number.
     pub fn draft(&mut self, alloc: Global, number: u32) -> Result<(Timetable, Parts), StoreFault>
         ensures runs { Runs S.Store (draft_shown number) self.old self.new result }
