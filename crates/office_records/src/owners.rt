@@ -31,6 +31,7 @@ fn note_owner(departments: &mut [u32], row: &OwnerRow) -> Result<(), RecordFault
     ensures noted { OnOk result
         (departments.new ≡ slice_set departments.old row.now.exam row.now.dept) }
     ensures refused { OnErr result (IsFirstOwner departments.old row.now → ⊥) }
+    ensures fault { IfErr result (λ e. e ≡ RecordFault.BadRows) }
 {
     let Some(dept) = DeptNo::new(row.dept) else {
         return Err(RecordFault::BadRows);

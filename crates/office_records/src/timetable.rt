@@ -1,5 +1,5 @@
 // Rows of the places of a draft.
-ghost use Rattle.std.specs.Prelude.{◌≡◌, IfErr, IfOk, OnOk, length};
+ghost use Rattle.std.specs.Prelude.{◌≡◌, IfErr, IfOk, OnErr, OnOk, length};
 ghost use Rattle.exam_model.specs.Timetable.{Placing};
 ghost use Rattle.office_records.specs.Found.{AreSlots, IsFree, IsPut};
 
@@ -32,7 +32,8 @@ pub fn timetable_of(
 fn put_slot(timetable: &mut Timetable, instance: &Instance, row: SlotRow) -> Result<(), RecordFault>
     requires exams { length timetable.old ≡ length instance.now.exams }
     ensures put { OnOk result (IsPut instance.now row timetable.old timetable.new) }
-    ensures bad { IfErr result (λ e. IsFree instance.now row timetable.old → ⊥) }
+    ensures bad { OnErr result (IsFree instance.now row timetable.old → ⊥) }
+    ensures fault { IfErr result (λ e. e ≡ RecordFault.BadRows) }
 {
     let exam = ExamNo::new(row.exam);
     let place = Place {

@@ -5,7 +5,7 @@ ghost use Rattle.sqlite_disk.specs.Memory.{memory_is_usable};
 use crate::given::assert_same;
 use crate::offices::SMALL;
 use exam_model::ExamNo;
-use office_files::write_solution;
+use office_files::{write_instance, write_solution};
 use office_store::{Edit, Office, StoreFault};
 use sqlite::{Alter, Connection, Error, FileStore, Files, MemStore, Options};
 use sqlite_disk::{Crash, Memory};
@@ -39,6 +39,14 @@ fn work<S: Alter>(office: &mut Office<S>, alloc: Global) -> Result<(u64, u64), S
     Ok((made, edited))
 }
 
+// The session, as an instance file with plain line ends.
+fn session<S: Alter>(office: &Office<S>, alloc: Global) -> Result<Vec<u8>, Fail> {
+    let (instance, enrolments) = office.session()?;
+    let mut text = write_instance(alloc, instance, enrolments)?;
+    text.retain(|byte| *byte != b'\r');
+    Ok(text)
+}
+
 // The parts of draft 1, in the order of the columns.
 fn parts<S: Alter>(office: &mut Office<S>, alloc: Global) -> Result<[u64; 7], StoreFault> {
     let (_timetable, parts) = office.draft(alloc, 1)?;
@@ -61,8 +69,8 @@ fn places<S: Alter>(office: &mut Office<S>, alloc: Global) -> Result<Vec<u8>, Fa
 
 // Whether the office is the one that was worked on.
 fn stands<S: Alter, R: Abort>(rt: &R, alloc: Global, office: &mut Office<S>) -> Result<(), Fail> {
-    let again = office.load(alloc, SMALL);
-    assert_same(rt, again, Err(StoreFault::Loaded), "the session");
+    let found = session(office, alloc)?;
+    assert_same(rt, found.as_slice(), SMALL, "the session");
     let owner = office.owner(alloc, ExamNo::new(0));
     assert_same(rt, owner, Ok(3), "the owner");
     let found = parts(office, alloc);

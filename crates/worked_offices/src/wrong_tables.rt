@@ -55,10 +55,7 @@ fn what_is_no_office_is_refused(rt: HostRuntime) -> Result<(), Fail> {
         ),
         ("DELETE FROM draft", Some(StoreFault::BadSchema)),
         ("DROP TABLE batch", Some(StoreFault::BadSchema)),
-        (
-            "CREATE TABLE more (x INTEGER)",
-            Some(StoreFault::BadSchema),
-        ),
+        ("CREATE TABLE more (x INTEGER)", Some(StoreFault::BadSchema)),
         (
             "INSERT INTO batch (no, bytes, added, dropped, unchanged) VALUES (1, x'', 0, 0, 0)",
             Some(StoreFault::BadSchema),
