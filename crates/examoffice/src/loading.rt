@@ -24,7 +24,9 @@ pub enum LoadFault {
     Write,
 }
 
-/// The office of a database: a new one where there is no table, index or view.
+/// The office of a database: a new one where there is no table, index or view. `BadSchema`: what
+/// is there is no office. `Store`: a statement failed, memory was refused, or a transaction is
+/// open. A refusal hands the connection back.
 pub fn office_in<S: Alter>(
     alloc: Global,
     conn: Connection<S>,

@@ -163,7 +163,7 @@ pub fn refuse_arguments<E: Write>(fault: &io::Error, err: &mut E) -> u8
 }
 
 /// Does what the words say, of which the first is the program's name, and answers the exit
-/// status: 0 done, 1 a fault of a file, of an office, of `out` or of memory, 2 a mistake in the words, 3 a
+/// status: 0 done, 1 a fault of a file, an office, `out` or memory, 2 a mistake in the words, 3 a
 /// solution that breaks a hard rule. The line of a fault and the text of a mistake go to `err`,
 /// all else goes to `out`.
 pub fn run_program<O: Write, E: Write>(
