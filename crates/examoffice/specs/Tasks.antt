@@ -1,7 +1,9 @@
 -- What a task that is done prints.
-use Rattle.std.specs.Prelude.{ℕ, List, Option}
+use Rattle.std.specs.Prelude.{ℕ, List, Option, string_bytes}
 use Rattle.examoffice.specs.Check.{WritesReport}
 use Rattle.examoffice.specs.Load.{PrintsCounts}
+use Rattle.examoffice.specs.FaultLines.{IsOfCheck, IsOfLoad}
+use Rattle.examoffice.specs.declared.faults.ProgramFault.{ProgramFault}
 use Rattle.examoffice.specs.declared.words.Task.{Task}
 use Rattle.examoffice.specs.declared.words.Task.TheVariants.{Check, Load}
 
@@ -9,3 +11,8 @@ use Rattle.examoffice.specs.declared.words.Task.TheVariants.{Check, Load}
 abbrev pub Prints : Task → Option (List ℕ) → Option (List ℕ) → Type 0
 Prints (Check instance solution) old new = WritesReport old new 0
 Prints (Load database instance) old new = PrintsCounts old new
+
+-- the fault shows as one of the files that the task names
+abbrev pub IsOfTask : Task → ProgramFault → Type 0
+IsOfTask (Check instance solution) shown = IsOfCheck (string_bytes instance) (string_bytes solution) shown
+IsOfTask (Load database instance) shown = IsOfLoad (string_bytes instance) shown

@@ -1,6 +1,6 @@
 // The whole program, over a file system and two writers.
 ghost use Rattle.std.specs.Prelude.{◌≡◌, ◌≢◌, ◌≤◌, ◌↔◌, ◌⊎◌, ◌++◌, ◌∷◌, [], IfErr, IfOk, OnOk};
-ghost use Rattle.std.specs.Prelude.{map, string_bytes};
+ghost use Rattle.std.specs.Prelude.{length, map, string_bytes};
 ghost use Rattle.std.specs.Io.KnownBytes.{Appends};
 ghost use Rattle.std.specs.IoError.{error_kind};
 ghost use Rattle.std.specs.declared.io.ErrorKind.TheVariants as failure;
@@ -11,7 +11,7 @@ ghost use Rattle.examoffice.specs.Check.{WritesReport};
 ghost use Rattle.examoffice.specs.FaultLines.{IsOfCheck, IsOfLoad, fault_line, not_text_line};
 ghost use Rattle.examoffice.specs.Load.{PrintsCounts};
 ghost use Rattle.examoffice.specs.Program.{AreAnswered, IsMistake, IsTask, program};
-ghost use Rattle.examoffice.specs.Tasks.{Prints};
+ghost use Rattle.examoffice.specs.Tasks.{IsOfTask, Prints};
 ghost use Rattle.examoffice.specs.declared.words.Task.{Task};
 
 use crate::checking::{INSTANCE_BYTES, check_run};
@@ -52,7 +52,9 @@ fn check<'a, R: Files + AllocGlobal, W: Write>(
 }
 
 // The whole text of an instance's file.
-fn text_at<R: Files + AllocGlobal>(rt: &R, path: &str) -> Result<Vec<u8>, InputFault> {
+fn text_at<R: Files + AllocGlobal>(rt: &R, path: &str) -> Result<Vec<u8>, InputFault>
+    ensures short { IfOk result (λ text. length text.items ≤ 4194304) }
+{
     let Ok(mut file) = fs::open(rt, path) else {
         return Err(InputFault::Read);
     };
@@ -100,6 +102,9 @@ fn run_task<'a, W: Write>(
         → WritesReport (W.contents out.old) (W.contents out.new) 3) }
     ensures done { IfOk result (λ status. status ≡ 0
         → Prints task.now (W.contents out.old) (W.contents out.new)) }
+
+    // A line that names a file names one of the task's.
+    ensures fault { IfErr result (IsOfTask task.now) }
 {
     match task {
         Task::Check(instance, solution) => check(rt, instance, solution, out),
