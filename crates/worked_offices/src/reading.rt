@@ -16,6 +16,10 @@ fn counts(office: &Office<MemStore>) -> Result<(u32, u32), StoreFault> {
     Ok((instance.exams(), enrolments.pairs()))
 }
 
+fn looked(office: &mut Office<MemStore>) -> Result<(), StoreFault> {
+    office.look()
+}
+
 // The parts of a draft's penalty, in their order.
 fn parts(
     office: &mut Office<MemStore>,
@@ -60,6 +64,7 @@ fn swapped(office: &mut Office<MemStore>, alloc: Global, number: u32) -> Result<
 #[test]
 fn nothing_is_shown_before_a_load(rt: HostRuntime) -> Result<(), Fail> {
     let mut office = created(rt.alloc())?;
+    assert_same(&rt, looked(&mut office), Ok(()), "look");
     assert_same(&rt, counts(&office), Err(StoreFault::NotLoaded), "session");
     let draft = parts(&mut office, rt.alloc(), 1);
     assert_same(&rt, draft, Err(StoreFault::NotLoaded), "draft");
