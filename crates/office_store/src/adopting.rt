@@ -5,6 +5,7 @@ ghost use Rattle.sqlite.specs.State.{HasCleanDisk, IsUnchanged};
 ghost use Rattle.office_tables.specs.Steps.{Keeps};
 ghost use Rattle.office_records.specs.Office.{AreTogether, OfficeState, memory_of};
 ghost use Rattle.office_records.specs.Stands.{IsKept};
+ghost use Rattle.office_store.specs.Faults.{IsOfDatabase};
 ghost use Rattle.office_store.specs.Turning.{Undone};
 
 use crate::fault::StoreFault;
@@ -32,6 +33,7 @@ impl<S: Alter> Office<S> {
         ensures no_office { IfErr result (λ e. e.0 ≡ StoreFault.BadSchema
             → HasCleanDisk (state S.Store e.1)
             → (o : OfficeState) → IsKept (state S.Store conn).now o → ⊥) }
+        ensures fault { IfErr result (λ e. IsOfDatabase e.0) }
         // Whatever the refusal, the tables are as they were.
         ensures undone { IfErr result (λ e. (e.1 ≡ conn) ⊎ (HasCleanDisk (state S.Store e.1)
             → Undone (state S.Store conn) (state S.Store e.1))) }
@@ -60,6 +62,7 @@ fn kept_in<S: Alter>(
     ensures none { HasCleanDisk (state S.Store conn.new)
         → IfErr result (λ e. e ≡ StoreFault.BadSchema
         → (o : OfficeState) → IsKept (state S.Store conn.old).now o → ⊥) }
+    ensures fault { IfErr result IsOfDatabase }
     ensures keeps { HasCleanDisk (state S.Store conn.new)
         → Keeps (state S.Store conn.old) (state S.Store conn.new) }
     ensures rests { conn.old.in_transaction ≡ false → conn.new.in_transaction ≡ false }

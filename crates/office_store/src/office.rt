@@ -3,6 +3,7 @@ ghost use Rattle.std.specs.Prelude.{◌≡◌, ◌≢◌, ◌⊎◌, IfErr, IfOk
 ghost use Rattle.sqlite.specs.Held.{state};
 ghost use Rattle.sqlite.specs.State.{HasCleanDisk};
 ghost use Rattle.office_tables.specs.Schema.{no_schema};
+ghost use Rattle.office_store.specs.Faults.{IsOfDatabase};
 ghost use Rattle.office_store.specs.Running.{IsAwake, IsStill};
 ghost use Rattle.office_store.specs.Turning.{Undone};
 ghost use Rattle.office_records.specs.Stands.{IsKept};
@@ -51,6 +52,7 @@ impl<S: Alter> Office<S> {
         ensures bare { IfOk result (λ _. (state S.Store conn).now.schema ≡ no_schema) }
         ensures not_bare { IfErr result (λ e. e.0 ≡ StoreFault.BadSchema
             → ((state S.Store conn).now.schema ≢ no_schema) × (e.1 ≡ conn)) }
+        ensures fault { IfErr result (λ e. IsOfDatabase e.0) }
         // Whatever the refusal, the tables are as they were.
         ensures undone { IfErr result (λ e. (e.1 ≡ conn) ⊎ (HasCleanDisk (state S.Store e.1)
             → Undone (state S.Store conn) (state S.Store e.1))) }

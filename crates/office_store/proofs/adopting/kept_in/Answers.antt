@@ -1,4 +1,4 @@
-use Rattle.std.proofs.Common.{◌≡◌, Result, Ok, Err, refl, sym, ◌∙◌, subst}
+use Rattle.std.proofs.Common.{◌≡◌, Result, Ok, Err, refl, sym, ◌∙◌, inl, inr, subst}
 use Rattle.std.specs.Prelude.{IfErr}
 use Rattle.std.specs.Result.{IsErrAnd}
 use Rattle.sqlite.specs.Effect.{Database}
@@ -11,7 +11,7 @@ use Rattle.office_records.specs.declared.fault.RecordFault.{RecordFault}
 use Rattle.office_records.specs.declared.fault.RecordFault.TheVariants.{NoMemory, BadRows}
 use Rattle.office_records.proofs.SameTables.{same_stands, same_sound}
 use Rattle.office_records.proofs.UnpublishedLemmas.{not_foreign}
-use Rattle.office_store.specs.Faults.{store_fault}
+use Rattle.office_store.specs.Faults.{store_fault, IsOfDatabase}
 use Rattle.office_store.specs.declared.fault.StoreFault.{StoreFault}
 use Rattle.office_store.specs.declared.fault.StoreFault.TheVariants.{BadSchema}
 use Rattle.office_store.proofs.adopting.kept_in.Goals as goal
@@ -49,3 +49,14 @@ returns-in_err-kept-clause-none g c clean =
     told c.from_residual-in_err-kept.result c.in_err-kept.field-0.0
     c.from_residual-in_err-kept.ensures.1
     (λ bad. none_found db (tables_of c.in-Some.found) held (c.in_err-kept.ensures.none bad))
+
+of_database : {X : Type 0} (r : Result X StoreFault) (fault : RecordFault)
+    → IsErrAnd r (λ e. e ≡ store_fault fault) → IfErr r IsOfDatabase
+of_database (Ok x) fault is = tt
+of_database (Err e) NoMemory is = inl is
+of_database (Err e) BadRows is = inr is
+
+pub returns-in_err-kept-clause-fault : goal.returns-in_err-kept-clause-fault
+returns-in_err-kept-clause-fault g c =
+    of_database c.from_residual-in_err-kept.result c.in_err-kept.field-0.0
+    c.from_residual-in_err-kept.ensures.1

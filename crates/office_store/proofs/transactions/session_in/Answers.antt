@@ -1,6 +1,6 @@
 use Rattle.std.proofs.lemmas.Result.{on_ok_weaker}
 use Rattle.sqlite.specs.Held.{state}
-use Rattle.office_tables.proofs.Inside.{clean_before}
+use Rattle.office_tables.proofs.Inside.{clean_before, within_then}
 use Rattle.office_store.proofs.transactions.session_in.Goals as goal
 
 pub returns-clause-makes : goal.returns-clause-makes
@@ -15,3 +15,16 @@ returns-clause-makes g c clean inside =
     on_ok_weaker c.insert_enrols.result
     (λ last. (last.0, λ t stands. last.1 _ (step_2.1 _ (step_1.1 t stands))))
     (c.insert_enrols.ensures.makes clean step_2.0)
+
+pub returns-in_err-put_meta-clause-within : goal.returns-in_err-put_meta-clause-within
+returns-in_err-put_meta-clause-within g c =
+    within_then _ (state g.S.Store c.delete_meta.new.tx.conn.now) _ c.delete_meta.ensures.within
+    c.put_meta.ensures.within
+
+pub returns-clause-within : goal.returns-clause-within
+returns-clause-within g c =
+    let put = state g.S.Store c.put_meta.new.tx.conn.now in
+    within_then _ put _
+    (within_then _ (state g.S.Store c.delete_meta.new.tx.conn.now) put c.delete_meta.ensures.within
+    c.put_meta.ensures.within)
+    c.insert_enrols.ensures.within

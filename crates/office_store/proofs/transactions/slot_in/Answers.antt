@@ -1,7 +1,7 @@
 use Rattle.std.proofs.lemmas.Result.{on_ok_weaker}
 use Rattle.sqlite.specs.Held.{state}
 use Rattle.office_tables.specs.declared.rows.SlotRow.{SlotRow}
-use Rattle.office_tables.proofs.Inside.{clean_before}
+use Rattle.office_tables.proofs.Inside.{clean_before, within_then}
 use Rattle.office_store.proofs.SlotLemmas.{put_nowhere, put_there}
 use Rattle.office_store.proofs.transactions.slot_in.Goals as goal
 
@@ -32,3 +32,8 @@ returns-clause-makes g c clean inside =
           c.in-Some.is c.get.ensures (cc) (last.1 _ (step_1.1 t stands)),
     ))
     (c.insert_slot.ensures.makes clean step_1.0)
+
+pub returns-clause-within : goal.returns-clause-within
+returns-clause-within g c =
+    within_then _ (state g.S.Store c.delete_slot.new.tx.conn.now) _ c.delete_slot.ensures.within
+    c.insert_slot.ensures.within
