@@ -7,7 +7,7 @@ use crate::offices::SMALL;
 use exam_model::ExamNo;
 use office_files::{write_instance, write_solution};
 use office_store::{Edit, Office, StoreFault};
-use sqlite::{Alter, Connection, Error, FileStore, Files, MemStore, Options};
+use sqlite::{Alter, Connection, Error, FileStore, Files, Options};
 use sqlite_disk::{Crash, Memory};
 use std::alloc::Global;
 use std::process::Abort;
@@ -81,12 +81,26 @@ fn stands<S: Alter, R: Abort>(rt: &R, alloc: Global, office: &mut Office<S>) -> 
     Ok(())
 }
 
-// The office of a new database, worked on.
-fn worked_on<R: Abort>(rt: &R, alloc: Global) -> Result<Office<MemStore>, Fail> {
-    let conn = Connection::open_in_memory(alloc)?;
+// The connection of a database without tables, after it became an office that was worked on.
+fn worked_on<S: Alter + Drop, R: Abort>(
+    rt: &R,
+    alloc: Global,
+    conn: Connection<S>,
+) -> Result<Connection<S>, Fail> {
     let mut office = office_of(Office::create(conn))?;
     assert_same(rt, work(&mut office, alloc), Ok((37, 30)), "the penalties");
-    Ok(office)
+    Ok(office.release())
+}
+
+// The connection, after the office that was worked on was found over it.
+fn found<S: Alter + Drop, R: Abort>(
+    rt: &R,
+    alloc: Global,
+    conn: Connection<S>,
+) -> Result<Connection<S>, Fail> {
+    let mut office = office_of(Office::adopt(alloc, conn))?;
+    stands(rt, alloc, &mut office)?;
+    Ok(office.release())
 }
 
 #[test]
@@ -105,13 +119,15 @@ fn adopt_after_republication(rt: HostRuntime) -> Result<(), Fail> {
 
 #[test]
 fn draft_survives_adopt(rt: HostRuntime) -> Result<(), Fail> {
-    let office = worked_on(&rt, rt.alloc())?;
-    let mut adopted = office_of(Office::adopt(rt.alloc(), office.release()))?;
-    stands(&rt, rt.alloc(), &mut adopted)
+    let conn = worked_on(&rt, rt.alloc(), Connection::open_in_memory(rt.alloc())?)?;
+    found(&rt, rt.alloc(), conn)?;
+    Ok(())
 }
 
+type OnFiles = Connection<FileStore<Memory>>;
+
 // A connection to these files.
-fn opened(alloc: Global, files: Files<Memory>) -> Result<Connection<FileStore<Memory>>, Error>
+fn opened(alloc: Global, files: Files<Memory>) -> Result<OnFiles, Error>
     requires { IsTrue (memory_is_usable files.log) × IsTrue (memory_is_usable files.db) }
 {
     match Connection::open_files(alloc, files, Options::new(1)) {
@@ -121,7 +137,7 @@ fn opened(alloc: Global, files: Files<Memory>) -> Result<Connection<FileStore<Me
 }
 
 // The files of a connection that is closed.
-fn closed(conn: Connection<FileStore<Memory>>) -> Result<Files<Memory>, Error>
+fn closed(conn: OnFiles) -> Result<Files<Memory>, Error>
     ensures { IfOk result (λ files. IsTrue (memory_is_usable files.log)
         × IsTrue (memory_is_usable files.db)) }
 {
@@ -132,7 +148,7 @@ fn closed(conn: Connection<FileStore<Memory>>) -> Result<Files<Memory>, Error>
 }
 
 // The files of a machine that stopped: what was not synced is lost.
-fn crashed(conn: Connection<FileStore<Memory>>) -> Files<Memory>
+fn crashed(conn: OnFiles) -> Files<Memory>
     ensures { IsTrue (memory_is_usable result.log) × IsTrue (memory_is_usable result.db) }
 {
     let mut files = conn.into_store().close();
@@ -141,21 +157,27 @@ fn crashed(conn: Connection<FileStore<Memory>>) -> Files<Memory>
     files
 }
 
+fn on_new_files(alloc: Global) -> Result<OnFiles, Error> {
+    let files = Files {
+        log: Memory::new(alloc),
+        db: Memory::new(alloc),
+    };
+    opened(alloc, files)
+}
+
+fn after_a_crash(alloc: Global, conn: OnFiles) -> Result<OnFiles, Error> {
+    opened(alloc, crashed(conn))
+}
+
+fn after_a_close(alloc: Global, conn: OnFiles) -> Result<OnFiles, Error> {
+    opened(alloc, closed(conn)?)
+}
+
 #[test]
 fn office_is_found_in_its_file(rt: HostRuntime) -> Result<(), Fail> {
-    let files = Files {
-        log: Memory::new(rt.alloc()),
-        db: Memory::new(rt.alloc()),
-    };
-    let mut office = office_of(Office::create(opened(rt.alloc(), files)?))?;
-    let worked = work(&mut office, rt.alloc());
-    assert_same(&rt, worked, Ok((37, 30)), "the penalties");
-    let mut office = office_of(Office::adopt(rt.alloc(), office.release()))?;
-    stands(&rt, rt.alloc(), &mut office)?;
-    let conn = opened(rt.alloc(), crashed(office.release()))?;
-    let mut office = office_of(Office::adopt(rt.alloc(), conn))?;
-    stands(&rt, rt.alloc(), &mut office)?;
-    let conn = opened(rt.alloc(), closed(office.release())?)?;
-    let mut office = office_of(Office::adopt(rt.alloc(), conn))?;
-    stands(&rt, rt.alloc(), &mut office)
+    let conn = worked_on(&rt, rt.alloc(), on_new_files(rt.alloc())?)?;
+    let conn = found(&rt, rt.alloc(), conn)?;
+    let conn = found(&rt, rt.alloc(), after_a_crash(rt.alloc(), conn)?)?;
+    found(&rt, rt.alloc(), after_a_close(rt.alloc(), conn)?)?;
+    Ok(())
 }
