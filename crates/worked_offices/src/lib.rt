@@ -1,4 +1,5 @@
-//! Worked examples of the office and its tables, over databases in memory.
+//! Worked examples of the office and its tables, over databases in memory, and whole runs of the
+//! program.
 #![tactic(auto)]
 
 #[cfg(test)]
@@ -10,9 +11,13 @@ mod editing;
 #[cfg(test)]
 mod given;
 #[cfg(test)]
+mod loads;
+#[cfg(test)]
 mod offices;
 #[cfg(test)]
 mod reading;
+#[cfg(test)]
+mod runs;
 #[cfg(test)]
 mod tables;
 #[cfg(test)]

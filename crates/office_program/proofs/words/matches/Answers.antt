@@ -1,0 +1,34 @@
+use Rattle.std.proofs.Common.{ap, ap₂, refl, codes, map, ◌≡◌, ◌∙◌, subst, string_bytes}
+use Rattle.std.proofs.lemmas.Result.{IfOk-weaker}
+use Rattle.clap.specs.Words.{FailsBy, app_of, is_simple, new_app, subcommand_of, with_subcommand}
+use Rattle.clap.specs.Faults.{fault_of, is_simple_and_free}
+use Rattle.clap.specs.Simple.{app_of_fields}
+use Rattle.office_program.specs.Program.{check_app, load_app, program, wants_subcommand}
+use Rattle.office_program.proofs.words.matches.Goals as goal
+
+-- the command that is built is the program
+abbrev whole_is : (c : goal.After-try_get_matches_from) → app_of c.in_ok-whole.whole ≡ program
+whole_is c =
+    let named : app_of c.about.result ≡ new_app (codes "examoffice") =
+    ap app_of_fields c.about.ensures ∙ c.new.ensures.app in
+    let wants : app_of c.subcommand_required.result ≡ wants_subcommand (new_app (codes "examoffice")) =
+    ap app_of_fields c.subcommand_required.ensures ∙ ap wants_subcommand named in
+    let judges : app_of c.in_ok-subcommand.field-0 ≡ with_subcommand
+    (wants_subcommand (new_app (codes "examoffice"))) check_app.top =
+    c.in_ok-check.ensures _ _ c.in_ok-subcommand.ensures
+    ∙ ap (λ a. with_subcommand a check_app.top) wants in
+    c.in_ok-load.ensures _ _ c.in_ok-whole.ensures
+    ∙ ap (λ a. with_subcommand a load_app.top) judges
+
+pub returns-clause-found : goal.returns-clause-found
+returns-clause-found c =
+    let parse = c.try_get_matches_from in
+    IfOk-weaker parse.result _ _
+    (λ m h. (h (ap is_simple (whole_is c))).1 ∙ ap₂ subcommand_of (whole_is c) refl)
+    parse.ensures.matches
+
+pub returns-clause-kinds : goal.returns-clause-kinds
+returns-clause-kinds c =
+    let parse = c.try_get_matches_from in
+    subst (λ a. FailsBy (fault_of a (map string_bytes c.args.words.now)) parse.result) (whole_is c)
+    (parse.ensures.kinds (ap is_simple_and_free (whole_is c)))

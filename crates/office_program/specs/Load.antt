@@ -1,0 +1,50 @@
+-- What `load` makes of the office that a database stands for, and what it prints.
+use Rattle.std.specs.Prelude.{◌≡◌, ◌⊎◌, ℕ, ◌++◌, ◌∷◌, [], List, None, Option, Ok, codes, decimal}
+use Rattle.std.specs.Io.KnownBytes.{Appends}
+use Rattle.sqlite.specs.Effect.{Database}
+use Rattle.sqlite.specs.State.{State}
+use Rattle.office_records.specs.Office.{OfficeState}
+use Rattle.office_records.specs.Stands.{IsKept}
+use Rattle.office_store.specs.Commands.{loaded}
+use Rattle.office_store.specs.Running.{IsFault, Now}
+use Rattle.office_store.specs.declared.loading.Loaded.{Loaded}
+use Rattle.office_tables.specs.Schema.{no_schema}
+use Rattle.office_program.specs.declared.loading.LoadFault.{LoadFault}
+use Rattle.office_program.specs.declared.loading.LoadFault.TheVariants.{Store, Write}
+
+-- the line that says how much was loaded, without its end
+abbrev pub loaded_line : Loaded → List ℕ
+loaded_line l =
+    codes "loaded exams " ++ decimal l.exams ++ codes " pairs " ++ decimal l.pairs
+    ++ codes " periods " ++ decimal l.periods ++ codes " rooms " ++ decimal l.rooms
+
+-- the same, with its end
+abbrev pub loaded_text : Loaded → List ℕ
+loaded_text l = loaded_line l ++ 10 ∷ []
+
+-- the database stands for this office; one with no table stands for the office before its load
+abbrev pub IsOfficeOf : Database → OfficeState → Type 0
+IsOfficeOf db office = ((db.schema ≡ no_schema) × (office ≡ None)) ⊎ IsKept db office
+
+-- the text is loaded into the office: this is how much, and the new office stands
+pub record IsLoaded (text : List ℕ) (office : OfficeState) (after : State) (counts : Loaded)
+    : Type 0 where
+  pub next : OfficeState
+  pub gives : loaded text office ≡ Ok (counts, next)
+  pub stands : Now after next
+
+-- the text is loaded into the office, and the line that says how much is printed
+pub record Loads (text : List ℕ) (office : OfficeState) (after : State)
+    (old new : Option (List ℕ)) : Type 0 where
+  pub counts : Loaded
+  pub loaded : IsLoaded text office after counts
+  pub printed : Appends old new (loaded_text counts)
+
+-- the office's own refusal or a failed statement; or all but the line is done
+abbrev pub RefusesLoad : List ℕ → OfficeState → State → LoadFault → Type 0
+RefusesLoad text office after (Store fault) = IsFault (loaded text office) fault
+RefusesLoad text office after Write = (counts : Loaded) × IsLoaded text office after counts
+
+-- some line of what was loaded is printed
+abbrev pub PrintsCounts : Option (List ℕ) → Option (List ℕ) → Type 0
+PrintsCounts old new = (counts : Loaded) × Appends old new (loaded_text counts)

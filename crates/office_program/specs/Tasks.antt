@@ -1,0 +1,18 @@
+-- What a task that is done prints.
+use Rattle.std.specs.Prelude.{ℕ, List, Option, string_bytes}
+use Rattle.office_program.specs.Check.{WritesReport}
+use Rattle.office_program.specs.Load.{PrintsCounts}
+use Rattle.office_program.specs.FaultLines.{IsOfCheck, IsOfLoad}
+use Rattle.office_program.specs.declared.faults.ProgramFault.{ProgramFault}
+use Rattle.office_program.specs.declared.words.Task.{Task}
+use Rattle.office_program.specs.declared.words.Task.TheVariants.{Check, Load}
+
+-- a report on a solution that breaks no hard rule, or the line of what was loaded
+abbrev pub Prints : Task → Option (List ℕ) → Option (List ℕ) → Type 0
+Prints (Check instance solution) old new = WritesReport old new 0
+Prints (Load database instance) old new = PrintsCounts old new
+
+-- the fault shows as one of the files that the task names
+abbrev pub IsOfTask : Task → ProgramFault → Type 0
+IsOfTask (Check instance solution) shown = IsOfCheck (string_bytes instance) (string_bytes solution) shown
+IsOfTask (Load database instance) shown = IsOfLoad (string_bytes instance) shown

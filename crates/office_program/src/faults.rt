@@ -1,0 +1,124 @@
+// What ends the program with status 1, and the line that it is printed as.
+ghost use Rattle.std.specs.Prelude.{◌≡◌};
+ghost use Rattle.office_program.specs.FaultLines.{check_line, fault_line, input_line, load_line};
+ghost use Rattle.office_program.specs.FaultLines.{number_of, open_line, store_number_of};
+
+use crate::checking::CheckFault;
+use crate::loading::LoadFault;
+use crate::reading::InputFault;
+use office_files::{FaultKind, FileFault};
+use office_store::{Refusal, StoreFault};
+use sqlite::{Error, ErrorCode};
+use std::fmt;
+
+// It shows as its line.
+#[derive(Clone, Copy, Debug, PartialEq, Eq)]
+pub enum ProgramFault<'a> {
+    CannotRead(&'a str),
+    Instance(FileFault),
+    Solution(FileFault),
+    CannotOpen,
+    Store(StoreFault),
+    CannotWrite,
+    NoMemory,
+}
+
+// The number by which a fault of a file is printed.
+fn number_of(what: FaultKind) -> u8
+    ensures { result ≡ number_of what }
+{
+    what as u8
+}
+
+// The number by which a refusal of the office is printed.
+fn store_number_of(fault: StoreFault) -> u8
+    ensures { result ≡ store_number_of fault }
+{
+    match fault {
+        StoreFault::Loaded => 1,
+        StoreFault::NotLoaded => 2,
+        StoreFault::NoDraft => 3,
+        StoreFault::DraftTaken => 4,
+        StoreFault::BatchDiffers => 5,
+        StoreFault::TooMany => 6,
+        StoreFault::Refused(_) => 7,
+        StoreFault::Store => 8,
+        StoreFault::BadSchema => 9,
+    }
+}
+
+impl fmt::Display for ProgramFault<'_> {
+    ghost use Rattle.std.specs.Prelude.{Some};
+    ghost use Rattle.office_program.specs.FaultLines.{fault_line};
+
+    ghost output = { λ fault. Some (fault_line fault) };
+
+    fn fmt<W: fmt::Write>(&self, f: &mut fmt::Formatter<W>) -> fmt::Result {
+        match self {
+            ProgramFault::CannotRead(path) => write!(f, "examoffice: cannot read {path}"),
+            ProgramFault::Instance(FileFault { line, what }) => {
+                let number = number_of(*what);
+                write!(f, "examoffice: instance line {line}: fault {number}")
+            }
+            ProgramFault::Solution(FileFault { line, what }) => {
+                let number = number_of(*what);
+                write!(f, "examoffice: solution line {line}: fault {number}")
+            }
+            ProgramFault::CannotOpen => write!(f, "examoffice: cannot open database"),
+            ProgramFault::Store(fault) => {
+                let number = store_number_of(*fault);
+                write!(f, "examoffice: store fault {number}")
+            }
+            ProgramFault::CannotWrite => write!(f, "examoffice: cannot write"),
+            ProgramFault::NoMemory => write!(f, "examoffice: no memory"),
+        }
+    }
+}
+
+// What a fault of `check` on two files is to the program.
+pub fn fault_on<'a>(fault: CheckFault, instance: &'a str, solution: &'a str) -> ProgramFault<'a>
+    ensures { fault_line result ≡ check_line instance.now solution.now fault }
+{
+    match fault {
+        CheckFault::ReadInstance => ProgramFault::CannotRead(instance),
+        CheckFault::ReadSolution => ProgramFault::CannotRead(solution),
+        CheckFault::Instance(fault) => ProgramFault::Instance(fault),
+        CheckFault::Solution(fault) => ProgramFault::Solution(fault),
+        CheckFault::Write => ProgramFault::CannotWrite,
+        CheckFault::NoMemory => ProgramFault::NoMemory,
+    }
+}
+
+// What a fault of the instance's input is to the program.
+pub fn fault_of_input<'a>(fault: InputFault, path: &'a str) -> ProgramFault<'a>
+    ensures { fault_line result ≡ input_line path.now fault }
+{
+    match fault {
+        InputFault::Read => ProgramFault::CannotRead(path),
+        InputFault::File(fault) => ProgramFault::Instance(fault),
+        InputFault::NoMemory => ProgramFault::NoMemory,
+    }
+}
+
+// What a fault of `load` is to the program.
+pub fn fault_of_load<'a>(fault: LoadFault) -> ProgramFault<'a>
+    ensures { fault_line result ≡ load_line fault }
+{
+    match fault {
+        LoadFault::Store(StoreFault::Refused(Refusal::File(fault))) => ProgramFault::Instance(
+            fault,
+        ),
+        LoadFault::Store(fault) => ProgramFault::Store(fault),
+        LoadFault::Write => ProgramFault::CannotWrite,
+    }
+}
+
+// What a database that can't be opened is to the program.
+pub fn fault_of_open<'a>(error: Error) -> ProgramFault<'a>
+    ensures { fault_line result ≡ open_line error }
+{
+    match error {
+        Error::SqliteFailure(ErrorCode::OutOfMemory) => ProgramFault::NoMemory,
+        _ => ProgramFault::CannotOpen,
+    }
+}

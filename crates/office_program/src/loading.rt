@@ -1,0 +1,154 @@
+// A session loaded into the office of a database.
+ghost use Rattle.std.specs.Prelude.{◌≡◌, ◌≢◌, ◌⊎◌, IfErr, IfOk, OnOk};
+ghost use Rattle.std.specs.Io.KnownBytes.{Appends, Keeps};
+ghost use Rattle.sqlite.specs.Held.{state};
+ghost use Rattle.sqlite.specs.State.{HasCleanDisk};
+ghost use Rattle.office_records.specs.Office.{OfficeState};
+ghost use Rattle.office_store.specs.Running.{Now};
+ghost use Rattle.office_store.specs.declared.fault.StoreFault.TheVariants as store;
+ghost use Rattle.office_program.specs.Load.{IsOfficeOf, Loads, PrintsCounts, RefusesLoad, loaded_text};
+
+use office_store::{Loaded, Office, StoreFault};
+use office_tables::is_bare;
+use sqlite::{Alter, Connection};
+use std::alloc::Global;
+use std::fmt;
+use std::io::{self, Write};
+
+/// Why a session is not loaded, or not said to be.
+#[derive(Clone, Copy, Debug, PartialEq, Eq)]
+pub enum LoadFault {
+    /// The database is no office's, or its office refuses the text; nothing is loaded.
+    Store(StoreFault),
+    /// It is loaded, but the writer failed; how much of the line went out is not known.
+    Write,
+}
+
+/// The office of a database: a new one where there is no table, index or view. `BadSchema`: what
+/// is there is no office. `Store`: a statement failed, memory was refused, or a transaction is
+/// open. A refusal hands the connection back.
+pub fn office_in<S: Alter>(
+    alloc: Global,
+    conn: Connection<S>,
+) -> Result<Office<S>, (StoreFault, Connection<S>)>
+    // The office that the database stands for is the one that is found.
+    ensures found { IfOk result (λ office. HasCleanDisk (state S.Store office)
+        → (there : OfficeState) → IsOfficeOf (state S.Store conn).now there
+        → Now (state S.Store office) there) }
+    // But for Store, it stands for none.
+    ensures refused { IfErr result (λ e. HasCleanDisk (state S.Store e.1)
+        → (e.0 ≡ store.Store) ⊎ ((there : OfficeState)
+        → IsOfficeOf (state S.Store conn).now there → ⊥)) }
+{
+    if is_bare(&conn) {
+        return match Office::create(conn) {
+            Ok(office) => Ok(office),
+            // There are no tables, so a statement failed.
+            Err((_, conn)) => Err((StoreFault::Store, conn)),
+        };
+    }
+    match Office::adopt(alloc, conn) {
+        Ok(office) => Ok(office),
+        Err((StoreFault::BadSchema, conn)) => Err((StoreFault::BadSchema, conn)),
+        Err((_, conn)) => Err((StoreFault::Store, conn)),
+    }
+}
+
+// It shows as the line of how much was loaded.
+#[derive(Clone, Copy)]
+struct LoadedLine {
+    loaded: Loaded,
+}
+
+impl fmt::Display for LoadedLine {
+    ghost use Rattle.std.specs.Prelude.{Some};
+    ghost use Rattle.office_program.specs.Load.{loaded_line};
+
+    ghost output = { λ line. Some (loaded_line line.loaded) };
+
+    fn fmt<W: fmt::Write>(&self, f: &mut fmt::Formatter<W>) -> fmt::Result {
+        let Loaded {
+            exams,
+            pairs,
+            periods,
+            rooms,
+        } = self.loaded;
+        write!(
+            f,
+            "loaded exams {exams} pairs {pairs} periods {periods} rooms {rooms}"
+        )
+    }
+}
+
+// Writes how much was loaded.
+fn print_loaded<W: Write>(loaded: Loaded, writer: &mut W) -> io::Result<()>
+    ensures { OnOk result
+        (Appends (W.contents writer.old) (W.contents writer.new) (loaded_text loaded)) }
+{
+    let line = LoadedLine { loaded };
+    writeln!(writer, "{line}")
+}
+
+// Loads the text into the office, and writes how much was loaded.
+fn load_into<S: Alter, W: Write>(
+    alloc: Global,
+    office: &mut Office<S>,
+    text: &[u8],
+    writer: &mut W,
+) -> Result<(), LoadFault>
+    ensures done { HasCleanDisk (state S.Store office.new) → (there : OfficeState)
+        → Now (state S.Store office.old) there
+        → OnOk result (Loads text.now there (state S.Store office.new)
+        (W.contents writer.old) (W.contents writer.new)) }
+    ensures printed { OnOk result (PrintsCounts (W.contents writer.old) (W.contents writer.new)) }
+    ensures refused { HasCleanDisk (state S.Store office.new) → (there : OfficeState)
+        → Now (state S.Store office.old) there
+        → IfErr result (RefusesLoad text.now there (state S.Store office.new)) }
+    ensures unwritten { IfErr result (λ fault. fault ≢ LoadFault.Write
+        → Keeps (W.contents writer.old) (W.contents writer.new)) }
+    ensures clean { HasCleanDisk (state S.Store office.new)
+        → HasCleanDisk (state S.Store office.old) }
+{
+    let loaded = match office.load(alloc, text) {
+        Ok(loaded) => loaded,
+        Err(fault) => return Err(LoadFault::Store(fault)),
+    };
+    match print_loaded(loaded, writer) {
+        Ok(()) => Ok(()),
+        Err(_) => Err(LoadFault::Write),
+    }
+}
+
+/// Loads the session of an instance's text into the office of a database, which is made where
+/// the database has no table, index or view; then writes how much was loaded. The connection
+/// comes back.
+pub fn load_run<S: Alter, W: Write>(
+    alloc: Global,
+    conn: Connection<S>,
+    text: &[u8],
+    writer: &mut W,
+) -> Result<Connection<S>, (LoadFault, Connection<S>)>
+    // Over a disk that returns what was written: the line tells what the office answers.
+    ensures done { IfOk result (λ after. HasCleanDisk (state S.Store after)
+        → (there : OfficeState) → IsOfficeOf (state S.Store conn).now there
+        → Loads text.now there (state S.Store after)
+        (W.contents writer.old) (W.contents writer.new)) }
+    ensures refused { IfErr result (λ e. HasCleanDisk (state S.Store e.1)
+        → (there : OfficeState) → IsOfficeOf (state S.Store conn).now there
+        → RefusesLoad text.now there (state S.Store e.1) e.0) }
+
+    // Over any disk a line of four counts is written, or nothing.
+    ensures printed { IfOk result (λ _.
+        PrintsCounts (W.contents writer.old) (W.contents writer.new)) }
+    ensures unwritten { IfErr result (λ e. e.0 ≢ LoadFault.Write
+        → Keeps (W.contents writer.old) (W.contents writer.new)) }
+{
+    let mut office = match office_in(alloc, conn) {
+        Ok(office) => office,
+        Err((fault, conn)) => return Err((LoadFault::Store(fault), conn)),
+    };
+    match load_into(alloc, &mut office, text, writer) {
+        Ok(()) => Ok(office.release()),
+        Err(fault) => Err((fault, office.release())),
+    }
+}

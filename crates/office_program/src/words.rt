@@ -1,0 +1,148 @@
+// The words of a command line.
+ghost use Rattle.std.specs.IoError.{error_kind};
+ghost use Rattle.std.specs.Iterator.{Drains};
+ghost use Rattle.std.specs.Prelude.{◌≡◌, IfErr, IfOk, Some, false, map, string_bytes};
+ghost use Rattle.std.specs.Vec.Iter.{into_iter_steps};
+ghost use Rattle.std.specs.declared.io.ErrorKind.TheVariants as failure;
+ghost use Rattle.clap.specs.Words.{FailsBy, found_of, kind_of, rows_of, rule_of};
+ghost use Rattle.clap.specs.Words.{subcommand_of, subcommand_rows_of};
+ghost use Rattle.clap.specs.Faults.{fault_of};
+ghost use Rattle.clap.specs.declared.builder.texts.Texts.TheVariants.{One};
+ghost use Rattle.clap.specs.declared.error.kind.ErrorKind.TheVariants.{OutOfMemory};
+ghost use Rattle.clap.specs.Words.{first_of};
+ghost use Rattle.office_program.specs.Program.{AddsShape, HasCheckValues, HasLoadValues, IsTask};
+ghost use Rattle.office_program.specs.Program.{check_app, load_app, named_rule, program, required_rule};
+
+use clap::{Arg, ArgMatches, Command, Error};
+use std::alloc::{AllocError, Global};
+use std::env::Args;
+use std::io;
+
+/// What the program is to do, with the paths of the files that it names.
+#[derive(Debug, Drop)]
+pub enum Task {
+    /// Judges a solution: the instance's file, then the solution's.
+    Check(String, String),
+    /// Loads an office: its database's file, then the instance's.
+    Load(String, String),
+}
+
+/// The words of the command line, in their order.
+pub fn words_of(alloc: Global, args: Args) -> io::Result<Vec<String>>
+    ensures all { IfOk result (λ words. Drains into_iter_steps args words.items) }
+    ensures err { IfErr result (λ fault. error_kind fault ≡ failure.OutOfMemory) }
+{
+    Ok(args.collect(alloc)?)
+}
+
+// An argument that has to be there.
+fn required<'a>(alloc: Global, id: &'a str, name: &'a str, help: &'a str) -> Arg<'a>
+    ensures rule { rule_of result ≡ required_rule id.now }
+    ensures local { result.global ≡ false }
+    ensures name { result.val_names ≡ One name.entry }
+    ensures help { result.help ≡ Some help.entry }
+{
+    Arg::new(alloc, id)
+        .value_name(name)
+        .help(help)
+        .required(true)
+}
+
+// An option that has to be there, with a value.
+fn named<'a>(alloc: Global, id: &'a str, name: &'a str, help: &'a str) -> Arg<'a>
+    ensures rule { rule_of result ≡ named_rule id.now }
+    ensures local { result.global ≡ false }
+    ensures name { result.val_names ≡ One name.entry }
+    ensures help { result.help ≡ Some help.entry }
+{
+    required(alloc, id, name, help).long(id)
+}
+
+// The command `check`.
+fn check_command<'a>(alloc: Global) -> Result<Command<'a>, AllocError>
+    ensures { IfOk result (λ c. AddsShape c check_app.top) }
+{
+    let instance = required(alloc, "instance", "INSTANCE", "The file of the instance");
+    let solution = required(alloc, "solution", "SOLUTION", "The file of the solution");
+    Command::new(alloc, "check")
+        .about("Judges a solution by the rules of ITC 2007, examination track")
+        .arg(instance)?
+        .arg(solution)
+}
+
+// The command `load`.
+fn load_command<'a>(alloc: Global) -> Result<Command<'a>, AllocError>
+    ensures { IfOk result (λ c. AddsShape c load_app.top) }
+{
+    let database = named(alloc, "db", "FILE", "The file of the office's database");
+    let instance = required(alloc, "instance", "INSTANCE", "The file of the instance");
+    Command::new(alloc, "load")
+        .about("Loads an instance with its enrolments into an office, once")
+        .arg(database)?
+        .arg(instance)
+}
+
+// What clap finds in the words.
+fn matches(alloc: Global, words: &[String]) -> Result<ArgMatches<'_>, Error>
+    ensures found { IfOk result (λ m.
+        subcommand_rows_of m ≡ subcommand_of program (map string_bytes words.now)) }
+    ensures kinds { FailsBy (fault_of program (map string_bytes words.now)) result }
+{
+    let check = check_command(alloc)?;
+    let load = load_command(alloc)?;
+    let whole = Command::new(alloc, "examoffice")
+        .about("The office of an examination session, by the rules of ITC 2007")
+        .subcommand_required(true)
+        .subcommand(check)?
+        .subcommand(load)?;
+    whole.try_get_matches_from(words)
+}
+
+// The value that was found. Clap has seen to it that it is there, but its contract says so of no
+// subcommand: a value that is missing would be answered as want of memory.
+fn value_of(alloc: Global, values: &ArgMatches<'_>, id: &str) -> Result<String, Error>
+    ensures ok { IfOk result (λ value.
+        first_of id.now (rows_of (found_of values.now)) ≡ Some (string_bytes value)) }
+    ensures err { IfErr result (λ e. kind_of e ≡ OutOfMemory) }
+{
+    match values.get_str(id) {
+        Some(value) => Ok(String::from_str(alloc, value)?),
+        None => Err(Error::from(AllocError)),
+    }
+}
+
+// The task of `check` with these values.
+fn check_task(alloc: Global, values: &ArgMatches<'_>) -> Result<Task, Error>
+    ensures ok { IfOk result (HasCheckValues (rows_of (found_of values.now))) }
+    ensures err { IfErr result (λ e. kind_of e ≡ OutOfMemory) }
+{
+    let instance = value_of(alloc, values, "instance")?;
+    let solution = value_of(alloc, values, "solution")?;
+    Ok(Task::Check(instance, solution))
+}
+
+// The task of `load` with these values.
+fn load_task(alloc: Global, values: &ArgMatches<'_>) -> Result<Task, Error>
+    ensures ok { IfOk result (HasLoadValues (rows_of (found_of values.now))) }
+    ensures err { IfErr result (λ e. kind_of e ≡ OutOfMemory) }
+{
+    let database = value_of(alloc, values, "db")?;
+    let instance = value_of(alloc, values, "instance")?;
+    Ok(Task::Load(database, instance))
+}
+
+/// The command that the words give, of which the first is the program's name. An error shows as
+/// the text for the user: a mistake in the words, a call for help, or want of memory.
+pub fn read_words(alloc: Global, words: &[String]) -> Result<Task, Error>
+    ensures task { IfOk result (IsTask (map string_bytes words.now)) }
+    ensures kinds { FailsBy (fault_of program (map string_bytes words.now)) result }
+{
+    let found = matches(alloc, words)?;
+    if let Some(values) = found.subcommand_matches("check") {
+        return check_task(alloc, values);
+    }
+    match found.subcommand_matches("load") {
+        Some(values) => load_task(alloc, values),
+        None => Err(Error::from(AllocError)),
+    }
+}
