@@ -27,5 +27,3 @@ enrolments_enrol E e xs lt none up fits was = record {
   ];
   pairs = omega (arith, pair_count-enrol E e xs lt none);
 }
-
-pub ruleset enrol_facts = (pair_count-enrol, enrolments_enrol)

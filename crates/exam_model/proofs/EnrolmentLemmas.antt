@@ -21,7 +21,7 @@ students-none zero e = refl
 students-none (suc n) zero = refl
 students-none (suc n) (suc e) = students-none n e
 
-pair_count-none : (n : ℕ) → pair_count (replicate n []) ≡ 0
+pub pair_count-none : (n : ℕ) → pair_count (replicate n []) ≡ 0
 pair_count-none n = let sums = sum_by-replicate {X = List ℕ} length n [] in omega arith
 
 -- no pairs are enrolments
@@ -148,4 +148,4 @@ enrolments_left E e s new lt leaves was = record {
   ] refl;
 }
 
-pub ruleset enrolment_facts = (size-le, enrolments_none, adds_set, enrolments_set, removes_set, enrolments_left)
+pub ruleset size_facts = (size-le)

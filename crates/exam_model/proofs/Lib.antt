@@ -1,3 +1,4 @@
+mod CountLemmas
 mod EnrolLemmas
 mod EnrolmentLemmas
 pub mod PairLemmas

@@ -27,7 +27,6 @@ impl Model for Enrolments {
 
 impl Enrolments {
     /// The empty set of pairs, for so many exams. Only memory can be refused.
-    #[tactic(auto, using(crate::proofs::EnrolmentLemmas::enrolment_facts))]
     pub fn new(alloc: Global, exams: u32) -> Result<Enrolments, ModelFault>
         requires at_least { 1 ≤ exams }
         requires at_most { exams ≤ 2000 }
@@ -78,7 +77,7 @@ impl Enrolments {
     }
 
     /// How many students sit the exam.
-    #[tactic(auto, using(crate::proofs::EnrolmentLemmas::enrolment_facts))]
+    #[tactic(auto, using(crate::proofs::EnrolmentLemmas::size_facts))]
     pub fn size(&self, exam: ExamNo) -> u32
         requires exists { exam < length self.now }
         ensures size { result ≡ size_of self.now exam }
@@ -89,7 +88,7 @@ impl Enrolments {
     }
 
     /// How many students sit both exams.
-    #[tactic(auto, using(crate::proofs::EnrolmentLemmas::enrolment_facts))]
+    #[tactic(auto, using(crate::proofs::EnrolmentLemmas::size_facts))]
     pub fn shared(&self, exam: ExamNo, other: ExamNo) -> u32
         requires exists { exam < length self.now }
         requires other_exists { other < length self.now }
@@ -109,7 +108,6 @@ impl Enrolments {
     /// Adds a pair, and answers whether it is new. `NoSuch` comes where there is no such exam,
     /// else `Range` for a new pair where 200,000 are there, else `NoMemory`. A student moves all
     /// greater ones of the exam, so it is quick where they come in ascending order.
-    #[tactic(auto, using(crate::proofs::EnrolmentLemmas::enrolment_facts))]
     pub fn add(&mut self, student: StudentNo, exam: ExamNo) -> Result<bool, ModelFault>
         ensures fresh { IfOk result (λ fresh. fresh ≡ not (has self.old student exam)) }
         ensures exists { OnOk result (exam < length self.old) }
@@ -133,7 +131,6 @@ impl Enrolments {
     }
 
     /// Takes a pair out, and answers whether it was there; the exam's greater students move.
-    #[tactic(auto, using(crate::proofs::EnrolmentLemmas::enrolment_facts))]
     pub fn remove(&mut self, student: StudentNo, exam: ExamNo) -> bool
         requires exists { exam < length self.old }
         ensures removed { result ≡ has self.old student exam }
@@ -149,7 +146,6 @@ impl Enrolments {
 
     /// Puts ascending students into an exam that has none. `Range` comes where more than 200,000
     /// pairs would be there, else `NoMemory`.
-    #[tactic(auto, using(crate::proofs::EnrolLemmas::enrol_facts))]
     pub fn enrol(&mut self, sitters: &[StudentNo], exam: ExamNo) -> Result<(), ModelFault>
         requires exists { exam < length self.old }
         requires empty { students self.old exam ≡ [] }

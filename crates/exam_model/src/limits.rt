@@ -1,6 +1,6 @@
 // The tests behind `Instance::new`.
 ghost use Rattle.std.specs.Prelude.{◌↔◌, ◌≤◌, length, IsTrue, All};
-ghost use Rattle.exam_model.specs.Limits.{IsCount, PeriodInLimits, WeightsInLimits};
+ghost use Rattle.exam_model.specs.Limits.{AreCounted, IsCount, ExamInLimits, PeriodInLimits, RoomInLimits, WeightsInLimits};
 ghost use Rattle.exam_model.specs.Instance.{session, InLimits, PeriodRuleExists, RoomRuleExists};
 
 use crate::parts::{Exam, Period, Room, Weights};
@@ -44,16 +44,6 @@ impl PeriodRule {
     }
 }
 
-fn are_counted(exams: &[Exam], periods: &[Period], rooms: &[Room], rules: &[PeriodRule]) -> bool
-    ensures { IsTrue result ↔ (IsCount 2000 (length exams.now) × IsCount 200 (length periods.now)
-        × IsCount 200 (length rooms.now) × (length rules.now ≤ 5000)) }
-{
-    (1..=2000).contains(&exams.len())
-        && (1..=200).contains(&periods.len())
-        && (1..=200).contains(&rooms.len())
-        && rules.len() <= 5000
-}
-
 /// Whether every limit holds of the parts of a session.
 pub fn in_limits(
     exams: &[Exam],
@@ -66,14 +56,43 @@ pub fn in_limits(
     ensures { IsTrue result ↔ InLimits (session exams.now periods.now rooms.now
         period_rules.now room_rules.now weights.now) }
 {
-    are_counted(exams, periods, rooms, period_rules)
+    are_counted(exams, periods, rooms, period_rules, room_rules)
+        && each_in_limits(exams, periods, rooms)
+        && weights.in_limits()
+}
+
+fn are_counted(
+    exams: &[Exam],
+    periods: &[Period],
+    rooms: &[Room],
+    period_rules: &[PeriodRule],
+    room_rules: &[RoomRule],
+) -> bool
+    ensures { IsTrue result ↔ AreCounted (length exams.now) (length periods.now)
+        (length rooms.now) (length period_rules.now) (length room_rules.now) }
+{
+    is_count(2000, exams.len())
+        && is_count(200, periods.len())
+        && is_count(200, rooms.len())
+        && period_rules.len() <= 5000
         && room_rules.len() <= 5000
-        && exams.iter().all(|e| e.minutes <= 1440)
+}
+
+fn is_count(limit: usize, count: usize) -> bool
+    ensures { IsTrue result ↔ IsCount limit count }
+{
+    (1..=limit).contains(&count)
+}
+
+fn each_in_limits(exams: &[Exam], periods: &[Period], rooms: &[Room]) -> bool
+    ensures { IsTrue result ↔ (All ExamInLimits exams.now × All PeriodInLimits periods.now
+        × All RoomInLimits rooms.now) }
+{
+    exams.iter().all(|e| e.minutes <= 1440)
         && periods.iter().all(|p| p.in_limits())
         && rooms
             .iter()
             .all(|r| r.capacity <= 100_000 && r.penalty <= 100_000)
-        && weights.in_limits()
 }
 
 /// Whether every exam that a rule names is one of so many.

@@ -1,5 +1,5 @@
 -- In an instance the cap on a cost changes nothing.
-use Rattle.std.proofs.Common.{◌≡◌, ℕ, ◌≤◌, Bool, true, false, List, arith}
+use Rattle.std.proofs.Common.{◌≡◌, ℕ, ◌≤◌, Bool, true, false, List, arith, Fits, w32}
 use Rattle.std.specs.Prelude.{min, if◌then◌else◌, ◌&&◌, ◌==◌, nat_le}
 use Rattle.exam_model.specs.Instance.{Session, IsInstance, gap, same_day}
 use Rattle.exam_score.specs.Cost.{row_cost, day_cost}
@@ -17,6 +17,13 @@ day_cost-small s known p q = picked (same_day s.periods p q && nat_le 2 (gap p q
 
 min-small : (n : ℕ) → n ≤ 100000 → min n 100000 ≡ n
 min-small n h = omega arith
+
+-- a cost fits where it is written down
+pub capped_fits : (n cost : ℕ) → n ≡ min cost 100000 → Fits w32 n
+capped_fits n cost is = omega arith
+
+pub one_fits : (n cost : ℕ) → n ≡ cost → cost ≤ 1 → Fits w32 n
+one_fits n cost is small = omega arith
 
 pub row_known : (s : Session) → IsInstance s → (xs : List ℕ)
     → candidate_cost (λ p q. min (row_cost s.periods s.weights p q) 100000) xs ≡ candidate_cost (row_cost s.periods s.weights) xs

@@ -1,9 +1,11 @@
 -- How many exams are larger, by the list of their sizes.
-use Rattle.std.proofs.Common.{◌≡◌, ℕ, zero, suc, ◌+◌, ◌-◌, ◌<◌, ◌≤◌, take_all, Bool, cond, List, length, take, drop, count_by, refl, sym, ◌∙◌, ap, ap₂, arith, add-one}
+use Rattle.std.proofs.Common.{◌≡◌, ℕ, zero, suc, ◌+◌, ◌-◌, ◌<◌, ◌≤◌, take_all, Bool, cond, List, length, take, drop, count_by, refl, sym, ◌∙◌, ap, ap₂, arith, add-one, [], ◌∷◌, ◌++◌, subst}
 use Rattle.std.specs.Prelude.{slice_index, nat_lt, nat_le, ◌==◌, ◌&&◌, ◌||◌, if◌then◌else◌}
 use Rattle.std.proofs.lemmas.Bool.Decides.{nat_tests}
+use Rattle.std.proofs.lemmas.Grind.{common_steps}
+use Rattle.std.proofs.lemmas.List.{length_push}
 use Rattle.std.proofs.lemmas.List.Sums.{sum_by_more, sum_by-take-drop}
-use Rattle.exam_model.specs.Enrolments.{Enrolled}
+use Rattle.exam_model.specs.Enrolments.{Enrolled, size_of}
 use Rattle.exam_model.specs.Instance.{Session}
 use Rattle.exam_model.specs.Sums.{count_below}
 use Rattle.exam_model.specs.Timetable.{Placing, place_of}
@@ -65,5 +67,20 @@ front_by_sizes s E t sizes e are exams within =
     = sum_below-within (λ f. cond (is_larger_by sizes f e) 1 0) (λ f. cond (is_larger E f e) 1 0) (length sizes) (λ f l. ap (λ b. cond b 1 0) (same f l))
     ∙ ap (λ n. count_below n (λ f. is_larger E f e)) long in
     ap (λ n. if nat_lt n s.weights.front_exams && is_late s (place_of t e) then s.weights.front else 0) count
+
+sizes_push : (E : Enrolled) (xs : List ℕ) (n e : ℕ)
+    → ((f : ℕ) → f < length xs → slice_index xs f ≡ size_of E f) → n ≡ size_of E (length xs)
+    → e < length (xs ++ n ∷ []) → slice_index (xs ++ n ∷ []) e ≡ size_of E e
+sizes_push E xs n e each is within = grind (arith, common_steps)
+
+-- the sizes of the exams before one, and its own after them
+pub sizes_more : (E : Enrolled) (xs ys : List ℕ) (n e : ℕ) → ys ≡ xs ++ n ∷ [] → n ≡ size_of E e
+    → length xs ≡ e → ((f : ℕ) → f < length xs → slice_index xs f ≡ size_of E f)
+    → record { count : length ys ≡ e + 1; each : (f : ℕ) → f < length ys → slice_index ys f ≡ size_of E f }
+sizes_more E xs ys n e items is count each = record {
+  count = ap length items ∙ length_push xs n ∙ ap (λ k. k + 1) count;
+  each = λ f. subst (λ zs. f < length zs → slice_index zs f ≡ size_of E f) (sym items)
+      (sizes_push E xs n f each (is ∙ ap (size_of E) (sym count)));
+}
 
 pub ruleset front_facts = (sum_below_more, front_by_sizes)

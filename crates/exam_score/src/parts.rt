@@ -72,9 +72,10 @@ impl Parts {
         ensures beyond { IfNone result
             (2 ^ 62 ≤ row + day + spread + mixed + front + period + room) }
     {
-        let pairs = row.checked_add(day)?.checked_add(spread)?;
-        let exams = pairs.checked_add(mixed)?.checked_add(front)?;
-        let total = exams.checked_add(period)?.checked_add(room)?;
+        // A sum beyond u64 stays at its greatest number, which is beyond the limit too.
+        let pairs = row.saturating_add(day).saturating_add(spread);
+        let exams = pairs.saturating_add(mixed).saturating_add(front);
+        let total = exams.saturating_add(period).saturating_add(room);
         if total < TOTAL_LIMIT {
             Some(Parts {
                 row,

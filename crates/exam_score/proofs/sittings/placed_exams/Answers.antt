@@ -34,3 +34,13 @@ loop-exam-preserved c =
             exist = c.loop-exam.invariant.exist;
           }))
     ]
+
+pub returns-clause-all : goal.returns-clause-all
+returns-clause-all c =
+    let t = c.args.timetable.now in
+    let end : c.loop-exam.exam ≡ length t = omega (arith, c.exams-exam-end.ensures.count) in
+    λ g. c.loop-exam.invariant.all g
+    ∙ ap (λ n. sum_below n (λ e. if_placed (g e) (period_of t e))) end
+
+pub returns-clause-exist : goal.returns-clause-exist
+returns-clause-exist c = c.loop-exam.invariant.exist

@@ -1,0 +1,135 @@
+-- What the lists and the count of pairs keep where the list of one exam changes.
+use Rattle.std.proofs.Common.{◌≡◌, ◌∙◌, ℕ, ◌+◌, ◌-◌, ◌<◌, ◌≤◌, Bool, true, false, List, [], length, set, refl, sym, ap, subst, arith, slice_index_or, Fits, w32, Result, Ok, Err, OnErr}
+use Rattle.std.specs.Prelude.{not}
+use Rattle.std.proofs.lemmas.List.{get_or_read, set-get_or}
+use Rattle.exam_model.specs.Enrolments.{Enrolled, AreEnrolments, IsAscending, Enters, Leaves, Adds, Removes, students, has, has_student, pair_count}
+use Rattle.exam_model.proofs.EnrolmentLemmas.{adds_set, enrolments_set, removes_set, enrolments_left}
+use Rattle.exam_model.proofs.EnrolLemmas.{pair_count-enrol, enrolments_enrol}
+
+-- what every value of the type keeps
+abbrev pub IsCounted : Enrolled → ℕ → Type 0
+IsCounted E p = AreEnrolments E × (p ≡ pair_count E)
+
+-- an exam of the view is one of the lists behind it
+pub exam_within : {E T : Enrolled} {e f : ℕ} → E ≡ T → e ≡ f → f < length T → e < length E
+exam_within view is lt = rw (view, is) lt
+
+-- a list put back where it was changes nothing
+pub set_again : (E : Enrolled) (e : ℕ) (roll : List ℕ) → e < length E
+    → roll ≡ slice_index_or E e roll → set E e roll ≡ E
+set_again E e roll lt is = ap (set E e) (get_or_read E e roll lt is []) ∙ set-get_or E e []
+
+pub counted_again : (E : Enrolled) (e p : ℕ) (roll : List ℕ) → e < length E
+    → roll ≡ slice_index_or E e roll → IsCounted E p → IsCounted (set E e roll) p
+counted_again E e p roll lt is was =
+    subst (λ (F : Enrolled). IsCounted F p) (sym (set_again E e roll lt is)) was
+
+-- one more pair has a number too
+pub one_more_fits : (E : Enrolled) (p : ℕ) → IsCounted E p → Fits w32 (p + 1)
+one_more_fits E p was = let count : p ≡ pair_count E = was.1 in omega (arith, was.0.pairs)
+
+-- a student who is new wasn't there, and one who isn't was
+pub new_absent : (new there : Bool) → new ≡ not there → new ≡ true → there ≡ false
+new_absent new true is yes' = absurd (cc)
+new_absent new false is yes' = refl
+
+pub old_present : (new there : Bool) → new ≡ not there → new ≡ false → there ≡ true
+old_present new true is no' = refl
+old_present new false is no' = absurd (cc)
+
+-- a student is in the exam's list where the pair is in the set
+pub is_has : (E : Enrolled) (e s : ℕ) (roll : List ℕ) → e < length E
+    → roll ≡ slice_index_or E e roll → has_student roll s ≡ has E s e
+is_has E e s roll lt is =
+    ap (λ (r : List ℕ). has_student r s) (get_or_read E e roll lt is [])
+
+-- a new pair is refused where no more may come
+pub full_refuses : (E : Enrolled) (e s p : ℕ) (roll : List ℕ) → e < length E
+    → roll ≡ slice_index_or E e roll → false ≡ has_student roll s → 200000 ≤ p → IsCounted E p
+    → (e < length E) × (has E s e ≡ false) × (pair_count E ≡ 200000)
+full_refuses E e s p roll lt is absent full was =
+    let count : p ≡ pair_count E = was.1 in
+    (lt, sym (is_has E e s roll lt is) ∙ sym absent, omega (arith, was.0.pairs))
+
+-- a student put into the exam's list is a pair added
+pub adds_entered : (E : Enrolled) (e s : ℕ) (roll new : List ℕ) → e < length E
+    → roll ≡ slice_index_or E e roll → Enters roll new s → Adds E (set E e new) s e
+adds_entered E e s roll new lt is enters =
+    adds_set E e s new lt
+    (subst (λ (r : List ℕ). Enters r new s) (get_or_read E e roll lt is []) enters)
+
+-- and the count goes up for one who is new, and stays for one who isn't
+pub counted_new : (E : Enrolled) (e s p : ℕ) (roll new : List ℕ) → e < length E
+    → roll ≡ slice_index_or E e roll → Enters roll new s → has_student roll s ≡ false
+    → p < 200000 → IsCounted E p → IsCounted (set E e new) (p + 1)
+counted_new E e s p roll new lt is enters absent room was =
+    let here = subst (λ (r : List ℕ). Enters r new s) (get_or_read E e roll lt is []) enters in
+    let none = sym (is_has E e s roll lt is) ∙ absent in
+    let count : p ≡ pair_count E = was.1 in
+    let more = rw none at ((adds_set E e s new lt here).pairs) in
+    (enrolments_set E e s new lt here (λ x. omega arith) was.0, omega arith)
+
+pub counted_old : (E : Enrolled) (e s p : ℕ) (roll new : List ℕ) → e < length E
+    → roll ≡ slice_index_or E e roll → Enters roll new s → has_student roll s ≡ true
+    → IsCounted E p → IsCounted (set E e new) p
+counted_old E e s p roll new lt is enters present was =
+    let here = subst (λ (r : List ℕ). Enters r new s) (get_or_read E e roll lt is []) enters in
+    let there : has E s e ≡ true = sym (is_has E e s roll lt is) ∙ present in
+    let same = rw there at ((adds_set E e s new lt here).pairs) in
+    (enrolments_set E e s new lt here (λ x. absurd (cc)) was.0, was.1 ∙ sym same)
+
+-- a student taken out of the exam's list is a pair taken out
+pub removes_left : (E : Enrolled) (e s : ℕ) (roll new : List ℕ) → e < length E
+    → roll ≡ slice_index_or E e roll → Leaves roll new s → Removes E (set E e new) s e
+removes_left E e s roll new lt is leaves =
+    removes_set E e s new lt
+    (subst (λ (r : List ℕ). Leaves r new s) (get_or_read E e roll lt is []) leaves)
+
+pub kept_left : (E : Enrolled) (e s : ℕ) (roll new : List ℕ) → e < length E
+    → roll ≡ slice_index_or E e roll → Leaves roll new s → AreEnrolments E
+    → AreEnrolments (set E e new)
+kept_left E e s roll new lt is leaves was =
+    enrolments_left E e s new lt
+    (subst (λ (r : List ℕ). Leaves r new s) (get_or_read E e roll lt is []) leaves) was
+
+-- so many pairs were there where one is taken out
+pub count_less : (E : Enrolled) (e s p : ℕ) (roll new : List ℕ) → e < length E
+    → roll ≡ slice_index_or E e roll → Leaves roll new s → has_student roll s ≡ true
+    → p ≡ pair_count E → p ≡ pair_count (set E e new) + 1
+count_less E e s p roll new lt is leaves present was =
+    let there = sym (is_has E e s roll lt is) ∙ present in
+    was ∙ rw there at ((removes_left E e s roll new lt is leaves).pairs)
+
+pub count_same : (E : Enrolled) (e s p : ℕ) (roll new : List ℕ) → e < length E
+    → roll ≡ slice_index_or E e roll → Leaves roll new s → has_student roll s ≡ false
+    → p ≡ pair_count E → p ≡ pair_count (set E e new)
+count_same E e s p roll new lt is leaves absent was =
+    let none = sym (is_has E e s roll lt is) ∙ absent in
+    was ∙ rw none at ((removes_left E e s roll new lt is leaves).pairs)
+
+-- students put into an exam that has none are so many pairs more
+pub counted_filled : (E : Enrolled) (e p : ℕ) (xs : List ℕ) → e < length E → students E e ≡ []
+    → IsAscending xs → length xs ≤ 200000 - p → IsCounted E p
+    → IsCounted (set E e xs) (p + length xs)
+counted_filled E e p xs lt none up fits was =
+    let count : p ≡ pair_count E = was.1 in
+    let sum = pair_count-enrol E e xs lt none in
+    (enrolments_enrol E e xs lt none up (omega (arith, was.0.pairs)) was.0, omega arith)
+
+-- more students than there is room for are refused, and so many as there is room for have a number
+pub more_refuse : (E : Enrolled) (p n : ℕ) → 200000 - p < n → IsCounted E p
+    → 200000 < pair_count E + n
+more_refuse E p n more was = let count : p ≡ pair_count E = was.1 in omega (arith, was.0.pairs)
+
+pub filled_fits : (p n : ℕ) → n ≤ 200000 - p → p ≤ 200000 → Fits w32 n × Fits w32 (p + n)
+filled_fits p n room few = (omega arith, omega arith)
+
+-- the list of an exam that has no students is empty
+pub none_at : (E : Enrolled) (e : ℕ) (roll : List ℕ) → e < length E
+    → roll ≡ slice_index_or E e roll → students E e ≡ [] → roll ≡ []
+none_at E e roll lt is none = get_or_read E e roll lt is [] ∙ none
+
+-- what holds in any case holds after an error
+pub on_err : {T E P : Type 0} (r : Result T E) → P → OnErr r P
+on_err (Ok x) p = tt
+on_err (Err x) p = p
