@@ -3,7 +3,8 @@ ghost use Rattle.std.specs.Prelude.{◌≡◌, ◌<◌, ◌≤◌, ◌++◌, ◌
 ghost use Rattle.exam_model.specs.Limits.{PeriodInLimits};
 ghost use Rattle.office_files.specs.CanonicalText.{line_of, before, two_digits, date_text, time_text};
 ghost use Rattle.office_files.specs.CanonicalText.{exam_text, period_text};
-ghost use Rattle.office_files.specs.CanonicalText.{period_rule_text, room_rule_text, weighting_text};
+ghost use Rattle.office_files.specs.CanonicalText.{period_rule_text, room_rule_text, weighed};
+ghost use Rattle.office_files.specs.CanonicalText.{weighting_text};
 
 use crate::weightings::Weighting;
 use exam_model::{Exam, ExamNo, Period, PeriodRule, RoomRule, StudentNo};
@@ -122,16 +123,24 @@ pub fn add_room_rule(text: &mut String, rule: RoomRule) -> Result<(), AllocError
     add_word(text, rule.0, "ROOM_EXCLUSIVE")
 }
 
+// Adds the line of a word and its number.
+fn add_weighed(text: &mut String, word: &str, number: u32) -> Result<(), AllocError>
+    ensures { OnOk result
+        (string_bytes text.new ≡ string_bytes text.old ++ line_of (weighed word.now number)) }
+{
+    write!(text, "{word},{number}\r\n")
+}
+
 /// Adds the line of a weighting.
 pub fn add_weighting(text: &mut String, said: Weighting) -> Result<(), AllocError>
     ensures { OnOk result
         (string_bytes text.new ≡ string_bytes text.old ++ line_of (weighting_text said)) }
 {
     match said {
-        Weighting::Row(weight) => write!(text, "TWOINAROW,{weight}\r\n"),
-        Weighting::Day(weight) => write!(text, "TWOINADAY,{weight}\r\n"),
-        Weighting::Spread(periods) => write!(text, "PERIODSPREAD,{periods}\r\n"),
-        Weighting::Mixed(weight) => write!(text, "NONMIXEDDURATIONS,{weight}\r\n"),
+        Weighting::Row(weight) => add_weighed(text, "TWOINAROW", weight),
+        Weighting::Day(weight) => add_weighed(text, "TWOINADAY", weight),
+        Weighting::Spread(periods) => add_weighed(text, "PERIODSPREAD", periods),
+        Weighting::Mixed(weight) => add_weighed(text, "NONMIXEDDURATIONS", weight),
         Weighting::Front(exams, periods, weight) => {
             write!(text, "FRONTLOAD,{exams},{periods},{weight}\r\n")
         }

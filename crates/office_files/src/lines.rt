@@ -11,7 +11,7 @@ use memchr::memchr;
 use std::marker::Model;
 
 /// What stands on a line or in a field of a text, without the blanks around it.
-#[derive(Clone, Copy, Debug)]
+#[derive(Clone, Copy)]
 pub struct Token<'a> {
     /// The line in the text, counted from 1.
     pub line: u32,

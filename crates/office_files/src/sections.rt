@@ -1,16 +1,17 @@
 // Reading the sections of an instance file, one after another.
-ghost use Rattle.std.specs.Prelude.{◌≡◌, ◌≢◌, ℕ, ◌+◌, ◌≤◌, [], length, take, drop, OnOk, IfOk, IfErr};
+ghost use Rattle.std.specs.Prelude.{◌≡◌, ◌≢◌, ℕ, ◌+◌, ◌≤◌, List, [], ◌∷◌, length, take, drop, OnOk, IfOk, IfErr};
 ghost use Rattle.office_files.specs.Faults.{IsOfNoLine};
-ghost use Rattle.office_files.specs.Lines.{lines_of, line_count, section_size};
+ghost use Rattle.office_files.specs.Lines.{Located, lines_of, line_count, section_size};
 ghost use Rattle.office_files.specs.Reading.{Gives, items_of};
 ghost use Rattle.office_files.specs.Sections.{Heading, opened, section_in};
 ghost use Rattle.office_files.specs.InstanceText.{no_more};
+ghost use Rattle.office_files.specs.Tokens.{token_of};
 
 use crate::counts::Counts;
 use crate::fault::{FaultKind, FileFault};
 use crate::headers::header;
 use crate::items::LineItem;
-use crate::lines::{Lines, line_count};
+use crate::lines::{Lines, Token, line_count};
 use std::alloc::Global;
 
 /// The items of the next lines, of which there are so many.
@@ -30,14 +31,28 @@ pub fn items<T: LineItem + Drop>(
         let Some(line) = lines.next() else {
             unreachable!();
         };
-        match T::read(counts, &items, line.text) {
-            Ok(item) => items.push(item)?,
-            Err(what) => {
-                return Err(FileFault::at(line.line, what));
-            }
-        }
+        add_item(&mut items, line, counts)?;
     }
     Ok(items)
+}
+
+// The item of a line goes behind those of the lines before it.
+fn add_item<T: LineItem + Drop>(
+    items: &mut Vec<T>,
+    line: Token<'_>,
+    counts: Counts,
+) -> Result<(), FileFault>
+    ensures ok { OnOk result ((lines : List Located)
+        → items_of (T.reading counts) items.old.items (token_of line.entry ∷ lines)
+        ≡ items_of (T.reading counts) items.new.items lines) }
+    ensures fault { IfErr result (λ fault. fault.what ≢ FaultKind.NoMemory → (lines : List Located)
+        → items_of (T.reading counts) items.old.items (token_of line.entry ∷ lines) ≡ Err fault) }
+    ensures memory { IfErr result IsOfNoLine }
+{
+    match T::read(counts, items, line.text) {
+        Ok(item) => Ok(items.push(item)?),
+        Err(what) => Err(FileFault::at(line.line, what)),
+    }
 }
 
 /// The items of all lines that are left.
@@ -51,12 +66,7 @@ pub fn all_items<T: LineItem + Drop>(
 {
     let mut items: Vec<T> = Vec::new(alloc);
     'lines: while let Some(line) = lines.next() {
-        match T::read(counts, &items, line.text) {
-            Ok(item) => items.push(item)?,
-            Err(what) => {
-                return Err(FileFault::at(line.line, what));
-            }
-        }
+        add_item(&mut items, line, counts)?;
     }
     Ok(items)
 }

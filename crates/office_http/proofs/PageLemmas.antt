@@ -12,7 +12,8 @@ use Rattle.office_http.specs.declared.pages.Page.{Page}
 use Rattle.office_http.specs.Patterns.{takes}
 use Rattle.office_http.specs.Pages.{IsIn}
 use Rattle.office_http.proofs.Plain.{EndsSegment, IsPlain, ArePlain}
-use Rattle.office_http.specs.Table.{Rows, table, adds, page_at}
+use Rattle.office_http.specs.Table.{Rows, table, adds, adds_all, page_at}
+use Rattle.office_http.specs.Table.{adds_hers, adds_exams, adds_drafts, adds_publication}
 use Rattle.office_http.specs.Pages.{pages, Leads}
 use Rattle.std.specs.Prelude.{find}
 use Rattle.office_http.specs.Pages.{page_of}
@@ -23,7 +24,7 @@ abbrev shown : List ℕ × RouteOf Page → List ℕ × Page
 shown row = (row.0, row.1.value)
 
 table_pages : map shown table ≡ pages
-unfolding table adds scan
+unfolding table adds_all adds_hers adds_exams adds_drafts adds_publication adds scan
 table_pages = refl
 
 -- a pattern is plain, as a test

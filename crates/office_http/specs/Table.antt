@@ -22,26 +22,46 @@ adds_read (Err e) p rows = rows
 unfoldable pub adds : List ℕ → Page → Rows → Rows
 adds text p rows = adds_read (parse_route text) p rows
 
--- the rows of the office
-unfoldable pub table : Rows
-table =
-    adds (codes "/batches/{n}") page.Batch
-    (adds (codes "/publication/rooms") page.PublicationRooms
-    (adds (codes "/publication/penalty") page.PublicationPenalty
-    (adds (codes "/publication") page.Publication
-    (adds (codes "/drafts/{d}/publish") page.Publish
+-- the rows with a candidate's own pages
+unfoldable pub adds_hers : Rows → Rows
+adds_hers rows =
+    adds (codes "/me/penalty") page.MyPenalty
+    (adds (codes "/me/exam/{n}") page.MyExam
+    (adds (codes "/me") page.Me rows))
+
+-- the rows with the instance and an exam's owner
+unfoldable pub adds_exams : Rows → Rows
+adds_exams rows =
+    adds (codes "/exams/{e}/owner") page.Owner (adds (codes "/instance") page.Instance rows)
+
+-- the rows with the pages of a draft
+unfoldable pub adds_drafts : Rows → Rows
+adds_drafts rows =
+    adds (codes "/drafts/{d}/publish") page.Publish
     (adds (codes "/drafts/{d}/swap/{a}/{b}") page.Swap
     (adds (codes "/drafts/{d}/exams/{e}") page.Slot
     (adds (codes "/drafts/{d}/exams/{e}/move") page.Move
     (adds (codes "/drafts/{d}/exams/{e}/place") page.Place
     (adds (codes "/drafts/{d}/violations") page.DraftViolations
     (adds (codes "/drafts/{d}/penalty") page.DraftPenalty
-    (adds (codes "/drafts/{d}") page.Draft
-    (adds (codes "/exams/{e}/owner") page.Owner
-    (adds (codes "/instance") page.Instance
-    (adds (codes "/me/penalty") page.MyPenalty
-    (adds (codes "/me/exam/{n}") page.MyExam
-    (adds (codes "/me") page.Me []))))))))))))))))
+    (adds (codes "/drafts/{d}") page.Draft rows)))))))
+
+-- the rows with the pages of the publication
+unfoldable pub adds_publication : Rows → Rows
+adds_publication rows =
+    adds (codes "/publication/rooms") page.PublicationRooms
+    (adds (codes "/publication/penalty") page.PublicationPenalty
+    (adds (codes "/publication") page.Publication rows))
+
+-- the rows with all pages
+unfoldable pub adds_all : Rows → Rows
+adds_all rows =
+    adds (codes "/batches/{n}") page.Batch
+    (adds_publication (adds_drafts (adds_exams (adds_hers rows))))
+
+-- the rows of the office
+unfoldable pub table : Rows
+table = adds_all []
 
 -- what the rows find for a path
 abbrev pub page_at : Rows → List ℕ → Option Page

@@ -1,7 +1,8 @@
 // The routes of the office.
 ghost use Rattle.std.specs.Prelude.{◌≡◌, ℕ, List, IfOk, OnOk, IfSome, IsNone};
 ghost use Rattle.office_http.specs.declared.pages.Page.{Page};
-ghost use Rattle.office_http.specs.Table.{Rows, adds, table, page_at};
+ghost use Rattle.office_http.specs.Table.{Rows, adds, adds_all, table, page_at};
+ghost use Rattle.office_http.specs.Table.{adds_hers, adds_exams, adds_drafts, adds_publication};
 ghost use Rattle.office_http.specs.Pages.{Leads, page_of};
 
 use crate::pages::Page;
@@ -57,28 +58,54 @@ fn all_routes(alloc: Global) -> Result<Router<Page>, AllocError>
     ensures { IfOk result (λ r. r ≡ table) }
 {
     let mut router = Router::new(alloc);
-    add(&mut router, "/me", Page::Me)?;
-    add(&mut router, "/me/exam/{n}", Page::MyExam)?;
-    add(&mut router, "/me/penalty", Page::MyPenalty)?;
-    add(&mut router, "/instance", Page::Instance)?;
-    add(&mut router, "/exams/{e}/owner", Page::Owner)?;
-    add(&mut router, "/drafts/{d}", Page::Draft)?;
-    add(&mut router, "/drafts/{d}/penalty", Page::DraftPenalty)?;
-    add(&mut router, "/drafts/{d}/violations", Page::DraftViolations)?;
-    add(&mut router, "/drafts/{d}/exams/{e}/place", Page::Place)?;
-    add(&mut router, "/drafts/{d}/exams/{e}/move", Page::Move)?;
-    add(&mut router, "/drafts/{d}/exams/{e}", Page::Slot)?;
-    add(&mut router, "/drafts/{d}/swap/{a}/{b}", Page::Swap)?;
-    add(&mut router, "/drafts/{d}/publish", Page::Publish)?;
-    add(&mut router, "/publication", Page::Publication)?;
-    add(
-        &mut router,
-        "/publication/penalty",
-        Page::PublicationPenalty,
-    )?;
-    add(&mut router, "/publication/rooms", Page::PublicationRooms)?;
-    add(&mut router, "/batches/{n}", Page::Batch)?;
+    add_all(&mut router)?;
     Ok(router)
+}
+
+fn add_all(router: &mut Router<Page>) -> Result<(), AllocError>
+    ensures { OnOk result (router.new ≡ adds_all router.old) }
+{
+    add_hers(router)?;
+    add_exams(router)?;
+    add_drafts(router)?;
+    add_publication(router)?;
+    add(router, "/batches/{n}", Page::Batch)
+}
+
+fn add_hers(router: &mut Router<Page>) -> Result<(), AllocError>
+    ensures { OnOk result (router.new ≡ adds_hers router.old) }
+{
+    add(router, "/me", Page::Me)?;
+    add(router, "/me/exam/{n}", Page::MyExam)?;
+    add(router, "/me/penalty", Page::MyPenalty)
+}
+
+fn add_exams(router: &mut Router<Page>) -> Result<(), AllocError>
+    ensures { OnOk result (router.new ≡ adds_exams router.old) }
+{
+    add(router, "/instance", Page::Instance)?;
+    add(router, "/exams/{e}/owner", Page::Owner)
+}
+
+fn add_drafts(router: &mut Router<Page>) -> Result<(), AllocError>
+    ensures { OnOk result (router.new ≡ adds_drafts router.old) }
+{
+    add(router, "/drafts/{d}", Page::Draft)?;
+    add(router, "/drafts/{d}/penalty", Page::DraftPenalty)?;
+    add(router, "/drafts/{d}/violations", Page::DraftViolations)?;
+    add(router, "/drafts/{d}/exams/{e}/place", Page::Place)?;
+    add(router, "/drafts/{d}/exams/{e}/move", Page::Move)?;
+    add(router, "/drafts/{d}/exams/{e}", Page::Slot)?;
+    add(router, "/drafts/{d}/swap/{a}/{b}", Page::Swap)?;
+    add(router, "/drafts/{d}/publish", Page::Publish)
+}
+
+fn add_publication(router: &mut Router<Page>) -> Result<(), AllocError>
+    ensures { OnOk result (router.new ≡ adds_publication router.old) }
+{
+    add(router, "/publication", Page::Publication)?;
+    add(router, "/publication/penalty", Page::PublicationPenalty)?;
+    add(router, "/publication/rooms", Page::PublicationRooms)
 }
 
 // Adds a route. A route in the table is refused for want of memory alone.

@@ -8,7 +8,7 @@ use office_messages::{Reply, Status, fixed_reply};
 
 /// The refusals whose text is always the same. A body that is too long is answered as a message
 /// that says so of itself (`fault_reply`), and want of memory by `unavailable`.
-#[derive(Clone, Copy, Debug, PartialEq, Eq)]
+#[derive(Clone, Copy)]
 pub enum FixedError {
     Caller,
     Body,

@@ -5,7 +5,7 @@ ghost use Rattle.office_messages.specs.Form.{form_of};
 use http::Method;
 
 /// How much of a reply goes out.
-#[derive(Clone, Copy, Debug, PartialEq, Eq)]
+#[derive(Clone, Copy)]
 pub enum Form {
     /// The whole reply.
     Full,

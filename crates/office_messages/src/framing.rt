@@ -10,7 +10,7 @@ ghost use Rattle.office_messages.specs.Heads.{Sees, FramedBy};
 use crate::fields::Seen;
 
 /// Why a head is not taken, in the order in which it is judged.
-#[derive(Clone, Copy, Debug, PartialEq, Eq)]
+#[derive(Clone, Copy)]
 pub enum Fault {
     /// The head is not one, has more than 32 fields, or has no end within 16,384 bytes.
     Head,

@@ -18,7 +18,7 @@ pub struct Reply {
 }
 
 /// What a body is.
-#[derive(Clone, Copy, Debug, PartialEq, Eq)]
+#[derive(Clone, Copy)]
 pub enum Content {
     Json,
     Text,

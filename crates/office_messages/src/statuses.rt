@@ -5,7 +5,7 @@ ghost use Rattle.office_messages.specs.Statuses.{code_of, phrase_of};
 use http::StatusCode;
 
 /// The statuses of replies.
-#[derive(Clone, Copy, Debug, PartialEq, Eq)]
+#[derive(Clone, Copy)]
 pub enum Status {
     Done,
     Created,
