@@ -12,7 +12,7 @@ use sqlite::{Error, ErrorCode};
 use std::fmt;
 
 // It shows as its line.
-#[derive(Clone, Copy, Debug, PartialEq, Eq)]
+#[derive(Clone, Copy)]
 pub enum ProgramFault<'a> {
     CannotRead(&'a str),
     Instance(FileFault),

@@ -19,7 +19,7 @@ use std::env::Args;
 use std::io;
 
 /// What the program is to do, with the paths of the files that it names.
-#[derive(Debug, Drop)]
+#[derive(Drop)]
 pub enum Task {
     /// Judges a solution: the instance's file, then the solution's.
     Check(String, String),
