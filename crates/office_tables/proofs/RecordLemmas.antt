@@ -1,5 +1,6 @@
--- Rows that are no record's.
-use Rattle.std.proofs.Common.{◌≡◌, ◌≢◌, ℕ, pos, ◌^◌, ◌<◌, ◌≤◌, length, Result, Ok, Err, ◌∙◌, arith, IfErr}
+-- Rows that are read as records, and rows that are no record's.
+use Rattle.std.proofs.Common.{◌≡◌, ◌≢◌, ℕ, ◌+◌, List, [], ◌∷◌, ◌++◌, map, take, get_or, ap, sym, pos, ◌^◌, ◌<◌, ◌≤◌, length, Result, Ok, Err, ◌∙◌, arith, IfErr}
+use Rattle.std.proofs.lemmas.List.{map-append, take_more}
 use Rattle.std.specs.Result.{IsErrAnd}
 use Rattle.sqlite_value.specs.declared.value.Value.{Value}
 use Rattle.sqlite_value.specs.declared.value.Value.TheVariants.{Int}
@@ -27,3 +28,14 @@ pub refuses : {T : Type 0} (row : Row) (row_of : T → Row) (Fits : T → Type 0
 refuses row row_of Fits width at below Readable reads (Ok x) e is unread = absurd is
 refuses row row_of Fits width at below Readable reads (Err y) e is unread =
     λ other wide made fits same. unread (λ k. other (is ∙ k)) (omega arith) (reads made fits same)
+
+-- what is read of one row more
+pub one_read : {T : Type 0} (row_of : T → Row) (shown : Row → Row) (made : List T) (rows : List Row) (at : ℕ) (d : Row)
+    (x : T) (more : List T) → at < length rows → more ≡ made ++ x ∷ [] → row_of x ≡ shown (get_or rows at d)
+    → map row_of made ≡ map shown (take at rows) → map row_of more ≡ map shown (take (at + 1) rows)
+one_read row_of shown made rows at d x more below is one before =
+    ap (map row_of) is
+    ∙ map-append row_of made (x ∷ [])
+    ∙ ap (λ l. l ++ row_of x ∷ []) before
+    ∙ ap (λ r. map shown (take at rows) ++ r ∷ []) one
+    ∙ sym (ap (map shown) (take_more rows at d below) ∙ map-append shown (take at rows) (get_or rows at d ∷ []))
