@@ -1,7 +1,6 @@
 pub mod Adopting
 pub mod Amounts
 pub mod Changes
-pub mod Creating
 pub mod Readings
 pub mod Records
 pub mod Schema

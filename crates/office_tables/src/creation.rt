@@ -1,12 +1,15 @@
 // All ten tables, and the row that an office without a session has.
 ghost use Rattle.std.specs.Prelude.{◌≡◌, ◌↔◌, IsTrue};
 ghost use Rattle.sqlite.specs.Held.{state};
-ghost use Rattle.office_tables.specs.Schema.{no_schema, IsBlank};
+ghost use Rattle.office_tables.specs.Schema.{no_schema, schema_3, schema_5, schema_9, IsBlank};
 ghost use Rattle.office_tables.specs.Steps.{Grows, Within};
 ghost use Rattle.office_tables.specs.Tables.{Stands, empty_tables};
 
 use crate::meta::put_meta;
-use crate::schema::create_all;
+use crate::schema::{
+    create_batch, create_draft, create_enrol, create_meta, create_owner, create_placed,
+    create_seat, create_share_part, create_share_student, create_slot,
+};
 use sqlite::{Alter, Connection, Error, Transaction};
 
 /// Whether the database has no table, no index and no view.
@@ -23,6 +26,51 @@ pub fn create_tables<S: Alter>(tx: &mut Transaction<'_, S>) -> Result<(), Error>
     ensures makes { Grows S.Store (IsBlank no_schema) (λ db. Stands db empty_tables) tx.old.conn.now tx.new.conn.now result }
     ensures within { Within (state S.Store tx.old.conn.now) (state S.Store tx.new.conn.now) }
 {
-    create_all(tx)?;
+    create_session_tables(tx)?;
+    create_draft_tables(tx)?;
+    create_publication_tables(tx)?;
+    create_last_table(tx)
+}
+
+// The tables of the session and its students.
+fn create_session_tables<S: Alter>(tx: &mut Transaction<'_, S>) -> Result<(), Error>
+    ensures same_reference { tx.new.conn.ghost_name ≡ tx.old.conn.ghost_name }
+    ensures makes { Grows S.Store (IsBlank no_schema) (IsBlank schema_3) tx.old.conn.now tx.new.conn.now result }
+    ensures within { Within (state S.Store tx.old.conn.now) (state S.Store tx.new.conn.now) }
+{
+    create_meta(tx)?;
+    create_owner(tx)?;
+    create_enrol(tx)
+}
+
+// The tables of drafts.
+fn create_draft_tables<S: Alter>(tx: &mut Transaction<'_, S>) -> Result<(), Error>
+    ensures same_reference { tx.new.conn.ghost_name ≡ tx.old.conn.ghost_name }
+    ensures makes { Grows S.Store (IsBlank schema_3) (IsBlank schema_5) tx.old.conn.now tx.new.conn.now result }
+    ensures within { Within (state S.Store tx.old.conn.now) (state S.Store tx.new.conn.now) }
+{
+    create_draft(tx)?;
+    create_slot(tx)
+}
+
+// The tables of the publication.
+fn create_publication_tables<S: Alter>(tx: &mut Transaction<'_, S>) -> Result<(), Error>
+    ensures same_reference { tx.new.conn.ghost_name ≡ tx.old.conn.ghost_name }
+    ensures makes { Grows S.Store (IsBlank schema_5) (IsBlank schema_9) tx.old.conn.now tx.new.conn.now result }
+    ensures within { Within (state S.Store tx.old.conn.now) (state S.Store tx.new.conn.now) }
+{
+    create_placed(tx)?;
+    create_seat(tx)?;
+    create_share_student(tx)?;
+    create_share_part(tx)
+}
+
+// The table of batches, and the one row about the office.
+fn create_last_table<S: Alter>(tx: &mut Transaction<'_, S>) -> Result<(), Error>
+    ensures same_reference { tx.new.conn.ghost_name ≡ tx.old.conn.ghost_name }
+    ensures makes { Grows S.Store (IsBlank schema_9) (λ db. Stands db empty_tables) tx.old.conn.now tx.new.conn.now result }
+    ensures within { Within (state S.Store tx.old.conn.now) (state S.Store tx.new.conn.now) }
+{
+    create_batch(tx)?;
     put_meta(tx, false, &[])
 }

@@ -1,4 +1,4 @@
-//! The ten tables of an office's SQLite file: one function that makes them, and one for each other statement.
+//! The ten tables of an office's SQLite file: one function for each statement.
 #![tactic(auto)]
 
 mod adopted_rows;

@@ -1,0 +1,18 @@
+use Rattle.std.proofs.lemmas.Result.{on_ok_weaker}
+use Rattle.sqlite.specs.Held.{state}
+use Rattle.office_tables.proofs.Inside.{clean_before}
+use Rattle.office_tables.proofs.creation.create_publication_tables.Goals as goal
+
+pub returns-clause-makes : goal.returns-clause-makes
+returns-clause-makes g c clean inside =
+    let after_1 = state g.S.Store c.create_placed.new.tx.conn.now in
+    let after_2 = state g.S.Store c.create_seat.new.tx.conn.now in
+    let after_3 = state g.S.Store c.create_share_student.new.tx.conn.now in
+    let after_4 = state g.S.Store c.create_share_part.new.tx.conn.now in
+    let clean_3 = clean_before after_3 after_4 c.create_share_part.ensures.within clean in
+    let clean_2 = clean_before after_2 after_3 c.create_share_student.ensures.within clean_3 in
+    let clean_1 = clean_before after_1 after_2 c.create_seat.ensures.within clean_2 in
+    let step_1 = c.in_ok-create_placed.ensures.makes clean_1 inside in
+    let step_2 = c.in_ok-create_seat.ensures.makes clean_2 step_1.0 in
+    let step_3 = c.in_ok-create_share_student.ensures.makes clean_3 step_2.0 in
+    on_ok_weaker c.create_share_part.result (λ last. (last.0, λ blank. last.1 (step_3.1 (step_2.1 (step_1.1 blank))))) (c.create_share_part.ensures.makes clean step_3.0)
