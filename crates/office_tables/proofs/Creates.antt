@@ -1,5 +1,5 @@
 -- What each CREATE TABLE means, one after the other.
-use Rattle.std.proofs.Common.{◌≡◌, ℕ, List, codes, Ok, refl}
+use Rattle.std.proofs.Common.{◌≡◌, ℕ, List, [], false, codes, Ok, refl}
 use Rattle.std.specs.Fmt.{digits}
 use Rattle.sqlite.specs.Command.TheVariants.{CreateTable}
 use Rattle.sqlite.specs.Compile.{table_defined_by}
@@ -8,7 +8,12 @@ use Rattle.sqlite.proofs.Callers.{IsPlain, command_of, statement_of}
 use Rattle.sqlite_schema.specs.declared.schema.Schema.{Schema}
 use Rattle.sqlite_schema.specs.declared.schema.Table.{Table}
 use Rattle.sqlite_tied.specs.Compute.{everything}
-use Rattle.office_tables.specs.Schema.{no_schema, schema_1, schema_2, schema_3, schema_4, schema_5, schema_6, schema_7, schema_8, schema_9, schema_10, office_schema}
+use Rattle.sqlite.specs.Change.{created}
+use Rattle.sqlite.specs.Does.{lacks_sequence}
+use Rattle.sqlite.specs.State.{State}
+use Rattle.office_tables.specs.Steps.{HasRun, Leads}
+use Rattle.office_tables.proofs.Statements.{creates}
+use Rattle.office_tables.specs.Schema.{IsBlank, no_schema, schema_1, schema_2, schema_3, schema_4, schema_5, schema_6, schema_7, schema_8, schema_9, schema_10, office_schema}
 use Rattle.office_tables.specs.Schema.{meta_table, owner_table, enrol_table, draft_table, slot_table, placed_table, seat_table, share_student_table, share_part_table, batch_table}
 
 -- under this schema the text makes this table
@@ -17,6 +22,15 @@ pub record Defines (schema : Schema) (text : List ℕ) (table : Table) : Type 0 
   pub whole : statement_of text (understood schema text) ≡ text
   pub defined : table_defined_by text ≡ Ok (record table { tree = 0 })
   pub plain : IsPlain (understood schema text)
+
+-- so where it has run the table is there
+pub makes : (schema : Schema) (text : List ℕ) (table : Table) (old new : State) → Defines schema text table
+    → lacks_sequence (created schema table) ≡ false
+    → HasRun text [] old new → Leads (IsBlank schema) (IsBlank (created schema table)) old new
+makes schema text table old new it counted ran = (
+  ran.inside,
+  creates text old new ran.count schema (record table { tree = 0 }) it.plain it.command it.whole it.defined counted ran.executed,
+)
 
 abbrev pub meta_text : List ℕ
 meta_text = codes "CREATE TABLE meta (id INTEGER NOT NULL PRIMARY KEY, version INTEGER NOT NULL, published INTEGER NOT NULL, instance BLOB NOT NULL) STRICT"

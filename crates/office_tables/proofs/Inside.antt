@@ -1,19 +1,19 @@
 -- What a statement inside a transaction leaves of it.
-use Rattle.std.proofs.Common.{◌+◌, ◌<◌, ◌++◌, ◌∷◌, [], reverse, take, get_or, length, ◌≡◌, inl, inr, ℕ, List, Bool, true, false, Ok, Err, Result, refl, ap, ◌∙◌, IsTrue, arith, subst, IfErr, OnErr}
+use Rattle.std.proofs.Common.{◌+◌, ◌<◌, ◌++◌, ◌∷◌, [], reverse, take, get_or, length, ◌≡◌, inl, inr, ℕ, List, Bool, true, false, Ok, Err, Result, refl, ap, ◌∙◌, IsTrue, arith, subst, IfErr, OnErr, OnOk}
 use Rattle.std.proofs.lemmas.List.{take_more, reverse-append}
 use Rattle.sqlite_value.specs.Order.{Row}
 use Rattle.sqlite_trees.specs.Tree.{Trees}
 use Rattle.sqlite.specs.declared.error.Error.{Error}
-use Rattle.sqlite.specs.State.{State, HasCleanDisk, Survives, ExecutesInside, KeepsCommit}
-use Rattle.std.proofs.lemmas.Result.{IfErr-weaker}
+use Rattle.sqlite.specs.State.{State, HasCleanDisk, Survives, Executes, ExecutesInside, KeepsCommit}
+use Rattle.std.proofs.lemmas.Result.{IfErr-weaker, on_ok_weaker}
 use Rattle.sqlite.specs.Effect.{Database}
 use Rattle.sqlite.specs.Held.{Held, state}
 use Rattle.sqlite.specs.Store.{Ghosts}
 use Rattle.sqlite.proofs.Callers.{survives_begin}
 use Rattle.sqlite.specs.Steps.{FailsToCommit}
 use Rattle.sqlite.proofs.StateLemmas.{survives_then}
-use Rattle.office_tables.specs.Tables.{Tables}
-use Rattle.office_tables.specs.Steps.{Within, Makes, Undoes, Commits, Leads}
+use Rattle.office_tables.specs.Tables.{Tables, Stands}
+use Rattle.office_tables.specs.Steps.{Within, HasRun, Makes, Undoes, Commits, Leads}
 
 -- what answers `Ok` was inside
 pub inside_of : {T E Z : Type 0} {x : T} {e : E} (b : Bool) → (b ≡ false → (◌≡◌ {A = Result T E} (Ok x) (Err e)) × Z) → IsTrue b
@@ -49,6 +49,13 @@ within_same a = record {
 
 pub makes_then : (f g : Tables → Tables) (a b c : State) → Makes f a b → Makes g b c → Makes (λ t. g (f t)) a c
 makes_then f g a b c p q = (q.0, λ t h. q.1 (f t) (p.1 t h))
+
+-- where a statement has run, the tables have changed as it changes them
+pub changes_by : (f : Tables → Tables) (sql : List ℕ) (params : Row) (old new : State) (r : Result (Unit {0}) Error)
+    → ((count : ℕ) (t : Tables) → Stands old.now t → Executes sql params old new (Ok count) → Stands new.now (f t))
+    → OnOk r (HasRun sql params old new) → OnOk r (Makes f old new)
+changes_by f sql params old new r step =
+    on_ok_weaker r (λ ran. (ran.inside, λ t stands. step ran.count t stands ran.executed))
 
 -- ---- a whole transaction, from a connection at rest
 

@@ -12,6 +12,7 @@ pub mod MetaLemmas
 pub mod OwnerLemmas
 pub mod Queries
 pub mod Reading
+pub mod RecordLemmas
 pub mod SlotLemmas
 pub mod Statements
 pub mod TableLemmas

@@ -1,11 +1,12 @@
 -- What a step leaves of a connection: inside a transaction, at its end, and after a reader. The store
 -- says what a connection shows by states: as it is now, as it was last committed, and what a crash leaves.
-use Rattle.std.specs.Prelude.{◌≡◌, ◌⊎◌, false, IsTrue, IfOk, OnOk, Result}
+use Rattle.std.specs.Prelude.{◌≡◌, ◌⊎◌, ℕ, List, false, IsTrue, IfOk, OnOk, Ok, Result}
 use Rattle.sqlite_trees.specs.Tree.{Trees}
+use Rattle.sqlite_value.specs.Order.{Row}
 use Rattle.sqlite.specs.declared.error.Error.{Error}
 use Rattle.sqlite.specs.Effect.{Database}
 use Rattle.sqlite.specs.Held.{Held, state}
-use Rattle.sqlite.specs.State.{State, HasCleanDisk, Survives, KeepsCommit, IsUnchanged}
+use Rattle.sqlite.specs.State.{State, Executes, HasCleanDisk, Survives, KeepsCommit, IsUnchanged}
 use Rattle.sqlite.specs.Store.{Ghosts}
 use Rattle.office_tables.specs.Schema.{no_schema, IsBlank}
 use Rattle.office_tables.specs.Tables.{Tables, Stands, empty_tables}
@@ -25,6 +26,19 @@ Leads P Q old new = IsTrue new.in_transaction × (P old.now → Q new.now)
 abbrev pub Makes : (Tables → Tables) → State → State → Type 0
 Makes f old new =
     IsTrue new.in_transaction × ((t : Tables) → Stands old.now t → Stands new.now (f t))
+
+-- a statement has run, and the transaction goes on
+pub record HasRun (sql : List ℕ) (params : Row) (old new : State) : Type 0 where
+  pub count : ℕ
+  pub executed : Executes sql params old new (Ok count)
+  pub inside : IsTrue new.in_transaction
+
+-- of a connection: on a clean disk, what answers Ok inside a transaction has run it
+abbrev pub Ran : {S : Type 0} → Ghosts S → List ℕ → Row
+    → Held S → Held S → Result (Unit {0}) Error → Type 0
+Ran store sql params old new result =
+    HasCleanDisk (state store new) → IsTrue old.in_transaction
+    → OnOk result (HasRun sql params (state store old) (state store new))
 
 -- the same of a connection: on a clean disk, what answers Ok inside a transaction leads so
 abbrev pub Grows : {S : Type 0} → Ghosts S → (Database → Type 0) → (Database → Type 0)

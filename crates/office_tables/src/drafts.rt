@@ -11,6 +11,7 @@ ghost use Rattle.office_tables.specs.Amounts.{AreAmounts};
 use crate::amounts::signed;
 use crate::records::read_all;
 use crate::rows::DraftRow;
+use crate::running::run;
 use sqlite::types::ValueRef;
 use sqlite::{Alter, Connection, Error, Transaction, params};
 use std::alloc::Global;
@@ -22,12 +23,12 @@ pub fn insert_draft<S: Alter>(tx: &mut Transaction<'_, S>, row: DraftRow) -> Res
     ensures makes { Changes S.Store (with_draft row) tx.old.conn.now tx.new.conn.now result }
     ensures within { Within (state S.Store tx.old.conn.now) (state S.Store tx.new.conn.now) }
 {
-    let _count = tx.execute(
+    run(
+        tx,
         "INSERT INTO draft (no, in_row, in_day, spread, mixed, front, period, room) VALUES (?1, \
          ?2, ?3, ?4, ?5, ?6, ?7, ?8)",
         &columns_of(row),
-    )?;
-    Ok(())
+    )
 }
 
 // The columns of a draft.
@@ -53,8 +54,7 @@ pub fn delete_draft<S: Alter>(tx: &mut Transaction<'_, S>, no: u32) -> Result<()
     ensures makes { Changes S.Store (without_draft no) tx.old.conn.now tx.new.conn.now result }
     ensures within { Within (state S.Store tx.old.conn.now) (state S.Store tx.new.conn.now) }
 {
-    let _count = tx.execute("DELETE FROM draft WHERE no = ?1", params![no])?;
-    Ok(())
+    run(tx, "DELETE FROM draft WHERE no = ?1", params![no])
 }
 
 /// A draft: one row, or none.

@@ -7,6 +7,7 @@ ghost use Rattle.office_tables.specs.Steps.{Changes, LeavesAll, LeavesCommitted,
 
 use crate::records::read_all;
 use crate::rows::EnrolRow;
+use crate::running::run;
 use sqlite::{Alter, Connection, Error, Transaction, params};
 use std::alloc::Global;
 
@@ -16,11 +17,11 @@ pub fn insert_enrol<S: Alter>(tx: &mut Transaction<'_, S>, row: EnrolRow) -> Res
     ensures makes { Changes S.Store (with_enrol row) tx.old.conn.now tx.new.conn.now result }
     ensures within { Within (state S.Store tx.old.conn.now) (state S.Store tx.new.conn.now) }
 {
-    let _count = tx.execute(
+    run(
+        tx,
         "INSERT INTO enrol (student, exam) VALUES (?1, ?2)",
         params![row.student, row.exam],
-    )?;
-    Ok(())
+    )
 }
 
 /// Adds each pair.

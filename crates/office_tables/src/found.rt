@@ -2,7 +2,7 @@
 use crate::rows::{DraftRow, EnrolRow, MetaRow, OwnerRow, SlotRow};
 
 /// All rows of the tables, in no order that counts.
-#[derive(Debug, Drop)]
+#[derive(Drop)]
 pub struct Found {
     pub meta: MetaRow,
     pub owners: Vec<OwnerRow>,

@@ -15,6 +15,7 @@ mod meta_row;
 mod owners;
 mod records;
 mod rows;
+mod running;
 mod schema;
 mod schema_parts;
 mod schema_value;

@@ -11,6 +11,7 @@ ghost use Rattle.office_tables.specs.Tables.{Meta, flag};
 use crate::listing::list_rows;
 use crate::meta_row::read_meta;
 use crate::rows::MetaRow;
+use crate::running::run;
 use sqlite::{Alter, Connection, Error, Transaction, params};
 
 /// Puts the row in: whether there is a publication, and the instance.
@@ -23,11 +24,11 @@ pub fn put_meta<S: Alter>(
     ensures makes { Changes S.Store (with_meta published instance.now) tx.old.conn.now tx.new.conn.now result }
     ensures within { Within (state S.Store tx.old.conn.now) (state S.Store tx.new.conn.now) }
 {
-    let _count = tx.execute(
+    run(
+        tx,
         "INSERT INTO meta (id, version, published, instance) VALUES (0, 1, ?1, ?2)",
         params![flag_of(published), instance],
-    )?;
-    Ok(())
+    )
 }
 
 /// Takes the row out.
@@ -36,8 +37,7 @@ pub fn delete_meta<S: Alter>(tx: &mut Transaction<'_, S>) -> Result<(), Error>
     ensures makes { Changes S.Store (no_meta) tx.old.conn.now tx.new.conn.now result }
     ensures within { Within (state S.Store tx.old.conn.now) (state S.Store tx.new.conn.now) }
 {
-    let _count = tx.execute("DELETE FROM meta", &[])?;
-    Ok(())
+    run(tx, "DELETE FROM meta", &[])
 }
 
 // SQLite has no type for it.

@@ -7,6 +7,7 @@ ghost use Rattle.office_tables.specs.Steps.{Changes, LeavesAll, LeavesCommitted,
 
 use crate::records::read_all;
 use crate::rows::OwnerRow;
+use crate::running::run;
 use sqlite::{Alter, Connection, Error, Transaction, params};
 use std::alloc::Global;
 
@@ -16,11 +17,11 @@ pub fn insert_owner<S: Alter>(tx: &mut Transaction<'_, S>, row: OwnerRow) -> Res
     ensures makes { Changes S.Store (with_owner row) tx.old.conn.now tx.new.conn.now result }
     ensures within { Within (state S.Store tx.old.conn.now) (state S.Store tx.new.conn.now) }
 {
-    let _count = tx.execute(
+    run(
+        tx,
         "INSERT INTO owner (exam, dept) VALUES (?1, ?2)",
         params![row.exam, row.dept],
-    )?;
-    Ok(())
+    )
 }
 
 /// Takes an exam's owner away.
@@ -29,8 +30,7 @@ pub fn delete_owner<S: Alter>(tx: &mut Transaction<'_, S>, exam: u32) -> Result<
     ensures makes { Changes S.Store (without_owner exam) tx.old.conn.now tx.new.conn.now result }
     ensures within { Within (state S.Store tx.old.conn.now) (state S.Store tx.new.conn.now) }
 {
-    let _count = tx.execute("DELETE FROM owner WHERE exam = ?1", params![exam])?;
-    Ok(())
+    run(tx, "DELETE FROM owner WHERE exam = ?1", params![exam])
 }
 
 /// An exam's owner: one row, or none.

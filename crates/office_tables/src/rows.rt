@@ -2,7 +2,7 @@
 
 /// The row about the office: whether there is a publication, and the canonical text of the instance,
 /// or nothing before a load.
-#[derive(Debug, Drop)]
+#[derive(Drop)]
 pub struct MetaRow {
     pub published: bool,
     pub instance: Vec<u8>,
@@ -45,7 +45,7 @@ pub struct SlotRow {
 }
 
 /// Where an exam stands in the publication.
-#[derive(Clone, Copy, Debug, PartialEq, Eq)]
+#[derive(Clone, Copy)]
 pub struct PlacedRow {
     pub exam: u32,
     pub period: u32,
@@ -53,7 +53,7 @@ pub struct PlacedRow {
 }
 
 /// A published seat; seats count from 1 in each room and period.
-#[derive(Clone, Copy, Debug, PartialEq, Eq)]
+#[derive(Clone, Copy)]
 pub struct SeatRow {
     pub student: u32,
     pub exam: u32,
@@ -63,7 +63,7 @@ pub struct SeatRow {
 }
 
 /// What a candidate's seats cost her.
-#[derive(Clone, Copy, Debug, PartialEq, Eq)]
+#[derive(Clone, Copy)]
 pub struct StudentShareRow {
     pub student: u32,
     pub in_row: u64,
@@ -72,7 +72,7 @@ pub struct StudentShareRow {
 }
 
 /// The share of an exam (kind 0), a period (1) or a room (2); only a room has a mixed part.
-#[derive(Clone, Copy, Debug, PartialEq, Eq)]
+#[derive(Clone, Copy)]
 pub struct PartShareRow {
     pub kind: u32,
     pub no: u32,

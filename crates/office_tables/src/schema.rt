@@ -4,6 +4,7 @@ ghost use Rattle.sqlite.specs.Held.{state};
 ghost use Rattle.office_tables.specs.Schema.{no_schema, schema_1, schema_2, schema_3, schema_4, schema_5, schema_6, schema_7, schema_8, schema_9, office_schema, IsBlank};
 ghost use Rattle.office_tables.specs.Steps.{Grows, Within};
 
+use crate::running::run;
 use sqlite::{Alter, Error, Transaction};
 
 // The table of the office.
@@ -12,12 +13,12 @@ pub fn create_meta<S: Alter>(tx: &mut Transaction<'_, S>) -> Result<(), Error>
     ensures makes { Grows S.Store (IsBlank no_schema) (IsBlank schema_1) tx.old.conn.now tx.new.conn.now result }
     ensures within { Within (state S.Store tx.old.conn.now) (state S.Store tx.new.conn.now) }
 {
-    let _count = tx.execute(
+    run(
+        tx,
         "CREATE TABLE meta (id INTEGER NOT NULL PRIMARY KEY, version INTEGER NOT NULL, published \
          INTEGER NOT NULL, instance BLOB NOT NULL) STRICT",
         &[],
-    )?;
-    Ok(())
+    )
 }
 
 // The table of owners.
@@ -26,11 +27,11 @@ pub fn create_owner<S: Alter>(tx: &mut Transaction<'_, S>) -> Result<(), Error>
     ensures makes { Grows S.Store (IsBlank schema_1) (IsBlank schema_2) tx.old.conn.now tx.new.conn.now result }
     ensures within { Within (state S.Store tx.old.conn.now) (state S.Store tx.new.conn.now) }
 {
-    let _count = tx.execute(
+    run(
+        tx,
         "CREATE TABLE owner (exam INTEGER NOT NULL PRIMARY KEY, dept INTEGER NOT NULL) STRICT",
         &[],
-    )?;
-    Ok(())
+    )
 }
 
 // The table of enrolments.
@@ -39,12 +40,12 @@ pub fn create_enrol<S: Alter>(tx: &mut Transaction<'_, S>) -> Result<(), Error>
     ensures makes { Grows S.Store (IsBlank schema_2) (IsBlank schema_3) tx.old.conn.now tx.new.conn.now result }
     ensures within { Within (state S.Store tx.old.conn.now) (state S.Store tx.new.conn.now) }
 {
-    let _count = tx.execute(
+    run(
+        tx,
         "CREATE TABLE enrol (student INTEGER NOT NULL, exam INTEGER NOT NULL, PRIMARY KEY \
          (student, exam)) STRICT",
         &[],
-    )?;
-    Ok(())
+    )
 }
 
 // The table of drafts.
@@ -53,13 +54,13 @@ pub fn create_draft<S: Alter>(tx: &mut Transaction<'_, S>) -> Result<(), Error>
     ensures makes { Grows S.Store (IsBlank schema_3) (IsBlank schema_4) tx.old.conn.now tx.new.conn.now result }
     ensures within { Within (state S.Store tx.old.conn.now) (state S.Store tx.new.conn.now) }
 {
-    let _count = tx.execute(
+    run(
+        tx,
         "CREATE TABLE draft (no INTEGER NOT NULL PRIMARY KEY, in_row INTEGER NOT NULL, in_day \
          INTEGER NOT NULL, spread INTEGER NOT NULL, mixed INTEGER NOT NULL, front INTEGER NOT \
          NULL, period INTEGER NOT NULL, room INTEGER NOT NULL) STRICT",
         &[],
-    )?;
-    Ok(())
+    )
 }
 
 // The table of placements in drafts.
@@ -68,12 +69,12 @@ pub fn create_slot<S: Alter>(tx: &mut Transaction<'_, S>) -> Result<(), Error>
     ensures makes { Grows S.Store (IsBlank schema_4) (IsBlank schema_5) tx.old.conn.now tx.new.conn.now result }
     ensures within { Within (state S.Store tx.old.conn.now) (state S.Store tx.new.conn.now) }
 {
-    let _count = tx.execute(
+    run(
+        tx,
         "CREATE TABLE slot (draft INTEGER NOT NULL, exam INTEGER NOT NULL, period INTEGER NOT \
          NULL, room INTEGER NOT NULL, PRIMARY KEY (draft, exam)) STRICT",
         &[],
-    )?;
-    Ok(())
+    )
 }
 
 // The table of published placements.
@@ -82,12 +83,12 @@ pub fn create_placed<S: Alter>(tx: &mut Transaction<'_, S>) -> Result<(), Error>
     ensures makes { Grows S.Store (IsBlank schema_5) (IsBlank schema_6) tx.old.conn.now tx.new.conn.now result }
     ensures within { Within (state S.Store tx.old.conn.now) (state S.Store tx.new.conn.now) }
 {
-    let _count = tx.execute(
+    run(
+        tx,
         "CREATE TABLE placed (exam INTEGER NOT NULL PRIMARY KEY, period INTEGER NOT NULL, room \
          INTEGER NOT NULL) STRICT",
         &[],
-    )?;
-    Ok(())
+    )
 }
 
 // The table of seats.
@@ -96,13 +97,13 @@ pub fn create_seat<S: Alter>(tx: &mut Transaction<'_, S>) -> Result<(), Error>
     ensures makes { Grows S.Store (IsBlank schema_6) (IsBlank schema_7) tx.old.conn.now tx.new.conn.now result }
     ensures within { Within (state S.Store tx.old.conn.now) (state S.Store tx.new.conn.now) }
 {
-    let _count = tx.execute(
+    run(
+        tx,
         "CREATE TABLE seat (student INTEGER NOT NULL, exam INTEGER NOT NULL, period INTEGER NOT \
          NULL, room INTEGER NOT NULL, seat INTEGER NOT NULL, PRIMARY KEY (student, exam), UNIQUE \
          (period, room, seat)) STRICT",
         &[],
-    )?;
-    Ok(())
+    )
 }
 
 // The table of candidates' shares.
@@ -111,12 +112,12 @@ pub fn create_share_student<S: Alter>(tx: &mut Transaction<'_, S>) -> Result<(),
     ensures makes { Grows S.Store (IsBlank schema_7) (IsBlank schema_8) tx.old.conn.now tx.new.conn.now result }
     ensures within { Within (state S.Store tx.old.conn.now) (state S.Store tx.new.conn.now) }
 {
-    let _count = tx.execute(
+    run(
+        tx,
         "CREATE TABLE share_student (student INTEGER NOT NULL PRIMARY KEY, in_row INTEGER NOT \
          NULL, in_day INTEGER NOT NULL, spread INTEGER NOT NULL) STRICT",
         &[],
-    )?;
-    Ok(())
+    )
 }
 
 // The table of shares of exams, periods and rooms.
@@ -125,12 +126,12 @@ pub fn create_share_part<S: Alter>(tx: &mut Transaction<'_, S>) -> Result<(), Er
     ensures makes { Grows S.Store (IsBlank schema_8) (IsBlank schema_9) tx.old.conn.now tx.new.conn.now result }
     ensures within { Within (state S.Store tx.old.conn.now) (state S.Store tx.new.conn.now) }
 {
-    let _count = tx.execute(
+    run(
+        tx,
         "CREATE TABLE share_part (kind INTEGER NOT NULL, no INTEGER NOT NULL, penalty INTEGER \
          NOT NULL, mixed INTEGER NOT NULL, PRIMARY KEY (kind, no)) STRICT",
         &[],
-    )?;
-    Ok(())
+    )
 }
 
 // The table of batches.
@@ -139,10 +140,10 @@ pub fn create_batch<S: Alter>(tx: &mut Transaction<'_, S>) -> Result<(), Error>
     ensures makes { Grows S.Store (IsBlank schema_9) (IsBlank office_schema) tx.old.conn.now tx.new.conn.now result }
     ensures within { Within (state S.Store tx.old.conn.now) (state S.Store tx.new.conn.now) }
 {
-    let _count = tx.execute(
+    run(
+        tx,
         "CREATE TABLE batch (no INTEGER NOT NULL PRIMARY KEY, bytes BLOB NOT NULL, added INTEGER \
          NOT NULL, dropped INTEGER NOT NULL, unchanged INTEGER NOT NULL) STRICT",
         &[],
-    )?;
-    Ok(())
+    )
 }

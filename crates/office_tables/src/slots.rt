@@ -7,6 +7,7 @@ ghost use Rattle.office_tables.specs.Steps.{Changes, LeavesAll, LeavesCommitted,
 
 use crate::records::read_all;
 use crate::rows::SlotRow;
+use crate::running::run;
 use sqlite::{Alter, Connection, Error, Transaction, params};
 use std::alloc::Global;
 
@@ -16,11 +17,11 @@ pub fn insert_slot<S: Alter>(tx: &mut Transaction<'_, S>, row: SlotRow) -> Resul
     ensures makes { Changes S.Store (with_slot row) tx.old.conn.now tx.new.conn.now result }
     ensures within { Within (state S.Store tx.old.conn.now) (state S.Store tx.new.conn.now) }
 {
-    let _count = tx.execute(
+    run(
+        tx,
         "INSERT INTO slot (draft, exam, period, room) VALUES (?1, ?2, ?3, ?4)",
         params![row.draft, row.exam, row.period, row.room],
-    )?;
-    Ok(())
+    )
 }
 
 /// Adds each placement.
@@ -41,8 +42,7 @@ pub fn delete_slots<S: Alter>(tx: &mut Transaction<'_, S>, draft: u32) -> Result
     ensures makes { Changes S.Store (without_slots draft) tx.old.conn.now tx.new.conn.now result }
     ensures within { Within (state S.Store tx.old.conn.now) (state S.Store tx.new.conn.now) }
 {
-    let _count = tx.execute("DELETE FROM slot WHERE draft = ?1", params![draft])?;
-    Ok(())
+    run(tx, "DELETE FROM slot WHERE draft = ?1", params![draft])
 }
 
 /// Takes an exam's placement in a draft out.
@@ -55,11 +55,11 @@ pub fn delete_slot<S: Alter>(
     ensures makes { Changes S.Store (without_slot draft exam) tx.old.conn.now tx.new.conn.now result }
     ensures within { Within (state S.Store tx.old.conn.now) (state S.Store tx.new.conn.now) }
 {
-    let _count = tx.execute(
+    run(
+        tx,
         "DELETE FROM slot WHERE draft = ?1 AND exam = ?2",
         params![draft, exam],
-    )?;
-    Ok(())
+    )
 }
 
 /// A draft's placements, by exam.

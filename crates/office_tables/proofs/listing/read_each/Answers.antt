@@ -1,6 +1,8 @@
-use Rattle.std.proofs.Common.{◌≢◌, ◌≤◌, length, subst}
+use Rattle.std.proofs.Common.{◌≢◌, ◌≤◌, ◌∙◌, ap, length, map, subst}
+use Rattle.std.proofs.lemmas.List.{take_all}
 use Rattle.office_tables.specs.Readings.{columns_from}
 use Rattle.office_tables.proofs.ListedTables.{unread}
+use Rattle.office_tables.proofs.RecordLemmas.{one_read}
 use Rattle.office_tables.proofs.listing.read_each.Goals as goal
 
 pub returns-in-Err : goal.returns-in-Err
@@ -14,3 +16,16 @@ returns-in-Err g c wide made fit same =
     → row_of x ≢ columns_from 0 width r) c.row-item.is known in
     unread fits row_of width c.args.rows.now c.loop-row.row-index c.row-item.result
     c.loop-row-test.true refused wide made fit same
+
+pub loop-row-preserved : goal.loop-row-preserved
+loop-row-preserved g c =
+    let shown = columns_from 0 g.R.Record.WIDTH in
+    one_read g.R.Record.columns_of shown c.loop-row.records.items c.args.rows.now c.loop-row.row-index
+    c.row-item.result c.in-Ok.record _ c.loop-row-test.true c.in_ok-push-in-Ok.ensures.items
+    (c.in-Ok.ensures.columns ∙ ap shown c.row-item.is) c.loop-row.invariant
+
+pub returns : goal.returns
+returns g c =
+    c.loop-row.invariant
+    ∙ ap (map (columns_from 0 g.R.Record.WIDTH))
+    (take_all c.loop-row.row-index c.args.rows.now c.loop-row-test.false)

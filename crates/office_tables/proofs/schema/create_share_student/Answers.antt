@@ -1,16 +1,8 @@
 use Rattle.std.proofs.Common.{refl}
-use Rattle.sqlite.specs.Held.{state}
-use Rattle.office_tables.specs.Schema.{schema_7}
-use Rattle.office_tables.proofs.Statements.{creates}
-use Rattle.office_tables.proofs.Creates.{share_student_text, share_student_defined}
+use Rattle.std.proofs.lemmas.Result.{on_ok_weaker}
+use Rattle.office_tables.proofs.Creates.{makes, share_student_defined}
 use Rattle.office_tables.proofs.schema.create_share_student.Goals as goal
 
 pub returns-clause-makes : goal.returns-clause-makes
 returns-clause-makes g c clean inside =
-    let old = state g.S.Store c.args.tx.now.conn.now in
-    let new = state g.S.Store c.execute.new.self.conn.now in
-    let ran = c.in_ok-_count.ensures.runs clean inside in (
-      ran.1.mode,
-      creates share_student_text old new c.in_ok-_count._count schema_7 _ share_student_defined.plain share_student_defined.command share_student_defined.whole
-          share_student_defined.defined refl ran.0,
-    )
+    on_ok_weaker c.run.result (makes _ _ _ _ _ share_student_defined refl) (c.run.ensures.ran clean inside)

@@ -1,5 +1,9 @@
-use Rattle.std.proofs.Common.{List, rules, refl, sym, subst}
+use Rattle.std.proofs.Common.{List, refl, sym, subst, ◌∙◌}
+use Rattle.std.proofs.lemmas.List.{take_all}
+use Rattle.std.proofs.lemmas.Result.{IfOk-from_err}
 use Rattle.sqlite.specs.Held.{state}
+use Rattle.office_tables.specs.Changes.{with_slots}
+use Rattle.office_tables.specs.Steps.{Makes}
 use Rattle.office_tables.specs.Tables.{Stands}
 use Rattle.office_tables.specs.declared.rows.SlotRow.{SlotRow}
 use Rattle.office_tables.proofs.Inside.{within_then, within_same, clean_before, one_more}
@@ -15,7 +19,7 @@ loop-row-preserved g c =
     let mid = state g.S.Store c.loop-row.tx.conn.now in
     let new = state g.S.Store c.insert_slot.new.tx.conn.now in
     record {
-      same = search rules;
+      same = c.insert_slot.ensures.same_reference ∙ c.loop-row.invariant.same;
       makes = λ clean inside.
           let first = c.loop-row.invariant.makes (clean_before mid new c.insert_slot.ensures.within clean) inside in
           let then = c.in_ok-insert_slot.ensures.makes clean first.0 in (
@@ -26,3 +30,30 @@ loop-row-preserved g c =
           );
       within = within_then old mid new c.loop-row.invariant.within c.insert_slot.ensures.within;
     }
+
+pub returns-in_err-insert_slot-clause-same_reference :
+    goal.returns-in_err-insert_slot-clause-same_reference
+returns-in_err-insert_slot-clause-same_reference g c =
+    c.insert_slot.ensures.same_reference ∙ c.loop-row.invariant.same
+
+pub returns-in_err-insert_slot-clause-makes : goal.returns-in_err-insert_slot-clause-makes
+returns-in_err-insert_slot-clause-makes g c clean inside =
+    IfOk-from_err c.from_residual.result _ c.from_residual.ensures.0
+
+pub returns-in_err-insert_slot-clause-within : goal.returns-in_err-insert_slot-clause-within
+returns-in_err-insert_slot-clause-within g c =
+    within_then _ _ _ c.loop-row.invariant.within c.insert_slot.ensures.within
+
+pub returns-clause-same_reference : goal.returns-clause-same_reference
+returns-clause-same_reference g c = c.loop-row.invariant.same
+
+pub returns-clause-makes : goal.returns-clause-makes
+returns-clause-makes g c clean inside =
+    let old = state g.S.Store c.args.tx.now.conn.now in
+    let new = state g.S.Store c.loop-row.tx.conn.now in
+    subst (λ l. Makes (with_slots l) old new)
+    (take_all c.loop-row.row-index c.args.rows.now c.loop-row-test.false)
+    (c.loop-row.invariant.makes clean inside)
+
+pub returns-clause-within : goal.returns-clause-within
+returns-clause-within g c = c.loop-row.invariant.within
