@@ -19,7 +19,7 @@ use office_messages::{Allow, Reply, Request, unavailable};
 use std::alloc::Global;
 
 /// Who asks, and for what.
-#[derive(Clone, Copy, Debug, PartialEq, Eq)]
+#[derive(Clone, Copy)]
 pub struct Asked<'a> {
     pub caller: Caller,
     pub command: Command<'a>,
