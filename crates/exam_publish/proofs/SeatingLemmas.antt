@@ -1,10 +1,10 @@
 -- Seats along the pairs: each place's counter gives the next seat there.
 use Rattle.std.specs.List.{AllByRecursion, cons_option}
 use Rattle.std.proofs.Common.{◌≡◌, ℕ, ◌+◌, ◌*◌, ◌<◌, ◌≤◌, ◌⊎◌, inl, inr, Bool, true, false, cond, ◌&&◌, eqb, List, [], ◌∷◌, ◌++◌, length, take, get_or, Option, None, Some, option_map, count_by, filter_map, refl, sym, ◌∙◌, ap, ap₂, subst, arith, append-nil, append_assoc, mul_comm, eqb-true, length-append}
-use Rattle.std.specs.Prelude.{slice_set, slice_index}
+use Rattle.std.specs.Prelude.{slice_set, slice_index, replicate}
 use Rattle.std.proofs.lemmas.Bool.{cases_eq, and_from, and_parts, eq-eqb, false_from_ne_true}
 use Rattle.std.proofs.lemmas.Bool.Decides.{nat_tests}
-use Rattle.std.proofs.lemmas.List.{take_more, length-map, length-set, length-take, get_or-set_same, get_or-set_other}
+use Rattle.std.proofs.lemmas.List.{take_more, length-replicate, length-map, length-set, length-take, get_or-set_same, get_or-set_other}
 use Rattle.std.proofs.lemmas.List.Sums.{sum_by-cons, sum_by-append, sum_by_push, sum_by_more_le, count_by-le-length}
 use Rattle.std.proofs.lemmas.Nat.{mul-add-lt, same_from_place}
 use Rattle.exam_model.specs.Enrolments.{Enrolled, AreEnrolments, students, pair_count}
@@ -16,9 +16,19 @@ use Rattle.exam_rules.specs.Places.{where_placed, is_one_place}
 use Rattle.exam_publish.specs.declared.seat_row.SeatRow.{SeatRow}
 use Rattle.exam_publish.specs.Seats.{comes_before, sits_at, seat_number, row_with, seat_row}
 use Rattle.exam_publish.specs.Seating.{slot_of, rows_at, rows_after, AreSeated}
+use Rattle.exam_publish.proofs.TallyLemmas.{zeros}
 
 abbrev pair : ℕ → ℕ → Pair
 pair e s = record { exam = e; student = s }
+
+-- before the first exam no place has a seat
+pub unseated : (E : Enrolled) (T : Placing) (periods rooms n : ℕ) (taken : List ℕ) (rows : List SeatRow)
+    → taken ≡ replicate n 0 → n ≡ periods * rooms → rows ≡ [] → AreSeated E T periods rooms 0 taken rows
+unseated E T periods rooms n taken rows is same none = record {
+  seated = none;
+  count = ap length is ∙ length-replicate n 0 ∙ same;
+  each = λ at p r. ap (λ xs. get_or xs (slot_of rooms at) 0) is ∙ zeros n (slot_of rooms at);
+}
 
 -- ---- an exam's rows
 

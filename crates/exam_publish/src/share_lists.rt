@@ -14,7 +14,7 @@ pub struct RoomShare {
 }
 
 /// The shares of a publication's penalty.
-#[derive(Debug, Drop)]
+#[derive(Drop)]
 pub struct Shares {
     students: Vec<(StudentNo, PersonalParts)>,
     exams: Vec<u64>,

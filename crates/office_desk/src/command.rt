@@ -13,7 +13,7 @@ pub enum Body<T> {
 
 /// A command: one for each method and path. Numbers are at most 999,999,999 and needn't be those
 /// of a thing that exists. A draft, a batch and an owner go by plain numbers.
-#[derive(Clone, Copy, Debug, PartialEq, Eq)]
+#[derive(Clone, Copy)]
 pub enum Command<'a> {
     /// `GET /me`
     Me,

@@ -20,7 +20,7 @@ pub enum Denial {
 }
 
 /// Whose a command is.
-#[derive(Clone, Copy, PartialEq, Eq)]
+#[derive(Clone, Copy)]
 enum Kind {
     /// A candidate's own pages.
     Personal,

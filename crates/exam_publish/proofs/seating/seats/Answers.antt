@@ -1,7 +1,8 @@
-use Rattle.std.proofs.Common.{◌≡◌, ◌+◌, ◌<◌, ◌++◌, [], true, refl, None, Some, length, get_or, ap, ap₂, sym, subst, ◌∙◌, arith}
+use Rattle.std.proofs.Common.{◌≡◌, ◌+◌, ◌*◌, ◌<◌, ◌≤◌, ◌++◌, [], true, refl, None, Some, length, get_or, ap, ap₂, sym, subst, ◌∙◌, arith}
 use Rattle.std.specs.Prelude.{is_some, slice_set, slice_index}
 use Rattle.std.proofs.lemmas.Bool.{true≢false}
 use Rattle.std.proofs.lemmas.List.{get_or_read, take_all}
+use Rattle.std.proofs.Math.Nat.{mul-le-mul}
 use Rattle.exam_model.specs.Enrolments.{students}
 use Rattle.exam_model.specs.Fits.{PlaceExists}
 use Rattle.exam_model.specs.Pairs.{pairs_of, ComesBefore}
@@ -12,9 +13,21 @@ use Rattle.exam_publish.specs.Permit.{first_unplaced, least_breach}
 use Rattle.exam_publish.specs.Seats.{seat_rows}
 use Rattle.exam_publish.specs.Seating.{slot_of, rows_at, rows_after, AreSeated}
 use Rattle.exam_publish.proofs.PermitLemmas.{neither, all_placed}
-use Rattle.exam_publish.proofs.SeatingLemmas.{seated_more, seats_few, numbered, slot_within}
+use Rattle.exam_publish.proofs.SeatingLemmas.{unseated, seated_more, seats_few, numbered, slot_within}
 use Rattle.exam_publish.proofs.SeatLemmas.{are_seats}
 use Rattle.exam_publish.proofs.seating.seats.Goals as goal
+
+pub overflow_mul-places : goal.overflow_mul-places
+overflow_mul-places c =
+    let periods : c.periods.result ≤ 200 = omega (arith, c.periods.ensures.count, c.periods.ensures.kept.limits.counts.1.1) in
+    let rooms : c.rooms.result ≤ 200 = omega (arith, c.rooms.ensures.count, c.rooms.ensures.kept.limits.counts.2.1) in
+    let places : c.periods.result * c.rooms.result ≤ 40000 = mul-le-mul periods rooms in
+    omega (arith, places)
+
+pub exams-init : goal.exams-init
+exams-init c =
+    unseated c.args.enrolments.now c.args.timetable.now (length c.args.instance.now.periods) (length c.args.instance.now.rooms) _ c.in_ok-taken.taken.items c.in_ok-rows.rows.items
+    (c.in_ok-taken.ensures.items_if_clones_equal (λ y h. h)) (ap₂ (λ a b. a * b) c.periods.ensures.count c.rooms.ensures.count) c.in_ok-rows.ensures.items
 
 pub exams-preserved-in_default : goal.exams-preserved-in_default
 exams-preserved-in_default c =
@@ -26,6 +39,25 @@ exams-preserved-in_default c =
     let unplaced : place_of T e ≡ None = ap (place_of T) (sym c.new-exam.ensures) ∙ sym c.get.ensures ∙ c.in_default.is in
     let placed : is_some (place_of T e) ≡ true = all_placed T (neither (first_unplaced T) (least_breach I E T) c.requires.permitted).0 e within in
     absurd (true≢false (sym placed ∙ ap is_some unplaced))
+
+pub slot_of-slot-requires-clause-period : goal.slot_of-slot-requires-clause-period
+slot_of-slot-requires-clause-period c =
+    let T = c.args.timetable.now in
+    let e = c.exams.exam in
+    let within : e < length T = omega (arith, c.exams-test.true, c.exams-exam-end.ensures.count, c.requires.fits.timetable) in
+    let here : place_of T e ≡ Some c.in-Some.place = ap (place_of T) (sym c.new-exam.ensures) ∙ sym c.get.ensures ∙ c.in-Some.is in
+    (subst (PlaceExists c.args.instance.now) here (c.requires.fits.places e None within)).0
+
+pub slot_of-slot-requires-clause-room : goal.slot_of-slot-requires-clause-room
+slot_of-slot-requires-clause-room c =
+    let T = c.args.timetable.now in
+    let e = c.exams.exam in
+    let within : e < length T = omega (arith, c.exams-test.true, c.exams-exam-end.ensures.count, c.requires.fits.timetable) in
+    let here : place_of T e ≡ Some c.in-Some.place = ap (place_of T) (sym c.new-exam.ensures) ∙ sym c.get.ensures ∙ c.in-Some.is in
+    (subst (PlaceExists c.args.instance.now) here (c.requires.fits.places e None within)).1
+
+pub index-before-requires : goal.index-before-requires
+index-before-requires c = omega (arith, c.exams.invariant.count, c.slot_of-slot.ensures.within)
 
 pub add_rows-requires : goal.add_rows-requires
 add_rows-requires c =
@@ -66,6 +98,9 @@ overflow_add-before c =
     (omega (arith, within, c.requires.fits.timetable, c.requires.fits.enrolments)) place.0 place.1 n_at in
     let same = ap length (c.students-students.ensures.all ∙ ap (students E) c.new-exam.ensures) in
     omega (arith, few, same)
+
+pub index_mut-requires : goal.index_mut-requires
+index_mut-requires c = omega (arith, c.exams.invariant.count, c.slot_of-slot.ensures.within)
 
 pub exams-preserved : goal.exams-preserved
 exams-preserved c =
