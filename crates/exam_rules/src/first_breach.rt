@@ -14,8 +14,8 @@ use crate::site::Site;
 use exam_model::{Enrolments, ExamNo, Instance, Timetable};
 use std::alloc::{AllocError, Global};
 
-// The rules, in the order of their breaches.
-fn rules() -> [BreachRule; 7]
+/// The rules, in the order of their breaches.
+pub fn rules() -> [BreachRule; 7]
     ensures { result ≡ all_rules }
 {
     [

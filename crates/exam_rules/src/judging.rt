@@ -4,14 +4,17 @@ ghost use Rattle.std.specs.List.Sorted.{IsStrictlySortedBy};
 ghost use Rattle.exam_rules.specs.declared.breach.Breach.{Breach};
 ghost use Rattle.exam_rules.specs.Breach.{breach, breach_cmp};
 ghost use Rattle.exam_rules.specs.Places.{Fits};
-ghost use Rattle.exam_rules.specs.Breaches.{is_breach, breaches_of};
+ghost use Rattle.exam_rules.specs.Groups.{AreGroups};
+ghost use Rattle.exam_rules.specs.Breaches.{is_breach, breaches_of, pairs_breaking};
 
 use crate::breach::{Breach, BreachRule};
 use crate::exam_pair::ExamPair;
-use crate::groups::by_period;
+use crate::first_breach::rules;
+use crate::groups::{Group, by_period};
 use crate::line_rules::{after_pairs, coincidence_pairs, exclusion_pairs};
 use crate::period_rules::{clash_pairs, duration_pairs};
 use crate::room_rules::{capacity_pairs, exclusive_pairs};
+use crate::site::Site;
 use exam_model::{Enrolments, Instance, Timetable};
 use std::alloc::{AllocError, Global};
 
@@ -44,21 +47,41 @@ pub fn breaches(
     ensures listed { IfOk result (λ found. found.items
         ≡ breaches_of instance.now enrolments.now timetable.now) }
 {
+    let site = Site {
+        instance,
+        enrolments,
+        timetable,
+    };
     let groups = by_period(alloc, instance, timetable)?;
     let mut found = Vec::new(alloc);
-    let durations = duration_pairs(alloc, instance, timetable)?;
-    push_all(&mut found, BreachRule::Duration, &durations)?;
-    let clashes = clash_pairs(alloc, instance, enrolments, timetable, &groups)?;
-    push_all(&mut found, BreachRule::Clash, &clashes)?;
-    let capacities = capacity_pairs(alloc, instance, enrolments, timetable)?;
-    push_all(&mut found, BreachRule::Capacity, &capacities)?;
-    let afters = after_pairs(alloc, instance, timetable)?;
-    push_all(&mut found, BreachRule::After, &afters)?;
-    let coincidences = coincidence_pairs(alloc, instance, enrolments, timetable)?;
-    push_all(&mut found, BreachRule::Coincidence, &coincidences)?;
-    let exclusions = exclusion_pairs(alloc, instance, timetable)?;
-    push_all(&mut found, BreachRule::Exclusion, &exclusions)?;
-    let exclusives = exclusive_pairs(alloc, instance, timetable, &groups)?;
-    push_all(&mut found, BreachRule::RoomExclusive, &exclusives)?;
+    'rules: for rule in &rules() {
+        let pairs = pairs_of(alloc, *rule, &site, &groups)?;
+        push_all(&mut found, *rule, &pairs)?;
+    }
     Ok(found)
+}
+
+// The pairs of exams that break a rule.
+fn pairs_of(
+    alloc: Global,
+    rule: BreachRule,
+    site: &Site,
+    groups: &[Group],
+) -> Result<Vec<ExamPair>, AllocError>
+    requires fits { Fits site.now.instance.now site.now.enrolments.now site.now.timetable.now }
+    requires grouped { AreGroups site.now.timetable.now (length site.now.instance.now.periods)
+        (length site.now.timetable.now) groups.now }
+    ensures { IfOk result (λ pairs. pairs.items ≡ pairs_breaking site.now.instance.now
+        site.now.enrolments.now site.now.timetable.now rule) }
+{
+    let (instance, enrolments, timetable) = (site.instance, site.enrolments, site.timetable);
+    match rule {
+        BreachRule::Duration => duration_pairs(alloc, instance, timetable),
+        BreachRule::Clash => clash_pairs(alloc, instance, enrolments, timetable, groups),
+        BreachRule::Capacity => capacity_pairs(alloc, instance, enrolments, timetable),
+        BreachRule::After => after_pairs(alloc, instance, timetable),
+        BreachRule::Coincidence => coincidence_pairs(alloc, instance, enrolments, timetable),
+        BreachRule::Exclusion => exclusion_pairs(alloc, instance, timetable),
+        BreachRule::RoomExclusive => exclusive_pairs(alloc, instance, timetable, groups),
+    }
 }
