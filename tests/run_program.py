@@ -166,6 +166,8 @@ CASES = [
     unloaded("a folder as database", "a folder", "small.exam", b"cannot open database"),
     unloaded("a file that is no database", "small.sol", "small.exam", b"cannot open database"),
     unloaded("a database in memory", ":memory:", "small.exam", b"cannot open database"),
+    Case("words that are no texts", (b"check\xff",), 2, b"",
+         b"error: the words are not all UTF-8\n"),
     Case("help", ("--help",), 0, Holding(b"check"), b""),
     Case("help names the load", ("--help",), 0, Holding(b"load"), b""),
     Case("help for the load", ("load", "--help"), 0, Holding(b"--db <FILE>"), b""),
