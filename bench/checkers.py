@@ -6,6 +6,7 @@ import sys
 from collections import namedtuple
 
 HERE = pathlib.Path(__file__).resolve().parent
+DATA = HERE / "data"
 TOP = HERE.parent
 PROGRAM = TOP / "crates" / "examoffice" / "out" / "examoffice"
 RUST = HERE / "build" / "rust" / "release" / "check"

@@ -121,6 +121,28 @@ def write(folder, name, lines):
     (folder / name).write_bytes("".join(f"{line}\r\n" for line in lines).encode())
 
 
+def is_made(file):
+    return file.exists() and file.stat().st_mtime >= pathlib.Path(__file__).stat().st_mtime
+
+
+def made(folder, names):
+    """The instance and the two timetables of each name, or of all; made where that is needed."""
+    folder.mkdir(exist_ok=True)
+    for name in names or SHAPES:
+        files = [folder / f"{name}.{kind}" for kind in ("exam", "sol", "bad")]
+        if not all(map(is_made, files)):
+            print(f"generating {name}", file=sys.stderr, flush=True)
+            make(folder, name)
+        yield files
+
+
+def stop_on_unknown(parser, names):
+    """Where a name is no instance's, the parser says which there are."""
+    unknown = [name for name in names if name not in SHAPES]
+    if unknown:
+        parser.error(f"no instance {', '.join(unknown)}; there are {', '.join(SHAPES)}")
+
+
 def make(folder, name):
     shape, rng = SHAPES[name], random.Random(f"exam {name}")
     taken = enrol(rng, shape)

@@ -1,5 +1,6 @@
 -- What is known of a load from its parts.
 use Rattle.std.proofs.Common.{◌≡◌, ◌∙◌, ◌⊎◌, length, None, inl, inr, sym, ap}
+use Rattle.std.proofs.Common.{Err, IfErr, IfOk, Ok, Result}
 use Rattle.std.proofs.Common.{subst, arith, Bool, true, false}
 use Rattle.std.specs.Prelude.{IsTrue}
 use Rattle.sqlite_schema.specs.declared.schema.Schema.{Schema}
@@ -12,7 +13,8 @@ use Rattle.office_records.specs.Stands.{IsKept}
 use Rattle.office_store.specs.Commands.{Gives}
 use Rattle.office_store.specs.Running.{IsFault, Now}
 use Rattle.office_store.specs.declared.fault.StoreFault.{StoreFault}
-use Rattle.office_store.specs.declared.fault.StoreFault.TheVariants.{Store}
+use Rattle.office_store.specs.Faults.{IsOfDatabase}
+use Rattle.office_store.specs.declared.fault.StoreFault.TheVariants.{BadSchema, Store}
 use Rattle.office_tables.specs.Schema.{no_schema, office_schema}
 use Rattle.office_program.specs.Load.{IsOfficeOf}
 
@@ -54,3 +56,21 @@ kept_still store old new there (inl is) kept stays =
     subst (λ held. IsKept (state store held).now there) (sym is) kept
 kept_still store old new there (inr same) kept stays =
     subst (λ db. IsKept db there) (sym same.0.now_is) kept
+
+-- what follows from two facts of a value follows of an Ok
+pub if_ok : {A E : Type 0} (result : Result A E) (P Q T : A → Type 0)
+    → ((a : A) → P a → Q a → T a) → IfOk result P → IfOk result Q → IfOk result T
+if_ok (Ok a) P Q T follows p q = follows a p q
+if_ok (Err e) P Q T follows p q = tt
+
+-- and of an Err
+pub if_err : {A E : Type 0} (result : Result A E) (P Q T : E → Type 0)
+    → ((e : E) → P e → Q e → T e) → IfErr result P → IfErr result Q → IfErr result T
+if_err (Ok a) P Q T follows p q = tt
+if_err (Err e) P Q T follows p q = follows e p q
+
+-- a fault of the database is the store's, or what a wrong schema says
+pub or_none : {fault : StoreFault} {P : Type 0} → IsOfDatabase fault → (fault ≡ BadSchema → P)
+    → (fault ≡ Store) ⊎ P
+or_none (inl is) says = inl is
+or_none (inr wrong) says = inr (says wrong)

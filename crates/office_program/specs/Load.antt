@@ -5,7 +5,7 @@ use Rattle.sqlite.specs.Effect.{Database}
 use Rattle.sqlite.specs.State.{State}
 use Rattle.office_records.specs.Office.{OfficeState}
 use Rattle.office_records.specs.Stands.{IsKept}
-use Rattle.office_store.specs.Commands.{loaded}
+use Rattle.office_store.specs.Commands.{SpellsSession, loaded}
 use Rattle.office_store.specs.Running.{IsFault, Now}
 use Rattle.office_store.specs.declared.loading.Loaded.{Loaded}
 use Rattle.office_tables.specs.Schema.{no_schema}
@@ -45,6 +45,7 @@ abbrev pub RefusesLoad : List ℕ → OfficeState → State → LoadFault → Ty
 RefusesLoad text office after (Store fault) = IsFault (loaded text office) fault
 RefusesLoad text office after Write = (counts : Loaded) × IsLoaded text office after counts
 
--- some line of what was loaded is printed
-abbrev pub PrintsCounts : Option (List ℕ) → Option (List ℕ) → Type 0
-PrintsCounts old new = (counts : Loaded) × Appends old new (loaded_text counts)
+-- the line of how much the text spells is printed
+abbrev pub PrintsCounts : List ℕ → Option (List ℕ) → Option (List ℕ) → Type 0
+PrintsCounts text old new =
+    (counts : Loaded) × SpellsSession text counts × Appends old new (loaded_text counts)

@@ -7,10 +7,10 @@ use Rattle.office_program.specs.declared.faults.ProgramFault.{ProgramFault}
 use Rattle.office_program.specs.declared.words.Task.{Task}
 use Rattle.office_program.specs.declared.words.Task.TheVariants.{Check, Load}
 
--- a report on a solution that breaks no hard rule, or the line of what was loaded
+-- a report on a solution that breaks no hard rule, or the line of what some text spells
 abbrev pub Prints : Task → Option (List ℕ) → Option (List ℕ) → Type 0
 Prints (Check instance solution) old new = WritesReport old new 0
-Prints (Load database instance) old new = PrintsCounts old new
+Prints (Load database instance) old new = (text : List ℕ) × PrintsCounts text old new
 
 -- the fault shows as one of the files that the task names
 abbrev pub IsOfTask : Task → ProgramFault → Type 0

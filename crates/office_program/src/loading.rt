@@ -41,16 +41,9 @@ pub fn office_in<S: Alter>(
         → IsOfficeOf (state S.Store conn).now there → ⊥)) }
 {
     if is_bare(&conn) {
-        return match Office::create(conn) {
-            Ok(office) => Ok(office),
-            // There are no tables, so a statement failed.
-            Err((_, conn)) => Err((StoreFault::Store, conn)),
-        };
-    }
-    match Office::adopt(alloc, conn) {
-        Ok(office) => Ok(office),
-        Err((StoreFault::BadSchema, conn)) => Err((StoreFault::BadSchema, conn)),
-        Err((_, conn)) => Err((StoreFault::Store, conn)),
+        Office::create(conn)
+    } else {
+        Office::adopt(alloc, conn)
     }
 }
 
@@ -100,7 +93,8 @@ fn load_into<S: Alter, W: Write>(
         → Now (state S.Store office.old) there
         → OnOk result (Loads text.now there (state S.Store office.new)
         (W.contents writer.old) (W.contents writer.new)) }
-    ensures printed { OnOk result (PrintsCounts (W.contents writer.old) (W.contents writer.new)) }
+    ensures printed { OnOk result
+        (PrintsCounts text.now (W.contents writer.old) (W.contents writer.new)) }
     ensures refused { HasCleanDisk (state S.Store office.new) → (there : OfficeState)
         → Now (state S.Store office.old) there
         → IfErr result (RefusesLoad text.now there (state S.Store office.new)) }
@@ -137,9 +131,9 @@ pub fn load_run<S: Alter, W: Write>(
         → (there : OfficeState) → IsOfficeOf (state S.Store conn).now there
         → RefusesLoad text.now there (state S.Store e.1) e.0) }
 
-    // Over any disk a line of four counts is written, or nothing.
+    // Over any disk the line says how much the text spells, or nothing is written.
     ensures printed { IfOk result (λ _.
-        PrintsCounts (W.contents writer.old) (W.contents writer.new)) }
+        PrintsCounts text.now (W.contents writer.old) (W.contents writer.new)) }
     ensures unwritten { IfErr result (λ e. e.0 ≢ LoadFault.Write
         → Keeps (W.contents writer.old) (W.contents writer.new)) }
 {

@@ -1,6 +1,6 @@
 // The whole program, over a file system and two writers.
 ghost use Rattle.std.specs.Prelude.{◌≡◌, ◌≢◌, ◌≤◌, ◌↔◌, ◌⊎◌, ◌++◌, ◌∷◌, [], IfErr, IfOk, OnOk};
-ghost use Rattle.std.specs.Prelude.{length, map, string_bytes};
+ghost use Rattle.std.specs.Prelude.{ℕ, List, length, map, string_bytes};
 ghost use Rattle.std.specs.Io.KnownBytes.{Appends};
 ghost use Rattle.std.specs.IoError.{error_kind};
 ghost use Rattle.std.specs.declared.io.ErrorKind.TheVariants as failure;
@@ -69,7 +69,8 @@ fn load<'a, W: Write>(
     out: &mut W,
 ) -> Result<u8, ProgramFault<'a>>
     ensures status { IfOk result (λ status. status ≡ 0) }
-    ensures printed { IfOk result (λ _. PrintsCounts (W.contents out.old) (W.contents out.new)) }
+    ensures printed { IfOk result (λ _. (text : List ℕ)
+        × PrintsCounts text (W.contents out.old) (W.contents out.new)) }
 
     // A line that names a file names the instance's.
     ensures fault { IfErr result (IsOfLoad instance.now) }
@@ -158,7 +159,8 @@ fn print_not_text<W: Write>(err: &mut W) -> io::Result<()>
 
 /// Answers a command line that is no list of texts, and gives the exit status.
 pub fn refuse_arguments<E: Write>(fault: &io::Error, err: &mut E) -> u8
-    ensures { (result ≡ 1) ↔ (error_kind fault.now ≡ failure.OutOfMemory) }
+    ensures within { (result ≡ 1) ⊎ (result ≡ 2) }
+    ensures memory { (result ≡ 1) ↔ (error_kind fault.now ≡ failure.OutOfMemory) }
 {
     if fault.kind() == io::ErrorKind::OutOfMemory {
         return complain(&ProgramFault::NoMemory, err);

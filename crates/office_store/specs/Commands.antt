@@ -1,6 +1,6 @@
 -- What each command makes of the office, its refusals in their order. A refusal changes nothing: it
 -- has no new office.
-use Rattle.std.specs.Prelude.{ℕ, Bool, ◌&&◌, nat_le, List, [], ◌∷◌, length, Option, Some, None, is_none, Result, Ok, Err}
+use Rattle.std.specs.Prelude.{◌≡◌, ℕ, Bool, ◌&&◌, nat_le, List, [], ◌∷◌, length, Option, Some, None, is_none, Result, Ok, Err}
 use Rattle.exam_model.specs.Enrolments.{Enrolled, pair_count}
 use Rattle.exam_model.specs.Instance.{Session}
 use Rattle.exam_model.specs.Refusing.{◌>>=◌, unless, else_err}
@@ -46,6 +46,11 @@ counts_of s = record {
   periods = length s.0.periods;
   rooms = length s.0.rooms;
 }
+
+-- the text spells a session of so much
+abbrev pub SpellsSession : List ℕ → loading.Loaded → Type 0
+SpellsSession bytes counts =
+    (s : Session × Enrolled) × (instance_in bytes ≡ Ok s) × (counts ≡ counts_of s)
 
 abbrev pub loaded : List ℕ → OfficeState → Gives loading.Loaded
 loaded bytes office = do

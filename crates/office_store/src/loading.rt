@@ -5,7 +5,7 @@ ghost use Rattle.sqlite.specs.State.{HasCleanDisk};
 ghost use Rattle.exam_model.specs.Enrolments.{AreEnrolments, students};
 ghost use Rattle.exam_model.specs.Instance.{IsInstance};
 ghost use Rattle.exam_model.specs.Pairs.{pairs_at, pairs_of};
-ghost use Rattle.office_store.specs.Commands.{counts_of, loaded};
+ghost use Rattle.office_store.specs.Commands.{SpellsSession, counts_of, loaded};
 ghost use Rattle.office_store.specs.Running.{Runs};
 ghost use Rattle.office_records.specs.Stands.{enrol_row};
 
@@ -37,6 +37,8 @@ impl<S: Alter> Office<S> {
     /// then `Loaded`: there is a session already.
     pub fn load(&mut self, alloc: Global, text: &[u8]) -> Result<Loaded, StoreFault>
         ensures runs { Runs S.Store (loaded text.now) self.old self.new result }
+        // Over any disk it is how much the text spells.
+        ensures counts { IfOk result (SpellsSession text.now) }
         ensures clean { HasCleanDisk (state S.Store self.new) → HasCleanDisk (state S.Store self.old) }
     {
         let (instance, enrolments) = match read_instance(alloc, text) {

@@ -179,10 +179,14 @@ fn publish_twice(rt: HostRuntime) -> Result<(), Fail> {
     Ok(())
 }
 
+// Exams 0 and 1 coincide.
+fn together() -> PeriodRule {
+    PeriodRule::Coincidence(ExamNo::new(0), ExamNo::new(1))
+}
+
 // The small session, in which exams 0 and 1 are to coincide besides.
 fn coinciding(alloc: Global) -> Result<Instance, Fail> {
-    let (zero, one) = (ExamNo::new(0), ExamNo::new(1));
-    let rules = [after(), PeriodRule::Coincidence(zero, one)];
+    let rules = [after(), together()];
     Ok(small(alloc, &rules, &[], WEIGHTS)?)
 }
 

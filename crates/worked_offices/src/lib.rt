@@ -21,4 +21,6 @@ mod runs;
 #[cfg(test)]
 mod tables;
 #[cfg(test)]
+mod words;
+#[cfg(test)]
 mod wrong_tables;

@@ -65,3 +65,17 @@ fn what_is_no_office_is_refused(rt: HostRuntime) -> Result<(), Fail> {
     }
     Ok(())
 }
+
+#[test]
+fn a_refused_database_can_be_mended(rt: HostRuntime) -> Result<(), Fail> {
+    let mut conn = filled(rt.alloc())?;
+    let _count = conn.execute("UPDATE owner SET dept = 1000", &[])?;
+    let Err((fault, mut conn)) = Office::adopt(rt.alloc(), conn) else {
+        return Err("an office")?;
+    };
+    assert_same(&rt, fault, StoreFault::BadSchema, "the fault");
+    let _count = conn.execute("UPDATE owner SET dept = 4", &[])?;
+    let answer = refusal(Office::adopt(rt.alloc(), conn));
+    assert_same(&rt, answer, None, "the mended database");
+    Ok(())
+}

@@ -1,22 +1,26 @@
-use Rattle.std.proofs.Common.{inr, rules, sym, subst}
+use Rattle.std.proofs.Common.{sym, subst}
 use Rattle.office_records.specs.Stands.{IsKept}
-use Rattle.office_program.proofs.LoadFacts.{before_load, fails, is_kept, kept_still}
+use Rattle.office_program.proofs.LoadFacts.{before_load, fails, if_err, if_ok, is_kept}
+use Rattle.office_program.proofs.LoadFacts.{kept_still, or_none}
 use Rattle.office_program.proofs.loading.office_in.Goals as goal
 
 -- a new office has no session
-pub returns-in-Ok-clause-found : goal.returns-in-Ok-clause-found
-returns-in-Ok-clause-found g c = λ clean there is stays.
-    subst (IsKept _) (sym (before_load _ there c.in-Ok.ensures.bare is)) (c.in-Ok.ensures.made clean)
+pub returns-then-is_bare-clause-found : goal.returns-then-is_bare-clause-found
+returns-then-is_bare-clause-found g c = if_ok c.create.result _ _ _
+    (λ office made bare clean there is stays.
+        subst (IsKept _) (sym (before_load _ there bare is)) (made clean))
+    c.create.ensures.made c.create.ensures.bare
 
 -- the office that was there is still there
-pub returns-in-Ok-adopt-clause-found : goal.returns-in-Ok-adopt-clause-found
-returns-in-Ok-adopt-clause-found g c = λ clean there is stays.
-    kept_still g.S.Store _ _ there (c.in-Ok-adopt.ensures.same clean)
-    (is_kept _ there (fails _ _ c.is_bare.ensures.1 c.if-is_bare.false) is) stays
+pub returns-else-is_bare-clause-found : goal.returns-else-is_bare-clause-found
+returns-else-is_bare-clause-found g c = if_ok c.adopt.result _ _ _
+    (λ office same _ clean there is stays. kept_still g.S.Store _ _ there (same clean)
+        (is_kept _ there (fails _ _ c.is_bare.ensures.1 c.if-is_bare.false) is) stays)
+    c.adopt.ensures.same c.adopt.ensures.same
 
 -- what is no office's database
-pub returns-in-Err-BadSchema-default-clause-refused :
-    goal.returns-in-Err-BadSchema-default-clause-refused
-returns-in-Err-BadSchema-default-clause-refused g c = λ clean.
-    inr (λ there is. c.in-Err-BadSchema-default.ensures.no_office (search rules) clean there
-    (is_kept _ there (fails _ _ c.is_bare.ensures.1 c.if-is_bare.false) is))
+pub returns-else-is_bare-clause-refused : goal.returns-else-is_bare-clause-refused
+returns-else-is_bare-clause-refused g c = if_err c.adopt.result _ _ _
+    (λ e fault no_office clean. or_none fault (λ wrong there is. no_office wrong clean there
+        (is_kept _ there (fails _ _ c.is_bare.ensures.1 c.if-is_bare.false) is)))
+    c.adopt.ensures.fault c.adopt.ensures.no_office

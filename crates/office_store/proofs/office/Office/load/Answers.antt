@@ -85,3 +85,11 @@ invariant_of-self-2 g c = (
       ),
   as_many c.args.text.now c.in-Ok.read.0 c.in-Ok.read.1 c.in-Ok.ensures.reading,
 )
+
+-- what was read is what the text spells
+pub returns-clause-counts : goal.returns-clause-counts
+returns-clause-counts g c = (
+  (c.in-Ok.read.0, c.in-Ok.read.1),
+  c.in-Ok.ensures.exact,
+  c.counts_of-loaded.ensures.counts,
+)
