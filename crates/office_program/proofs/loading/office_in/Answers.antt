@@ -8,19 +8,19 @@ use Rattle.office_program.proofs.loading.office_in.Goals as goal
 pub returns-then-is_bare-clause-found : goal.returns-then-is_bare-clause-found
 returns-then-is_bare-clause-found g c = if_ok c.create.result _ _ _
     (λ office made bare clean there is stays.
-        subst (IsKept _) (sym (before_load _ there bare is)) (made clean))
+    subst (IsKept _) (sym (before_load _ there bare is)) (made clean))
     c.create.ensures.made c.create.ensures.bare
 
 -- the office that was there is still there
 pub returns-else-is_bare-clause-found : goal.returns-else-is_bare-clause-found
 returns-else-is_bare-clause-found g c = if_ok c.adopt.result _ _ _
     (λ office same _ clean there is stays. kept_still g.S.Store _ _ there (same clean)
-        (is_kept _ there (fails _ _ c.is_bare.ensures.1 c.if-is_bare.false) is) stays)
+    (is_kept _ there (fails _ _ c.is_bare.ensures.1 c.if-is_bare.false) is) stays)
     c.adopt.ensures.same c.adopt.ensures.same
 
 -- what is no office's database
 pub returns-else-is_bare-clause-refused : goal.returns-else-is_bare-clause-refused
 returns-else-is_bare-clause-refused g c = if_err c.adopt.result _ _ _
     (λ e fault no_office clean. or_none fault (λ wrong there is. no_office wrong clean there
-        (is_kept _ there (fails _ _ c.is_bare.ensures.1 c.if-is_bare.false) is)))
+    (is_kept _ there (fails _ _ c.is_bare.ensures.1 c.if-is_bare.false) is)))
     c.adopt.ensures.fault c.adopt.ensures.no_office
