@@ -1,10 +1,10 @@
 -- What an edit makes of a timetable, or why it is refused: the first reason that holds.
 use Rattle.std.specs.Prelude.{◌≡◌, ℕ, ◌⊎◌, Bool, not, ◌&&◌, ◌==◌, nat_lt, List, [], ◌∷◌, length, Option, Some, None, is_some, Result, Ok, Err, slice_set}
-use Rattle.exam_model.specs.Refusing.{◌>>=◌, unless}
+use Rattle.exam_terms.specs.Refusing.{◌>>=◌, unless}
 use Rattle.exam_model.specs.Instance.{Session}
 use Rattle.exam_model.specs.Enrolments.{Enrolled}
 use Rattle.exam_model.specs.Timetable.{Placing, place_of}
-use Rattle.exam_model.specs.declared.parts.Place.{Place}
+use Rattle.exam_terms.specs.declared.place.Place.{Place}
 use Rattle.exam_rules.specs.declared.breach.Breach.{Breach}
 use Rattle.exam_rules.specs.Breaches.{least_breach_of}
 use Rattle.exam_draft.specs.declared.fault.EditFault.{EditFault}

@@ -1,6 +1,6 @@
 -- What is taken together fits: one number of exams throughout, and places that exist.
 use Rattle.std.specs.Prelude.{◌≡◌, ℕ, ◌<◌, length, All, Option, Some, None, option_map}
-use Rattle.exam_model.specs.declared.parts.Place.{Place}
+use Rattle.exam_terms.specs.declared.place.Place.{Place}
 use Rattle.exam_model.specs.Instance.{Session}
 use Rattle.exam_model.specs.Enrolments.{Enrolled}
 use Rattle.exam_model.specs.Timetable.{Placing, place_of}

@@ -1,4 +1,3 @@
-pub mod Refusing
 pub mod Sums
 pub mod Limits
 pub mod Instance

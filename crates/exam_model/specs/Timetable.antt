@@ -1,6 +1,6 @@
 -- A timetable: a partial map from the exams 0, 1, 2, .. to places.
 use Rattle.std.specs.Prelude.{◌≡◌, ℕ, ◌<◌, ◌≤◌, List, length, Option, None, IsSome, slice_index_or, replicate}
-use Rattle.exam_model.specs.declared.parts.Place.{Place}
+use Rattle.exam_terms.specs.declared.place.Place.{Place}
 
 -- at each exam's number its place, if it has one
 abbrev pub Placing : Type 0

@@ -3,8 +3,8 @@ ghost use Rattle.std.specs.Prelude.{◌≡◌, ◌<◌, ◌≤◌, [], not, leng
 ghost use Rattle.exam_model.specs.Enrolments.{Enrolled, AreEnrolments, IsAscending, Adds, Removes, RefusesPair, RefusesAll, students, has, size_of, shared, pair_count, no_pairs};
 
 use crate::fault::ModelFault;
-use crate::numbers::{ExamNo, StudentNo};
 use crate::roll::Roll;
+use exam_terms::{ExamNo, StudentNo};
 use std::alloc::Global;
 use std::marker::Model;
 

@@ -4,9 +4,9 @@ ghost use Rattle.exam_model.specs.Instance.{Session, session, IsInstance, Refuse
 
 use crate::fault::ModelFault;
 use crate::limits::{in_limits, numbers_exist};
-use crate::numbers::{ExamNo, PeriodNo, RoomNo};
 use crate::parts::{Exam, Period, Room, Weights};
 use crate::rules::{PeriodRule, RoomRule};
+use exam_terms::{ExamNo, PeriodNo, RoomNo};
 use std::alloc::Global;
 use std::marker::Model;
 

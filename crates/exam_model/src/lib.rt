@@ -1,4 +1,4 @@
-//! The values of an examination session: numbers, an instance, enrolments and a timetable.
+//! The values of an examination session: an instance, enrolments and a timetable.
 #![tactic(auto)]
 
 mod enrolments;
@@ -6,7 +6,6 @@ mod fault;
 mod instance;
 mod laws;
 mod limits;
-mod numbers;
 mod pair_cost;
 mod parts;
 mod roll;
@@ -14,11 +13,11 @@ mod rules;
 mod timetable;
 
 pub use enrolments::Enrolments;
+pub use exam_terms::{DeptNo, ExamNo, PeriodNo, Place, RoomNo, StudentNo};
 pub use fault::ModelFault;
 pub use instance::Instance;
 pub use laws::{determined_by_pairs, pairs_in_order};
-pub use numbers::{DeptNo, ExamNo, PeriodNo, RoomNo, StudentNo};
 pub use pair_cost::PairCost;
-pub use parts::{Exam, Period, Place, Room, Weights};
+pub use parts::{Exam, Period, Room, Weights};
 pub use rules::{PeriodRule, RoomRule};
 pub use timetable::Timetable;

@@ -1,7 +1,7 @@
 ghost use Rattle.std.specs.Prelude.{◌≡◌, ℕ};
 ghost use Rattle.exam_model.specs.PairCost.{CostLaws};
 
-use crate::numbers::PeriodNo;
+use exam_terms::PeriodNo;
 
 /// What two exams of one student cost, by the periods where they stand.
 pub trait PairCost {

@@ -1,5 +1,4 @@
-// Exams, periods, rooms, places and weights (ITC 2007, input format).
-use crate::numbers::{PeriodNo, RoomNo};
+// Exams, periods, rooms and weights (ITC 2007, input format).
 use jiff::civil::Date;
 
 /// An exam: how long it lasts, 0 to 1,440 minutes.
@@ -25,13 +24,6 @@ pub struct Period {
 pub struct Room {
     pub capacity: u32,
     pub penalty: u32,
-}
-
-/// Where an exam stands. Several exams may share a place.
-#[derive(Clone, Copy, Debug, PartialEq, Eq)]
-pub struct Place {
-    pub period: PeriodNo,
-    pub room: RoomNo,
 }
 
 /// What the institution weighs (ITC 2007, institutional model index); each 0 to 100,000.

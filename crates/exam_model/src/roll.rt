@@ -2,7 +2,7 @@
 ghost use Rattle.std.specs.Prelude.{◌≡◌, ℕ, List, [], IfOk, IfErr, OnOk, OnErr, not};
 ghost use Rattle.exam_model.specs.Enrolments.{IsAscending, IsAt, IsGap, Enters, Leaves, has_student};
 
-use crate::numbers::StudentNo;
+use exam_terms::StudentNo;
 use std::alloc::{AllocError, Global};
 use std::marker::Model;
 

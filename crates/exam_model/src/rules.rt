@@ -1,5 +1,5 @@
 // Hard rules on the periods and rooms of single exams (ITC 2007, hard constraints).
-use crate::numbers::ExamNo;
+use exam_terms::ExamNo;
 
 /// A rule on the periods of two exams. One that names an exam twice is never broken.
 #[derive(Clone, Copy, Debug, PartialEq, Eq)]

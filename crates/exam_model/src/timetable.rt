@@ -2,8 +2,7 @@
 ghost use Rattle.std.specs.Prelude.{◌≡◌, ◌<◌, ◌≤◌, ℕ, length, Some, None, IfOk, IfNone, IfSome, IsSome, slice_set};
 ghost use Rattle.exam_model.specs.Timetable.{Placing, place_of, unplaced, HasExams, IsFirstUnplaced};
 
-use crate::numbers::ExamNo;
-use crate::parts::Place;
+use exam_terms::{ExamNo, Place};
 use std::alloc::{AllocError, Global};
 use std::marker::Model;
 

@@ -12,7 +12,7 @@ use Rattle.exam_model.specs.Fits.{period_of}
 use Rattle.exam_model.specs.Instance.{Session, IsInstance}
 use Rattle.exam_model.specs.Sums.{sum_below}
 use Rattle.exam_model.specs.Timetable.{Placing, place_of}
-use Rattle.exam_model.specs.declared.parts.Place.{Place}
+use Rattle.exam_terms.specs.declared.place.Place.{Place}
 use Rattle.exam_model.proofs.PairLemmas.{are_pairs}
 use Rattle.exam_model.proofs.SumLemmas.{chain_from_index, sum_by-same, sum_by-add, sum_by-times, sum_below-same, sum_below-zeros, sum_below-turned, sum_below-at}
 use Rattle.exam_score.specs.Cost.{row_cost, day_cost, spread_cost}

@@ -21,7 +21,7 @@ use Rattle.exam_model.specs.Instance.{Session, IsInstance}
 use Rattle.exam_model.specs.Sums.{sum_below}
 use Rattle.exam_model.specs.Timetable.{Placing, place_of}
 use Rattle.exam_model.specs.declared.parts.Exam.{Exam}
-use Rattle.exam_model.specs.declared.parts.Place.{Place}
+use Rattle.exam_terms.specs.declared.place.Place.{Place}
 use Rattle.exam_model.proofs.SumLemmas.{IsChain, chain_weaker, each_weaker, sum_by-agree, sum_by-once, sum_below-same, sum_below-within, sum_below-turned, sum_below-at, sum_below_more}
 use Rattle.exam_score.specs.Track.{duration_count, minutes_of, is_at, lasts, lasting, durations, room_mixed}
 use Rattle.exam_publish.specs.declared.durations.Stay.{Stay}

@@ -10,7 +10,7 @@ use Rattle.std.proofs.lemmas.Nat.{mul-add-lt, same_from_place}
 use Rattle.exam_model.specs.Enrolments.{Enrolled, AreEnrolments, students, pair_count}
 use Rattle.exam_model.specs.Pairs.{Pair, pairs_at, pairs_from, pairs_of, ComesBefore}
 use Rattle.exam_model.specs.Timetable.{Placing, place_of}
-use Rattle.exam_model.specs.declared.parts.Place.{Place}
+use Rattle.exam_terms.specs.declared.place.Place.{Place}
 use Rattle.exam_model.proofs.SumLemmas.{IsChain, sum_by-agree, sum_by-none, each_weaker}
 use Rattle.exam_rules.specs.Places.{where_placed, is_one_place}
 use Rattle.exam_publish.specs.declared.seat_row.SeatRow.{SeatRow}

@@ -1,7 +1,7 @@
 -- How seats are given out along the pairs.
 use Rattle.std.specs.Prelude.{◌≡◌, ℕ, ◌+◌, ◌*◌, ◌<◌, List, [], ◌∷◌, ◌++◌, length, count_by, option_map, slice_index, take}
 use Rattle.std.specs.List.{cons_option}
-use Rattle.exam_model.specs.declared.parts.Place.{Place}
+use Rattle.exam_terms.specs.declared.place.Place.{Place}
 use Rattle.exam_model.specs.Enrolments.{Enrolled}
 use Rattle.exam_model.specs.Pairs.{Pair, pairs_of}
 use Rattle.exam_model.specs.Timetable.{Placing, place_of}

@@ -1,7 +1,7 @@
 -- Whose share of the penalty is how much: of students by their rows, of exams, periods and rooms.
 use Rattle.std.specs.Prelude.{ℕ, ◌*◌, Bool, ◌==◌, List, map, filter, length, count_by, Option, slice_get}
 use Rattle.std.specs.List.{range_with_len}
-use Rattle.exam_model.specs.declared.parts.Place.{Place}
+use Rattle.exam_terms.specs.declared.place.Place.{Place}
 use Rattle.exam_model.specs.Instance.{Session}
 use Rattle.exam_model.specs.Enrolments.{Enrolled}
 use Rattle.exam_model.specs.Timetable.{Placing}

@@ -1,6 +1,6 @@
 -- Sums kept in a table while a list is walked along.
 use Rattle.std.specs.Prelude.{◌≡◌, ℕ, ◌*◌, ◌<◌, ◌≤◌, Bool, ◌&&◌, ◌||◌, ◌==◌, nat_lt, if◌then◌else◌, List, length, count_by, Option, slice_index}
-use Rattle.exam_model.specs.declared.parts.Place.{Place}
+use Rattle.exam_terms.specs.declared.place.Place.{Place}
 use Rattle.exam_model.specs.Instance.{Session}
 use Rattle.exam_model.specs.Sums.{count_below}
 use Rattle.exam_score.specs.Track.{is_late}

@@ -7,7 +7,7 @@ use Rattle.std.proofs.lemmas.List.Folds.{Any-from_list_any, list_any_at}
 use Rattle.std.proofs.lemmas.List.{get_or_read}
 use Rattle.exam_model.specs.Instance.{Session}
 use Rattle.exam_model.specs.Timetable.{Placing, place_of}
-use Rattle.exam_model.specs.declared.parts.Place.{Place}
+use Rattle.exam_terms.specs.declared.place.Place.{Place}
 use Rattle.exam_rules.specs.Places.{PlaceExists, where_placed, where_both, is_one_place, in_one_period, in_one_place}
 use Rattle.exam_rules.specs.Groups.{has_exam, stands_in, AreGroups}
 use Rattle.exam_rules.proofs.MemberLemmas.{and_false}

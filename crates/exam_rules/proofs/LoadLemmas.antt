@@ -6,7 +6,7 @@ use Rattle.std.proofs.lemmas.Nat.{mul-add-lt, same_from_place}
 use Rattle.std.proofs.Common.{mul_comm}
 use Rattle.exam_model.specs.Enrolments.{Enrolled, size_of}
 use Rattle.exam_model.specs.Timetable.{Placing, place_of}
-use Rattle.exam_model.specs.declared.parts.Place.{Place}
+use Rattle.exam_terms.specs.declared.place.Place.{Place}
 use Rattle.exam_rules.specs.Places.{where_placed, is_one_place, load_below}
 use Rattle.exam_rules.specs.Loads.{slot_of, AreLoads}
 

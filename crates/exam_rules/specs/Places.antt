@@ -3,7 +3,7 @@ use Rattle.std.specs.Prelude.{ℕ, Bool, false, not, ◌&&◌, ◌==◌, nat_le,
 use Rattle.exam_model.specs.Sums.{sum_below}
 use Rattle.exam_model.specs.Enrolments.{Enrolled, size_of, shared}
 use Rattle.exam_model.specs.Timetable.{Placing, place_of}
-use Rattle.exam_model.specs.declared.parts.Place.{Place}
+use Rattle.exam_terms.specs.declared.place.Place.{Place}
 pub use Rattle.exam_model.specs.Fits.{Fits, PlaceExists}
 
 -- a test of a place, false where there is none

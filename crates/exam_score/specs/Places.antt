@@ -1,6 +1,6 @@
 -- Timetables whose exams and places are those of a session.
 use Rattle.std.specs.Prelude.{◌≡◌, ℕ, ◌<◌, length, IfSome}
-use Rattle.exam_model.specs.declared.parts.Place.{Place}
+use Rattle.exam_terms.specs.declared.place.Place.{Place}
 use Rattle.exam_model.specs.Instance.{Session}
 use Rattle.exam_model.specs.Timetable.{Placing, place_of}
 

@@ -4,7 +4,7 @@ ghost use Rattle.office_desk.specs.Callers.{is_blank, trim_start, trim_end, trim
 ghost use Rattle.office_desk.specs.Callers.{behind, numbered, dept_in, candidate_in, caller_of};
 
 use crate::numbers::read_number;
-use exam_model::{DeptNo, StudentNo};
+use exam_terms::{DeptNo, StudentNo};
 
 /// Who asks, by the word of the front that set the header `X-Caller`.
 #[derive(Clone, Copy, Debug, PartialEq, Eq)]

@@ -1,5 +1,5 @@
 // What is asked.
-use exam_model::{ExamNo, Place};
+use exam_terms::{ExamNo, Place};
 
 /// What a request's body says.
 #[derive(Clone, Copy, Debug, PartialEq, Eq)]

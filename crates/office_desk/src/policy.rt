@@ -4,7 +4,7 @@ ghost use Rattle.office_desk.specs.Policy.{kind_of, owns, if_owned, permits};
 
 use crate::callers::Caller;
 use crate::command::Command;
-use exam_model::DeptNo;
+use exam_terms::DeptNo;
 
 /// Why a command is denied.
 #[derive(Clone, Copy, Debug, PartialEq, Eq)]

@@ -11,7 +11,7 @@ use Rattle.std.proofs.lemmas.List.Folds.{flat_map-map}
 use Rattle.exam_model.specs.Fits.{PlaceExists}
 use Rattle.exam_model.specs.Instance.{Session}
 use Rattle.exam_model.specs.Timetable.{Placing, place_of}
-use Rattle.exam_model.specs.declared.parts.Place.{Place}
+use Rattle.exam_terms.specs.declared.place.Place.{Place}
 use Rattle.office_files.specs.CanonicalText.{line_of, place_text, slot_text, canonical_solution, SuitsTimetable}
 use Rattle.office_files.specs.Items.{place_line}
 use Rattle.office_files.specs.Lines.{lines_of}

@@ -5,7 +5,7 @@ use Rattle.std.proofs.Common.{refl, ap, ◌∙◌, arith}
 use Rattle.std.specs.Prelude.{◌≢◌, ◌||◌, nat_lt}
 use Rattle.std.proofs.lemmas.Bool.{ltb-true, lt-ltb}
 use Rattle.std.proofs.lemmas.List.Sums.{sum_by-set}
-use Rattle.exam_model.specs.Refusing.{◌>>=◌, unless}
+use Rattle.exam_terms.specs.Refusing.{◌>>=◌, unless}
 use Rattle.exam_model.specs.Enrolments.{Enrolled, IsAscending, RefusesAll, has_student, students}
 use Rattle.exam_model.specs.Enrolments.{pair_count}
 use Rattle.exam_model.specs.declared.fault.ModelFault.{ModelFault}

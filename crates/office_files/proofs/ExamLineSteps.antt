@@ -6,7 +6,7 @@ use Rattle.std.specs.Prelude.{map, sum_by}
 use Rattle.std.proofs.lemmas.List.{length-append, length-map, map_push, set_at}
 use Rattle.std.proofs.lemmas.List.Sums.{sum_by-append, sum_by-cons}
 use Rattle.std.proofs.lemmas.List.Folds.{sum_by-replicate}
-use Rattle.exam_model.specs.Refusing.{◌>>=◌}
+use Rattle.exam_terms.specs.Refusing.{◌>>=◌}
 use Rattle.exam_model.specs.Enrolments.{Enrolled, AreEnrolments, pair_count, no_pairs}
 use Rattle.exam_model.specs.declared.parts.Exam.{Exam}
 use Rattle.office_files.specs.Fields.{fields_of, first, rest}

@@ -5,7 +5,7 @@ use Rattle.std.proofs.Common.{inr}
 use Rattle.std.specs.Prelude.{if◌then◌else◌, nat_lt, ◌==◌}
 use Rattle.std.proofs.lemmas.Bool.{cases_Bool}
 use Rattle.std.proofs.lemmas.List.{append-nil, append_assoc, length-append}
-use Rattle.exam_model.specs.Refusing.{◌>>=◌}
+use Rattle.exam_terms.specs.Refusing.{◌>>=◌}
 use Rattle.office_files.specs.Fields.{fields_of}
 use Rattle.office_files.specs.FirstFault.{fault_of, fault_behind, Standing, behind, header_fault}
 use Rattle.office_files.specs.FirstFault.{item_fault, line_fault, at_line_or, first_from}

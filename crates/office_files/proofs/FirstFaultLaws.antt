@@ -4,11 +4,11 @@ use Rattle.std.proofs.Common.{length, map, IfOk, IfErr, Option, Some, None, Resu
 use Rattle.std.proofs.Common.{ap, sym, ◌∙◌, arith, inl, inr}
 use Rattle.std.specs.Prelude.{if◌then◌else◌, nat_lt, nat_le, ◌==◌}
 use Rattle.std.proofs.lemmas.Bool.{cases_Bool, ltb-true, ltb-false, eq-eqb, ne_eqb}
-use Rattle.exam_model.specs.Refusing.{◌>>=◌, unless}
+use Rattle.exam_terms.specs.Refusing.{◌>>=◌, unless}
 use Rattle.exam_model.specs.Enrolments.{Enrolled}
 use Rattle.exam_model.specs.Instance.{Session}
 use Rattle.exam_model.specs.Timetable.{Placing}
-use Rattle.exam_model.specs.declared.parts.Place.{Place}
+use Rattle.exam_terms.specs.declared.place.Place.{Place}
 use Rattle.office_files.specs.ExamLines.{ExamLine, exam_line}
 use Rattle.office_files.specs.Fields.{fields_of}
 use Rattle.office_files.specs.FirstFault.{fault_of, first_from, at_start, first_fault}

@@ -4,7 +4,7 @@ use Rattle.std.specs.Prelude.{All, nat_le}
 use Rattle.std.proofs.lemmas.Bool.{leb-true, le-leb}
 use Rattle.std.proofs.lemmas.List.{length-map}
 use Rattle.std.proofs.lemmas.List.Elements.{All-map}
-use Rattle.exam_model.specs.Refusing.{unless}
+use Rattle.exam_terms.specs.Refusing.{unless}
 use Rattle.exam_model.specs.Enrolments.{Enrolled}
 use Rattle.exam_model.specs.Instance.{Session, IsInstance, PeriodRuleExists, RoomRuleExists}
 use Rattle.exam_model.specs.Limits.{ExamInLimits, PeriodInLimits, RoomInLimits}

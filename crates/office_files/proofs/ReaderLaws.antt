@@ -6,7 +6,7 @@ use Rattle.std.specs.Prelude.{All}
 use Rattle.exam_model.specs.Enrolments.{Enrolled}
 use Rattle.exam_model.specs.Fits.{PlaceExists}
 use Rattle.exam_model.specs.Instance.{Session}
-use Rattle.exam_model.specs.Refusing.{unless}
+use Rattle.exam_terms.specs.Refusing.{unless}
 use Rattle.exam_model.specs.Timetable.{Placing}
 use Rattle.office_files.specs.InstanceText.{InstanceText, instance_in}
 use Rattle.office_files.specs.Items.{place_line}

@@ -4,7 +4,7 @@ use Rattle.std.specs.Prelude.{All, slice_get, nat_le, if◌then◌else◌}
 use Rattle.std.proofs.lemmas.Bool.{leb-true}
 use Rattle.std.proofs.lemmas.List.{append-nil, append_assoc, length-append}
 use Rattle.std.proofs.lemmas.List.Elements.{All-nil, All-push}
-use Rattle.exam_model.specs.Refusing.{◌>>=◌, unless}
+use Rattle.exam_terms.specs.Refusing.{◌>>=◌, unless}
 use Rattle.office_files.specs.Fields.{fields_of}
 use Rattle.office_files.specs.Lines.{Located}
 use Rattle.office_files.specs.Numbers.{number, is_number, read_on}

@@ -5,7 +5,7 @@ use Rattle.std.specs.Str.{str_eq_ignore_ascii_case}
 use Rattle.std.proofs.lemmas.Bool.{cases_Bool, ltb-true, eqb-true}
 use Rattle.std.proofs.lemmas.List.{take-append-drop, take_at, drop_at}
 use Rattle.std.proofs.lemmas.List.Elements.{All-nil, All-cons, All-head, All-tail}
-use Rattle.exam_model.specs.Refusing.{unless, else_err}
+use Rattle.exam_terms.specs.Refusing.{unless, else_err}
 use Rattle.office_files.specs.Fields.{split_once, trimmed}
 use Rattle.office_files.specs.Lines.{Located, is_header, section_size}
 use Rattle.office_files.specs.Numbers.{number}

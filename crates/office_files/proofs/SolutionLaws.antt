@@ -2,10 +2,10 @@
 use Rattle.std.proofs.Common.{◌≡◌, ℕ, ◌+◌, ◌≤◌, List, [], length, map, Some, Ok, refl, sym, ap}
 use Rattle.std.specs.Prelude.{All, nat_le, ◌==◌}
 use Rattle.std.proofs.lemmas.Bool.{leb-true, le-leb, eqb-true, eq-eqb}
-use Rattle.exam_model.specs.Refusing.{unless}
+use Rattle.exam_terms.specs.Refusing.{unless}
 use Rattle.exam_model.specs.Instance.{Session}
 use Rattle.exam_model.specs.Timetable.{Placing}
-use Rattle.exam_model.specs.declared.parts.Place.{Place}
+use Rattle.exam_terms.specs.declared.place.Place.{Place}
 use Rattle.office_files.specs.Items.{place_line}
 use Rattle.office_files.specs.Lines.{Located, lines_of, line_count}
 use Rattle.office_files.specs.Reading.{at_line, items_of}

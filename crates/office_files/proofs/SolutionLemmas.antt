@@ -2,7 +2,7 @@
 use Rattle.std.proofs.Common.{◌≡◌, ℕ, suc, ◌<◌, List, [], ◌∷◌, length, Some, refl, arith}
 use Rattle.std.specs.Prelude.{map, slice_get}
 use Rattle.exam_model.specs.Timetable.{Placing, place_of}
-use Rattle.exam_model.specs.declared.parts.Place.{Place}
+use Rattle.exam_terms.specs.declared.place.Place.{Place}
 
 -- each exam stands at its place of the list
 pub all_placed : (t : Placing) (places : List Place) → length t ≡ length places → ((k : ℕ) → k < length places → place_of t k ≡ slice_get places k) → t ≡ map Some places

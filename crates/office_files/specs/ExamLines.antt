@@ -2,7 +2,7 @@
 use Rattle.std.specs.Prelude.{◌≡◌, ℕ, ◌+◌, ◌<◌, ◌||◌, ◌==◌, nat_lt, if◌then◌else◌}
 use Rattle.std.specs.Prelude.{List, [], ◌∷◌, length, map, sum_by, slice_set}
 use Rattle.std.specs.Prelude.{Option, Some, None, Result, Ok, Err}
-use Rattle.exam_model.specs.Refusing.{◌>>=◌, unless}
+use Rattle.exam_terms.specs.Refusing.{◌>>=◌, unless}
 use Rattle.exam_model.specs.Enrolments.{Enrolled, AreEnrolments, has_student, students, pair_count}
 use Rattle.exam_model.specs.declared.parts.Exam.{Exam}
 use Rattle.office_files.specs.Fields.{first, rest}

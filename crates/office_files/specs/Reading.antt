@@ -1,6 +1,6 @@
 -- How lines are read one after another: each by its own fields and the items of the lines before it.
 use Rattle.std.specs.Prelude.{◌≡◌, ◌≢◌, ℕ, List, [], ◌∷◌, ◌++◌, length, take, slice_get, Some, Result, Ok, Err}
-use Rattle.exam_model.specs.Refusing.{◌>>=◌}
+use Rattle.exam_terms.specs.Refusing.{◌>>=◌}
 use Rattle.office_files.specs.Fields.{fields_of}
 use Rattle.office_files.specs.Lines.{Located}
 use Rattle.office_files.specs.declared.fault.FaultKind.{FaultKind}

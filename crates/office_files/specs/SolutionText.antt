@@ -1,9 +1,9 @@
 -- What a solution file spells, and how it is read (ITC 2007, output format).
 use Rattle.std.specs.Prelude.{◌≡◌, ℕ, ◌+◌, ◌≤◌, ◌==◌, nat_le, List, [], map, length, Some, Result, Ok}
-use Rattle.exam_model.specs.Refusing.{◌>>=◌, unless}
+use Rattle.exam_terms.specs.Refusing.{◌>>=◌, unless}
 use Rattle.exam_model.specs.Instance.{Session}
 use Rattle.exam_model.specs.Timetable.{Placing}
-use Rattle.exam_model.specs.declared.parts.Place.{Place}
+use Rattle.exam_terms.specs.declared.place.Place.{Place}
 use Rattle.office_files.specs.Items.{place_line}
 use Rattle.office_files.specs.Lines.{lines_of, line_count}
 use Rattle.office_files.specs.Reading.{at_line, items_of, Spell}

@@ -2,7 +2,7 @@
 use Rattle.std.proofs.Common.{◌≡◌, ℕ, List, Option, Some, None, Result, Ok, Err}
 use Rattle.std.specs.Borrow.{Bor}
 use Rattle.std.specs.Prelude.{IsSomeAnd, IsOkAnd}
-use Rattle.exam_model.specs.Refusing.{◌>>=◌, else_err}
+use Rattle.exam_terms.specs.Refusing.{◌>>=◌, else_err}
 use Rattle.office_desk.specs.declared.callers.Caller.{Caller}
 use Rattle.office_desk.specs.declared.command.Command.{Command}
 use Rattle.office_http.specs.Commands.{command_of, HasJson}

@@ -2,7 +2,7 @@
 use Rattle.std.specs.Prelude.{◌≡◌, ℕ, List, Option, Some, None, option_and_then}
 use Rattle.std.specs.Borrow.{Bor}
 use Rattle.std.specs.Prelude.{Result, Ok, Err, IsOkAnd}
-use Rattle.exam_model.specs.Refusing.{◌>>=◌, else_err}
+use Rattle.exam_terms.specs.Refusing.{◌>>=◌, else_err}
 use Rattle.office_desk.specs.Callers.{caller_of, trimmed}
 use Rattle.office_desk.specs.declared.callers.Caller.{Caller}
 use Rattle.office_desk.specs.declared.callers.Caller.TheVariants.{Office, Dept, Cand}

@@ -5,7 +5,7 @@ ghost use Rattle.serde_json.specs.View.{view};
 ghost use Rattle.office_http.specs.Bodies.{json_in, members_count, number_at, place_in, dept_in};
 ghost use Rattle.office_http.specs.Bodies.{text_body, place_body, dept_body};
 
-use exam_model::{PeriodNo, Place, RoomNo};
+use exam_terms::{PeriodNo, Place, RoomNo};
 use office_desk::Body;
 use serde_json::Value;
 use std::alloc::{AllocError, Global};

@@ -5,7 +5,7 @@ ghost use Rattle.office_http.specs.Resources.{swap_in, resource_at};
 
 use crate::pages::Page;
 use crate::paths::number_in;
-use exam_model::ExamNo;
+use exam_terms::ExamNo;
 
 /// What a path stands for: its page, with the numbers in it. Drafts and batches go by plain
 /// numbers, and nothing needs to exist.

@@ -6,7 +6,7 @@ use Rattle.exam_model.specs.Enrolments.{no_pairs}
 use Rattle.exam_model.specs.Instance.{Session}
 use Rattle.exam_model.specs.Pairs.{Pair, pairs_of}
 use Rattle.exam_model.specs.Timetable.{Placing}
-use Rattle.exam_model.specs.declared.parts.Place.{Place}
+use Rattle.exam_terms.specs.declared.place.Place.{Place}
 use Rattle.exam_score.specs.Penalty.{Penalty}
 use Rattle.exam_score.specs.Track.{track}
 use Rattle.office_files.specs.CanonicalText.{canonical_instance}

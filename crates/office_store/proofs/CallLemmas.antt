@@ -5,7 +5,7 @@ use Rattle.std.proofs.lemmas.Bool.Decides.{nat_tests}
 use Rattle.sqlite.specs.Effect.{Database}
 use Rattle.exam_model.specs.Enrolments.{Enrolled}
 use Rattle.exam_model.specs.Instance.{Session}
-use Rattle.exam_model.specs.Refusing.{◌>>=◌, else_err}
+use Rattle.exam_terms.specs.Refusing.{◌>>=◌, else_err}
 use Rattle.exam_model.specs.Timetable.{Placing}
 use Rattle.exam_score.specs.Penalty.{Penalty, total_of}
 use Rattle.office_files.specs.SolutionText.{solution_in}

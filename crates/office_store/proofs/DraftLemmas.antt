@@ -10,7 +10,7 @@ use Rattle.sqlite_trees.proofs.ListLemmas.{IsPermutation-filter}
 use Rattle.sqlite.specs.Effect.{Database}
 use Rattle.exam_model.specs.Fits.{Fits}
 use Rattle.exam_model.specs.Timetable.{Placing}
-use Rattle.exam_model.specs.declared.parts.Place.{Place}
+use Rattle.exam_terms.specs.declared.place.Place.{Place}
 use Rattle.exam_score.specs.Track.{track}
 use Rattle.office_tables.specs.Tables.{Tables, Stands as Held}
 use Rattle.office_tables.specs.declared.rows.DraftRow.{DraftRow}

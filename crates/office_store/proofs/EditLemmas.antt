@@ -8,7 +8,7 @@ use Rattle.sqlite.specs.Effect.{Database}
 use Rattle.exam_model.specs.Enrolments.{Enrolled}
 use Rattle.exam_model.specs.Fits.{Fits}
 use Rattle.exam_model.specs.Instance.{Session}
-use Rattle.exam_model.specs.Refusing.{◌>>=◌, unless}
+use Rattle.exam_terms.specs.Refusing.{◌>>=◌, unless}
 use Rattle.exam_model.specs.Timetable.{Placing, place_of}
 use Rattle.exam_rules.specs.declared.breach.Breach.{Breach}
 use Rattle.exam_rules.specs.Breaches.{least_breach_of}

@@ -11,7 +11,7 @@ use Rattle.std.proofs.lemmas.List.Sorted.{IsPermutation-refl, IsPermutation-sym,
 use Rattle.sqlite_trees.proofs.ListLemmas.{IsPermutation-filter, filter-filter}
 use Rattle.sqlite.specs.Effect.{Database}
 use Rattle.exam_model.specs.Timetable.{Placing, place_of}
-use Rattle.exam_model.specs.declared.parts.Place.{Place}
+use Rattle.exam_terms.specs.declared.place.Place.{Place}
 use Rattle.exam_score.specs.Changes.{DiffersAtMost, is_among}
 use Rattle.office_tables.specs.Changes.{with_slot, without_slot}
 use Rattle.office_tables.specs.Tables.{Tables, Stands as Held}

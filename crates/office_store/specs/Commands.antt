@@ -3,7 +3,7 @@
 use Rattle.std.specs.Prelude.{◌≡◌, ℕ, Bool, ◌&&◌, nat_le, List, [], ◌∷◌, length, Option, Some, None, is_none, Result, Ok, Err}
 use Rattle.exam_model.specs.Enrolments.{Enrolled, pair_count}
 use Rattle.exam_model.specs.Instance.{Session}
-use Rattle.exam_model.specs.Refusing.{◌>>=◌, unless, else_err}
+use Rattle.exam_terms.specs.Refusing.{◌>>=◌, unless, else_err}
 use Rattle.exam_model.specs.Timetable.{Placing, unplaced}
 use Rattle.exam_score.specs.Penalty.{Penalty, total_of}
 use Rattle.exam_score.specs.Track.{track}

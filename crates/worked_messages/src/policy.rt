@@ -1,6 +1,6 @@
 // Who asks, and who may ask for what.
 use crate::given::assert_same;
-use exam_model::{DeptNo, ExamNo, PeriodNo, Place, RoomNo, StudentNo};
+use exam_terms::{DeptNo, ExamNo, PeriodNo, Place, RoomNo, StudentNo};
 use office_desk::{Body, Caller, Command, Denial, allowed, read_number};
 use std::process::Abort;
 use std::test::Fail;
