@@ -1,5 +1,5 @@
 -- A query that answers was asked of an open store.
-use Rattle.std.proofs.Common.{◌≡◌, ℕ, List, Some, None, Option, IsTrue, codes, sym, subst, refl, Result, Ok, Err, OnErr}
+use Rattle.std.proofs.Common.{ℕ, List, Some, None, Option, IsTrue, codes, sym, subst, refl, Result, Ok, Err, OnErr}
 use Rattle.sqlite_value.specs.Order.{Row}
 use Rattle.sqlite_schema.specs.declared.command.Returning.{Returning}
 use Rattle.sqlite_resolve.specs.declared.compiled.Compiled.{Compiled}

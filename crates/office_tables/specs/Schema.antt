@@ -1,7 +1,8 @@
 -- The ten tables of an office's file as SQLite keeps them, schema version 1. All are STRICT, all columns
 -- are NOT NULL. A table's rows lie in the tree of its number; each key of more than one column, and
 -- each UNIQUE, has a tree of its own behind that of its table.
-use Rattle.std.specs.Prelude.{◌≡◌, ℕ, true, false, List, [], ◌∷◌, Some, None, Option, codes}
+use Rattle.std.specs.Prelude.{◌≡◌, ℕ, true, false, List, [], ◌∷◌, map, Some, None, Option, codes}
+use Rattle.std.specs.Borrow.{Bor}
 use Rattle.std.specs.List.{AllByRecursion}
 use Rattle.sqlite_value.specs.declared.keys.Collation.TheVariants.{Binary}
 use Rattle.sqlite_value.specs.declared.keys.Order.{Order}
@@ -13,6 +14,8 @@ use Rattle.sqlite_schema.specs.declared.schema.Kind.{Kind}
 use Rattle.sqlite_schema.specs.declared.schema.Kind.TheVariants.{Integer, Blob}
 use Rattle.sqlite_schema.specs.declared.schema.Schema.{Schema}
 use Rattle.sqlite_schema.specs.declared.schema.Table.{Table}
+use Rattle.office_tables.specs.declared.schema_parts.TableKey.{TableKey}
+use Rattle.office_tables.specs.declared.schema_parts.TableKey.TheVariants.{Number, Pair, PairAndTriple}
 use Rattle.sqlite.specs.Change.{created}
 use Rattle.sqlite.specs.Effect.{Database}
 
@@ -59,6 +62,31 @@ abbrev pub paired_table : List ℕ → ℕ → List Column → Table
 paired_table name tree columns =
     table_of name tree columns None (1 ∷ 2 ∷ []) ((1 ∷ 2 ∷ []) ∷ []) (plain ∷ [])
 
+-- the first two columns are the key, and no two rows agree in the next three
+abbrev pub seated_table : List ℕ → ℕ → List Column → Table
+seated_table name tree columns = table_of name tree columns None (1 ∷ 2 ∷ [])
+    ((1 ∷ 2 ∷ []) ∷ (3 ∷ 4 ∷ 5 ∷ []) ∷ []) (plain ∷ plain ∷ [])
+
+-- ---- a table by its key, and a table's key alone
+
+abbrev pub columns_of : List (Bor (List ℕ) × Kind) → List Column
+columns_of = map (λ column. column_of column.1 column.0.now)
+
+abbrev pub table_by : TableKey → List ℕ → ℕ → List Column → Table
+table_by Number = keyed_table
+table_by Pair = paired_table
+table_by PairAndTriple = seated_table
+
+abbrev pub HasKey : TableKey → Table → Type 0
+HasKey Number t =
+    (t.key ≡ Some 0) × (t.primary ≡ 0 ∷ []) × (t.uniques ≡ []) × (t.orders ≡ [])
+HasKey Pair t =
+    (t.key ≡ None) × (t.primary ≡ 1 ∷ 2 ∷ []) × (t.uniques ≡ (1 ∷ 2 ∷ []) ∷ [])
+    × (t.orders ≡ plain ∷ [])
+HasKey PairAndTriple t =
+    (t.key ≡ None) × (t.primary ≡ 1 ∷ 2 ∷ [])
+    × (t.uniques ≡ (1 ∷ 2 ∷ []) ∷ (3 ∷ 4 ∷ 5 ∷ []) ∷ []) × (t.orders ≡ plain ∷ plain ∷ [])
+
 -- ---- the tables
 
 abbrev pub meta_table : Table
@@ -89,10 +117,9 @@ placed_table = keyed_table (codes "placed") 7
 
 -- nobody shares a seat
 abbrev pub seat_table : Table
-seat_table = table_of (codes "seat") 8
+seat_table = seated_table (codes "seat") 8
     (int (codes "student") ∷ int (codes "exam") ∷ int (codes "period") ∷ int (codes "room") ∷
     int (codes "seat") ∷ [])
-    None (1 ∷ 2 ∷ []) ((1 ∷ 2 ∷ []) ∷ (3 ∷ 4 ∷ 5 ∷ []) ∷ []) (plain ∷ plain ∷ [])
 
 abbrev pub share_student_table : Table
 share_student_table = keyed_table (codes "share_student") 11

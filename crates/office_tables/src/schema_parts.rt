@@ -1,8 +1,8 @@
 // Whether a part of a schema is as it is written out: columns, keys and indexes.
-ghost use Rattle.std.specs.Prelude.{◌≡◌, ◌↔◌, [], ◌∷◌, ℕ, None, Some, false, IfOk, IsTrue};
+ghost use Rattle.std.specs.Prelude.{◌≡◌, ◌↔◌, [], ◌∷◌, None, Some, false, IfOk, IsTrue};
 ghost use Rattle.sqlite_value.specs.Keys.{plain};
 ghost use Rattle.sqlite_value.specs.declared.value.Value.TheVariants.{Null};
-ghost use Rattle.office_tables.specs.Schema.{column_of, blob, index_of, int, keyed_table, paired_table, table_of};
+ghost use Rattle.office_tables.specs.Schema.{column_of, columns_of, index_of, table_by, HasKey};
 
 use sqlite_items::Items;
 use sqlite_schema::code::Terms;
@@ -10,43 +10,6 @@ use sqlite_schema::schema::{Column, Index, Kind, Stamps, Table};
 use sqlite_value::keys::{Collation, Order};
 use sqlite_value::value::Value;
 use std::alloc::{AllocError, Global};
-
-// A column of INTEGER NOT NULL.
-pub fn is_int(column: &Column, name: &[u8]) -> bool
-    ensures { IsTrue result ↔ (column.now ≡ int name.now) }
-{
-    is_column(column, Kind::Integer, name)
-}
-
-// Two columns of INTEGER NOT NULL.
-pub fn are_ints(one: &Column, other: &Column, name: &[u8], other_name: &[u8]) -> bool
-    ensures { IsTrue result ↔ ((one.now ≡ int name.now) × (other.now ≡ int other_name.now)) }
-{
-    is_int(one, name) && is_int(other, other_name)
-}
-
-// Four columns of INTEGER NOT NULL, and no other.
-pub fn are_four_ints(
-    columns: &[Column],
-    first: &[u8],
-    second: &[u8],
-    third: &[u8],
-    fourth: &[u8],
-) -> bool
-    ensures { IsTrue result ↔ (columns.now ≡ int first.now ∷ int second.now ∷ int third.now ∷ int fourth.now ∷ []) }
-{
-    let [one, two, three, four] = columns else {
-        return false;
-    };
-    are_ints(one, two, first, second) && are_ints(three, four, third, fourth)
-}
-
-// A column of BLOB NOT NULL.
-pub fn is_blob(column: &Column, name: &[u8]) -> bool
-    ensures { IsTrue result ↔ (column.now ≡ blob name.now) }
-{
-    is_column(column, Kind::Blob, name)
-}
 
 fn is_column(column: &Column, kind: Kind, name: &[u8]) -> bool
     ensures { IsTrue result ↔ (column.now ≡ column_of kind name.now) }
@@ -68,40 +31,57 @@ fn is_null(value: &Value) -> bool
     }
 }
 
-// A table whose first column is its key, whatever its columns.
-pub fn is_keyed(alloc: Global, table: &Table, name: &[u8], tree: u32) -> Result<bool, AllocError>
-    ensures { IfOk result (λ is. IsTrue is ↔ (table.now ≡ keyed_table name.now tree table.now.columns)) }
+// Which of a table's columns are its key.
+pub enum TableKey {
+    // The first, which is the row's number.
+    Number,
+    // The first two.
+    Pair,
+    // The first two, and no two rows agree in the next three.
+    PairAndTriple,
+}
+
+// A table of these columns, by name and kind.
+pub fn is_table(
+    alloc: Global,
+    table: &Table,
+    name: &str,
+    tree: u32,
+    key: TableKey,
+    columns: &[(&str, Kind)],
+) -> Result<bool, AllocError>
+    ensures { IfOk result (λ is. IsTrue is ↔ (table.now ≡ table_by key name.now tree (columns_of columns.now))) }
 {
     Ok(
-        is_plain(alloc, table)?
-            && table.name.as_slice() == name
+        has_key(table, key)
+            && are_columns(table.columns.as_slice(), columns)
+            && table.name.as_slice() == name.as_bytes()
             && table.tree == tree
-            && has_first_key(table),
+            && is_plain(alloc, table)?,
     )
 }
 
-// A table whose first two columns are its key, whatever its columns.
-pub fn is_paired(alloc: Global, table: &Table, name: &[u8], tree: u32) -> Result<bool, AllocError>
-    ensures { IfOk result (λ is. IsTrue is ↔ (table.now ≡ paired_table name.now tree table.now.columns)) }
+// Columns of these names and kinds, in this order.
+fn are_columns(columns: &[Column], wanted: &[(&str, Kind)]) -> bool
+    ensures { IsTrue result ↔ (columns.now ≡ columns_of wanted.now) }
 {
-    Ok(
-        is_plain(alloc, table)?
-            && table.name.as_slice() == name
-            && table.tree == tree
-            && has_pair_key(table),
-    )
+    match (columns, wanted) {
+        ([], []) => true,
+        ([column, columns @ ..], [(name, kind), wanted @ ..]) => {
+            is_column(column, *kind, name.as_bytes()) && are_columns(columns, wanted)
+        }
+        _ => false,
+    }
 }
 
-// The table of seats, whatever its columns.
-pub fn is_seated(alloc: Global, table: &Table, name: &[u8], tree: u32) -> Result<bool, AllocError>
-    ensures { IfOk result (λ is. IsTrue is ↔ (table.now ≡ table_of name.now tree table.now.columns None (1 ∷ 2 ∷ []) ((1 ∷ 2 ∷ []) ∷ (3 ∷ 4 ∷ 5 ∷ []) ∷ []) (plain ∷ plain ∷ []))) }
+fn has_key(table: &Table, key: TableKey) -> bool
+    ensures { IsTrue result ↔ HasKey key table.now }
 {
-    Ok(
-        is_plain(alloc, table)?
-            && table.name.as_slice() == name
-            && table.tree == tree
-            && has_seat_keys(table),
-    )
+    match key {
+        TableKey::Number => has_first_key(table),
+        TableKey::Pair => has_pair_key(table),
+        TableKey::PairAndTriple => has_seat_keys(table),
+    }
 }
 
 fn has_first_key(table: &Table) -> bool

@@ -1,7 +1,7 @@
 use Rattle.std.proofs.Common.{refl, subst}
 use Rattle.std.proofs.lemmas.Result.{on_ok_weaker}
 use Rattle.sqlite.specs.Held.{state}
-use Rattle.office_tables.specs.Schema.{schema_9, schema_10, IsBlank}
+use Rattle.office_tables.specs.Schema.{schema_9, IsBlank}
 use Rattle.office_tables.specs.Steps.{Leads}
 use Rattle.office_tables.proofs.Creates.{makes, batch_defined, whole}
 use Rattle.office_tables.proofs.schema.create_batch.Goals as goal
