@@ -92,12 +92,16 @@ abbrev pub load_line : LoadFault → List ℕ
 load_line (load.Store f) = store_line f
 load_line load.Write = fault_line fault.CannotWrite
 
--- the fault shows as one of the instance of this path, of its database, or of `load`
+-- the fault shows as one of a database, or of loading into its office
+abbrev pub IsOfOffice : ProgramFault → Type 0
+IsOfOffice shown =
+    ((of : Error) × (fault_line shown ≡ open_line of))
+    ⊎ ((of : LoadFault) × (fault_line shown ≡ load_line of))
+
+-- the fault shows as one of the instance of this path, or of the office that it goes into
 abbrev pub IsOfLoad : List ℕ → ProgramFault → Type 0
 IsOfLoad path shown =
-    ((of : InputFault) × (fault_line shown ≡ input_line path of))
-    ⊎ (((of : Error) × (fault_line shown ≡ open_line of))
-    ⊎ ((of : LoadFault) × (fault_line shown ≡ load_line of)))
+    ((of : InputFault) × (fault_line shown ≡ input_line path of)) ⊎ IsOfOffice shown
 
 -- the line for words that are no texts, without its end
 abbrev pub not_text_line : List ℕ

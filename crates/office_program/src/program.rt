@@ -8,7 +8,7 @@ ghost use Rattle.clap.specs.Words.{kind_of};
 ghost use Rattle.clap.specs.Faults.{fault_of};
 ghost use Rattle.clap.specs.declared.error.kind.ErrorKind.TheVariants as kind;
 ghost use Rattle.office_program.specs.Check.{WritesReport};
-ghost use Rattle.office_program.specs.FaultLines.{IsOfCheck, IsOfLoad, fault_line, not_text_line};
+ghost use Rattle.office_program.specs.FaultLines.{IsOfCheck, IsOfLoad, IsOfOffice, fault_line, not_text_line};
 ghost use Rattle.office_program.specs.Load.{PrintsCounts};
 ghost use Rattle.office_program.specs.Program.{AreAnswered, IsMistake, IsTask, program};
 ghost use Rattle.office_program.specs.Tasks.{IsOfTask, Prints};
@@ -21,7 +21,8 @@ use crate::reading::{InputFault, whole_text};
 use crate::words::{Task, read_words};
 use clap::Error;
 use clap::error::ErrorKind;
-use sqlite::Connection;
+use sqlite::{Alter, Connection};
+use std::alloc::Global;
 use std::io::Write;
 use std::rt::Files;
 use std::{fs, io};
@@ -61,6 +62,46 @@ fn text_at<R: Files + AllocGlobal>(rt: &R, path: &str) -> Result<Vec<u8>, InputF
     whole_text(rt.alloc(), &mut file, INSTANCE_BYTES)
 }
 
+// Loads an instance's text into the office of a database, whose connection comes back.
+fn load_and_keep<'a, S: Alter, W: Write>(
+    alloc: Global,
+    conn: Connection<S>,
+    text: &[u8],
+    out: &mut W,
+) -> (Connection<S>, Result<u8, ProgramFault<'a>>)
+    ensures status { IfOk result.1 (λ status. status ≡ 0) }
+    ensures printed { IfOk result.1 (λ _.
+        PrintsCounts text.now (W.contents out.old) (W.contents out.new)) }
+    ensures fault { IfErr result.1 IsOfOffice }
+{
+    match load_run(alloc, conn, text, out) {
+        Ok(conn) => (conn, Ok(0)),
+        Err((fault, conn)) => (conn, Err(fault_of_load(fault))),
+    }
+}
+
+// Loads an instance's text into the office of a database's file.
+fn load_text<'a, W: Write>(
+    rt: &HostRuntime,
+    database: &str,
+    text: &[u8],
+    out: &mut W,
+) -> Result<u8, ProgramFault<'a>>
+    ensures status { IfOk result (λ status. status ≡ 0) }
+    ensures printed { IfOk result (λ _.
+        PrintsCounts text.now (W.contents out.old) (W.contents out.new)) }
+    ensures fault { IfErr result IsOfOffice }
+{
+    let conn = match Connection::open(rt, database) {
+        Ok(conn) => conn,
+        Err(error) => return Err(fault_of_open(error)),
+    };
+    let (conn, done) = load_and_keep(rt.alloc(), conn, text, out);
+    // A log that can't be copied into the file stays beside it, and is read there.
+    let _ = conn.close();
+    done
+}
+
 // `load`. The instance's file is read before the database is opened.
 fn load<'a, W: Write>(
     rt: &HostRuntime,
@@ -75,21 +116,10 @@ fn load<'a, W: Write>(
     // A line that names a file names the instance's.
     ensures fault { IfErr result (IsOfLoad instance.now) }
 {
-    let text = match text_at(rt, instance) {
-        Ok(text) => text,
-        Err(fault) => return Err(fault_of_input(fault, instance)),
-    };
-    let conn = match Connection::open(rt, database) {
-        Ok(conn) => conn,
-        Err(error) => return Err(fault_of_open(error)),
-    };
-    let (conn, done) = match load_run(rt.alloc(), conn, &text, out) {
-        Ok(conn) => (conn, Ok(0)),
-        Err((fault, conn)) => (conn, Err(fault_of_load(fault))),
-    };
-    // A log that can't be copied into the file stays beside it, and is read there.
-    let _ = conn.close();
-    done
+    match text_at(rt, instance) {
+        Ok(text) => load_text(rt, database, &text, out),
+        Err(fault) => Err(fault_of_input(fault, instance)),
+    }
 }
 
 // Does a task.
