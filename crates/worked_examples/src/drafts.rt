@@ -94,7 +94,19 @@ fn session(alloc: Global) -> Result<Instance, Fail> {
     Ok(small(alloc, &[after()], &[], WEIGHTS)?)
 }
 
-// Edits of the empty draft, and the total after each or why it is refused.
+// Edits of a draft, and the total after each or why it is refused.
+fn meets<R: Abort>(
+    rt: &R,
+    alloc: Global,
+    draft: &mut Draft<'_>,
+    steps: &[(Step, Result<u64, EditFault>)],
+) {
+    for (step, wanted) in steps {
+        assert_same(rt, edit(alloc, draft, *step), *wanted, *step);
+    }
+}
+
+// Edits of the empty draft.
 fn edits<R: Abort>(
     rt: &R,
     alloc: Global,
@@ -103,9 +115,7 @@ fn edits<R: Abort>(
     let instance = session(alloc)?;
     let enrolments = enrolled(alloc, &PAIRS)?;
     let mut draft = empty(alloc, &instance, &enrolments)?;
-    for (step, wanted) in steps {
-        assert_same(rt, edit(alloc, &mut draft, *step), *wanted, *step);
-    }
+    meets(rt, alloc, &mut draft, steps);
     Ok(())
 }
 
@@ -220,13 +230,28 @@ fn enrolled_anew<'a>(
     }
 }
 
+fn total_of(alloc: Global, instance: &Instance, enrolments: &Enrolments) -> Result<u64, Fail> {
+    Ok(solved(alloc, instance, enrolments)?.parts().total())
+}
+
+// It refuses just the edits of the two exams that are to coincide.
+fn refuses_edits_of_two<R: Abort>(rt: &R, alloc: Global, draft: &mut Draft<'_>) {
+    let refused = Err(broken(BreachRule::Coincidence, 0, 1));
+    let steps = [
+        (Move(3, (3, 1)), Ok(36)),
+        (Move(0, (0, 1)), refused),
+        (Clear(0), Ok(35)),
+    ];
+    meets(rt, alloc, draft, &steps);
+}
+
 #[test]
 fn coincidence_by_enrolment(rt: HostRuntime) -> Result<(), Fail> {
     let instance = coinciding(rt.alloc())?;
     let enrolments = enrolled(rt.alloc(), &PAIRS)?;
+    let solved = total_of(rt.alloc(), &instance, &enrolments)?;
+    assert_same(&rt, solved, 37, "solved");
     let fewer = enrolled_without(rt.alloc(), 2, 1)?;
-    let solved = solved(rt.alloc(), &instance, &enrolments)?;
-    assert_same(&rt, solved.parts().total(), 37, "solved");
     let mut draft = enrolled_anew(rt.alloc(), &instance, &enrolments, &fewer)?;
     assert_same(&rt, draft.parts().total(), 29, "fewer enrolments");
     if instance.exams() != 4 {
@@ -234,21 +259,8 @@ fn coincidence_by_enrolment(rt: HostRuntime) -> Result<(), Fail> {
     }
     let one = [ExamNo::new(1)];
     let found = first_breach_of(rt.alloc(), &instance, &fewer, draft.timetable(), &one)?;
-    assert_same(
-        &rt,
-        found,
-        Some(breach(BreachRule::Coincidence, 0, 1)),
-        "it stands",
-    );
-    // It refuses just the edits of these two exams.
-    let refused = Err(broken(BreachRule::Coincidence, 0, 1));
-    let steps = [
-        (Move(3, (3, 1)), Ok(36)),
-        (Move(0, (0, 1)), refused),
-        (Clear(0), Ok(35)),
-    ];
-    for (step, wanted) in steps {
-        assert_same(&rt, edit(rt.alloc(), &mut draft, step), wanted, step);
-    }
+    let stands = Some(breach(BreachRule::Coincidence, 0, 1));
+    assert_same(&rt, found, stands, "it stands");
+    refuses_edits_of_two(&rt, rt.alloc(), &mut draft);
     Ok(())
 }

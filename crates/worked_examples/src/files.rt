@@ -4,11 +4,12 @@ use FaultKind::{
     BadDate, BadNumber, BadTime, BadWord, CountMismatch, Incomplete, MissingSection, OutOfRange,
     Repeated, StrayText, TooLong,
 };
-use exam_model::ExamNo;
+use exam_model::{ExamNo, Instance};
 use office_files::{
     FaultKind, FileFault, Tokens, read_instance, read_solution, write_instance, write_solution,
 };
 use std::alloc::{AllocError, Global};
+use std::process::Abort;
 use std::test::Fail;
 
 // The lines of the small instance.
@@ -65,15 +66,20 @@ fn counts(alloc: Global, text: &[u8]) -> Result<(u32, u32), FileFault> {
     Ok((instance.exams(), enrolments.pairs()))
 }
 
+// Whether it is the small instance.
+fn is_small<R: Abort>(rt: &R, instance: &Instance) {
+    let counts = [instance.exams(), instance.periods(), instance.rooms()];
+    assert_same(rt, counts, [4, 4, 2], "exams, periods and rooms");
+    let rules = (instance.period_rules().len(), instance.room_rules().len());
+    assert_same(rt, rules, (1, 0), "rules");
+    let weights = instance.weights();
+    assert_same(rt, (weights.row, weights.front), (7, 4), "weights");
+}
+
 #[test]
 fn reads_the_small_instance_and_its_solution(rt: HostRuntime) -> Result<(), Fail> {
     let (instance, enrolments) = read_instance(rt.alloc(), &small_text(rt.alloc())?)?;
-    let counts = [instance.exams(), instance.periods(), instance.rooms()];
-    assert_same(&rt, counts, [4, 4, 2], "exams, periods and rooms");
-    let rules = (instance.period_rules().len(), instance.room_rules().len());
-    assert_same(&rt, rules, (1, 0), "rules");
-    let weights = instance.weights();
-    assert_same(&rt, (weights.row, weights.front), (7, 4), "weights");
+    is_small(&rt, &instance);
     assert_same(&rt, enrolments.pairs(), 6, "pairs");
     let timetable = read_solution(rt.alloc(), b"0, 0\n1, 0\n3, 1\n2, 0\n", &instance)?;
     if timetable.exams() < 3 {
@@ -172,13 +178,18 @@ fn solution_faults(rt: HostRuntime) -> Result<(), Fail> {
     Ok(())
 }
 
-#[test]
-fn crlf_and_canonical_text(rt: HostRuntime) -> Result<(), Fail> {
-    let (instance, enrolments) = read_instance(rt.alloc(), &small_text(rt.alloc())?)?;
+// What is read of a text, written.
+fn written_again(alloc: Global, text: &[u8]) -> Result<Vec<u8>, Fail> {
+    let (instance, enrolments) = read_instance(alloc, text)?;
     if enrolments.exams() != instance.exams() {
         return Err("enrolments of other exams")?;
     }
-    let text = write_instance(rt.alloc(), &instance, &enrolments)?;
+    Ok(write_instance(alloc, &instance, &enrolments)?)
+}
+
+#[test]
+fn crlf_and_canonical_text(rt: HostRuntime) -> Result<(), Fail> {
+    let text = written_again(rt.alloc(), &small_text(rt.alloc())?)?;
     let wanted = with_line(rt.alloc(), 0, b"", b"\r\n")?;
     assert_same(&rt, text.as_slice(), wanted.as_slice(), "text");
     Ok(())

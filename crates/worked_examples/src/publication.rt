@@ -1,6 +1,6 @@
 // Seats, shares and publications of the small session.
 ghost use Rattle.std.specs.Prelude.{IfOk};
-ghost use Rattle.exam_publish.specs.Rows.{AreRowsOf};
+ghost use Rattle.exam_publish.specs.Rows.{AreRowsOf, RowsInOrder};
 
 use crate::given::{
     APART, ONE_ROOM, PAIRS, Places, WEIGHTS, after, assert_same, enrolled, fits, placed, small,
@@ -58,6 +58,15 @@ fn rows(alloc: Global, numbers: &[(u32, u32, u32, u32, u32)]) -> Result<Vec<Seat
     Ok(rows)
 }
 
+// The rows of a publication of the small session with its exams at these places.
+fn rows_at(alloc: Global, places: &Places) -> Result<Vec<SeatRow>, Fail>
+    ensures { IfOk result (λ rows. RowsInOrder rows.items) }
+{
+    let (instance, enrolments) = session(alloc)?;
+    let timetable = placed(alloc, places)?;
+    published(alloc, &instance, &enrolments, &timetable)
+}
+
 // Whether the small session has just these rows with its exams at these places.
 fn has_rows<R: Abort>(
     rt: &R,
@@ -65,9 +74,7 @@ fn has_rows<R: Abort>(
     places: &Places,
     wanted: &[(u32, u32, u32, u32, u32)],
 ) -> Result<(), Fail> {
-    let (instance, enrolments) = session(alloc)?;
-    let timetable = placed(alloc, places)?;
-    let found = published(alloc, &instance, &enrolments, &timetable)?;
+    let found = rows_at(alloc, places)?;
     let wanted = rows(alloc, wanted)?;
     assert_same(rt, found.as_slice(), wanted.as_slice(), places);
     Ok(())
@@ -130,12 +137,10 @@ fn publications(
     places: &Places,
     next: &Places,
 ) -> Result<(Vec<StudentNo>, Vec<StudentNo>), Fail> {
-    let (instance, enrolments) = session(alloc)?;
-    let (first, second) = (placed(alloc, places)?, placed(alloc, next)?);
-    let old = published(alloc, &instance, &enrolments, &first)?;
-    let new = published(alloc, &instance, &enrolments, &second)?;
-    let all = changed(alloc, &[], old.as_slice())?;
-    let moved = changed(alloc, old.as_slice(), new.as_slice())?;
+    let old = rows_at(alloc, places)?;
+    let new = rows_at(alloc, next)?;
+    let all = changed(alloc, &[], &old)?;
+    let moved = changed(alloc, &old, &new)?;
     Ok((all, moved))
 }
 
