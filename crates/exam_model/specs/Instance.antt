@@ -1,7 +1,6 @@
 -- What an instance is: its exams, periods, rooms, rules and weights.
 use Rattle.std.specs.Prelude.{ℕ, ◌+◌, ◌-◌, ◌<◌, Bool, false, List, length, All, Option, Some, None, slice_get}
-use Rattle.std.specs.Ordering.{int_eq}
-use Rattle.jiff.specs.Words.{epoch_day}
+use Rattle.exam_calendar.specs.Dates.{is_same_date}
 use Rattle.exam_model.specs.Limits.{AreCounted, ExamInLimits, PeriodInLimits, RoomInLimits, WeightsInLimits}
 use Rattle.exam_model.specs.declared.parts.Exam.{Exam}
 use Rattle.exam_model.specs.declared.parts.Period.{Period}
@@ -77,7 +76,7 @@ gap p q = (p - q) + (q - p)
 abbrev pub share_date : Option Period → Option Period → Bool
 share_date None q = false
 share_date (Some p) None = false
-share_date (Some p) (Some q) = int_eq (epoch_day p.date) (epoch_day q.date)
+share_date (Some p) (Some q) = is_same_date p.date q.date
 
 -- whether two periods exist and are of one day
 abbrev pub same_day : List Period → ℕ → ℕ → Bool

@@ -1,5 +1,6 @@
 -- The limits of the numbers in an instance.
-use Rattle.std.specs.Prelude.{ℕ, ◌≤◌, pos, ◌≤ℤ◌}
+use Rattle.std.specs.Prelude.{ℕ, ◌≤◌, IsTrue}
+use Rattle.exam_calendar.specs.Dates.{is_civil}
 use Rattle.exam_model.specs.declared.parts.Exam.{Exam}
 use Rattle.exam_model.specs.declared.parts.Period.{Period}
 use Rattle.exam_model.specs.declared.parts.Room.{Room}
@@ -17,10 +18,10 @@ IsMinutes n = n ≤ 1440
 abbrev pub ExamInLimits : Exam → Type 0
 ExamInLimits e = IsMinutes e.minutes
 
--- a date of the years 1 to 9999, a time of day, a length and a penalty
+-- a date of the calendar, a time of day, a length and a penalty
 abbrev pub PeriodInLimits : Period → Type 0
 PeriodInLimits p =
-    (pos 1 ≤ℤ p.date.year) × (p.hour ≤ 23) × (p.minute ≤ 59) × (p.second ≤ 59)
+    IsTrue (is_civil p.date) × (p.hour ≤ 23) × (p.minute ≤ 59) × (p.second ≤ 59)
     × IsMinutes p.length × IsAmount p.penalty
 
 -- how many students it holds, and a penalty

@@ -6,7 +6,7 @@ use std::alloc::AllocError;
 /// Why a part of the model is refused.
 #[derive(Clone, Copy, Debug, PartialEq, Eq)]
 pub enum ModelFault {
-    /// A number or a count is beyond its limit.
+    /// A number or a count is beyond its limit, or there is no such date.
     Range = 1,
     /// A number names nothing that exists.
     NoSuch = 2,

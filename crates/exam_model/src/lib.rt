@@ -13,6 +13,7 @@ mod rules;
 mod timetable;
 
 pub use enrolments::Enrolments;
+pub use exam_calendar::Date;
 pub use exam_terms::{DeptNo, ExamNo, PeriodNo, Place, RoomNo, StudentNo};
 pub use fault::ModelFault;
 pub use instance::Instance;

@@ -10,7 +10,7 @@ impl Period {
     pub(crate) fn in_limits(&self) -> bool
         ensures { IsTrue result ↔ PeriodInLimits self.now }
     {
-        self.date.year() >= 1
+        self.date.exists()
             && self.hour <= 23
             && self.minute <= 59
             && self.second <= 59

@@ -1,5 +1,5 @@
 // Exams, periods, rooms and weights (ITC 2007, input format).
-use jiff::civil::Date;
+use exam_calendar::Date;
 
 /// An exam: how long it lasts, 0 to 1,440 minutes.
 #[derive(Clone, Copy, Debug, PartialEq, Eq)]
@@ -8,7 +8,7 @@ pub struct Exam {
 }
 
 /// A period: when it begins, how many minutes it has (0 to 1,440), and what an exam in it
-/// costs (0 to 100,000). Years are 1 to 9999. Periods needn't stand in the order of time.
+/// costs (0 to 100,000). Its date exists. Periods needn't stand in the order of time.
 #[derive(Clone, Copy, Debug, PartialEq, Eq)]
 pub struct Period {
     pub date: Date,

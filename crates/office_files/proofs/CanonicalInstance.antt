@@ -10,6 +10,7 @@ use Rattle.std.proofs.lemmas.List.Elements.{All-head, All-tail}
 use Rattle.std.proofs.lemmas.List.Sums.{sum_by-cons, sum_by_push}
 use Rattle.exam_model.specs.Enrolments.{Enrolled, AreEnrolments, IsAscending, students, pair_count}
 use Rattle.exam_model.specs.Instance.{Session, IsInstance, PeriodRuleExists, RoomRuleExists}
+use Rattle.exam_calendar.proofs.DateLemmas.{date_ranges}
 use Rattle.exam_model.specs.Limits.{ExamInLimits, PeriodInLimits, RoomInLimits, WeightsInLimits}
 use Rattle.exam_model.specs.declared.parts.Exam.{Exam}
 use Rattle.exam_model.specs.declared.parts.Period.{Period}
@@ -28,7 +29,7 @@ use Rattle.office_files.specs.Lines.{is_header}
 use Rattle.office_files.specs.Sections.{IsSection}
 use Rattle.office_files.specs.Weightings.{weighting_line}
 use Rattle.office_files.specs.declared.counts.Counts.{Counts}
-use Rattle.office_files.proofs.CanonicalItems.{exam_fields, exam_written, exam_back, period_fields, period_written, period_back, day_least, room_fields, room_written, room_back}
+use Rattle.office_files.proofs.CanonicalItems.{exam_fields, exam_written, exam_back, period_fields, period_written, period_back, room_fields, room_written, room_back}
 use Rattle.office_files.proofs.CanonicalItems.{period_rule_fields, period_rule_written, period_rule_back, room_rule_fields, room_rule_written, room_rule_back, weighting_fields, weightings_written, weightings_back}
 use Rattle.office_files.proofs.CanonicalLines.{apart, IsLine, AreRead, rows, each_of, decimal_first, length_decimal, length_flat}
 use Rattle.office_files.proofs.CanonicalSections.{IsWord, IsWritten, counted_said, plain_said, counted_field, plain_field, counted_short, plain_short, section_written, section_short, reads_within, at_section}
@@ -181,7 +182,7 @@ module _ (counts : Counts) where
     header = counted_field (codes "Periods") (length ps) is_periods (omega arith);
     lines = each_of PeriodInLimits (λ p. IsLine (period_text p) (period_fields p)) period_written ps all;
     none = each_of PeriodInLimits (λ p. is_header (period_text p) ≡ false)
-        (λ p is. ne_eqb (48 + p.date.day / 10) 91 (λ same. omega (arith, p.date.day_in, day_least p.date.year p.date.month))) ps all;
+        (λ p is. ne_eqb (48 + p.date.day / 10) 91 (λ same. omega (arith, (date_ranges p.date is.0).2.1))) ps all;
     back = reads_within periods_heading (period_line counts) period_text period_fields
         PeriodInLimits 200 (λ done p is lt. period_back p is) [] ps (omega (arith, most)) all;
   }

@@ -1,13 +1,13 @@
 -- What is written for an item reads as the item.
-use Rattle.std.proofs.Common.{◌≡◌, ◌≢◌, ℕ, ℤ, pos, negsuc, ◌+◌, ◌-◌, ◌*◌, ◌/◌, ◌%◌, ◌<◌, ◌≤◌, true, false, ◌≤ℤ◌}
+use Rattle.std.proofs.Common.{◌≡◌, ◌≢◌, ℕ, ◌+◌, ◌-◌, ◌*◌, ◌/◌, ◌%◌, ◌<◌, ◌≤◌, true, false}
 use Rattle.std.proofs.Common.{List, [], ◌∷◌, ◌++◌, length, Some, None, Ok, refl, sym, subst, ◌∙◌, arith, append-nil}
-use Rattle.std.specs.Prelude.{map, decimal, codes, Bool, if◌then◌else◌, ◌||◌, ◌==◌}
+use Rattle.std.specs.Prelude.{map, decimal, codes, Bool, ◌||◌}
 use Rattle.std.specs.List.{flat_map, AllByRecursion}
 use Rattle.std.proofs.lemmas.Bool.{eq-eqb, ne_eqb, le-leb}
-use Rattle.std.proofs.lemmas.Int.{ints}
 use Rattle.std.proofs.lemmas.List.Concat.{flat_map-cons}
-use Rattle.jiff.specs.Types.{Date}
-use Rattle.jiff.specs.Words.{IsDate, IsYear, days_in_month, is_leap_year}
+use Rattle.exam_calendar.specs.Dates.{is_civil}
+use Rattle.exam_calendar.specs.declared.date.Date.{Date}
+use Rattle.exam_calendar.proofs.DateLemmas.{date_ranges}
 use Rattle.exam_model.proofs.SameSet.{same_list}
 use Rattle.exam_model.specs.Enrolments.{IsAscending, has_student}
 use Rattle.exam_model.specs.Instance.{PeriodRuleExists, RoomRuleExists}
@@ -18,9 +18,9 @@ use Rattle.exam_model.specs.declared.parts.Weights.{Weights}
 use Rattle.exam_model.specs.declared.rules.PeriodRule.{PeriodRule}
 use Rattle.exam_model.specs.declared.rules.PeriodRule.TheVariants.{After, Coincidence, Exclusion}
 use Rattle.exam_model.specs.declared.rules.RoomRule.{RoomRule}
-use Rattle.office_files.specs.CanonicalText.{before, two_digits, year_number, date_text, time_text, exam_text, period_text}
+use Rattle.office_files.specs.CanonicalText.{before, two_digits, date_text, time_text, exam_text, period_text}
 use Rattle.office_files.specs.CanonicalText.{room_text, period_rule_text, room_rule_text, weighting_text, weightings_of}
-use Rattle.office_files.specs.Dates.{date_of, time_of, date_if_civil}
+use Rattle.office_files.specs.Dates.{date_of, time_of}
 use Rattle.office_files.specs.ExamLines.{ExamLine, exam_behind, with_students, named_in, fault_in}
 use Rattle.office_files.specs.Fields.{split_once}
 use Rattle.office_files.specs.Items.{period_in, room_in, period_rule_in, room_rule_in}
@@ -30,7 +30,6 @@ use Rattle.office_files.specs.declared.counts.Counts.{Counts}
 use Rattle.office_files.specs.declared.weightings.Weighting.{Weighting}
 use Rattle.office_files.specs.declared.weightings.Weighting.TheVariants.{Row, Day, Spread, Mixed, Front}
 use Rattle.office_files.proofs.CanonicalLines.{IsField, IsLine, plain_byte, plain_digit, line_alone, line_before, line_comma, field_decimal, number_decimal, AreRead}
-use Rattle.office_files.proofs.DateLemmas.{made}
 use Rattle.office_files.proofs.ExamLineLemmas.{ascending-none, ascending-students, has-students}
 use Rattle.office_files.proofs.ExamLinePairs.{students_in-within}
 use Rattle.office_files.proofs.ReadOnLemmas.{is_digit}
@@ -259,21 +258,6 @@ time_back p hour minute second =
       number_two 59 p.second (omega arith) second,
     ) refl
 
-year_is : (z : ℤ) → pos 1 ≤ℤ z → z ≡ pos (year_number z)
-year_is (pos y) le = refl
-year_is (negsuc y) le = absurd (omega (arith, ints))
-
-pub day_least : (y : ℤ) (m : ℕ) → days_in_month y m ≤ 31
-day_least y m =
-    if_le (m == 2) (if is_leap_year y then 29 else 28)
-    (if (m == 4) || (m == 6) || (m == 9) || (m == 11) then 30 else 31) 31
-    (if_le (is_leap_year y) 29 28 31 (omega arith) (omega arith))
-    (if_le ((m == 4) || (m == 6) || (m == 9) || (m == 11)) 30 31 31 (omega arith) (omega arith))
-  where
-    if_le : (b : Bool) (x y n : ℕ) → x ≤ n → y ≤ n → (if b then x else y) ≤ n
-    if_le true x y n xs ys = xs
-    if_le false x y n xs ys = ys
-
 number_four : (a b y : ℕ) → a < 100 → b < 100 → y ≡ a * 100 + b → y ≤ 9999
     → number 9999 (two_digits a ++ two_digits b) ≡ Ok y
 number_four a b y a_in b_in is le =
@@ -288,47 +272,24 @@ number_four a b y a_in b_in is le =
       le-leb y 9999 le,
     ) refl
 
--- the calendar has the day of a date
-day_back : (d : Date) (y : ℕ) → d.year ≡ pos y → 1 ≤ y → date_if_civil y d.month d.day ≡ Some d
-day_back d y year some =
-    let month = d.month_in in
-    let day = rw year at d.day_in in
-    let is : IsDate (pos y) (pos d.month) (pos d.day) = (
-      rw year at d.year_in,
-      (omega (arith, ints, month.0), omega (arith, ints, month.1)),
-      (omega (arith, ints, day.0), omega (arith, ints, day.1)),
-    ) in
-    sym (made y d.month d.day (pos y) (pos d.month) (pos d.day) refl refl refl some (Ok d)
-    ((λ _. is), (λ _. refl)) (year, refl, refl))
-
-pub date_back : (d : Date) → pos 1 ≤ℤ d.year → date_of (date_text d) ≡ Ok d
-date_back d le =
-    let y : ℕ = year_number d.year in
-    let year : d.year ≡ pos y = year_is d.year le in
-    let some : 1 ≤ y = year_some d.year le in
-    let most : y ≤ 9999 = year_most d.year le d.year_in in
-    let month = d.month_in in
-    let day = d.day_in in
-    let last = day_least d.year d.month in
+pub date_back : (d : Date) → is_civil d ≡ true → date_of (date_text d) ≡ Ok d
+date_back d civil =
+    let ranges = date_ranges d civil in
+    let year = ranges.0 in
+    let month = ranges.1 in
+    let day = ranges.2 in
     rw (
       split_stop 58 (two_digits d.day)
-          (two_digits d.month ++ 58 ∷ (two_digits (y / 100) ++ two_digits (y % 100)))
+          (two_digits d.month ++ 58 ∷ (two_digits (d.year / 100) ++ two_digits (d.year % 100)))
           (two_apart d.day (omega (arith, day.1))),
-      split_stop 58 (two_digits d.month) (two_digits (y / 100) ++ two_digits (y % 100))
+      split_stop 58 (two_digits d.month) (two_digits (d.year / 100) ++ two_digits (d.year % 100))
           (two_apart d.month (omega (arith, month.1))),
       number_two 99 d.day (omega (arith, day.1)) (omega (arith, day.1)),
       number_two 99 d.month (omega (arith, month.1)) (omega (arith, month.1)),
-      number_four (y / 100) (y % 100) y (omega arith) (omega arith) (omega arith) most,
-      day_back d y year some,
+      number_four (d.year / 100) (d.year % 100) d.year (omega (arith, year.1)) (omega arith)
+          (omega arith) year.1,
+      civil,
     ) refl
-  where
-    year_some : (z : ℤ) → pos 1 ≤ℤ z → 1 ≤ year_number z
-    year_some (pos n) le = omega (arith, ints)
-    year_some (negsuc n) le = absurd (omega (arith, ints))
-
-    year_most : (z : ℤ) → pos 1 ≤ℤ z → IsYear z → year_number z ≤ 9999
-    year_most (pos n) le is = omega (arith, ints, is.1)
-    year_most (negsuc n) le is = absurd (omega (arith, ints))
 
 -- ---- periods
 
@@ -340,11 +301,10 @@ two_field n = (plain_digit (48 + n / 10) (omega arith), plain_digit (48 + n % 10
 
 date_field : (d : Date) → IsField (date_text d)
 date_field d =
-    let y = year_number d.year in
     let day = two_field d.day in
     let month = two_field d.month in
-    let front = two_field (y / 100) in
-    let back = two_field (y % 100) in
+    let front = two_field (d.year / 100) in
+    let back = two_field (d.year % 100) in
     record {
       some = omega arith;
       plain = rw (day.0, day.1, month.0, month.1, front.0, front.1, back.0, back.1) refl;

@@ -1,13 +1,12 @@
 -- What a line says stays within the limits of an instance.
-use Rattle.std.proofs.Common.{◌≡◌, ℕ, ◌-◌, ◌<◌, ◌≤◌, Bool, true, false, List, [], ◌∷◌, length, Option, Some, None, Result, Ok, Err, refl, subst, arith, pos}
-use Rattle.std.specs.Prelude.{All, nat_le, nat_lt, not, codes, if◌then◌else◌, ◌≤ℤ◌, ◌&&◌}
+use Rattle.std.proofs.Common.{◌≡◌, ℕ, ◌-◌, ◌<◌, ◌≤◌, Bool, true, false, List, [], ◌∷◌, length, Option, Some, None, Result, Ok, Err, refl, subst, arith}
+use Rattle.std.specs.Prelude.{All, nat_le, nat_lt, not, codes, if◌then◌else◌, ◌&&◌}
 use Rattle.std.specs.List.{list_any}
 use Rattle.std.specs.Str.{str_eq_ignore_ascii_case}
-use Rattle.std.proofs.lemmas.Bool.{and_parts, leb-true, ltb-true}
-use Rattle.std.proofs.lemmas.Int.{ints}
+use Rattle.std.proofs.lemmas.Bool.{ltb-true}
 use Rattle.std.proofs.lemmas.List.Elements.{All-head, All-tail}
-use Rattle.jiff.specs.Types.{Date}
-use Rattle.jiff.specs.Words.{days_in_month}
+use Rattle.exam_calendar.specs.Dates.{is_civil}
+use Rattle.exam_calendar.specs.declared.date.Date.{Date}
 use Rattle.exam_terms.specs.Refusing.{◌>>=◌, unless, else_err}
 use Rattle.exam_model.specs.Limits.{IsAmount, ExamInLimits, PeriodInLimits, RoomInLimits, WeightsInLimits}
 use Rattle.exam_model.specs.Instance.{PeriodRuleExists, RoomRuleExists}
@@ -17,7 +16,7 @@ use Rattle.exam_model.specs.declared.parts.Room.{Room}
 use Rattle.exam_model.specs.declared.parts.Weights.{Weights}
 use Rattle.exam_model.specs.declared.rules.PeriodRule.{PeriodRule}
 use Rattle.exam_model.specs.declared.rules.RoomRule.{RoomRule}
-use Rattle.office_files.specs.Dates.{or_fault, digits_of, is_within, is_civil, civil_date, date_if, date_if_civil, date_of, time_of}
+use Rattle.office_files.specs.Dates.{or_fault, digits_of, date_if_any, date_of, time_of}
 use Rattle.office_files.specs.ExamLines.{ExamLine, exam_line, exam_of, students_in, pairs_on}
 use Rattle.office_files.specs.Fields.{first, rest, ended, split_once}
 use Rattle.office_files.specs.Items.{period_in, room_in, rule_word, rule_by, period_rule_line, room_rule_line, place_line}
@@ -67,31 +66,27 @@ else_ok : {A F : Type 0} (fault : F) (o : Option A) (x : A) → else_err fault o
 else_ok fault (Some y) x e = cc
 else_ok fault None x e = cc
 
--- a day of the calendar is of the year 1 or a later one
-civil_from_one : (y m d : ℕ) → is_civil y m d ≡ true → pos 1 ≤ℤ pos y
-civil_from_one y m d e =
-    let year = and_parts (is_within 1 9999 y)
-    (is_within 1 12 m && is_within 1 (days_in_month (pos y) m) d) e in
-    let low = leb-true 1 y (and_parts (nat_le 1 y) (nat_le y 9999) year.0).0 in
-    omega (arith, ints)
+date_is_civil : (made : Date) (civil : Bool) → is_civil made ≡ civil → (date : Date) →
+    (if civil then Some made else None) ≡ Some date → is_civil date ≡ true
+date_is_civil made true e date is =
+    let same : made ≡ date = cc in
+    subst (λ (x : Date). is_civil x ≡ true) same e
+date_is_civil made false e date is = cc
 
-date_from_one : (y m d : ℕ) (civil : Bool) (e : is_civil y m d ≡ civil) (date : Date) →
-    date_if y m d civil e ≡ Some date →
-    pos 1 ≤ℤ date.year
-date_from_one y m d true e date is =
-    let same : civil_date y m d e ≡ date = cc in
-    subst (λ (x : Date). pos 1 ≤ℤ x.year) same (civil_from_one y m d e)
-date_from_one y m d false e date is = cc
-
-date_within : (text : List ℕ) (date : Date) → date_of text ≡ Ok date → pos 1 ≤ℤ date.year
+date_within : (text : List ℕ) (date : Date) → date_of text ≡ Ok date → is_civil date ≡ true
 date_within text date e =
     let front = bind_ok (else_err BadDate (split_once 58 text)) _ date e in
     let back = bind_ok (else_err BadDate (split_once 58 front.0.1)) _ date front.2 in
     let day = bind_ok (digits_of BadDate 1 2 99 front.0.0) _ date back.2 in
     let month = bind_ok (digits_of BadDate 1 2 99 back.0.0) _ date day.2 in
     let year = bind_ok (digits_of BadDate 4 4 9999 back.0.1) _ date month.2 in
-    date_from_one year.0 month.0 day.0 (is_civil year.0 month.0 day.0) refl date
-    (else_ok BadDate (date_if_civil year.0 month.0 day.0) date year.2)
+    let made : Date = record {
+      year = year.0;
+      month = month.0;
+      day = day.0;
+    } in
+    date_is_civil made (is_civil made) refl date
+    (else_ok BadDate (date_if_any year.0 month.0 day.0) date year.2)
 
 time_within : (text : List ℕ) (time : ℕ × ℕ × ℕ) → time_of text ≡ Ok time →
     (time.0 ≤ 23) × (time.1 ≤ 59) × (time.2 ≤ 59)
@@ -108,7 +103,7 @@ time_within text time e =
       digits_le BadTime 1 2 59 back.0.1 second.0 second.1,
     )
 
--- a period is one of the years from 1 on, at a time of day
+-- a period is of a date of the calendar, at a time of day
 pub period_within : (fields : List (List ℕ)) (p : Period) → period_in fields ≡ Ok p →
     PeriodInLimits p
 period_within fields p e =

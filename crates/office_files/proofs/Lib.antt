@@ -1,4 +1,3 @@
-mod DateLemmas
 mod DigitLemmas
 mod ExamLineLemmas
 mod ExamLinePairs

@@ -1,5 +1,5 @@
 -- The canonical texts: the one text of an instance, and of a timetable, that is written.
-use Rattle.std.specs.Prelude.{◌≡◌, ℕ, ℤ, pos, negsuc, ◌+◌, ◌/◌, ◌%◌, ◌++◌, codes, List, [], ◌∷◌, length, All, Option, Some, None, decimal}
+use Rattle.std.specs.Prelude.{◌≡◌, ℕ, ◌+◌, ◌/◌, ◌%◌, ◌++◌, codes, List, [], ◌∷◌, length, All, Option, Some, None, decimal}
 use Rattle.std.specs.List.{flat_map}
 use Rattle.exam_model.specs.Fits.{PlaceExists}
 use Rattle.exam_model.specs.Instance.{Session, IsInstance}
@@ -13,7 +13,7 @@ use Rattle.exam_model.specs.declared.parts.Weights.{Weights}
 use Rattle.exam_model.specs.declared.rules.PeriodRule.{PeriodRule}
 use Rattle.exam_model.specs.declared.rules.PeriodRule.TheVariants.{After, Coincidence, Exclusion}
 use Rattle.exam_model.specs.declared.rules.RoomRule.{RoomRule}
-use Rattle.jiff.specs.Types.{Date}
+use Rattle.exam_calendar.specs.declared.date.Date.{Date}
 use Rattle.office_files.specs.ExamLines.{ExamLine}
 use Rattle.office_files.specs.InstanceText.{exams_heading, periods_heading, rooms_heading}
 use Rattle.office_files.specs.InstanceText.{period_rules_heading, room_rules_heading}
@@ -49,16 +49,11 @@ canonical_solution T = flat_map slot_text T
 abbrev pub two_digits : ℕ → List ℕ
 two_digits n = (48 + n / 10) ∷ (48 + n % 10) ∷ []
 
--- the number of a year
-abbrev pub year_number : ℤ → ℕ
-year_number (pos y) = y
-year_number (negsuc y) = 0
-
 -- DD:MM:YYYY
 abbrev pub date_text : Date → List ℕ
 date_text d =
     two_digits d.day ++ 58 ∷ (two_digits d.month ++ 58 ∷ (
-    two_digits (year_number d.year / 100) ++ two_digits (year_number d.year % 100)))
+    two_digits (d.year / 100) ++ two_digits (d.year % 100)))
 
 -- HH:MM:SS
 abbrev pub time_text : Period → List ℕ

@@ -1,11 +1,11 @@
 // Reading dates and times of day.
 ghost use Rattle.std.specs.Prelude.{◌≡◌, ◌≤◌};
-ghost use Rattle.office_files.specs.Dates.{digits_of, date_if_civil, date_of, time_of};
+ghost use Rattle.office_files.specs.Dates.{digits_of, date_if_any, date_of, time_of};
 
 use crate::fault::FaultKind;
 use crate::numbers::number;
 use crate::words::split_once;
-use jiff::civil::Date;
+use exam_calendar::Date;
 
 /// The day that a field says, if the calendar has it.
 pub fn date_of(text: &[u8]) -> Result<Date, FaultKind>
@@ -16,7 +16,7 @@ pub fn date_of(text: &[u8]) -> Result<Date, FaultKind>
     let day = digits_of(FaultKind::BadDate, 1, 2, 99, day)?;
     let month = digits_of(FaultKind::BadDate, 1, 2, 99, month)?;
     let year = digits_of(FaultKind::BadDate, 4, 4, 9999, year)?;
-    civil_date(year, month, day).ok_or(FaultKind::BadDate)
+    date_if_any(year, month, day).ok_or(FaultKind::BadDate)
 }
 
 /// The time of day that a field says: hours, minutes, seconds.
@@ -50,15 +50,17 @@ fn digits_of(
     }
 }
 
-// The date of these numbers, if the calendar has it. The year 0 is jiff's, but none of a file's.
-fn civil_date(year: u32, month: u32, day: u32) -> Option<Date>
+// The date of these numbers, if the calendar has it.
+fn date_if_any(year: u32, month: u32, day: u32) -> Option<Date>
     requires year { year ≤ 9999 }
     requires month { month ≤ 99 }
     requires day { day ≤ 99 }
-    ensures { result ≡ date_if_civil year month day }
+    ensures { result ≡ date_if_any year month day }
 {
-    if year == 0 {
-        return None;
-    }
-    Date::new(year as i16, month as i8, day as i8).ok()
+    let date = Date {
+        year: year as u16,
+        month: month as u8,
+        day: day as u8,
+    };
+    if date.exists() { Some(date) } else { None }
 }

@@ -1,5 +1,6 @@
 // Writing the lines of an instance file.
-ghost use Rattle.std.specs.Prelude.{◌≡◌, ◌<◌, ◌≤◌, ◌++◌, ◌∷◌, [], All, OnOk, pos, ◌≤ℤ◌, decimal, string_bytes};
+ghost use Rattle.std.specs.Prelude.{◌≡◌, ◌<◌, ◌≤◌, ◌++◌, ◌∷◌, [], All, IsTrue, OnOk, decimal, string_bytes};
+ghost use Rattle.exam_calendar.specs.Dates.{is_civil};
 ghost use Rattle.exam_model.specs.Limits.{PeriodInLimits};
 ghost use Rattle.office_files.specs.CanonicalText.{line_of, before, two_digits, date_text, time_text};
 ghost use Rattle.office_files.specs.CanonicalText.{exam_text, period_text};
@@ -7,8 +8,8 @@ ghost use Rattle.office_files.specs.CanonicalText.{period_rule_text, room_rule_t
 ghost use Rattle.office_files.specs.CanonicalText.{weighting_text};
 
 use crate::weightings::Weighting;
+use exam_calendar::Date;
 use exam_model::{Exam, ExamNo, Period, PeriodRule, RoomRule, StudentNo};
-use jiff::civil::Date;
 use std::alloc::AllocError;
 
 // Adds a number in two digits.
@@ -22,14 +23,15 @@ fn add_two(text: &mut String, number: u32) -> Result<(), AllocError>
     write!(text, "{tens}{ones}")
 }
 
+#[tactic(auto, using(exam_calendar::proofs::DateLemmas::date_ranges))]
 fn add_date(text: &mut String, date: Date) -> Result<(), AllocError>
-    requires { pos 1 ≤ℤ date.year }
+    requires { IsTrue (is_civil date) }
     ensures { OnOk result (string_bytes text.new ≡ string_bytes text.old ++ date_text date) }
 {
-    let year = date.year() as u32;
-    add_two(text, date.day() as u32)?;
+    let year = date.year as u32;
+    add_two(text, date.day as u32)?;
     text.push_str(":")?;
-    add_two(text, date.month() as u32)?;
+    add_two(text, date.month as u32)?;
     text.push_str(":")?;
     add_two(text, year / 100)?;
     add_two(text, year % 100)

@@ -3,11 +3,10 @@ ghost use Rattle.std.specs.Prelude.{◌↔◌, IsTrue};
 ghost use Rattle.exam_model.specs.Fits.{Fits, PlaceExists};
 
 use exam_model::{
-    Enrolments, Exam, ExamNo, Instance, ModelFault, Period, PeriodNo, PeriodRule, Place, Room,
-    RoomNo, RoomRule, StudentNo, Timetable, Weights,
+    Date, Enrolments, Exam, ExamNo, Instance, ModelFault, Period, PeriodNo, PeriodRule, Place,
+    Room, RoomNo, RoomRule, StudentNo, Timetable, Weights,
 };
 use exam_score::Parts;
-use jiff::civil::{Date, date};
 use std::alloc::{AllocError, Global};
 use std::fmt::Debug;
 use std::process::Abort;
@@ -47,6 +46,10 @@ pub(crate) const WEIGHTS: Weights = Weights {
 
 pub(crate) fn student(number: u32) -> Result<StudentNo, &'static str> {
     StudentNo::new(number).ok_or("no number of a student")
+}
+
+pub(crate) fn date(year: u16, month: u8, day: u8) -> Date {
+    Date { year, month, day }
 }
 
 pub(crate) fn period(date: Date, hour: u8, length: u32, penalty: u32) -> Period {

@@ -1,10 +1,9 @@
 // Numbers, instances and timetables.
-use crate::given::{WEIGHTS, assert_same, period, place, room, student};
+use crate::given::{WEIGHTS, assert_same, date, period, place, room, student};
 use exam_model::{
     DeptNo, Exam, ExamNo, Instance, ModelFault, PeriodNo, PeriodRule, RoomNo, RoomRule, StudentNo,
     Timetable,
 };
-use jiff::civil::date;
 use std::alloc::Global;
 use std::process::Abort;
 use std::test::Fail;
@@ -41,6 +40,25 @@ fn has_its_counts(rt: &impl Abort, instance: &Instance) {
     assert_same(rt, instance.periods(), 3, "periods");
     assert_same(rt, instance.rooms(), 2, "rooms");
     assert_same(rt, instance.weights(), WEIGHTS, "weights");
+}
+
+#[test]
+fn the_calendar_has_dates(rt: HostRuntime) {
+    for (year, month, day, wanted) in [
+        (2004, 2, 29, true),
+        (2005, 2, 29, false),
+        (1900, 2, 29, false),
+        (2005, 4, 31, false),
+        (2005, 13, 1, false),
+        (2005, 1, 0, false),
+        (1, 1, 1, true),
+        (9999, 12, 31, true),
+        (0, 1, 1, false),
+        (10000, 1, 1, false),
+    ] {
+        let found = date(year, month, day);
+        assert_same(&rt, found.exists(), wanted, found);
+    }
 }
 
 #[test]

@@ -1,13 +1,12 @@
 // What timetables cost.
 use crate::given::{
-    APART, ONE_ROOM, PAIRS, Places, WEIGHTS, after, assert_same, enrolled, fits, numbers, period,
-    place, placed, room, small,
+    APART, ONE_ROOM, PAIRS, Places, WEIGHTS, after, assert_same, date, enrolled, fits, numbers,
+    period, place, placed, room, small,
 };
 use exam_model::{Enrolments, Exam, ExamNo, Instance, PairCost, PeriodNo, Timetable, Weights};
 use exam_score::{
     DayCost, Parts, PersonalParts, RowCost, SpreadCost, difference, personal, regrouping, score,
 };
-use jiff::civil::date;
 use std::alloc::Global;
 use std::test::Fail;
 

@@ -1,4 +1,4 @@
-use Rattle.std.proofs.Common.{◌≡◌, [], ◌∷◌, drop, ap, sym, ◌∙◌, arith}
+use Rattle.std.proofs.Common.{◌≡◌, [], ◌∷◌, drop, sym, arith}
 use Rattle.std.proofs.lemmas.List.{take_rest, nil_from_length}
 use Rattle.office_files.proofs.ReadOnLemmas.{at_end, at_comma, at_other}
 use Rattle.office_files.proofs.digits.first_digits.Goals as goal
