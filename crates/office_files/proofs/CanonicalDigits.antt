@@ -1,13 +1,79 @@
--- Numbers in two digits.
-use Rattle.std.proofs.Common.{◌≡◌, ℕ, ◌/◌, ◌%◌, ◌<◌, ◌++◌, ap₂, List, arith}
+-- Numbers in two digits and in four.
+use Rattle.std.proofs.Common.{◌≡◌, ℕ, ◌+◌, ◌/◌, ◌%◌, ◌^◌, ◌-◌, ◌<◌, ◌≤◌, ◌++◌, ◌∷◌, [], List, arith, refl, false, ◌∙◌, ap, inl, inr}
 use Rattle.std.specs.Prelude.{decimal}
-use Rattle.std.proofs.lemmas.Fmt.{decimal_digit}
+use Rattle.std.specs.Fmt.{padded_integral, format_spec, char_count}
+use Rattle.std.proofs.lemmas.Fmt.{decimal_digit, decimal_step}
+use Rattle.std.proofs.lemmas.Bool.{cases_lt}
 use Rattle.office_files.specs.CanonicalText.{two_digits}
 
--- two digits are written one behind the other
-pub two_written : (n : ℕ) → n < 100 → decimal (n / 10) ++ decimal (n % 10) ≡ two_digits n
-two_written n lt =
-    ap₂ (λ (a b : List ℕ). a ++ b) (decimal_digit (n / 10) (omega arith))
-    (decimal_digit (n % 10) (omega arith))
+-- a number of two digits
+tens : (n : ℕ) → 10 ≤ n → n < 100 → decimal n ≡ two_digits n
+tens n least most =
+    decimal_step n least (omega arith)
+    ∙ ap (λ (ds : List ℕ). ds ++ (48 + n % 10) ∷ []) (decimal_digit (n / 10) (omega arith))
 
-pub ruleset digit_facts = (two_written, decimal_digit)
+-- a number of three digits
+hundreds : (n : ℕ) → 100 ≤ n → n < 1000
+    → decimal n ≡ (48 + n / 100) ∷ two_digits (n % 100)
+hundreds n least most =
+    let high : n / 10 / 10 ≡ n / 100 = omega arith in
+    let mid : n / 10 % 10 ≡ n % 100 / 10 = omega arith in
+    let low : n % 10 ≡ n % 100 % 10 = omega arith in
+    rw (decimal_step n (omega arith) (omega arith), tens (n / 10) (omega arith) (omega arith), high, mid, low) refl
+
+-- a number of four digits
+thousands : (n : ℕ) → 1000 ≤ n → n ≤ 9999 → decimal n ≡ two_digits (n / 100) ++ two_digits (n % 100)
+thousands n least most =
+    let first : n / 10 / 100 ≡ n / 100 / 10 = omega arith in
+    let second : n / 10 % 100 / 10 ≡ n / 100 % 10 = omega arith in
+    let third : n / 10 % 100 % 10 ≡ n % 100 / 10 = omega arith in
+    let last : n % 10 ≡ n % 100 % 10 = omega arith in
+    rw (
+      decimal_step n (omega arith) (omega arith),
+      hundreds (n / 10) (omega arith) (omega arith),
+      first,
+      second,
+      third,
+      last,
+    ) refl
+
+-- what `{:02}` writes
+pub two_padded : (n : ℕ) → n < 100 →
+    padded_integral (format_spec 32 0 4 2 (2 ^ 64 - 1)) false [] (decimal n) ≡ two_digits n
+unfolding padded_integral char_count
+two_padded n most = elim (cases_lt n 10) [
+  | inl one ↦
+      let high : n / 10 ≡ 0 = omega arith in
+      let low : n % 10 ≡ n = omega arith in
+      rw (decimal_digit n one, high, low) refl
+  | inr two ↦ rw (tens n two most) refl
+]
+
+-- what `{:04}` writes
+pub four_padded : (n : ℕ) → n ≤ 9999 →
+    padded_integral (format_spec 32 0 4 4 (2 ^ 64 - 1)) false [] (decimal n)
+    ≡ two_digits (n / 100) ++ two_digits (n % 100)
+unfolding padded_integral char_count
+four_padded n most = elim (cases_lt n 10) [
+  | inl one ↦
+      let front : n / 100 ≡ 0 = omega arith in
+      let back : n % 100 ≡ n = omega arith in
+      let high : n / 10 ≡ 0 = omega arith in
+      let low : n % 10 ≡ n = omega arith in
+      rw (decimal_digit n one, front, back, high, low) refl
+  | inr ten ↦ elim (cases_lt n 100) [
+    | inl two ↦
+        let front : n / 100 ≡ 0 = omega arith in
+        let back : n % 100 ≡ n = omega arith in
+        rw (tens n ten two, front, back) refl
+    | inr hundred ↦ elim (cases_lt n 1000) [
+      | inl three ↦
+          let high : n / 100 / 10 ≡ 0 = omega arith in
+          let low : n / 100 % 10 ≡ n / 100 = omega arith in
+          rw (hundreds n hundred three, high, low) refl
+      | inr four ↦ rw (thousands n four most) refl
+    ]
+  ]
+]
+
+pub ruleset digit_facts = (two_padded, four_padded)

@@ -12,41 +12,23 @@ use exam_calendar::Date;
 use exam_model::{Exam, ExamNo, Period, PeriodRule, RoomRule, StudentNo};
 use std::alloc::AllocError;
 
-// Adds a number in two digits.
-#[tactic(auto, using(crate::proofs::CanonicalDigits::digit_facts))]
-fn add_two(text: &mut String, number: u32) -> Result<(), AllocError>
-    requires { number < 100 }
-    ensures { OnOk result (string_bytes text.new ≡ string_bytes text.old ++ two_digits number) }
-{
-    let tens = number / 10;
-    let ones = number % 10;
-    write!(text, "{tens}{ones}")
-}
-
-#[tactic(auto, using(exam_calendar::proofs::DateLemmas::date_ranges))]
+#[tactic(auto, using(crate::proofs::CanonicalDigits::digit_facts, exam_calendar::proofs::DateLemmas::date_ranges))]
 fn add_date(text: &mut String, date: Date) -> Result<(), AllocError>
     requires { IsTrue (is_civil date) }
     ensures { OnOk result (string_bytes text.new ≡ string_bytes text.old ++ date_text date) }
 {
-    let year = date.year as u32;
-    add_two(text, date.day as u32)?;
-    text.push_str(":")?;
-    add_two(text, date.month as u32)?;
-    text.push_str(":")?;
-    add_two(text, year / 100)?;
-    add_two(text, year % 100)
+    let Date { year, month, day } = date;
+    write!(text, "{day:02}:{month:02}:{year:04}")
 }
 
+#[tactic(auto, using(crate::proofs::CanonicalDigits::digit_facts))]
 fn add_time(text: &mut String, period: &Period) -> Result<(), AllocError>
     requires { PeriodInLimits period.now }
     ensures { OnOk result
         (string_bytes text.new ≡ string_bytes text.old ++ time_text period.now) }
 {
-    add_two(text, period.hour as u32)?;
-    text.push_str(":")?;
-    add_two(text, period.minute as u32)?;
-    text.push_str(":")?;
-    add_two(text, period.second as u32)
+    let (hour, minute, second) = (period.hour, period.minute, period.second);
+    write!(text, "{hour:02}:{minute:02}:{second:02}")
 }
 
 /// Adds a line of two numbers.

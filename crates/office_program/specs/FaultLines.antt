@@ -16,6 +16,7 @@ use Rattle.office_program.specs.declared.reading.InputFault.{InputFault}
 use Rattle.office_program.specs.declared.reading.InputFault.TheVariants as input
 use Rattle.office_program.specs.declared.faults.ProgramFault.{ProgramFault}
 use Rattle.office_program.specs.declared.faults.ProgramFault.TheVariants as fault
+use Rattle.office_program.specs.Load.{NamesTextFault}
 
 -- the number by which a file's fault is printed
 abbrev pub number_of : FaultKind → ℕ
@@ -92,16 +93,18 @@ abbrev pub load_line : LoadFault → List ℕ
 load_line (load.Store f) = store_line f
 load_line load.Write = fault_line fault.CannotWrite
 
--- the fault shows as one of a database, or of loading into its office
-abbrev pub IsOfOffice : ProgramFault → Type 0
-IsOfOffice shown =
+-- the fault shows as one of a database, or of loading the text into its office; a fault of the
+-- text is its first
+abbrev pub IsOfOffice : List ℕ → ProgramFault → Type 0
+IsOfOffice text shown =
     ((of : Error) × (fault_line shown ≡ open_line of))
-    ⊎ ((of : LoadFault) × (fault_line shown ≡ load_line of))
+    ⊎ ((of : LoadFault) × NamesTextFault text of × (fault_line shown ≡ load_line of))
 
 -- the fault shows as one of the instance of this path, or of the office that it goes into
 abbrev pub IsOfLoad : List ℕ → ProgramFault → Type 0
 IsOfLoad path shown =
-    ((of : InputFault) × (fault_line shown ≡ input_line path of)) ⊎ IsOfOffice shown
+    ((of : InputFault) × (fault_line shown ≡ input_line path of))
+    ⊎ ((text : List ℕ) × IsOfOffice text shown)
 
 -- the line for words that are no texts, without its end
 abbrev pub not_text_line : List ℕ

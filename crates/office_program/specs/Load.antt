@@ -5,7 +5,7 @@ use Rattle.sqlite.specs.Effect.{Database}
 use Rattle.sqlite.specs.State.{State}
 use Rattle.office_records.specs.Office.{OfficeState}
 use Rattle.office_records.specs.Stands.{IsKept}
-use Rattle.office_store.specs.Commands.{SpellsSession, loaded}
+use Rattle.office_store.specs.Commands.{NamesFirstFault, SpellsSession, loaded}
 use Rattle.office_store.specs.Running.{IsFault, Now}
 use Rattle.office_store.specs.declared.loading.Loaded.{Loaded}
 use Rattle.office_tables.specs.Schema.{no_schema}
@@ -44,6 +44,11 @@ pub record Loads (text : List ℕ) (office : OfficeState) (after : State)
 abbrev pub RefusesLoad : List ℕ → OfficeState → State → LoadFault → Type 0
 RefusesLoad text office after (Store fault) = IsFault (loaded text office) fault
 RefusesLoad text office after Write = (counts : Loaded) × IsLoaded text office after counts
+
+-- a text that the office refuses has this fault first
+abbrev pub NamesTextFault : List ℕ → LoadFault → Type 0
+NamesTextFault text (Store fault) = NamesFirstFault text fault
+NamesTextFault text Write = Unit {0}
 
 -- the line of how much the text spells is printed
 abbrev pub PrintsCounts : List ℕ → Option (List ℕ) → Option (List ℕ) → Type 0

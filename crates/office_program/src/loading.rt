@@ -6,7 +6,8 @@ ghost use Rattle.sqlite.specs.State.{HasCleanDisk};
 ghost use Rattle.office_records.specs.Office.{OfficeState};
 ghost use Rattle.office_store.specs.Running.{Now};
 ghost use Rattle.office_store.specs.declared.fault.StoreFault.TheVariants as store;
-ghost use Rattle.office_program.specs.Load.{IsOfficeOf, Loads, PrintsCounts, RefusesLoad, loaded_text};
+ghost use Rattle.office_store.specs.Faults.{IsOfDatabase};
+ghost use Rattle.office_program.specs.Load.{IsOfficeOf, Loads, NamesTextFault, PrintsCounts, RefusesLoad, loaded_text};
 
 use office_store::{Loaded, Office, StoreFault};
 use office_tables::is_bare;
@@ -35,6 +36,7 @@ pub fn office_in<S: Alter>(
     ensures found { IfOk result (λ office. HasCleanDisk (state S.Store office)
         → (there : OfficeState) → IsOfficeOf (state S.Store conn).now there
         → Now (state S.Store office) there) }
+    ensures fault { IfErr result (λ e. IsOfDatabase e.0) }
     // But for Store, it stands for none.
     ensures refused { IfErr result (λ e. HasCleanDisk (state S.Store e.1)
         → (e.0 ≡ store.Store) ⊎ ((there : OfficeState)
@@ -100,6 +102,7 @@ fn load_into<S: Alter, W: Write>(
         → IfErr result (RefusesLoad text.now there (state S.Store office.new)) }
     ensures unwritten { IfErr result (λ fault. fault ≢ LoadFault.Write
         → Keeps (W.contents writer.old) (W.contents writer.new)) }
+    ensures first { IfErr result (NamesTextFault text.now) }
     ensures clean { HasCleanDisk (state S.Store office.new)
         → HasCleanDisk (state S.Store office.old) }
 {
@@ -136,6 +139,8 @@ pub fn load_run<S: Alter, W: Write>(
         PrintsCounts text.now (W.contents writer.old) (W.contents writer.new)) }
     ensures unwritten { IfErr result (λ e. e.0 ≢ LoadFault.Write
         → Keeps (W.contents writer.old) (W.contents writer.new)) }
+    // A text that is refused has the fault first that is named.
+    ensures first { IfErr result (λ e. NamesTextFault text.now e.0) }
 {
     let mut office = match office_in(alloc, conn) {
         Ok(office) => office,

@@ -72,7 +72,7 @@ fn load_and_keep<'a, S: Alter, W: Write>(
     ensures status { IfOk result.1 (λ status. status ≡ 0) }
     ensures printed { IfOk result.1 (λ _.
         PrintsCounts text.now (W.contents out.old) (W.contents out.new)) }
-    ensures fault { IfErr result.1 IsOfOffice }
+    ensures fault { IfErr result.1 (IsOfOffice text.now) }
 {
     match load_run(alloc, conn, text, out) {
         Ok(conn) => (conn, Ok(0)),
@@ -90,7 +90,7 @@ fn load_text<'a, W: Write>(
     ensures status { IfOk result (λ status. status ≡ 0) }
     ensures printed { IfOk result (λ _.
         PrintsCounts text.now (W.contents out.old) (W.contents out.new)) }
-    ensures fault { IfErr result IsOfOffice }
+    ensures fault { IfErr result (IsOfOffice text.now) }
 {
     let conn = match Connection::open(rt, database) {
         Ok(conn) => conn,

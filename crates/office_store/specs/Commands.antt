@@ -9,8 +9,10 @@ use Rattle.exam_score.specs.Penalty.{Penalty, total_of}
 use Rattle.exam_score.specs.Track.{track}
 use Rattle.exam_draft.specs.Edits.{Edited, exam_exists, after_place, after_move, after_swap, after_clear}
 use Rattle.exam_draft.specs.declared.fault.EditFault.TheVariants.{NoSuch}
+use Rattle.office_files.specs.FirstFault.{first_fault}
 use Rattle.office_files.specs.InstanceText.{instance_in}
 use Rattle.office_files.specs.SolutionText.{solution_in}
+use Rattle.office_files.specs.declared.fault.FileFault.{FileFault}
 use Rattle.office_records.specs.Office.{OfficeState, Records, set_at}
 use Rattle.office_store.specs.declared.edit.Edit.{Edit}
 use Rattle.office_store.specs.declared.edit.Edit.TheVariants as edit
@@ -51,6 +53,10 @@ counts_of s = record {
 abbrev pub SpellsSession : List ℕ → loading.Loaded → Type 0
 SpellsSession bytes counts =
     (s : Session × Enrolled) × (instance_in bytes ≡ Ok s) × (counts ≡ counts_of s)
+
+-- a text that is refused has this fault first
+abbrev pub NamesFirstFault : List ℕ → StoreFault → Type 0
+NamesFirstFault bytes fault = (f : FileFault) → fault ≡ Refused (refusal.File f) → first_fault bytes ≡ Some f
 
 abbrev pub loaded : List ℕ → OfficeState → Gives loading.Loaded
 loaded bytes office = do

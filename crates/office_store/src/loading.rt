@@ -1,11 +1,11 @@
 // The session is loaded once.
-ghost use Rattle.std.specs.Prelude.{◌≡◌, ◌++◌, ◌<◌, ◌≤◌, ℕ, All, IfOk, OnOk, length, map};
+ghost use Rattle.std.specs.Prelude.{◌≡◌, ◌++◌, ◌<◌, ◌≤◌, ℕ, All, IfErr, IfOk, OnOk, length, map};
 ghost use Rattle.sqlite.specs.Held.{state};
 ghost use Rattle.sqlite.specs.State.{HasCleanDisk};
 ghost use Rattle.exam_model.specs.Enrolments.{AreEnrolments, students};
 ghost use Rattle.exam_model.specs.Instance.{IsInstance};
 ghost use Rattle.exam_model.specs.Pairs.{pairs_at, pairs_of};
-ghost use Rattle.office_store.specs.Commands.{SpellsSession, counts_of, loaded};
+ghost use Rattle.office_store.specs.Commands.{NamesFirstFault, SpellsSession, counts_of, loaded};
 ghost use Rattle.office_store.specs.Running.{Runs};
 ghost use Rattle.office_records.specs.Stands.{enrol_row};
 
@@ -39,6 +39,8 @@ impl<S: Alter> Office<S> {
         ensures runs { Runs S.Store (loaded text.now) self.old self.new result }
         // Over any disk it is how much the text spells.
         ensures counts { IfOk result (SpellsSession text.now) }
+        // Over any disk a text that is refused has the fault first that is named.
+        ensures first { IfErr result (NamesFirstFault text.now) }
         ensures clean { HasCleanDisk (state S.Store self.new) → HasCleanDisk (state S.Store self.old) }
     {
         let (instance, enrolments) = match read_instance(alloc, text) {
