@@ -1,10 +1,9 @@
 // Whole runs, over files in memory and devices that fail.
 use office_program::{CheckFault, check_run, run_program};
 use std::alloc::{AllocError, Global};
+use std::io;
 use std::io::{ErrorKind, Read, Write};
-use std::path::PathBuf;
 use std::test::Fail;
-use std::{env, fs, io, process};
 
 const SMALL_EXAM: &str = "[Exams:4]\n120, 1, 2\n90, 2, 3\n120, 3\n60, 1\n\
     [Periods:4]\n15:04:2005, 09:30:00, 120, 0\n15:04:2005, 14:00:00, 120, 0\n\
@@ -249,42 +248,5 @@ fn words_that_are_no_command(rt: HostRuntime) -> Result<(), Fail> {
         assert_eq!(rt; (status, out.as_str()), (2, ""), "at {words:?}");
         assert!(rt; err.as_str().starts_with("error: "), "at {words:?}");
     }
-    Ok(())
-}
-
-// A file of this text, in the folder for such files.
-fn written(rt: &HostRuntime, name: &str, text: &str) -> Result<PathBuf, Fail> {
-    let name = format!(in rt.alloc(); "examoffice-test-{}-{name}", process::id(rt.process()))?;
-    let path = env::temp_dir(rt)?.join(rt.alloc(), name.as_str())?;
-    fs::write(rt, path.as_path(), text.as_bytes())?;
-    Ok(path)
-}
-
-// What the program answers and prints of two files.
-fn checked_files<'a>(
-    rt: &HostRuntime,
-    instance: &'a str,
-    solution: &'a str,
-) -> io::Result<(u8, String, String)> {
-    program_on(rt, &["check", instance, solution])
-}
-
-#[test]
-fn files_are_judged(rt: HostRuntime) -> Result<(), Fail> {
-    let exam = written(&rt, "exam", SMALL_EXAM)?;
-    let early = written(&rt, "early", EARLY)?;
-    let exam_path = exam.as_path().to_str().ok_or("no text")?;
-    let early_path = early.as_path().to_str().ok_or("no text")?;
-    let (broken, out, err) = checked_files(&rt, exam_path, early_path)?;
-    let (misread, nothing, line) = checked_files(&rt, exam_path, "/dev/null")?;
-    fs::remove_file(&rt, exam.as_path())?;
-    fs::remove_file(&rt, early.as_path())?;
-    assert_eq!(rt; (broken, err.as_str()), (3, ""));
-    assert!(rt;
-        out.as_str()
-            .starts_with("breaches 1\nAfter 1 0\ntwo in a row 0\n")
-    );
-    assert_eq!(rt; (misread, nothing.as_str()), (1, ""));
-    assert_eq!(rt; line.as_str(), "examoffice: solution line 1: fault 3\n");
     Ok(())
 }
