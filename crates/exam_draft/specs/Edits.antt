@@ -39,6 +39,11 @@ if_unbroken I E edited T = unless_broken (least_breach_of I E T edited) T
 abbrev pub after_put : Session → Enrolled → Placing → ℕ → Place → Edited
 after_put I E T e at = if_unbroken I E (e ∷ []) (slice_set T e (Some at))
 
+-- two exams stand at these places, wherever they stood
+abbrev pub after_put_both : Session → Enrolled → Placing → ℕ → Place → ℕ → Place → Edited
+after_put_both I E T a at b there =
+    if_unbroken I E (a ∷ (b ∷ [])) (slice_set (slice_set T a (Some at)) b (Some there))
+
 -- an exam that stood nowhere gets a place
 abbrev pub after_place : Session → Enrolled → Placing → ℕ → Place → Edited
 after_place I E T e at = do

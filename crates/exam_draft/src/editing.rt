@@ -3,7 +3,7 @@ ghost use Rattle.std.specs.Prelude.{◌≡◌, ◌<◌, length, All, Ok, Some, I
 ghost use Rattle.exam_model.specs.Fits.{Fits, PlaceExists};
 ghost use Rattle.exam_score.specs.Changes.{DiffersAtMost};
 ghost use Rattle.exam_draft.specs.Edits.{after_place, after_move, after_swap, after_clear};
-ghost use Rattle.exam_draft.specs.Edits.{after_put, if_unbroken, Refuses};
+ghost use Rattle.exam_draft.specs.Edits.{after_put, after_put_both, if_unbroken, Refuses};
 
 use crate::draft::Draft;
 use crate::fault::EditFault;
@@ -73,10 +73,7 @@ impl<'a> Draft<'a> {
         if one == other {
             return Err(EditFault::SameExam);
         }
-        let mut next = self.timetable().copy(alloc)?;
-        next.set(one, second);
-        next.set(other, first);
-        self.accept_unbroken(alloc, next, &[one, other])
+        self.put_both(alloc, one, second, other, first)
     }
 
     /// Takes an exam's place away, whatever is broken. `NoSuch`, `NotPlaced` and `NoMemory` come.
@@ -115,6 +112,32 @@ impl<'a> Draft<'a> {
         let mut next = self.timetable().copy(alloc)?;
         next.set(exam, place);
         self.accept_unbroken(alloc, next, &[exam])
+    }
+
+    // Lets two exams stand at these places, unless a breach names one of them there.
+    fn put_both(
+        &mut self,
+        alloc: Global,
+        one: ExamNo,
+        first: Place,
+        other: ExamNo,
+        second: Place,
+    ) -> Result<(), EditFault>
+        requires one { one < length self.old.instance.exams }
+        requires other { other < length self.old.instance.exams }
+        requires first { PlaceExists self.old.instance (Some first) }
+        requires second { PlaceExists self.old.instance (Some second) }
+        ensures ok { OnOk result (after_put_both self.old.instance self.old.enrolments
+            self.old.timetable one first other second ≡ Ok self.new.timetable) }
+        ensures refused { IfErr result (Refuses (after_put_both self.old.instance
+            self.old.enrolments self.old.timetable one first other second)) }
+        ensures same { self.new ≡ record self.old { timetable = self.new.timetable } }
+        ensures err { OnErr result (self.new ≡ self.old) }
+    {
+        let mut next = self.timetable().copy(alloc)?;
+        next.set(one, first);
+        next.set(other, second);
+        self.accept_unbroken(alloc, next, &[one, other])
     }
 
     // Takes a timetable on, unless a breach names an edited exam.

@@ -7,15 +7,15 @@ ghost use Rattle.exam_score.specs.CostLaws.{row_cost_of, row_laws, day_cost_of, 
 use exam_model::{Instance, PairCost, PeriodNo};
 
 /// Two exams in a row. A period beyond the instance costs nothing, here and below.
-#[derive(Clone, Copy, Debug)]
+#[derive(Clone, Copy)]
 pub struct RowCost<'a>(pub &'a Instance);
 
 /// Two exams in a day, neither in a row nor in one period.
-#[derive(Clone, Copy, Debug)]
+#[derive(Clone, Copy)]
 pub struct DayCost<'a>(pub &'a Instance);
 
 /// Two exams within the period spread: 1 for each pair, whatever else it costs.
-#[derive(Clone, Copy, Debug)]
+#[derive(Clone, Copy)]
 pub struct SpreadCost<'a>(pub &'a Instance);
 
 impl PairCost for RowCost<'_> {

@@ -1,2 +1,1 @@
-mod CheckFacts
 pub mod LoadFacts

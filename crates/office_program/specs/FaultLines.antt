@@ -8,12 +8,12 @@ use Rattle.office_store.specs.declared.fault.StoreFault.TheVariants as store
 use Rattle.sqlite.specs.declared.error.Error.{Error}
 use Rattle.sqlite.specs.declared.error.Error.TheVariants.{SqliteFailure}
 use Rattle.sqlite.specs.declared.error.ErrorCode.TheVariants.{OutOfMemory}
-use Rattle.office_program.specs.declared.checking.CheckFault.{CheckFault}
-use Rattle.office_program.specs.declared.checking.CheckFault.TheVariants as check
+use Rattle.office_check.specs.declared.checking.CheckFault.{CheckFault}
+use Rattle.office_check.specs.declared.checking.CheckFault.TheVariants as check
 use Rattle.office_program.specs.declared.loading.LoadFault.{LoadFault}
 use Rattle.office_program.specs.declared.loading.LoadFault.TheVariants as load
-use Rattle.office_program.specs.declared.reading.InputFault.{InputFault}
-use Rattle.office_program.specs.declared.reading.InputFault.TheVariants as input
+use Rattle.office_check.specs.declared.reading.InputFault.{InputFault}
+use Rattle.office_check.specs.declared.reading.InputFault.TheVariants as input
 use Rattle.office_program.specs.declared.faults.ProgramFault.{ProgramFault}
 use Rattle.office_program.specs.declared.faults.ProgramFault.TheVariants as fault
 use Rattle.office_program.specs.Load.{NamesTextFault}

@@ -1,6 +1,6 @@
 -- What a task that is done prints.
 use Rattle.std.specs.Prelude.{ℕ, List, Option, string_bytes}
-use Rattle.office_program.specs.Check.{WritesReport}
+use Rattle.office_check.specs.Check.{WritesReport}
 use Rattle.office_program.specs.Load.{PrintsCounts}
 use Rattle.office_program.specs.FaultLines.{IsOfCheck, IsOfLoad}
 use Rattle.office_program.specs.declared.faults.ProgramFault.{ProgramFault}

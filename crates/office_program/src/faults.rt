@@ -3,9 +3,8 @@ ghost use Rattle.std.specs.Prelude.{◌≡◌};
 ghost use Rattle.office_program.specs.FaultLines.{check_line, fault_line, input_line, load_line};
 ghost use Rattle.office_program.specs.FaultLines.{number_of, open_line, store_number_of};
 
-use crate::checking::CheckFault;
 use crate::loading::LoadFault;
-use crate::reading::InputFault;
+use office_check::{CheckFault, InputFault};
 use office_files::{FaultKind, FileFault};
 use office_store::{Refusal, StoreFault};
 use sqlite::{Error, ErrorCode};

@@ -2,15 +2,11 @@
 //! line say.
 #![tactic(auto)]
 
-mod checking;
 mod faults;
 mod loading;
 mod program;
-mod reading;
-mod reports;
 mod words;
 
-pub use checking::{CheckFault, check_run};
 pub use loading::{LoadFault, load_run};
 pub use program::{refuse_arguments, run_program};
 pub use words::{Task, read_words, words_of};

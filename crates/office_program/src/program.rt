@@ -7,20 +7,19 @@ ghost use Rattle.std.specs.declared.io.ErrorKind.TheVariants as failure;
 ghost use Rattle.clap.specs.Words.{kind_of};
 ghost use Rattle.clap.specs.Faults.{fault_of};
 ghost use Rattle.clap.specs.declared.error.kind.ErrorKind.TheVariants as kind;
-ghost use Rattle.office_program.specs.Check.{WritesReport};
+ghost use Rattle.office_check.specs.Check.{WritesReport};
 ghost use Rattle.office_program.specs.FaultLines.{IsOfCheck, IsOfLoad, IsOfOffice, fault_line, not_text_line};
 ghost use Rattle.office_program.specs.Load.{PrintsCounts};
 ghost use Rattle.office_program.specs.Program.{AreAnswered, IsMistake, IsTask, program};
 ghost use Rattle.office_program.specs.Tasks.{IsOfTask, Prints};
 ghost use Rattle.office_program.specs.declared.words.Task.{Task};
 
-use crate::checking::{INSTANCE_BYTES, check_run};
 use crate::faults::{ProgramFault, fault_of_input, fault_of_load, fault_of_open, fault_on};
 use crate::loading::load_run;
-use crate::reading::{InputFault, whole_text};
 use crate::words::{Task, read_words};
 use clap::Error;
 use clap::error::ErrorKind;
+use office_check::{InputFault, check_run, instance_text};
 use sqlite::{Alter, Connection};
 use std::alloc::Global;
 use std::io::Write;
@@ -59,7 +58,7 @@ fn text_at<R: Files + AllocGlobal>(rt: &R, path: &str) -> Result<Vec<u8>, InputF
     let Ok(mut file) = fs::open(rt, path) else {
         return Err(InputFault::Read);
     };
-    whole_text(rt.alloc(), &mut file, INSTANCE_BYTES)
+    instance_text(rt.alloc(), &mut file)
 }
 
 // Loads an instance's text into the office of a database, whose connection comes back.

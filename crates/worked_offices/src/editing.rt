@@ -1,135 +1,78 @@
 // Edits of a draft of an office over a database in memory.
-use crate::given::assert_same;
-use crate::offices::{SMALL, created};
+use crate::calls::{Call, NO_SUCH, after};
+use crate::offices::{SMALL, SOLUTION};
 use exam_draft::EditFault;
-use exam_model::{ExamNo, PeriodNo, Place, RoomNo};
+use exam_model::ExamNo;
 use exam_rules::{Breach, BreachRule};
-use office_store::{Edit, Office, Refusal, StoreFault};
-use sqlite::MemStore;
-use std::alloc::Global;
+use office_store::{Refusal, StoreFault};
 use std::test::Fail;
 
-fn at(period: u32, room: u32) -> Place {
-    Place {
-        period: PeriodNo::new(period),
-        room: RoomNo::new(room),
-    }
-}
+const ALREADY_PLACED: StoreFault = StoreFault::Refused(Refusal::Edit(EditFault::AlreadyPlaced));
 
-fn put(exam: u32, period: u32, room: u32) -> Edit {
-    Edit::Place(ExamNo::new(exam), at(period, room))
-}
+const NOT_PLACED: StoreFault = StoreFault::Refused(Refusal::Edit(EditFault::NotPlaced));
 
-fn swap(one: u32, other: u32) -> Edit {
-    Edit::Swap(ExamNo::new(one), ExamNo::new(other))
-}
-
-fn refused(fault: EditFault) -> Result<u64, StoreFault> {
-    Err(StoreFault::Refused(Refusal::Edit(fault)))
-}
+const SAME_EXAM: StoreFault = StoreFault::Refused(Refusal::Edit(EditFault::SameExam));
 
 fn broken(rule: BreachRule, other: u32) -> Result<u64, StoreFault> {
-    refused(EditFault::Broken(Breach {
+    Err(StoreFault::Refused(Refusal::Edit(EditFault::Broken(Breach {
         rule,
         exam: ExamNo::new(0),
         other: ExamNo::new(other),
-    }))
-}
-
-// The office of the small session, with this draft 1.
-pub(crate) fn drafted(alloc: Global, text: &[u8]) -> Result<Office<MemStore>, Fail> {
-    let mut office = created(alloc)?;
-    if office.load(alloc, SMALL).is_err() || office.new_draft(alloc, 1, text).is_err() {
-        return Err("no draft")?;
-    }
-    Ok(office)
-}
-
-fn edited(office: &mut Office<MemStore>, alloc: Global, edit: Edit) -> Result<u64, StoreFault> {
-    office.edit(alloc, 1, edit)
+    }))))
 }
 
 #[test]
 fn too_long_for_period(rt: HostRuntime) -> Result<(), Fail> {
-    let mut office = drafted(rt.alloc(), b"")?;
-    for (edit, wanted, case) in [
+    let cases = [
+        (Call::Load(SMALL), Ok(6), "the small session"),
+        (Call::NewDraft(1, b""), Ok(0), "an empty draft"),
         (
-            put(0, 2, 0),
+            Call::Place(1, 0, 2, 0),
             broken(BreachRule::Duration, 0),
             "ninety minutes",
         ),
-        (put(0, 1, 0), Ok(0), "two hours"),
-    ] {
-        let found = edited(&mut office, rt.alloc(), edit);
-        assert_same(&rt, found, wanted, case);
-    }
+        (Call::Place(1, 0, 1, 0), Ok(0), "two hours"),
+    ];
+    after(&rt, rt.alloc(), &cases)?;
     Ok(())
 }
 
 #[test]
 fn edit_refusals_in_order(rt: HostRuntime) -> Result<(), Fail> {
-    let mut office = drafted(rt.alloc(), b"")?;
-    for (edit, wanted, case) in [
-        (put(0, 0, 0), Ok(0), "placed"),
+    let cases = [
+        (Call::Load(SMALL), Ok(6), "the small session"),
+        (Call::NewDraft(1, b""), Ok(0), "an empty draft"),
+        (Call::Place(1, 0, 0, 0), Ok(0), "placed"),
+        (Call::Place(1, 0, 0, 0), Err(ALREADY_PLACED), "placed again"),
         (
-            put(0, 0, 0),
-            refused(EditFault::AlreadyPlaced),
-            "placed again",
-        ),
-        (
-            put(1, 0, 0),
+            Call::Place(1, 1, 0, 0),
             broken(BreachRule::Clash, 1),
             "at the same time",
         ),
-        (
-            Edit::Move(ExamNo::new(1), at(1, 0)),
-            refused(EditFault::NotPlaced),
-            "moved",
-        ),
-        (
-            Edit::Clear(ExamNo::new(1)),
-            refused(EditFault::NotPlaced),
-            "cleared",
-        ),
-        (
-            swap(0, 0),
-            refused(EditFault::SameExam),
-            "swapped with itself",
-        ),
-        (put(9, 0, 0), refused(EditFault::NoSuch), "no such exam"),
-        (put(1, 4, 0), refused(EditFault::NoSuch), "no such period"),
-        (Edit::Clear(ExamNo::new(0)), Ok(0), "cleared"),
-    ] {
-        let found = edited(&mut office, rt.alloc(), edit);
-        assert_same(&rt, found, wanted, case);
-    }
+        (Call::Move(1, 1, 1, 0), Err(NOT_PLACED), "moved"),
+        (Call::Clear(1, 1), Err(NOT_PLACED), "cleared"),
+        (Call::Swap(1, 0, 0), Err(SAME_EXAM), "swapped with itself"),
+        (Call::Place(1, 9, 0, 0), Err(NO_SUCH), "no such exam"),
+        (Call::Place(1, 1, 4, 0), Err(NO_SUCH), "no such period"),
+        (Call::Clear(1, 0), Ok(0), "cleared"),
+        (Call::Clear(2, 0), Err(StoreFault::NoDraft), "another draft"),
+    ];
+    after(&rt, rt.alloc(), &cases)?;
     Ok(())
 }
 
 #[test]
 fn swaps_are_judged(rt: HostRuntime) -> Result<(), Fail> {
-    let mut office = drafted(rt.alloc(), b"0, 0\n1, 0\n3, 1\n2, 0\n")?;
-    for (edit, wanted, case) in [
+    let cases = [
+        (Call::Load(SMALL), Ok(6), "the small session"),
+        (Call::NewDraft(1, SOLUTION), Ok(37), "a solution"),
         (
-            swap(0, 3),
+            Call::Swap(1, 0, 3),
             broken(BreachRule::Duration, 0),
             "too short a period",
         ),
-        (swap(1, 2), Ok(30), "two other exams"),
-    ] {
-        let found = edited(&mut office, rt.alloc(), edit);
-        assert_same(&rt, found, wanted, case);
-    }
-    Ok(())
-}
-
-#[test]
-fn nothing_to_edit(rt: HostRuntime) -> Result<(), Fail> {
-    let mut office = created(rt.alloc())?;
-    let early = edited(&mut office, rt.alloc(), put(0, 0, 0));
-    assert_same(&rt, early, Err(StoreFault::NotLoaded), "before a load");
-    let mut office = drafted(rt.alloc(), b"")?;
-    let none = office.edit(rt.alloc(), 2, put(0, 0, 0));
-    assert_same(&rt, none, Err(StoreFault::NoDraft), "another draft");
+        (Call::Swap(1, 1, 2), Ok(30), "two other exams"),
+    ];
+    after(&rt, rt.alloc(), &cases)?;
     Ok(())
 }

@@ -1,9 +1,10 @@
-//! Worked examples of the office and its tables, over databases in memory, and whole runs of the
-//! program.
+//! Worked examples of the office and its tables, over databases in memory.
 #![tactic(auto)]
 
 #[cfg(test)]
 mod adopting;
+#[cfg(test)]
+mod calls;
 #[cfg(test)]
 mod drafting;
 #[cfg(test)]
@@ -11,16 +12,10 @@ mod editing;
 #[cfg(test)]
 mod given;
 #[cfg(test)]
-mod loads;
-#[cfg(test)]
 mod offices;
 #[cfg(test)]
 mod reading;
 #[cfg(test)]
-mod runs;
-#[cfg(test)]
 mod tables;
-#[cfg(test)]
-mod words;
 #[cfg(test)]
 mod wrong_tables;

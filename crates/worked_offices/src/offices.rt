@@ -1,11 +1,9 @@
 // An office over a database in memory.
+use crate::calls::{Call, Case, NO_SUCH, after, created};
 use crate::given::assert_same;
-use exam_draft::EditFault;
-use exam_model::ExamNo;
 use office_files::{FaultKind, FileFault};
-use office_store::{Loaded, Office, Refusal, StoreFault};
+use office_store::{Office, Refusal, StoreFault};
 use sqlite::{Connection, MemStore};
-use std::alloc::Global;
 use std::test::Fail;
 
 /// One exam that nobody sits, one period and one room.
@@ -20,95 +18,68 @@ pub(crate) const SMALL: &[u8] = b"[Exams:4]\n120, 1, 2\n90, 2, 3\n120, 3\n60, 1\
     [RoomHardConstraints]\n[InstitutionalWeightings]\nTWOINAROW,7\nTWOINADAY,5\nPERIODSPREAD,3\n\
     NONMIXEDDURATIONS,10\nFRONTLOAD,1,2,4\n";
 
-/// The office of a new database.
-pub(crate) fn created(alloc: Global) -> Result<Office<MemStore>, Fail> {
-    let conn = Connection::open_in_memory(alloc)?;
-    match Office::create(conn) {
-        Ok(office) => Ok(office),
-        Err(_) => Err("not created")?,
-    }
-}
+/// A timetable of the small session.
+pub(crate) const SOLUTION: &[u8] = b"0, 0\n1, 0\n3, 1\n2, 0\n";
 
-fn loading(
-    office: &mut Office<MemStore>,
-    alloc: Global,
-    text: &[u8],
-) -> Result<Loaded, StoreFault> {
-    office.load(alloc, text)
-}
-
-fn owning(office: &mut Office<MemStore>, exam: u32, dept: u32) -> Result<(), StoreFault> {
-    if dept > 999 {
-        return Err(StoreFault::Store);
-    }
-    office.set_owner(ExamNo::new(exam), dept)
-}
-
-fn owner(office: &mut Office<MemStore>, alloc: Global, exam: u32) -> Result<u32, StoreFault> {
-    office.owner(alloc, ExamNo::new(exam))
-}
+const ONE_SESSION: [Case; 4] = [
+    (
+        Call::SetOwner(0, 3),
+        Err(StoreFault::NotLoaded),
+        "an owner before a load",
+    ),
+    (Call::Owner(0), Ok(0), "the owner of no exam"),
+    (Call::Load(SMALLEST), Ok(0), "a load"),
+    (
+        Call::Load(SMALLEST),
+        Err(StoreFault::Loaded),
+        "a second load",
+    ),
+];
 
 #[test]
 fn smallest_instance(rt: HostRuntime) -> Result<(), Fail> {
-    let mut office = created(rt.alloc())?;
-    let early = owning(&mut office, 0, 3);
-    assert_same(
-        &rt,
-        early,
-        Err(StoreFault::NotLoaded),
-        "an owner before a load",
-    );
-    let nobody = owner(&mut office, rt.alloc(), 0);
-    assert_same(&rt, nobody, Ok(0), "the owner of no exam");
-    let first = loading(&mut office, rt.alloc(), SMALLEST);
-    let counts = Loaded {
-        exams: 1,
-        pairs: 0,
-        periods: 1,
-        rooms: 1,
-    };
-    assert_same(&rt, first, Ok(counts), "a load");
-    let again = loading(&mut office, rt.alloc(), SMALLEST);
-    assert_same(&rt, again, Err(StoreFault::Loaded), "a second load");
+    after(&rt, rt.alloc(), &ONE_SESSION)?;
     Ok(())
 }
+
+const NO_BYTES: FileFault = FileFault {
+    line: 1,
+    what: FaultKind::MissingSection,
+};
+
+const A_FAULTY_FILE_FIRST: [Case; 2] = [
+    (
+        Call::Load(b""),
+        Err(StoreFault::Refused(Refusal::File(NO_BYTES))),
+        "no bytes",
+    ),
+    (Call::Load(SMALL), Ok(6), "the small session"),
+];
 
 #[test]
 fn faulty_instance_is_refused(rt: HostRuntime) -> Result<(), Fail> {
-    let mut office = created(rt.alloc())?;
-    let fault = FileFault {
-        line: 1,
-        what: FaultKind::MissingSection,
-    };
-    let refused = loading(&mut office, rt.alloc(), b"");
-    assert_same(
-        &rt,
-        refused,
-        Err(StoreFault::Refused(Refusal::File(fault))),
-        "no bytes",
-    );
-    let counts = Loaded {
-        exams: 4,
-        pairs: 6,
-        periods: 4,
-        rooms: 2,
-    };
-    let small = loading(&mut office, rt.alloc(), SMALL);
-    assert_same(&rt, small, Ok(counts), "the small session");
+    after(&rt, rt.alloc(), &A_FAULTY_FILE_FIRST)?;
     Ok(())
 }
 
+const OWNERS: [Case; 8] = [
+    (Call::Load(SMALL), Ok(6), "the small session"),
+    (
+        Call::SetOwner(4, 3),
+        Err(NO_SUCH),
+        "an exam that doesn't exist",
+    ),
+    (Call::SetOwner(0, 3), Ok(0), "an owner"),
+    (Call::Owner(0), Ok(3), "an owner"),
+    (Call::SetOwner(0, 999), Ok(0), "another"),
+    (Call::Owner(0), Ok(999), "another"),
+    (Call::SetOwner(0, 0), Ok(0), "none"),
+    (Call::Owner(0), Ok(0), "none"),
+];
+
 #[test]
 fn owners_come_and_go(rt: HostRuntime) -> Result<(), Fail> {
-    let mut office = created(rt.alloc())?;
-    let _counts = loading(&mut office, rt.alloc(), SMALL);
-    let none = owning(&mut office, 4, 3);
-    let no_such = StoreFault::Refused(Refusal::Edit(EditFault::NoSuch));
-    assert_same(&rt, none, Err(no_such), "an exam that doesn't exist");
-    for (dept, case) in [(3, "an owner"), (999, "another"), (0, "none")] {
-        assert_same(&rt, owning(&mut office, 0, dept), Ok(()), case);
-        assert_same(&rt, owner(&mut office, rt.alloc(), 0), Ok(dept), case);
-    }
+    after(&rt, rt.alloc(), &OWNERS)?;
     Ok(())
 }
 

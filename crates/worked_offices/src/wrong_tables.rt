@@ -1,29 +1,21 @@
 // Tables that are not those of an office.
+use crate::calls::{Call, Case, after};
 use crate::given::assert_same;
-use crate::offices::{SMALL, created, refusal};
-use exam_model::ExamNo;
+use crate::offices::{SMALL, SOLUTION, refusal};
 use office_store::{Office, StoreFault};
-use sqlite::{Connection, MemStore};
 use std::alloc::Global;
+use std::process::Abort;
 use std::test::Fail;
 
-const SOLUTION: &[u8] = b"0, 0\n1, 0\n3, 1\n2, 0\n";
-
-// The database of an office with a session, an owner of exam 2 and draft 3.
-fn filled(alloc: Global) -> Result<Connection<MemStore>, Fail> {
-    let mut office = created(alloc)?;
-    let loaded = office.load(alloc, SMALL).is_ok();
-    let owned = office.set_owner(ExamNo::new(2), 999).is_ok();
-    let drafted = office.new_draft(alloc, 3, SOLUTION).is_ok();
-    if !loaded || !owned || !drafted {
-        return Err("not filled")?;
-    }
-    Ok(office.release())
-}
+const FILLED: [Case; 3] = [
+    (Call::Load(SMALL), Ok(6), "the small session"),
+    (Call::SetOwner(2, 999), Ok(0), "an owner of exam 2"),
+    (Call::NewDraft(3, SOLUTION), Ok(37), "draft 3"),
+];
 
 // Why the database is refused after a statement, if it is.
-fn refused_after(alloc: Global, text: &str) -> Result<Option<StoreFault>, Fail> {
-    let mut conn = filled(alloc)?;
+fn refused_after<R: Abort>(rt: &R, alloc: Global, text: &str) -> Result<Option<StoreFault>, Fail> {
+    let mut conn = after(rt, alloc, &FILLED)?.release();
     let _count = conn.execute(text, &[])?;
     Ok(refusal(Office::adopt(alloc, conn)))
 }
@@ -61,14 +53,14 @@ fn what_is_no_office_is_refused(rt: HostRuntime) -> Result<(), Fail> {
             Some(StoreFault::BadSchema),
         ),
     ] {
-        assert_same(&rt, refused_after(rt.alloc(), text)?, wanted, text);
+        assert_same(&rt, refused_after(&rt, rt.alloc(), text)?, wanted, text);
     }
     Ok(())
 }
 
 #[test]
 fn a_refused_database_can_be_mended(rt: HostRuntime) -> Result<(), Fail> {
-    let mut conn = filled(rt.alloc())?;
+    let mut conn = after(&rt, rt.alloc(), &FILLED)?.release();
     let _count = conn.execute("UPDATE owner SET dept = 1000", &[])?;
     let Err((fault, mut conn)) = Office::adopt(rt.alloc(), conn) else {
         return Err("an office")?;

@@ -1,0 +1,120 @@
+-- What is known of a run from its parts.
+use Rattle.std.proofs.Common.{◌≡◌, ◌∙◌, ℕ, ◌⊎◌, List, [], ◌∷◌, Option, Some, None, IfSome}
+use Rattle.std.proofs.Common.{inl, inr, sym, subst}
+use Rattle.std.specs.Io.KnownBytes.{Appends}
+use Rattle.exam_model.specs.Enrolments.{Enrolled}
+use Rattle.exam_model.specs.Instance.{Session}
+use Rattle.exam_model.specs.Timetable.{Placing}
+use Rattle.exam_rules.specs.declared.breach.Breach.{Breach}
+use Rattle.office_files.specs.FirstFault.{first_solution_fault}
+use Rattle.office_files.specs.InstanceText.{InstanceText}
+use Rattle.office_files.specs.SolutionText.{SolutionText}
+use Rattle.office_check.specs.Inputs.{RefusesFile}
+use Rattle.office_check.specs.Check.{IsRead, IsJudgement, Refuses, Reports, of_solution, report}
+use Rattle.office_check.specs.Check.{IsSomeJudgement, WritesReport, exit_status, status_of}
+use Rattle.office_check.specs.declared.checking.CheckFault.{CheckFault}
+use Rattle.office_check.specs.declared.reading.InputFault.{InputFault}
+use Rattle.office_check.specs.declared.reading.InputFault.TheVariants.{Read, File, NoMemory}
+
+-- a fact of two inputs, where both are known
+abbrev pub Both : Option (List ℕ) → Option (List ℕ) → (List ℕ → List ℕ → Type 0) → Type 0
+Both a b P = IfSome a (λ instance. IfSome b (λ solution. P instance solution))
+
+-- readings of both inputs have a judgement
+pub judged : (a b : Option (List ℕ)) (session : Session) (enrolled : Enrolled)
+    (placing : Placing) (text : List ℕ) (answer : ℕ)
+    → IfSome a (λ instance. InstanceText instance session enrolled)
+    → IfSome b (λ solution. SolutionText solution session placing)
+    → text ≡ report session enrolled placing
+    → answer ≡ exit_status session enrolled placing
+    → Both a b (λ instance solution. IsJudgement instance solution text answer)
+judged None b session enrolled placing text answer one two same status = tt
+judged (Some instance) None session enrolled placing text answer one two same status = tt
+judged (Some instance) (Some solution) session enrolled placing text answer one two same status =
+    record {
+      read = record {
+        first = record { session = session; enrolled = enrolled; spells = one };
+        placing = placing;
+        spells = two;
+      };
+      spells = same;
+      status = status;
+    }
+
+-- a judgement whose text is written
+pub written : (a b old new : Option (List ℕ)) (text : List ℕ) (answer : ℕ)
+    → Both a b (λ instance solution. IsJudgement instance solution text answer)
+    → Appends old new text
+    → Both a b (λ instance solution. Reports instance solution old new answer)
+written None b old new text answer known appended = tt
+written (Some instance) None old new text answer known appended = tt
+written (Some instance) (Some solution) old new text answer known appended = record {
+  read = known.read;
+  written = subst (Appends old new) known.spells appended;
+  status = known.status;
+}
+
+-- there is no other exit status
+pub one_of_two : (breaches : List Breach) (answer : ℕ) → answer ≡ status_of breaches
+    → (answer ≡ 0) ⊎ (answer ≡ 3)
+one_of_two [] answer is = inl is
+one_of_two (breach ∷ breaches) answer is = inr is
+
+-- readings of some two texts have a judgement
+pub some_judged : (a b : List ℕ) (session : Session) (enrolled : Enrolled) (placing : Placing)
+    (text : List ℕ) (answer : ℕ) → InstanceText a session enrolled
+    → SolutionText b session placing → text ≡ report session enrolled placing
+    → answer ≡ exit_status session enrolled placing → IsSomeJudgement text answer
+some_judged a b session enrolled placing text answer one two same status = record {
+  instance = a;
+  solution = b;
+  judged = record {
+    read = record {
+      first = record { session = session; enrolled = enrolled; spells = one };
+      placing = placing;
+      spells = two;
+    };
+    spells = same;
+    status = status;
+  };
+}
+
+-- a judgement of some two texts that is written
+pub some_written : (old new : Option (List ℕ)) (text : List ℕ) (answer : ℕ)
+    → IsSomeJudgement text answer → Appends old new text → WritesReport old new answer
+some_written old new text answer some appended = record {
+  instance = some.instance;
+  solution = some.solution;
+  reports = record {
+    read = some.judged.read;
+    written = subst (Appends old new) some.judged.spells appended;
+    status = some.judged.status;
+  };
+}
+
+-- what holds of the whole text that was read holds of the input
+pub of_input : (P : List ℕ → Type 0) (a : Option (List ℕ)) (text read : List ℕ)
+    → IfSome a (λ input. input ≡ text) → read ≡ text → P read → IfSome a P
+of_input P None text read same is holds = tt
+of_input P (Some input) text read same is holds = subst P (is ∙ sym same) holds
+
+-- a fault of the solution comes behind the instance's reading
+pub solution_refused : (a b : Option (List ℕ)) (session : Session) (enrolled : Enrolled)
+    (input : InputFault) (fault : CheckFault)
+    → IfSome a (λ instance. InstanceText instance session enrolled)
+    → IfSome b (λ solution. RefusesFile (first_solution_fault session solution) input)
+    → fault ≡ of_solution input
+    → Both a b (λ instance solution. Refuses instance solution fault)
+solution_refused None b session enrolled input fault one bad same = tt
+solution_refused (Some instance) None session enrolled input fault one bad same = tt
+solution_refused (Some instance) (Some solution) session enrolled input fault one bad same =
+    rw same (refuses input bad)
+  where
+    first : IsRead instance
+    first = record { session = session; enrolled = enrolled; spells = one }
+
+    refuses : (f : InputFault) → RefusesFile (first_solution_fault session solution) f
+        → Refuses instance solution (of_solution f)
+    refuses Read bad = first
+    refuses (File f) bad = record { first = first; fault = bad }
+    refuses NoMemory bad = tt

@@ -1,0 +1,30 @@
+-- What is taken of an input, and why it gives nothing.
+use Rattle.std.specs.Prelude.{◌≡◌, ◌≢◌, ◌≤◌, ◌<◌, ℕ, List, length, Option, Some}
+use Rattle.std.specs.Io.KnownBytes.{Consumes}
+use Rattle.office_files.specs.declared.fault.FileFault.{FileFault}
+use Rattle.office_files.specs.declared.fault.FaultKind.TheVariants as kind
+use Rattle.office_check.specs.declared.reading.InputFault.{InputFault}
+use Rattle.office_check.specs.declared.reading.InputFault.TheVariants.{Read, File, NoMemory}
+
+-- of the known bytes, at most so many are taken from the front
+pub record TakesAtMost (most : ℕ) (old new : Option (List ℕ)) : Type 0 where
+  pub bytes : List ℕ
+  pub taken : Consumes old new bytes
+  pub few : length bytes ≤ most
+
+-- want of memory in the reading of a file is no fault of the file
+abbrev pub ComesOf : FileFault → InputFault → Type 0
+ComesOf fault Read = ⊥
+ComesOf fault (File f) = (f ≡ fault) × (fault.what ≢ kind.NoMemory)
+ComesOf fault NoMemory = fault.what ≡ kind.NoMemory
+
+-- a text that is refused for itself is longer than the limit
+abbrev pub RefusesText : ℕ → List ℕ → InputFault → Type 0
+RefusesText limit input (File fault) =
+    (fault ≡ record { line = 0; what = kind.TooLong }) × (limit < length input)
+RefusesText limit input _ = Unit {0}
+
+-- a file's fault is the first one of its text, if that has one
+abbrev pub RefusesFile : Option FileFault → InputFault → Type 0
+RefusesFile first (File fault) = first ≡ Some fault
+RefusesFile first _ = Unit {0}

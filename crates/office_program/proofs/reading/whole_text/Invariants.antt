@@ -1,9 +1,0 @@
-use Rattle.std.proofs.Common.{◌≤◌, ◌+◌, length}
-use Rattle.std.specs.Io.KnownBytes.{Consumes}
-use Rattle.office_program.proofs.reading.whole_text.Given as goal
-
-abbrev pub invariant-reads : goal.invariant-reads
-invariant-reads g l = record {
-  taken : Consumes (g.R.Read.remaining l.initial.reader) (g.R.Read.remaining l.reader) l.text.items;
-  within : length l.text.items ≤ l.limit + 1;
-}
