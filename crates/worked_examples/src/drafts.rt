@@ -245,6 +245,27 @@ fn refuses_edits_of_two<R: Abort>(rt: &R, alloc: Global, draft: &mut Draft<'_>) 
     meets(rt, alloc, draft, &steps);
 }
 
+// The two still coincide where fewer are enrolled.
+fn still_coincide<R: Abort>(
+    rt: &R,
+    alloc: Global,
+    instance: &Instance,
+    enrolments: &Enrolments,
+    fewer: &Enrolments,
+) -> Result<(), Fail> {
+    let mut draft = enrolled_anew(alloc, instance, enrolments, fewer)?;
+    assert_same(rt, draft.parts().total(), 29, "fewer enrolments");
+    if instance.exams() != 4 {
+        return Err("four exams")?;
+    }
+    let one = [ExamNo::new(1)];
+    let found = first_breach_of(alloc, instance, fewer, draft.timetable(), &one)?;
+    let stands = Some(breach(BreachRule::Coincidence, 0, 1));
+    assert_same(rt, found, stands, "it stands");
+    refuses_edits_of_two(rt, alloc, &mut draft);
+    Ok(())
+}
+
 #[test]
 fn coincidence_by_enrolment(rt: HostRuntime) -> Result<(), Fail> {
     let instance = coinciding(rt.alloc())?;
@@ -252,15 +273,5 @@ fn coincidence_by_enrolment(rt: HostRuntime) -> Result<(), Fail> {
     let solved = total_of(rt.alloc(), &instance, &enrolments)?;
     assert_same(&rt, solved, 37, "solved");
     let fewer = enrolled_without(rt.alloc(), 2, 1)?;
-    let mut draft = enrolled_anew(rt.alloc(), &instance, &enrolments, &fewer)?;
-    assert_same(&rt, draft.parts().total(), 29, "fewer enrolments");
-    if instance.exams() != 4 {
-        return Err("four exams")?;
-    }
-    let one = [ExamNo::new(1)];
-    let found = first_breach_of(rt.alloc(), &instance, &fewer, draft.timetable(), &one)?;
-    let stands = Some(breach(BreachRule::Coincidence, 0, 1));
-    assert_same(&rt, found, stands, "it stands");
-    refuses_edits_of_two(&rt, rt.alloc(), &mut draft);
-    Ok(())
+    still_coincide(&rt, rt.alloc(), &instance, &enrolments, &fewer)
 }
