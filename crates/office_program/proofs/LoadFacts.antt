@@ -15,7 +15,8 @@ use Rattle.office_store.specs.Running.{IsFault, Now}
 use Rattle.office_store.specs.declared.fault.StoreFault.{StoreFault}
 use Rattle.office_store.specs.Faults.{IsOfDatabase}
 use Rattle.office_store.specs.declared.fault.StoreFault.TheVariants.{BadSchema, Store}
-use Rattle.office_tables.specs.Schema.{no_schema, office_schema}
+use Rattle.office_schema.specs.Schema.{office_schema}
+use Rattle.office_tables.specs.Schema.{no_schema}
 use Rattle.office_program.specs.Load.{IsOfficeOf}
 
 -- the database of an office has tables

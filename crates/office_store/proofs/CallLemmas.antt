@@ -16,14 +16,15 @@ use Rattle.office_tables.specs.declared.rows.SlotRow.{SlotRow}
 use Rattle.office_records.specs.Office.{OfficeState, Records, Memory, memory_of, set_at}
 use Rattle.office_records.specs.Stands.{IsKept, once, parts_of}
 use Rattle.office_store.specs.Beginning.{Begins}
-use Rattle.office_store.specs.Changes.{draft_put}
-use Rattle.office_store.specs.Commands.{Gives, draft_dropped, draft_made, first_timetable, is_draft_number, named, penalty_now}
+use Rattle.office_store.specs.Changes.{draft_put, draft_removed}
+use Rattle.office_store.specs.Commands.{Gives, draft_dropped, draft_in, draft_made, first_timetable, is_draft_number, named, penalty_now}
 use Rattle.office_store.specs.Running.{IsFault}
 use Rattle.office_store.specs.declared.fault.Refusal.TheVariants.{File}
 use Rattle.office_store.specs.declared.fault.StoreFault.{StoreFault}
 use Rattle.office_store.specs.declared.fault.StoreFault.TheVariants.{NoDraft, DraftTaken, Refused, Store}
-use Rattle.office_store.proofs.DraftLemmas.{made_kept}
-use Rattle.office_store.proofs.RunLemmas.{IsKeptOf}
+use Rattle.office_store.proofs.CommandLemmas.{Denies, Moves}
+use Rattle.office_store.proofs.DraftLemmas.{left_kept, made_kept}
+use Rattle.office_store.proofs.RunLemmas.{IsKeptOf, kept_of}
 
 -- ---- what was looked up
 
@@ -160,3 +161,79 @@ begun_made r d bytes penalty slots begins numbered free total is =
     made r d bytes numbered free begins.timetable begins.first
     ∙ ap (λ n. Ok (n, Some (record r { draft = set_at d (Some begins.timetable) r.draft })))
     (ap total_of (sym begins.scored) ∙ sym is)
+
+-- ---- the commands, by what is in memory and the draft's rows
+
+-- these are the rows of the draft in any office that stands there
+abbrev pub Tells : ℕ → List DraftRow → Database → Type 0
+Tells d rows a = (o : OfficeState) → IsKept a o
+    → map (λ (r : DraftRow). r.no) rows ≡ once (is_some (draft_in d o)) d
+
+module _ (d : ℕ) (rows : List DraftRow) (n : ℕ) (long : n ≡ length rows) (a : Database)
+    (tells : Tells d rows a) (m : Memory) where
+  none_there : true ≡ eqb n 0 → (o : OfficeState) → IsKept a o → (r : Records) → o ≡ Some r
+      → is_some (r.draft d) ≡ false
+  none_there empty o kept r is =
+      ap (λ o. is_some (draft_in d o)) (sym is) ∙ no_row rows n long _ d (tells o kept) empty
+
+  one_there : false ≡ eqb n 0 → (o : OfficeState) → IsKept a o → (r : Records) → o ≡ Some r
+      → is_some (r.draft d) ≡ true
+  one_there some o kept r is =
+      ap (λ o. is_some (draft_in d o)) (sym is) ∙ a_row rows n long _ d (tells o kept) some
+
+  pub drop_denied : is_some m ≡ true → true ≡ eqb n 0 → Denies (draft_dropped d) NoDraft a m
+  drop_denied loaded empty o kept is =
+      let of = has_records o m is loaded in
+      ap (draft_dropped d) of.is
+      ∙ dropped_none of.records d (none_there empty o kept of.records of.is)
+
+  pub drop_moves : (b : Database) → is_some m ≡ true → false ≡ eqb n 0
+      → ((t : Tables) → Held a t → Held b (draft_removed d t)) → Moves (draft_dropped d) tt a b m m
+  drop_moves b loaded some makes o kept is =
+      let of = has_records o m is loaded in (
+        _,
+        ap (draft_dropped d) of.is
+            ∙ dropped_one of.records d (one_there some o kept of.records of.is),
+        left_kept a b of.records d (subst (IsKept a) of.is kept) makes,
+        ap memory_of (sym of.is) ∙ is,
+      )
+
+  module _ (text : List ℕ) (I : Session) (E : Enrolled) (at_hand : m ≡ Some (I, E)) where
+    pub number_denied : false ≡ is_draft_number d → Denies (draft_made d text) NoDraft a m
+    number_denied beyond o kept is =
+        let of = kept_of o I E (is ∙ at_hand) in
+        ap (draft_made d text) of.is ∙ made_nowhere of.records d text beyond
+
+    pub taken_denied : true ≡ is_draft_number d → false ≡ eqb n 0
+        → Denies (draft_made d text) DraftTaken a m
+    taken_denied numbered some o kept is =
+        let of = kept_of o I E (is ∙ at_hand) in
+        ap (draft_made d text) of.is
+        ∙ made_taken of.records d text numbered (one_there some o kept of.records of.is)
+
+    module _ (numbered : true ≡ is_draft_number d) (empty : true ≡ eqb n 0) where
+      pub text_denied : (e : StoreFault) → (e ≡ Store) ⊎ (first_timetable text I ≡ Err e)
+          → Denies (draft_made d text) e a m
+      text_denied e fault o kept is =
+          let of = kept_of o I E (is ∙ at_hand) in
+          made_fault (draft_made d text o) text I e
+          (λ none. ap (draft_made d text) of.is
+          ∙ made_refused of.records d text numbered (none_there empty o kept of.records of.is) e
+          (ap (first_timetable text) of.session ∙ none)) fault
+
+      pub made_moves : (b : Database) (penalty : Penalty) (row : DraftRow)
+          (slots placed : List SlotRow) (total : ℕ) → placed ≡ slots
+          → Begins d text I E penalty slots → row.no ≡ d → parts_of row ≡ penalty
+          → total ≡ total_of penalty → ((t : Tables) → Held a t → Held b (draft_put row placed t))
+          → Moves (draft_made d text) total a b m m
+      made_moves b penalty row slots placed total same begins number parts is_total makes o kept is =
+          let of = kept_of o I E (is ∙ at_hand) in
+          let free = none_there empty o kept of.records of.is in
+          let begun = begins_in o I E of d text penalty slots placed same begins in (
+            _,
+            ap (draft_made d text) of.is
+                ∙ begun_made of.records d text penalty placed begun numbered free total is_total,
+            begun_kept a b of.records d text penalty row placed begun number parts numbered free
+                (subst (IsKept a) of.is kept) makes,
+            ap memory_of (sym of.is) ∙ is,
+          )

@@ -20,8 +20,9 @@ use Rattle.office_store.specs.declared.fault.Refusal.TheVariants as refusal
 use Rattle.office_store.specs.declared.fault.StoreFault.{StoreFault}
 use Rattle.office_store.specs.declared.fault.StoreFault.TheVariants.{BadSchema, Refused, Store}
 use Rattle.office_store.specs.declared.edit.Edit.{Edit}
-use Rattle.office_records.specs.Office.{IsOffice, OfficeState, Records, memory_of, set_at}
+use Rattle.office_records.specs.Office.{IsOffice, Memory, OfficeState, Records, memory_of, set_at}
 use Rattle.office_records.specs.Stands.{IsKept, parts_of}
+use Rattle.office_store.proofs.CommandLemmas.{Denies, Moves}
 use Rattle.office_store.proofs.EditLemmas.{edit_kept}
 
 -- ---- what the command gives
@@ -107,14 +108,14 @@ edit_comes d change r I E T result memory there ok err = go result ok err
 -- ---- what is stored
 
 -- the office of what is at hand, and what the edit makes of its draft
-pub record IsEditedOf (o : OfficeState) (I : Session) (E : Enrolled) (d : ℕ) (change : Edit)
+record IsEditedOf (o : OfficeState) (I : Session) (E : Enrolled) (d : ℕ) (change : Edit)
     (result : Result (Placing × Penalty) StoreFault) : Type 0 where
   pub records : Records
   pub is : o ≡ Some records
   pub both : ◌≡◌ {A = Session × Enrolled} (records.session, records.enrolments) (I, E)
   pub edits : Edits d change records result
 
-pub edited_of : (o : OfficeState) (I : Session) (E : Enrolled) (d : ℕ) (change : Edit)
+edited_of : (o : OfficeState) (I : Session) (E : Enrolled) (d : ℕ) (change : Edit)
     (result : Result (Placing × Penalty) StoreFault) (rows : List DraftRow) (slots : List SlotRow)
     → IsOffice o → memory_of o ≡ Some (I, E) → AreRowsOf o d rows slots
     → ((r : Records) → IsOffice (Some r) → memory_of (Some r) ≡ Some (I, E)
@@ -129,7 +130,7 @@ edited_of (Some r) I E d change result rows slots office memory are edits = reco
 }
 
 -- what is stored is what the command gives
-pub record IsStored (b : Database) (o : OfficeState) (I : Session) (E : Enrolled) (d : ℕ)
+record IsStored (b : Database) (o : OfficeState) (I : Session) (E : Enrolled) (d : ℕ)
     (change : Edit) (P : Penalty) : Type 0 where
   pub office : OfficeState
   pub gives : draft_edited d change o ≡ Ok (total_of P, office)
@@ -162,10 +163,44 @@ module _ (a b : Database) (o : OfficeState) (I : Session) (E : Enrolled) (d : �
       (subst (λ (p : Session × Enrolled). Fits p.0 p.1 new) (sym of.both) fits)
       (subst (IsKept a) of.is kept) makes)
 
-  pub edit_stored : IsStored b o I E d change P
+  edit_stored : IsStored b o I E d change P
   edit_stored = record {
     office = edited_office;
     gives = gives;
     kept = is_kept;
     memory = ap Some of.both;
   }
+
+-- ---- the command, by what is in memory and the draft's rows
+
+module _ (a : Database) (m : Memory) (I : Session) (E : Enrolled) (at_hand : m ≡ Some (I, E))
+    (d : ℕ) (change : Edit) (rows : List DraftRow) (slots : List SlotRow)
+    (tells : (o : OfficeState) → IsKept a o → AreRowsOf o d rows slots) where
+  abbrev Comes : Result (Placing × Penalty) StoreFault → Type 0
+  Comes result = (r : Records) → IsOffice (Some r) → memory_of (Some r) ≡ Some (I, E)
+      → AreRowsOf (Some r) d rows slots → Edits d change r result
+
+  edited_there : (result : Result (Placing × Penalty) StoreFault) → Comes result → (o : OfficeState)
+      → IsKept a o → memory_of o ≡ m → IsEditedOf o I E d change result
+  edited_there result edits o kept is =
+      edited_of o I E d change result rows slots kept.office (is ∙ at_hand) (tells o kept) edits
+
+  pub edit_denied : (e : StoreFault) → Comes (Err e) → Denies (draft_edited d change) e a m
+  edit_denied e edits o kept is =
+      let of = edited_there (Err e) edits o kept is in
+      subst (λ o. IsFault (draft_edited d change o) e) (sym of.is) of.edits
+
+  pub edit_moves : (b : Database) (new : Placing) (P : Penalty) (row : DraftRow) (total : ℕ)
+      (exams : List ℕ) → Comes (Ok (new, P)) → row.no ≡ d → parts_of row ≡ P → P ≡ track I E new
+      → Fits I E new → total ≡ total_of P → exams ≡ exams_of change
+      → ((t : Tables) → Held a t → Held b (edit_put row new exams t))
+      → Moves (draft_edited d change) total a b m m
+  edit_moves b new P row total exams edits number parts scored fits is_total are_exams makes o kept is =
+      let stored = edit_stored a b o I E d change new P row
+      (edited_there (Ok (new, P)) edits o kept is) number parts scored fits kept
+      (subst (λ l. (t : Tables) → Held a t → Held b (edit_put row new l t)) are_exams makes) in (
+        stored.office,
+        stored.gives ∙ ap (λ n. Ok (n, stored.office)) (sym is_total),
+        stored.kept,
+        stored.memory ∙ sym at_hand,
+      )

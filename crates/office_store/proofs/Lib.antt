@@ -9,3 +9,5 @@ pub mod CallLemmas
 pub mod SlotLemmas
 pub mod EditLemmas
 pub mod EditCallLemmas
+pub mod StepLemmas
+pub mod CommandLemmas

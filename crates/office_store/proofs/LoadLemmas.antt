@@ -18,6 +18,8 @@ use Rattle.office_store.specs.Commands.{fresh, counts_of, loaded}
 use Rattle.office_records.specs.Office.{OfficeState, AreEnrolled}
 use Rattle.office_records.specs.Office.{Memory, memory_of}
 use Rattle.office_store.specs.declared.fault.StoreFault.TheVariants.{Loaded}
+use Rattle.office_store.specs.declared.loading.Loaded as loading
+use Rattle.office_store.proofs.CommandLemmas.{Denies, Moves}
 use Rattle.office_records.specs.Stands.{StandsLoaded, IsKept, enrol_row}
 
 -- ---- the rows of pairs
@@ -82,7 +84,7 @@ module _ (I : Session) (E : Enrolled) (text : List ℕ) (rows : List EnrolRow)
   }
 
   -- the database stands for the office with that session alone
-  pub session_kept : (a b : Database) → IsKept a None → ((t : Tables) → Held a t → Held b (session_put text rows t))
+  session_kept : (a b : Database) → IsKept a None → ((t : Tables) → Held a t → Held b (session_put text rows t))
       → IsInstance I → AreEnrolled I E → IsKept b (Some (fresh (I, E)))
   session_kept a b kept makes is are = record {
     held = session_put text rows empty_tables;
@@ -134,18 +136,40 @@ as_many b I E text =
     = length-map text.said.exams _ in
     omega (arith, exams, lists, one, other)
 
-pub loaded_first : (b : List ℕ) (s : Session × Enrolled) → instance_in b ≡ Ok s
+loaded_first : (b : List ℕ) (s : Session × Enrolled) → instance_in b ≡ Ok s
     → loaded b None ≡ Ok (counts_of s, Some (fresh s))
 loaded_first b s is = rw is refl
 
-pub loaded_again : (b : List ℕ) (s : Session × Enrolled) (o : OfficeState) → instance_in b ≡ Ok s
+loaded_again : (b : List ℕ) (s : Session × Enrolled) (o : OfficeState) → instance_in b ≡ Ok s
     → is_none o ≡ false → loaded b o ≡ Err Loaded
 loaded_again b s o is some = rw (is, some) refl
 
-pub some_kept : (m : Memory) (o : OfficeState) → memory_of o ≡ m → is_some m ≡ true → is_none o ≡ false
+some_kept : (m : Memory) (o : OfficeState) → memory_of o ≡ m → is_some m ≡ true → is_none o ≡ false
 some_kept m None e is = absurd (let no = ap is_some e ∙ is in cc)
 some_kept m (Some r) e is = refl
 
-pub none_kept : (m : Memory) (o : OfficeState) → memory_of o ≡ m → is_some m ≡ false → o ≡ None
+none_kept : (m : Memory) (o : OfficeState) → memory_of o ≡ m → is_some m ≡ false → o ≡ None
 none_kept m None e is = refl
 none_kept m (Some r) e is = absurd (let no = ap is_some e ∙ is in cc)
+
+-- ---- the command, by what is in memory
+
+pub load_denied : (text : List ℕ) (s : Session × Enrolled) (a : Database) (m : Memory)
+    → instance_in text ≡ Ok s → is_some m ≡ true → Denies (loaded text) Loaded a m
+load_denied text s a m read some o kept is = loaded_again text s o read (some_kept m o is some)
+
+pub load_moves : (text : List ℕ) (I : Session) (E : Enrolled) (counts : loading.Loaded)
+    (stored : List ℕ) (rows : List EnrolRow) (a b : Database) (m : Memory)
+    → instance_in text ≡ Ok (I, E) → counts ≡ counts_of (I, E)
+    → stored ≡ canonical_instance I (no_pairs (length I.exams))
+    → rows ≡ map enrol_row (pairs_of E) → IsInstance I → AreEnrolled I E → is_some m ≡ false
+    → ((t : Tables) → Held a t → Held b (session_put stored rows t))
+    → Moves (loaded text) counts a b m (Some (I, E))
+load_moves text I E counts stored rows a b m read counted is_text are_rows is are empty makes o kept held =
+    let none = none_kept m o held empty in (
+      Some (fresh (I, E)),
+      ap (loaded text) none ∙ loaded_first text (I, E) read
+          ∙ ap (λ k. Ok (k, Some (fresh (I, E)))) (sym counted),
+      session_kept I E stored rows is_text are_rows a b (subst (IsKept a) none kept) makes is are,
+      refl,
+    )

@@ -8,7 +8,11 @@ use Rattle.office_tables.specs.Tables.{Tables, Stands as Held}
 use Rattle.office_tables.specs.Changes.{without_owner, with_owner}
 use Rattle.office_tables.specs.declared.rows.OwnerRow.{OwnerRow}
 use Rattle.office_store.specs.Changes.{owner_put}
-use Rattle.office_records.specs.Office.{OfficeState, Records, AreRecords, set_at}
+use Rattle.exam_model.specs.Enrolments.{Enrolled}
+use Rattle.exam_model.specs.Instance.{Session}
+use Rattle.office_records.specs.Office.{OfficeState, Memory, Records, AreRecords, memory_of, set_at}
+use Rattle.office_store.proofs.CommandLemmas.{Denies, Moves}
+use Rattle.office_store.proofs.RunLemmas.{kept_of}
 use Rattle.exam_draft.specs.Edits.{exam_exists}
 use Rattle.exam_draft.specs.declared.fault.EditFault.TheVariants.{NoSuch}
 use Rattle.office_store.specs.Commands.{owned, owner_in}
@@ -154,6 +158,27 @@ pub owned_nowhere : (r : Records) (e d : ℕ) → length r.session.exams ≤ e
 owned_nowhere r e d none =
     let is : exam_exists r.session e ≡ false = grind (arith, nat_tests, none) in
     rw is refl
+
+-- ---- the command, by what is in memory
+
+module _ (a : Database) (m : Memory) (I : Session) (E : Enrolled) (at_hand : m ≡ Some (I, E)) (e d : ℕ) where
+  pub owner_moves : (b : Database) → e < length I.exams → d ≤ 999 → (n : ℕ) → n ≡ e
+      → ((t : Tables) → Held a t → Held b (owner_put n d t)) → Moves (owned e d) tt a b m m
+  owner_moves b exists few n same makes o kept is =
+      let of = kept_of o I E (is ∙ at_hand) in
+      let there = subst (λ I. e < length I.exams) (sym of.session) exists in (
+        _,
+        ap (owned e d) of.is ∙ owned_there of.records e d there,
+        owner_kept a b of.records e d (subst (IsKept a) of.is kept)
+            (subst (λ n. (t : Tables) → Held a t → Held b (owner_put n d t)) same makes) there few,
+        ap memory_of (sym of.is) ∙ is,
+      )
+
+  pub no_exam_denied : length I.exams ≤ e → Denies (owned e d) (Refused (Edit NoSuch)) a m
+  no_exam_denied none o kept is =
+      let of = kept_of o I E (is ∙ at_hand) in
+      ap (owned e d) of.is
+      ∙ owned_nowhere of.records e d (subst (λ I. length I.exams ≤ e) (sym of.session) none)
 
 -- ---- the owner that is read
 

@@ -207,6 +207,10 @@ pub put_there : (db : Database) (d e n : ℕ) (o : Option Place) (at : Place) (r
     → Held db (with_slot row (without_slot d n t)) → Held db (slot_put d e o t)
 put_there db d e n o at row t there exam is h = rw (there, ← is, ← exam) h
 
+pub row_is : (d e n p r : ℕ) (at : Place) → n ≡ e → p ≡ at.period → r ≡ at.room
+    → (let row : SlotRow = record { draft = d; exam = n; period = p; room = r } in row) ≡ slot_row d e at
+row_is d e n p r at exam period room = cc
+
 -- one more of the exams
 put_last : (d : ℕ) (new : Placing) (exams : List ℕ) (e : ℕ) (t : Tables)
     → slots_put d new (exams ++ e ∷ []) t ≡ slot_put d e (place_of new e) (slots_put d new exams t)

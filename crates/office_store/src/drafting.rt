@@ -65,11 +65,6 @@ impl<S: Alter> Office<S> {
     // The row of a draft: one, or none.
     pub(crate) fn drafts(&mut self, alloc: Global, number: u32) -> Result<Vec<DraftRow>, StoreFault>
         ensures rows { HasCleanDisk (state S.Store self.new) → (office : OfficeState)
-            → Now (state S.Store self.old) office
-            → IfOk result (λ rows. map (λ r. r.no) rows.items
-            ≡ once (is_some (draft_in number office)) number) }
-        // The same of an office that the tables stand for now.
-        ensures now { HasCleanDisk (state S.Store self.new) → (office : OfficeState)
             → IsKept (state S.Store self.new).now office
             → IfOk result (λ rows. map (λ r. r.no) rows.items
             ≡ once (is_some (draft_in number office)) number) }

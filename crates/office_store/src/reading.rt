@@ -60,10 +60,6 @@ impl<S: Alter> Office<S> {
     // The rows of a draft and of its places.
     pub(crate) fn draft_rows(&mut self, alloc: Global, number: u32) -> Result<DraftRows, StoreFault>
         ensures rows { HasCleanDisk (state S.Store self.new) → (office : OfficeState)
-            → Now (state S.Store self.old) office
-            → IfOk result (λ found. AreRowsOf office number found.rows.items found.slots.items) }
-        // The same of an office that the tables stand for now.
-        ensures now { HasCleanDisk (state S.Store self.new) → (office : OfficeState)
             → IsKept (state S.Store self.new).now office
             → IfOk result (λ found. AreRowsOf office number found.rows.items found.slots.items) }
         ensures still { HasCleanDisk (state S.Store self.new) → (office : OfficeState)

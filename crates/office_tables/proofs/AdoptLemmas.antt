@@ -20,7 +20,7 @@ use Rattle.office_tables.specs.declared.rows.DraftRow.{DraftRow}
 use Rattle.office_tables.specs.declared.rows.SlotRow.{SlotRow}
 use Rattle.office_tables.specs.Readings.{IsFound, IsFoundMeta, HasTables, Looks}
 use Rattle.office_tables.specs.Records.{FitsOwner, FitsEnrol, FitsDraft, FitsSlot}
-use Rattle.office_tables.specs.Schema.{office_schema}
+use Rattle.office_schema.specs.Schema.{office_schema}
 use Rattle.office_tables.specs.Tables.{Tables, Stands, Holds, keyed, keyless, meta_row, owner_row, enrol_row, draft_row, slot_row, placed_row, seat_row, share_student_row, share_part_row, batch_row}
 use Rattle.office_tables.proofs.Frames.{holds_none}
 use Rattle.office_tables.proofs.Reading.{keeps_after}

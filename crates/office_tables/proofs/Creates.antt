@@ -13,8 +13,9 @@ use Rattle.sqlite.specs.Does.{lacks_sequence}
 use Rattle.sqlite.specs.State.{State}
 use Rattle.office_tables.specs.Steps.{HasRun, Leads}
 use Rattle.office_tables.proofs.Statements.{creates}
-use Rattle.office_tables.specs.Schema.{IsBlank, no_schema, schema_1, schema_2, schema_3, schema_4, schema_5, schema_6, schema_7, schema_8, schema_9, schema_10, office_schema}
-use Rattle.office_tables.specs.Schema.{meta_table, owner_table, enrol_table, draft_table, slot_table, placed_table, seat_table, share_student_table, share_part_table, batch_table}
+use Rattle.office_schema.specs.Schema.{office_schema}
+use Rattle.office_tables.specs.Schema.{IsBlank, no_schema, schema_1, schema_2, schema_3, schema_4, schema_5, schema_6, schema_7, schema_8, schema_9, schema_10}
+use Rattle.office_schema.specs.Schema.{meta_table, owner_table, enrol_table, draft_table, slot_table, placed_table, seat_table, share_student_table, share_part_table, batch_table}
 
 -- under this schema the text makes this table
 pub record Defines (schema : Schema) (text : List ℕ) (table : Table) : Type 0 where

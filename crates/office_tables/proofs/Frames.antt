@@ -6,7 +6,7 @@ use Rattle.sqlite_value.specs.Order.{Row}
 use Rattle.sqlite_trees.specs.Tree.{Trees}
 use Rattle.sqlite_schema.specs.declared.schema.Table.{Table}
 use Rattle.sqlite.specs.Effect.{Database}
-use Rattle.office_tables.specs.Schema.{office_schema}
+use Rattle.office_schema.specs.Schema.{office_schema}
 use Rattle.office_tables.specs.Tables.{Tables, Stands, Holds, Meta, keyless, keyed, meta_row, owner_row, enrol_row, draft_row, slot_row}
 use Rattle.office_tables.specs.declared.rows.OwnerRow.{OwnerRow}
 use Rattle.office_tables.specs.declared.rows.EnrolRow.{EnrolRow}

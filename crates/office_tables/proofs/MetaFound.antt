@@ -11,7 +11,7 @@ use Rattle.sqlite.specs.Effect.{Database, IsDatabase}
 use Rattle.office_tables.specs.declared.rows.MetaRow.{MetaRow}
 use Rattle.office_tables.specs.Readings.{IsReadMeta, IsFoundMeta, listed}
 use Rattle.office_tables.specs.Records.{meta_from}
-use Rattle.office_tables.specs.Schema.{office_schema}
+use Rattle.office_schema.specs.Schema.{office_schema}
 use Rattle.office_tables.specs.Tables.{Meta, HasRowids, Holds, flag, keyed, meta_row}
 use Rattle.office_tables.proofs.ListedTables.{same_map}
 use Rattle.office_tables.proofs.ListTexts.{meta_terms, meta_whole}

@@ -12,7 +12,8 @@ use Rattle.sqlite.specs.State.{State, Executes}
 use Rattle.sqlite.specs.Term.{Term, lit, col}
 use Rattle.sqlite.proofs.Callers.{IsPlain, command_of}
 use Rattle.sqlite_tied.specs.Compute.{everything}
-use Rattle.office_tables.specs.Schema.{office_schema, meta_table, IsBlank}
+use Rattle.office_schema.specs.Schema.{office_schema, meta_table}
+use Rattle.office_tables.specs.Schema.{IsBlank}
 use Rattle.office_tables.specs.Tables.{Tables, Stands, Meta, empty_tables, flag, keyed, keyless, meta_row}
 use Rattle.office_tables.proofs.Casts.{cast_int, cast_null}
 use Rattle.office_tables.proofs.Frames.{meta_changed, holds_none}

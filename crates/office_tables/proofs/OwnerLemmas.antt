@@ -17,7 +17,7 @@ use Rattle.sqlite.specs.Term.{Term, lit, col}
 use Rattle.sqlite.proofs.Callers.{IsPlain, command_of}
 use Rattle.sqlite_tied.specs.Compute.{everything}
 use Rattle.office_tables.specs.declared.rows.OwnerRow.{OwnerRow}
-use Rattle.office_tables.specs.Schema.{office_schema, owner_table}
+use Rattle.office_schema.specs.Schema.{office_schema, owner_table}
 use Rattle.office_tables.specs.Tables.{Tables, Stands, keyed, owner_row}
 use Rattle.office_tables.specs.Records.{owner_of}
 use Rattle.office_tables.proofs.Casts.{cast_int, cast_null}

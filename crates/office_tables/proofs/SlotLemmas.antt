@@ -20,7 +20,7 @@ use Rattle.sqlite.specs.Term.{Term, lit, col}
 use Rattle.sqlite.proofs.Callers.{IsPlain, command_of}
 use Rattle.sqlite_tied.specs.Compute.{everything}
 use Rattle.office_tables.specs.declared.rows.SlotRow.{SlotRow}
-use Rattle.office_tables.specs.Schema.{office_schema, slot_table}
+use Rattle.office_schema.specs.Schema.{office_schema, slot_table}
 use Rattle.office_tables.specs.Tables.{Tables, Stands, keyless, slot_row}
 use Rattle.office_tables.specs.Records.{slot_of}
 use Rattle.office_tables.proofs.Casts.{cast_int, cast_null}

@@ -19,7 +19,7 @@ use Rattle.sqlite.specs.Query.{Query, inner, end}
 use Rattle.sqlite.specs.State.{State, HasCleanDisk, IsLive, IsUnchanged, Survives}
 use Rattle.sqlite.specs.Store.{Ghosts}
 use Rattle.sqlite.specs.Term.{Term, lit, eval_all}
-use Rattle.office_tables.specs.Schema.{office_schema}
+use Rattle.office_schema.specs.Schema.{office_schema}
 use Rattle.office_tables.specs.Steps.{Keeps}
 use Rattle.office_tables.specs.Tables.{Meta, Holds, keyed, meta_row}
 use Rattle.office_tables.specs.Records.{meta_from}

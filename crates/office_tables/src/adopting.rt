@@ -10,10 +10,10 @@ use crate::adopted_rows::{adopt_drafts, adopt_enrols, adopt_owners, adopt_slots}
 use crate::found::{Found, FoundDrafts, FoundSession};
 use crate::meta::adopt_meta;
 use crate::rows::{DraftRow, EnrolRow, MetaRow, OwnerRow, SlotRow};
-use crate::schema_value::is_office_schema;
 use crate::vacant_tables::{
     lacks_batches, lacks_part_shares, lacks_placements, lacks_seats, lacks_student_shares,
 };
+use office_schema::is_office_schema;
 use sqlite::{Alter, Connection, Error};
 use std::alloc::Global;
 

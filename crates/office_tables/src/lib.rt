@@ -17,8 +17,6 @@ mod records;
 mod rows;
 mod running;
 mod schema;
-mod schema_parts;
-mod schema_value;
 mod slots;
 mod vacant_tables;
 
@@ -34,5 +32,4 @@ pub use rows::{
     DraftRow, EnrolRow, MetaRow, OwnerRow, PartShareRow, PlacedRow, SeatRow, SlotRow,
     StudentShareRow,
 };
-pub use schema_value::is_office_schema;
 pub use slots::{delete_slot, delete_slots, insert_slot, insert_slots, slots_of};

@@ -1,7 +1,8 @@
 // The ten CREATE statements: schema version 1.
 ghost use Rattle.std.specs.Prelude.{◌≡◌};
 ghost use Rattle.sqlite.specs.Held.{state};
-ghost use Rattle.office_tables.specs.Schema.{no_schema, schema_1, schema_2, schema_3, schema_4, schema_5, schema_6, schema_7, schema_8, schema_9, office_schema, IsBlank};
+ghost use Rattle.office_schema.specs.Schema.{office_schema};
+ghost use Rattle.office_tables.specs.Schema.{no_schema, schema_1, schema_2, schema_3, schema_4, schema_5, schema_6, schema_7, schema_8, schema_9, IsBlank};
 ghost use Rattle.office_tables.specs.Steps.{Grows, Within};
 
 use crate::running::run;

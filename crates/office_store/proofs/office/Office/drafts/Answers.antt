@@ -5,7 +5,7 @@ use Rattle.office_store.specs.Running.{IsAwake}
 use Rattle.office_records.specs.Stands.{IsKept}
 use Rattle.office_store.proofs.DraftLemmas.{draft_read}
 use Rattle.office_store.proofs.ReadLemmas.{scored_read}
-use Rattle.office_store.proofs.RunLemmas.{now_still, rest_read}
+use Rattle.office_store.proofs.RunLemmas.{rest_read}
 use Rattle.office_store.proofs.office.Office.drafts.Goals as goal
 
 pub invariant_of-self : goal.invariant_of-self
@@ -24,20 +24,7 @@ invariant_of-self g c =
     )
 
 pub returns-clause-rows : goal.returns-clause-rows
-returns-clause-rows g c clean office now =
-    let old = state g.S.Store c.args.self.now in
-    let mid = state g.S.Store c.look.new.self in
-    let clean_in : HasCleanDisk (state g.S.Store c.self.inside.conn)
-    = omega (arith, c.drafts_of.ensures.survives.clean, clean) in
-    let clean_mid = subst (λ h. HasCleanDisk (state g.S.Store h)) c.self.view_is clean_in in
-    let awake = c.in_ok-look.ensures.awake clean_mid in
-    let here = now_still old mid office (c.in_ok-look.ensures.still clean_mid) now awake.0 in
-    let kept = subst (λ h. IsKept (state g.S.Store h).now office) (sym c.self.view_is) here in
-    let read = c.in_ok-rows.ensures.rows clean kept.held kept.tables in
-    draft_read kept.held office c.args.number c.in_ok-rows.rows.items kept.stands read
-
-pub returns-clause-now : goal.returns-clause-now
-returns-clause-now g c clean office here =
+returns-clause-rows g c clean office here =
     let mid = state g.S.Store c.self.inside.conn in
     let new = state g.S.Store c.drafts_of.new.conn in
     let clean_mid : HasCleanDisk mid = omega (arith, c.drafts_of.ensures.survives.clean, clean) in

@@ -1,9 +1,9 @@
 // Whether a schema is that of an office, found by its value: the ten tables, their five indexes, and no more.
 ghost use Rattle.std.specs.Prelude.{◌≡◌, ◌↔◌, [], ◌∷◌, drop, IfOk, IsTrue};
-ghost use Rattle.office_tables.specs.Schema.{office_schema};
-ghost use Rattle.office_tables.specs.Schema.{meta_table, owner_table, enrol_table, draft_table, slot_table, placed_table, seat_table, share_student_table, share_part_table, batch_table};
+ghost use Rattle.office_schema.specs.Schema.{office_schema};
+ghost use Rattle.office_schema.specs.Schema.{meta_table, owner_table, enrol_table, draft_table, slot_table, placed_table, seat_table, share_student_table, share_part_table, batch_table};
 
-use crate::schema_parts::{TableKey, is_pair_index, is_seat_index, is_table};
+use crate::parts::{TableKey, is_pair_index, is_seat_index, is_table};
 use sqlite_schema::schema::{Index, Kind, Schema, Table};
 use std::alloc::{AllocError, Global};
 

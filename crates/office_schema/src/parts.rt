@@ -2,7 +2,7 @@
 ghost use Rattle.std.specs.Prelude.{◌≡◌, ◌↔◌, [], ◌∷◌, None, Some, false, IfOk, IsTrue};
 ghost use Rattle.sqlite_value.specs.Keys.{plain};
 ghost use Rattle.sqlite_value.specs.declared.value.Value.TheVariants.{Null};
-ghost use Rattle.office_tables.specs.Schema.{column_of, columns_of, index_of, table_by, HasKey};
+ghost use Rattle.office_schema.specs.Schema.{column_of, columns_of, index_of, table_by, HasKey};
 
 use sqlite_items::Items;
 use sqlite_schema::code::Terms;

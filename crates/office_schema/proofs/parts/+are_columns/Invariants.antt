@@ -1,5 +1,5 @@
 use Rattle.std.proofs.Common.{length}
-use Rattle.office_tables.proofs.schema_parts.+are_columns.Given as goal
+use Rattle.office_schema.proofs.parts.+are_columns.Given as goal
 
 abbrev pub decreases-are_columns : goal.decreases-are_columns
 decreases-are_columns l = length l.columns.now

@@ -1,0 +1,7 @@
+//! The schema of an office's SQLite file, and whether a database has it.
+#![tactic(auto)]
+
+mod parts;
+mod whole;
+
+pub use whole::is_office_schema;

@@ -1,0 +1,97 @@
+-- A command of an office, by what it makes of whatever office stands there.
+use Rattle.std.proofs.Common.{◌≡◌, Ok, Err, Result, None, ap, sym, subst, ◌∙◌, IsTrue}
+use Rattle.sqlite.specs.Effect.{Database}
+use Rattle.sqlite.specs.Held.{Held, state}
+use Rattle.sqlite.specs.State.{State, HasCleanDisk}
+use Rattle.sqlite.specs.Store.{Ghosts}
+use Rattle.office_records.specs.Office.{OfficeState, Memory, memory_of}
+use Rattle.office_records.specs.Stands.{IsKept}
+use Rattle.office_store.specs.Commands.{Gives}
+use Rattle.office_store.specs.Running.{Does, IsAtRest, IsAwake, IsFault, IsStill, Now, Runs}
+use Rattle.office_store.specs.declared.fault.StoreFault.{StoreFault}
+use Rattle.office_store.specs.declared.fault.StoreFault.TheVariants.{NotLoaded}
+use Rattle.office_store.proofs.ReadLemmas.{does_now}
+use Rattle.office_store.proofs.RunLemmas.{at_hand, nothing_kept, now_still}
+
+-- where an office stands and this is in memory of it, the command gives this, and leads to another
+abbrev pub Moves : {A : Type 0} → (OfficeState → Gives A) → A → Database → Database → Memory → Memory
+    → Type 0
+Moves command x a b m n = (o : OfficeState) → IsKept a o → memory_of o ≡ m
+    → (new : OfficeState) × (command o ≡ Ok (x, new)) × IsKept b new × (memory_of new ≡ n)
+
+-- there it is refused so
+abbrev pub Denies : {A : Type 0} → (OfficeState → Gives A) → StoreFault → Database → Memory → Type 0
+Denies command fault a m = (o : OfficeState) → IsKept a o → memory_of o ≡ m
+    → IsFault (command o) fault
+
+-- from the connection before a look at the file to the one behind it, which is at hand
+module _ {S A : Type 0} (g : Ghosts S) (command : OfficeState → Gives A) (before mid inside : Held S)
+    (m : Memory) (view : inside ≡ mid) (rest : IsAtRest (state g inside) m)
+    (awake : HasCleanDisk (state g mid) → IsAwake (state g mid))
+    (stays : HasCleanDisk (state g mid) → (o : OfficeState) → Now (state g before) o
+    → Now (state g mid) o) where
+  -- the office that stood there does, and its session is in memory
+  found : HasCleanDisk (state g mid) → (o : OfficeState) → Now (state g before) o
+      → IsKept (state g mid).now o × (memory_of o ≡ m)
+  found clean o now =
+      let here = stays clean o now (awake clean).0 in (
+        here,
+        at_hand (state g mid) m o (subst (λ h. IsAtRest (state g h) m) view rest) clean
+            (awake clean).0 here,
+      )
+
+  pub refuses : (fault : StoreFault)
+      → (HasCleanDisk (state g mid) → Denies command fault (state g mid).now m)
+      → Runs g command before mid (Err fault)
+  refuses fault denies clean o now =
+      let there = found clean o now in
+      (denies clean o there.0 there.1, λ _. there.0)
+
+  -- a command that only shows
+  pub shows : (result : Result A StoreFault)
+      → (HasCleanDisk (state g mid) → (o : OfficeState) → IsKept (state g mid).now o → memory_of o ≡ m
+      → Does (command o) o (λ new. new ≡ o) result)
+      → Runs g command before mid result
+  shows result does clean o now =
+      let there = found clean o now in
+      does_now (command o) o (Now (state g mid)) result (does clean o there.0 there.1) (λ _. there.0)
+
+  pub runs : (after : Held S) (n : Memory) (x : A)
+      → (HasCleanDisk (state g after) → HasCleanDisk (state g inside))
+      → (HasCleanDisk (state g after) → Moves command x (state g inside).now (state g after).now m n)
+      → Runs g command before after (Ok x)
+  runs after n x clean moves is_clean o now =
+      let there = found (subst (λ h. HasCleanDisk (state g h)) view (clean is_clean)) o now in
+      let moved = moves is_clean o (subst (λ h. IsKept (state g h).now o) (sym view) there.0)
+      there.1 in
+      (moved.0, moved.1, λ _. moved.2)
+
+-- the same where the look itself says that nothing has changed
+pub stays_by : {S : Type 0} (g : Ghosts S) (before mid : Held S)
+    → (HasCleanDisk (state g mid) → IsStill (state g before) (state g mid))
+    → HasCleanDisk (state g mid) → (o : OfficeState) → Now (state g before) o → Now (state g mid) o
+stays_by g before mid still clean o = now_still (state g before) (state g mid) o (still clean)
+
+-- and what is said of each office that stands there
+pub seen : {S : Type 0} (g : Ghosts S) (mid inside : Held S) → inside ≡ mid → (P : OfficeState → Type 0)
+    → (HasCleanDisk (state g mid) → (o : OfficeState) → IsKept (state g mid).now o → P o)
+    → HasCleanDisk (state g inside) → (o : OfficeState) → IsKept (state g inside).now o → P o
+seen g mid inside view P tells clean o kept =
+    tells (subst (λ h. HasCleanDisk (state g h)) view clean) o
+    (subst (λ h. IsKept (state g h).now o) view kept)
+
+-- what is in memory afterwards is of the new office
+pub rests : {A : Type 0} (command : OfficeState → Gives A) (a b : State) (m n : Memory) (x : A)
+    → IsAtRest a m → (HasCleanDisk b → HasCleanDisk a) → (HasCleanDisk b → IsTrue a.is_open)
+    → (HasCleanDisk b → Moves command x a.now b.now m n) → IsAtRest b n
+rests command a b m n x rest clean opened moves is_clean _ =
+    let here = rest (clean is_clean) (opened is_clean) in
+    let moved = moves is_clean here.0 here.1 here.2 in
+    (moved.0, moved.2, moved.3)
+
+-- ---- where there is no session
+
+pub not_loaded : {A : Type 0} (command : OfficeState → Gives A) (a : Database) (m : Memory)
+    → m ≡ None → command None ≡ Err NotLoaded → Denies command NotLoaded a m
+not_loaded command a m none gives o kept is =
+    ap command (nothing_kept o (is ∙ none)) ∙ gives

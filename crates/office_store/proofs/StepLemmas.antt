@@ -1,0 +1,27 @@
+-- One step of a transaction after another.
+use Rattle.std.proofs.Common.{Result, IsTrue}
+use Rattle.std.proofs.lemmas.Result.{on_ok_weaker}
+use Rattle.sqlite.specs.declared.error.Error.{Error}
+use Rattle.sqlite.specs.Held.{Held, state}
+use Rattle.sqlite.specs.State.{HasCleanDisk}
+use Rattle.sqlite.specs.Store.{Ghosts}
+use Rattle.office_tables.specs.Steps.{Changes, Makes, Within}
+use Rattle.office_tables.specs.Tables.{Tables, Stands}
+use Rattle.office_tables.proofs.Inside.{clean_before, makes_then}
+
+pub changes_then : {S : Type 0} (g : Ghosts S) (f h : Tables → Tables) (a b c : Held S)
+    (r : Result (Unit {0}) Error)
+    → (HasCleanDisk (state g b) → IsTrue a.in_transaction → Makes f (state g a) (state g b))
+    → Within (state g b) (state g c) → Changes g h b c r → Changes g (λ t. h (f t)) a c r
+changes_then g f h a b c r first within next clean inside =
+    let made = first (clean_before (state g b) (state g c) within clean) inside in
+    on_ok_weaker r (λ last. makes_then f h (state g a) (state g b) (state g c) made last)
+    (next clean made.0)
+
+-- the change by another name
+pub changes_as : {S : Type 0} (g : Ghosts S) (f k : Tables → Tables) (a c : Held S)
+    (r : Result (Unit {0}) Error)
+    → ((t : Tables) → Stands (state g c).now (f t) → Stands (state g c).now (k t))
+    → Changes g f a c r → Changes g k a c r
+changes_as g f k a c r same makes clean inside =
+    on_ok_weaker r (λ last. (last.0, λ t stands. same t (last.1 t stands))) (makes clean inside)
