@@ -1,7 +1,7 @@
 // A small machine, and readers and writers that come in pieces or fail.
 ghost use Rattle.std.specs.Prelude.{⊤};
 
-use office_http::{
+use office_requests::{
     Allow, Content, Machine, Payload, Reply, Request, ServeFault, Served, Status, serve,
     unavailable,
 };

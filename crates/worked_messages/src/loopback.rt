@@ -1,7 +1,7 @@
 // A connection over a socket of this machine.
 use crate::devices::Board;
 use crate::given::assert_same;
-use office_http::{End, Served, drain, serve};
+use office_requests::{End, Served, drain, serve};
 use std::alloc::Global;
 use std::io;
 use std::io::{Read, Write};

@@ -1,7 +1,7 @@
 // Messages of a connection: their replies, and how it ends.
 use crate::devices::{Board, Pieces, is_served_so, run, served, unheard};
 use crate::given::assert_same;
-use office_http::{End, ServeFault, Served};
+use office_requests::{End, ServeFault, Served};
 use std::alloc::{AllocError, Global};
 use std::process::Abort;
 use std::test::Fail;

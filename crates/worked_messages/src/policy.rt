@@ -1,7 +1,7 @@
 // Who asks, and who may ask for what.
 use crate::given::assert_same;
 use exam_terms::{DeptNo, ExamNo, PeriodNo, Place, RoomNo, StudentNo};
-use office_desk::{Body, Caller, Command, Denial, allowed, read_number};
+use office_policy::{Body, Caller, Command, Denial, allowed, read_number};
 use std::process::Abort;
 use std::test::Fail;
 

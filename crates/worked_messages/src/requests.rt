@@ -1,7 +1,7 @@
 // What requests ask for, and what their bodies say.
 use crate::given::assert_same;
-use office_desk::{Body, Command, Denial};
-use office_http::{
+use office_policy::{Body, Command, Denial};
+use office_requests::{
     Fault, FixedError, Page, Refusal, Reply, Request, Routes, allow, dept_body, fault_reply,
     place_body, read_request, text_body, unavailable,
 };

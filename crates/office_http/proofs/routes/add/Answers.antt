@@ -1,7 +1,0 @@
-use Rattle.std.proofs.Common.{sym}
-use Rattle.office_http.proofs.AddLemmas.{added}
-use Rattle.office_http.proofs.routes.add.Goals as goal
-
-pub returns-then-is_ok : goal.returns-then-is_ok
-returns-then-is_ok c =
-    added c.args.route.now c.args.page _ _ _ c.insert.ensures (sym c.if-is_ok.ensures.value)

@@ -1,7 +1,0 @@
-use Rattle.std.proofs.Common.{refl}
-use Rattle.office_http.specs.Table.{table}
-use Rattle.office_http.proofs.routes.all_routes.Goals as goal
-
-pub returns : goal.returns
-unfolding table
-returns c = rw (c.in_ok-add_all.ensures, c.new-router.ensures) refl

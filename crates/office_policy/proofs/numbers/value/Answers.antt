@@ -1,0 +1,31 @@
+use Rattle.std.proofs.Common.{arith}
+use Rattle.office_policy.proofs.DigitLemmas.{one_more, so_far}
+use Rattle.office_policy.proofs.numbers.value.Goals as goal
+
+-- one digit more keeps the number below 10 ^ 9
+pub overflow_mul-value : goal.overflow_mul-value
+overflow_mul-value c =
+    let more =
+    one_more c.args.digits.now c.loop-digit.digit-index c.loop-digit.value
+    c.requires.digits c.requires.few c.loop-digit-test.true c.loop-digit.invariant in
+    omega arith
+
+pub overflow_add-value : goal.overflow_add-value
+overflow_add-value c =
+    let more =
+    one_more c.args.digits.now c.loop-digit.digit-index c.loop-digit.value
+    c.requires.digits c.requires.few c.loop-digit-test.true c.loop-digit.invariant in
+    omega arith
+
+-- and it is what the digits up to here write
+pub loop-digit-preserved : goal.loop-digit-preserved
+loop-digit-preserved c =
+    let more =
+    one_more c.args.digits.now c.loop-digit.digit-index c.loop-digit.value
+    c.requires.digits c.requires.few c.loop-digit-test.true c.loop-digit.invariant in
+    omega (arith, more.same)
+
+pub returns-clause-within : goal.returns-clause-within
+returns-clause-within c =
+    so_far c.args.digits.now c.loop-digit.digit-index c.loop-digit.value
+    c.requires.digits c.requires.few c.loop-digit.invariant

@@ -1,0 +1,39 @@
+// Numbers of callers and paths.
+ghost use Rattle.std.specs.Prelude.{◌≡◌, ◌≤◌, true, length, IfSome};
+ghost use Rattle.std.specs.List.{list_all};
+ghost use Rattle.std.specs.Char.{is_ascii_digit};
+ghost use Rattle.std.specs.Str.Parse.{digits_value};
+ghost use Rattle.office_policy.specs.Numbers.{number_of};
+
+const MOST_DIGITS: usize = 9;
+
+/// The number that one to nine digits write; no other text is one. Leading zeros are allowed.
+pub fn read_number(text: &[u8]) -> Option<u32>
+    ensures number { result ≡ number_of text.now }
+    ensures within { IfSome result (λ n. n ≤ 999_999_999) }
+{
+    if text.is_empty() || text.len() > MOST_DIGITS || !are_digits(text) {
+        return None;
+    }
+    Some(value(text))
+}
+
+fn are_digits(text: &[u8]) -> bool
+    ensures { result ≡ list_all is_ascii_digit text.now }
+{
+    text.iter().all(|byte| byte.is_ascii_digit())
+}
+
+// The number that the digits write.
+fn value(digits: &[u8]) -> u32
+    requires digits { list_all is_ascii_digit digits.now ≡ true }
+    requires few { length digits.now ≤ 9 }
+    ensures number { result ≡ digits_value 10 digits.now }
+    ensures within { result ≤ 999_999_999 }
+{
+    let mut value: u32 = 0;
+    for digit in digits {
+        value = value * 10 + u32::from(*digit - b'0');
+    }
+    value
+}

@@ -1,0 +1,315 @@
+-- The search finds a row that takes the path, where there is one.
+use Rattle.std.proofs.Common.{◌≡◌, ◌<◌, ◌≤◌, ◌⊎◌, ℕ, zero, suc, Bool, true, false}
+use Rattle.std.proofs.Common.{not, ◌&&◌, ◌==◌, List, [], ◌∷◌, length, Option, Some}
+use Rattle.std.proofs.Common.{None, refl, sym, ap, subst, ◌∙◌, inl, inr, arith}
+use Rattle.std.proofs.lemmas.Bool.{eqb-true, eq-eqb}
+use Rattle.std.proofs.lemmas.Bool.Decides.{nat_tests}
+use Rattle.matchit.specs.Rows.{RowsOf, param_token}
+use Rattle.matchit.specs.Level.{IsText}
+use Rattle.matchit.specs.Seek.{slash, segment, has_slash, same_text, own, step, or_else}
+use Rattle.matchit.specs.Seek.{with_suffix, seek, first}
+use Rattle.office_requests.specs.Patterns.{rest_of_segment, takes}
+use Rattle.office_requests.specs.Pages.{IsIn, Finds}
+use Rattle.office_requests.proofs.Plain.{FindsNone, EndsSegment, ArePlain}
+use Rattle.office_requests.proofs.SeekLemmas.{AreTails, has_more, param_at, param_found, param_lost}
+use Rattle.office_requests.proofs.SeekLemmas.{param_last, param_slash, seek_end, seek_is, no_rest}
+
+flip : (x : Bool) → not x ≡ true → x ≡ false
+flip true h = cc
+flip false h = refl
+
+both : (x y : Bool) → (x && y) ≡ true → (x ≡ true) × (y ≡ true)
+both true y h = (refl, h)
+both false y h = cc
+
+module _ {K : Type 0} where
+  in_step : (b : ℕ) (rows : RowsOf K) (t : List ℕ) (k : K) → IsIn t k (step b rows) →
+      IsIn (b ∷ t) k rows
+  in_step b [] t k h = absurd h
+  in_step b (([], j) ∷ rows) t k h = inr (in_step b rows t k h)
+  in_step b ((x ∷ s, j) ∷ rows) t k h = go (x == b) refl (in_step b rows t k)
+    where
+      split : IsIn t k ((s, j) ∷ step b rows) → x ≡ b →
+          (IsIn t k (step b rows) → IsIn (b ∷ t) k rows) → IsIn (b ∷ t) k ((x ∷ s, j) ∷ rows)
+      split (inl here) e more = inl (let head = e in let tail = here.0 in cc, here.1)
+      split (inr there) e more = inr (more there)
+
+      go : (v : Bool) → (x == b) ≡ v → (IsIn t k (step b rows) → IsIn (b ∷ t) k rows) →
+          IsIn (b ∷ t) k ((x ∷ s, j) ∷ rows)
+      go true e more = split (rw e at h) (eqb-true x b e) more
+      go false e more = inr (more (rw e at h))
+
+  step_in : (b : ℕ) (rows : RowsOf K) (t : List ℕ) (k : K) → IsIn (b ∷ t) k rows →
+      IsIn t k (step b rows)
+  step_in b [] t k h = absurd h
+  step_in b (([], j) ∷ rows) t k (inl h) = absurd (let e = h.0 in cc)
+  step_in b (([], j) ∷ rows) t k (inr h) = step_in b rows t k h
+  step_in b ((x ∷ s, j) ∷ rows) t k (inl h) =
+      let head : x ≡ b = let e = h.0 in cc in
+      let tail : s ≡ t = let e = h.0 in cc in
+      rw (eq-eqb x b head) (inl (tail, h.1))
+  step_in b ((x ∷ s, j) ∷ rows) t k (inr h) = go (x == b) refl (step_in b rows t k h)
+    where
+      go : (v : Bool) → (x == b) ≡ v → IsIn t k (step b rows) →
+          IsIn t k (step b ((x ∷ s, j) ∷ rows))
+      go true e more = rw e (inr more)
+      go false e more = rw e more
+
+  plain_step : (b : ℕ) (rows : RowsOf K) → ArePlain rows → ArePlain (step b rows)
+  plain_step b [] good = tt
+  plain_step b (([], j) ∷ rows) good = plain_step b rows good.1
+  plain_step b ((x ∷ s, j) ∷ rows) good = go (x == b) refl (plain_step b rows good.1)
+    where
+      go : (v : Bool) → (x == b) ≡ v → ArePlain (step b rows) →
+          ArePlain (step b ((x ∷ s, j) ∷ rows))
+      go true e more = rw e (good.0.1, more)
+      go false e more = rw e more
+
+  tails_step : (rows : RowsOf K) → ArePlain rows → AreTails (step param_token rows)
+  tails_step [] good = tt
+  tails_step (([], j) ∷ rows) good = tails_step rows good.1
+  tails_step ((x ∷ s, j) ∷ rows) good = go (x == 256) refl (tails_step rows good.1) good.0.0
+    where
+      go : (v : Bool) → (x == 256) ≡ v → AreTails (step param_token rows) →
+          ((x < 256) ⊎ ((x ≡ 256) × EndsSegment s)) →
+          AreTails (step param_token ((x ∷ s, j) ∷ rows))
+      go true e more (inl small) = absurd (omega (arith, eqb-true x 256 e))
+      go true e more (inr is) = rw e (is.1, more)
+      go false e more good = rw e more
+
+  in_suffix : (w : List ℕ) (rows : RowsOf K) (t : List ℕ) (k : K) → IsIn t k (with_suffix w rows) →
+      IsIn t k rows
+  in_suffix w [] t k h = absurd h
+  in_suffix w ((s, j) ∷ rows) t k h = go (same_text (segment s) w) refl (in_suffix w rows t k)
+    where
+      split : IsIn t k ((s, j) ∷ with_suffix w rows) →
+          (IsIn t k (with_suffix w rows) → IsIn t k rows) → IsIn t k ((s, j) ∷ rows)
+      split (inl here) more = inl here
+      split (inr there) more = inr (more there)
+
+      go : (v : Bool) → same_text (segment s) w ≡ v →
+          (IsIn t k (with_suffix w rows) → IsIn t k rows) → IsIn t k ((s, j) ∷ rows)
+      go true e more = split (rw e at h) more
+      go false e more = inr (more (rw e at h))
+
+  plain_suffix : (w : List ℕ) (rows : RowsOf K) → ArePlain rows → ArePlain (with_suffix w rows)
+  plain_suffix w [] good = tt
+  plain_suffix w ((s, j) ∷ rows) good = go (same_text (segment s) w) refl
+      (plain_suffix w rows good.1)
+    where
+      go : (v : Bool) → same_text (segment s) w ≡ v → ArePlain (with_suffix w rows) →
+          ArePlain (with_suffix w ((s, j) ∷ rows))
+      go true e more = rw e (good.0, more)
+      go false e more = rw e more
+
+  more_in : (rows : RowsOf K) (x : ℕ) (t : List ℕ) (k : K) → IsIn (x ∷ t) k rows →
+      has_more rows ≡ true
+  more_in [] x t k h = absurd h
+  more_in (([], j) ∷ rows) x t k (inl h) = absurd (let e = h.0 in cc)
+  more_in (([], j) ∷ rows) x t k (inr h) = more_in rows x t k h
+  more_in ((y ∷ s, j) ∷ rows) x t k h = refl
+
+  suffix_in : (rows : RowsOf K) (x : ℕ) (t : List ℕ) (k : K) → AreTails rows → IsIn (x ∷ t) k rows →
+      IsIn (x ∷ t) k (with_suffix (47 ∷ []) rows)
+  suffix_in [] x t k good h = absurd h
+  suffix_in (([], j) ∷ rows) x t k good (inl h) = absurd (let e = h.0 in cc)
+  suffix_in (([], j) ∷ rows) x t k good (inr h) = suffix_in rows x t k good.1 h
+  suffix_in ((y ∷ s, j) ∷ rows) x t k good (inl h) =
+      rw good.0 (inl (ap (λ (z : ℕ). z ∷ s) (sym good.0) ∙ h.0, h.1))
+  suffix_in ((y ∷ s, j) ∷ rows) x t k good (inr h) = rw good.0 (inr (suffix_in rows x t k good.1 h))
+
+  own_in : (rows : RowsOf K) (k : K) → own rows ≡ Some k → IsIn [] k rows
+  own_in [] k h = cc
+  own_in (([], j) ∷ rows) k h = inl (refl, cc)
+  own_in ((x ∷ s, j) ∷ rows) k h = inr (own_in rows k h)
+
+  own_none : (rows : RowsOf K) (k : K) → own rows ≡ None → IsIn [] k rows → ⊥
+  own_none [] k h i = i
+  own_none (([], j) ∷ rows) k h i = cc
+  own_none ((x ∷ s, j) ∷ rows) k h (inl i) = absurd (let e = i.0 in cc)
+  own_none ((x ∷ s, j) ∷ rows) k h (inr i) = own_none rows k h i
+
+rest_text : (path : List ℕ) → IsText path → IsText (rest_of_segment path)
+rest_text [] h = tt
+rest_text (b ∷ path) h = go (b == 47) refl (rest_text path h.1)
+  where
+    go : (v : Bool) → (b == 47) ≡ v → IsText (rest_of_segment path) →
+        IsText (rest_of_segment (b ∷ path))
+    go true e more = rw e h
+    go false e more = rw e more
+
+rest_shorter : (path : List ℕ) → length (rest_of_segment path) ≤ length path
+rest_shorter [] = omega arith
+rest_shorter (b ∷ path) = go (b == 47) refl (rest_shorter path)
+  where
+    go : (v : Bool) → (b == 47) ≡ v → length (rest_of_segment path) ≤ length path →
+        length (rest_of_segment (b ∷ path)) ≤ suc (length path)
+    go true e more = rw e (omega arith)
+    go false e more = rw e (omega arith)
+
+rest_some : (path : List ℕ) → has_slash path ≡ true → 0 < length (rest_of_segment path)
+rest_some [] h = cc
+rest_some (b ∷ path) h = go (b == 47) refl (rest_some path)
+  where
+    go : (v : Bool) → (b == 47) ≡ v → (has_slash path ≡ true → 0 < length (rest_of_segment path)) →
+        0 < length (rest_of_segment (b ∷ path))
+    go true e more = rw e (omega arith)
+    go false e more = rw e (more (rw e at h))
+
+module _ (K : Type 0) where
+  abbrev Sound : ℕ → Type 0
+  Sound n = (rows : RowsOf K) (path : List ℕ) (k : K) → length path ≤ n → IsText path →
+      ArePlain rows → seek 0 rows path ≡ Some k → Finds rows path k
+
+  sound_end : (rows : RowsOf K) (k : K) → seek 0 rows [] ≡ Some k → Finds rows [] k
+  sound_end rows k h = record {
+    pattern = [];
+    is_in = own_in rows k (sym (seek_end rows)
+        ∙ h);
+    takes_it = refl;
+  }
+
+  sound_literal : (n : ℕ) → Sound n → (rows : RowsOf K) (b : ℕ) (path : List ℕ) (k : K) →
+      length path ≤ n → IsText (b ∷ path) → ArePlain rows → seek 0 (step b rows) path ≡ Some k →
+      Finds rows (b ∷ path) k
+  sound_literal n more rows b path k short text good h =
+      let found = more (step b rows) path k short text.1 (plain_step b rows good) h in
+      let byte : b == 256 ≡ false = grind (arith, nat_tests, text.0) in
+      let same : b == b ≡ true = eq-eqb b b refl in
+      record {
+        pattern = b ∷ found.pattern;
+        is_in = in_step b rows found.pattern k found.is_in;
+        takes_it = rw (byte, same) found.takes_it;
+      }
+
+  sound_param : (n : ℕ) → Sound n → (rows : RowsOf K) (b : ℕ) (path : List ℕ) (k : K) →
+      length path ≤ n → IsText (b ∷ path) → ArePlain rows →
+      param_at (step param_token rows) b path ≡ Some k → Finds rows (b ∷ path) k
+  sound_param n more rows b path k short text good h = go (b == 47) refl
+    where
+      good_tails : AreTails (step param_token rows)
+      good_tails = tails_step rows good
+
+      by_more : (v : Bool) → has_more (step param_token rows) ≡ v → b == 47 ≡ false →
+          has_slash path ≡ true → Finds rows (b ∷ path) k
+      by_more true m e s =
+          let found = more (with_suffix (47 ∷ []) (step param_token rows)) (rest_of_segment path) k
+          (omega (arith, rest_shorter path)) (rest_text path text.1)
+          (plain_suffix (47 ∷ []) (step param_token rows) (plain_step param_token rows good))
+          (sym (param_found (step param_token rows) b path good_tails e s m) ∙ h) in
+          record {
+            pattern = param_token ∷ found.pattern;
+            is_in = in_step param_token rows found.pattern k
+                (in_suffix (47 ∷ []) (step param_token rows) found.pattern k found.is_in);
+            takes_it = rw e found.takes_it;
+          }
+      by_more false m e s = absurd (let f = sym
+          (param_lost (step param_token rows) b path good_tails e s m) ∙ h in cc)
+
+      by_slash : (v : Bool) → has_slash path ≡ v → b == 47 ≡ false → Finds rows (b ∷ path) k
+      by_slash true s e = by_more (has_more (step param_token rows)) refl e s
+      by_slash false s e = record {
+        pattern = param_token ∷ [];
+        is_in = in_step param_token rows [] k
+            (own_in (step param_token rows) k
+            (sym (param_last (step param_token rows) b path good_tails e s) ∙ h));
+        takes_it = rw (e, no_rest path s) refl;
+      }
+
+      go : (v : Bool) → (b == 47) ≡ v → Finds rows (b ∷ path) k
+      go true e = absurd (let f = sym (param_slash (step param_token rows) b path good_tails e)
+          ∙ h in cc)
+      go false e = by_slash (has_slash path) refl e
+
+  sound : (n : ℕ) → Sound n
+  sound n rows [] k short text good h = sound_end rows k h
+  sound zero rows (b ∷ path) k short text good h = absurd (omega arith)
+  sound (suc n) rows (b ∷ path) k short text good h = go (seek 0 (step b rows) path) refl (sound n)
+    where
+      go : (o : Option K) → seek 0 (step b rows) path ≡ o → Sound n → Finds rows (b ∷ path) k
+      go None e more = sound_param n more rows b path k (omega arith) text good
+          (let is = seek_is rows b path good in let is2 : or_else (seek 0 (step b rows) path)
+          (param_at (step param_token rows) b path) ≡ Some k = sym is ∙ h in rw e at is2)
+      go (Some j) e more = sound_literal n more rows b path k (omega arith) text good
+          (let is2 : or_else (seek 0 (step b rows) path) (param_at (step param_token rows) b path)
+          ≡ Some k = sym (seek_is rows b path good) ∙ h in e ∙ (rw e at is2))
+
+  abbrev Complete : ℕ → Type 0
+  Complete n = (rows : RowsOf K) (path : List ℕ) → length path ≤ n → ArePlain rows →
+      seek 0 rows path ≡ None → FindsNone rows path
+
+  complete_end : (rows : RowsOf K) → seek 0 rows [] ≡ None → FindsNone rows []
+  complete_end rows h [] k i t = own_none rows k (sym (seek_end rows) ∙ h) i
+  complete_end rows h (x ∷ s) k i t = cc
+
+  -- both ways of going on found nothing
+  neither : (a c : Option K) → or_else a c ≡ None → (a ≡ None) × (c ≡ None)
+  neither None c h = (refl, h)
+  neither (Some k) c h = cc
+
+  complete_param : (n : ℕ) → Complete n → (rows : RowsOf K) (b : ℕ) (path : List ℕ) →
+      length path ≤ n → ArePlain rows → param_at (step param_token rows) b path ≡ None
+      → (s : List ℕ) (k : K) → IsIn s k (step param_token rows) → b == 47 ≡ false →
+      takes s (rest_of_segment path) ≡ true → ⊥
+  complete_param n more rows b path short good h s k i e t = go (has_slash path) refl s i t
+    where
+      good_tails : AreTails (step param_token rows)
+      good_tails = tails_step rows good
+
+      ends : (s rest : List ℕ) → rest ≡ [] → takes s rest ≡ true → s ≡ []
+      ends [] rest r t = refl
+      ends (x ∷ s) rest r t = absurd (let f : false ≡ true = rw r at t in cc)
+
+      begun : (rest : List ℕ) → 0 < length rest → takes [] rest ≡ true → ⊥
+      begun [] p t = omega arith
+      begun (c ∷ rest) p t = cc
+
+      go : (v : Bool) → has_slash path ≡ v → (s : List ℕ) → IsIn s k (step param_token rows) →
+          takes s (rest_of_segment path) ≡ true → ⊥
+      go true slashed [] i t = begun (rest_of_segment path) (rest_some path slashed) t
+      go true slashed (x ∷ s) i t =
+          more (with_suffix (47 ∷ []) (step param_token rows)) (rest_of_segment path)
+          (omega (arith, rest_shorter path))
+          (plain_suffix (47 ∷ []) (step param_token rows) (plain_step param_token rows good))
+          (sym (param_found (step param_token rows) b path good_tails e slashed
+          (more_in (step param_token rows) x s k i)) ∙ h)
+          (x ∷ s) k (suffix_in (step param_token rows) x s k good_tails i) t
+      go false slashed s i t =
+          let none = sym (param_last (step param_token rows) b path good_tails e slashed) ∙ h in
+          own_none (step param_token rows) k none
+          (subst (λ (z : List ℕ). IsIn z k (step param_token rows))
+          (ends s (rest_of_segment path) (no_rest path slashed) t) i)
+
+  complete : (n : ℕ) → Complete n
+  complete n rows [] short good h s k i t = complete_end rows h s k i t
+  complete zero rows (b ∷ path) short good h s k i t =
+      absurd (let none : suc (length path) ≤ 0 = short in omega arith)
+  complete (suc n) rows (b ∷ path) short good h [] k i t = cc
+  complete (suc n) rows (b ∷ path) short good h (x ∷ s) k i t = go (x == 256) refl (complete n)
+    where
+      none : (seek 0 (step b rows) path ≡ None) × (param_at (step param_token rows) b path ≡ None)
+      none = neither _ _ (sym (seek_is rows b path good) ∙ h)
+
+      go : (v : Bool) → (x == 256) ≡ v → Complete n → ⊥
+      go true e more =
+          let parts = both _ _ (let t2 : (not (b == slash) && takes s (rest_of_segment path))
+          ≡ true = rw e at t in t2) in
+          let open_byte : b == 47 ≡ false = flip (b == 47) parts.0 in
+          let i2 = subst (λ (z : ℕ). IsIn (z ∷ s) k rows) (eqb-true x 256 e) i in
+          complete_param n more rows b path (omega arith) good none.1 s k
+          (step_in param_token rows s k i2) open_byte parts.1
+      go false e more =
+          let parts = both _ _ (let t2 : ((x == b) && takes s path) ≡ true = rw e at t in t2) in
+          let i2 = subst (λ (z : ℕ). IsIn (z ∷ s) k rows) (eqb-true x b parts.0) i in
+          more (step b rows) path (omega arith) (plain_step b rows good) none.0 s k
+          (step_in b rows s k i2) parts.1
+
+  -- what `first` finds takes the path
+  pub first_found : (rows : RowsOf K) (path : List ℕ) (k : K) → IsText path → ArePlain rows →
+      first rows path ≡ Some k → Finds rows path k
+  first_found rows path k text good h = sound (length path) rows path k (omega arith) text good h
+
+  -- where it finds nothing, no row takes the path
+  pub first_none : (rows : RowsOf K) (path : List ℕ) → ArePlain rows → first rows path ≡ None →
+      FindsNone rows path
+  first_none rows path good h = complete (length path) rows path (omega arith) good h

@@ -1,0 +1,109 @@
+-- No two pages take one path.
+use Rattle.std.proofs.Common.{◌≡◌, ◌<◌, ◌&&◌, ◌==◌, not, nat_lt, Bool, true, false, List, ℕ}
+use Rattle.std.proofs.Common.{◌∷◌, [], refl, sym, ap, subst, ◌∙◌, inl, inr, arith}
+use Rattle.std.specs.Prelude.{if◌then◌else◌}
+use Rattle.std.proofs.lemmas.Bool.{eqb-true}
+use Rattle.std.proofs.lemmas.Bool.Decides.{nat_tests}
+use Rattle.matchit.specs.Rows.{param_token}
+use Rattle.matchit.specs.Seek.{slash}
+use Rattle.office_requests.specs.declared.pages.Page.{Page}
+use Rattle.office_requests.specs.Patterns.{takes, rest_of_segment}
+use Rattle.office_requests.specs.Pages.{IsIn}
+use Rattle.office_requests.specs.Pages.{pages, Leads}
+
+-- two patterns part at a byte that each has, or where one ends
+abbrev apart : List ℕ → List ℕ → Bool
+apart [] [] = false
+apart [] (y ∷ t) = true
+apart (x ∷ s) [] = true
+apart (x ∷ s) (y ∷ t) =
+    if x == y then apart s t else (nat_lt x param_token && nat_lt y param_token)
+
+abbrev apart_from : List ℕ → List (List ℕ × Page) → Bool
+apart_from s [] = true
+apart_from s (row ∷ rows) = apart s row.0 && apart_from s rows
+
+abbrev all_apart : List (List ℕ × Page) → Bool
+all_apart [] = true
+all_apart (row ∷ rows) = apart_from row.0 rows && all_apart rows
+
+both : (x y : Bool) → (x && y) ≡ true → (x ≡ true) × (y ≡ true)
+both true y h = (refl, h)
+both false y h = cc
+
+-- a byte of a pattern takes that byte
+literal : (x : ℕ) (s : List ℕ) (b : ℕ) (path : List ℕ) → x < 256 → takes (x ∷ s) (b ∷ path) ≡ true →
+    x ≡ b
+literal x s b path small h =
+    let byte : x == 256 ≡ false = grind (arith, nat_tests) in
+    let h2 : ((x == b) && takes s path) ≡ true = rw byte at h in
+    eqb-true x b (both _ _ h2).0
+
+apart_takes : (s t path : List ℕ) → apart s t ≡ true → takes s path ≡ true → takes t path ≡ true → ⊥
+apart_takes [] [] path a h k = cc
+apart_takes [] (y ∷ t) [] a h k = cc
+apart_takes [] (y ∷ t) (b ∷ path) a h k = cc
+apart_takes (x ∷ s) [] [] a h k = cc
+apart_takes (x ∷ s) [] (b ∷ path) a h k = cc
+apart_takes (x ∷ s) (y ∷ t) [] a h k = cc
+apart_takes (x ∷ s) (y ∷ t) (b ∷ path) a h k =
+    go (x == y) refl (apart_takes s t (rest_of_segment path)) (apart_takes s t path)
+  where
+    kind : (v : Bool) → (x == 256) ≡ v → x ≡ y → apart s t ≡ true
+        → (apart s t ≡ true → takes s (rest_of_segment path) ≡ true →
+        takes t (rest_of_segment path) ≡ true → ⊥)
+        → (apart s t ≡ true → takes s path ≡ true → takes t path ≡ true → ⊥) → ⊥
+    kind true e same a2 later next =
+        let h2 : (not (b == slash) && takes s (rest_of_segment path)) ≡ true = rw e at h in
+        let e2 : y == 256 ≡ true = ap (λ (z : ℕ). z == 256) (sym same) ∙ e in
+        let k2 : (not (b == slash) && takes t (rest_of_segment path)) ≡ true = rw e2 at k in
+        later a2 (both _ _ h2).1 (both _ _ k2).1
+    kind false e same a2 later next =
+        let h2 : ((x == b) && takes s path) ≡ true = rw e at h in
+        let e2 : y == 256 ≡ false = ap (λ (z : ℕ). z == 256) (sym same) ∙ e in
+        let k2 : ((y == b) && takes t path) ≡ true = rw e2 at k in
+        next a2 (both _ _ h2).1 (both _ _ k2).1
+
+    go : (v : Bool) → (x == y) ≡ v
+        → (apart s t ≡ true → takes s (rest_of_segment path) ≡ true →
+        takes t (rest_of_segment path) ≡ true → ⊥)
+        → (apart s t ≡ true → takes s path ≡ true → takes t path ≡ true → ⊥) → ⊥
+    go true e later next = kind (x == 256) refl (eqb-true x y e) (rw e at a) later next
+    go false e later next =
+        let small : (nat_lt x 256 && nat_lt y 256) ≡ true = rw e at a in
+        let parts = both (nat_lt x 256) (nat_lt y 256) small in
+        let lx : x < 256 = grind (arith, nat_tests, parts.0) in
+        let ly : y < 256 = grind (arith, nat_tests, parts.1) in
+        let xb = literal x s b path lx h in
+        let yb = literal y t b path ly k in
+        let f : x == y ≡ true = grind (arith, nat_tests, xb, yb) in
+        let g : true ≡ false = sym f ∙ e in cc
+
+apart_in : (rows : List (List ℕ × Page)) (s t path : List ℕ) (q : Page) → apart_from s rows ≡ true →
+    IsIn t q rows → takes s path ≡ true → takes t path ≡ true → ⊥
+apart_in [] s t path q a i h k = i
+apart_in (row ∷ rows) s t path q a (inl i) h k =
+    apart_takes s row.0 path (both _ _ a).0 h
+    (subst (λ (z : List ℕ). takes z path ≡ true) (sym i.0) k)
+apart_in (row ∷ rows) s t path q a (inr i) h k =
+    apart_in rows s t path q (both (apart s row.0) _ a).1 i h k
+
+one_of : (rows : List (List ℕ × Page)) (s t path : List ℕ) (p q : Page) → all_apart rows ≡ true →
+    IsIn s p rows → IsIn t q rows → takes s path ≡ true → takes t path ≡ true → p ≡ q
+one_of [] s t path p q a i j h k = absurd i
+one_of (row ∷ rows) s t path p q a (inl i) (inl j) h k = sym i.1 ∙ j.1
+one_of (row ∷ rows) s t path p q a (inl i) (inr j) h k =
+    absurd (apart_in rows row.0 t path q (both (apart_from row.0 rows) _ a).0 j
+    (subst (λ (z : List ℕ). takes z path ≡ true) (sym i.0) h) k)
+one_of (row ∷ rows) s t path p q a (inr i) (inl j) h k =
+    absurd (apart_in rows row.0 s path p (both (apart_from row.0 rows) _ a).0 i
+    (subst (λ (z : List ℕ). takes z path ≡ true) (sym j.0) k) h)
+one_of (row ∷ rows) s t path p q a (inr i) (inr j) h k =
+    one_of rows s t path p q (both (apart_from row.0 rows) _ a).1 i j h k
+
+pages_apart : all_apart pages ≡ true
+pages_apart = refl
+
+pub one_page : (path : List ℕ) (p q : Page) → Leads p path → Leads q path → p ≡ q
+one_page path p q x y = one_of pages x.pattern y.pattern path p q pages_apart x.is_in y.is_in
+    x.takes_it y.takes_it

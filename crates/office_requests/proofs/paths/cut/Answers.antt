@@ -1,0 +1,10 @@
+use Rattle.std.proofs.Common.{sym, arith, rules}
+use Rattle.std.proofs.lemmas.List.{take_rest}
+use Rattle.office_requests.proofs.PathLemmas.{behind_at}
+use Rattle.office_requests.proofs.paths.cut.Goals as goal
+
+-- what is left is behind the first slash
+pub returns-then-byte-eq-SLASH-clause-behind : goal.returns-then-byte-eq-SLASH-clause-behind
+returns-then-byte-eq-SLASH-clause-behind c =
+    rw take_rest
+    (sym (behind_at c.args.path.now c.loop-i.i (omega arith) (search rules) c.loop-i.invariant))

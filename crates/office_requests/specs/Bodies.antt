@@ -1,0 +1,66 @@
+-- What bodies say: texts as they are, and JSON objects of just the keys that are asked for.
+use Rattle.std.specs.Prelude.{ℕ, ◌+◌, ◌==◌, nat_le, nat_lt, if◌then◌else◌, List, length, codes}
+use Rattle.std.specs.Borrow.{Bor}
+use Rattle.std.specs.Prelude.{Option, Some, None, option_and_then, option_map}
+use Rattle.std.specs.Str.{is_utf8}
+use Rattle.serde_json.specs.Data.{Data, Members, no_members, member}
+use Rattle.serde_json.specs.Read.{read}
+use Rattle.serde_json.specs.Find.{get, as_number, as_u64, as_object}
+use Rattle.exam_terms.specs.declared.place.Place.{Place}
+use Rattle.office_policy.specs.declared.command.Body.{Body}
+use Rattle.office_policy.specs.declared.command.Body.TheVariants.{Given, Bad, Long}
+
+-- the JSON that the bytes are
+abbrev pub json_in : List ℕ → Option Data
+json_in bytes = if is_utf8 bytes then read bytes else None
+
+abbrev pub count : Members → ℕ
+count no_members = 0
+count (member k d ms) = count ms + 1
+
+-- how many members an object has
+abbrev pub members_count : Data → Option ℕ
+members_count d = option_map count (as_object d)
+
+abbrev pub at_most : ℕ → ℕ → Option ℕ
+at_most most n = if nat_le n most then Some n else None
+
+-- the number under a key, where it is a whole one of at most that much
+abbrev pub number_at : List ℕ → ℕ → Data → Option ℕ
+number_at key most d =
+    option_and_then (at_most most)
+    (option_and_then as_u64 (option_and_then as_number (get key d)))
+
+-- what an object of so many members says
+abbrev pub of_members : {A : Type 0} → ℕ → Option A → Data → Option A
+of_members size says d =
+    option_and_then (λ n. if n == size then says else None) (members_count d)
+
+-- an object with just the members period and room
+abbrev pub place_in : Data → Option Place
+place_in d =
+    of_members 2
+    (option_and_then (λ p. option_map (λ r. record { period = p; room = r })
+    (number_at (codes "room") 999999999 d)) (number_at (codes "period") 999999999 d)) d
+
+-- an object with just the member dept
+abbrev pub dept_in : Data → Option ℕ
+dept_in d = of_members 1 (number_at (codes "dept") 999 d) d
+
+-- what was found is given, and nothing else will do
+abbrev pub given_or_bad : {A : Type 0} → Option A → Body A
+given_or_bad (Some x) = Given x
+given_or_bad None = Bad
+
+-- a body of more than 1,048,576 bytes is too long, whatever it says
+abbrev pub unless_long : {A : Type 0} → List ℕ → Body A → Body A
+unless_long bytes body = if nat_lt 1048576 (length bytes) then Long else body
+
+abbrev pub text_body : Bor (List ℕ) → Body (Bor (List ℕ))
+text_body text = unless_long text.now (Given text)
+
+abbrev pub place_body : List ℕ → Body Place
+place_body bytes = unless_long bytes (given_or_bad (option_and_then place_in (json_in bytes)))
+
+abbrev pub dept_body : List ℕ → Body ℕ
+dept_body bytes = unless_long bytes (given_or_bad (option_and_then dept_in (json_in bytes)))

@@ -1,0 +1,23 @@
+-- The segments of a path, and the numbers in it.
+use Rattle.std.specs.Prelude.{ℕ, zero, suc, ◌==◌, if◌then◌else◌, List, [], ◌∷◌, Option}
+use Rattle.matchit.specs.Seek.{slash}
+use Rattle.office_policy.specs.Numbers.{number_of}
+
+-- what is before the first slash
+abbrev pub first_segment : List ℕ → List ℕ
+first_segment [] = []
+first_segment (b ∷ path) = if b == slash then [] else b ∷ first_segment path
+
+-- what is behind it
+abbrev pub behind_slash : List ℕ → List ℕ
+behind_slash [] = []
+behind_slash (b ∷ path) = if b == slash then path else behind_slash path
+
+-- a segment of a path, counted from 0
+abbrev pub segment : ℕ → List ℕ → List ℕ
+segment zero path = first_segment path
+segment (suc place) path = segment place (behind_slash path)
+
+-- the number that a segment is
+abbrev pub number_in : ℕ → List ℕ → Option ℕ
+number_in place path = number_of (segment place path)

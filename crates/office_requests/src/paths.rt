@@ -1,0 +1,40 @@
+// The segments of a path.
+ghost use Rattle.std.specs.Prelude.{◌≡◌};
+ghost use Rattle.office_requests.specs.Paths.{first_segment, behind_slash, segment, number_in};
+
+use office_policy::read_number;
+
+const SLASH: u8 = b'/';
+
+/// The number that a segment of the path is; segments are counted from 0, and before the path's
+/// first slash there is an empty one.
+pub(crate) fn number_in(path: &[u8], place: u32) -> Option<u32>
+    ensures { result ≡ number_in place path.now }
+{
+    read_number(segment(path, place))
+}
+
+#[tactic(auto, using(crate::proofs::PathLemmas::segment_later))]
+fn segment(path: &[u8], place: u32) -> &[u8]
+    ensures { result.now ≡ segment place path.now }
+{
+    let (first, others) = cut(path);
+    if place == 0 {
+        return first;
+    }
+    segment(others, place - 1)
+}
+
+// What is before the first slash, and what is behind it.
+#[tactic(auto, using(crate::proofs::PathLemmas::slash_facts))]
+fn cut(path: &[u8]) -> (&[u8], &[u8])
+    ensures first { result.0.now ≡ first_segment path.now }
+    ensures behind { result.1.now ≡ behind_slash path.now }
+{
+    for (i, byte) in path.iter().enumerate() {
+        if *byte == SLASH {
+            return (&path[..i], &path[i + 1..]);
+        }
+    }
+    (path, &path[path.len()..])
+}

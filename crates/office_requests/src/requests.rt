@@ -1,0 +1,164 @@
+// Reading a request, as far as nothing that is stored is looked at.
+ghost use Rattle.std.specs.Prelude.{◌≡◌, option_copied};
+ghost use Rattle.office_messages.specs.Reply.{plain_reply};
+ghost use Rattle.office_requests.specs.Methods.{verb_of};
+ghost use Rattle.office_requests.specs.Resources.{resource_of};
+ghost use Rattle.office_requests.specs.Requests.{caller_in, her_page, her_command};
+ghost use Rattle.office_requests.specs.Requests.{staff_command, asked_by};
+ghost use Rattle.office_requests.specs.Requests.{reading, GivesAsked, GivesCommand};
+ghost use Rattle.office_requests.specs.Requests.{not_allowed, refusal_reply};
+
+use crate::commands::command_of;
+use crate::methods::{Verb, allow};
+use crate::pages::Page;
+use crate::resources::{Resource, resource_at};
+use crate::routes::Routes;
+use crate::texts::FixedError;
+use office_policy::{Caller, Command, Denial};
+use office_messages::{Allow, Reply, Request, unavailable};
+use std::alloc::Global;
+
+/// Who asks, and for what.
+#[derive(Clone, Copy)]
+pub struct Asked<'a> {
+    pub caller: Caller,
+    pub command: Command<'a>,
+}
+
+/// Why a request is refused without a look at what is stored, in the order in which that is judged.
+#[derive(Clone, Copy, Debug, PartialEq, Eq)]
+pub enum Refusal {
+    /// The header names no caller.
+    Caller,
+    /// A candidate asks for anything but her own three pages: denial P1.
+    Candidate,
+    /// No page has the path.
+    Path,
+    /// The page hasn't the method.
+    Method(Page),
+    /// The memory to read a body was refused.
+    NoMemory,
+}
+
+impl Refusal {
+    /// The reply to it. It takes no memory.
+    pub fn reply(self) -> Reply
+        ensures { plain_reply result ≡ refusal_reply self }
+    {
+        match self {
+            Refusal::Caller => FixedError::Caller.reply(),
+            Refusal::Candidate => FixedError::Denied(Denial::P1).reply(),
+            Refusal::Path => FixedError::Path.reply(),
+            Refusal::Method(page) => not_allowed(page),
+            Refusal::NoMemory => unavailable(),
+        }
+    }
+}
+
+// The reply where the page hasn't the method: it lists those that it has.
+fn not_allowed(page: Page) -> Reply
+    ensures { plain_reply result ≡ not_allowed page }
+{
+    let methods = allow(page);
+    Reply {
+        allow: Some(Allow { methods }),
+        ..FixedError::Method.reply()
+    }
+}
+
+/// Who asks, and for what: caller, a candidate's pages, path, method, in this order. A body that
+/// is too long or doesn't read is part of the command.
+#[tactic(auto, using(crate::proofs::RequestLemmas::asked_is_ok))]
+pub fn read_request<'a>(
+    alloc: Global,
+    routes: &Routes,
+    request: &Request<'a>,
+) -> Result<Asked<'a>, Refusal>
+    ensures { GivesAsked (reading request.now.method.now request.now.target.now
+        (option_copied request.now.caller) request.now.body) result }
+{
+    let Some(caller) = caller_in(request.caller) else {
+        return Err(Refusal::Caller);
+    };
+    match asked_by(alloc, routes, &caller, request) {
+        Ok(command) => Ok(Asked { caller, command }),
+        Err(refusal) => Err(refusal),
+    }
+}
+
+fn caller_in(value: Option<&[u8]>) -> Option<Caller>
+    ensures { result ≡ caller_in (option_copied value.entry) }
+{
+    Caller::read(value?)
+}
+
+// What that caller asks for. A candidate may ask for her own pages alone.
+fn asked_by<'a>(
+    alloc: Global,
+    routes: &Routes,
+    caller: &Caller,
+    request: &Request<'a>,
+) -> Result<Command<'a>, Refusal>
+    ensures { GivesCommand (asked_by caller.now (verb_of request.now.method.now)
+        request.now.target.now request.now.body) result }
+{
+    let verb = Verb::read(request.method);
+    match caller {
+        Caller::Cand(_) => match her_command(routes, verb, request.target) {
+            Some(command) => Ok(command),
+            None => Err(Refusal::Candidate),
+        },
+        _ => staff_command(alloc, routes, verb, request.target, request.body),
+    }
+}
+
+fn her_command<'a>(routes: &Routes, verb: Verb, target: &str) -> Option<Command<'a>>
+    ensures { result ≡ her_command verb target.now }
+{
+    match verb {
+        Verb::Get => her_page(resource_of(routes, target)?),
+        _ => None,
+    }
+}
+
+fn her_page<'a>(resource: Resource) -> Option<Command<'a>>
+    ensures { result ≡ her_page resource }
+{
+    match resource {
+        Resource::Me => Some(Command::Me),
+        Resource::MyExam(exam) => Some(Command::MyExam(exam)),
+        Resource::MyPenalty => Some(Command::MyPenalty),
+        _ => None,
+    }
+}
+
+fn resource_of(routes: &Routes, target: &str) -> Option<Resource>
+    ensures { result ≡ resource_of target.now }
+{
+    resource_at(routes.page(target)?, target.as_bytes())
+}
+
+// What the office or a department asks for.
+fn staff_command<'a>(
+    alloc: Global,
+    routes: &Routes,
+    verb: Verb,
+    target: &str,
+    body: &'a [u8],
+) -> Result<Command<'a>, Refusal>
+    ensures { GivesCommand (staff_command verb target.now body.entry) result }
+{
+    let Some(page) = routes.page(target) else {
+        return Err(Refusal::Path);
+    };
+    let Some(resource) = resource_at(page, target.as_bytes()) else {
+        return Err(Refusal::Path);
+    };
+    let Ok(command) = command_of(alloc, verb, resource, body) else {
+        return Err(Refusal::NoMemory);
+    };
+    match command {
+        Some(command) => Ok(command),
+        None => Err(Refusal::Method(page)),
+    }
+}
