@@ -148,6 +148,7 @@ CASES = [
     unloaded("a second load", "term.db", "small.exam", b"store fault 1"),
     unloaded("a second load, of a faulty instance", "term.db", "april.exam",
              b"instance line 8: fault 5"),
+    unloaded("an empty instance to load", "spring.db", "empty.exam", b"instance line 1: fault 2"),
     load("the smallest instance in an empty file", "empty.db", "smallest.exam", 1, 0, 1, 1),
     unloaded("a faulty instance", "spring.db", "five.exam", b"instance line 1: fault 3"),
     load("a right instance after a faulty one", "spring.db", "small.exam", 4, 6, 4, 2),

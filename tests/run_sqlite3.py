@@ -2,8 +2,8 @@
 """run_sqlite3.py PROGRAM: the databases of the program beside the stock command sqlite3.
 
 What was loaded is read by sqlite3, and held against docs/FORMATS.md and the small example; a
-database that sqlite3 made is no office's. A failing case is printed with what was expected and
-what came, and the last line counts the cases.
+database that sqlite3 made, or changed so that it stands for no office, is refused. A failing case
+is printed with what was expected and what came, and the last line counts the cases.
 """
 import pathlib
 import subprocess
@@ -22,6 +22,29 @@ INSTANCE = ("[Exams:4]", "120", "90", "120", "60", "[Periods:4]", "15:04:2005, 0
             "[InstitutionalWeightings]", "TWOINAROW,7", "TWOINADAY,5", "PERIODSPREAD,3",
             "NONMIXEDDURATIONS,10", "FRONTLOAD,1,2,4")
 PAIRS = ("1|0", "1|3", "2|0", "2|1", "3|1", "3|2")
+# What other commands store: an owner of exam 2, and the small solution as draft 3.
+DRAFTED = ("INSERT INTO owner VALUES (2, 999)",
+           "INSERT INTO draft VALUES (3, 7, 5, 3, 0, 0, 15, 7)",
+           "INSERT INTO slot VALUES (3, 0, 0, 0), (3, 1, 1, 0), (3, 2, 3, 1), (3, 3, 2, 0)")
+# An office is found, and has a session already; or what is found is no office's.
+FOUND, REFUSED = ((1, b"", b"examoffice: store fault %d\n" % fault) for fault in (1, 9))
+# What a statement makes of that office.
+CHANGES = {
+    "UPDATE owner SET dept = 4": FOUND,
+    "UPDATE owner SET dept = 1000": REFUSED,
+    "UPDATE owner SET exam = 4": REFUSED,
+    "UPDATE meta SET published = 1": REFUSED,
+    "UPDATE meta SET instance = X'00'": REFUSED,
+    "INSERT INTO enrol (student, exam) VALUES (1, 4)": REFUSED,
+    "INSERT INTO enrol (student, exam) VALUES (9, 3)": FOUND,
+    "UPDATE draft SET mixed = mixed + 1": REFUSED,
+    "UPDATE draft SET no = 9": REFUSED,
+    "UPDATE slot SET period = 4 WHERE exam = 0": REFUSED,
+    "DELETE FROM draft": REFUSED,
+    "DROP TABLE batch": REFUSED,
+    "CREATE TABLE more (x INTEGER)": REFUSED,
+    "INSERT INTO batch (no, bytes, added, dropped, unchanged) VALUES (1, x'', 0, 0, 0)": REFUSED,
+}
 EMPTY = ("owner", "draft", "slot", "placed", "seat", "share_student", "share_part", "batch")
 
 
@@ -72,12 +95,32 @@ def cases(program, folder):
         "sqlite3", other, ".schema")
 
 
+def changed(program, folder):
+    """Each change of an office's database by sqlite3: what it is, what is expected, what came."""
+    office = folder / "drafted.db"
+    load = program, "load", "--db", str(office)
+    ended(*load, str(SMALL))
+    yield "an owner and a draft", lines(), ended("sqlite3", str(office), ";".join(DRAFTED))
+    yield "an office with them", FOUND, ended(*load, str(SMALL))
+    stored = office.read_bytes()
+    for text, expected in CHANGES.items():
+        office.write_bytes(stored)
+        yield f"a change: {text}", lines(), ended("sqlite3", str(office), text)
+        yield text, expected, ended(*load, str(SMALL))
+    office.write_bytes(stored)
+    for text, expected in (("UPDATE owner SET dept = 1000", REFUSED),
+                           ("UPDATE owner SET dept = 4", FOUND)):
+        yield f"in one file: {text}", lines(), ended("sqlite3", str(office), text)
+        yield f"in one file, then: {text}", expected, ended(*load, str(SMALL))
+
+
 def main():
     if len(sys.argv) != 2:
         sys.exit("usage: run_sqlite3.py PROGRAM")
     program, count, failed = str(pathlib.Path(sys.argv[1]).resolve()), 0, 0
     with tempfile.TemporaryDirectory() as folder:
-        for name, expected, got in cases(program, pathlib.Path(folder)):
+        folder = pathlib.Path(folder)
+        for name, expected, got in (*cases(program, folder), *changed(program, folder)):
             count += 1
             if expected != got:
                 failed += 1

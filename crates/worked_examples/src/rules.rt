@@ -1,9 +1,7 @@
 // Which exams of the small session break which rule.
 ghost use Rattle.std.specs.Prelude.{◌<◌, IsTrue, All, ◌↔◌, length};
 
-use crate::given::{
-    APART, PAIRS, Places, WEIGHTS, after, assert_same, enrolled, fits, placed, small,
-};
+use crate::given::{PAIRS, Places, WEIGHTS, after, assert_same, enrolled, fits, placed, small};
 use BreachRule::{After, Capacity, Clash, Coincidence, Duration, Exclusion, RoomExclusive};
 use exam_model::{ExamNo, Instance, PeriodRule, RoomRule};
 use exam_rules::{Breach, BreachRule, breaches, first_breach_of};
@@ -19,34 +17,6 @@ fn session(alloc: Global, lines: &[PeriodRule], alone: &[RoomRule]) -> Result<In
     Ok(small(alloc, &rules, alone, WEIGHTS)?)
 }
 
-// What a timetable of the small session breaks.
-fn judged(
-    alloc: Global,
-    instance: &Instance,
-    pairs: &[(u32, u32)],
-    places: &Places,
-) -> Result<Vec<Breach>, Fail> {
-    let enrolments = enrolled(alloc, pairs)?;
-    let timetable = placed(alloc, places)?;
-    if !fits(instance, &enrolments, &timetable) {
-        return Err("a place that doesn't exist")?;
-    }
-    Ok(breaches(alloc, instance, &enrolments, &timetable)?)
-}
-
-// Whether a timetable of the small session breaks just these rules.
-fn breaks<R: Abort>(
-    rt: &R,
-    alloc: Global,
-    instance: &Instance,
-    (pairs, places): (&[(u32, u32)], &Places),
-    wanted: &[Breach],
-) -> Result<(), Fail> {
-    let found = judged(alloc, instance, pairs, places)?;
-    assert_same(rt, found.as_slice(), wanted, places);
-    Ok(())
-}
-
 fn breach(rule: BreachRule, exam: u32, other: u32) -> Breach {
     Breach {
         rule,
@@ -55,70 +25,37 @@ fn breach(rule: BreachRule, exam: u32, other: u32) -> Breach {
     }
 }
 
-#[test]
-fn worked_check(rt: HostRuntime) -> Result<(), Fail> {
-    let instance = session(rt.alloc(), &[], &[])?;
-    breaks(&rt, rt.alloc(), &instance, (&PAIRS, &APART), &[])
+// What a timetable of the small session breaks.
+fn judged(alloc: Global, instance: &Instance, places: &Places) -> Result<Vec<Breach>, Fail> {
+    let enrolments = enrolled(alloc, &PAIRS)?;
+    let timetable = placed(alloc, places)?;
+    if !fits(instance, &enrolments, &timetable) {
+        return Err("a place that doesn't exist")?;
+    }
+    Ok(breaches(alloc, instance, &enrolments, &timetable)?)
 }
 
 #[test]
-fn after_is_broken(rt: HostRuntime) -> Result<(), Fail> {
+fn exams_that_are_not_placed_break_nothing(rt: HostRuntime) -> Result<(), Fail> {
     let instance = session(rt.alloc(), &[], &[])?;
-    let places = [Some((3, 0)), APART[1], APART[2], APART[3]];
-    let wanted = [breach(After, 1, 0)];
-    breaks(&rt, rt.alloc(), &instance, (&PAIRS, &places), &wanted)
-}
-
-#[test]
-fn capacity_names_every_exam(rt: HostRuntime) -> Result<(), Fail> {
-    let instance = session(rt.alloc(), &[], &[])?;
-    let wanted = [
+    let together = [
         breach(Clash, 0, 1),
         breach(Capacity, 0, 0),
         breach(Capacity, 1, 1),
         breach(After, 1, 0),
     ];
-    for others in [(APART[2], APART[3]), (None, None)] {
-        let places = [Some((0, 0)), Some((0, 0)), others.0, others.1];
-        breaks(&rt, rt.alloc(), &instance, (&PAIRS, &places), &wanted)?;
+    let short = [breach(Duration, 0, 0)];
+    // where the exams stand, and what they break
+    let cases: [(Places, &[Breach]); 3] = [
+        ([Some((0, 0)), Some((0, 0)), None, None], &together),
+        ([Some((2, 0)), None, None, None], &short),
+        ([Some((1, 0)), None, None, None], &[]),
+    ];
+    for (places, wanted) in cases {
+        let found = judged(rt.alloc(), &instance, &places)?;
+        assert_same(&rt, found.as_slice(), wanted, places);
     }
     Ok(())
-}
-
-#[test]
-fn too_long_for_period(rt: HostRuntime) -> Result<(), Fail> {
-    let instance = session(rt.alloc(), &[], &[])?;
-    let fits = [Some((1, 0)), None, None, None];
-    breaks(&rt, rt.alloc(), &instance, (&PAIRS, &fits), &[])?;
-    let short = [Some((2, 0)), None, None, None];
-    let wanted = [breach(Duration, 0, 0)];
-    breaks(&rt, rt.alloc(), &instance, (&PAIRS, &short), &wanted)
-}
-
-#[test]
-fn coincidence_by_enrolment(rt: HostRuntime) -> Result<(), Fail> {
-    let lines = [PeriodRule::Coincidence(ExamNo::new(1), ExamNo::new(0))];
-    let instance = session(rt.alloc(), &lines, &[])?;
-    breaks(&rt, rt.alloc(), &instance, (&PAIRS, &APART), &[])?;
-    let without = [(1, 0), (2, 0), (3, 1), (3, 2), (1, 3)];
-    let wanted = [breach(Coincidence, 0, 1)];
-    breaks(&rt, rt.alloc(), &instance, (&without, &APART), &wanted)
-}
-
-#[test]
-fn exclusive_room_and_repeated_lines(rt: HostRuntime) -> Result<(), Fail> {
-    let (two, three) = (ExamNo::new(2), ExamNo::new(3));
-    let lines = [
-        PeriodRule::Exclusion(three, two),
-        PeriodRule::Exclusion(two, two),
-    ];
-    let repeated = [lines[0], lines[1], lines[0], lines[1]];
-    let once = session(rt.alloc(), &lines, &[RoomRule(two)])?;
-    let twice = session(rt.alloc(), &repeated, &[RoomRule(two), RoomRule(two)])?;
-    let wanted = [breach(Exclusion, 2, 3), breach(RoomExclusive, 2, 3)];
-    let places = [Some((0, 0)), Some((1, 0)), Some((3, 1)), Some((3, 1))];
-    breaks(&rt, rt.alloc(), &once, (&PAIRS, &places), &wanted)?;
-    breaks(&rt, rt.alloc(), &twice, (&PAIRS, &places), &wanted)
 }
 
 fn exist(exams: &[ExamNo], instance: &Instance) -> bool

@@ -5,7 +5,7 @@ use office_files::{FaultKind, FileFault};
 use office_store::{Refusal, StoreFault};
 use std::test::Fail;
 
-const BEFORE_A_LOAD: [Case; 4] = [
+const DRAFTS: [Case; 13] = [
     (Call::NewDraft(9, b""), Err(StoreFault::NotLoaded), "made"),
     (Call::DropDraft(9), Err(StoreFault::NotLoaded), "dropped"),
     (
@@ -14,15 +14,6 @@ const BEFORE_A_LOAD: [Case; 4] = [
         "edited",
     ),
     (Call::Look, Ok(0), "looked at"),
-];
-
-#[test]
-fn nothing_is_drafted_before_a_load(rt: HostRuntime) -> Result<(), Fail> {
-    after(&rt, rt.alloc(), &BEFORE_A_LOAD)?;
-    Ok(())
-}
-
-const DRAFTS: [Case; 9] = [
     (Call::Load(SMALLEST), Ok(0), "the smallest session"),
     (Call::NewDraft(0, b""), Err(StoreFault::NoDraft), "below"),
     (Call::NewDraft(9, b""), Err(StoreFault::NoDraft), "above"),

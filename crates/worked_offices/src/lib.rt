@@ -17,5 +17,3 @@ mod offices;
 mod reading;
 #[cfg(test)]
 mod tables;
-#[cfg(test)]
-mod wrong_tables;

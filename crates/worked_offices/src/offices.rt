@@ -1,9 +1,6 @@
 // An office over a database in memory.
-use crate::calls::{Call, Case, NO_SUCH, after, created};
-use crate::given::assert_same;
-use office_files::{FaultKind, FileFault};
-use office_store::{Office, Refusal, StoreFault};
-use sqlite::{Connection, MemStore};
+use crate::calls::{Call, Case, NO_SUCH, after};
+use office_store::StoreFault;
 use std::test::Fail;
 
 /// One exam that nobody sits, one period and one room.
@@ -21,48 +18,13 @@ pub(crate) const SMALL: &[u8] = b"[Exams:4]\n120, 1, 2\n90, 2, 3\n120, 3\n60, 1\
 /// A timetable of the small session.
 pub(crate) const SOLUTION: &[u8] = b"0, 0\n1, 0\n3, 1\n2, 0\n";
 
-const ONE_SESSION: [Case; 4] = [
+const OWNERS: [Case; 10] = [
     (
         Call::SetOwner(0, 3),
         Err(StoreFault::NotLoaded),
         "an owner before a load",
     ),
     (Call::Owner(0), Ok(0), "the owner of no exam"),
-    (Call::Load(SMALLEST), Ok(0), "a load"),
-    (
-        Call::Load(SMALLEST),
-        Err(StoreFault::Loaded),
-        "a second load",
-    ),
-];
-
-#[test]
-fn smallest_instance(rt: HostRuntime) -> Result<(), Fail> {
-    after(&rt, rt.alloc(), &ONE_SESSION)?;
-    Ok(())
-}
-
-const NO_BYTES: FileFault = FileFault {
-    line: 1,
-    what: FaultKind::MissingSection,
-};
-
-const A_FAULTY_FILE_FIRST: [Case; 2] = [
-    (
-        Call::Load(b""),
-        Err(StoreFault::Refused(Refusal::File(NO_BYTES))),
-        "no bytes",
-    ),
-    (Call::Load(SMALL), Ok(6), "the small session"),
-];
-
-#[test]
-fn faulty_instance_is_refused(rt: HostRuntime) -> Result<(), Fail> {
-    after(&rt, rt.alloc(), &A_FAULTY_FILE_FIRST)?;
-    Ok(())
-}
-
-const OWNERS: [Case; 8] = [
     (Call::Load(SMALL), Ok(6), "the small session"),
     (
         Call::SetOwner(4, 3),
@@ -80,26 +42,5 @@ const OWNERS: [Case; 8] = [
 #[test]
 fn owners_come_and_go(rt: HostRuntime) -> Result<(), Fail> {
     after(&rt, rt.alloc(), &OWNERS)?;
-    Ok(())
-}
-
-// Why no office was made, if none was.
-pub(crate) fn refusal(
-    made: Result<Office<MemStore>, (StoreFault, Connection<MemStore>)>,
-) -> Option<StoreFault> {
-    match made {
-        Ok(_office) => None,
-        Err(refused) => {
-            let (fault, _conn) = refused;
-            Some(fault)
-        }
-    }
-}
-
-#[test]
-fn tables_are_no_place_for_another(rt: HostRuntime) -> Result<(), Fail> {
-    let office = created(rt.alloc())?;
-    let again = refusal(Office::create(office.release()));
-    assert_same(&rt, again, Some(StoreFault::BadSchema), "a second office");
     Ok(())
 }
