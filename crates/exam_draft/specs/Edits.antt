@@ -7,6 +7,8 @@ use Rattle.exam_model.specs.Timetable.{Placing, place_of}
 use Rattle.exam_terms.specs.declared.place.Place.{Place}
 use Rattle.exam_rules.specs.declared.breach.Breach.{Breach}
 use Rattle.exam_rules.specs.Breaches.{least_breach_of}
+use Rattle.exam_draft.specs.declared.edit.Edit.{Edit}
+use Rattle.exam_draft.specs.declared.edit.Edit.TheVariants as edit
 use Rattle.exam_draft.specs.declared.fault.EditFault.{EditFault}
 use Rattle.exam_draft.specs.declared.fault.EditFault.TheVariants.{NoSuch, AlreadyPlaced, NotPlaced, SameExam, Broken, NoMemory}
 
@@ -73,6 +75,20 @@ after_clear I T e = do
   _ ← unless (is_placed T e) NotPlaced
   Ok (slice_set T e None)
 
--- a call answers this fault for such an edit: its refusal, or want of memory in its place
+-- what any edit makes of it
+abbrev pub edited : Session → Enrolled → Placing → Edit → Edited
+edited I E T (edit.Place e at) = after_place I E T e at
+edited I E T (edit.Move e at) = after_move I E T e at
+edited I E T (edit.Swap a b) = after_swap I E T a b
+edited I E T (edit.Clear e) = after_clear I T e
+
+-- the exams that get or lose a place
+abbrev pub edited_exams : Edit → List ℕ
+edited_exams (edit.Place e at) = e ∷ []
+edited_exams (edit.Move e at) = e ∷ []
+edited_exams (edit.Swap a b) = a ∷ (b ∷ [])
+edited_exams (edit.Clear e) = e ∷ []
+
+-- a call answers this fault for such an edit: its refusal, or out of memory in its place
 abbrev pub Refuses : Edited → EditFault → Type 0
 Refuses edited fault = (edited ≡ Err fault) ⊎ (fault ≡ NoMemory)

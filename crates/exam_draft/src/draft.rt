@@ -40,7 +40,7 @@ impl<'a> Model for Draft<'a> {
 }
 
 impl<'a> Draft<'a> {
-    /// The draft in which no exam is placed. It fails only for want of memory.
+    /// The draft in which no exam is placed. It fails only where memory runs out.
     pub fn new(
         alloc: Global,
         instance: &'a Instance,

@@ -15,7 +15,7 @@ impl<'a> Draft<'a> {
     pub fn place(&mut self, alloc: Global, exam: ExamNo, place: Place) -> Result<(), EditFault>
         ensures ok { OnOk result (after_place self.old.instance self.old.enrolments
             self.old.timetable exam place ≡ Ok self.new.timetable) }
-        // The first refusal that holds, or want of memory in its place.
+        // The first refusal that holds, or out of memory in its place.
         ensures refused { IfErr result (Refuses (after_place self.old.instance
             self.old.enrolments self.old.timetable exam place)) }
         ensures same { self.new ≡ record self.old { timetable = self.new.timetable } }
@@ -35,7 +35,7 @@ impl<'a> Draft<'a> {
     pub fn move_to(&mut self, alloc: Global, exam: ExamNo, to: Place) -> Result<(), EditFault>
         ensures ok { OnOk result (after_move self.old.instance self.old.enrolments
             self.old.timetable exam to ≡ Ok self.new.timetable) }
-        // The first refusal that holds, or want of memory in its place.
+        // The first refusal that holds, or out of memory in its place.
         ensures refused { IfErr result (Refuses (after_move self.old.instance
             self.old.enrolments self.old.timetable exam to)) }
         ensures same { self.new ≡ record self.old { timetable = self.new.timetable } }
@@ -55,7 +55,7 @@ impl<'a> Draft<'a> {
     pub fn swap(&mut self, alloc: Global, one: ExamNo, other: ExamNo) -> Result<(), EditFault>
         ensures ok { OnOk result (after_swap self.old.instance self.old.enrolments
             self.old.timetable one other ≡ Ok self.new.timetable) }
-        // The first refusal that holds, or want of memory in its place.
+        // The first refusal that holds, or out of memory in its place.
         ensures refused { IfErr result (Refuses (after_swap self.old.instance
             self.old.enrolments self.old.timetable one other)) }
         ensures same { self.new ≡ record self.old { timetable = self.new.timetable } }
@@ -80,7 +80,7 @@ impl<'a> Draft<'a> {
     pub fn clear(&mut self, alloc: Global, exam: ExamNo) -> Result<(), EditFault>
         ensures ok { OnOk result (after_clear self.old.instance self.old.timetable exam
             ≡ Ok self.new.timetable) }
-        // The first refusal that holds, or want of memory in its place.
+        // The first refusal that holds, or out of memory in its place.
         ensures refused { IfErr result (Refuses (after_clear self.old.instance
             self.old.timetable exam)) }
         ensures same { self.new ≡ record self.old { timetable = self.new.timetable } }

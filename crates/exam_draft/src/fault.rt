@@ -1,8 +1,8 @@
 use exam_rules::Breach;
 use std::alloc::AllocError;
 
-/// Why an edit is refused. Where several hold, the first of them is named; want of memory may take
-/// the place of any other.
+/// Why an edit is refused. Where several hold, the first of them is named; out of memory may come
+/// in the place of any other.
 #[derive(Clone, Copy, Debug, PartialEq, Eq)]
 pub enum EditFault {
     /// An exam, a period or a room doesn't exist.

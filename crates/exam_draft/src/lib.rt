@@ -2,8 +2,10 @@
 #![tactic(auto)]
 
 mod draft;
+mod edit;
 mod editing;
 mod fault;
 
 pub use draft::Draft;
+pub use edit::Edit;
 pub use fault::EditFault;

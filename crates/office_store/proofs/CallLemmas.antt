@@ -118,7 +118,7 @@ first_fault (b ∷ bytes) I e h = go (solution_in I (b ∷ bytes)) h
     go (Ok T) h = absurd cc
     go (Err f) h = (f, cc)
 
--- its own refusal, or want of memory
+-- its own refusal, or out of memory
 pub made_fault : (gives : Gives ℕ) (bytes : List ℕ) (I : Session) (e : StoreFault)
     → (first_timetable bytes I ≡ Err e → gives ≡ Err e)
     → (e ≡ Store) ⊎ (first_timetable bytes I ≡ Err e) → IsFault gives e

@@ -13,13 +13,14 @@ use Rattle.office_tables.specs.Tables.{Tables, Stands as Held}
 use Rattle.office_tables.specs.declared.rows.DraftRow.{DraftRow}
 use Rattle.office_tables.specs.declared.rows.SlotRow.{SlotRow}
 use Rattle.office_store.specs.Changes.{edit_put}
-use Rattle.office_store.specs.Commands.{draft_edited, draft_shown, edited, exams_of, named, penalty_now}
+use Rattle.exam_draft.specs.Edits.{edited, edited_exams}
+use Rattle.office_store.specs.Commands.{draft_edited, draft_shown, named, penalty_now}
 use Rattle.office_store.specs.Reading.{AreRowsOf}
 use Rattle.office_store.specs.Running.{Edits, IsFault}
 use Rattle.office_store.specs.declared.fault.Refusal.TheVariants as refusal
 use Rattle.office_store.specs.declared.fault.StoreFault.{StoreFault}
 use Rattle.office_store.specs.declared.fault.StoreFault.TheVariants.{BadSchema, Refused, Store}
-use Rattle.office_store.specs.declared.edit.Edit.{Edit}
+use Rattle.exam_draft.specs.declared.edit.Edit.{Edit}
 use Rattle.office_records.specs.Office.{IsOffice, Memory, OfficeState, Records, memory_of, set_at}
 use Rattle.office_records.specs.Stands.{IsKept, parts_of}
 use Rattle.office_store.proofs.CommandLemmas.{Denies, Moves}
@@ -67,7 +68,7 @@ refused_so : (d : ℕ) (change : Edit) (r : Records) (T : Placing) (e : StoreFau
     → draft_edited d change (Some r) ≡ Err e
 refused_so d change r T e there is = rw (there, is) refl
 
--- want of memory, or the edit's own refusal
+-- out of memory, or the edit's own refusal
 abbrev IsRefusal : Edited → StoreFault → Type 0
 IsRefusal x e = (e ≡ Store) ⊎ (named (λ f. Refused (refusal.Edit f)) x ≡ Err e)
 
@@ -141,7 +142,7 @@ module _ (a b : Database) (o : OfficeState) (I : Session) (E : Enrolled) (d : �
     (new : Placing) (P : Penalty) (row : DraftRow) (of : IsEditedOf o I E d change (Ok (new, P)))
     (number : row.no ≡ d) (parts : parts_of row ≡ P) (scored : P ≡ track I E new)
     (fits : Fits I E new) (kept : IsKept a o)
-    (makes : (t : Tables) → Held a t → Held b (edit_put row new (exams_of change) t)) where
+    (makes : (t : Tables) → Held a t → Held b (edit_put row new (edited_exams change) t)) where
   abbrev edited_office : OfficeState
   edited_office = Some (record of.records { draft = set_at d (Some new) of.records.draft })
 
@@ -192,7 +193,7 @@ module _ (a : Database) (m : Memory) (I : Session) (E : Enrolled) (at_hand : m �
 
   pub edit_moves : (b : Database) (new : Placing) (P : Penalty) (row : DraftRow) (total : ℕ)
       (exams : List ℕ) → Comes (Ok (new, P)) → row.no ≡ d → parts_of row ≡ P → P ≡ track I E new
-      → Fits I E new → total ≡ total_of P → exams ≡ exams_of change
+      → Fits I E new → total ≡ total_of P → exams ≡ edited_exams change
       → ((t : Tables) → Held a t → Held b (edit_put row new exams t))
       → Moves (draft_edited d change) total a b m m
   edit_moves b new P row total exams edits number parts scored fits is_total are_exams makes o kept is =

@@ -19,9 +19,9 @@ use Rattle.office_tables.specs.Tables.{Tables, Stands as Held}
 use Rattle.office_tables.specs.Changes.{with_draft, without_draft}
 use Rattle.office_tables.specs.declared.rows.DraftRow.{DraftRow}
 use Rattle.office_store.specs.Changes.{edit_put}
-use Rattle.office_store.specs.Commands.{edited, exams_of}
-use Rattle.office_store.specs.declared.edit.Edit.{Edit}
-use Rattle.office_store.specs.declared.edit.Edit.TheVariants as edit
+use Rattle.exam_draft.specs.Edits.{edited, edited_exams}
+use Rattle.exam_draft.specs.declared.edit.Edit.{Edit}
+use Rattle.exam_draft.specs.declared.edit.Edit.TheVariants as edit
 use Rattle.office_records.specs.Office.{Records, set_at}
 use Rattle.office_records.specs.Stands.{StandsLoaded, IsSound, IsScoredRow, IsKept, drafts_at, slots_at, slots_from, slot_rows, parts_of, once}
 use Rattle.office_records.proofs.KeyLemmas.{none_of, all_of_other, each_left}
@@ -55,7 +55,7 @@ two_differ T a b p q x none =
     ∙ get_or-set_other T a x p None (grind (arith, nat_tests, none))
 
 pub touched : (I : Session) (E : Enrolled) (T new : Placing) (change : Edit)
-    → edited I E T change ≡ Ok new → Touches (exams_of change) T new (length I.exams)
+    → edited I E T change ≡ Ok new → Touches (edited_exams change) T new (length I.exams)
 touched I E T new (edit.Place e at) h =
     let known = goes_on (exam_exists I e && place_exists I at) _ _ _ h in
     let free = goes_on (not (is_placed T e)) _ _ _ known.1 in
@@ -184,20 +184,20 @@ pub edit_kept : (a b : Database) (r : Records) (T new : Placing) (row : DraftRow
     → r.draft row.no ≡ Some T → edited r.session r.enrolments T change ≡ Ok new
     → parts_of row ≡ track r.session r.enrolments new → Fits r.session r.enrolments new
     → IsKept a (Some r)
-    → ((t : Tables) → Held a t → Held b (edit_put row new (exams_of change) t))
+    → ((t : Tables) → Held a t → Held b (edit_put row new (edited_exams change) t))
     → IsKept b (Some (record r { draft = set_at row.no (Some new) r.draft }))
 edit_kept a b r T new row change there made scored fits kept makes =
     let before = kept.office.drafts row.no T there in
     let long : length T ≡ length new = before.timetable ∙ sym fits.timetable in
-    let all : Touches (exams_of change) T new (length T)
-    = subst (Touches (exams_of change) T new) (sym before.timetable)
+    let all : Touches (edited_exams change) T new (length T)
+    = subst (Touches (edited_exams change) T new) (sym before.timetable)
     (touched r.session r.enrolments T new change made) in
     let number = kept.office.numbered row.no (subst (λ o. IsSome o) (sym there) refl) in
     record {
-      held = edit_put row new (exams_of change) kept.held;
+      held = edit_put row new (edited_exams change) kept.held;
       tables = makes kept.held kept.tables;
-      stands = edit_stands kept.held r T new row (exams_of change) kept.stands there long all;
-      sound = edit_sound kept.held r T new row (exams_of change) kept.stands there scored
+      stands = edit_stands kept.held r T new row (edited_exams change) kept.stands there long all;
+      sound = edit_sound kept.held r T new row (edited_exams change) kept.stands there scored
           kept.sound;
       office = made_records r row.no new number.0 number.1 fits kept.office;
     }

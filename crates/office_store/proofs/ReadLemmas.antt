@@ -188,7 +188,7 @@ not_other a b number parts other =
     let out = other ∙ ap not same in
     absurd cc
 
--- a fault in rows that are those of an office is want of memory
+-- a fault in rows that are those of an office is out of memory
 pub fault_of : {A : Type 0} (gives : Gives A) (o : OfficeState) (r : Result A StoreFault)
     (f : RecordFault) → IsErrAnd r (λ e. e ≡ store_fault f) → (f ≡ BadRows → ⊥)
     → Does gives o (λ new. new ≡ o) r

@@ -7,15 +7,14 @@ use Rattle.exam_terms.specs.Refusing.{◌>>=◌, unless, else_err}
 use Rattle.exam_model.specs.Timetable.{Placing, unplaced}
 use Rattle.exam_score.specs.Penalty.{Penalty, total_of}
 use Rattle.exam_score.specs.Track.{track}
-use Rattle.exam_draft.specs.Edits.{Edited, exam_exists, after_place, after_move, after_swap, after_clear}
+use Rattle.exam_draft.specs.declared.edit.Edit.{Edit}
+use Rattle.exam_draft.specs.Edits.{edited, exam_exists}
 use Rattle.exam_draft.specs.declared.fault.EditFault.TheVariants.{NoSuch}
 use Rattle.office_files.specs.FirstFault.{first_fault}
 use Rattle.office_files.specs.InstanceText.{instance_in}
 use Rattle.office_files.specs.SolutionText.{solution_in}
 use Rattle.office_files.specs.declared.fault.FileFault.{FileFault}
 use Rattle.office_records.specs.Office.{OfficeState, Records, set_at}
-use Rattle.office_store.specs.declared.edit.Edit.{Edit}
-use Rattle.office_store.specs.declared.edit.Edit.TheVariants as edit
 use Rattle.office_store.specs.declared.loading.Loaded as loading
 use Rattle.office_store.specs.declared.fault.Refusal.TheVariants as refusal
 use Rattle.office_store.specs.declared.fault.StoreFault.{StoreFault}
@@ -125,19 +124,6 @@ draft_shown d office = do
   Ok ((T, track r.session r.enrolments T), office)
 
 -- ---- edits
-
-abbrev pub edited : Session → Enrolled → Placing → Edit → Edited
-edited I E T (edit.Place e at) = after_place I E T e at
-edited I E T (edit.Move e at) = after_move I E T e at
-edited I E T (edit.Swap a b) = after_swap I E T a b
-edited I E T (edit.Clear e) = after_clear I T e
-
--- the exams that get or lose a place
-abbrev pub exams_of : Edit → List ℕ
-exams_of (edit.Place e at) = e ∷ []
-exams_of (edit.Move e at) = e ∷ []
-exams_of (edit.Swap a b) = a ∷ (b ∷ [])
-exams_of (edit.Clear e) = e ∷ []
 
 abbrev pub draft_edited : ℕ → Edit → OfficeState → Gives ℕ
 draft_edited d change office = do

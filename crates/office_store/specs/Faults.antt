@@ -5,7 +5,7 @@ use Rattle.office_records.specs.declared.fault.RecordFault.TheVariants.{NoMemory
 use Rattle.office_store.specs.declared.fault.StoreFault.{StoreFault}
 use Rattle.office_store.specs.declared.fault.StoreFault.TheVariants.{Store, BadSchema}
 
--- want of memory is no word on the rows
+-- out of memory is no word on the rows
 abbrev pub store_fault : RecordFault → StoreFault
 store_fault NoMemory = Store
 store_fault BadRows = BadSchema

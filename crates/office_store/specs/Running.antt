@@ -5,8 +5,9 @@ use Rattle.exam_score.specs.Penalty.{Penalty}
 use Rattle.sqlite.specs.Held.{Held, state}
 use Rattle.sqlite.specs.State.{State, HasCleanDisk}
 use Rattle.sqlite.specs.Store.{Ghosts}
-use Rattle.office_store.specs.Commands.{Gives, draft_edited, edited}
-use Rattle.office_store.specs.declared.edit.Edit.{Edit}
+use Rattle.exam_draft.specs.Edits.{edited}
+use Rattle.office_store.specs.Commands.{Gives, draft_edited}
+use Rattle.exam_draft.specs.declared.edit.Edit.{Edit}
 use Rattle.office_records.specs.Office.{OfficeState, Records, Memory, memory_of}
 use Rattle.office_records.specs.Stands.{IsKept}
 use Rattle.office_store.specs.declared.fault.StoreFault.{StoreFault}

@@ -1,26 +1,25 @@
 // Drafts are edited.
-ghost use Rattle.std.specs.Prelude.{◌≡◌, ◌⊎◌, ◌<◌, length, All, Err, IfErr, IfOk, Ok, OnOk, Some};
+ghost use Rattle.std.specs.Prelude.{◌≡◌, ◌⊎◌, ◌<◌, length, All, Err, IfErr, IfOk, Ok, Some};
 ghost use Rattle.sqlite.specs.Held.{state};
 ghost use Rattle.sqlite.specs.State.{HasCleanDisk};
 ghost use Rattle.exam_model.specs.Fits.{Fits};
 ghost use Rattle.exam_score.specs.Track.{track};
-ghost use Rattle.exam_draft.specs.Edits.{Refuses};
+ghost use Rattle.exam_draft.specs.Edits.{edited, edited_exams};
 ghost use Rattle.office_records.specs.Office.{IsOffice, Records, memory_of};
-ghost use Rattle.office_store.specs.Commands.{draft_edited, edited, exams_of, named};
+ghost use Rattle.office_store.specs.Commands.{draft_edited, named};
 ghost use Rattle.office_store.specs.Reading.{AreRowsOf};
 ghost use Rattle.office_store.specs.Running.{Edits, Runs};
 
 use crate::drafting::draft_row;
-use crate::edit::Edit;
 use crate::fault::{Refusal, StoreFault};
 use crate::office::Office;
 use crate::reading::{DraftRows, draft_of};
 use crate::transactions::put_edit;
-use exam_draft::{Draft, EditFault};
-use exam_model::{Enrolments, ExamNo, Instance, Timetable};
+use exam_draft::{Draft, Edit};
+use exam_model::{Enrolments, Instance, Timetable};
 use exam_score::Parts;
 use sqlite::Alter;
-use std::alloc::{AllocError, Global};
+use std::alloc::Global;
 
 impl<S: Alter> Office<S> {
     /// Edits a draft, and answers its penalty. `NotLoaded`, `NoDraft`: there is none of this
@@ -35,7 +34,7 @@ impl<S: Alter> Office<S> {
             return Err(StoreFault::NotLoaded);
         };
         let (timetable, parts) = edited_draft(alloc, instance, enrolments, number, &found, edit)?;
-        let exams = exams_of(alloc, &edit)?;
+        let exams = edit.exams(alloc)?;
         put_edit(&mut self.conn, draft_row(number, parts), &timetable, &exams)?;
         Ok(parts.total())
     }
@@ -57,7 +56,7 @@ fn edited_draft(
         → Edits number edit r result }
     ensures fits { IfOk result (λ new. Fits instance.now enrolments.now new.0) }
     ensures scored { IfOk result (λ new. new.1 ≡ track instance.now enrolments.now new.0) }
-    ensures exist { IfOk result (λ new. All (λ e. e < length new.0) (exams_of edit)) }
+    ensures exist { IfOk result (λ new. All (λ e. e < length new.0) (edited_exams edit)) }
 {
     let (timetable, parts) = draft_of(alloc, instance, enrolments, number, found)?;
     edited(alloc, instance, enrolments, timetable, parts, edit)
@@ -83,34 +82,8 @@ fn edited(
         (edited instance.now enrolments.now timetable edit) ≡ Err e)) }
 {
     let mut draft = Draft::resume(instance, enrolments, timetable, parts);
-    match apply(alloc, &mut draft, edit) {
+    match draft.apply(alloc, edit) {
         Ok(()) => Ok(draft.into_parts()),
         Err(fault) => Err(StoreFault::of_edit(fault)),
     }
-}
-
-fn apply(alloc: Global, draft: &mut Draft<'_>, edit: Edit) -> Result<(), EditFault>
-    ensures ok { OnOk result (edited draft.old.instance draft.old.enrolments draft.old.timetable
-        edit ≡ Ok draft.new.timetable) }
-    ensures refused { IfErr result (Refuses (edited draft.old.instance draft.old.enrolments
-        draft.old.timetable edit)) }
-    ensures same { draft.new ≡ record draft.old { timetable = draft.new.timetable } }
-{
-    match edit {
-        Edit::Place(exam, place) => draft.place(alloc, exam, place),
-        Edit::Move(exam, place) => draft.move_to(alloc, exam, place),
-        Edit::Swap(one, other) => draft.swap(alloc, one, other),
-        Edit::Clear(exam) => draft.clear(alloc, exam),
-    }
-}
-
-// The exams that get or lose a place.
-fn exams_of(alloc: Global, edit: &Edit) -> Result<Vec<ExamNo>, AllocError>
-    ensures { IfOk result (λ exams. exams.items ≡ exams_of edit.now) }
-{
-    let exams = match *edit {
-        Edit::Place(exam, _) | Edit::Move(exam, _) | Edit::Clear(exam) => vec![in alloc; exam]?,
-        Edit::Swap(one, other) => vec![in alloc; one, other]?,
-    };
-    Ok(exams)
 }

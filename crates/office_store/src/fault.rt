@@ -7,7 +7,7 @@ use office_records::RecordFault;
 use sqlite::Error;
 use std::alloc::AllocError;
 
-/// What a file or an edit was refused for; never want of memory, which is [`StoreFault::Store`].
+/// What a file or an edit was refused for; never out of memory, which is [`StoreFault::Store`].
 #[derive(Clone, Copy, Debug, PartialEq, Eq)]
 pub enum Refusal {
     /// An edit is not possible, or an exam does not exist.
@@ -62,7 +62,7 @@ impl From<AllocError> for StoreFault {
 }
 
 impl StoreFault {
-    // The refusal of a file; want of memory is no refusal.
+    // The refusal of a file; out of memory is no refusal.
     pub(crate) fn of_file(fault: FileFault) -> StoreFault
         ensures memory { fault.what ≡ FaultKind.NoMemory → result ≡ StoreFault.Store }
         ensures refused { fault.what ≢ FaultKind.NoMemory
@@ -74,7 +74,7 @@ impl StoreFault {
         }
     }
 
-    // The refusal of an edit; want of memory is no refusal.
+    // The refusal of an edit; out of memory is no refusal.
     pub(crate) fn of_edit(fault: EditFault) -> StoreFault
         ensures memory { fault ≡ EditFault.NoMemory → result ≡ StoreFault.Store }
         ensures refused { fault ≢ EditFault.NoMemory

@@ -3,7 +3,6 @@
 
 mod adopting;
 mod drafting;
-mod edit;
 mod editing;
 mod fault;
 mod loading;
@@ -12,7 +11,7 @@ mod owning;
 mod reading;
 mod transactions;
 
-pub use edit::Edit;
+pub use exam_draft::Edit;
 pub use fault::{Refusal, StoreFault};
 pub use loading::Loaded;
 pub use office::Office;

@@ -1,6 +1,7 @@
 use Rattle.std.proofs.Common.{rules, ◌≡◌, Err, refl, sym, subst}
 use Rattle.sqlite.specs.Held.{state}
-use Rattle.office_store.specs.Commands.{draft_edited, exams_of}
+use Rattle.exam_draft.specs.Edits.{edited_exams}
+use Rattle.office_store.specs.Commands.{draft_edited}
 use Rattle.office_store.specs.Running.{Runs}
 use Rattle.office_store.specs.declared.fault.StoreFault.TheVariants.{NotLoaded}
 use Rattle.office_store.proofs.CommandLemmas.{not_loaded, refuses, rests, runs, seen}
@@ -29,7 +30,7 @@ returns-in_err-timetable-clause-runs g c =
 
 pub returns-clause-runs : goal.returns-clause-runs
 returns-clause-runs g c =
-    let exams : c.deref.result.now ≡ exams_of c.args.edit = search rules in
+    let exams : c.deref.result.now ≡ edited_exams c.args.edit = search rules in
     runs g.S.Store (draft_edited c.args.number c.args.edit) c.args.self.now c.draft_rows.new.self
     c.self.inside.conn c.self.inside.kept c.self.view_is c.self.invariant.1
     c.in_ok-found.ensures.awake c.in_ok-found.ensures.still c.put_edit.new.conn
@@ -45,7 +46,7 @@ returns-clause-runs g c =
 
 pub invariant_of-self-2 : goal.invariant_of-self-2
 invariant_of-self-2 g c =
-    let exams : c.deref.result.now ≡ exams_of c.args.edit = search rules in (
+    let exams : c.deref.result.now ≡ edited_exams c.args.edit = search rules in (
       c.in_ok-put_edit.ensures.rests,
       rests (draft_edited c.args.number c.args.edit) (state g.S.Store c.self.inside.conn)
           (state g.S.Store c.put_edit.new.conn) c.self.inside.kept c.self.inside.kept
