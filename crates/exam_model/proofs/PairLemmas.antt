@@ -22,7 +22,7 @@ pair e s = record { exam = e; student = s }
 
 -- ---- members
 
-any_map : {X Y : Type 0} (p : Y → Bool) (f : X → Y) (xs : List X)
+pub any_map : {X Y : Type 0} (p : Y → Bool) (f : X → Y) (xs : List X)
     → list_any p (map f xs) ≡ list_any (λ x. p (f x)) xs
 any_map p f [] = refl
 any_map p f (x ∷ xs) = ap (λ b. p (f x) || b) (any_map p f xs)

@@ -6,7 +6,7 @@ use Rattle.exam_model.specs.declared.parts.Period.{Period}
 use Rattle.exam_model.specs.declared.parts.Room.{Room}
 use Rattle.exam_model.specs.declared.parts.Weights.{Weights}
 
--- a capacity, a penalty, a weight, or a number of things that a weight counts
+-- a capacity, a penalty, a weight, FRONTLOAD's number of exams or periods, or the period spread
 abbrev pub IsAmount : ℕ → Type 0
 IsAmount n = n ≤ 100000
 

@@ -6,6 +6,7 @@ use Rattle.std.proofs.Common.{◌≡◌, ℕ, zero, suc, ◌+◌, Bool, true, fa
 use Rattle.std.proofs.lemmas.Bool.{and_parts, and_from}
 use Rattle.std.proofs.lemmas.Bool.Decides.{nat_tests}
 use Rattle.std.proofs.lemmas.List.Folds.{list_any-append, Any-from_list_any, list_any_at}
+use Rattle.exam_model.proofs.PairLemmas.{any_map}
 use Rattle.exam_rules.specs.Breach.{pair, is_pair}
 use Rattle.exam_rules.specs.declared.exam_pair.ExamPair.{ExamPair}
 
@@ -20,11 +21,6 @@ and_false false = refl
 pub any_agree : {X : Type 0} (p q : X → Bool) → ((x : X) → p x ≡ q x) → (xs : List X)
     → list_any p xs ≡ list_any q xs
 any_agree p q h xs = λ i. list_any (λ x. h x i) xs
-
-pub any_map : {X Y : Type 0} (p : Y → Bool) (f : X → Y) (xs : List X)
-    → list_any p (map f xs) ≡ list_any (λ x. p (f x)) xs
-any_map p f [] = refl
-any_map p f (x ∷ xs) = ap (λ b. p (f x) || b) (any_map p f xs)
 
 pub any_flat_map : {X Y : Type 0} (p : Y → Bool) (f : X → List Y) (xs : List X)
     → list_any p (flat_map f xs) ≡ list_any (λ x. list_any p (f x)) xs

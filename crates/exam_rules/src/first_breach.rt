@@ -80,8 +80,8 @@ fn broken_pairs(
 }
 
 /// The first of all breaches, in their order, that names one of these exams; none where each
-/// breach names other exams alone. Only rooms, periods, students and lines of these exams are
-/// looked at, and no rule beyond the first that one of them breaks.
+/// breach names other exams alone. The rules are judged in their order, and none beyond the first
+/// that one of these exams breaks.
 pub fn first_breach_of(
     alloc: Global,
     instance: &Instance,

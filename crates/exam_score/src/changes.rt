@@ -10,7 +10,7 @@ use exam_model::{Enrolments, ExamNo, Instance, Timetable};
 use std::alloc::{AllocError, Global};
 
 /// The penalty of the new timetable, by that of the old one. The edited exams may come in any
-/// order, more than once, and may stand where they stood. It fails only for want of memory.
+/// order, more than once, and may stand where they stood. It fails only where memory runs out.
 pub fn difference(
     alloc: Global,
     instance: &Instance,

@@ -12,8 +12,8 @@ use std::alloc::{AllocError, Global};
 // How many slots students are filed in: a prime, so that numbers in steps spread over all of them.
 const SLOTS: u32 = 65_521;
 
-// How many greater numbers are tried where students crowd. Student numbers have nine digits, so two
-// of them share a slot under at most two of so many numbers in a row.
+// How many larger slot counts to try when too many students share a slot. Student numbers have nine
+// digits, so two of them share a slot under at most two of that many counts in a row.
 const MORE: u32 = 31;
 
 // Up to so many steps back along the slots, students do not crowd.

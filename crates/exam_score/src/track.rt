@@ -12,7 +12,7 @@ use exam_model::{Enrolments, Instance, Timetable};
 use std::alloc::{AllocError, Global};
 
 /// The penalty of a timetable, which may be partial: only placed exams cost anything. It fails
-/// only for want of memory.
+/// only where memory runs out.
 pub fn score(
     alloc: Global,
     instance: &Instance,

@@ -108,7 +108,8 @@ fn along(instance: &Instance, line: &Line, tallies: &[Tally], at: usize, tally: 
     sums
 }
 
-// The tally just before this place. From one on whose period is below the first, none is of use.
+// The tally just before this place. None once its period is too early to cost anything; all
+// before it are earlier still.
 fn reached(tallies: &[Tally], next: u32, first: u32) -> Option<Tally>
     requires within { next ≤ length tallies.now }
     ensures some { IfSome result (IsReached tallies.now next) }

@@ -12,7 +12,7 @@ pub record TakesAtMost (most : ℕ) (old new : Option (List ℕ)) : Type 0 where
   pub taken : Consumes old new bytes
   pub few : length bytes ≤ most
 
--- want of memory in the reading of a file is no fault of the file
+-- out of memory in the reading of a file is no fault of the file
 abbrev pub ComesOf : FileFault → InputFault → Type 0
 ComesOf fault Read = ⊥
 ComesOf fault (File f) = (f ≡ fault) × (fault.what ≢ kind.NoMemory)

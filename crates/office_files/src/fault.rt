@@ -12,7 +12,7 @@ pub enum FaultKind {
     MissingSection = 2,
     /// There are more or fewer lines than a header or an instance says.
     CountMismatch = 3,
-    /// A field is not one or more digits; an empty or a missing field is not.
+    /// A field is not a number: one or more digits. An empty or missing field is not one either.
     BadNumber = 4,
     /// A field is not `DD:MM:YYYY`, or the calendar has no such day in the years 1 to 9999.
     BadDate = 5,
@@ -53,7 +53,7 @@ impl FileFault {
         what: FaultKind::NoMemory,
     };
 
-    // The fault of a line; want of memory is no line's.
+    // The fault of a line; out of memory is no line's.
     pub(crate) fn at(line: u32, what: FaultKind) -> FileFault
         ensures kind { result.what ≡ what }
         ensures place { what ≢ FaultKind.NoMemory → result ≡ record { line = line; what = what } }

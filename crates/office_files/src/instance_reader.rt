@@ -156,7 +156,7 @@ fn instance_in(alloc: Global, source: &[u8]) -> Result<(Instance, Enrolments), F
 pub fn read_instance(alloc: Global, source: &[u8]) -> Result<(Instance, Enrolments), FileFault>
     // What is answered is spelled so.
     ensures reading { IfOk result (λ read. InstanceText source.now read.0 read.1) }
-    // What is refused, but for want of memory, spells nothing, and no text spells two instances.
+    // What is refused, but for out of memory, spells nothing, and no text spells two instances.
     ensures only { IfErr result (λ fault. fault.what ≢ FaultKind.NoMemory
         → (I : Session) (E : Enrolled) → InstanceText source.now I E → ⊥) }
     ensures one { IfOk result (λ read. (I : Session) (E : Enrolled) → InstanceText source.now I E

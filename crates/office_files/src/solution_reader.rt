@@ -82,7 +82,7 @@ pub fn read_solution(
 ) -> Result<Timetable, FileFault>
     // What is answered is spelled so.
     ensures reading { IfOk result (λ read. SolutionText source.now instance.now read) }
-    // What is refused, but for want of memory, spells nothing, and no text spells two timetables.
+    // What is refused, but for out of memory, spells nothing, and no text spells two timetables.
     ensures only { IfErr result (λ fault. fault.what ≢ FaultKind.NoMemory
         → (T : Placing) → SolutionText source.now instance.now T → ⊥) }
     ensures one { IfOk result (λ read. (T : Placing) → SolutionText source.now instance.now T → T ≡ read) }

@@ -1,3 +1,4 @@
 pub mod Numbers
 pub mod Callers
+pub mod Commands
 pub mod Policy

@@ -2,39 +2,42 @@
 use Rattle.std.specs.Prelude.{ℕ, Bool, ◌==◌, ◌&&◌, Result, Ok, Err, if◌then◌else◌}
 use Rattle.office_policy.specs.declared.callers.Caller.{Caller}
 use Rattle.office_policy.specs.declared.callers.Caller.TheVariants.{Office, Dept, Cand}
-use Rattle.office_policy.specs.declared.command.Command.{Command}
-use Rattle.office_policy.specs.declared.command.Command.TheVariants as command
+use Rattle.office_policy.specs.Commands.{PlainCommand, me, my_exam, my_penalty, load, instance}
+use Rattle.office_policy.specs.Commands.{set_owner, new_draft, draft, draft_penalty}
+use Rattle.office_policy.specs.Commands.{draft_violations, drop_draft, place, move, clear, swap}
+use Rattle.office_policy.specs.Commands.{publish, publication, publication_penalty}
+use Rattle.office_policy.specs.Commands.{publication_rooms, batch}
 use Rattle.office_policy.specs.declared.policy.Denial.{Denial}
 use Rattle.office_policy.specs.declared.policy.Denial.TheVariants.{P1, P2, P3, P4}
 use Rattle.office_policy.specs.declared.policy.Kind.{Kind}
 use Rattle.office_policy.specs.declared.policy.Kind.TheVariants.{Personal, Official, Reading, Editing}
 
 -- whose a command is
-abbrev pub kind_of : Command → Kind
-kind_of command.Me = Personal
-kind_of (command.MyExam e) = Personal
-kind_of command.MyPenalty = Personal
-kind_of (command.Load text) = Official
-kind_of command.Instance = Official
-kind_of (command.SetOwner e dept) = Official
-kind_of (command.NewDraft d text) = Official
-kind_of (command.Draft d) = Reading
-kind_of (command.DraftPenalty d) = Reading
-kind_of (command.DraftViolations d) = Reading
-kind_of (command.DropDraft d) = Official
-kind_of (command.Place d e place) = Editing
-kind_of (command.Move d e place) = Editing
-kind_of (command.Clear d e) = Editing
-kind_of (command.Swap d a b) = Editing
-kind_of (command.Publish d) = Official
-kind_of command.Publication = Official
-kind_of command.PublicationPenalty = Official
-kind_of command.PublicationRooms = Official
-kind_of (command.Batch n text) = Official
+abbrev pub kind_of : PlainCommand → Kind
+kind_of me = Personal
+kind_of (my_exam e) = Personal
+kind_of my_penalty = Personal
+kind_of (load text) = Official
+kind_of instance = Official
+kind_of (set_owner e dept) = Official
+kind_of (new_draft d text) = Official
+kind_of (draft d) = Reading
+kind_of (draft_penalty d) = Reading
+kind_of (draft_violations d) = Reading
+kind_of (drop_draft d) = Official
+kind_of (place d e at) = Editing
+kind_of (move d e to) = Editing
+kind_of (clear d e) = Editing
+kind_of (swap d a b) = Editing
+kind_of (publish d) = Official
+kind_of publication = Official
+kind_of publication_penalty = Official
+kind_of publication_rooms = Official
+kind_of (batch n text) = Official
 
 -- the department owns the exam that is edited, of a swap both
-abbrev pub owns : ℕ → Command → ℕ → ℕ → Bool
-owns dept (command.Swap d a b) owner_a owner_b = (owner_a == dept) && (owner_b == dept)
+abbrev pub owns : ℕ → PlainCommand → ℕ → ℕ → Bool
+owns dept (swap d a b) owner_a owner_b = (owner_a == dept) && (owner_b == dept)
 owns dept _ owner_a owner_b = owner_a == dept
 
 -- allowed where it is owned, else P3
@@ -57,6 +60,6 @@ permits_kind (Cand c) Reading owned = Err P1
 permits_kind (Cand c) Editing owned = Err P1
 
 -- who may ask for what, by the owners of the exams that the command edits
-abbrev pub permits : Caller → Command → ℕ → ℕ → Result (Unit {0}) Denial
+abbrev pub permits : Caller → PlainCommand → ℕ → ℕ → Result (Unit {0}) Denial
 permits caller asked owner_a owner_b =
     permits_kind caller (kind_of asked) (λ dept. owns dept asked owner_a owner_b)

@@ -1,4 +1,4 @@
-//! The office's desk: who asks, what is asked, and who may ask it.
+//! The office's policy: who asks, what is asked, and who may ask it.
 #![tactic(auto)]
 
 mod callers;

@@ -1,5 +1,6 @@
 // Who may ask what.
 ghost use Rattle.std.specs.Prelude.{◌≡◌};
+ghost use Rattle.office_policy.specs.Commands.{plain_command};
 ghost use Rattle.office_policy.specs.Policy.{kind_of, owns, if_owned, permits};
 
 use crate::callers::Caller;
@@ -35,7 +36,7 @@ enum Kind {
 impl Command<'_> {
     // Whose the command is.
     fn kind(&self) -> Kind
-        ensures { result ≡ kind_of self.now }
+        ensures { result ≡ kind_of (plain_command self.now) }
     {
         match self {
             Command::Me | Command::MyExam(_) | Command::MyPenalty => Kind::Personal,
@@ -51,7 +52,7 @@ impl Command<'_> {
 
     // Whether the department owns what the command edits: of a swap both exams.
     fn is_owned(&self, dept: DeptNo, owner_a: u32, owner_b: u32) -> bool
-        ensures { result ≡ owns dept self.now owner_a owner_b }
+        ensures { result ≡ owns dept (plain_command self.now) owner_a owner_b }
     {
         let owns_first = owner_a == dept.get();
         let owns_second = owner_b == dept.get();
@@ -70,7 +71,7 @@ pub fn allowed(
     owner_a: u32,
     owner_b: u32,
 ) -> Result<(), Denial>
-    ensures { result ≡ permits caller command.now owner_a owner_b }
+    ensures { result ≡ permits caller (plain_command command.now) owner_a owner_b }
 {
     let kind = command.kind();
     match caller {

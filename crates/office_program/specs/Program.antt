@@ -64,7 +64,7 @@ IsTask words (Load database instance) =
     (rows : List Row) × (subcommand_of program words ≡ Some (codes "load", rows))
     × HasLoadValues rows (Load database instance)
 
--- an error of clap is a mistake in the words: no call for help, and no want of memory
+-- an error of clap is a mistake in the words: neither a call for help nor out of memory
 abbrev pub IsMistake : ErrorKind → Type 0
 IsMistake k = (k ≢ kind.OutOfMemory) × (k ≢ kind.DisplayHelp) × (k ≢ kind.DisplayVersion)
 

@@ -10,7 +10,7 @@ use office_store::{Refusal, StoreFault};
 use sqlite::{Error, ErrorCode};
 use std::fmt;
 
-// It shows as its line.
+/// `Display` prints its line.
 #[derive(Clone, Copy)]
 pub enum ProgramFault<'a> {
     CannotRead(&'a str),

@@ -99,7 +99,7 @@ fn matches(alloc: Global, words: &[String]) -> Result<ArgMatches<'_>, Error>
 }
 
 // The value that was found. Clap has seen to it that it is there, but its contract says so of no
-// subcommand: a value that is missing would be answered as want of memory.
+// subcommand: a value that is missing would be answered as out of memory.
 fn value_of(alloc: Global, values: &ArgMatches<'_>, id: &str) -> Result<String, Error>
     ensures ok { IfOk result (λ value.
         first_of id.now (rows_of (found_of values.now)) ≡ Some (string_bytes value)) }
@@ -132,7 +132,7 @@ fn load_task(alloc: Global, values: &ArgMatches<'_>) -> Result<Task, Error>
 }
 
 /// The command that the words give, of which the first is the program's name. An error shows as
-/// the text for the user: a mistake in the words, a call for help, or want of memory.
+/// the text for the user: a mistake in the words, a call for help, or out of memory.
 pub fn read_words(alloc: Global, words: &[String]) -> Result<Task, Error>
     ensures task { IfOk result (IsTask (map string_bytes words.now)) }
     ensures kinds { FailsBy (fault_of program (map string_bytes words.now)) result }

@@ -13,8 +13,7 @@ use Rattle.std.proofs.lemmas.Map.Made.{AllPairs-from_IsDistinct, IsDistinct-from
 use Rattle.exam_model.specs.Enrolments.{Adds, Enrolled, AreEnrolments, has, pair_count, students}
 use Rattle.exam_model.specs.Instance.{Session}
 use Rattle.exam_model.specs.Pairs.{Pair, pairs_of, ComesBefore}
-use Rattle.exam_model.proofs.PairLemmas.{are_pairs}
-use Rattle.exam_rules.proofs.MemberLemmas.{any_map}
+use Rattle.exam_model.proofs.PairLemmas.{any_map, are_pairs}
 use Rattle.office_tables.specs.declared.rows.EnrolRow.{EnrolRow}
 use Rattle.office_records.proofs.ReorderLemmas.{reordered}
 use Rattle.office_records.specs.Found.{AreEnrolRows}

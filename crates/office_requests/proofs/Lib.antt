@@ -7,3 +7,4 @@ pub mod PageLemmas
 pub mod PathLemmas
 pub mod BodyLemmas
 pub mod RequestLemmas
+pub mod SmallLemmas

@@ -1,6 +1,5 @@
 -- What bodies say: texts as they are, and JSON objects of just the keys that are asked for.
 use Rattle.std.specs.Prelude.{ℕ, ◌+◌, ◌==◌, nat_le, nat_lt, if◌then◌else◌, List, length, codes}
-use Rattle.std.specs.Borrow.{Bor}
 use Rattle.std.specs.Prelude.{Option, Some, None, option_and_then, option_map}
 use Rattle.std.specs.Str.{is_utf8}
 use Rattle.serde_json.specs.Data.{Data, Members, no_members, member}
@@ -56,11 +55,14 @@ given_or_bad None = Bad
 abbrev pub unless_long : {A : Type 0} → List ℕ → Body A → Body A
 unless_long bytes body = if nat_lt 1048576 (length bytes) then Long else body
 
-abbrev pub text_body : Bor (List ℕ) → Body (Bor (List ℕ))
-text_body text = unless_long text.now (Given text)
+-- a body that is taken as it is
+abbrev pub text_body : List ℕ → Body (List ℕ)
+text_body text = unless_long text (Given text)
 
+-- a body that says a place
 abbrev pub place_body : List ℕ → Body Place
 place_body bytes = unless_long bytes (given_or_bad (option_and_then place_in (json_in bytes)))
 
+-- a body that says a department
 abbrev pub dept_body : List ℕ → Body ℕ
 dept_body bytes = unless_long bytes (given_or_bad (option_and_then dept_in (json_in bytes)))

@@ -1,13 +1,12 @@
 -- What a request asks for, or the refusal that looks at nothing stored.
 use Rattle.std.specs.Prelude.{◌≡◌, ℕ, List, Option, Some, None, option_and_then}
-use Rattle.std.specs.Borrow.{Bor}
 use Rattle.std.specs.Prelude.{Result, Ok, Err, IsOkAnd}
 use Rattle.exam_terms.specs.Refusing.{◌>>=◌, else_err}
 use Rattle.office_policy.specs.Callers.{caller_of, trimmed}
 use Rattle.office_policy.specs.declared.callers.Caller.{Caller}
 use Rattle.office_policy.specs.declared.callers.Caller.TheVariants.{Office, Dept, Cand}
+use Rattle.office_policy.specs.Commands.{PlainCommand, me, my_exam, my_penalty, plain_command}
 use Rattle.office_policy.specs.declared.command.Command.{Command}
-use Rattle.office_policy.specs.declared.command.Command.TheVariants as command
 use Rattle.office_requests.specs.Pages.{page_of}
 use Rattle.office_requests.specs.Resources.{resource_at, resource_of}
 use Rattle.office_requests.specs.Methods.{verb_of, allow_of}
@@ -32,57 +31,67 @@ abbrev pub caller_in : Option (List ℕ) → Option Caller
 caller_in value = option_and_then (λ v. caller_of (trimmed v)) value
 
 -- a candidate's own three pages
-abbrev pub her_page : Resource → Option Command
-her_page resource.Me = Some command.Me
-her_page (resource.MyExam e) = Some (command.MyExam e)
-her_page resource.MyPenalty = Some command.MyPenalty
+abbrev pub her_page : Resource → Option PlainCommand
+her_page resource.Me = Some me
+her_page (resource.MyExam e) = Some (my_exam e)
+her_page resource.MyPenalty = Some my_penalty
 her_page _ = None
 
 -- one of her pages, by GET
-abbrev pub her_command : Verb → List ℕ → Option Command
+abbrev pub her_command : Verb → List ℕ → Option PlainCommand
 her_command Get path = option_and_then her_page (resource_of path)
 her_command _ path = None
 
 -- a candidate asks for one of her pages, or is refused
-abbrev pub candidate_command : Verb → List ℕ → Result Command Refusal
+abbrev pub candidate_command : Verb → List ℕ → Result PlainCommand Refusal
 candidate_command verb path = else_err refusal.Candidate (her_command verb path)
 
 -- the office and departments: the path is judged, then the method
-abbrev pub staff_command : Verb → List ℕ → Bor (List ℕ) → Result Command Refusal
+abbrev pub staff_command : Verb → List ℕ → List ℕ → Result PlainCommand Refusal
 staff_command verb path body =
     else_err refusal.Path (page_of path) >>= (λ page.
     else_err refusal.Path (resource_at page path) >>= (λ r.
     else_err (refusal.Method page) (command_of verb r body)))
 
 -- what that caller asks for
-abbrev pub asked_by : Caller → Verb → List ℕ → Bor (List ℕ) → Result Command Refusal
+abbrev pub asked_by : Caller → Verb → List ℕ → List ℕ → Result PlainCommand Refusal
 asked_by Office verb path body = staff_command verb path body
 asked_by (Dept d) verb path body = staff_command verb path body
 asked_by (Cand c) verb path body = candidate_command verb path
 
+-- who asks, and for what, without where a text lies in memory
+pub record PlainAsked : Type 0 where
+  pub caller : Caller
+  pub command : PlainCommand
+
+abbrev pub plain_asked : Asked → PlainAsked
+plain_asked asked = record { caller = asked.caller; command = plain_command asked.command }
+
 -- who asks, and for what: the caller is judged first
-abbrev pub reading : List ℕ → List ℕ → Option (List ℕ) → Bor (List ℕ) → Result Asked Refusal
+abbrev pub reading : List ℕ → List ℕ → Option (List ℕ) → List ℕ → Result PlainAsked Refusal
 reading method path value body =
     else_err refusal.Caller (caller_in value) >>= (λ who.
     asked_by who (verb_of method) path body >>= (λ asked.
     Ok (record { caller = who; command = asked })))
 
 -- The answer is that of the definition. Memory is refused for a command with a body of JSON alone.
-abbrev pub Gives : {A : Type 0} → (A → Command) → Result A Refusal → Result A Refusal → Type 0
-Gives command_in said (Ok asked) = said ≡ Ok asked
-Gives command_in said (Err refusal.NoMemory) = IsOkAnd said (λ asked. HasJson (command_in asked))
-Gives command_in said (Err refusal.Caller) = said ≡ Err refusal.Caller
-Gives command_in said (Err refusal.Candidate) = said ≡ Err refusal.Candidate
-Gives command_in said (Err refusal.Path) = said ≡ Err refusal.Path
-Gives command_in said (Err (refusal.Method page)) = said ≡ Err (refusal.Method page)
+abbrev pub Gives : {A P : Type 0} → (A → P) → (P → PlainCommand) → Result P Refusal
+    → Result A Refusal → Type 0
+Gives plain command_in said (Ok asked) = said ≡ Ok (plain asked)
+Gives plain command_in said (Err refusal.NoMemory) =
+    IsOkAnd said (λ asked. HasJson (command_in asked))
+Gives plain command_in said (Err refusal.Caller) = said ≡ Err refusal.Caller
+Gives plain command_in said (Err refusal.Candidate) = said ≡ Err refusal.Candidate
+Gives plain command_in said (Err refusal.Path) = said ≡ Err refusal.Path
+Gives plain command_in said (Err (refusal.Method page)) = said ≡ Err (refusal.Method page)
 
 -- the command that is answered
-abbrev pub GivesCommand : Result Command Refusal → Result Command Refusal → Type 0
-GivesCommand said answer = Gives (λ command. command) said answer
+abbrev pub GivesCommand : Result PlainCommand Refusal → Result Command Refusal → Type 0
+GivesCommand said answer = Gives plain_command (λ command. command) said answer
 
 -- who asks, and the command
-abbrev pub GivesAsked : Result Asked Refusal → Result Asked Refusal → Type 0
-GivesAsked said answer = Gives (λ asked. asked.command) said answer
+abbrev pub GivesAsked : Result PlainAsked Refusal → Result Asked Refusal → Type 0
+GivesAsked said answer = Gives plain_asked (λ asked. asked.command) said answer
 
 -- the reply where the page hasn't the method
 abbrev pub not_allowed : Page → PlainReply

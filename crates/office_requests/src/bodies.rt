@@ -2,6 +2,7 @@
 ghost use Rattle.std.specs.Prelude.{◌≡◌, IfOk};
 ghost use Rattle.std.specs.Prelude.{option_map};
 ghost use Rattle.serde_json.specs.View.{view};
+ghost use Rattle.office_policy.specs.Commands.{plain_text, IfGiven};
 ghost use Rattle.office_requests.specs.Bodies.{json_in, members_count, number_at, place_in, dept_in};
 ghost use Rattle.office_requests.specs.Bodies.{text_body, place_body, dept_body};
 
@@ -21,7 +22,8 @@ const MOST_DEPT: u32 = 999;
 
 /// A body that is taken as it is.
 pub fn text_body(bytes: &[u8]) -> Body<&[u8]>
-    ensures { result ≡ text_body bytes.entry }
+    ensures says { plain_text result ≡ text_body bytes.now }
+    ensures lent { IfGiven result (λ text. text ≡ bytes.entry) }
 {
     if bytes.len() > MOST_BYTES {
         return Body::Long;

@@ -1,5 +1,7 @@
 // What a method asks of a resource.
-ghost use Rattle.std.specs.Prelude.{◌≡◌, IfOk, OnErr, IsSomeAnd};
+ghost use Rattle.std.specs.Prelude.{◌≡◌, ℕ, List, IfOk, IfSome, OnErr, IsSomeAnd, option_map};
+ghost use Rattle.std.specs.Borrow.{Bor};
+ghost use Rattle.office_policy.specs.Commands.{plain_command, HoldsText};
 ghost use Rattle.office_requests.specs.Commands.{gets, puts, posts, deletes, command_of, HasJson};
 
 use crate::bodies::{dept_body, place_body, text_body};
@@ -15,8 +17,9 @@ pub(crate) fn command_of<'a>(
     resource: Resource,
     body: &'a [u8],
 ) -> Result<Option<Command<'a>>, AllocError>
-    ensures ok { IfOk result (λ command. command ≡ command_of verb resource body.entry) }
-    ensures err { OnErr result (IsSomeAnd (command_of verb resource body.entry) HasJson) }
+    ensures ok { IfOk result (λ command. option_map plain_command command ≡ command_of verb resource body.now) }
+    ensures lent { IfOk result (λ command. IfSome command (HoldsText body.entry)) }
+    ensures err { OnErr result (IsSomeAnd (command_of verb resource body.now) HasJson) }
 {
     match verb {
         Verb::Get => Ok(gets(resource)),
@@ -28,7 +31,8 @@ pub(crate) fn command_of<'a>(
 }
 
 fn gets<'a>(resource: Resource) -> Option<Command<'a>>
-    ensures { result ≡ gets resource }
+    ensures command { option_map plain_command result ≡ gets resource }
+    ensures lent { (text : Bor (List ℕ)) → IfSome result (HoldsText text) }
 {
     match resource {
         Resource::Me => Some(Command::Me),
@@ -51,8 +55,9 @@ fn puts<'a>(
     resource: Resource,
     body: &'a [u8],
 ) -> Result<Option<Command<'a>>, AllocError>
-    ensures ok { IfOk result (λ command. command ≡ puts resource body.entry) }
-    ensures err { OnErr result (IsSomeAnd (puts resource body.entry) HasJson) }
+    ensures ok { IfOk result (λ command. option_map plain_command command ≡ puts resource body.now) }
+    ensures lent { IfOk result (λ command. IfSome command (HoldsText body.entry)) }
+    ensures err { OnErr result (IsSomeAnd (puts resource body.now) HasJson) }
 {
     match resource {
         Resource::Instance => Ok(Some(Command::Load(Body::Given(body)))),
@@ -68,7 +73,8 @@ fn posts<'a>(
     resource: Resource,
     body: &'a [u8],
 ) -> Result<Option<Command<'a>>, AllocError>
-    ensures ok { IfOk result (λ command. command ≡ posts resource body.now) }
+    ensures ok { IfOk result (λ command. option_map plain_command command ≡ posts resource body.now) }
+    ensures lent { IfOk result (λ command. IfSome command (HoldsText body.entry)) }
     ensures err { OnErr result (IsSomeAnd (posts resource body.now) HasJson) }
 {
     match resource {
@@ -87,7 +93,8 @@ fn posts<'a>(
 }
 
 fn deletes<'a>(resource: Resource) -> Option<Command<'a>>
-    ensures { result ≡ deletes resource }
+    ensures command { option_map plain_command result ≡ deletes resource }
+    ensures lent { (text : Bor (List ℕ)) → IfSome result (HoldsText text) }
 {
     match resource {
         Resource::Draft(draft) => Some(Command::DropDraft(draft)),

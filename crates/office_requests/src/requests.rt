@@ -1,6 +1,8 @@
 // Reading a request, as far as nothing that is stored is looked at.
-ghost use Rattle.std.specs.Prelude.{◌≡◌, option_copied};
+ghost use Rattle.std.specs.Prelude.{◌≡◌, ℕ, List, IfOk, IfSome, option_copied, option_map};
+ghost use Rattle.std.specs.Borrow.{Bor};
 ghost use Rattle.office_messages.specs.Reply.{plain_reply};
+ghost use Rattle.office_policy.specs.Commands.{plain_command, HoldsText, HasSmallNumbers};
 ghost use Rattle.office_requests.specs.Methods.{verb_of};
 ghost use Rattle.office_requests.specs.Resources.{resource_of};
 ghost use Rattle.office_requests.specs.Requests.{caller_in, her_page, her_command};
@@ -14,8 +16,8 @@ use crate::pages::Page;
 use crate::resources::{Resource, resource_at};
 use crate::routes::Routes;
 use crate::texts::FixedError;
-use office_policy::{Caller, Command, Denial};
 use office_messages::{Allow, Reply, Request, unavailable};
+use office_policy::{Caller, Command, Denial};
 use std::alloc::Global;
 
 /// Who asks, and for what.
@@ -74,8 +76,10 @@ pub fn read_request<'a>(
     routes: &Routes,
     request: &Request<'a>,
 ) -> Result<Asked<'a>, Refusal>
-    ensures { GivesAsked (reading request.now.method.now request.now.target.now
-        (option_copied request.now.caller) request.now.body) result }
+    ensures asked { GivesAsked (reading request.now.method.now request.now.target.now
+        (option_copied request.now.caller) request.now.body.now) result }
+    ensures within { IfOk result (λ asked. HasSmallNumbers (plain_command asked.command)) }
+    ensures lent { IfOk result (λ asked. HoldsText request.now.body asked.command) }
 {
     let Some(caller) = caller_in(request.caller) else {
         return Err(Refusal::Caller);
@@ -99,8 +103,9 @@ fn asked_by<'a>(
     caller: &Caller,
     request: &Request<'a>,
 ) -> Result<Command<'a>, Refusal>
-    ensures { GivesCommand (asked_by caller.now (verb_of request.now.method.now)
-        request.now.target.now request.now.body) result }
+    ensures asked { GivesCommand (asked_by caller.now (verb_of request.now.method.now)
+        request.now.target.now request.now.body.now) result }
+    ensures lent { IfOk result (HoldsText request.now.body) }
 {
     let verb = Verb::read(request.method);
     match caller {
@@ -113,7 +118,8 @@ fn asked_by<'a>(
 }
 
 fn her_command<'a>(routes: &Routes, verb: Verb, target: &str) -> Option<Command<'a>>
-    ensures { result ≡ her_command verb target.now }
+    ensures command { option_map plain_command result ≡ her_command verb target.now }
+    ensures lent { (text : Bor (List ℕ)) → IfSome result (HoldsText text) }
 {
     match verb {
         Verb::Get => her_page(resource_of(routes, target)?),
@@ -122,7 +128,8 @@ fn her_command<'a>(routes: &Routes, verb: Verb, target: &str) -> Option<Command<
 }
 
 fn her_page<'a>(resource: Resource) -> Option<Command<'a>>
-    ensures { result ≡ her_page resource }
+    ensures command { option_map plain_command result ≡ her_page resource }
+    ensures lent { (text : Bor (List ℕ)) → IfSome result (HoldsText text) }
 {
     match resource {
         Resource::Me => Some(Command::Me),
@@ -146,7 +153,8 @@ fn staff_command<'a>(
     target: &str,
     body: &'a [u8],
 ) -> Result<Command<'a>, Refusal>
-    ensures { GivesCommand (staff_command verb target.now body.entry) result }
+    ensures asked { GivesCommand (staff_command verb target.now body.now) result }
+    ensures lent { IfOk result (HoldsText body.entry) }
 {
     let Some(page) = routes.page(target) else {
         return Err(Refusal::Path);

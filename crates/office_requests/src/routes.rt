@@ -108,7 +108,7 @@ fn add_publication(router: &mut Router<Page>) -> Result<(), AllocError>
     add(router, "/publication/rooms", Page::PublicationRooms)
 }
 
-// Adds a route. A route in the table is refused for want of memory alone.
+// Adds a route. A route in the table is refused only where memory runs out.
 fn add(router: &mut Router<Page>, route: &str, page: Page) -> Result<(), AllocError>
     ensures { OnOk result (router.new ≡ adds route.now page router.old) }
 {

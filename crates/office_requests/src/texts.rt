@@ -3,11 +3,11 @@ ghost use Rattle.std.specs.Prelude.{◌≡◌};
 ghost use Rattle.office_messages.specs.Reply.{plain_reply};
 ghost use Rattle.office_requests.specs.Texts.{status_of, error_text, error_reply};
 
-use office_policy::Denial;
 use office_messages::{Reply, Status, fixed_reply};
+use office_policy::Denial;
 
 /// The refusals whose text is always the same. A body that is too long is answered as a message
-/// that says so of itself (`fault_reply`), and want of memory by `unavailable`.
+/// that says so of itself (`fault_reply`), and out of memory by `unavailable`.
 #[derive(Clone, Copy)]
 pub enum FixedError {
     Caller,

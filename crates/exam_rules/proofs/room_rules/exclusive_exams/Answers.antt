@@ -5,7 +5,8 @@ use Rattle.std.proofs.lemmas.List.Filters.{dedup_is, All-dedup}
 use Rattle.std.proofs.lemmas.List.Sorted.{All-permutation, list_any-IsPermutation}
 use Rattle.exam_model.specs.declared.rules.RoomRule.{RoomRule}
 use Rattle.exam_rules.specs.Groups.{has_exam}
-use Rattle.exam_rules.proofs.MemberLemmas.{any_map, any_dedup}
+use Rattle.exam_model.proofs.PairLemmas.{any_map}
+use Rattle.exam_rules.proofs.MemberLemmas.{any_dedup}
 use Rattle.exam_rules.proofs.room_rules.exclusive_exams.Goals as goal
 
 pub returns-clause-members : goal.returns-clause-members

@@ -1,0 +1,104 @@
+-- What is asked, without where its texts lie in memory.
+use Rattle.std.specs.Prelude.{◌≡◌, ℕ, ◌≤◌, List}
+use Rattle.std.specs.Borrow.{Bor}
+use Rattle.exam_terms.specs.declared.place.Place.{Place}
+use Rattle.office_policy.specs.declared.command.Body.{Body}
+use Rattle.office_policy.specs.declared.command.Body.TheVariants.{Given, Bad, Long}
+use Rattle.office_policy.specs.declared.command.Command.{Command}
+use Rattle.office_policy.specs.declared.command.Command.TheVariants as command
+
+-- a command, whose texts are lists of bytes
+pub data PlainCommand : Type 0 where
+  me : PlainCommand
+  my_exam : ℕ → PlainCommand
+  my_penalty : PlainCommand
+  load : Body (List ℕ) → PlainCommand
+  instance : PlainCommand
+  set_owner : ℕ → Body ℕ → PlainCommand
+  new_draft : ℕ → Body (List ℕ) → PlainCommand
+  draft : ℕ → PlainCommand
+  draft_penalty : ℕ → PlainCommand
+  draft_violations : ℕ → PlainCommand
+  drop_draft : ℕ → PlainCommand
+  place : ℕ → ℕ → Body Place → PlainCommand
+  move : ℕ → ℕ → Body Place → PlainCommand
+  clear : ℕ → ℕ → PlainCommand
+  swap : ℕ → ℕ → ℕ → PlainCommand
+  publish : ℕ → PlainCommand
+  publication : PlainCommand
+  publication_penalty : PlainCommand
+  publication_rooms : PlainCommand
+  batch : ℕ → Body (List ℕ) → PlainCommand
+
+-- what a body says, as bytes
+abbrev pub plain_text : Body (Bor (List ℕ)) → Body (List ℕ)
+plain_text (Given text) = Given text.now
+plain_text Bad = Bad
+plain_text Long = Long
+
+-- the command that the program holds
+abbrev pub plain_command : Command → PlainCommand
+plain_command command.Me = me
+plain_command (command.MyExam e) = my_exam e
+plain_command command.MyPenalty = my_penalty
+plain_command (command.Load text) = load (plain_text text)
+plain_command command.Instance = instance
+plain_command (command.SetOwner e dept) = set_owner e dept
+plain_command (command.NewDraft d text) = new_draft d (plain_text text)
+plain_command (command.Draft d) = draft d
+plain_command (command.DraftPenalty d) = draft_penalty d
+plain_command (command.DraftViolations d) = draft_violations d
+plain_command (command.DropDraft d) = drop_draft d
+plain_command (command.Place d e at) = place d e at
+plain_command (command.Move d e to) = move d e to
+plain_command (command.Clear d e) = clear d e
+plain_command (command.Swap d a b) = swap d a b
+plain_command (command.Publish d) = publish d
+plain_command command.Publication = publication
+plain_command command.PublicationPenalty = publication_penalty
+plain_command command.PublicationRooms = publication_rooms
+plain_command (command.Batch n text) = batch n (plain_text text)
+
+-- what a body gives, if anything, is so
+abbrev pub IfGiven : {A : Type 0} → Body A → (A → Type 0) → Type 0
+IfGiven (Given x) P = P x
+IfGiven Bad P = Unit {0}
+IfGiven Long P = Unit {0}
+
+-- the text that the command holds, if it has one, is this very one in memory
+abbrev pub HoldsText : Bor (List ℕ) → Command → Type 0
+HoldsText text (command.Load body) = IfGiven body (λ held. held ≡ text)
+HoldsText text (command.NewDraft d body) = IfGiven body (λ held. held ≡ text)
+HoldsText text (command.Batch n body) = IfGiven body (λ held. held ≡ text)
+HoldsText text _ = Unit {0}
+
+-- a number of at most nine digits
+abbrev pub IsSmall : ℕ → Type 0
+IsSmall n = n ≤ 999999999
+
+-- both numbers of a place are
+abbrev pub IsSmallPlace : Place → Type 0
+IsSmallPlace at = IsSmall at.period × IsSmall at.room
+
+-- each number of the command is in its limit: a department is at most 999
+abbrev pub HasSmallNumbers : PlainCommand → Type 0
+HasSmallNumbers me = Unit {0}
+HasSmallNumbers (my_exam e) = IsSmall e
+HasSmallNumbers my_penalty = Unit {0}
+HasSmallNumbers (load text) = Unit {0}
+HasSmallNumbers instance = Unit {0}
+HasSmallNumbers (set_owner e dept) = IsSmall e × IfGiven dept (λ d. d ≤ 999)
+HasSmallNumbers (new_draft d text) = IsSmall d
+HasSmallNumbers (draft d) = IsSmall d
+HasSmallNumbers (draft_penalty d) = IsSmall d
+HasSmallNumbers (draft_violations d) = IsSmall d
+HasSmallNumbers (drop_draft d) = IsSmall d
+HasSmallNumbers (place d e at) = IsSmall d × IsSmall e × IfGiven at IsSmallPlace
+HasSmallNumbers (move d e to) = IsSmall d × IsSmall e × IfGiven to IsSmallPlace
+HasSmallNumbers (clear d e) = IsSmall d × IsSmall e
+HasSmallNumbers (swap d a b) = IsSmall d × IsSmall a × IsSmall b
+HasSmallNumbers (publish d) = IsSmall d
+HasSmallNumbers publication = Unit {0}
+HasSmallNumbers publication_penalty = Unit {0}
+HasSmallNumbers publication_rooms = Unit {0}
+HasSmallNumbers (batch n text) = IsSmall n
