@@ -1,0 +1,212 @@
+#!/usr/bin/env python3
+"""The invariants of the architecture that docs/MAP.md states, held against the crates.
+
+What a crate stands on is read from crates.txt, what it names from the `use` lines of its sources,
+definitions and proofs. The pages that go crate by crate have to go in the order of crates.txt.
+Prints a line for each failure; status 1 where there is one.
+"""
+
+import pathlib
+import re
+import sys
+
+TOP = pathlib.Path(__file__).resolve().parent.parent
+
+# Who may know SQL: its grammar and its meaning, and the texts of statements.
+SQL_CRATES = {"office_schema", "office_tables", "office_statements"}
+SQL_LIBRARIES = {
+    "sqlite_sql", "sqlite_items", "sqlite_rules", "sqlite_catalog", "sqlite_resolve", "sqlite_tied",
+}
+# Who may name a connection, a store, a database and its values besides.
+SQLITE_NAMERS = SQL_CRATES | {"office_records", "office_store", "office_program", "worked_offices"}
+
+# Each page, and whether it has to have every crate of the libraries and the program, or of all.
+PAGES = [("MAP.md", "all"), ("PROVED.md", "libraries"), ("CONTRACTS.md", ""), ("WRONG_BODIES.md", "")]
+
+STATEMENT = re.compile(
+    r'"\s*(SELECT|INSERT INTO|DELETE FROM|UPDATE|CREATE TABLE|CREATE INDEX|DROP|PRAGMA)\s'
+)
+DEVICES = re.compile(r"\bstd::(fs|io|net|env|process)\b|\bRattle\.std\.specs\.Io\b")
+GHOST_USE = re.compile(r"\buse\s+(?:path\s+)?Rattle\.([a-z][a-z0-9_]*)")
+CODE_USE = re.compile(r"^\s*(?:pub(?:\([a-z]+\))?\s+)?use\s+([a-z][a-z0-9_]*)", re.M)
+
+
+def listed():
+    """The crates in their order, each with the libraries on its line."""
+    crates = {}
+    for line in (TOP / "crates.txt").read_text().splitlines():
+        line = line.split("#")[0].strip()
+        if line:
+            name, libraries = line.split(":")
+            crates[name.split()[0]] = set(libraries.split())
+    return crates
+
+
+def sources(crate):
+    """The text of each file of a crate, without comments of code."""
+    for folder in ("src", "specs", "proofs"):
+        for path in sorted((TOP / "crates" / crate / folder).rglob("*")):
+            if path.suffix == ".rt":
+                text = path.read_text()
+                yield path, "\n".join(x.split("//")[0] for x in text.splitlines())
+            elif path.suffix == ".antt":
+                yield path, "\n".join(x.split("--")[0] for x in path.read_text().splitlines())
+
+
+def named(crate, libraries):
+    """The libraries that the `use` lines of a crate name, each with a file that does."""
+    found = {}
+    for path, text in sources(crate):
+        names = set(GHOST_USE.findall(text))
+        if path.suffix == ".rt":
+            names |= set(CODE_USE.findall(text))
+        for name in names & libraries:
+            found.setdefault(name, path.relative_to(TOP))
+    found.pop(crate, None)
+    return found
+
+
+def lines_with(crate, pattern):
+    """The places of a crate's code that hold the pattern."""
+    for path, text in sources(crate):
+        for number, line in enumerate(text.splitlines(), 1):
+            if pattern.search(line):
+                yield f"{path.relative_to(TOP)}:{number}"
+
+
+def is_session(crate):
+    return crate.startswith("exam_")
+
+
+def is_test(crate):
+    return crate.startswith("worked_")
+
+
+def session_knows_no_file_and_no_database(crates, knows):
+    """An exam_ crate stands on exam_ crates alone, but for dates, and names no device."""
+    for crate in filter(is_session, crates):
+        for name, where in knows[crate].items():
+            if not is_session(name) and name not in ("jiff", "jiff_core", "std"):
+                yield f"{crate} knows {name} ({where})"
+        for place in lines_with(crate, DEVICES):
+            yield f"{crate} names a device of std ({place})"
+
+
+def only_the_calendar_loads_jiff(crates, knows):
+    """What names jiff loads all of its statements."""
+    for crate in crates:
+        if crate != "exam_calendar":
+            for name in sorted({"jiff", "jiff_core"} & set(knows[crate])):
+                yield f"{crate} knows {name} ({knows[crate][name]})"
+
+
+def sql_is_known_below(crates, knows):
+    """SQL is known by the crates of the schema and the statements, SQLite by those of the office."""
+    for crate in crates:
+        if crate in SQL_CRATES:
+            continue
+        for name, where in knows[crate].items():
+            if name in SQL_LIBRARIES:
+                yield f"{crate} knows {name}, a library of SQL ({where})"
+            elif name.startswith("sqlite") and crate not in SQLITE_NAMERS:
+                yield f"{crate} knows {name} ({where})"
+        if not is_test(crate):
+            for place in lines_with(crate, STATEMENT):
+                yield f"{crate} holds the text of a statement ({place})"
+
+
+def messages_know_no_route(crates, knows):
+    """office_messages stands on no crate of the repository, and on no router."""
+    for name, where in knows["office_messages"].items():
+        if name in crates or name in ("matchit", "serde_json"):
+            yield f"office_messages knows {name} ({where})"
+
+
+def main_knows_the_program_alone(crates, knows):
+    """What `main` does is a library."""
+    for name, where in knows["examoffice"].items():
+        if name not in ("office_program", "std"):
+            yield f"examoffice knows {name} ({where})"
+
+
+INVARIANTS = [
+    session_knows_no_file_and_no_database,
+    only_the_calendar_loads_jiff,
+    sql_is_known_below,
+    messages_know_no_route,
+    main_knows_the_program_alone,
+]
+
+
+def sections(page, crates):
+    """The crates that a page's headings name, in their order."""
+    found = []
+    for line in page.read_text().splitlines():
+        if line.startswith("## "):
+            names = [name.strip() for name in line[3:].split(":")[0].split(",")]
+            found += [name for name in names if name in crates]
+    return found
+
+
+def drawn(page, crates):
+    """The crates of the list under the drawing of MAP, in their order."""
+    rows = re.findall(r"^\| `([a-z0-9_]+)` \| [^|]*\| (?:meaning|gate)", page.read_text(), re.M)
+    return [name for name in rows if name in crates]
+
+
+def disorder(where, found, wanted, crates):
+    """What is missing or out of the order of crates.txt in a list of crates."""
+    for name in wanted:
+        if name not in found:
+            yield f"{where} has no {name}"
+    order = [name for name in crates if name in found]
+    for name, other in zip(found, order):
+        if name != other:
+            yield f"{where} has {name} where crates.txt has {other}"
+            return
+    if len(found) != len(order):
+        yield f"{where} has a crate twice"
+
+
+def pages_out_of_order(crates):
+    for name, extent in PAGES:
+        page = TOP / "docs" / name
+        wanted = [x for x in crates if extent == "all" or extent and not is_test(x)]
+        yield from disorder(f"docs/{name}", sections(page, crates), wanted, crates)
+        if name == "MAP.md":
+            yield from disorder("the list of docs/MAP.md", drawn(page, crates), crates, crates)
+
+
+def stands_above(crates):
+    """A crate of the repository is listed below those that stand on it."""
+    before = set()
+    for crate, libraries in crates.items():
+        for name in sorted((libraries & set(crates)) - before):
+            yield f"crates.txt lists {crate} before {name}, on which it stands"
+        before.add(crate)
+
+
+def main():
+    crates = listed()
+    libraries = set(crates).union(*crates.values()) | {"jiff", "jiff_core", "matchit", "serde_json"}
+    libraries |= SQL_LIBRARIES | {"sqlite"}
+    knows = {}
+    for crate, stands_on in crates.items():
+        knows[crate] = {name: "crates.txt" for name in sorted(stands_on)}
+        for name, where in named(crate, libraries).items():
+            knows[crate].setdefault(name, where)
+    failed = 0
+    for invariant in INVARIANTS:
+        faults = list(invariant(crates, knows))
+        failed += bool(faults)
+        for fault in faults:
+            print(f"architecture: {invariant.__name__}: {fault}")
+    faults = list(stands_above(crates)) + list(pages_out_of_order(crates))
+    for fault in faults:
+        print(f"architecture: order: {fault}")
+    failed += bool(faults)
+    print(f"architecture: {len(INVARIANTS)} invariants and the order of the crates, {failed} failed")
+    return 1 if failed else 0
+
+
+sys.exit(main())
