@@ -3,6 +3,8 @@ use Rattle.std.proofs.Common.{◌≡◌, ◌∙◌, ℕ, ◌+◌, ◌-◌, ◌<�
 use Rattle.std.specs.Prelude.{not}
 use Rattle.std.proofs.lemmas.List.{get_or_read, set-get_or}
 use Rattle.exam_model.specs.Enrolments.{Enrolled, AreEnrolments, IsAscending, Enters, Leaves, Adds, Removes, students, has, has_student, pair_count}
+use Rattle.exam_model.specs.Changes.{with_pair, without_pair}
+use Rattle.exam_model.proofs.StudentLemmas.{entered, left}
 use Rattle.exam_model.proofs.EnrolmentLemmas.{adds_set, enrolments_set, removes_set, enrolments_left}
 use Rattle.exam_model.proofs.EnrolLemmas.{pair_count-enrol, enrolments_enrol}
 
@@ -58,6 +60,13 @@ adds_entered E e s roll new lt is enters =
     adds_set E e s new lt
     (subst (λ (r : List ℕ). Enters r new s) (get_or_read E e roll lt is []) enters)
 
+pub pair_entered : (E : Enrolled) (e s p : ℕ) (roll new : List ℕ) → e < length E
+    → roll ≡ slice_index_or E e roll → Enters roll new s → IsCounted E p
+    → set E e new ≡ with_pair E s e
+pair_entered E e s p roll new lt is enters was =
+    ap (set E e) (entered s (students E e) new (was.0.ascending e lt)
+    (subst (λ (r : List ℕ). Enters r new s) (get_or_read E e roll lt is []) enters))
+
 -- and the count goes up for one who is new, and stays for one who isn't
 pub counted_new : (E : Enrolled) (e s p : ℕ) (roll new : List ℕ) → e < length E
     → roll ≡ slice_index_or E e roll → Enters roll new s → has_student roll s ≡ false
@@ -84,6 +93,13 @@ pub removes_left : (E : Enrolled) (e s : ℕ) (roll new : List ℕ) → e < leng
 removes_left E e s roll new lt is leaves =
     removes_set E e s new lt
     (subst (λ (r : List ℕ). Leaves r new s) (get_or_read E e roll lt is []) leaves)
+
+pub pair_left : (E : Enrolled) (e s : ℕ) (roll new : List ℕ) → e < length E
+    → roll ≡ slice_index_or E e roll → Leaves roll new s → AreEnrolments E
+    → set E e new ≡ without_pair E s e
+pair_left E e s roll new lt is leaves was =
+    ap (set E e) (left s (students E e) new (was.ascending e lt)
+    (subst (λ (r : List ℕ). Leaves r new s) (get_or_read E e roll lt is []) leaves))
 
 pub kept_left : (E : Enrolled) (e s : ℕ) (roll new : List ℕ) → e < length E
     → roll ≡ slice_index_or E e roll → Leaves roll new s → AreEnrolments E

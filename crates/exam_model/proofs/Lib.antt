@@ -5,4 +5,5 @@ pub mod PairLemmas
 mod RollLemmas
 pub mod SameSet
 pub mod DayLemmas
+pub mod StudentLemmas
 pub mod SumLemmas

@@ -3,6 +3,7 @@ pub mod Limits
 pub mod Instance
 pub mod Enrolments
 pub mod Pairs
+pub mod Changes
 pub mod Timetable
 pub mod Fits
 pub mod PairCost

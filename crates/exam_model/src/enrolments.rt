@@ -1,11 +1,12 @@
 // Which student sits which exam: contracts see each exam's students, ascending.
 ghost use Rattle.std.specs.Prelude.{◌≡◌, ◌<◌, ◌≤◌, [], not, length, slice_set, IfOk, IfErr, OnOk, OnErr};
+ghost use Rattle.exam_model.specs.Changes.{with_pair, without_pair};
 ghost use Rattle.exam_model.specs.Enrolments.{Enrolled, AreEnrolments, IsAscending, Adds, Removes, RefusesPair, RefusesAll, students, has, size_of, shared, pair_count, no_pairs};
 
 use crate::fault::ModelFault;
 use crate::roll::Roll;
 use exam_terms::{ExamNo, StudentNo};
-use std::alloc::Global;
+use std::alloc::{AllocError, Global};
 use std::marker::Model;
 
 const MOST_PAIRS: u32 = 200_000;
@@ -41,6 +42,21 @@ impl Enrolments {
                 .map_err(|_| ModelFault::NoMemory)?;
         }
         Ok(Enrolments { rolls, pairs: 0 })
+    }
+
+    /// The same pairs once more.
+    pub fn copy(&self, alloc: Global) -> Result<Enrolments, AllocError>
+        ensures same { IfOk result (λ made. made ≡ self.now) }
+        ensures kept { IfOk result AreEnrolments }
+    {
+        let mut copies: Vec<Roll> = Vec::new(alloc);
+        'rolls: for roll in &self.rolls {
+            copies.push(roll.copy(alloc)?)?;
+        }
+        Ok(Enrolments {
+            rolls: copies,
+            pairs: self.pairs,
+        })
     }
 
     /// How many exams there are, as `new` was told.
@@ -112,6 +128,7 @@ impl Enrolments {
         ensures fresh { IfOk result (λ fresh. fresh ≡ not (has self.old student exam)) }
         ensures exists { OnOk result (exam < length self.old) }
         ensures ok { OnOk result (Adds self.old self.new student exam) }
+        ensures pair { OnOk result (self.new ≡ with_pair self.old student exam) }
         ensures err { OnErr result (self.new ≡ self.old) }
         ensures kept { AreEnrolments self.new }
         ensures refused { IfErr result (RefusesPair self.old student exam) }
@@ -135,6 +152,7 @@ impl Enrolments {
         requires exists { exam < length self.old }
         ensures removed { result ≡ has self.old student exam }
         ensures left { Removes self.old self.new student exam }
+        ensures pair { self.new ≡ without_pair self.old student exam }
         ensures kept { AreEnrolments self.new }
     {
         let removed = self.rolls[exam.get() as usize].remove(student);

@@ -17,7 +17,7 @@ pub use exam_calendar::Date;
 pub use exam_terms::{DeptNo, ExamNo, PeriodNo, Place, RoomNo, StudentNo};
 pub use fault::ModelFault;
 pub use instance::Instance;
-pub use laws::{determined_by_pairs, pairs_in_order};
+pub use laws::{determined_by_pairs, others_stay, pairs_in_order};
 pub use pair_cost::PairCost;
 pub use parts::{Exam, Period, Room, Weights};
 pub use rules::{PeriodRule, RoomRule};

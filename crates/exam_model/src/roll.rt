@@ -28,6 +28,13 @@ impl Roll {
         }
     }
 
+    pub fn copy(&self, alloc: Global) -> Result<Roll, AllocError>
+        ensures same { IfOk result (λ made. made ≡ self.now) }
+    {
+        let students = self.students.to_vec(alloc)?;
+        Ok(Roll { students })
+    }
+
     pub fn as_slice(&self) -> &[StudentNo]
         ensures all { result.now ≡ self.now }
         ensures ascending { IsAscending self.now }

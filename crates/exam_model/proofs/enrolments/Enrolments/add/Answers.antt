@@ -1,6 +1,6 @@
 use Rattle.std.proofs.Common.{◌≡◌, ◌∙◌, ◌<◌, false, sym}
 use Rattle.exam_model.specs.Enrolments.{has_student}
-use Rattle.exam_model.proofs.CountLemmas.{set_again, counted_again, one_more_fits, new_absent, old_present, is_has, full_refuses, adds_entered, counted_new, counted_old, on_err}
+use Rattle.exam_model.proofs.CountLemmas.{set_again, counted_again, one_more_fits, new_absent, old_present, is_has, full_refuses, adds_entered, pair_entered, counted_new, counted_old, on_err}
 use Rattle.exam_model.proofs.enrolments.Enrolments.add.Goals.{else-full-via-then-full+else-not-has, else-full-via-else-full}
 use Rattle.exam_model.proofs.enrolments.Enrolments.add.Goals as goal
 
@@ -92,6 +92,13 @@ returns-then-fresh-clause-ok c =
     (adds_entered c.self.inside.rolls.items c.get.result c.args.student c.in-Some.roll.now
     c.add.new.self c.in-Some.ensures.item.3.0 c.in-Some.ensures.value c.in_ok-fresh.ensures.ok)
 
+pub returns-then-fresh-clause-pair : goal.returns-then-fresh-clause-pair
+returns-then-fresh-clause-pair c =
+    rw (← c.self.view_is, ← c.get.ensures)
+    (pair_entered c.self.inside.rolls.items c.get.result c.args.student c.self.inside.pairs
+    c.in-Some.roll.now c.add.new.self c.in-Some.ensures.item.3.0 c.in-Some.ensures.value
+    c.in_ok-fresh.ensures.ok c.self.invariant)
+
 pub returns-then-fresh-clause-kept : goal.returns-then-fresh-clause-kept
 returns-then-fresh-clause-kept c = (invariant_of-self-then-fresh c).0
 
@@ -110,6 +117,13 @@ returns-else-fresh-clause-ok c =
     rw (← c.self.view_is, ← c.get.ensures)
     (adds_entered c.self.inside.rolls.items c.get.result c.args.student c.in-Some.roll.now
     c.add.new.self c.in-Some.ensures.item.3.0 c.in-Some.ensures.value c.in_ok-fresh.ensures.ok)
+
+pub returns-else-fresh-clause-pair : goal.returns-else-fresh-clause-pair
+returns-else-fresh-clause-pair c =
+    rw (← c.self.view_is, ← c.get.ensures)
+    (pair_entered c.self.inside.rolls.items c.get.result c.args.student c.self.inside.pairs
+    c.in-Some.roll.now c.add.new.self c.in-Some.ensures.item.3.0 c.in-Some.ensures.value
+    c.in_ok-fresh.ensures.ok c.self.invariant)
 
 pub returns-else-fresh-clause-kept : goal.returns-else-fresh-clause-kept
 returns-else-fresh-clause-kept c = (invariant_of-self-else-fresh c).0

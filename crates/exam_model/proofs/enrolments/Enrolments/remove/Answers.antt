@@ -1,5 +1,5 @@
 use Rattle.std.proofs.Common.{◌∙◌, sym, arith}
-use Rattle.exam_model.proofs.CountLemmas.{exam_within, is_has, removes_left, kept_left, count_less, count_same}
+use Rattle.exam_model.proofs.CountLemmas.{exam_within, is_has, removes_left, pair_left, kept_left, count_less, count_same}
 use Rattle.exam_model.proofs.enrolments.Enrolments.remove.Goals as goal
 
 pub overflow_sub-self : goal.overflow_sub-self
@@ -46,6 +46,13 @@ returns-then-removed-clause-left c =
     (removes_left c.self.inside.rolls.items c.get.result c.args.student c.index_mut.result.now
     c.remove-removed.new.self (exam_within c.self.view_is c.get.ensures c.requires.exists) c.index_mut.ensures.value c.remove-removed.ensures.left)
 
+pub returns-then-removed-clause-pair : goal.returns-then-removed-clause-pair
+returns-then-removed-clause-pair c =
+    rw (← c.self.view_is, ← c.get.ensures)
+    (pair_left c.self.inside.rolls.items c.get.result c.args.student c.index_mut.result.now
+    c.remove-removed.new.self (exam_within c.self.view_is c.get.ensures c.requires.exists) c.index_mut.ensures.value c.remove-removed.ensures.left
+    c.self.invariant.0)
+
 pub returns-then-removed-clause-kept : goal.returns-then-removed-clause-kept
 returns-then-removed-clause-kept c = (invariant_of-self c).0
 
@@ -61,6 +68,13 @@ returns-else-removed-clause-left c =
     rw (← c.self.view_is, ← c.get.ensures)
     (removes_left c.self.inside.rolls.items c.get.result c.args.student c.index_mut.result.now
     c.remove-removed.new.self (exam_within c.self.view_is c.get.ensures c.requires.exists) c.index_mut.ensures.value c.remove-removed.ensures.left)
+
+pub returns-else-removed-clause-pair : goal.returns-else-removed-clause-pair
+returns-else-removed-clause-pair c =
+    rw (← c.self.view_is, ← c.get.ensures)
+    (pair_left c.self.inside.rolls.items c.get.result c.args.student c.index_mut.result.now
+    c.remove-removed.new.self (exam_within c.self.view_is c.get.ensures c.requires.exists) c.index_mut.ensures.value c.remove-removed.ensures.left
+    c.self.invariant.0)
 
 pub returns-else-removed-clause-kept : goal.returns-else-removed-clause-kept
 returns-else-removed-clause-kept c = (invariant_of-self-else-removed c).0

@@ -1,0 +1,177 @@
+-- What it leaves to put a student into an ascending list, or to take one out.
+use Rattle.std.proofs.Common.{◌≡◌, ◌≢◌, ◌∙◌, ℕ, zero, suc, ◌+◌, ◌<◌, ◌≤◌, Bool, true, false, List, [], ◌∷◌, length, set, refl, ap, subst, sym, inl, inr, arith, if◌then◌else◌}
+use Rattle.std.proofs.Common.{get_or-set_other, get_or-set_same}
+use Rattle.std.specs.Prelude.{◌==◌, ◌||◌, ◌&&◌, not, nat_lt, slice_index, filter}
+use Rattle.std.specs.List.{range_with_len}
+use Rattle.std.proofs.lemmas.Bool.{ltb-true, ltb-false, eqb-true, eqb-false, ne_eqb, eq-eqb, cases_eq, cases_lt}
+use Rattle.std.proofs.lemmas.List.{length-set, set_past}
+use Rattle.std.proofs.lemmas.List.Elements.{filter_agree}
+use Rattle.exam_model.specs.Changes.{with_student, without_student, with_pair, without_pair, exams_sat}
+use Rattle.exam_model.specs.Enrolments.{Enrolled, IsAscending, Enters, Leaves, has_student, students, has}
+use Rattle.exam_model.proofs.SameSet.{same_list}
+
+pub or_twice : (a r : Bool) → (a || r) ≡ (a || (a || r))
+or_twice true r = refl
+or_twice false r = refl
+
+pub or_middle : (a b r : Bool) → (a || (b || r)) ≡ (b || (a || r))
+or_middle true true r = refl
+or_middle true false r = refl
+or_middle false b r = refl
+
+-- the student goes before the first, or she is the first, or she goes behind her
+pub with_cases : (s u : ℕ) (us : List ℕ) (P : List ℕ → Type 0) →
+    (s < u → P (s ∷ u ∷ us)) → (s ≡ u → P (u ∷ us)) → (u < s → P (u ∷ with_student s us)) →
+    P (with_student s (u ∷ us))
+with_cases s u us P before same behind =
+    let not_before = if s == u then u ∷ us else u ∷ with_student s us in
+    elim (nat_lt s u) as (λ b. nat_lt s u ≡ b → P (if b then s ∷ u ∷ us else not_before)) [
+      | true ↦ λ lt. before (ltb-true s u lt)
+      | false ↦ λ ge.
+          elim (s == u) as (λ b. (s == u) ≡ b → P (if b then u ∷ us else u ∷ with_student s us)) [
+            | true ↦ λ eq. same (eqb-true s u eq)
+            | false ↦ λ ne.
+                let above = ltb-false s u ge in
+                let other = eqb-false s u ne in
+                behind (grind (arith, above, other))
+          ] refl
+    ] refl
+
+-- she is a member, beside those from before
+pub has-with : (s : ℕ) (xs : List ℕ) (t : ℕ) →
+    has_student (with_student s xs) t ≡ ((s == t) || has_student xs t)
+has-with s [] t = refl
+has-with s (u ∷ us) t =
+    with_cases s u us (λ ys. has_student ys t ≡ ((s == t) || has_student (u ∷ us) t))
+    (λ lt. refl)
+    (λ same. rw same (or_twice (u == t) (has_student us t)))
+    (λ above. ap (λ b. (u == t) || b) (has-with s us t)
+    ∙ or_middle (u == t) (s == t) (has_student us t))
+
+-- every member is above x
+abbrev pub Above : ℕ → List ℕ → Type 0
+Above x xs = (k : ℕ) → k < length xs → x < slice_index xs k
+
+above_cons : (x y : ℕ) (ys : List ℕ) → x < y → Above x ys → Above x (y ∷ ys)
+above_cons x y ys lt above zero within = lt
+above_cons x y ys lt above (suc k) within = above k (omega arith)
+
+above_tail : (x y : ℕ) (ys : List ℕ) → Above x (y ∷ ys) → Above x ys
+above_tail x y ys above k within = above (suc k) (omega arith)
+
+above_with : (x s : ℕ) (ys : List ℕ) → x < s → Above x ys → Above x (with_student s ys)
+above_with x s [] lt above = above_cons x s [] lt above
+above_with x s (u ∷ us) lt above =
+    let first = above 0 (omega arith) in
+    let others = above_with x s us lt (above_tail x u us above) in
+    with_cases s u us (Above x)
+    (λ before. above_cons x s (u ∷ us) lt above)
+    (λ same. above)
+    (λ behind. above_cons x u (with_student s us) first others)
+
+pub ascending_cons : (x : ℕ) (xs : List ℕ) → Above x xs → IsAscending xs → IsAscending (x ∷ xs)
+ascending_cons x xs above up i zero lt within = absurd (omega arith)
+ascending_cons x xs above up zero (suc j) lt within = above j (omega arith)
+ascending_cons x xs above up (suc i) (suc j) lt within = up i j (omega arith) (omega arith)
+
+pub ascending_tail : (x : ℕ) (xs : List ℕ) → IsAscending (x ∷ xs) → IsAscending xs
+ascending_tail x xs up i j lt within = up (suc i) (suc j) (omega arith) (omega arith)
+
+pub above_first : (x : ℕ) (xs : List ℕ) → IsAscending (x ∷ xs) → Above x xs
+above_first x xs up k within = up 0 (suc k) (omega arith) (omega arith)
+
+above_less : (x y : ℕ) (ys : List ℕ) → x < y → Above y ys → Above x ys
+above_less x y ys lt above k within = omega (arith, above k within)
+
+pub ascending-none : IsAscending []
+ascending-none i j lt within = absurd (omega arith)
+
+-- the list stays ascending
+pub ascending-with : (s : ℕ) (xs : List ℕ) → IsAscending xs → IsAscending (with_student s xs)
+ascending-with s [] up = ascending_cons s [] (λ k within. absurd (omega arith)) up
+ascending-with s (u ∷ us) up =
+    let above = above_first u us up in
+    let others = ascending-with s us (ascending_tail u us up) in
+    with_cases s u us IsAscending
+    (λ before.
+    ascending_cons s (u ∷ us) (above_cons s u us before (above_less s u us before above)) up)
+    (λ same. up)
+    (λ behind. ascending_cons u (with_student s us) (above_with u s us behind above) others)
+
+-- without a student, the others are members as before
+pub has-without : (s : ℕ) (xs : List ℕ) (t : ℕ) →
+    has_student (without_student s xs) t ≡ (not (s == t) && has_student xs t)
+has-without s [] t = elim (s == t) as (λ b. false ≡ (not b && false)) [ | true ↦ refl | false ↦ refl ]
+has-without s (u ∷ us) t = elim (cases_eq u s) [
+    | inl same ↦ rw (same, eq-eqb s s refl) (has-without s us t ∙ first_is_she)
+    | inr other ↦ rw (ne_eqb u s other) (ap (λ b. (u == t) || b) (has-without s us t) ∙ first_is_other other)
+  ]
+  where
+    first_is_she : (not (s == t) && has_student us t) ≡ (not (s == t) && ((s == t) || has_student us t))
+    first_is_she = elim (s == t) as (λ b. (not b && has_student us t) ≡ (not b && (b || has_student us t))) [
+        | true ↦ refl
+        | false ↦ refl
+      ]
+
+    first_is_other : (u ≡ s → ⊥) → ((u == t) || (not (s == t) && has_student us t)) ≡ (not (s == t) && ((u == t) || has_student us t))
+    first_is_other other = elim (cases_eq u t) [
+        | inl is ↦ rw (← is, eq-eqb u u refl, ne_eqb s u (λ q. other (sym q))) refl
+        | inr isnt ↦ rw (ne_eqb u t isnt) refl
+      ]
+
+above_without : (x s : ℕ) (ys : List ℕ) → Above x ys → Above x (without_student s ys)
+above_without x s [] above = above
+above_without x s (u ∷ us) above =
+    let others = above_without x s us (above_tail x u us above) in
+    elim (u == s) as (λ b. Above x (if not b then u ∷ without_student s us else without_student s us)) [
+      | true ↦ others
+      | false ↦ above_cons x u (without_student s us) (above 0 (omega arith)) others
+    ]
+
+-- the list stays ascending
+pub ascending-without : (s : ℕ) (xs : List ℕ) → IsAscending xs → IsAscending (without_student s xs)
+ascending-without s [] up = up
+ascending-without s (u ∷ us) up =
+    let others = ascending-without s us (ascending_tail u us up) in
+    elim (u == s) as (λ b. IsAscending (if not b then u ∷ without_student s us else without_student s us)) [
+      | true ↦ others
+      | false ↦ ascending_cons u (without_student s us) (above_without u s us (above_first u us up)) others
+    ]
+
+-- the list that she has entered, and the one that she has left
+pub entered : (s : ℕ) (old new : List ℕ) → IsAscending old → Enters old new s → new ≡ with_student s old
+entered s old new up enters =
+    same_list new (with_student s old) enters.ascending (ascending-with s old up)
+    (λ t. enters.members t ∙ sym (has-with s old t))
+
+pub left : (s : ℕ) (old new : List ℕ) → IsAscending old → Leaves old new s → new ≡ without_student s old
+left s old new up leaves =
+    same_list new (without_student s old) leaves.ascending (ascending-without s old up)
+    (λ t. leaves.members t ∙ sym (has-without s old t))
+
+-- another student sits an exam as before, whatever its list becomes, where the list says so of her
+has_in : (E : Enrolled) (e t : ℕ) (new : List ℕ) → has_student new t ≡ has_student (students E e) t →
+    (f : ℕ) → has (set E e new) t f ≡ has E t f
+has_in E e t new same f = elim (cases_lt e (length E)) [
+    | inl lt ↦ elim (cases_eq f e) [
+        | inl here ↦ rw (here, get_or-set_same E e new [] lt) same
+        | inr other ↦ rw (get_or-set_other E e f new [] other) refl
+      ]
+    | inr past ↦ rw (set_past E e new past) refl
+  ]
+
+-- so she sits the same exams
+sat_in : (E : Enrolled) (e t : ℕ) (new : List ℕ) → has_student new t ≡ has_student (students E e) t →
+    exams_sat (set E e new) t ≡ exams_sat E t
+sat_in E e t new same =
+    rw (length-set E e new) (filter_agree (λ f. has (set E e new) t f) (λ f. has E t f) (has_in E e t new same) (range_with_len 0 (length E)))
+
+pub with_others : (E : Enrolled) (s e t : ℕ) → t ≢ s → exams_sat (with_pair E s e) t ≡ exams_sat E t
+with_others E s e t other =
+    sat_in E e t (with_student s (students E e))
+    (has-with s (students E e) t ∙ rw (ne_eqb s t (λ q. other (sym q))) refl)
+
+pub without_others : (E : Enrolled) (s e t : ℕ) → t ≢ s → exams_sat (without_pair E s e) t ≡ exams_sat E t
+without_others E s e t other =
+    sat_in E e t (without_student s (students E e))
+    (has-without s (students E e) t ∙ rw (ne_eqb s t (λ q. other (sym q))) refl)
