@@ -1,7 +1,7 @@
 -- What it leaves to put a student into an ascending list, or to take one out.
-use Rattle.std.proofs.Common.{◌≡◌, ◌≢◌, ◌∙◌, ℕ, zero, suc, ◌+◌, ◌<◌, ◌≤◌, Bool, true, false, List, [], ◌∷◌, length, set, refl, ap, subst, sym, inl, inr, arith, if◌then◌else◌}
+use Rattle.std.proofs.Common.{◌≡◌, ◌≢◌, ◌∙◌, ℕ, zero, suc, ◌<◌, Bool, true, false, List, [], ◌∷◌, length, set, refl, ap, sym, inl, inr, arith, if◌then◌else◌}
 use Rattle.std.proofs.Common.{get_or-set_other, get_or-set_same}
-use Rattle.std.specs.Prelude.{◌==◌, ◌||◌, ◌&&◌, not, nat_lt, slice_index, filter}
+use Rattle.std.specs.Prelude.{◌==◌, ◌||◌, ◌&&◌, not, nat_lt, slice_index}
 use Rattle.std.specs.List.{range_with_len}
 use Rattle.std.proofs.lemmas.Bool.{ltb-true, ltb-false, eqb-true, eqb-false, ne_eqb, eq-eqb, cases_eq, cases_lt}
 use Rattle.std.proofs.lemmas.List.{length-set, set_past}
@@ -101,23 +101,23 @@ ascending-with s (u ∷ us) up =
 -- without a student, the others are members as before
 pub has-without : (s : ℕ) (xs : List ℕ) (t : ℕ) →
     has_student (without_student s xs) t ≡ (not (s == t) && has_student xs t)
-has-without s [] t = elim (s == t) as (λ b. false ≡ (not b && false)) [ | true ↦ refl | false ↦ refl ]
+has-without s [] t = elim (s == t) as (λ b. false ≡ (not b && false)) [ true ↦ refl | false ↦ refl ]
 has-without s (u ∷ us) t = elim (cases_eq u s) [
-    | inl same ↦ rw (same, eq-eqb s s refl) (has-without s us t ∙ first_is_she)
-    | inr other ↦ rw (ne_eqb u s other) (ap (λ b. (u == t) || b) (has-without s us t) ∙ first_is_other other)
-  ]
+  | inl same ↦ rw (same, eq-eqb s s refl) (has-without s us t ∙ first_is_she)
+  | inr other ↦ rw (ne_eqb u s other) (ap (λ b. (u == t) || b) (has-without s us t) ∙ first_is_other other)
+]
   where
     first_is_she : (not (s == t) && has_student us t) ≡ (not (s == t) && ((s == t) || has_student us t))
     first_is_she = elim (s == t) as (λ b. (not b && has_student us t) ≡ (not b && (b || has_student us t))) [
-        | true ↦ refl
-        | false ↦ refl
-      ]
+      | true ↦ refl
+      | false ↦ refl
+    ]
 
     first_is_other : (u ≡ s → ⊥) → ((u == t) || (not (s == t) && has_student us t)) ≡ (not (s == t) && ((u == t) || has_student us t))
     first_is_other other = elim (cases_eq u t) [
-        | inl is ↦ rw (← is, eq-eqb u u refl, ne_eqb s u (λ q. other (sym q))) refl
-        | inr isnt ↦ rw (ne_eqb u t isnt) refl
-      ]
+      | inl is ↦ rw (← is, eq-eqb u u refl, ne_eqb s u (λ q. other (sym q))) refl
+      | inr isnt ↦ rw (ne_eqb u t isnt) refl
+    ]
 
 above_without : (x s : ℕ) (ys : List ℕ) → Above x ys → Above x (without_student s ys)
 above_without x s [] above = above
@@ -153,12 +153,12 @@ left s old new up leaves =
 has_in : (E : Enrolled) (e t : ℕ) (new : List ℕ) → has_student new t ≡ has_student (students E e) t →
     (f : ℕ) → has (set E e new) t f ≡ has E t f
 has_in E e t new same f = elim (cases_lt e (length E)) [
-    | inl lt ↦ elim (cases_eq f e) [
-        | inl here ↦ rw (here, get_or-set_same E e new [] lt) same
-        | inr other ↦ rw (get_or-set_other E e f new [] other) refl
-      ]
-    | inr past ↦ rw (set_past E e new past) refl
+  | inl lt ↦ elim (cases_eq f e) [
+    | inl here ↦ rw (here, get_or-set_same E e new [] lt) same
+    | inr other ↦ rw (get_or-set_other E e f new [] other) refl
   ]
+  | inr past ↦ rw (set_past E e new past) refl
+]
 
 -- so she sits the same exams
 sat_in : (E : Enrolled) (e t : ℕ) (new : List ℕ) → has_student new t ≡ has_student (students E e) t →

@@ -8,4 +8,5 @@ pub mod LoadLemmas
 pub mod BreachLemmas
 pub mod NamingLemmas
 pub mod MarkLemmas
+mod LeastLemmas
 mod CommonLemmas

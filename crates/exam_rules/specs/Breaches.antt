@@ -1,6 +1,7 @@
 -- The hard rules of a session (ITC 2007, hard constraints): which exams break which rule.
-use Rattle.std.specs.Prelude.{ℕ, Bool, false, not, ◌&&◌, ◌||◌, ◌==◌, nat_lt, List, length, map, Option, Some, None, slice_get}
+use Rattle.std.specs.Prelude.{◌≡◌, ◌⊎◌, ℕ, Bool, true, false, not, ◌&&◌, ◌||◌, ◌==◌, nat_lt, List, length, map, Option, Some, None, slice_get}
 use Rattle.std.specs.List.{flat_map, list_any, find}
+use Rattle.std.specs.declared.cmp.Ordering.TheVariants.{Less}
 use Rattle.exam_model.specs.Instance.{Session}
 use Rattle.exam_model.specs.Enrolments.{Enrolled}
 use Rattle.exam_model.specs.Timetable.{Placing, place_of}
@@ -11,7 +12,7 @@ use Rattle.exam_rules.specs.declared.breach.Breach.{Breach}
 use Rattle.exam_rules.specs.declared.breach.BreachRule.{BreachRule}
 use Rattle.exam_rules.specs.declared.breach.BreachRule.TheVariants.{Duration, Clash, Capacity, After, Coincidence, Exclusion, RoomExclusive}
 use Rattle.exam_rules.specs.declared.exam_pair.ExamPair.{ExamPair}
-use Rattle.exam_rules.specs.Breach.{all_rules, breach, passing}
+use Rattle.exam_rules.specs.Breach.{all_rules, breach, breach_cmp, passing}
 use Rattle.exam_rules.specs.Lines.{is_after, is_coincidence, is_exclusion, is_exclusive}
 use Rattle.exam_rules.specs.Places.{where_placed, in_one_period, in_two_periods, is_not_after, in_one_place, share_student, load_at}
 
@@ -81,3 +82,15 @@ name_one exams e f = list_any (λ a. is_one_of a e f) exams
 -- the least breach that names one of these exams
 abbrev pub least_breach_of : Session → Enrolled → Placing → List ℕ → Option Breach
 least_breach_of I E T exams = find (λ b. name_one exams b.exam b.other) (breaches_of I E T)
+
+-- a breach of the timetable that names one of these exams
+pub record IsBreachOf (I : Session) (E : Enrolled) (T : Placing) (exams : List ℕ) (b : Breach) : Type 0 where
+  pub broken : is_breach I E T b ≡ true
+  pub names : name_one exams b.exam b.other ≡ true
+
+-- the least of the breaches that name one of these exams, or none where there is none
+abbrev pub IsLeastBreachOf : Session → Enrolled → Placing → List ℕ → Option Breach → Type 0
+IsLeastBreachOf I E T exams None = (b : Breach) → IsBreachOf I E T exams b → ⊥
+IsLeastBreachOf I E T exams (Some least) =
+    IsBreachOf I E T exams least
+    × ((b : Breach) → IsBreachOf I E T exams b → (b ≡ least) ⊎ (breach_cmp least b ≡ Less))

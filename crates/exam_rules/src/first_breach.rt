@@ -3,7 +3,7 @@ ghost use Rattle.std.specs.Prelude.{◌≡◌, ◌<◌, ℕ, ◌&&◌, ◌||◌,
 ghost use Rattle.std.specs.List.{list_any};
 ghost use Rattle.exam_rules.specs.Breach.{is_pair, passing, all_rules};
 ghost use Rattle.exam_rules.specs.Places.{Fits};
-ghost use Rattle.exam_rules.specs.Breaches.{breaks, is_one_of, name_one, least_breach_of};
+ghost use Rattle.exam_rules.specs.Breaches.{breaks, is_one_of, name_one, least_breach_of, IsLeastBreachOf};
 
 use crate::breach::{Breach, BreachRule};
 use crate::exam_pair::{ExamPair, in_order, pair_if, push_some};
@@ -91,8 +91,10 @@ pub fn first_breach_of(
 ) -> Result<Option<Breach>, AllocError>
     requires fits { Fits instance.now enrolments.now timetable.now }
     requires exist { All (λ e. e < length instance.now.exams) edited.now }
-    ensures { IfOk result (λ found. found
+    ensures first { IfOk result (λ found. found
         ≡ least_breach_of instance.now enrolments.now timetable.now edited.now) }
+    ensures least { IfOk result (IsLeastBreachOf instance.now enrolments.now timetable.now
+        edited.now) }
 {
     let site = Site {
         instance,

@@ -8,4 +8,4 @@ pub returns : goal.returns
 returns c =
     subst (λ (d : DraftState). IfOk c.first_breach_of.result
     (λ found. found ≡ least_breach_of d.instance d.enrolments c.args.next.now c.args.edited.now))
-    c.self.view_is c.first_breach_of.ensures
+    c.self.view_is c.first_breach_of.ensures.first

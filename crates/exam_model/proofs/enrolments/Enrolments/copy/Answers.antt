@@ -1,4 +1,4 @@
-use Rattle.std.proofs.Common.{◌≡◌, ◌∙◌, sym, take_all, arith}
+use Rattle.std.proofs.Common.{◌∙◌, take_all}
 use Rattle.exam_model.proofs.enrolments.Enrolments.copy.Goals as goal
 
 pub returns-clause-same : goal.returns-clause-same
