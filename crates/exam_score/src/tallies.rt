@@ -1,5 +1,5 @@
 // How many exams each student has in each period.
-ghost use Rattle.std.specs.Prelude.{◌≡◌, ℕ, ◌+◌, ◌-◌, ◌%◌, ◌^◌, ◌≤◌, ◌<◌, ◌↔◌, IsTrue, length, slice_index, slice_index_or, slice_set, sum_by, All, AllPairs, IfOk, OnOk};
+ghost use Rattle.std.specs.Prelude.{◌≡◌, ℕ, ◌+◌, ◌-◌, ◌≤◌, min, ◌<◌, ◌↔◌, IsTrue, length, slice_index, slice_index_or, slice_set, sum_by, All, AllPairs, IfOk, OnOk};
 ghost use Rattle.exam_model.specs.Enrolments.{size_of};
 ghost use Rattle.exam_score.specs.Rows.{row_at};
 ghost use Rattle.exam_score.specs.Tallies.{tally_sum, slot_of, AreCounted, AreFiled, AreLinked, Grows, Extends};
@@ -179,13 +179,13 @@ fn count_one(
 #[tactic(auto, using(crate::proofs::TallyLemmas::set_beyond))]
 fn note(crowd: &mut Crowd, slot: usize)
     ensures sizes { crowd.new.sizes.items ≡ slice_set crowd.old.sizes.items slot
-        ((slice_index crowd.old.sizes.items slot + 1) % 2 ^ 32) }
+        (min (slice_index crowd.old.sizes.items slot + 1) u32.MAX) }
     ensures steps { slot < length crowd.old.sizes.items → crowd.new.steps
-        ≡ (crowd.old.steps + slice_index crowd.old.sizes.items slot) % 2 ^ 64 }
+        ≡ min (crowd.old.steps + slice_index crowd.old.sizes.items slot) u64.MAX }
 {
     if let Some(size) = crowd.sizes.get_mut(slot) {
-        crowd.steps = crowd.steps.wrapping_add(u64::from(*size));
-        *size = size.wrapping_add(1);
+        crowd.steps = crowd.steps.saturating_add(u64::from(*size));
+        *size = size.saturating_add(1);
     }
 }
 

@@ -30,7 +30,8 @@ use Rattle.office_files.specs.declared.counts.Counts.{Counts}
 use Rattle.office_files.specs.declared.weightings.Weighting.{Weighting}
 use Rattle.office_files.specs.declared.weightings.Weighting.TheVariants.{Row, Day, Spread, Mixed, Front}
 use Rattle.office_files.proofs.CanonicalLines.{IsField, IsLine, plain_byte, plain_digit, line_alone, line_before, line_comma, field_decimal, number_decimal, AreRead}
-use Rattle.office_files.proofs.ExamLineLemmas.{ascending-none, ascending-students, has-students}
+use Rattle.exam_model.proofs.StudentLemmas.{ascending-none}
+use Rattle.office_files.proofs.ExamLineLemmas.{ascending-students, has-students}
 use Rattle.office_files.proofs.ExamLinePairs.{students_in-within}
 use Rattle.office_files.proofs.ReadOnLemmas.{is_digit}
 

@@ -1,114 +1,28 @@
 -- What it leaves to put students into an ascending list.
 use Rattle.std.proofs.Common.{◌≡◌, ℕ, zero, suc, ◌+◌, ◌<◌, ◌≤◌, Bool, true, false, cond}
-use Rattle.std.proofs.Common.{List, [], ◌∷◌, length, if◌then◌else◌}
+use Rattle.std.proofs.Common.{List, [], ◌∷◌, length}
 use Rattle.std.proofs.Common.{add-one, refl, ap, sym, subst, ◌∙◌, inl, inr, arith}
-use Rattle.std.specs.Prelude.{◌==◌, ◌||◌, nat_eq, nat_lt, slice_index}
+use Rattle.std.specs.Prelude.{◌==◌, ◌||◌, nat_eq, slice_index}
 use Rattle.std.specs.List.{dedup}
 use Rattle.std.specs.List.Sorted.{IsPermutation, IsSorted, IsStrictlyIncreasing}
 use Rattle.std.specs.Ordering.{nat_cmp}
-use Rattle.std.proofs.lemmas.Bool.{ltb-true, ltb-false, eqb-true, eqb-false, or_parts, cases_lt}
+use Rattle.std.proofs.lemmas.Bool.{eqb-true, eqb-false, or_parts, cases_lt}
 use Rattle.std.proofs.lemmas.List.Sorted.{list_any-IsPermutation}
 use Rattle.std.proofs.lemmas.Map.Keys.{IsStrictlyIncreasing-dedup}
 use Rattle.exam_model.specs.Enrolments.{IsAscending, has_student}
+use Rattle.exam_model.specs.Changes.{with_student}
 use Rattle.exam_model.proofs.SameSet.{same_list}
-use Rattle.office_files.specs.ExamLines.{with_student, with_students}
+use Rattle.exam_model.proofs.StudentLemmas.{or_twice, with_cases, has-with, ascending-none, ascending-with}
+use Rattle.office_files.specs.ExamLines.{with_students}
 
 or-false : (a : Bool) → (a || false) ≡ a
 or-false true = refl
 or-false false = refl
 
-or_twice : (a r : Bool) → (a || r) ≡ (a || (a || r))
-or_twice true r = refl
-or_twice false r = refl
-
-or_middle : (a b r : Bool) → (a || (b || r)) ≡ (b || (a || r))
-or_middle true true r = refl
-or_middle true false r = refl
-or_middle false b r = refl
-
 or_along : (a b r : Bool) → (b || (a || r)) ≡ ((a || b) || r)
 or_along true true r = refl
 or_along true false r = refl
 or_along false b r = refl
-
--- the student goes before the first, or she is the first, or she goes behind her
-with_cases : (s u : ℕ) (us : List ℕ) (P : List ℕ → Type 0) →
-    (s < u → P (s ∷ u ∷ us)) → (s ≡ u → P (u ∷ us)) → (u < s → P (u ∷ with_student s us)) →
-    P (with_student s (u ∷ us))
-with_cases s u us P before same behind =
-    let not_before = if s == u then u ∷ us else u ∷ with_student s us in
-    elim (nat_lt s u) as (λ b. nat_lt s u ≡ b → P (if b then s ∷ u ∷ us else not_before)) [
-      | true ↦ λ lt. before (ltb-true s u lt)
-      | false ↦ λ ge.
-          elim (s == u) as (λ b. (s == u) ≡ b → P (if b then u ∷ us else u ∷ with_student s us)) [
-            | true ↦ λ eq. same (eqb-true s u eq)
-            | false ↦ λ ne.
-                let above = ltb-false s u ge in
-                let other = eqb-false s u ne in
-                behind (grind (arith, above, other))
-          ] refl
-    ] refl
-
--- she is a member, beside those from before
-pub has-with : (s : ℕ) (xs : List ℕ) (t : ℕ) →
-    has_student (with_student s xs) t ≡ ((s == t) || has_student xs t)
-has-with s [] t = refl
-has-with s (u ∷ us) t =
-    with_cases s u us (λ ys. has_student ys t ≡ ((s == t) || has_student (u ∷ us) t))
-    (λ lt. refl)
-    (λ same. rw same (or_twice (u == t) (has_student us t)))
-    (λ above. ap (λ b. (u == t) || b) (has-with s us t)
-    ∙ or_middle (u == t) (s == t) (has_student us t))
-
--- every member is above x
-abbrev Above : ℕ → List ℕ → Type 0
-Above x xs = (k : ℕ) → k < length xs → x < slice_index xs k
-
-above_cons : (x y : ℕ) (ys : List ℕ) → x < y → Above x ys → Above x (y ∷ ys)
-above_cons x y ys lt above zero within = lt
-above_cons x y ys lt above (suc k) within = above k (omega arith)
-
-above_tail : (x y : ℕ) (ys : List ℕ) → Above x (y ∷ ys) → Above x ys
-above_tail x y ys above k within = above (suc k) (omega arith)
-
-above_with : (x s : ℕ) (ys : List ℕ) → x < s → Above x ys → Above x (with_student s ys)
-above_with x s [] lt above = above_cons x s [] lt above
-above_with x s (u ∷ us) lt above =
-    let first = above 0 (omega arith) in
-    let others = above_with x s us lt (above_tail x u us above) in
-    with_cases s u us (Above x)
-    (λ before. above_cons x s (u ∷ us) lt above)
-    (λ same. above)
-    (λ behind. above_cons x u (with_student s us) first others)
-
-ascending_cons : (x : ℕ) (xs : List ℕ) → Above x xs → IsAscending xs → IsAscending (x ∷ xs)
-ascending_cons x xs above up i zero lt within = absurd (omega arith)
-ascending_cons x xs above up zero (suc j) lt within = above j (omega arith)
-ascending_cons x xs above up (suc i) (suc j) lt within = up i j (omega arith) (omega arith)
-
-ascending_tail : (x : ℕ) (xs : List ℕ) → IsAscending (x ∷ xs) → IsAscending xs
-ascending_tail x xs up i j lt within = up (suc i) (suc j) (omega arith) (omega arith)
-
-above_first : (x : ℕ) (xs : List ℕ) → IsAscending (x ∷ xs) → Above x xs
-above_first x xs up k within = up 0 (suc k) (omega arith) (omega arith)
-
-above_less : (x y : ℕ) (ys : List ℕ) → x < y → Above y ys → Above x ys
-above_less x y ys lt above k within = omega (arith, above k within)
-
-pub ascending-none : IsAscending []
-ascending-none i j lt within = absurd (omega arith)
-
--- the list stays ascending
-pub ascending-with : (s : ℕ) (xs : List ℕ) → IsAscending xs → IsAscending (with_student s xs)
-ascending-with s [] up = ascending_cons s [] (λ k within. absurd (omega arith)) up
-ascending-with s (u ∷ us) up =
-    let above = above_first u us up in
-    let others = ascending-with s us (ascending_tail u us up) in
-    with_cases s u us IsAscending
-    (λ before.
-    ascending_cons s (u ∷ us) (above_cons s u us before (above_less s u us before above)) up)
-    (λ same. up)
-    (λ behind. ascending_cons u (with_student s us) (above_with u s us behind above) others)
 
 -- it gets no shorter, and longer by at most one
 pub length-with : (s : ℕ) (xs : List ℕ) →

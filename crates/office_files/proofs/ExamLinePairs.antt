@@ -11,11 +11,13 @@ use Rattle.exam_model.specs.Enrolments.{pair_count}
 use Rattle.exam_model.specs.declared.fault.ModelFault.{ModelFault}
 use Rattle.exam_model.specs.declared.fault.ModelFault.TheVariants.{Range, NoSuch, NoMemory}
 use Rattle.office_files.specs.Numbers.{number}
-use Rattle.office_files.specs.ExamLines.{IsEmptyExam, with_student, with_students, students_in}
+use Rattle.exam_model.specs.Changes.{with_student}
+use Rattle.office_files.specs.ExamLines.{IsEmptyExam, with_students, students_in}
 use Rattle.office_files.specs.ExamLines.{named_first, named_in, fault_first, fault_in}
 use Rattle.office_files.specs.declared.fault.FaultKind.{FaultKind}
 use Rattle.office_files.specs.declared.fault.FaultKind.TheVariants.{OutOfRange}
-use Rattle.office_files.proofs.ExamLineLemmas.{ascending-with, with_again}
+use Rattle.office_files.proofs.ExamLineLemmas.{with_again}
+use Rattle.exam_model.proofs.StudentLemmas.{ascending-with}
 use Rattle.office_files.proofs.ExamLineLemmas.{length-with_new, length-students}
 
 -- the students, unless a field is faulty

@@ -18,7 +18,7 @@ use Rattle.office_files.specs.ExamLines.{students_in, EntersLine, IsEmptyExam}
 use Rattle.office_files.specs.ExamLines.{with_students, named_in, fault_in}
 use Rattle.office_files.specs.declared.fault.FaultKind.{FaultKind}
 use Rattle.office_files.specs.declared.fault.FaultKind.TheVariants.{OutOfRange}
-use Rattle.office_files.proofs.ExamLineLemmas.{ascending-none}
+use Rattle.exam_model.proofs.StudentLemmas.{ascending-none}
 use Rattle.office_files.proofs.ExamLinePairs.{judged, students_in-within, students_in-past}
 use Rattle.office_files.proofs.ExamLinePairs.{pair_count-enrolled}
 

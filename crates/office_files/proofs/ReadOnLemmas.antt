@@ -1,5 +1,5 @@
 -- Digits at the front of a line, and what a field of few digits says.
-use Rattle.std.proofs.Common.{◌≡◌, ◌≢◌, ℕ, zero, suc, ◌+◌, ◌-◌, ◌*◌, ◌%◌, ◌^◌, ◌<◌, ◌≤◌}
+use Rattle.std.proofs.Common.{◌≡◌, ◌≢◌, ℕ, zero, suc, ◌+◌, ◌-◌, ◌*◌, ◌^◌, ◌<◌, ◌≤◌}
 use Rattle.std.proofs.Common.{Bool, true, false, List, [], ◌∷◌, ◌++◌, length, get_or, take, drop}
 use Rattle.std.proofs.Common.{add-one, Some, None, refl, sym, ap, ◌∙◌, inl, inr, arith}
 use Rattle.std.specs.Prelude.{◌&&◌, nat_le, nat_lt, if◌then◌else◌, map}
@@ -43,11 +43,6 @@ small_more n i d small digit =
 
 pub is_digit : (b : ℕ) → 48 ≤ b → b ≤ 57 → is_ascii_digit b ≡ true
 is_digit b least most = grind (arith, common_steps)
-
--- of the bytes, digits alone are at most 9 once 48 is taken off, around the end of the numbers
-pub wrapped_digit : (b : ℕ) → b < 256 → (b + 4294967248) % 4294967296 ≤ 9 →
-    (is_ascii_digit b ≡ true) × ((b + 4294967248) % 4294967296 ≡ b - 48)
-wrapped_digit b byte small = (is_digit b (omega arith) (omega arith), omega arith)
 
 pub digit_range : (b : ℕ) → is_ascii_digit b ≡ true → (48 ≤ b) × (b ≤ 57)
 digit_range b e = grind (arith, common_steps)

@@ -1,8 +1,9 @@
 -- What the lines of the section of exams say: a duration, and the students who sit the exam.
-use Rattle.std.specs.Prelude.{◌≡◌, ℕ, ◌+◌, ◌<◌, ◌||◌, ◌==◌, nat_lt, if◌then◌else◌}
+use Rattle.std.specs.Prelude.{◌≡◌, ℕ, ◌+◌, ◌<◌, ◌||◌, nat_lt}
 use Rattle.std.specs.Prelude.{List, [], ◌∷◌, length, map, sum_by, slice_set}
 use Rattle.std.specs.Prelude.{Option, Some, None, Result, Ok, Err}
 use Rattle.exam_terms.specs.Refusing.{◌>>=◌, unless}
+use Rattle.exam_model.specs.Changes.{with_student}
 use Rattle.exam_model.specs.Enrolments.{Enrolled, AreEnrolments, has_student, students, pair_count}
 use Rattle.exam_model.specs.declared.parts.Exam.{Exam}
 use Rattle.office_files.specs.Fields.{first, rest}
@@ -16,12 +17,6 @@ use Rattle.office_files.specs.declared.fault.FaultKind.TheVariants.{OutOfRange}
 pub record ExamLine : Type 0 where
   pub minutes : ℕ
   pub students : List ℕ
-
--- an ascending list with a student put in, once
-abbrev pub with_student : ℕ → List ℕ → List ℕ
-with_student s [] = s ∷ []
-with_student s (t ∷ ts) =
-    if nat_lt s t then s ∷ t ∷ ts else (if s == t then t ∷ ts else t ∷ with_student s ts)
 
 -- the students of a line behind those seen on it, where so many pairs stand on the lines before it:
 -- the field of a student who is new is out of range where 200,000 pairs are there

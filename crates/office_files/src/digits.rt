@@ -6,8 +6,6 @@ ghost use Rattle.office_files.specs.Digits.{Says, NoDigitAt, IsFront, few_digits
 // Numbers of so many digits fit a u32.
 const MOST_DIGITS: usize = 9;
 
-const ZERO: u32 = 48;
-
 /// The line without the space at its start, where there is one.
 #[inline]
 pub fn behind_space(line: &[u8]) -> &[u8]
@@ -28,12 +26,10 @@ fn digits(text: &[u8]) -> (u32, usize)
 {
     let mut value: u32 = 0;
     for (i, byte) in text.iter().enumerate() {
-        // Any other byte is far above 9.
-        let digit = u32::from(*byte).wrapping_sub(ZERO);
-        if digit > 9 {
+        if !byte.is_ascii_digit() {
             return (value, i);
         }
-        value = 10 * value + digit;
+        value = 10 * value + u32::from(*byte - b'0');
     }
     (value, text.len())
 }

@@ -1,5 +1,5 @@
-use Rattle.std.proofs.Common.{◌≡◌, ℕ, ◌+◌, ◌-◌, ◌%◌, slice_index_or, arith}
-use Rattle.office_files.proofs.ReadOnLemmas.{small_room, wrapped_digit, says-more}
+use Rattle.std.proofs.Common.{sym, ◌∙◌, arith}
+use Rattle.office_files.proofs.ReadOnLemmas.{small_room, says-more}
 use Rattle.office_files.proofs.digits.digits.Goals as goal
 
 -- a number of eight digits or less has room for one more
@@ -16,9 +16,6 @@ overflow_add-value c =
 -- one digit more
 pub loop-i-preserved : goal.loop-i-preserved
 loop-i-preserved c =
-    let text = c.args.text.now in
-    let byte = slice_index_or text c.loop-i.i 0 in
-    let digit : ℕ = (c.from-digit.result + 4294967248) % 4294967296 in
-    let is = wrapped_digit byte (omega arith) (omega arith) in
-    let same : digit ≡ byte - 48 = omega (arith, is.1) in
-    says-more text c.loop-i.value c.loop-i.i digit (omega arith) is.0 same c.loop-i.invariant
+    let is = sym c.is_ascii_digit.ensures.value ∙ c.if-not-is_ascii_digit.false in
+    says-more c.args.text.now c.loop-i.value c.loop-i.i c.from.result (omega arith) is
+    c.from.ensures c.loop-i.invariant
