@@ -8,3 +8,4 @@ pub mod PathLemmas
 pub mod BodyLemmas
 pub mod RequestLemmas
 pub mod SmallLemmas
+pub mod MethodLemmas
