@@ -9,3 +9,5 @@ pub mod BodyLemmas
 pub mod RequestLemmas
 pub mod SmallLemmas
 pub mod MethodLemmas
+pub mod PrintLemmas
+pub mod RoundTripLemmas

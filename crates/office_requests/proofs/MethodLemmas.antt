@@ -1,6 +1,6 @@
 -- The methods that a page lists are those that ask for something there.
 use Rattle.std.proofs.Common.{◌≡◌, ◌≢◌, ℕ, Bool, true, false, List, Option, Some, None}
-use Rattle.std.proofs.Common.{Result, Ok, Err, refl, sym, ap, subst, ◌∙◌}
+use Rattle.std.proofs.Common.{Result, Err, refl, sym, ap, subst, ◌∙◌}
 use Rattle.std.specs.Prelude.{codes, bytes_eq, is_some, is_ok, IfSome, option_map}
 use Rattle.std.specs.Prelude.{option_and_then, if◌then◌else◌}
 use Rattle.std.proofs.lemmas.Slice.Eq.{bytes_eq-Decides}
@@ -156,8 +156,10 @@ resource_page page.MyExam path =
     one page.MyExam (λ e. resource.MyExam e) (λ e. refl) (number_in 3 path)
 resource_page page.MyPenalty path = refl
 resource_page page.Instance path = refl
-resource_page page.Owner path = one page.Owner (λ e. resource.Owner e) (λ e. refl) (number_in 2 path)
-resource_page page.Draft path = one page.Draft (λ d. resource.Draft d) (λ d. refl) (number_in 2 path)
+resource_page page.Owner path =
+    one page.Owner (λ e. resource.Owner e) (λ e. refl) (number_in 2 path)
+resource_page page.Draft path =
+    one page.Draft (λ d. resource.Draft d) (λ d. refl) (number_in 2 path)
 resource_page page.DraftPenalty path =
     one page.DraftPenalty (λ d. resource.DraftPenalty d) (λ d. refl) (number_in 2 path)
 resource_page page.DraftViolations path =
@@ -174,7 +176,8 @@ resource_page page.Publish path =
 resource_page page.Publication path = refl
 resource_page page.PublicationPenalty path = refl
 resource_page page.PublicationRooms path = refl
-resource_page page.Batch path = one page.Batch (λ n. resource.Batch n) (λ n. refl) (number_in 2 path)
+resource_page page.Batch path =
+    one page.Batch (λ n. resource.Batch n) (λ n. refl) (number_in 2 path)
 
 -- ---- what is answered on a page
 

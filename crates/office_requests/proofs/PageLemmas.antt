@@ -166,7 +166,7 @@ none_in (r ∷ rows) path t p e i k = go (takes r.0 path) refl i (none_in rows p
     go false u (inr there) more = more (rw u at e) there k
 
 -- the page that a path leads to, where it leads to one
-page_some : (path : List ℕ) (p : Page) → Leads p path → Some p ≡ page_of path
+pub page_some : (path : List ℕ) (p : Page) → Leads p path → Some p ≡ page_of path
 unfolding page_of
 page_some path p leads = go (find (λ r. takes r.0 path) pages) refl
   where

@@ -1,5 +1,5 @@
 -- The request that asks for a command: its method, its path, and what its body has to say.
-use Rattle.std.specs.Prelude.{◌≡◌, ℕ, List, [], ◌∷◌, ◌++◌, codes, decimal}
+use Rattle.std.specs.Prelude.{◌≡◌, ℕ, List, [], ◌∷◌, ◌++◌, codes, decimal, Ok}
 use Rattle.matchit.specs.Seek.{slash}
 use Rattle.office_policy.specs.declared.command.Body.TheVariants.{Given}
 use Rattle.office_policy.specs.Commands.{PlainCommand, me, my_exam, my_penalty, load, instance}
@@ -7,6 +7,9 @@ use Rattle.office_policy.specs.Commands.{set_owner, new_draft, draft, draft_pena
 use Rattle.office_policy.specs.Commands.{draft_violations, drop_draft, place, move, clear, swap}
 use Rattle.office_policy.specs.Commands.{publish, publication, publication_penalty}
 use Rattle.office_policy.specs.Commands.{publication_rooms, batch}
+use Rattle.office_policy.specs.Policy.{permits}
+use Rattle.office_policy.specs.declared.callers.Caller.{Caller}
+use Rattle.office_policy.specs.declared.callers.Caller.TheVariants.{Cand}
 use Rattle.office_requests.specs.Bodies.{text_body, place_body, dept_body}
 
 -- a path of these segments, each behind a slash
@@ -80,3 +83,8 @@ SaysBody bytes (place d e at) = place_body bytes ≡ at
 SaysBody bytes (move d e to) = place_body bytes ≡ to
 SaysBody bytes (batch n text) = text_body bytes ≡ text
 SaysBody bytes _ = Unit {0}
+
+-- a candidate comes with what she may ask for, all others with any command
+abbrev pub ComesWith : Caller → PlainCommand → Type 0
+ComesWith (Cand n) c = permits (Cand n) c 0 0 ≡ Ok tt
+ComesWith _ c = Unit {0}

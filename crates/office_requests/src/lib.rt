@@ -13,7 +13,7 @@ mod routes;
 mod texts;
 
 pub use bodies::{dept_body, place_body, text_body};
-pub use laws::allow_lists_the_methods;
+pub use laws::{allow_lists_the_methods, commands_are_read_back};
 pub use methods::allow;
 pub use office_messages::{
     Allow, Content, End, Fault, Machine, Payload, Reply, Request, ServeFault, Served, Status,
