@@ -1,10 +1,13 @@
--- What an insert that was done leaves.
-use Rattle.std.proofs.Common.{◌≡◌, List, ℕ, Result, Ok, Err, is_ok, true}
+-- What inserts that were done leave.
+use Rattle.std.proofs.Common.{◌≡◌, ◌+◌, ◌<◌, List, ℕ, length, get_or, take, map, Result, Ok, Err}
+use Rattle.std.proofs.Common.{is_ok, true, Bor, sym, ap, ◌∙◌}
+use Rattle.std.proofs.lemmas.List.Folds.{fold-map}
+use Rattle.std.proofs.lemmas.List.Sums.{fold_more}
 use Rattle.matchit.specs.Route.{Scan, parse_route}
 use Rattle.matchit.specs.Router.{InsertsRead}
 use Rattle.matchit.specs.declared.error.InsertError.{InsertError}
 use Rattle.office_requests.specs.declared.pages.Page.{Page}
-use Rattle.office_requests.specs.Table.{Rows, adds, adds_read}
+use Rattle.office_requests.specs.Table.{Rows, adds, adds_read, adds_all}
 
 added_read : (x : Result Scan InsertError) (p : Page) (old new : Rows)
     (r : Result (Unit {0}) InsertError) → InsertsRead x p old new r → is_ok r ≡ true →
@@ -17,3 +20,22 @@ pub added : (text : List ℕ) (p : Page) (old new : Rows) (r : Result (Unit {0})
     InsertsRead (parse_route text) p old new r → is_ok r ≡ true → new ≡ adds text p old
 unfolding adds
 added text p old new r h k = added_read (parse_route text) p old new r h k
+
+-- one route more is added to what the first of them left
+pub adds_more : (routes : List (Bor (List ℕ) × Page)) (i : ℕ) (d : Bor (List ℕ) × Page)
+    (rows now : Rows) → i < length routes
+    → now ≡ adds_all (map (λ route. (route.0.now, route.1)) (take i routes)) rows
+    → adds_all (map (λ route. (route.0.now, route.1)) (take (i + 1) routes)) rows
+    ≡ adds (get_or routes i d).0.now (get_or routes i d).1 now
+unfolding adds_all
+adds_more routes i d rows now inside is =
+    fold-map adds_one plain rows (take (i + 1) routes)
+    ∙ fold_more (λ rows route. adds_one rows (plain route)) rows routes i d inside
+    ∙ ap (λ (x : Rows). adds_one x (plain (get_or routes i d)))
+    (sym (is ∙ fold-map adds_one plain rows (take i routes)))
+  where
+    plain : Bor (List ℕ) × Page → List ℕ × Page
+    plain route = (route.0.now, route.1)
+
+    adds_one : Rows → List ℕ × Page → Rows
+    adds_one rows route = adds route.0 route.1 rows

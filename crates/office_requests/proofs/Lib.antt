@@ -8,3 +8,6 @@ pub mod PathLemmas
 pub mod BodyLemmas
 pub mod RequestLemmas
 pub mod SmallLemmas
+pub mod MethodLemmas
+pub mod PrintLemmas
+pub mod RoundTripLemmas

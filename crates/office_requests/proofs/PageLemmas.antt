@@ -13,7 +13,6 @@ use Rattle.office_requests.specs.Patterns.{takes}
 use Rattle.office_requests.specs.Pages.{IsIn}
 use Rattle.office_requests.proofs.Plain.{EndsSegment, IsPlain, ArePlain}
 use Rattle.office_requests.specs.Table.{Rows, table, adds, adds_all, page_at}
-use Rattle.office_requests.specs.Table.{adds_hers, adds_exams, adds_drafts, adds_publication}
 use Rattle.office_requests.specs.Pages.{pages, Leads}
 use Rattle.std.specs.Prelude.{find}
 use Rattle.office_requests.specs.Pages.{page_of}
@@ -24,7 +23,7 @@ abbrev shown : List ℕ × RouteOf Page → List ℕ × Page
 shown row = (row.0, row.1.value)
 
 table_pages : map shown table ≡ pages
-unfolding table adds_all adds_hers adds_exams adds_drafts adds_publication adds scan
+unfolding table adds_all adds scan
 table_pages = refl
 
 -- a pattern is plain, as a test
@@ -166,7 +165,7 @@ none_in (r ∷ rows) path t p e i k = go (takes r.0 path) refl i (none_in rows p
     go false u (inr there) more = more (rw u at e) there k
 
 -- the page that a path leads to, where it leads to one
-page_some : (path : List ℕ) (p : Page) → Leads p path → Some p ≡ page_of path
+pub page_some : (path : List ℕ) (p : Page) → Leads p path → Some p ≡ page_of path
 unfolding page_of
 page_some path p leads = go (find (λ r. takes r.0 path) pages) refl
   where

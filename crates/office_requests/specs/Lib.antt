@@ -8,3 +8,4 @@ pub mod Bodies
 pub mod Commands
 pub mod Texts
 pub mod Requests
+pub mod Printing

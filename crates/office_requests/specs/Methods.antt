@@ -1,5 +1,6 @@
 -- Methods, and those that each page has.
-use Rattle.std.specs.Prelude.{ℕ, List, codes, bytes_eq, if◌then◌else◌}
+use Rattle.std.specs.Prelude.{ℕ, Bool, ◌==◌, List, [], ◌∷◌, codes, bytes_eq, if◌then◌else◌}
+use Rattle.std.specs.List.{list_any}
 use Rattle.office_requests.specs.declared.methods.Verb.{Verb}
 use Rattle.office_requests.specs.declared.methods.Verb.TheVariants.{Get, Put, Post, Delete, Other}
 use Rattle.office_requests.specs.declared.pages.Page.{Page}
@@ -32,3 +33,19 @@ allow_of page.Publication = codes "GET"
 allow_of page.PublicationPenalty = codes "GET"
 allow_of page.PublicationRooms = codes "GET"
 allow_of page.Batch = codes "PUT"
+
+-- one byte more in front of the first name
+abbrev pub onto_first : ℕ → List (List ℕ) → List (List ℕ)
+onto_first b [] = (b ∷ []) ∷ []
+onto_first b (name ∷ names) = (b ∷ name) ∷ names
+
+-- the names in a field's list: commas part them, and blanks are no part of them
+abbrev pub names_in : List ℕ → List (List ℕ)
+names_in [] = [] ∷ []
+names_in (b ∷ text) =
+    if b == 44 then [] ∷ names_in text
+    else (if b == 32 then names_in text else onto_first b (names_in text))
+
+-- a field's list has the name
+abbrev pub is_listed : List ℕ → List ℕ → Bool
+is_listed name text = list_any (bytes_eq name) (names_in text)

@@ -1,5 +1,5 @@
 -- The office's routes as the router keeps them.
-use Rattle.std.specs.Prelude.{ℕ, List, [], codes, Option, option_map, Result, Ok, Err}
+use Rattle.std.specs.Prelude.{ℕ, List, [], map, fold, Option, option_map, Result, Ok, Err}
 use Rattle.matchit.specs.Rows.{RowsOf}
 use Rattle.matchit.specs.Order.{placed}
 use Rattle.matchit.specs.Route.{Scan, parse_route}
@@ -7,7 +7,7 @@ use Rattle.matchit.specs.Router.{RouteOf, route_from}
 use Rattle.matchit.specs.Seek.{first}
 use Rattle.matchit.specs.declared.error.InsertError.{InsertError}
 use Rattle.office_requests.specs.declared.pages.Page.{Page}
-use Rattle.office_requests.specs.declared.pages.Page.TheVariants as page
+use Rattle.office_requests.specs.declared.routes.TheConstants.{ROUTES}
 
 -- a router's rows
 abbrev pub Rows : Type 0
@@ -22,46 +22,13 @@ adds_read (Err e) p rows = rows
 unfoldable pub adds : List ℕ → Page → Rows → Rows
 adds text p rows = adds_read (parse_route text) p rows
 
--- the rows with a candidate's own pages
-unfoldable pub adds_hers : Rows → Rows
-adds_hers rows =
-    adds (codes "/me/penalty") page.MyPenalty
-    (adds (codes "/me/exam/{n}") page.MyExam
-    (adds (codes "/me") page.Me rows))
-
--- the rows with the instance and an exam's owner
-unfoldable pub adds_exams : Rows → Rows
-adds_exams rows =
-    adds (codes "/exams/{e}/owner") page.Owner (adds (codes "/instance") page.Instance rows)
-
--- the rows with the pages of a draft
-unfoldable pub adds_drafts : Rows → Rows
-adds_drafts rows =
-    adds (codes "/drafts/{d}/publish") page.Publish
-    (adds (codes "/drafts/{d}/swap/{a}/{b}") page.Swap
-    (adds (codes "/drafts/{d}/exams/{e}") page.Slot
-    (adds (codes "/drafts/{d}/exams/{e}/move") page.Move
-    (adds (codes "/drafts/{d}/exams/{e}/place") page.Place
-    (adds (codes "/drafts/{d}/violations") page.DraftViolations
-    (adds (codes "/drafts/{d}/penalty") page.DraftPenalty
-    (adds (codes "/drafts/{d}") page.Draft rows)))))))
-
--- the rows with the pages of the publication
-unfoldable pub adds_publication : Rows → Rows
-adds_publication rows =
-    adds (codes "/publication/rooms") page.PublicationRooms
-    (adds (codes "/publication/penalty") page.PublicationPenalty
-    (adds (codes "/publication") page.Publication rows))
-
--- the rows with all pages
-unfoldable pub adds_all : Rows → Rows
-adds_all rows =
-    adds (codes "/batches/{n}") page.Batch
-    (adds_publication (adds_drafts (adds_exams (adds_hers rows))))
+-- the rows with these routes more, one after the other
+unfoldable pub adds_all : List (List ℕ × Page) → Rows → Rows
+adds_all routes rows = fold (λ rows route. adds route.0 route.1 rows) rows routes
 
 -- the rows of the office
 unfoldable pub table : Rows
-table = adds_all []
+table = adds_all (map (λ route. (route.0.now, route.1)) ROUTES) []
 
 -- what the rows find for a path
 abbrev pub page_at : Rows → List ℕ → Option Page

@@ -3,6 +3,7 @@
 
 mod bodies;
 mod commands;
+mod laws;
 mod methods;
 mod pages;
 mod paths;
@@ -12,6 +13,7 @@ mod routes;
 mod texts;
 
 pub use bodies::{dept_body, place_body, text_body};
+pub use laws::{allow_lists_the_methods, commands_are_read_back};
 pub use methods::allow;
 pub use office_messages::{
     Allow, Content, End, Fault, Machine, Payload, Reply, Request, ServeFault, Served, Status,

@@ -1,14 +1,34 @@
 // The routes of the office.
-ghost use Rattle.std.specs.Prelude.{◌≡◌, ℕ, List, IfOk, OnOk, IfSome, IsNone};
+ghost use Rattle.std.specs.Prelude.{◌≡◌, ℕ, List, map, IfOk, OnOk, IfSome, IsNone};
 ghost use Rattle.office_requests.specs.declared.pages.Page.{Page};
 ghost use Rattle.office_requests.specs.Table.{Rows, adds, adds_all, table, page_at};
-ghost use Rattle.office_requests.specs.Table.{adds_hers, adds_exams, adds_drafts, adds_publication};
 ghost use Rattle.office_requests.specs.Pages.{Leads, page_of};
 
 use crate::pages::Page;
 use matchit::Router;
 use std::alloc::{AllocError, Global};
 use std::marker::Model;
+
+// Each page with its route.
+const ROUTES: [(&str, Page); 17] = [
+    ("/me", Page::Me),
+    ("/me/exam/{n}", Page::MyExam),
+    ("/me/penalty", Page::MyPenalty),
+    ("/instance", Page::Instance),
+    ("/exams/{e}/owner", Page::Owner),
+    ("/drafts/{d}", Page::Draft),
+    ("/drafts/{d}/penalty", Page::DraftPenalty),
+    ("/drafts/{d}/violations", Page::DraftViolations),
+    ("/drafts/{d}/exams/{e}/place", Page::Place),
+    ("/drafts/{d}/exams/{e}/move", Page::Move),
+    ("/drafts/{d}/exams/{e}", Page::Slot),
+    ("/drafts/{d}/swap/{a}/{b}", Page::Swap),
+    ("/drafts/{d}/publish", Page::Publish),
+    ("/publication", Page::Publication),
+    ("/publication/penalty", Page::PublicationPenalty),
+    ("/publication/rooms", Page::PublicationRooms),
+    ("/batches/{n}", Page::Batch),
+];
 
 /// The office's routes, which lead from paths to pages.
 #[derive(Drop)]
@@ -58,54 +78,19 @@ fn all_routes(alloc: Global) -> Result<Router<Page>, AllocError>
     ensures { IfOk result (λ r. r ≡ table) }
 {
     let mut router = Router::new(alloc);
-    add_all(&mut router)?;
+    add_all(&mut router, &ROUTES)?;
     Ok(router)
 }
 
-fn add_all(router: &mut Router<Page>) -> Result<(), AllocError>
-    ensures { OnOk result (router.new ≡ adds_all router.old) }
+// Adds the routes one after the other.
+fn add_all(router: &mut Router<Page>, routes: &[(&str, Page)]) -> Result<(), AllocError>
+    ensures { OnOk result (router.new
+        ≡ adds_all (map (λ route. (route.0.now, route.1)) routes.now) router.old) }
 {
-    add_hers(router)?;
-    add_exams(router)?;
-    add_drafts(router)?;
-    add_publication(router)?;
-    add(router, "/batches/{n}", Page::Batch)
-}
-
-fn add_hers(router: &mut Router<Page>) -> Result<(), AllocError>
-    ensures { OnOk result (router.new ≡ adds_hers router.old) }
-{
-    add(router, "/me", Page::Me)?;
-    add(router, "/me/exam/{n}", Page::MyExam)?;
-    add(router, "/me/penalty", Page::MyPenalty)
-}
-
-fn add_exams(router: &mut Router<Page>) -> Result<(), AllocError>
-    ensures { OnOk result (router.new ≡ adds_exams router.old) }
-{
-    add(router, "/instance", Page::Instance)?;
-    add(router, "/exams/{e}/owner", Page::Owner)
-}
-
-fn add_drafts(router: &mut Router<Page>) -> Result<(), AllocError>
-    ensures { OnOk result (router.new ≡ adds_drafts router.old) }
-{
-    add(router, "/drafts/{d}", Page::Draft)?;
-    add(router, "/drafts/{d}/penalty", Page::DraftPenalty)?;
-    add(router, "/drafts/{d}/violations", Page::DraftViolations)?;
-    add(router, "/drafts/{d}/exams/{e}/place", Page::Place)?;
-    add(router, "/drafts/{d}/exams/{e}/move", Page::Move)?;
-    add(router, "/drafts/{d}/exams/{e}", Page::Slot)?;
-    add(router, "/drafts/{d}/swap/{a}/{b}", Page::Swap)?;
-    add(router, "/drafts/{d}/publish", Page::Publish)
-}
-
-fn add_publication(router: &mut Router<Page>) -> Result<(), AllocError>
-    ensures { OnOk result (router.new ≡ adds_publication router.old) }
-{
-    add(router, "/publication", Page::Publication)?;
-    add(router, "/publication/penalty", Page::PublicationPenalty)?;
-    add(router, "/publication/rooms", Page::PublicationRooms)
+    for (route, page) in routes {
+        add(router, route, *page)?;
+    }
+    Ok(())
 }
 
 // Adds a route. A route in the table is refused only where memory runs out.

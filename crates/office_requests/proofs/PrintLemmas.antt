@@ -1,0 +1,109 @@
+-- What is printed in decimal is read back, in a path too.
+use Rattle.std.proofs.Common.{◌≡◌, ℕ, ◌^◌, ◌<◌, ◌≤◌, true, false, List, [], ◌∷◌, ◌++◌, length}
+use Rattle.std.proofs.Common.{Some, refl, ap, ◌∙◌, arith}
+use Rattle.std.specs.Prelude.{decimal, nat_le, ◌==◌}
+use Rattle.std.specs.List.{list_all, AllByRecursion}
+use Rattle.std.specs.Char.{is_ascii_digit}
+use Rattle.std.specs.Str.Parse.{AllDigits, digits_value}
+use Rattle.std.proofs.lemmas.Bool.{ne_eqb}
+use Rattle.std.proofs.lemmas.Bool.Decides.{nat_tests}
+use Rattle.std.proofs.lemmas.Fmt.{decimal_is_IsNumeral, length-decimal-le}
+use Rattle.std.proofs.lemmas.Str.Parse.{digit_from_value}
+use Rattle.matchit.specs.Rows.{param_token}
+use Rattle.matchit.specs.Seek.{slash}
+use Rattle.office_policy.specs.Commands.{IsSmall}
+use Rattle.office_policy.specs.Numbers.{number_of}
+use Rattle.office_requests.specs.Paths.{first_segment, behind_slash}
+use Rattle.office_requests.specs.Patterns.{takes, rest_of_segment}
+use Rattle.office_requests.proofs.Plain.{EndsSegment}
+
+-- ---- numbers
+
+-- a text of a few digits that write this number
+record Writes (n : ℕ) (ds : List ℕ) : Type 0 where
+  some : 0 < length ds
+  few : length ds ≤ 9
+  digits : AllDigits 10 ds
+  value : digits_value 10 ds ≡ n
+
+writes : (n : ℕ) → IsSmall n → Writes n (decimal n)
+writes n small =
+    let fits : n < 2 ^ 64 = omega arith in
+    let is = decimal_is_IsNumeral n fits in
+    record {
+      some = is.0.0;
+      few = length-decimal-le 9 n (omega arith) (omega arith) fits;
+      digits = is.0.1;
+      value = is.1;
+    }
+
+digit_is : (b : ℕ) → (48 ≤ b) × (b ≤ 57) → is_ascii_digit b ≡ true
+digit_is b range = grind (arith, nat_tests, range.0, range.1)
+
+all_digits : (ds : List ℕ) → AllDigits 10 ds → list_all is_ascii_digit ds ≡ true
+all_digits [] all = refl
+all_digits (b ∷ bs) all = rw (digit_is b (digit_from_value b all.0)) (all_digits bs all.1)
+
+number_is : (n : ℕ) (ds : List ℕ) → Writes n ds → number_of ds ≡ Some n
+number_is n [] is = absurd (omega (arith, is.some))
+number_is n (b ∷ bs) is =
+    let few : nat_le (length (b ∷ bs)) 9 ≡ true = grind (arith, nat_tests, is.few) in
+    rw (few, all_digits (b ∷ bs) is.digits) (ap (λ (m : ℕ). Some m) is.value)
+
+-- none of the bytes is a slash
+abbrev NoSlash : List ℕ → Type 0
+NoSlash ds = AllByRecursion (λ b. (b == 47) ≡ false) ds
+
+without_slash : (ds : List ℕ) → AllDigits 10 ds → NoSlash ds
+without_slash [] all = tt
+without_slash (b ∷ bs) all =
+    let range = digit_from_value b all.0 in
+    (ne_eqb b 47 (λ same. omega (arith, range.0, same)), without_slash bs all.1)
+
+-- ---- a number in a path
+
+rest_is : (ds rest : List ℕ) → NoSlash ds → EndsSegment rest
+    → rest_of_segment (ds ++ rest) ≡ rest
+rest_is [] [] bare ends = refl
+rest_is [] (b ∷ rest) bare ends = rw ends refl
+rest_is (b ∷ bs) rest bare ends = rw bare.0 (rest_is bs rest bare.1 ends)
+
+takes_text : (ds pattern rest : List ℕ) → 0 < length ds
+    → NoSlash ds → EndsSegment rest
+    → takes (param_token ∷ pattern) (ds ++ rest) ≡ takes pattern rest
+takes_text [] pattern rest some bare ends = absurd (omega arith)
+takes_text (b ∷ bs) pattern rest some bare ends =
+    rw (bare.0, rest_is bs rest bare.1 ends) refl
+
+first_is : (ds rest : List ℕ) → NoSlash ds → EndsSegment rest
+    → first_segment (ds ++ rest) ≡ ds
+first_is [] [] bare ends = refl
+first_is [] (b ∷ rest) bare ends = rw ends refl
+first_is (b ∷ bs) rest bare ends = rw bare.0 (ap (λ l. b ∷ l) (first_is bs rest bare.1 ends))
+
+behind_is : (ds rest : List ℕ) → NoSlash ds
+    → behind_slash (ds ++ slash ∷ rest) ≡ rest
+behind_is [] rest bare = refl
+behind_is (b ∷ bs) rest bare = rw bare.0 (behind_is bs rest bare.1)
+
+-- a number in a pattern takes one in a path
+pub takes_number : (n : ℕ) (pattern rest : List ℕ) → IsSmall n → EndsSegment rest
+    → takes (param_token ∷ pattern) (decimal n ++ rest) ≡ takes pattern rest
+takes_number n pattern rest small ends =
+    let is = writes n small in
+    takes_text (decimal n) pattern rest is.some (without_slash (decimal n) is.digits) ends
+
+-- the number that a path begins with is read
+pub number_here : (n : ℕ) (rest : List ℕ) → IsSmall n → EndsSegment rest
+    → number_of (first_segment (decimal n ++ rest)) ≡ Some n
+number_here n rest small ends =
+    let is = writes n small in
+    ap number_of (first_is (decimal n) rest (without_slash (decimal n) is.digits) ends)
+    ∙ number_is n (decimal n) is
+
+-- and the path goes on behind it
+pub behind_number : (n : ℕ) (rest : List ℕ) → IsSmall n
+    → behind_slash (decimal n ++ slash ∷ rest) ≡ rest
+behind_number n rest small =
+    let is = writes n small in
+    behind_is (decimal n) rest (without_slash (decimal n) is.digits)

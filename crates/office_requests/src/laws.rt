@@ -1,0 +1,32 @@
+// Laws of requests.
+ghost use Rattle.std.specs.Prelude.{◌≡◌, ◌≢◌, ℕ, List, Option, Some, Ok, Err, is_ok};
+ghost use Rattle.office_policy.specs.Commands.{PlainCommand, HasSmallNumbers};
+ghost use Rattle.office_policy.specs.declared.callers.Caller.{Caller};
+ghost use Rattle.office_requests.specs.Methods.{verb_of, allow_of, is_listed};
+ghost use Rattle.office_requests.specs.Pages.{page_of};
+ghost use Rattle.office_requests.specs.Printing.{path_of, method_of, SaysBody, ComesWith};
+ghost use Rattle.office_requests.specs.Requests.{caller_in, staff_command, reading};
+ghost use Rattle.office_requests.specs.declared.pages.Page.{Page};
+ghost use Rattle.office_requests.specs.declared.requests.Refusal.TheVariants as refusal;
+
+/// A page's `Allow` lists just the methods that ask for something there: where the path isn't
+/// refused, a request asks for a command exactly if its method is in the list. Whether the path is
+/// refused is judged first, whatever the method and the body.
+pub fn allow_lists_the_methods()
+    ensures listed { (page : Page) (path method body : List ℕ) → page_of path ≡ Some page
+        → staff_command (verb_of method) path body ≢ Err refusal.Path
+        → is_listed method (allow_of page) ≡ is_ok (staff_command (verb_of method) path body) }
+    ensures path_first { (path method other body text : List ℕ)
+        → staff_command (verb_of method) path body ≡ Err refusal.Path
+        → staff_command (verb_of other) path text ≡ Err refusal.Path }
+{}
+
+/// A command's method and path, printed with its numbers in decimal, with a body that says what
+/// the command's does, are read back as that command: of the office and of departments for each
+/// command, of a candidate for her own three.
+pub fn commands_are_read_back()
+    ensures { (value : Option (List ℕ)) (who : Caller) (c : PlainCommand) (body : List ℕ)
+        → caller_in value ≡ Some who → ComesWith who c → HasSmallNumbers c → SaysBody body c
+        → reading (method_of c) (path_of c) value body
+        ≡ Ok (record { caller = who; command = c }) }
+{}
