@@ -18,10 +18,11 @@ use Rattle.office_messages.specs.declared.look.Stage.TheVariants.{Searching, Rea
 use Rattle.office_messages.specs.Form.{form_of}
 use Rattle.office_messages.specs.Heads.{Knows}
 use Rattle.office_messages.specs.Reply.{PlainReply, fault_reply, reply_text}
-use Rattle.office_messages.specs.Stream.{PlainRequest, RequestAt, FaultAt, Unfinished, LacksHead}
+use Rattle.office_messages.specs.Stream.{PlainRequest, RequestAt, FaultAt, Unfinished, HasEnd}
 use Rattle.office_messages.specs.Serve.{Item, asks, fails, Messages, Begins, Told, Serves}
 use Rattle.office_messages.specs.Serve.{ServesFront}
-use Rattle.office_messages.proofs.HeadLemmas.{nothing_lacks, head_at_more}
+use Rattle.office_messages.proofs.HeadEndLemmas.{no_end}
+use Rattle.office_messages.proofs.HeadLemmas.{head_at_more}
 use Rattle.office_messages.proofs.MoreLemmas.{request_more, fault_more}
 
 -- what is known of the front stays known as more comes
@@ -30,14 +31,14 @@ pub knows_more : (stage : Stage) (buffer more : List ℕ) → Knows buffer stage
 knows_more (Searching n) buffer more k = (
   omega (arith, k.0, length-append buffer more),
   k.1,
-  subst LacksHead
+  subst (λ (l : List ℕ). ¬ (HasEnd l))
       (sym (take-append-le n buffer more k.0)) k.2,
 )
 knows_more (Reading x) buffer more k = head_at_more buffer more x k
 
 -- of a message of which nothing was looked at nothing need be known
 pub knows_nothing : (buffer : List ℕ) → Knows buffer (Searching 0)
-knows_nothing buffer = (omega arith, omega arith, nothing_lacks)
+knows_nothing buffer = (omega arith, omega arith, no_end)
 
 -- what holds of the bytes taken and whatever follows holds of the input
 with_input : (P : List ℕ → Type 0) (input now : Option (List ℕ)) (taken : List ℕ)

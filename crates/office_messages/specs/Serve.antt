@@ -4,7 +4,8 @@ use Rattle.std.specs.Prelude.{length, Option, IfSome}
 use Rattle.std.specs.Io.KnownBytes.{Appends}
 use Rattle.office_messages.specs.Form.{form_of}
 use Rattle.office_messages.specs.Reply.{PlainReply, fault_reply, reply_text}
-use Rattle.office_messages.specs.Stream.{PlainRequest, RequestAt, FaultAt, Unfinished}
+use Rattle.office_messages.specs.Stream.{PlainRequest, RequestAt, FaultAt, HasEnd, Unfinished}
+use Rattle.office_messages.specs.Stream.{max_head}
 use Rattle.office_messages.specs.declared.form.Form.{Form}
 use Rattle.office_messages.specs.declared.form.Form.TheVariants.{Full}
 use Rattle.office_messages.specs.declared.framing.Fault.{Fault}
@@ -81,13 +82,28 @@ module _ {S : Type 0} (Answers : S → PlainRequest → PlainReply → S → Typ
     pub told : Told items old output new
     pub written : fault ≢ serve_faults.Write → Appends before after output
 
--- the one choice: a head that no continuation with few enough fields completes is refused, or cut
-abbrev pub Differs : List Item → End → List Item → End → Type 0
-Differs items end others last =
-    (items ≡ others ++ fails faults.Head Full ∷ []) × (end ≡ Refused) × (last ≡ Cut)
+-- behind these requests, none of which ends the connection, the stream goes on with rest
+abbrev pub Leaves : List Item → List ℕ → List ℕ → Type 0
+Leaves [] stream rest = rest ≡ stream
+Leaves (fails f form ∷ items) stream rest = ⊥
+Leaves (asks r ∷ items) stream rest =
+    (next : List ℕ) × RequestAt r false stream next × Leaves items next rest
+
+-- the one choice: where the input ends within a head, which no continuation with few enough fields
+-- completes, the head is refused, or the connection cut
+pub record Differs (stream : List ℕ) (items : List Item) (end : End) (others : List Item)
+    (last : End) : Type 0 where
+  pub refused : items ≡ others ++ fails faults.Head Full ∷ []
+  pub ends : end ≡ Refused
+  pub cut : last ≡ Cut
+  pub rest : List ℕ
+  pub left : Leaves others stream rest
+  pub some : 0 < length rest
+  pub short : length rest < max_head
+  pub endless : ¬ (HasEnd rest)
 
 -- two readings of a stream are the same, but for that choice
-abbrev pub Agree : List Item → End → List Item → End → Type 0
-Agree items end others last =
+abbrev pub Agree : List ℕ → List Item → End → List Item → End → Type 0
+Agree stream items end others last =
     ((items ≡ others) × (end ≡ last))
-    ⊎ (Differs items end others last ⊎ Differs others last items end)
+    ⊎ (Differs stream items end others last ⊎ Differs stream others last items end)
