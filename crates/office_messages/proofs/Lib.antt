@@ -8,3 +8,4 @@ pub mod EndLemmas
 pub mod MoreLemmas
 pub mod ServeLemmas
 pub mod OneReading
+pub mod RunLemmas

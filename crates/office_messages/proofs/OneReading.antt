@@ -1,5 +1,5 @@
 -- A stream has one reading, but for the one choice.
-use Rattle.std.proofs.Common.{◌≡◌, ℕ, ◌+◌, ◌<◌, true, false, Bool, List, [], ◌∷◌, length, take}
+use Rattle.std.proofs.Common.{◌≡◌, ℕ, ◌+◌, ◌<◌, true, false, Bool, List, [], ◌∷◌, ◌++◌, length, take}
 use Rattle.std.proofs.Common.{drop, Result, Ok, Err, refl, sym, ap, subst, ◌∙◌, append-nil, arith}
 use Rattle.std.proofs.Common.{inl, inr, ◌⊎◌}
 use Rattle.httparse.specs.Grammar.{RequestHead}
@@ -15,7 +15,8 @@ use Rattle.office_messages.specs.Framing.{framing}
 use Rattle.office_messages.specs.Form.{form_of}
 use Rattle.office_messages.specs.Stream.{PlainRequest, HasHead, RequestAt, HeadFault, FaultAt}
 use Rattle.office_messages.specs.Stream.{HasEnd, Unfinished, fields_of, request_of, closes}
-use Rattle.office_messages.specs.Serve.{Item, asks, fails, Ends, Messages, Differs, Agree}
+use Rattle.office_messages.specs.Serve.{Item, asks, fails, Ends, Messages, Begins, Differs}
+use Rattle.office_messages.specs.Serve.{Agree}
 use Rattle.office_messages.proofs.HeadEndLemmas.{no_end_lacks}
 use Rattle.office_messages.proofs.HeadLemmas.{nothing_lacks}
 
@@ -253,3 +254,55 @@ one_reading (asks r ∷ items) (fails g form ∷ others) end last n s m o =
 one_reading (asks r ∷ items) (asks q ∷ others) end last n s m o =
     both_go r q items others end last n s m.1.0 o.1.0 m.1.1 o.1.1
     (λ a b. one_reading items others end last (n + 1) m.1.0 a b)
+
+-- ---- what was answered before a fault is a front of the messages
+
+-- how a front goes on
+abbrev Begun : PlainRequest → List Item → ℕ → List ℕ → List ℕ → Type 0
+Begun r front n s rest =
+    (RequestAt r true s rest × (front ≡ []))
+    ⊎ (RequestAt r false s rest × Begins front (n + 1) rest)
+
+begun_there : (r : PlainRequest) (front : List Item) (n : ℕ) (s rest : List ℕ)
+    → Begun r front n s rest → (a : Bool) × RequestAt r a s rest
+begun_there r front n s rest (inl x) = (true, x.0)
+begun_there r front n s rest (inr x) = (false, x.0)
+
+front_goes : (r q : PlainRequest) (front items : List Item) (end : End) (n : ℕ)
+    (s rest left : List ℕ) → Begun r front n s rest → Goes q items end n s left
+    → (Begins front (n + 1) rest → Messages items end (n + 1) rest
+    → (more : List Item) × (items ≡ front ++ more))
+    → (more : List Item) × (asks q ∷ items ≡ asks r ∷ (front ++ more))
+front_goes r q front items end n s rest left (inl x) (inl y) step =
+    let same = one_request r q true true s rest left x.0 y.0 in
+    let is : r ≡ q = same.0 in (
+      items,
+      ap (λ (z : PlainRequest). asks z ∷ items) (sym is)
+          ∙ ap (λ (l : List Item). asks r ∷ (l ++ items)) (sym x.1),
+    )
+front_goes r q front items end n s rest left (inl x) (inr y) step =
+    absurd (let e = (one_request r q true false s rest left x.0 y.0).1 in let no : ⊥ = cc in no)
+front_goes r q front items end n s rest left (inr x) (inl y) step =
+    absurd (let e = (one_request r q false true s rest left x.0 y.0).1 in let no : ⊥ = cc in no)
+front_goes r q front items end n s rest left (inr x) (inr y) step =
+    let same = one_request r q false false s rest left x.0 y.0 in
+    let more =
+    step x.1 (subst (λ (l : List ℕ). Messages items end (n + 1) l) (sym same.2) y.1) in (
+      more.0,
+      ap (λ (z : PlainRequest). asks z ∷ items) (sym same.0)
+          ∙ ap (λ (l : List Item). asks r ∷ l) more.1,
+    )
+
+pub front_of_messages : (front items : List Item) (end : End) (n : ℕ) (s : List ℕ)
+    → Begins front n s → Messages items end n s → (more : List Item) × (items ≡ front ++ more)
+front_of_messages [] items end n s b m = (items, refl)
+front_of_messages (fails f form ∷ front) items end n s b m = absurd b
+front_of_messages (asks r ∷ front) [] end n s b m =
+    let there = begun_there r front n s b.1.0 b.1.1 in
+    absurd (end_or_request end n s r there.0 b.1.0 m b.0 there.1)
+front_of_messages (asks r ∷ front) (fails f form ∷ items) end n s b m =
+    let there = begun_there r front n s b.1.0 b.1.1 in
+    absurd (asks_not_fails r there.0 f form s b.1.0 there.1 m.1)
+front_of_messages (asks r ∷ front) (asks q ∷ items) end n s b m =
+    front_goes r q front items end n s b.1.0 m.1.0 b.1.1 m.1.1
+    (λ x y. front_of_messages front items end (n + 1) b.1.0 x y)
