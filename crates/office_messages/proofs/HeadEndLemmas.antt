@@ -10,14 +10,14 @@ use Rattle.std.proofs.lemmas.Bool.{both_ways, cases_lt, ne_eqb, lt-ltb}
 use Rattle.std.proofs.lemmas.Bool.Decides.{nat_tests}
 use Rattle.std.proofs.lemmas.List.Elements.{All-nil, All-head, All-tail}
 use Rattle.std.proofs.lemmas.List.{take-take}
-use Rattle.std.proofs.Math.Seq.{take-append_seam, drop-append_seam, take-append-add}
+use Rattle.std.proofs.Math.Seq.{take-append_seam, drop-append_seam}
 use lib.Pointwise.{pointwise}
 use Rattle.httparse.specs.Ascii.{crlf_bytes}
 use Rattle.httparse.specs.Grammar.{LineEnd, crlf, lf, print_end, print_blank, Field, IsField}
 use Rattle.httparse.specs.Grammar.{print_field, is_value_byte, AllPass, RequestHead, IsRequestHead}
 use Rattle.httparse.specs.Grammar.{print_request}
-use Rattle.office_messages.specs.Heads.{before_end, ends_in_line, ends_as_head}
-use Rattle.office_messages.specs.Stream.{LacksHead}
+use Rattle.office_messages.specs.Stream.{LacksHead, HasEnd, before_end, ends_in_line}
+use Rattle.office_messages.specs.Stream.{ends_as_head}
 
 -- the bytes end with a plain byte and a line end
 pub record EndsLine (bytes : List ℕ) : Type 0 where
@@ -188,32 +188,53 @@ head_ends h is =
     ap ends_as_head (sym (append_assoc start (flat_map print_field h.fields) (print_end h.last)))
     ∙ ends_both (start ++ flat_map print_field h.fields) h.last lines
 
--- where no head can end behind the first n bytes, none ends at all, if none ends in these
-pub searched_lacks : (bytes : List ℕ) (n : ℕ) → n ≤ length bytes → LacksHead (take n bytes)
-    → ((k : ℕ) → n < k → k ≤ length (take 16384 bytes)
-    → ends_as_head (take k (take 16384 bytes)) ≡ false) → LacksHead bytes
-searched_lacks bytes n fits none ends h rest x =
+-- a head of few enough bytes is an end
+pub no_end_lacks : (bytes : List ℕ) → ¬ (HasEnd bytes) → LacksHead bytes
+no_end_lacks bytes none h rest x =
     let text = print_request h in
-    let k = length text in
-    let long : k ≤ length bytes = omega (arith, ap length x.reads.1, length-append text rest) in
-    let front : take k bytes ≡ text = ap (take k) x.reads.1 ∙ take-append_seam text rest in
-    elim (cases_lt n k) [
+    none record {
+      size = length text;
+      within = omega (arith, ap length x.reads.1, length-append text rest);
+      fits = x.fits;
+      ends = ap ends_as_head (ap (take (length text)) x.reads.1 ∙ take-append_seam text rest)
+          ∙ head_ends h x.reads.0;
+    }
+
+-- where no head can end behind the first n bytes, none ends at all, if none ends in these
+pub searched_none : (bytes : List ℕ) (n : ℕ) → n ≤ length bytes → ¬ (HasEnd (take n bytes))
+    → ((k : ℕ) → n < k → k ≤ length (take 16384 bytes)
+    → ends_as_head (take k (take 16384 bytes)) ≡ false) → ¬ (HasEnd bytes)
+searched_none bytes n fits none ends x =
+    elim (cases_lt n x.size) [
       | inl past ↦
-          let same : take k (take 16384 bytes) ≡ text = take-take k 16384 bytes x.fits ∙ front in
-          both_ways (ends_as_head text)
-          (sym (ap ends_as_head same)
-          ∙ ends k past (omega (arith, length-take 16384 bytes, x.fits, long)))
-          (head_ends h x.reads.0)
+          both_ways (ends_as_head (take x.size bytes))
+          (sym (ap ends_as_head (take-take x.size 16384 bytes x.fits))
+          ∙ ends x.size past (omega (arith, length-take 16384 bytes, x.fits, x.within)))
+          x.ends
       | inr within ↦
-          let room : n ≡ k + (n - k) = omega (arith, within) in
-          none h (take (n - k) rest)
-          record {
-            reads = (
-              x.reads.0,
-              ap (take n) x.reads.1 ∙ ap (λ (m : ℕ). take m (text ++ rest)) room
-                  ∙ take-append-add text rest (n - k),
-            );
-            room = x.room;
+          none record {
+            size = x.size;
+            within = omega (arith, length-take n bytes, fits, within);
             fits = x.fits;
+            ends = ap ends_as_head (take-take x.size n bytes within) ∙ x.ends;
           }
     ]
+
+-- the end that was found in the first bytes
+pub found_end : (bytes : List ℕ) (n : ℕ) → n ≤ length (take 16384 bytes)
+    → ends_as_head (take n (take 16384 bytes)) ≡ true → HasEnd bytes
+found_end bytes n within ends =
+    let small : n ≤ 16384 = omega (arith, length-take 16384 bytes) in
+    record {
+      size = n;
+      within = omega (arith, length-take 16384 bytes);
+      fits = small;
+      ends = sym (ap ends_as_head (take-take n 16384 bytes small)) ∙ ends;
+    }
+
+pub no_end : ¬ (HasEnd [])
+unfolding ends_as_head
+no_end x =
+    both_ways (ends_as_head []) refl
+    (sym (ap (λ (n : ℕ). ends_as_head (take n [])) (let e : x.size ≡ 0 = omega (arith, x.within) in e))
+    ∙ x.ends)

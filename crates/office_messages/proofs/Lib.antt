@@ -4,6 +4,8 @@ pub mod NameLemmas
 pub mod FieldLemmas
 pub mod HeadLemmas
 pub mod HeadEndLemmas
+pub mod EndLemmas
 pub mod MoreLemmas
 pub mod ServeLemmas
 pub mod OneReading
+pub mod RunLemmas

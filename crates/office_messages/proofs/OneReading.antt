@@ -1,5 +1,5 @@
 -- A stream has one reading, but for the one choice.
-use Rattle.std.proofs.Common.{◌≡◌, ℕ, ◌+◌, ◌<◌, true, false, Bool, List, [], ◌∷◌, length, take}
+use Rattle.std.proofs.Common.{◌≡◌, ℕ, ◌+◌, ◌<◌, true, false, Bool, List, [], ◌∷◌, ◌++◌, length, take}
 use Rattle.std.proofs.Common.{drop, Result, Ok, Err, refl, sym, ap, subst, ◌∙◌, append-nil, arith}
 use Rattle.std.proofs.Common.{inl, inr, ◌⊎◌}
 use Rattle.httparse.specs.Grammar.{RequestHead}
@@ -14,8 +14,10 @@ use Rattle.office_messages.specs.declared.connection.End.TheVariants.{Limit}
 use Rattle.office_messages.specs.Framing.{framing}
 use Rattle.office_messages.specs.Form.{form_of}
 use Rattle.office_messages.specs.Stream.{PlainRequest, HasHead, RequestAt, HeadFault, FaultAt}
-use Rattle.office_messages.specs.Stream.{Unfinished, fields_of, request_of, closes}
-use Rattle.office_messages.specs.Serve.{Item, asks, fails, Ends, Messages, Agree}
+use Rattle.office_messages.specs.Stream.{HasEnd, Unfinished, fields_of, request_of, closes}
+use Rattle.office_messages.specs.Serve.{Item, asks, fails, Ends, Messages, Begins, Differs}
+use Rattle.office_messages.specs.Serve.{Agree}
+use Rattle.office_messages.proofs.HeadEndLemmas.{no_end_lacks}
 use Rattle.office_messages.proofs.HeadLemmas.{nothing_lacks}
 
 -- one head, and one rest
@@ -47,7 +49,7 @@ asks_not_fails r last f form s rest x (inr y) =
 -- nor less than a message
 asks_not_cut : (r : PlainRequest) (last : Bool) (s rest : List ℕ) → RequestAt r last s rest
     → Unfinished s → ⊥
-asks_not_cut r last s rest x (inl y) = y.1 x.head x.after x.has_head
+asks_not_cut r last s rest x (inl y) = no_end_lacks s y.1 x.head x.after x.has_head
 asks_not_cut r last s rest x (inr y) =
     let e = same_framing s x.head y.head x.after y.after (Ok x.size)
     (Ok y.size) x.has_head y.has_head x.framed y.framed in
@@ -62,11 +64,12 @@ fails_some : (f : Fault) (form : Form) → FaultAt f form [] → ⊥
 fails_some f form (inl x) = omega (arith, x.2.0)
 fails_some f form (inr x) = nothing_lacks x.head x.after x.has_head
 
--- where a fault may be a cut as well, it is one of the head
+-- where a fault may be a cut as well, it is one of the head, which has no end
 fails_or_cut : (f : Fault) (form : Form) (s : List ℕ) → FaultAt f form s → Unfinished s
-    → (f ≡ faults.Head) × (form ≡ Full)
-fails_or_cut f form s (inl x) u = (x.0, x.1)
-fails_or_cut f form s (inr x) (inl u) = absurd (u.1 x.head x.after x.has_head)
+    → (f ≡ faults.Head) × (form ≡ Full) × (length s < 16384) × ¬ (HasEnd s)
+fails_or_cut f form s (inl x) (inl u) = (x.0, x.1, u.0, u.1)
+fails_or_cut f form s (inl x) (inr u) = absurd (no_fault s u.head u.after u.has_head x.2)
+fails_or_cut f form s (inr x) (inl u) = absurd (no_end_lacks s u.1 x.head x.after x.has_head)
 fails_or_cut f form s (inr x) (inr u) =
     absurd (let e =
     same_framing s x.head u.head x.after u.after (Err f)
@@ -100,20 +103,36 @@ one_request r q a b s rest left x y =
           ∙ sym y.rest_is,
     )
 
-swap : (items : List Item) (end : End) (others : List Item) (last : End)
-    → Agree items end others last → Agree others last items end
-swap items end others last (inl x) = inl (sym x.0, sym x.1)
-swap items end others last (inr (inl x)) = inr (inr x)
-swap items end others last (inr (inr x)) = inr (inl x)
+swap : (s : List ℕ) (items : List Item) (end : End) (others : List Item) (last : End)
+    → Agree s items end others last → Agree s others last items end
+swap s items end others last (inl x) = inl (sym x.0, sym x.1)
+swap s items end others last (inr (inl x)) = inr (inr x)
+swap s items end others last (inr (inr x)) = inr (inl x)
 
 -- one request more at the front of both
-after_request : (r : PlainRequest) (items : List Item) (end : End) (others : List Item) (last : End)
-    → Agree items end others last → Agree (asks r ∷ items) end (asks r ∷ others) last
-after_request r items end others last (inl x) = inl (ap (λ (l : List Item). asks r ∷ l) x.0, x.1)
-after_request r items end others last (inr (inl x)) =
-    inr (inl (ap (λ (l : List Item). asks r ∷ l) x.0, x.1, x.2))
-after_request r items end others last (inr (inr x)) =
-    inr (inr (ap (λ (l : List Item). asks r ∷ l) x.0, x.1, x.2))
+differs_after : (r : PlainRequest) (s rest : List ℕ) (items : List Item) (end : End)
+    (others : List Item) (last : End) → RequestAt r false s rest
+    → Differs rest items end others last → Differs s (asks r ∷ items) end (asks r ∷ others) last
+differs_after r s rest items end others last at x = record {
+  refused = ap (λ (l : List Item). asks r ∷ l) x.refused;
+  ends = x.ends;
+  cut = x.cut;
+  rest = x.rest;
+  left = (rest, at, x.left);
+  some = x.some;
+  short = x.short;
+  endless = x.endless;
+}
+
+after_request : (r : PlainRequest) (s rest : List ℕ) (items : List Item) (end : End)
+    (others : List Item) (last : End) → RequestAt r false s rest
+    → Agree rest items end others last → Agree s (asks r ∷ items) end (asks r ∷ others) last
+after_request r s rest items end others last at (inl x) =
+    inl (ap (λ (l : List Item). asks r ∷ l) x.0, x.1)
+after_request r s rest items end others last at (inr (inl x)) =
+    inr (inl (differs_after r s rest items end others last at x))
+after_request r s rest items end others last at (inr (inr x)) =
+    inr (inr (differs_after r s rest others last items end at x))
 
 one_end : (end last : End) (n : ℕ) (s : List ℕ) → Ends end n s → Ends last n s → end ≡ last
 one_end Closed Closed n s x y = refl
@@ -137,19 +156,25 @@ one_end Asked last n s x y = absurd x
 -- an end against a fault: the one choice
 end_or_fault : (end : End) (n : ℕ) (s : List ℕ) (f : Fault) (form : Form) (items : List Item)
     (last : End) → Ends end n s → n < 100
-    → FaultAt f form s → items ≡ [] → last ≡ Refused → Agree [] end (fails f form ∷ items) last
+    → FaultAt f form s → items ≡ [] → last ≡ Refused → Agree s [] end (fails f form ∷ items) last
 end_or_fault Closed n s f form items last x lt y e l =
     absurd (fails_some f form (subst (FaultAt f form) x.1 y))
 end_or_fault Cut n s f form items last x lt y e l =
     let head = fails_or_cut f form s y x.2 in
     let is_head : f ≡ faults.Head = head.0 in
     let is_full : form ≡ Full = head.1 in
-    inr (inr (
-      let t : ◌≡◌ {A = List Item} (fails f form ∷ items) (fails faults.Head Full ∷ []) =
-          cc in t,
-      l,
-      refl,
-    ))
+    inr (inr record {
+      refused =
+          let t : ◌≡◌ {A = List Item} (fails f form ∷ items) (fails faults.Head Full ∷ []) =
+          cc in t;
+      ends = l;
+      cut = refl;
+      rest = s;
+      left = refl;
+      some = x.1;
+      short = head.2;
+      endless = head.3;
+    })
 end_or_fault Limit n s f form items last x lt y e l = absurd (omega (arith, x, lt))
 end_or_fault Refused n s f form items last x lt y e l = absurd x
 end_or_fault Asked n s f form items last x lt y e l = absurd x
@@ -178,7 +203,7 @@ request_there r items end n s rest (inr x) = (false, x.0)
 both_go : (r q : PlainRequest) (items others : List Item) (end last : End) (n : ℕ)
     (s rest left : List ℕ) → Goes r items end n s rest → Goes q others last n s left
     → (Messages items end (n + 1) rest → Messages others last (n + 1) rest
-    → Agree items end others last) → Agree (asks r ∷ items) end (asks q ∷ others) last
+    → Agree rest items end others last) → Agree s (asks r ∷ items) end (asks q ∷ others) last
 both_go r q items others end last n s rest left (inl x) (inl y) more =
     let same = one_request r q true true s rest left x.0 y.0 in
     let is : r ≡ q = same.0 in
@@ -191,12 +216,12 @@ both_go r q items others end last n s rest left (inr x) (inl y) more =
     absurd (let e = (one_request r q false true s rest left x.0 y.0).1 in let no : ⊥ = cc in no)
 both_go r q items others end last n s rest left (inr x) (inr y) more =
     let same = one_request r q false false s rest left x.0 y.0 in
-    subst (λ (z : PlainRequest). Agree (asks r ∷ items) end (asks z ∷ others) last) same.0
-    (after_request r items end others last
+    subst (λ (z : PlainRequest). Agree s (asks r ∷ items) end (asks z ∷ others) last) same.0
+    (after_request r s rest items end others last x.0
     (more x.1 (subst (λ (l : List ℕ). Messages others last (n + 1) l) (sym same.2) y.1)))
 
 pub one_reading : (items others : List Item) (end last : End) (n : ℕ) (s : List ℕ)
-    → Messages items end n s → Messages others last n s → Agree items end others last
+    → Messages items end n s → Messages others last n s → Agree s items end others last
 one_reading [] [] end last n s m o = inl (refl, one_end end last n s m o)
 one_reading [] (fails f form ∷ others) end last n s m o =
     end_or_fault end n s f form others last m o.0 o.1 o.2 o.3
@@ -204,7 +229,7 @@ one_reading [] (asks r ∷ others) end last n s m o =
     let there = request_there r others last n s o.1.0 o.1.1 in
     absurd (end_or_request end n s r there.0 o.1.0 m o.0 there.1)
 one_reading (fails f form ∷ items) [] end last n s m o =
-    swap [] last (fails f form ∷ items) end
+    swap s [] last (fails f form ∷ items) end
     (end_or_fault last n s f form items end o m.0 m.1 m.2 m.3)
 one_reading (fails f form ∷ items) (fails g other ∷ others) end last n s m o =
     let same = one_fault f g form other s m.1 o.1 in
@@ -229,3 +254,55 @@ one_reading (asks r ∷ items) (fails g form ∷ others) end last n s m o =
 one_reading (asks r ∷ items) (asks q ∷ others) end last n s m o =
     both_go r q items others end last n s m.1.0 o.1.0 m.1.1 o.1.1
     (λ a b. one_reading items others end last (n + 1) m.1.0 a b)
+
+-- ---- what was answered before a fault is a front of the messages
+
+-- how a front goes on
+abbrev Begun : PlainRequest → List Item → ℕ → List ℕ → List ℕ → Type 0
+Begun r front n s rest =
+    (RequestAt r true s rest × (front ≡ []))
+    ⊎ (RequestAt r false s rest × Begins front (n + 1) rest)
+
+begun_there : (r : PlainRequest) (front : List Item) (n : ℕ) (s rest : List ℕ)
+    → Begun r front n s rest → (a : Bool) × RequestAt r a s rest
+begun_there r front n s rest (inl x) = (true, x.0)
+begun_there r front n s rest (inr x) = (false, x.0)
+
+front_goes : (r q : PlainRequest) (front items : List Item) (end : End) (n : ℕ)
+    (s rest left : List ℕ) → Begun r front n s rest → Goes q items end n s left
+    → (Begins front (n + 1) rest → Messages items end (n + 1) rest
+    → (more : List Item) × (items ≡ front ++ more))
+    → (more : List Item) × (asks q ∷ items ≡ asks r ∷ (front ++ more))
+front_goes r q front items end n s rest left (inl x) (inl y) step =
+    let same = one_request r q true true s rest left x.0 y.0 in
+    let is : r ≡ q = same.0 in (
+      items,
+      ap (λ (z : PlainRequest). asks z ∷ items) (sym is)
+          ∙ ap (λ (l : List Item). asks r ∷ (l ++ items)) (sym x.1),
+    )
+front_goes r q front items end n s rest left (inl x) (inr y) step =
+    absurd (let e = (one_request r q true false s rest left x.0 y.0).1 in let no : ⊥ = cc in no)
+front_goes r q front items end n s rest left (inr x) (inl y) step =
+    absurd (let e = (one_request r q false true s rest left x.0 y.0).1 in let no : ⊥ = cc in no)
+front_goes r q front items end n s rest left (inr x) (inr y) step =
+    let same = one_request r q false false s rest left x.0 y.0 in
+    let more =
+    step x.1 (subst (λ (l : List ℕ). Messages items end (n + 1) l) (sym same.2) y.1) in (
+      more.0,
+      ap (λ (z : PlainRequest). asks z ∷ items) (sym same.0)
+          ∙ ap (λ (l : List Item). asks r ∷ l) more.1,
+    )
+
+pub front_of_messages : (front items : List Item) (end : End) (n : ℕ) (s : List ℕ)
+    → Begins front n s → Messages items end n s → (more : List Item) × (items ≡ front ++ more)
+front_of_messages [] items end n s b m = (items, refl)
+front_of_messages (fails f form ∷ front) items end n s b m = absurd b
+front_of_messages (asks r ∷ front) [] end n s b m =
+    let there = begun_there r front n s b.1.0 b.1.1 in
+    absurd (end_or_request end n s r there.0 b.1.0 m b.0 there.1)
+front_of_messages (asks r ∷ front) (fails f form ∷ items) end n s b m =
+    let there = begun_there r front n s b.1.0 b.1.1 in
+    absurd (asks_not_fails r there.0 f form s b.1.0 there.1 m.1)
+front_of_messages (asks r ∷ front) (asks q ∷ items) end n s b m =
+    front_goes r q front items end n s b.1.0 m.1.0 b.1.1 m.1.1
+    (λ x y. front_of_messages front items end (n + 1) b.1.0 x y)

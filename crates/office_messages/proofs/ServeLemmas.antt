@@ -1,5 +1,5 @@
 -- How far a connection has come.
-use Rattle.std.proofs.Common.{◌≡◌, ℕ, ◌+◌, ◌<◌, ◌≤◌, Bool, true, false, List, [], ◌∷◌, ◌++◌, length}
+use Rattle.std.proofs.Common.{◌≡◌, ◌≢◌, ℕ, ◌+◌, ◌<◌, ◌≤◌, Bool, true, false, List, [], ◌∷◌, ◌++◌, length}
 use Rattle.std.proofs.Common.{Option, Some, None, IfSome, refl, sym, ap, subst, ◌∙◌, append_assoc}
 use Rattle.std.proofs.Common.{append-nil, arith, length-append, inl, inr, ◌⊎◌}
 use Rattle.std.proofs.lemmas.List.{take-append-le}
@@ -18,10 +18,11 @@ use Rattle.office_messages.specs.declared.look.Stage.TheVariants.{Searching, Rea
 use Rattle.office_messages.specs.Form.{form_of}
 use Rattle.office_messages.specs.Heads.{Knows}
 use Rattle.office_messages.specs.Reply.{PlainReply, fault_reply, reply_text}
-use Rattle.office_messages.specs.Stream.{PlainRequest, RequestAt, FaultAt, Unfinished, LacksHead}
+use Rattle.office_messages.specs.Stream.{PlainRequest, RequestAt, FaultAt, Unfinished, HasEnd}
 use Rattle.office_messages.specs.Serve.{Item, asks, fails, Messages, Begins, Told, Serves}
-use Rattle.office_messages.specs.Serve.{ServesFront}
-use Rattle.office_messages.proofs.HeadLemmas.{nothing_lacks, head_at_more}
+use Rattle.office_messages.specs.Serve.{ServesFront, SendsFront}
+use Rattle.office_messages.proofs.HeadEndLemmas.{no_end}
+use Rattle.office_messages.proofs.HeadLemmas.{head_at_more}
 use Rattle.office_messages.proofs.MoreLemmas.{request_more, fault_more}
 
 -- what is known of the front stays known as more comes
@@ -30,14 +31,14 @@ pub knows_more : (stage : Stage) (buffer more : List ℕ) → Knows buffer stage
 knows_more (Searching n) buffer more k = (
   omega (arith, k.0, length-append buffer more),
   k.1,
-  subst LacksHead
+  subst (λ (l : List ℕ). ¬ (HasEnd l))
       (sym (take-append-le n buffer more k.0)) k.2,
 )
 knows_more (Reading x) buffer more k = head_at_more buffer more x k
 
 -- of a message of which nothing was looked at nothing need be known
 pub knows_nothing : (buffer : List ℕ) → Knows buffer (Searching 0)
-knows_nothing buffer = (omega arith, omega arith, nothing_lacks)
+knows_nothing buffer = (omega arith, omega arith, no_end)
 
 -- what holds of the bytes taken and whatever follows holds of the input
 with_input : (P : List ℕ → Type 0) (input now : Option (List ℕ)) (taken : List ℕ)
@@ -245,23 +246,33 @@ module _ {S : Type 0} (Answers : S → PlainRequest → PlainReply → S → Typ
         (p.messages [] Cut [] (subst Q whole (lt, some, short)))))
         count
 
+    -- what was written, and a front of one more reply
+    gone_out : (then : Option (List ℕ)) (text : List ℕ) → (part : SendsFront after then text)
+        → Appends before then ((p.output ++ []) ++ part.sent)
+    gone_out then text part =
+        subst (λ (l : List ℕ). Appends before then (l ++ part.sent)) (sym (append-nil p.output))
+        (Appends-trans before after then p.output part.sent p.written part.written)
+
     -- a fault of the connection leaves what was answered
-    pub front : (fault : ServeFault) → ServesFront Answers input before after old new fault
-    front fault = record {
+    pub front : (fault : ServeFault) → fault ≢ serve_faults.Write
+        → ServesFront Answers input before after old new fault
+    front fault other = record {
       items = p.items ++ [];
       output = p.output ++ [];
       begins = with_input (Begins (p.items ++ []) 0) input now p.taken p.consumed
           (λ more. p.begins [] more p.small);
       told = p.told [] [] new (refl, refl);
       written = λ _. subst (Appends before after) (sym (append-nil p.output)) p.written;
+      broken = λ is. absurd (other is);
     }
 
     -- a fault of the writer, after the last command
     pub unsent : (r : PlainRequest) (last : Bool) (rest : List ℕ) (reply : PlainReply) (next : S)
         (then : Option (List ℕ)) → n < 100
         → RequestAt r last buffer rest → Answers new r reply next
+        → SendsFront after then (reply_text (form_of r.method) reply)
         → ServesFront Answers input before then old next serve_faults.Write
-    unsent r last rest reply next then lt at step = let text =
+    unsent r last rest reply next then lt at step part = let text =
         reply_text (form_of r.method) reply in record {
           items = p.items ++ asks r ∷ [];
           output = p.output ++ (text ++ []);
@@ -270,16 +281,62 @@ module _ {S : Type 0} (Answers : S → PlainRequest → PlainReply → S → Typ
               (lt, (rest ++ more, ends_or_not r last n buffer rest more lt at)));
           told = p.told (asks r ∷ []) (text ++ []) next (next, reply, [], step, refl, (refl, refl));
           written = λ different. absurd (different refl);
+          broken = λ _. record {
+            whole = p.items ++ [];
+            front = p.output ++ [];
+            mid = new;
+            told = p.told [] [] new (refl, refl);
+            last = asks r;
+            sent = part.sent;
+            unsent = part.unsent;
+            told_last = (
+              next,
+              reply,
+              [],
+              step,
+              sym part.whole ∙ sym (append-nil text),
+              (refl, refl),
+            );
+            next = inl (
+              ap (λ (l : List Item). l ++ asks r ∷ []) (sym (append-nil p.items)),
+              ap (λ (l : List ℕ). p.output ++ l) (append-nil text ∙ part.whole)
+                  ∙ ap (λ (l : List ℕ). l ++ (part.sent ++ part.unsent))
+                  (sym (append-nil p.output)),
+            );
+            written = gone_out then text part;
+          };
         }
 
     -- the same for the reply to a fault
-    pub unrefused : (then : Option (List ℕ))
+    pub unrefused : (f : Fault) (form : Form) (then : Option (List ℕ)) → n < 100
+        → FaultAt f form buffer → SendsFront after then (reply_text form (fault_reply f))
         → ServesFront Answers input before then old new serve_faults.Write
-    unrefused then = record {
+    unrefused f form then lt at part = let text = reply_text form (fault_reply f) in record {
       items = p.items ++ [];
       output = p.output ++ [];
       begins = with_input (Begins (p.items ++ []) 0) input now p.taken p.consumed
           (λ more. p.begins [] more p.small);
       told = p.told [] [] new (refl, refl);
       written = λ different. absurd (different refl);
+      broken = λ _. record {
+        whole = p.items ++ [];
+        front = p.output ++ [];
+        mid = new;
+        told = p.told [] [] new (refl, refl);
+        last = fails f form;
+        sent = part.sent;
+        unsent = part.unsent;
+        told_last = ([], sym part.whole ∙ sym (append-nil text), (refl, refl));
+        next = inr (
+          refl,
+          refl,
+          with_input (Messages ((p.items ++ []) ++ fails f form ∷ []) Refused 0) input now p.taken
+              p.consumed
+              (λ more. subst (λ (l : List Item). Messages (l ++ fails f form ∷ []) Refused 0
+              (p.taken ++ more)) (sym (append-nil p.items))
+              (p.messages (fails f form ∷ []) Refused more
+              (lt, fault_more f form buffer more at, refl, refl))),
+        );
+        written = gone_out then text part;
+      };
     }

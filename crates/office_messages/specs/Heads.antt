@@ -1,17 +1,13 @@
 -- What the code knows of a message that is coming.
-use Rattle.std.specs.Prelude.{◌≡◌, ℕ, ◌-◌, ◌<◌, ◌≤◌, Bool, false, not, ◌&&◌, List, [], ◌∷◌, length}
-use Rattle.std.specs.Prelude.{take, drop, Option, Some, None, Ok, Err, if◌then◌else◌, nat_eq}
-use Rattle.std.specs.Prelude.{nat_lt, option_and_then, option_copied, codes}
-use Rattle.std.specs.List.{ends_with}
-use Rattle.std.specs.Option.{option_map_or}
-use Rattle.httparse.specs.Ascii.{line_feed, crlf_bytes}
+use Rattle.std.specs.Prelude.{◌≡◌, ℕ, ◌-◌, ◌<◌, ◌≤◌, List, [], ◌∷◌, length, take, drop, Option, Some}
+use Rattle.std.specs.Prelude.{None, Ok, Err, option_copied, codes}
 use Rattle.httparse.specs.Grammar.{RequestHead, print_request}
 use Rattle.httparse.specs.Spans.{IsWithin, span_bytes}
 use Rattle.httparse.specs.declared.spans.Span.{Span}
 use Rattle.office_messages.specs.Fields.{Header, values_named}
 use Rattle.office_messages.specs.Form.{form_of}
 use Rattle.office_messages.specs.Framing.{framing}
-use Rattle.office_messages.specs.Stream.{PlainRequest, HasHead, LacksHead, Unfinished, FaultAt}
+use Rattle.office_messages.specs.Stream.{PlainRequest, HasHead, HasEnd, Unfinished, FaultAt}
 use Rattle.office_messages.specs.Stream.{fields_of, caller_of, closes, max_head}
 use Rattle.office_messages.specs.declared.fields.Seen.{Seen}
 use Rattle.office_messages.specs.declared.fields.Seen.TheVariants.{Absent, Once, Repeated}
@@ -84,25 +80,9 @@ plain_request r = record {
   body = r.body.now;
 }
 
--- the bytes before the line end that they end with
-abbrev pub before_end : List ℕ → Option (List ℕ)
-before_end bytes =
-    if ends_with nat_eq bytes crlf_bytes then Some (take (length bytes - 2) bytes)
-    else (if ends_with nat_eq bytes (line_feed ∷ [])
-    then Some (take (length bytes - 1) bytes) else None)
-
--- they end within a line that isn't empty
-abbrev pub ends_in_line : List ℕ → Bool
-ends_in_line bytes = nat_lt 0 (length bytes) && not (ends_with nat_eq bytes (line_feed ∷ []))
-
--- they end with a line that isn't empty, and an empty one, as a head does
-unfoldable pub ends_as_head : List ℕ → Bool
-ends_as_head bytes =
-    option_map_or ends_in_line (option_and_then before_end (before_end bytes)) false
-
 -- what is known of the message at the front of the bytes, before they are looked at
 abbrev pub Knows : List ℕ → Stage → Type 0
-Knows bytes (Searching n) = (n ≤ length bytes) × (n < max_head) × LacksHead (take n bytes)
+Knows bytes (Searching n) = (n ≤ length bytes) × (n < max_head) × ¬ (HasEnd (take n bytes))
 Knows bytes (Reading x) = HeadAt bytes x
 
 -- what a look at the bytes says of them

@@ -4,7 +4,8 @@ use Rattle.std.specs.Prelude.{length, Option, IfSome}
 use Rattle.std.specs.Io.KnownBytes.{Appends}
 use Rattle.office_messages.specs.Form.{form_of}
 use Rattle.office_messages.specs.Reply.{PlainReply, fault_reply, reply_text}
-use Rattle.office_messages.specs.Stream.{PlainRequest, RequestAt, FaultAt, Unfinished}
+use Rattle.office_messages.specs.Stream.{PlainRequest, RequestAt, FaultAt, HasEnd, Unfinished}
+use Rattle.office_messages.specs.Stream.{max_head}
 use Rattle.office_messages.specs.declared.form.Form.{Form}
 use Rattle.office_messages.specs.declared.form.Form.TheVariants.{Full}
 use Rattle.office_messages.specs.declared.framing.Fault.{Fault}
@@ -51,6 +52,13 @@ Begins (asks r ∷ items) n stream =
     × ((RequestAt r true stream rest × (items ≡ []))
     ⊎ (RequestAt r false stream rest × Begins items (n + 1) rest)))
 
+-- a front of the text went out
+pub record SendsFront (before after : Option (List ℕ)) (text : List ℕ) : Type 0 where
+  pub sent : List ℕ
+  pub unsent : List ℕ
+  pub whole : text ≡ sent ++ unsent
+  pub written : Appends before after sent
+
 module _ {S : Type 0} (Answers : S → PlainRequest → PlainReply → S → Type 0) where
   -- from old the machine may answer these, with that output, and go on to new
   abbrev pub Told : List Item → S → List ℕ → S → Type 0
@@ -71,8 +79,24 @@ module _ {S : Type 0} (Answers : S → PlainRequest → PlainReply → S → Typ
     pub count : length items ≡ served.answered
     pub written : Appends before after output
 
-  -- a front of it was served; after a fault of the writer how much went out of the last reply,
-  -- which may be to a fault of head or framing, is unknown
+  -- the writer failed: all replies but the last went out whole, and a front of the last, which is
+  -- to the last of the items, or to the fault of head or framing behind them
+  pub record BreaksOff (input before after : Option (List ℕ)) (items : List Item)
+      (output : List ℕ) (old new : S) : Type 0 where
+    pub whole : List Item
+    pub front : List ℕ
+    pub mid : S
+    pub told : Told whole old front mid
+    pub last : Item
+    pub sent : List ℕ
+    pub unsent : List ℕ
+    pub told_last : Told (last ∷ []) mid (sent ++ unsent) new
+    pub next : ((items ≡ whole ++ last ∷ []) × (output ≡ front ++ (sent ++ unsent)))
+        ⊎ ((items ≡ whole) × (output ≡ front)
+        × IfSome input (Messages (whole ++ last ∷ []) Refused 0))
+    pub written : Appends before after (front ++ sent)
+
+  -- a front of it was served: the machine answered these items, and that output was to go out
   pub record ServesFront (input before after : Option (List ℕ)) (old new : S)
       (fault : ServeFault) : Type 0 where
     pub items : List Item
@@ -80,14 +104,30 @@ module _ {S : Type 0} (Answers : S → PlainRequest → PlainReply → S → Typ
     pub begins : IfSome input (Begins items 0)
     pub told : Told items old output new
     pub written : fault ≢ serve_faults.Write → Appends before after output
+    pub broken : fault ≡ serve_faults.Write → BreaksOff input before after items output old new
 
--- the one choice: a head that no continuation with few enough fields completes is refused, or cut
-abbrev pub Differs : List Item → End → List Item → End → Type 0
-Differs items end others last =
-    (items ≡ others ++ fails faults.Head Full ∷ []) × (end ≡ Refused) × (last ≡ Cut)
+-- behind these requests, none of which ends the connection, the stream goes on with rest
+abbrev pub Leaves : List Item → List ℕ → List ℕ → Type 0
+Leaves [] stream rest = rest ≡ stream
+Leaves (fails f form ∷ items) stream rest = ⊥
+Leaves (asks r ∷ items) stream rest =
+    (next : List ℕ) × RequestAt r false stream next × Leaves items next rest
+
+-- the one choice: where the input ends within a head, which no continuation with few enough fields
+-- completes, the head is refused, or the connection cut
+pub record Differs (stream : List ℕ) (items : List Item) (end : End) (others : List Item)
+    (last : End) : Type 0 where
+  pub refused : items ≡ others ++ fails faults.Head Full ∷ []
+  pub ends : end ≡ Refused
+  pub cut : last ≡ Cut
+  pub rest : List ℕ
+  pub left : Leaves others stream rest
+  pub some : 0 < length rest
+  pub short : length rest < max_head
+  pub endless : ¬ (HasEnd rest)
 
 -- two readings of a stream are the same, but for that choice
-abbrev pub Agree : List Item → End → List Item → End → Type 0
-Agree items end others last =
+abbrev pub Agree : List ℕ → List Item → End → List Item → End → Type 0
+Agree stream items end others last =
     ((items ≡ others) × (end ≡ last))
-    ⊎ (Differs items end others last ⊎ Differs others last items end)
+    ⊎ (Differs stream items end others last ⊎ Differs stream others last items end)

@@ -1,7 +1,10 @@
 -- The messages at the front of a stream, however it comes.
-use Rattle.std.specs.Prelude.{◌≡◌, ℕ, ◌<◌, ◌≤◌, ◌⊎◌, Bool, ◌||◌, ◌==◌, List, [], ◌∷◌, length, take}
-use Rattle.std.specs.Prelude.{drop, map, Option, Some, None, Ok, Err, codes}
-use Rattle.std.specs.List.{list_any}
+use Rattle.std.specs.Prelude.{◌≡◌, ℕ, ◌-◌, ◌<◌, ◌≤◌, ◌⊎◌, Bool, true, false, not, ◌&&◌, ◌||◌, ◌==◌}
+use Rattle.std.specs.Prelude.{List, [], ◌∷◌, length, take, drop, map, Option, Some, None, Ok, Err}
+use Rattle.std.specs.Prelude.{if◌then◌else◌, nat_eq, nat_lt, option_and_then, codes}
+use Rattle.std.specs.List.{list_any, ends_with}
+use Rattle.std.specs.Option.{option_map_or}
+use Rattle.httparse.specs.Ascii.{line_feed, crlf_bytes}
 use Rattle.httparse.specs.Grammar.{RequestHead, ReadsRequest, print_request}
 use Rattle.httparse.specs.Spans.{name_and_value, RequestOverflows}
 use Rattle.office_messages.specs.Fields.{Header, values_named, asks_to_close}
@@ -53,6 +56,30 @@ request_of h body = record {
   body = body;
 }
 
+-- the bytes before the line end that they end with
+abbrev pub before_end : List ℕ → Option (List ℕ)
+before_end bytes =
+    if ends_with nat_eq bytes crlf_bytes then Some (take (length bytes - 2) bytes)
+    else (if ends_with nat_eq bytes (line_feed ∷ [])
+    then Some (take (length bytes - 1) bytes) else None)
+
+-- the bytes end within a line that isn't empty
+abbrev pub ends_in_line : List ℕ → Bool
+ends_in_line bytes = nat_lt 0 (length bytes) && not (ends_with nat_eq bytes (line_feed ∷ []))
+
+-- they end with a line that isn't empty, and an empty one, as a head does
+unfoldable pub ends_as_head : List ℕ → Bool
+ends_as_head bytes =
+    option_map_or ends_in_line (option_and_then before_end (before_end bytes)) false
+
+-- an empty line stands behind a line that isn't empty, within the first 16,384 bytes of the stream:
+-- there a head, whole or faulty, has come to its end
+pub record HasEnd (stream : List ℕ) : Type 0 where
+  pub size : ℕ
+  pub within : size ≤ length stream
+  pub fits : size ≤ max_head
+  pub ends : ends_as_head (take size stream) ≡ true
+
 -- the stream begins with the head h, which keeps its limits; the empty lines before it count
 pub record HasHead (stream : List ℕ) (h : RequestHead) (rest : List ℕ) : Type 0 where
   pub reads : ReadsRequest stream h rest
@@ -103,6 +130,6 @@ pub record BodyCut (stream : List ℕ) : Type 0 where
   pub framed : framing head.minor (fields_of head) ≡ Ok size
   pub short : length after < size
 
--- less than a whole message
+-- less than a whole message: no head, whole or faulty, has come to its end, or the body hasn't
 abbrev pub Unfinished : List ℕ → Type 0
-Unfinished stream = ((length stream < max_head) × LacksHead stream) ⊎ BodyCut stream
+Unfinished stream = ((length stream < max_head) × ¬ (HasEnd stream)) ⊎ BodyCut stream

@@ -1,11 +1,11 @@
 //! One connection, from its first byte to its end.
-ghost use Rattle.std.specs.Prelude.{◌≡◌, ℕ, ◌+◌, ◌≤◌, List, ◌++◌, length, drop};
+ghost use Rattle.std.specs.Prelude.{◌≡◌, ◌≢◌, ℕ, ◌+◌, ◌≤◌, List, ◌++◌, length, drop};
 ghost use Rattle.std.specs.Prelude.{IfOk, IfErr, OnOk, vec_capacity};
 ghost use Rattle.std.specs.Io.KnownBytes.{Consumes, Appends, IsAtEnd};
 ghost use Rattle.office_messages.specs.Form.{form_of};
 ghost use Rattle.office_messages.specs.Heads.{plain_request};
 ghost use Rattle.office_messages.specs.Reply.{PlainReply, plain_reply, reply_text, sent_body};
-ghost use Rattle.office_messages.specs.Serve.{Serves, ServesFront};
+ghost use Rattle.office_messages.specs.Serve.{Serves, ServesFront, SendsFront};
 ghost use Rattle.office_messages.specs.Stream.{PlainRequest};
 
 use crate::form::Form;
@@ -52,9 +52,10 @@ impl Served {
 pub enum ServeFault {
     /// The reader failed.
     Read = 1,
-    /// The writer failed. The last command stands, and how much of its reply went out is unknown.
+    /// The writer failed, took nothing, or was interrupted too often. The last command stands, and
+    /// of its reply at most a front went out; all before it went out whole.
     Write = 2,
-    /// The turns were used up.
+    /// No turn was left.
     TooMany = 3,
     /// The room for a reply's head was refused, or a message could not be kept.
     NoMemory = 4,
@@ -84,6 +85,9 @@ enum Received {
 // The most bytes of a read.
 pub(crate) const PIECE: usize = 4096;
 
+// The most interruptions of one reply's writing that are tried again.
+const MOST_INTERRUPTIONS: u32 = 1_000;
+
 // Room for a head, and for most bodies behind it, so that both go out in one write.
 const REPLY_ROOM: usize = 4096;
 
@@ -100,6 +104,9 @@ fn receive<R: Read>(
     ensures end { IfOk result (λ r. r ≡ Received.End
         → IsAtEnd (R.remaining reader.new) × (buffer.new.items ≡ buffer.old.items)) }
     ensures turn { OnOk result (turns.new + 1 ≡ turns.old) }
+    ensures spent { IfErr result (λ fault. fault ≡ ServeFault.TooMany → turns.old ≡ 0) }
+    ensures kept { turns.new ≤ turns.old }
+    ensures err { IfErr result (λ fault. fault ≢ ServeFault.Write) }
 {
     if *turns == 0 {
         return Err(ServeFault::TooMany);
@@ -132,11 +139,27 @@ fn drop_front(buffer: &mut Vec<u8>, n: usize)
     buffer.drain(..n);
 }
 
+// Writes all of the bytes: a short write goes on, and an interrupted one is tried again.
 fn write<W: Write>(writer: &mut W, bytes: &[u8]) -> Result<(), ServeFault>
     ensures ok { OnOk result (Appends (W.contents writer.old) (W.contents writer.new) bytes.now) }
-    ensures err { IfErr result (λ e. e ≡ ServeFault.Write) }
+    ensures err { IfErr result (λ fault. (fault ≡ ServeFault.Write)
+        × SendsFront (W.contents writer.old) (W.contents writer.new) bytes.now) }
 {
-    writer.write_all(bytes).map_err(|_| ServeFault::Write)
+    let mut rest = bytes;
+    let mut interruptions = 0;
+    while !rest.is_empty() {
+        match writer.write(rest) {
+            Ok(0) => return Err(ServeFault::Write),
+            Ok(n) => rest = &rest[n..],
+            Err(e) => {
+                if e.kind() != ErrorKind::Interrupted || interruptions == MOST_INTERRUPTIONS {
+                    return Err(ServeFault::Write);
+                }
+                interruptions += 1;
+            }
+        }
+    }
+    Ok(())
 }
 
 // What goes out behind the head.
@@ -160,7 +183,9 @@ fn send<W: Write>(
     requires { HEAD_ROOM ≤ vec_capacity room.old }
     ensures ok { OnOk result (Appends (W.contents writer.old) (W.contents writer.new)
         (reply_text form (plain_reply reply.now))) }
-    ensures err { IfErr result (λ e. e ≡ ServeFault.Write) }
+    ensures err { IfErr result (λ fault. (fault ≡ ServeFault.Write)
+        × SendsFront (W.contents writer.old) (W.contents writer.new)
+        (reply_text form (plain_reply reply.now))) }
     ensures room { HEAD_ROOM ≤ vec_capacity room.new }
 {
     put_head(room, reply, form);
@@ -185,8 +210,10 @@ fn answer<W: Write, M: Machine>(
     ensures step { (reply : PlainReply)
         × M.Answers machine.old (plain_request request.now) reply machine.new
         × OnOk result (Appends (W.contents writer.old) (W.contents writer.new)
+        (reply_text (form_of request.now.method.now) reply))
+        × IfErr result (λ fault. (fault ≡ ServeFault.Write)
+        × SendsFront (W.contents writer.old) (W.contents writer.new)
         (reply_text (form_of request.now.method.now) reply)) }
-    ensures err { IfErr result (λ e. e ≡ ServeFault.Write) }
     ensures room { HEAD_ROOM ≤ vec_capacity room.new }
 {
     let reply = machine.answer(alloc, request);
@@ -195,19 +222,23 @@ fn answer<W: Write, M: Machine>(
 }
 
 /// Serves one connection: reads its messages, has the machine answer them one after another, and
-/// writes the replies. A turn is one call of `read`; an interrupted one is tried again. Where it
-/// ends the connection itself, bytes of the client may lie unread: `drain` takes them.
+/// writes each reply before it reads on. It never flushes: a writer that keeps bytes back is its
+/// caller's to flush. A turn is one call of `read`, also of an interrupted one, which is tried
+/// again; those used are taken from `turns`. Where it ends the connection itself, bytes of the
+/// client may lie unread: `drain` takes them.
 pub fn serve<R: Read, W: Write, M: Machine>(
     alloc: Global,
     reader: &mut R,
     writer: &mut W,
     machine: &mut M,
-    mut turns: u64,
+    turns: &mut u64,
 ) -> Result<Served, ServeFault>
     ensures ok { IfOk result (λ served. Serves M.Answers (R.remaining reader.old)
         (W.contents writer.old) (W.contents writer.new) machine.old machine.new served) }
     ensures err { IfErr result (λ fault. ServesFront M.Answers (R.remaining reader.old)
         (W.contents writer.old) (W.contents writer.new) machine.old machine.new fault) }
+    ensures spent { IfErr result (λ fault. fault ≡ ServeFault.TooMany → turns.new ≡ 0) }
+    ensures turns { turns.new ≤ turns.old }
 {
     let mut room = match Vec::with_capacity(alloc, REPLY_ROOM) {
         Ok(room) => room,
@@ -234,7 +265,7 @@ pub fn serve<R: Read, W: Write, M: Machine>(
             }
             Front::More(known) => {
                 stage = known;
-                match receive(reader, &mut piece, &mut buffer, &mut turns)? {
+                match receive(reader, &mut piece, &mut buffer, turns)? {
                     Received::Some | Received::None => {}
                     Received::End => {
                         if buffer.is_empty() {

@@ -1,5 +1,5 @@
 //! Reading on behind the last reply.
-ghost use Rattle.std.specs.Prelude.{◌≡◌, ◌⊎◌, ℕ, List, OnOk, IfErr};
+ghost use Rattle.std.specs.Prelude.{◌≡◌, ◌⊎◌, ℕ, ◌≤◌, List, OnOk, IfErr};
 ghost use Rattle.std.specs.Io.KnownBytes.{Consumes, IsAtEnd};
 
 use crate::connection::{PIECE, ServeFault};
@@ -8,15 +8,19 @@ use std::io::{ErrorKind, Read};
 /// Reads to the end of the input, and drops what comes. A socket that is closed while bytes of its
 /// client lie unread is reset, and replies that are still on their way are lost: where `serve` ends
 /// a connection itself (Refused, Asked, Limit), its caller shuts down the sending side, drains, and
-/// closes then. A turn is one call of `read`; an interrupted one is tried again.
-pub fn drain<R: Read>(reader: &mut R, turns: u64) -> Result<(), ServeFault>
+/// closes then. A turn is one call of `read`, also of an interrupted one, which is tried again;
+/// those used are taken from `turns`.
+pub fn drain<R: Read>(reader: &mut R, turns: &mut u64) -> Result<(), ServeFault>
     ensures ok { OnOk result (IsAtEnd (R.remaining reader.new)) }
     ensures err { IfErr result (λ fault. (fault ≡ ServeFault.Read) ⊎ (fault ≡ ServeFault.TooMany)) }
     ensures taken { (bytes : List ℕ)
         × Consumes (R.remaining reader.old) (R.remaining reader.new) bytes }
+    ensures spent { IfErr result (λ fault. fault ≡ ServeFault.TooMany → turns.new ≡ 0) }
+    ensures turns { turns.new ≤ turns.old }
 {
     let mut piece = [0u8; PIECE];
-    for _ in 0..turns {
+    while *turns > 0 {
+        *turns -= 1;
         match reader.read(&mut piece) {
             Ok(0) => return Ok(()),
             Ok(_) => {}

@@ -1,6 +1,6 @@
 //! Where a head can end, told before it is parsed.
 ghost use Rattle.std.specs.Prelude.{◌≡◌, ℕ, ◌<◌, ◌≤◌, length, take, true, false, option_copied};
-ghost use Rattle.office_messages.specs.Heads.{before_end, ends_in_line, ends_as_head};
+ghost use Rattle.office_messages.specs.Stream.{before_end, ends_in_line, ends_as_head};
 
 // The bytes before the line end that they end with.
 fn before_end(bytes: &[u8]) -> Option<&[u8]>
@@ -23,7 +23,7 @@ fn ends_in_line(bytes: &[u8]) -> bool
 }
 
 // Whether they end with a line that isn't empty, and an empty one.
-#[tactic(auto, unfolding(crate::specs::Heads::ends_as_head))]
+#[tactic(auto, unfolding(crate::specs::Stream::ends_as_head))]
 fn ends_as_head(bytes: &[u8]) -> bool
     ensures { result ≡ ends_as_head bytes.now }
 {

@@ -1,7 +1,7 @@
 //! What the bytes that have come begin with.
 ghost use Rattle.std.specs.Prelude.{◌≡◌, ◌<◌, ◌≤◌, length, take};
 ghost use Rattle.office_messages.specs.Heads.{Knows, Shows, HeadAt};
-ghost use Rattle.office_messages.specs.Stream.{LacksHead};
+ghost use Rattle.office_messages.specs.Stream.{HasEnd};
 
 use crate::form::Form;
 use crate::framing::Fault;
@@ -13,7 +13,7 @@ use httparse::spans::{EMPTY_HEADER_SPAN, parse_request};
 /// How far the message at the front is known.
 #[derive(Clone, Copy)]
 pub(crate) enum Stage {
-    /// No head ends within the first bytes of this number.
+    /// No head, whole or faulty, ends within the first bytes of this number.
     Searching(usize),
     /// The head was parsed, and its body is to come.
     Reading(Head),
@@ -47,9 +47,9 @@ fn first(bytes: &[u8], n: usize) -> &[u8]
     if n < bytes.len() { &bytes[..n] } else { bytes }
 }
 
-// The bytes hold no head so far.
+// No head has come to its end.
 fn without_head(bytes: &[u8]) -> Front
-    requires { LacksHead bytes.now }
+    requires { ¬ (HasEnd bytes.now) }
     ensures { Shows bytes.now result }
 {
     if bytes.len() < MAX_HEAD {
@@ -71,9 +71,10 @@ fn with_head(bytes: &[u8], head: Head) -> Front
     }
 }
 
-// Parses the head that seems to be whole.
+// Parses the head that seems to be whole: behind its end httparse waits for no more of it.
 fn parse(bytes: &[u8]) -> Front
-    requires { 0 < length bytes.now }
+    requires some { 0 < length bytes.now }
+    requires ended { HasEnd bytes.now }
     ensures { Shows bytes.now result }
 {
     let mut headers = [EMPTY_HEADER_SPAN; MAX_HEADERS];

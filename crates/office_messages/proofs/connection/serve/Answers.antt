@@ -19,6 +19,7 @@ loop-answered-init g c =
       progress = subst P (sym c.new-buffer.ensures.items) (start g.M.Machine.Answers _ _ _);
       known = knows_nothing c.new-buffer.result.items;
       room = omega (arith, c.in-Ok.ensures.exact);
+      turns = omega arith;
     }
 
 pub returns-in_err-answer-in-Whole-clause-err : goal.returns-in_err-answer-in-Whole-clause-err
@@ -27,9 +28,10 @@ returns-in_err-answer-in-Whole-clause-err g c =
     let at = subst
     (λ (l : List ℕ). RequestAt (plain_request c.request.result) c.in-Whole.head.closes l
     (drop c.in-Whole.head.body.end l)) c.deref-in-Whole.ensures.value c.request.ensures in
-    rw (p.1, p.2, c.in_err-answer-in-Whole.ensures.err)
+    let failed = c.in_err-answer-in-Whole.ensures.step.3 in
+    rw (p.1, p.2, failed.0)
     (unsent g.M.Machine.Answers _ _ _ _ _ _ _ _ c.loop-answered.invariant.progress _ _ _ _ _ _
-    c.loop-answered-test.true at c.answer.ensures.step.1)
+    c.loop-answered-test.true at c.in_err-answer-in-Whole.ensures.step.1 failed.1)
 
 pub returns-then-head-clause-ok : goal.returns-then-head-clause-ok
 returns-then-head-clause-ok g c =
@@ -65,14 +67,20 @@ loop-answered-preserved-in-Whole g c =
           c.in_ok-answer-in-Whole.ensures.step.1 c.in_ok-answer-in-Whole.ensures.step.2;
       known = knows_nothing c.drop_front.new.buffer.items;
       room = c.in_ok-answer-in-Whole.ensures.room;
+      turns = c.loop-answered.invariant.turns;
     }
 
 pub returns-in_err-send-in-Faulty-clause-err : goal.returns-in_err-send-in-Faulty-clause-err
 returns-in_err-send-in-Faulty-clause-err g c =
     let p = err_from_is_err_and c.from_residual-in_err-send-in-Faulty.result
     c.from_residual-in_err-send-in-Faulty.ensures.1 in
-    rw (p.1, p.2, c.in_err-send-in-Faulty.ensures.err)
-    (unrefused g.M.Machine.Answers _ _ _ _ _ _ _ _ c.loop-answered.invariant.progress _)
+    let failed = c.in_err-send-in-Faulty.ensures.err in
+    rw (p.1, p.2, failed.0)
+    (unrefused g.M.Machine.Answers _ _ _ _ _ _ _ _ c.loop-answered.invariant.progress
+    c.in-Faulty.bad.fault c.in-Faulty.bad.form _ c.loop-answered-test.true
+    (subst (FaultAt c.in-Faulty.bad.fault c.in-Faulty.bad.form) c.deref.ensures.value
+    c.in-Faulty.ensures)
+    (rw (← c.fault_reply.ensures) failed.1))
 
 pub returns-in-Faulty-clause-ok : goal.returns-in-Faulty-clause-ok
 returns-in-Faulty-clause-ok g c =
@@ -91,7 +99,7 @@ returns-in_err-receive-in-More-clause-err g c =
     rw (p.1, p.2)
     (front g.M.Machine.Answers _ _ _ _ _ _ _ _
     (grown g.M.Machine.Answers _ _ _ _ _ _ _ _ c.loop-answered.invariant.progress _ t.0 _ t.1
-    t.2) _)
+    t.2) _ c.in_err-receive-in-More.ensures.err)
 
 pub loop-answered-preserved : goal.loop-answered-preserved
 loop-answered-preserved g c =
@@ -105,6 +113,7 @@ loop-answered-preserved g c =
       known = subst (λ (l : List ℕ). Knows l c.in-More.known) (sym t.2)
           (knows_more c.in-More.known c.loop-answered.buffer.items t.0 known);
       room = c.loop-answered.invariant.room;
+      turns = omega (arith, c.loop-answered.invariant.turns, c.receive.ensures.kept);
     }
 
 pub returns-then-is_empty-clause-ok : goal.returns-then-is_empty-clause-ok

@@ -12,6 +12,7 @@ invariant-loop-answered g l = record {
       (g.W.Write.contents l.writer) l.fn.machine l.machine l.answered l.buffer.items;
   known : Knows l.buffer.items l.stage;
   room : 256 ≤ vec_capacity l.room;
+  turns : l.turns ≤ l.fn.turns;
 }
 
 abbrev pub decreases-loop-answered : goal.decreases-loop-answered

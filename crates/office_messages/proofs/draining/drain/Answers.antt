@@ -1,4 +1,4 @@
-use Rattle.std.proofs.Common.{ℕ, List, ◌++◌, take, Option, Result, Ok, Err}
+use Rattle.std.proofs.Common.{ℕ, List, ◌++◌, take, Option, Result, Ok, Err, arith}
 use Rattle.std.specs.Io.KnownBytes.{Consumes, ReadConsumes}
 use Rattle.std.proofs.KnownBytes.{Consumes-trans, Consumes-kept}
 use Rattle.office_messages.proofs.draining.drain.Goals as goal
@@ -12,6 +12,16 @@ read_on input now then taken buf (Ok n) before x =
 read_on input now then taken buf (Err e) before x =
     (taken, Consumes-kept input now then taken before x)
 
-pub loop-preserved : goal.loop-preserved
-loop-preserved g c =
-    read_on _ _ _ c.loop.invariant.0 _ _ c.loop.invariant.1 c.read.ensures.bytes
+pub loop-turns-preserved : goal.loop-turns-preserved
+loop-turns-preserved g c = record {
+  taken = read_on _ _ _ c.loop-turns.invariant.taken.0 _ _ c.loop-turns.invariant.taken.1
+      c.read.ensures.bytes;
+  fewer = omega (arith, c.loop-turns.invariant.fewer);
+}
+
+pub loop-turns-preserved-in-Ok : goal.loop-turns-preserved-in-Ok
+loop-turns-preserved-in-Ok g c = record {
+  taken = read_on _ _ _ c.loop-turns.invariant.taken.0 _ _ c.loop-turns.invariant.taken.1
+      c.read.ensures.bytes;
+  fewer = omega (arith, c.loop-turns.invariant.fewer);
+}

@@ -1,9 +1,10 @@
 use Rattle.std.proofs.Common.{◌≤◌, ℕ, List, arith, length, drop, length-take, subst, inl, inr, refl}
 use Rattle.std.proofs.Common.{ap}
-use Rattle.httparse.specs.Grammar.{ReadsRequest, HasNoRequest}
+use Rattle.httparse.specs.Grammar.{ReadsRequest, HasNoRequest, MayBecomeRequest}
 use Rattle.httparse.specs.Spans.{RequestOverflows}
-use Rattle.office_messages.proofs.HeadLemmas.{head_at_front, head_of_front, no_head_of_front}
+use Rattle.office_messages.proofs.HeadLemmas.{head_at_front, head_of_front}
 use Rattle.office_messages.proofs.HeadLemmas.{overflows_of_front, count_fields}
+use Rattle.office_messages.proofs.EndLemmas.{end_is_final}
 use Rattle.office_messages.proofs.look.parse.Goals as goal
 
 pub head_of-requires-clause-small : goal.head_of-requires-clause-small
@@ -23,7 +24,9 @@ with_head-requires c =
 pub without_head-requires : goal.without_head-requires
 without_head-requires c =
     let e = rw c.in-Ok-Partial.field-0-is at c.in-Ok-Partial.ensures in
-    no_head_of_front c.args.bytes.now (subst HasNoRequest c.first-front.ensures.front e.partial)
+    λ ended. end_is_final c.args.bytes.now ended
+    (subst MayBecomeRequest c.first-front.ensures.front e.unfinished)
+    (subst HasNoRequest c.first-front.ensures.front e.partial)
 
 pub returns-in-Err-head_of : goal.returns-in-Err-head_of
 returns-in-Err-head_of c =
@@ -51,7 +54,7 @@ returns-in-Err c =
       refl,
       refl,
       (
-        c.requires,
+        c.requires.some,
         inr
             (overflows_of_front c.args.bytes.now 16384 32
             (subst P c.first-front.ensures.front c.in-Err.ensures.no_room)),

@@ -1,0 +1,86 @@
+-- A run of one machine is a run of another, and keeps what each of its answers keeps.
+use Rattle.std.proofs.Common.{ℕ, List, [], ◌∷◌, ◌++◌, ap, sym, subst, Option}
+use Rattle.office_messages.specs.declared.connection.Served.{Served}
+use Rattle.office_messages.specs.declared.connection.ServeFault.{ServeFault}
+use Rattle.office_messages.specs.Reply.{PlainReply}
+use Rattle.office_messages.specs.Stream.{PlainRequest}
+use Rattle.office_messages.specs.Serve.{Item, asks, fails, Told, Serves, ServesFront, BreaksOff}
+
+-- ---- along a map of states that carries each answer
+
+module _ {S T : Type 0} (f : S → T) (Answers : S → PlainRequest → PlainReply → S → Type 0)
+    (Others : T → PlainRequest → PlainReply → T → Type 0)
+    (carried : (old : S) (r : PlainRequest) (reply : PlainReply) (new : S)
+    → Answers old r reply new → Others (f old) r reply (f new)) where
+  pub told_along : (items : List Item) (old : S) (output : List ℕ) (new : S)
+      → Told Answers items old output new → Told Others items (f old) output (f new)
+  told_along [] old output new t = (t.0, ap f t.1)
+  told_along (fails fault form ∷ items) old output new (rest, is, t) =
+      (rest, is, told_along items old rest new t)
+  told_along (asks r ∷ items) old output new (mid, reply, rest, step, is, t) =
+      (f mid, reply, rest, carried old r reply mid step, is, told_along items mid rest new t)
+
+  pub serves_along : (input before after : Option (List ℕ)) (old new : S) (served : Served)
+      → Serves Answers input before after old new served
+      → Serves Others input before after (f old) (f new) served
+  serves_along input before after old new served x = record {
+    items = x.items;
+    output = x.output;
+    messages = x.messages;
+    told = told_along x.items old x.output new x.told;
+    count = x.count;
+    written = x.written;
+  }
+
+  breaks_along : (input before after : Option (List ℕ)) (items : List Item) (output : List ℕ)
+      (old new : S) → BreaksOff Answers input before after items output old new
+      → BreaksOff Others input before after items output (f old) (f new)
+  breaks_along input before after items output old new x = record {
+    whole = x.whole;
+    front = x.front;
+    last = x.last;
+    sent = x.sent;
+    unsent = x.unsent;
+    mid = f x.mid;
+    told = told_along x.whole old x.front x.mid x.told;
+    told_last = told_along (x.last ∷ []) x.mid (x.sent ++ x.unsent) new x.told_last;
+    next = x.next;
+    written = x.written;
+  }
+
+  pub serves_front_along : (input before after : Option (List ℕ)) (old new : S)
+      (fault : ServeFault) → ServesFront Answers input before after old new fault
+      → ServesFront Others input before after (f old) (f new) fault
+  serves_front_along input before after old new fault x = record {
+    items = x.items;
+    output = x.output;
+    begins = x.begins;
+    told = told_along x.items old x.output new x.told;
+    written = x.written;
+    broken = λ is. breaks_along input before after x.items x.output old new (x.broken is);
+  }
+
+-- ---- what each answer keeps
+
+module _ {S : Type 0} (Answers : S → PlainRequest → PlainReply → S → Type 0) (Holds : S → Type 0)
+  where
+    pub told_keeps : ((old : S) (r : PlainRequest) (reply : PlainReply) (new : S)
+        → Answers old r reply new → Holds old → Holds new)
+        → (items : List Item) (old : S) (output : List ℕ) (new : S)
+        → Told Answers items old output new → Holds old → Holds new
+    told_keeps keeps [] old output new t h = subst Holds (sym t.1) h
+    told_keeps keeps (fails fault form ∷ items) old output new (rest, is, t) h =
+        told_keeps keeps items old rest new t h
+    told_keeps keeps (asks r ∷ items) old output new (mid, reply, rest, step, is, t) h =
+        told_keeps keeps items mid rest new t (keeps old r reply mid step h)
+
+    -- what held after the run held before it
+    pub told_kept : ((old : S) (r : PlainRequest) (reply : PlainReply) (new : S)
+        → Answers old r reply new → Holds new → Holds old)
+        → (items : List Item) (old : S) (output : List ℕ) (new : S)
+        → Told Answers items old output new → Holds new → Holds old
+    told_kept kept [] old output new t h = subst Holds t.1 h
+    told_kept kept (fails fault form ∷ items) old output new (rest, is, t) h =
+        told_kept kept items old rest new t h
+    told_kept kept (asks r ∷ items) old output new (mid, reply, rest, step, is, t) h =
+        kept old r reply mid step (told_kept kept items mid rest new t h)
