@@ -7,4 +7,5 @@ pub mod WalkLemmas
 pub mod PairsLemmas
 pub mod FrontLemmas
 pub mod MixedLemmas
+pub mod SmallLemmas
 pub mod LineLemmas

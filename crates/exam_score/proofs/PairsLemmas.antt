@@ -152,6 +152,14 @@ few_tallied E t tallies known counted =
 
 -- ---- both facts on a part
 
+pub part_small : (cost : ℕ → ℕ → ℕ) (E : Enrolled) (t : Placing) → AreEnrolments E
+    → ((p q : ℕ) → cost p q ≤ 100000) → pair_part cost E (period_of t) ≤ 4000000000000000
+part_small cost E t known small =
+    let rows : List Row = filter_map (row_of t) (pairs_of E) in
+    let same = part_of_rows cost E t known in
+    let bound = cost_with-small cost rows small (few_rows E t known) in
+    omega arith
+
 pub record IsPart (cost : ℕ → ℕ → ℕ) (E : Enrolled) (t : Placing) (n : ℕ) : Type 0 where
   pub sum : n ≡ pair_part cost E (period_of t)
   pub small : n ≤ 4000000000000000

@@ -1,8 +1,13 @@
 // Laws of the penalty: functions with no code, whose contracts are the laws.
-ghost use Rattle.std.specs.Prelude.{◌≡◌, ℕ, List, Option, sum_by};
+ghost use Rattle.std.specs.Prelude.{◌≡◌, ◌<◌, ◌^◌, ℕ, List, Option, sum_by};
 ghost use Rattle.exam_model.specs.Enrolments.{Enrolled, AreEnrolments};
+ghost use Rattle.exam_model.specs.Fits.{Fits};
+ghost use Rattle.exam_model.specs.Instance.{Session, IsInstance};
 ghost use Rattle.exam_model.specs.Pairs.{pairs_of};
+ghost use Rattle.exam_model.specs.Timetable.{Placing};
+ghost use Rattle.exam_score.specs.Penalty.{total_of};
 ghost use Rattle.exam_score.specs.Regrouping.{pair_part, candidate_cost, periods_of, AreStudentsOf};
+ghost use Rattle.exam_score.specs.Track.{track};
 
 use exam_model::PairCost;
 
@@ -15,4 +20,10 @@ pub fn regrouping<C: PairCost>(cost: &C)
         → pair_part (C.cost_of cost.now) E at
         ≡ sum_by (λ s. candidate_cost (C.cost_of cost.now) (periods_of (pairs_of E) at s))
         students }
+{}
+
+/// No timetable's penalty reaches 2^62: its total fits into `Parts`.
+pub fn penalty_is_small()
+    ensures { (I : Session) (E : Enrolled) (T : Placing) → IsInstance I → AreEnrolments E
+        → Fits I E T → total_of (track I E T) < 2 ^ 62 }
 {}

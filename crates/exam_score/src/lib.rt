@@ -20,7 +20,7 @@ mod walk;
 
 pub use candidate::personal;
 pub use changes::difference;
-pub use laws::regrouping;
+pub use laws::{penalty_is_small, regrouping};
 pub use pair_costs::{DayCost, RowCost, SpreadCost};
 pub use parts::Parts;
 pub use personal_parts::PersonalParts;
