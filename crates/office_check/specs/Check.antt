@@ -11,7 +11,7 @@ use Rattle.office_files.specs.FirstFault.{first_fault, first_solution_fault}
 use Rattle.office_files.specs.InstanceText.{InstanceText}
 use Rattle.office_files.specs.SolutionText.{SolutionText}
 use Rattle.office_files.specs.declared.fault.FileFault.{FileFault}
-use Rattle.office_check.specs.Reports.{penalty_text, violation_text}
+use Rattle.office_reports.specs.Reports.{penalty_text, violation_text}
 use Rattle.office_check.specs.declared.checking.CheckFault.{CheckFault}
 use Rattle.office_check.specs.declared.checking.CheckFault.TheVariants as fault
 use Rattle.office_check.specs.declared.reading.InputFault.{InputFault}

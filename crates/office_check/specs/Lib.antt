@@ -1,3 +1,2 @@
-pub mod Reports
 pub mod Check
 pub mod Inputs

@@ -11,11 +11,11 @@ ghost use Rattle.office_check.specs.Check.{IsJudgement, Refuses, Reports, of_ins
 ghost use Rattle.office_check.specs.Check.{IsSomeJudgement, WritesReport, exit_status, report};
 
 use crate::reading::{InputFault, instance_text, whole_text};
-use crate::reports::{penalty_report, violation_report};
 use exam_model::{Enrolments, Instance, Timetable};
 use exam_rules::breaches;
 use exam_score::score;
 use office_files::{FileFault, read_instance, read_solution};
+use office_reports::{penalty_report, violation_report};
 use std::alloc::{AllocError, Global};
 use std::io::{Read, Write};
 

@@ -4,7 +4,6 @@
 
 mod checking;
 mod reading;
-mod reports;
 
 pub use checking::{CheckFault, check_run};
 pub use reading::{InputFault, instance_text};

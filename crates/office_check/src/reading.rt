@@ -1,6 +1,6 @@
 // The whole text of a reader, within a limit of bytes and a number of reads.
 ghost use Rattle.std.specs.Prelude.{◌≡◌, ◌<◌, ◌≤◌, ◌+◌, ◌++◌, ℕ, length, IfErr, IfOk, IfSome, OnOk};
-ghost use Rattle.office_check.specs.Inputs.{RefusesText, TakesAtMost};
+ghost use Rattle.office_check.specs.Inputs.{RefusesText, StaysUnread, TakesAtMost};
 
 use office_files::{FaultKind, FileFault};
 use std::alloc::{AllocError, Global};
@@ -41,6 +41,43 @@ impl From<FileFault> for InputFault {
     }
 }
 
+// Why a reader's text is not taken whole.
+#[derive(Clone, Copy, Debug, PartialEq, Eq)]
+enum Unread {
+    // The reader failed, and was not only interrupted.
+    Failed,
+    // No read is left.
+    Spent,
+    // There is more than the limit.
+    TooLong,
+    NoMemory,
+}
+
+impl From<AllocError> for Unread {
+    ghost use Rattle.std.specs.Prelude.{◌≡◌};
+    ghost use Rattle.office_check.specs.declared.reading.Unread.TheVariants.{NoMemory};
+
+    ghost from_gives = { λ _ e. e ≡ NoMemory };
+
+    fn from(_error: AllocError) -> Unread {
+        Unread::NoMemory
+    }
+}
+
+impl From<Unread> for InputFault {
+    ghost use Rattle.office_check.specs.Inputs.{ComesOfReads};
+
+    ghost from_gives = { ComesOfReads };
+
+    fn from(why: Unread) -> InputFault {
+        match why {
+            Unread::Failed | Unread::Spent => InputFault::Read,
+            Unread::TooLong => InputFault::File(TOO_LONG),
+            Unread::NoMemory => InputFault::NoMemory,
+        }
+    }
+}
+
 const INSTANCE_BYTES: usize = 4_194_304;
 
 const TOO_LONG: FileFault = FileFault {
@@ -48,7 +85,7 @@ const TOO_LONG: FileFault = FileFault {
     what: FaultKind::TooLong,
 };
 
-// An interrupted read counts, and is tried again; where no read shows the end, the reader failed.
+// How many reads a reader has. An interrupted one counts, and is tried again.
 const READS: u32 = 5_000_000;
 
 // So few bytes are copied by plain moves, which are fewer instructions than the processor's own
@@ -82,25 +119,44 @@ pub(crate) fn whole_text<R: Read>(
         (λ input. RefusesText limit input fault)) }
     ensures taken { TakesAtMost (limit + 1) (R.remaining reader.old) (R.remaining reader.new) }
 {
+    let mut reads = READS;
+    Ok(text_in(alloc, reader, limit, &mut reads)?)
+}
+
+// The same in the reads that are left, each of which is counted.
+fn text_in<R: Read>(
+    alloc: Global,
+    reader: &mut R,
+    limit: usize,
+    reads: &mut u32,
+) -> Result<Vec<u8>, Unread>
+    requires { limit ≤ 4194304 }
+    ensures whole { IfOk result (λ text. IfSome (R.remaining reader.old)
+        (λ input. input ≡ text.items)) }
+    ensures short { IfOk result (λ text. length text.items ≤ limit) }
+    // The reader failed, or no read is left, or there is more than the limit, or memory ran out.
+    ensures refused { IfErr result (StaysUnread limit reads.new (R.remaining reader.old)) }
+    ensures taken { TakesAtMost (limit + 1) (R.remaining reader.old) (R.remaining reader.new) }
+{
     let mut text: Vec<u8> = Vec::new(alloc);
     let mut piece = [0u8; 16_384];
-    'reads: for _ in 0..READS {
-        let room = limit + 1 - text.len();
-        if room == 0 {
-            return Err(InputFault::File(TOO_LONG));
-        }
-        let most = room.min(piece.len());
+    'reads: while *reads > 0 {
+        *reads -= 1;
+        let most = (limit + 1 - text.len()).min(piece.len());
         match reader.read(&mut piece[..most]) {
             Ok(0) => return Ok(text),
             Ok(n) => append(&mut text, &piece[..n])?,
             Err(fault) => {
                 if fault.kind() != ErrorKind::Interrupted {
-                    return Err(InputFault::Read);
+                    return Err(Unread::Failed);
                 }
             }
         }
+        if text.len() > limit {
+            return Err(Unread::TooLong);
+        }
     }
-    Err(InputFault::Read)
+    Err(Unread::Spent)
 }
 
 /// The whole text of an instance file's reader, at most 4,194,304 bytes. The reader has 5,000,000

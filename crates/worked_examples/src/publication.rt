@@ -8,6 +8,7 @@ use crate::given::{
 };
 use exam_model::{Enrolments, ExamNo, Instance, PeriodNo, RoomNo, StudentNo, Timetable};
 use exam_publish::{PublishFault, RoomShare, SeatRow, Shares, changed, permit, seats, shares};
+use office_reports::rooms_report;
 use std::alloc::Global;
 use std::process::Abort;
 use std::test::Fail;
@@ -104,6 +105,33 @@ fn two_exams_in_one_room(rt: HostRuntime) -> Result<(), Fail> {
         (3, 1, 3, 1, 2),
     ];
     has_rows(&rt, rt.alloc(), &ONE_ROOM, &wanted)
+}
+
+#[test]
+fn worked_rooms(rt: HostRuntime) -> Result<(), Fail> {
+    let alloc = rt.alloc();
+    let (instance, enrolments) = session(alloc)?;
+    let timetable = placed(alloc, &APART)?;
+    let rows = published(alloc, &instance, &enrolments, &timetable)?;
+    let text = rooms_report(alloc, &instance, &timetable, &rows)?;
+    let wanted = "\
+per room    used     cap  exams
+  0    0       2       3  0
+  1    0       2       3  1
+  2    0       1       3  3
+  3    1       1       2  2
+";
+    assert_same(&rt, text.as_str(), wanted, "published");
+    let together = placed(alloc, &ONE_ROOM)?;
+    let text = rooms_report(alloc, &instance, &together, &[])?;
+    let wanted = "\
+per room    used     cap  exams
+  0    0       0       3  0
+  1    0       0       3  1
+  3    1       0       2  2 3
+";
+    assert_same(&rt, text.as_str(), wanted, "without seats");
+    Ok(())
 }
 
 // The shares of the small session's solution.

@@ -7,7 +7,7 @@ use Rattle.exam_rules.specs.declared.breach.Breach.{Breach}
 use Rattle.exam_score.specs.Penalty.{Penalty}
 use Rattle.exam_score.specs.Track.{track}
 use Rattle.office_check.specs.Check.{report}
-use Rattle.office_check.specs.Reports.{penalty_text, violation_text}
+use Rattle.office_reports.specs.Reports.{penalty_text, violation_text}
 use Rattle.office_check.proofs.checking.judge.Goals as goal
 
 -- the penalty's text behind that of the breaches

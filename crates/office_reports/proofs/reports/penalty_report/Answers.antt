@@ -1,7 +1,7 @@
 use Rattle.std.proofs.Common.{◌≡◌, ◌++◌, [], ℕ, List, codes, append_assoc}
 use Rattle.exam_score.specs.Penalty.{Penalty, total_of}
-use Rattle.office_check.specs.Reports.{number_line, penalty_text}
-use Rattle.office_check.proofs.reports.penalty_report.Goals as goal
+use Rattle.office_reports.specs.Reports.{number_line, penalty_text}
+use Rattle.office_reports.proofs.reports.penalty_report.Goals as goal
 
 -- eight lines, one behind the other
 all_lines : (p : Penalty) (row day spread mixed front period room total : ℕ)

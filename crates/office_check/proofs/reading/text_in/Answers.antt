@@ -3,7 +3,7 @@ use Rattle.std.proofs.Common.{length-append, length-take}
 use Rattle.std.proofs.KnownBytes.{Consumes-trans}
 use Rattle.std.specs.Io.KnownBytes.{Consumes}
 use Rattle.office_check.specs.Inputs.{TakesAtMost}
-use Rattle.office_check.proofs.reading.whole_text.Goals as goal
+use Rattle.office_check.proofs.reading.text_in.Goals as goal
 
 -- a read took more of the input than what is kept
 taken_more : (a b c : Option (List ℕ)) (text piece : List ℕ) (most : ℕ) → Consumes a b text

@@ -1,7 +1,7 @@
 // The reports on a timetable, as they are printed.
 ghost use Rattle.std.specs.Prelude.{◌≡◌, ◌++◌, IfOk, OnOk, string_bytes};
-ghost use Rattle.office_check.specs.Reports.{breach_line, number_line, penalty_text};
-ghost use Rattle.office_check.specs.Reports.{rule_name, violation_text};
+ghost use Rattle.office_reports.specs.Reports.{breach_line, number_line, penalty_text};
+ghost use Rattle.office_reports.specs.Reports.{rule_name, violation_text};
 
 use exam_rules::{Breach, BreachRule};
 use exam_score::Parts;

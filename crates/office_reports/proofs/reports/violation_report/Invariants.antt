@@ -1,7 +1,7 @@
 use Rattle.std.proofs.Common.{◌≡◌, ◌++◌, codes, length, string_bytes, take}
 use Rattle.std.specs.List.{flat_map}
-use Rattle.office_check.specs.Reports.{breach_line, number_line}
-use Rattle.office_check.proofs.reports.violation_report.Given as goal
+use Rattle.office_reports.specs.Reports.{breach_line, number_line}
+use Rattle.office_reports.proofs.reports.violation_report.Given as goal
 
 abbrev pub invariant-loop-breach : goal.invariant-loop-breach
 invariant-loop-breach l =

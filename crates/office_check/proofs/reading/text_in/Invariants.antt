@@ -1,9 +1,12 @@
 use Rattle.std.proofs.Common.{◌≤◌, ◌+◌, length}
 use Rattle.std.specs.Io.KnownBytes.{Consumes}
-use Rattle.office_check.proofs.reading.whole_text.Given as goal
+use Rattle.office_check.proofs.reading.text_in.Given as goal
 
 abbrev pub invariant-reads : goal.invariant-reads
 invariant-reads g l = record {
   taken : Consumes (g.R.Read.remaining l.initial.reader) (g.R.Read.remaining l.reader) l.text.items;
-  within : length l.text.items ≤ l.limit + 1;
+  within : length l.text.items ≤ l.limit;
 }
+
+abbrev pub decreases-reads : goal.decreases-reads
+decreases-reads g l = l.reads

@@ -1,0 +1,11 @@
+use Rattle.std.proofs.Common.{◌≡◌, ◌++◌, string_bytes}
+use Rattle.std.specs.List.{flat_map, range_with_len}
+use Rattle.office_reports.specs.Rooms.{place, place_line}
+use Rattle.office_reports.proofs.rooms.add_period.Given as goal
+
+abbrev pub invariant-loop-room : goal.invariant-loop-room
+invariant-loop-room l =
+    string_bytes l.text
+    ≡ string_bytes l.fn.text
+    ++ flat_map (λ r. place_line l.instance l.timetable l.seats (place l.period r))
+    (range_with_len 0 l.room)

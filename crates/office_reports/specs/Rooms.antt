@@ -1,0 +1,63 @@
+-- The text of the rooms report: a heading, then a line for each room and period with an exam.
+use Rattle.std.specs.Prelude.{ℕ, ◌-◌, ◌++◌, ◌∷◌, [], List, length, codes, decimal, filter, count_by, replicate, Option, Some, None, slice_get}
+use Rattle.std.specs.List.{flat_map, range_with_len}
+use Rattle.exam_terms.specs.declared.place.Place.{Place}
+use Rattle.exam_model.specs.Instance.{Session}
+use Rattle.exam_model.specs.Timetable.{Placing, place_of}
+use Rattle.exam_model.specs.declared.parts.Room.{Room}
+use Rattle.exam_publish.specs.Rows.{row_place}
+use Rattle.exam_publish.specs.declared.seat_row.SeatRow.{SeatRow}
+use Rattle.exam_rules.specs.Places.{is_one_place, where_placed}
+
+-- a number at the right of a column of this width; a longer one takes the room it needs
+abbrev pub right : ℕ → ℕ → List ℕ
+right width n = replicate (width - length (decimal n)) 32 ++ decimal n
+
+-- each exam, behind a space
+abbrev pub spaced : List ℕ → List ℕ
+spaced exams = flat_map (λ e. 32 ∷ decimal e) exams
+
+-- the place of these numbers
+abbrev pub place : ℕ → ℕ → Place
+place p r = record { period = p; room = r }
+
+-- the exams that stand in a place, ascending
+abbrev pub exams_in : Placing → Place → List ℕ
+exams_in T at = filter (λ e. where_placed (is_one_place at) (place_of T e)) (range_with_len 0 (length T))
+
+-- how many of the seats are in a place
+abbrev pub seats_in : List SeatRow → Place → ℕ
+seats_in rows at = count_by (λ row. is_one_place at (row_place row)) rows
+
+-- a room's capacity, and 0 where there is no such room
+abbrev pub capacity_of : Option Room → ℕ
+capacity_of None = 0
+capacity_of (Some room) = room.capacity
+
+-- the line of a place: its period, its room, the seats that are used, the room's capacity, and
+-- behind two spaces the exams
+abbrev pub room_line : Place → ℕ → ℕ → List ℕ → List ℕ
+room_line at used capacity exams =
+    right 3 at.period ++ right 5 at.room ++ right 8 used ++ right 8 capacity
+    ++ 32 ∷ spaced exams ++ 10 ∷ []
+
+-- nothing where no exam stands
+abbrev pub line_with : Place → ℕ → ℕ → List ℕ → List ℕ
+line_with at used capacity [] = []
+line_with at used capacity (e ∷ exams) = room_line at used capacity (e ∷ exams)
+
+-- the line of a place in a timetable
+abbrev pub place_line : Session → Placing → List SeatRow → Place → List ℕ
+place_line I T rows at =
+    line_with at (seats_in rows at) (capacity_of (slice_get I.rooms at.room)) (exams_in T at)
+
+-- the lines of a period, by room
+abbrev pub period_lines : Session → Placing → List SeatRow → ℕ → List ℕ
+period_lines I T rows p =
+    flat_map (λ r. place_line I T rows (place p r)) (range_with_len 0 (length I.rooms))
+
+-- the rooms report, by period and then by room
+abbrev pub rooms_text : Session → Placing → List SeatRow → List ℕ
+rooms_text I T rows =
+    codes "per room    used     cap  exams\n"
+    ++ flat_map (period_lines I T rows) (range_with_len 0 (length I.periods))

@@ -1,0 +1,8 @@
+//! The reports on a timetable as texts: its penalty, its breaches, and how its rooms are used.
+#![tactic(auto)]
+
+mod reports;
+mod rooms;
+
+pub use reports::{penalty_report, violation_report};
+pub use rooms::rooms_report;
