@@ -1,5 +1,5 @@
 -- No penalty is near the limit of its total.
-use Rattle.std.proofs.Common.{◌≡◌, ℕ, zero, suc, ◌+◌, ◌-◌, ◌*◌, ◌^◌, ◌<◌, ◌≤◌, Bool, true, false, cond, List, [], ◌∷◌, length, Option, None, Some, All, refl, subst, arith}
+use Rattle.std.proofs.Common.{◌≡◌, ℕ, zero, suc, ◌-◌, ◌*◌, ◌^◌, ◌<◌, ◌≤◌, Bool, true, false, cond, List, [], ◌∷◌, length, Option, None, Some, refl, subst, arith}
 use Rattle.std.specs.Prelude.{slice_get, nat_lt, ◌&&◌}
 use Rattle.std.specs.List.{AllByRecursion}
 use Rattle.std.proofs.Math.Nat.{mul-le-mul}
@@ -8,7 +8,7 @@ use Rattle.exam_model.specs.Enrolments.{Enrolled, AreEnrolments}
 use Rattle.exam_model.specs.Fits.{Fits}
 use Rattle.exam_model.specs.Instance.{Session, IsInstance}
 use Rattle.exam_model.specs.Limits.{PeriodInLimits, RoomInLimits}
-use Rattle.exam_model.specs.Sums.{sum_below, count_below}
+use Rattle.exam_model.specs.Sums.{count_below}
 use Rattle.exam_model.specs.Timetable.{Placing, place_of}
 use Rattle.exam_model.specs.declared.parts.Period.{Period}
 use Rattle.exam_model.specs.declared.parts.Room.{Room}
@@ -17,7 +17,7 @@ use Rattle.exam_model.proofs.SumLemmas.{sum_below-le}
 use Rattle.exam_score.specs.Cost.{row_cost, day_cost, spread_cost}
 use Rattle.exam_score.specs.CostLaws.{spread_cost-small}
 use Rattle.exam_score.specs.Penalty.{total_of}
-use Rattle.exam_score.specs.Track.{period_penalty, room_penalty, exam_period, exam_room, period_part, room_part, duration_count, lasting, durations, room_mixed, mixed_part, is_largest, is_late, exam_front, front_part, track}
+use Rattle.exam_score.specs.Track.{period_penalty, room_penalty, exam_period, exam_room, duration_count, lasting, durations, room_mixed, mixed_part, is_largest, is_late, exam_front, track}
 use Rattle.exam_score.proofs.CostLemmas.{row_cost-small, day_cost-small}
 use Rattle.exam_score.proofs.PairsLemmas.{part_small}
 

@@ -9,17 +9,14 @@ ghost use Rattle.exam_score.specs.Penalty.{total_of};
 ghost use Rattle.exam_score.specs.Regrouping.{pair_part, candidate_cost, periods_of, AreStudentsOf};
 ghost use Rattle.exam_score.specs.Track.{track};
 
-use exam_model::PairCost;
-
-/// The penalty by pairs of exams is the penalty by students: over all pairs of exams, the
-/// students whom both share times the cost of their periods, and over all students, the cost of
-/// the pairs of her exams.
-pub fn regrouping<C: PairCost>(cost: &C)
-    ensures { (E : Enrolled) (at : ℕ → Option ℕ) (students : List ℕ)
+/// Whatever two periods cost, the penalty by pairs of exams is the penalty by students: over all
+/// pairs of exams, the students whom both share times the cost of their periods, and over all
+/// students, the cost of the pairs of her exams.
+pub fn regrouping()
+    ensures { (cost : ℕ → ℕ → ℕ) (E : Enrolled) (at : ℕ → Option ℕ) (students : List ℕ)
         → AreEnrolments E → AreStudentsOf E students
-        → pair_part (C.cost_of cost.now) E at
-        ≡ sum_by (λ s. candidate_cost (C.cost_of cost.now) (periods_of (pairs_of E) at s))
-        students }
+        → pair_part cost E at
+        ≡ sum_by (λ s. candidate_cost cost (periods_of (pairs_of E) at s)) students }
 {}
 
 /// No timetable's penalty reaches 2^62: its total fits into `Parts`.

@@ -117,7 +117,7 @@ fn costs_of_two_periods(rt: HostRuntime) -> Result<(), Fail> {
         let spread = cost_at(&SpreadCost(&instance), one, other);
         assert_same(&rt, [row, day, spread], wanted, (one, other));
     }
-    regrouping(&RowCost(&instance));
+    regrouping();
     Ok(())
 }
 

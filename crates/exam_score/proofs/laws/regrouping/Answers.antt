@@ -3,4 +3,4 @@ use Rattle.exam_model.proofs.PairLemmas.{are_pairs}
 use Rattle.exam_score.proofs.laws.regrouping.Goals as goal
 
 pub returns : goal.returns
-returns g c E at students is all = regrouped_by_students (g.C.PairCost.cost_of c.args.cost.now) E at students (are_pairs E is) all
+returns c cost E at students is all = regrouped_by_students cost E at students (are_pairs E is) all
