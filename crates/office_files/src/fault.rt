@@ -53,8 +53,8 @@ impl FileFault {
         what: FaultKind::NoMemory,
     };
 
-    // The fault of a line; out of memory is no line's.
-    pub(crate) fn at(line: u32, what: FaultKind) -> FileFault
+    /// The fault of a line; out of memory is no line's.
+    pub fn at(line: u32, what: FaultKind) -> FileFault
         ensures kind { result.what ≡ what }
         ensures place { what ≢ FaultKind.NoMemory → result ≡ record { line = line; what = what } }
         ensures memory { IsOfNoLine result }

@@ -11,6 +11,7 @@ mod headers;
 mod instance_reader;
 mod instance_writer;
 mod items;
+mod laws;
 mod line_writers;
 mod lines;
 mod numbers;
@@ -23,9 +24,16 @@ mod weightings;
 mod words;
 
 pub use fault::{FaultKind, FileFault};
+pub use fields::trimmed;
 pub use instance_reader::read_instance;
 pub use instance_writer::write_instance;
+pub use laws::{
+    canonical_instance_reads_back, canonical_solution_reads_back, instance_readings_agree,
+    one_instance, one_timetable, solution_readings_agree,
+};
 pub use lines::Token;
+pub use numbers::number;
 pub use solution_reader::read_solution;
 pub use solution_writer::write_solution;
 pub use tokens::Tokens;
+pub use words::same_word;

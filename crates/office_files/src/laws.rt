@@ -1,0 +1,57 @@
+// Laws of texts: functions with no code, whose contracts are the laws.
+ghost use Rattle.std.specs.Prelude.{◌≡◌, ◌<◌, ◌≤◌, ℕ, List, All, IsSome, Ok, length};
+ghost use Rattle.exam_model.specs.Enrolments.{AreEnrolments, Enrolled, students};
+ghost use Rattle.exam_model.specs.Instance.{IsInstance, Session};
+ghost use Rattle.exam_model.specs.Timetable.{Placing, place_of};
+ghost use Rattle.office_files.specs.CanonicalText.{canonical_instance, canonical_solution};
+ghost use Rattle.office_files.specs.CanonicalText.{SuitsTimetable};
+ghost use Rattle.office_files.specs.FirstFault.{fault_of, first_fault, first_solution_fault};
+ghost use Rattle.office_files.specs.InstanceText.{InstanceText, instance_in};
+ghost use Rattle.office_files.specs.SolutionText.{SolutionText, solution_in};
+
+/// A text spells at most one instance, with one set of enrolments.
+pub fn one_instance()
+    ensures { (b : List ℕ) (I J : Session) (E F : Enrolled) → InstanceText b I E
+        → InstanceText b J F → (I ≡ J) × (E ≡ F) }
+{}
+
+/// A text spells at most one timetable for an instance.
+pub fn one_timetable()
+    ensures { (b : List ℕ) (I : Session) (S T : Placing) → SolutionText b I S
+        → SolutionText b I T → S ≡ T }
+{}
+
+/// A text spells what its reading from the top gives, and nothing else; what the reading refuses
+/// is the first fault of the text, by the fault of each line where it stands.
+pub fn instance_readings_agree()
+    ensures spelled { (b : List ℕ) (I : Session) (E : Enrolled) → instance_in b ≡ Ok (I, E)
+        → InstanceText b I E }
+    ensures read { (b : List ℕ) (I : Session) (E : Enrolled) → InstanceText b I E
+        → instance_in b ≡ Ok (I, E) }
+    ensures first { (b : List ℕ) → first_fault b ≡ fault_of (instance_in b) }
+{}
+
+/// The same of the texts of solutions.
+pub fn solution_readings_agree()
+    ensures spelled { (b : List ℕ) (I : Session) (T : Placing) → solution_in I b ≡ Ok T
+        → SolutionText b I T }
+    ensures read { (b : List ℕ) (I : Session) (T : Placing) → SolutionText b I T
+        → solution_in I b ≡ Ok T }
+    ensures first { (b : List ℕ) (I : Session)
+        → first_solution_fault I b ≡ fault_of (solution_in I b) }
+{}
+
+/// The canonical text of an instance and its enrolments spells them.
+pub fn canonical_instance_reads_back()
+    ensures { (I : Session) (E : Enrolled) → IsInstance I → AreEnrolments E
+        → length E ≡ length I.exams
+        → ((e : ℕ) → e < length E → All (λ s. s ≤ 999999999) (students E e))
+        → InstanceText (canonical_instance I E) I E }
+{}
+
+/// The canonical text of a complete timetable spells it, in each instance that it suits.
+pub fn canonical_solution_reads_back()
+    ensures { (I : Session) (T : Placing) → SuitsTimetable I T
+        → ((e : ℕ) → e < length T → IsSome (place_of T e))
+        → SolutionText (canonical_solution T) I T }
+{}
