@@ -41,7 +41,8 @@ struct Hearing<'a> {
 
 impl Write for Hearing<'_> {
     fn write(&mut self, buf: &[u8]) -> io::Result<usize> {
-        self.written.set(self.written.get().saturating_add(buf.len()));
+        self.written
+            .set(self.written.get().saturating_add(buf.len()));
         Ok(buf.len())
     }
 

@@ -30,6 +30,7 @@ impl Tally {
 impl Machine for Lent<'_> {
     ghost use Rattle.std.specs.Prelude.{◌≡◌};
     ghost use Rattle.worked_messages.specs.Tallies.{Tallies};
+
     ghost Answers = { λ old request reply new.
         (new.tally.ghost_name ≡ old.tally.ghost_name)
         × Tallies old.tally.now request reply new.tally.now };
