@@ -1,5 +1,6 @@
 -- A run of one machine is a run of another, and keeps what each of its answers keeps.
-use Rattle.std.proofs.Common.{ℕ, List, [], ◌∷◌, ◌++◌, ap, sym, subst, Option}
+use Rattle.std.proofs.Common.{◌≡◌, ℕ, List, [], ◌∷◌, ◌++◌, Option, Result, Ok, Err, IfOk, IfErr}
+use Rattle.std.proofs.Common.{refl, sym, ap, subst, ◌∙◌}
 use Rattle.office_messages.specs.declared.connection.Served.{Served}
 use Rattle.office_messages.specs.declared.connection.ServeFault.{ServeFault}
 use Rattle.office_messages.specs.Reply.{PlainReply}
@@ -84,3 +85,38 @@ module _ {S : Type 0} (Answers : S → PlainRequest → PlainReply → S → Typ
         told_kept kept items old rest new t h
     told_kept kept (asks r ∷ items) old output new (mid, reply, rest, step, is, t) h =
         kept old r reply mid step (told_kept kept items mid rest new t h)
+
+-- ---- a machine that lends another's state, under one name
+
+module _ {F S : Type 0} (name : F → ℕ) (now : F → S)
+    (Answers : S → PlainRequest → PlainReply → S → Type 0) where
+  -- it keeps the name, and what is lent answers
+  abbrev pub Lends : F → PlainRequest → PlainReply → F → Type 0
+  Lends old r reply new = (name new ≡ name old) × Answers (now old) r reply (now new)
+
+  name_kept : (items : List Item) (old : F) (output : List ℕ) (new : F)
+      → Told Lends items old output new → name old ≡ name new
+  name_kept items old output new t =
+      told_keeps Lends (λ m. name old ≡ name m) (λ o r reply n x h. h ∙ sym x.0) items old output
+      new t refl
+
+  module _ (input before after : Option (List ℕ)) (old new : F) (last : S)
+      (given : name old ≡ name new → last ≡ now new) where
+    pub lent_serves : (result : Result Served ServeFault)
+        → IfOk result (λ served. Serves Lends input before after old new served)
+        → IfOk result (λ served. Serves Answers input before after (now old) last served)
+    lent_serves (Err fault) x = tt
+    lent_serves (Ok served) x =
+        subst (λ (s : S). Serves Answers input before after (now old) s served)
+        (sym (given (name_kept x.items old x.output new x.told)))
+        (serves_along now Lends Answers (λ o r reply n y. y.1) input before after old new served x)
+
+    pub lent_serves_front : (result : Result Served ServeFault)
+        → IfErr result (λ fault. ServesFront Lends input before after old new fault)
+        → IfErr result (λ fault. ServesFront Answers input before after (now old) last fault)
+    lent_serves_front (Ok served) x = tt
+    lent_serves_front (Err fault) x =
+        subst (λ (s : S). ServesFront Answers input before after (now old) s fault)
+        (sym (given (name_kept x.items old x.output new x.told)))
+        (serves_front_along now Lends Answers (λ o r reply n y. y.1) input before after old new
+        fault x)

@@ -77,15 +77,15 @@ pub trait Machine {
 // What a read gave.
 #[derive(Clone, Copy)]
 enum Received {
-    Some,
-    None,
+    Bytes,
+    Nothing,
     End,
 }
 
 // The most bytes of a read.
 pub(crate) const PIECE: usize = 4096;
 
-// The most interruptions of one reply's writing that are tried again.
+// The most interruptions that are tried again while a head goes out, or a body.
 const MOST_INTERRUPTIONS: u32 = 1_000;
 
 // Room for a head, and for most bodies behind it, so that both go out in one write.
@@ -119,11 +119,11 @@ fn receive<R: Read>(
         Ok(0) => Ok(Received::End),
         Ok(n) => {
             buffer.extend_from_slice(&piece[..n]).unwrap();
-            Ok(Received::Some)
+            Ok(Received::Bytes)
         }
         Err(e) => {
             if e.kind() == ErrorKind::Interrupted {
-                Ok(Received::None)
+                Ok(Received::Nothing)
             } else {
                 Err(ServeFault::Read)
             }
@@ -224,8 +224,8 @@ fn answer<W: Write, M: Machine>(
 /// Serves one connection: reads its messages, has the machine answer them one after another, and
 /// writes each reply before it reads on. It never flushes: a writer that keeps bytes back is its
 /// caller's to flush. A turn is one call of `read`, also of an interrupted one, which is tried
-/// again; those used are taken from `turns`. Where it ends the connection itself, bytes of the
-/// client may lie unread: `drain` takes them.
+/// again; those used are taken from `turns`. An interrupted write is tried again up to 1,000 times.
+/// Where it ends the connection itself, bytes of the client may lie unread: `drain` takes them.
 pub fn serve<R: Read, W: Write, M: Machine>(
     alloc: Global,
     reader: &mut R,
@@ -266,7 +266,7 @@ pub fn serve<R: Read, W: Write, M: Machine>(
             Front::More(known) => {
                 stage = known;
                 match receive(reader, &mut piece, &mut buffer, turns)? {
-                    Received::Some | Received::None => {}
+                    Received::Bytes | Received::Nothing => {}
                     Received::End => {
                         if buffer.is_empty() {
                             return Served::at(answered, End::Closed);

@@ -1,4 +1,4 @@
-// A small machine, and readers and writers that come in pieces or fail.
+// A small machine, and readers and writers that work in pieces or fail.
 ghost use Rattle.std.specs.Prelude.{⊤};
 
 use office_requests::{
@@ -104,16 +104,26 @@ impl Read for Pieces<'_> {
     }
 }
 
-/// A writer that fails at once.
+/// A writer that takes seven bytes at a time, and none once it has so many.
 #[derive(Drop)]
-struct Deaf {
-    pub tried: u32,
+struct Narrow {
+    taken: Vec<u8>,
+    room: usize,
+    /// How it fails then; otherwise it says that it took none.
+    fault: Option<ErrorKind>,
 }
 
-impl Write for Deaf {
-    fn write(&mut self, _buf: &[u8]) -> io::Result<usize> {
-        self.tried = self.tried.saturating_add(1);
-        Err(io::Error::from(ErrorKind::BrokenPipe))
+impl Write for Narrow {
+    fn write(&mut self, buf: &[u8]) -> io::Result<usize> {
+        let left = self.room.saturating_sub(self.taken.len());
+        let n = buf.len().min(left).min(7);
+        if self.taken.extend_from_slice(&buf[..n]).is_err() {
+            return Err(io::Error::from(ErrorKind::OutOfMemory));
+        }
+        match self.fault {
+            Some(kind) if n == 0 => Err(io::Error::from(kind)),
+            _ => Ok(n),
+        }
     }
 
     fn flush(&mut self) -> io::Result<()> {
@@ -122,14 +132,14 @@ impl Write for Deaf {
 }
 
 /// What `serve` answers on what the reader gives, and what it writes.
-pub(crate) fn served(
+pub(crate) fn served<R: Read>(
     alloc: Global,
-    reader: &mut Pieces<'_>,
+    reader: &mut R,
     board: &mut Board,
-    turns: u64,
+    mut turns: u64,
 ) -> (Result<Served, ServeFault>, Vec<u8>) {
     let mut written = Vec::new(alloc);
-    let served = serve(alloc, reader, &mut written, board, turns);
+    let served = serve(alloc, reader, &mut written, board, &mut turns);
     (served, written)
 }
 
@@ -146,14 +156,26 @@ pub(crate) fn run(
     served(alloc, &mut reader, &mut board, 10_000_000)
 }
 
-/// What `serve` answers where nothing can be written.
-pub(crate) fn unheard(
+// The same on a stream that comes in two pieces.
+fn run_in_two(alloc: Global, stream: &[u8], cut: usize) -> (Result<Served, ServeFault>, Vec<u8>) {
+    let (front, rest) = stream.split_at(cut.min(stream.len()));
+    let mut board = Board { answered: 0 };
+    served(alloc, &mut front.chain(rest), &mut board, 100)
+}
+
+/// What `serve` answers where no more than so many bytes can be written, and what it writes.
+pub(crate) fn run_into(
     alloc: Global,
     stream: &[u8],
+    room: usize,
+    fault: Option<ErrorKind>,
     board: &mut Board,
-) -> Result<Served, ServeFault> {
+) -> (Result<Served, ServeFault>, Vec<u8>) {
     let mut reader = Pieces::of(stream, stream.len());
-    serve(alloc, &mut reader, &mut Deaf { tried: 0 }, board, 9)
+    let taken = Vec::new(alloc);
+    let mut writer = Narrow { taken, room, fault };
+    let served = serve(alloc, &mut reader, &mut writer, board, &mut 9);
+    (served, writer.taken)
 }
 
 fn agrees(
@@ -164,15 +186,22 @@ fn agrees(
     outcome == Ok(served) && written.as_slice() == replies
 }
 
-/// Whether the stream has this outcome in every cutting into equal pieces, if it is short, and
-/// these bytes are written.
+/// Whether the stream has this outcome, and these bytes are written, in every cutting into two
+/// pieces, and into equal ones of 1 to 79 bytes. Of a stream above 1,000 bytes: at each 199th place,
+/// and of 1 to 3 bytes.
 pub(crate) fn is_served_so(alloc: Global, stream: &[u8], served: Served, replies: &[u8]) -> bool {
-    let sizes: usize = if stream.len() > 1_000 { 4 } else { 80 };
+    let is_long = stream.len() > 1_000;
+    let (sizes, step): (usize, usize) = if is_long { (4, 199) } else { (80, 1) };
     for size in 1..sizes {
         for interrupts in [false, true] {
             if !agrees(run(alloc, stream, size, interrupts), served, replies) {
                 return false;
             }
+        }
+    }
+    for cut in (0..stream.len()).step_by(step) {
+        if !agrees(run_in_two(alloc, stream, cut), served, replies) {
+            return false;
         }
     }
     agrees(

@@ -10,6 +10,11 @@ mod loopback;
 #[cfg(test)]
 mod messages;
 #[cfg(test)]
+mod order;
+#[cfg(test)]
 mod policy;
 #[cfg(test)]
 mod requests;
+mod tally;
+
+pub use tally::{Tally, serve_tally};
