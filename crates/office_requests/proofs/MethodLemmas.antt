@@ -122,26 +122,31 @@ three field made lists (Some d) a b = two field (made d) (lists d) a b
 -- each page's field lists the methods that ask for something there
 page_lists : (p : Page) (path body : List ℕ) → IfSome (asks_at p path body) (Lists (allow_of p))
 page_lists page.Me path body = get_lists me
-page_lists page.MyExam path body = one (codes "GET") _ (λ e. get_lists (my_exam e)) (number_in 3 path)
+page_lists page.MyExam path body =
+    one (codes "GET") _ (λ e. get_lists (my_exam e)) (number_in 3 path)
 page_lists page.MyPenalty path body = get_lists my_penalty
 page_lists page.Instance path body = instance_lists body
 page_lists page.Owner path body =
     one (codes "PUT") _ (λ e. put_lists (set_owner e (dept_body body))) (number_in 2 path)
-page_lists page.Draft path body = one (codes "GET, PUT, DELETE") _ (λ d. draft_lists d body) (number_in 2 path)
+page_lists page.Draft path body =
+    one (codes "GET, PUT, DELETE") _ (λ d. draft_lists d body) (number_in 2 path)
 page_lists page.DraftPenalty path body =
     one (codes "GET") _ (λ d. get_lists (draft_penalty d)) (number_in 2 path)
 page_lists page.DraftViolations path body =
     one (codes "GET") _ (λ d. get_lists (draft_violations d)) (number_in 2 path)
 page_lists page.Place path body =
-    two (codes "POST") _ (λ d e. post_lists (place d e (place_body body))) (number_in 2 path) (number_in 4 path)
+    two (codes "POST") _ (λ d e. post_lists (place d e (place_body body)))
+    (number_in 2 path) (number_in 4 path)
 page_lists page.Move path body =
-    two (codes "POST") _ (λ d e. post_lists (move d e (place_body body))) (number_in 2 path) (number_in 4 path)
+    two (codes "POST") _ (λ d e. post_lists (move d e (place_body body)))
+    (number_in 2 path) (number_in 4 path)
 page_lists page.Slot path body =
     two (codes "DELETE") _ (λ d e. delete_lists (clear d e)) (number_in 2 path) (number_in 4 path)
 page_lists page.Swap path body =
     three (codes "POST") _ (λ d a b. post_lists (swap d a b)) (number_in 2 path) (number_in 4 path)
     (number_in 5 path)
-page_lists page.Publish path body = one (codes "POST") _ (λ d. post_lists (publish d)) (number_in 2 path)
+page_lists page.Publish path body =
+    one (codes "POST") _ (λ d. post_lists (publish d)) (number_in 2 path)
 page_lists page.Publication path body = get_lists publication
 page_lists page.PublicationPenalty path body = get_lists publication_penalty
 page_lists page.PublicationRooms path body = get_lists publication_rooms

@@ -1,6 +1,6 @@
 -- The numbers of a command that was read are in their limits.
-use Rattle.std.proofs.Common.{◌≡◌, ℕ, ◌≤◌, Bool, true, false, List, Option, Some, None, Result, Ok, Err}
-use Rattle.std.proofs.Common.{refl, arith}
+use Rattle.std.proofs.Common.{◌≡◌, ℕ, ◌≤◌, Bool, true, false, List, Option, Some, None}
+use Rattle.std.proofs.Common.{Result, Ok, Err, refl, arith}
 use Rattle.std.specs.Prelude.{nat_le, nat_lt, ◌==◌, length, IfSome, IfOk, if◌then◌else◌, codes}
 use Rattle.std.specs.Prelude.{option_map, option_and_then}
 use Rattle.std.proofs.lemmas.Bool.Decides.{nat_tests}
@@ -173,7 +173,8 @@ three : (path : List ℕ) (made : ℕ → ℕ → ℕ → Verb → Option PlainC
 three path made small =
     chained IsSmall AsksSmall _ (number_in 2 path) (in_path 2 path)
     (λ d draft. chained IsSmall AsksSmall (λ a. with_one 5 (made d a) path) (number_in 4 path)
-    (in_path 4 path) (λ a first. one 5 path (made d a) (λ b second. small d a b draft first second)))
+    (in_path 4 path)
+    (λ a first. one 5 path (made d a) (λ b second. small d a b draft first second)))
 
 asks_small : (p : Page) (path body : List ℕ) → IfSome (asks_at p path body) AsksSmall
 asks_small page.Me path body = get_small me tt

@@ -60,6 +60,38 @@ pub(crate) fn command_at<'a>(
     }
 }
 
+fn of_me<'a>(verb: Verb) -> Result<Command<'a>, Refusal>
+    ensures asked { GivesCommand (else_err (refusal.Method page.Me) (by_get me verb)) result }
+    ensures lent { (text : Bor (List ℕ)) → IfOk result (HoldsText text) }
+{
+    match verb {
+        Verb::Get => Ok(Command::Me),
+        _ => Err(Refusal::Method(Page::Me)),
+    }
+}
+
+fn of_my_exam<'a>(verb: Verb, exam: ExamNo) -> Result<Command<'a>, Refusal>
+    ensures asked { GivesCommand
+        (else_err (refusal.Method page.MyExam) (by_get (my_exam exam) verb)) result }
+    ensures lent { (text : Bor (List ℕ)) → IfOk result (HoldsText text) }
+{
+    match verb {
+        Verb::Get => Ok(Command::MyExam(exam)),
+        _ => Err(Refusal::Method(Page::MyExam)),
+    }
+}
+
+fn of_my_penalty<'a>(verb: Verb) -> Result<Command<'a>, Refusal>
+    ensures asked { GivesCommand
+        (else_err (refusal.Method page.MyPenalty) (by_get my_penalty verb)) result }
+    ensures lent { (text : Bor (List ℕ)) → IfOk result (HoldsText text) }
+{
+    match verb {
+        Verb::Get => Ok(Command::MyPenalty),
+        _ => Err(Refusal::Method(Page::MyPenalty)),
+    }
+}
+
 // The text of an instance is never too long: no body is longer than it may be.
 fn of_instance<'a>(verb: Verb, body: &'a [u8]) -> Result<Command<'a>, Refusal>
     ensures asked { GivesCommand
@@ -70,19 +102,6 @@ fn of_instance<'a>(verb: Verb, body: &'a [u8]) -> Result<Command<'a>, Refusal>
         Verb::Get => Ok(Command::Instance),
         Verb::Put => Ok(Command::Load(Body::Given(body))),
         _ => Err(Refusal::Method(Page::Instance)),
-    }
-}
-
-fn of_draft<'a>(verb: Verb, draft: u32, body: &'a [u8]) -> Result<Command<'a>, Refusal>
-    ensures asked { GivesCommand
-        (else_err (refusal.Method page.Draft) (of_draft draft body.now verb)) result }
-    ensures lent { IfOk result (HoldsText body.entry) }
-{
-    match verb {
-        Verb::Get => Ok(Command::Draft(draft)),
-        Verb::Put => Ok(Command::NewDraft(draft, text_body(body))),
-        Verb::Delete => Ok(Command::DropDraft(draft)),
-        _ => Err(Refusal::Method(Page::Draft)),
     }
 }
 
@@ -102,6 +121,41 @@ fn of_owner<'a>(
             Err(_) => Err(Refusal::NoMemory),
         },
         _ => Err(Refusal::Method(Page::Owner)),
+    }
+}
+
+fn of_draft<'a>(verb: Verb, draft: u32, body: &'a [u8]) -> Result<Command<'a>, Refusal>
+    ensures asked { GivesCommand
+        (else_err (refusal.Method page.Draft) (of_draft draft body.now verb)) result }
+    ensures lent { IfOk result (HoldsText body.entry) }
+{
+    match verb {
+        Verb::Get => Ok(Command::Draft(draft)),
+        Verb::Put => Ok(Command::NewDraft(draft, text_body(body))),
+        Verb::Delete => Ok(Command::DropDraft(draft)),
+        _ => Err(Refusal::Method(Page::Draft)),
+    }
+}
+
+fn of_draft_penalty<'a>(verb: Verb, draft: u32) -> Result<Command<'a>, Refusal>
+    ensures asked { GivesCommand
+        (else_err (refusal.Method page.DraftPenalty) (by_get (draft_penalty draft) verb)) result }
+    ensures lent { (text : Bor (List ℕ)) → IfOk result (HoldsText text) }
+{
+    match verb {
+        Verb::Get => Ok(Command::DraftPenalty(draft)),
+        _ => Err(Refusal::Method(Page::DraftPenalty)),
+    }
+}
+
+fn of_draft_violations<'a>(verb: Verb, draft: u32) -> Result<Command<'a>, Refusal>
+    ensures asked { GivesCommand
+        (else_err (refusal.Method page.DraftViolations) (by_get (draft_violations draft) verb)) result }
+    ensures lent { (text : Bor (List ℕ)) → IfOk result (HoldsText text) }
+{
+    match verb {
+        Verb::Get => Ok(Command::DraftViolations(draft)),
+        _ => Err(Refusal::Method(Page::DraftViolations)),
     }
 }
 
@@ -145,58 +199,9 @@ fn of_move<'a>(
     }
 }
 
-fn of_me<'a>(verb: Verb) -> Result<Command<'a>, Refusal>
-    ensures asked { GivesCommand (else_err (refusal.Method page.Me) (by_get me verb)) result }
-    ensures lent { (text : Bor (List ℕ)) → IfOk result (HoldsText text) }
-{
-    match verb {
-        Verb::Get => Ok(Command::Me),
-        _ => Err(Refusal::Method(Page::Me)),
-    }
-}
-
-fn of_my_exam<'a>(verb: Verb, exam: ExamNo) -> Result<Command<'a>, Refusal>
-    ensures asked { GivesCommand (else_err (refusal.Method page.MyExam) (by_get (my_exam exam) verb)) result }
-    ensures lent { (text : Bor (List ℕ)) → IfOk result (HoldsText text) }
-{
-    match verb {
-        Verb::Get => Ok(Command::MyExam(exam)),
-        _ => Err(Refusal::Method(Page::MyExam)),
-    }
-}
-
-fn of_my_penalty<'a>(verb: Verb) -> Result<Command<'a>, Refusal>
-    ensures asked { GivesCommand (else_err (refusal.Method page.MyPenalty) (by_get my_penalty verb)) result }
-    ensures lent { (text : Bor (List ℕ)) → IfOk result (HoldsText text) }
-{
-    match verb {
-        Verb::Get => Ok(Command::MyPenalty),
-        _ => Err(Refusal::Method(Page::MyPenalty)),
-    }
-}
-
-fn of_draft_penalty<'a>(verb: Verb, draft: u32) -> Result<Command<'a>, Refusal>
-    ensures asked { GivesCommand (else_err (refusal.Method page.DraftPenalty) (by_get (draft_penalty draft) verb)) result }
-    ensures lent { (text : Bor (List ℕ)) → IfOk result (HoldsText text) }
-{
-    match verb {
-        Verb::Get => Ok(Command::DraftPenalty(draft)),
-        _ => Err(Refusal::Method(Page::DraftPenalty)),
-    }
-}
-
-fn of_draft_violations<'a>(verb: Verb, draft: u32) -> Result<Command<'a>, Refusal>
-    ensures asked { GivesCommand (else_err (refusal.Method page.DraftViolations) (by_get (draft_violations draft) verb)) result }
-    ensures lent { (text : Bor (List ℕ)) → IfOk result (HoldsText text) }
-{
-    match verb {
-        Verb::Get => Ok(Command::DraftViolations(draft)),
-        _ => Err(Refusal::Method(Page::DraftViolations)),
-    }
-}
-
 fn of_slot<'a>(verb: Verb, draft: u32, exam: ExamNo) -> Result<Command<'a>, Refusal>
-    ensures asked { GivesCommand (else_err (refusal.Method page.Slot) (by_delete (clear draft exam) verb)) result }
+    ensures asked { GivesCommand
+        (else_err (refusal.Method page.Slot) (by_delete (clear draft exam) verb)) result }
     ensures lent { (text : Bor (List ℕ)) → IfOk result (HoldsText text) }
 {
     match verb {
@@ -211,7 +216,8 @@ fn of_swap<'a>(
     first: ExamNo,
     second: ExamNo,
 ) -> Result<Command<'a>, Refusal>
-    ensures asked { GivesCommand (else_err (refusal.Method page.Swap) (by_post (swap draft first second) verb)) result }
+    ensures asked { GivesCommand
+        (else_err (refusal.Method page.Swap) (by_post (swap draft first second) verb)) result }
     ensures lent { (text : Bor (List ℕ)) → IfOk result (HoldsText text) }
 {
     match verb {
@@ -221,7 +227,8 @@ fn of_swap<'a>(
 }
 
 fn of_publish<'a>(verb: Verb, draft: u32) -> Result<Command<'a>, Refusal>
-    ensures asked { GivesCommand (else_err (refusal.Method page.Publish) (by_post (publish draft) verb)) result }
+    ensures asked { GivesCommand
+        (else_err (refusal.Method page.Publish) (by_post (publish draft) verb)) result }
     ensures lent { (text : Bor (List ℕ)) → IfOk result (HoldsText text) }
 {
     match verb {
@@ -231,7 +238,8 @@ fn of_publish<'a>(verb: Verb, draft: u32) -> Result<Command<'a>, Refusal>
 }
 
 fn of_publication<'a>(verb: Verb) -> Result<Command<'a>, Refusal>
-    ensures asked { GivesCommand (else_err (refusal.Method page.Publication) (by_get publication verb)) result }
+    ensures asked { GivesCommand
+        (else_err (refusal.Method page.Publication) (by_get publication verb)) result }
     ensures lent { (text : Bor (List ℕ)) → IfOk result (HoldsText text) }
 {
     match verb {
@@ -241,7 +249,8 @@ fn of_publication<'a>(verb: Verb) -> Result<Command<'a>, Refusal>
 }
 
 fn of_publication_penalty<'a>(verb: Verb) -> Result<Command<'a>, Refusal>
-    ensures asked { GivesCommand (else_err (refusal.Method page.PublicationPenalty) (by_get publication_penalty verb)) result }
+    ensures asked { GivesCommand
+        (else_err (refusal.Method page.PublicationPenalty) (by_get publication_penalty verb)) result }
     ensures lent { (text : Bor (List ℕ)) → IfOk result (HoldsText text) }
 {
     match verb {
@@ -251,7 +260,8 @@ fn of_publication_penalty<'a>(verb: Verb) -> Result<Command<'a>, Refusal>
 }
 
 fn of_publication_rooms<'a>(verb: Verb) -> Result<Command<'a>, Refusal>
-    ensures asked { GivesCommand (else_err (refusal.Method page.PublicationRooms) (by_get publication_rooms verb)) result }
+    ensures asked { GivesCommand
+        (else_err (refusal.Method page.PublicationRooms) (by_get publication_rooms verb)) result }
     ensures lent { (text : Bor (List ℕ)) → IfOk result (HoldsText text) }
 {
     match verb {
