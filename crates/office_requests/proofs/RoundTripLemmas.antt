@@ -15,22 +15,21 @@ use Rattle.office_policy.specs.Numbers.{number_of}
 use Rattle.office_policy.specs.declared.callers.Caller.{Caller}
 use Rattle.office_policy.specs.declared.callers.Caller.TheVariants.{Office, Dept, Cand}
 use Rattle.office_policy.specs.declared.command.Body.{Body}
-use Rattle.office_requests.specs.Commands.{command_of}
+use Rattle.office_requests.specs.Bodies.{dept_body, place_body, text_body}
+use Rattle.office_requests.specs.Commands.{by_get, by_put, by_post, by_delete, of_instance}
+use Rattle.office_requests.specs.Commands.{of_draft, asks_at, with_two}
 use Rattle.office_requests.specs.Methods.{verb_of}
 use Rattle.office_requests.specs.Pages.{IsIn, pages, page_of}
 use Rattle.office_requests.specs.Paths.{first_segment, behind_slash}
 use Rattle.office_requests.specs.Patterns.{takes}
-use Rattle.office_requests.specs.Printing.{path_from, slot_segments, path_of, method_of, SaysBody}
+use Rattle.office_requests.specs.Printing.{path_of, method_of, SaysBody}
 use Rattle.office_requests.specs.Printing.{ComesWith}
 use Rattle.office_requests.specs.Requests.{caller_in, her_page, candidate_command, staff_command}
 use Rattle.office_requests.specs.Requests.{asked_by, reading}
-use Rattle.office_requests.specs.Resources.{resource_at, slot_in}
 use Rattle.office_requests.specs.declared.methods.Verb.{Verb}
-use Rattle.office_requests.specs.declared.methods.Verb.TheVariants.{Get, Put, Post, Delete}
+use Rattle.office_requests.specs.declared.methods.Verb.TheVariants.{Get}
 use Rattle.office_requests.specs.declared.pages.Page.{Page}
 use Rattle.office_requests.specs.declared.pages.Page.TheVariants as page
-use Rattle.office_requests.specs.declared.resources.Resource.{Resource}
-use Rattle.office_requests.specs.declared.resources.Resource.TheVariants as resource
 use Rattle.office_requests.proofs.Plain.{EndsSegment}
 use Rattle.office_requests.proofs.PageLemmas.{page_some}
 use Rattle.office_requests.proofs.PrintLemmas.{takes_number, number_here, behind_number}
@@ -56,96 +55,45 @@ page_is i path inside takes_it =
       takes_it = takes_it;
     })
 
--- what a path stands for
-record StandsFor (path : List ℕ) (p : Page) (r : Resource) : Type 0 where
+abbrev Asks : Type 0
+Asks = Verb → Option PlainCommand
+
+-- on a path of a page, methods ask for this
+record Offers (path body : List ℕ) (p : Page) (asks : Asks) : Type 0 where
   page_there : page_of path ≡ Some p
-  resource_there : resource_at p path ≡ Some r
+  asks_there : asks_at p path body ≡ Some asks
 
-stands : (i : ℕ) (path : List ℕ) (r : Resource) → i < 17 → takes (row_at pages i).0 path ≡ true
-    → resource_at (row_at pages i).1 path ≡ Some r → StandsFor path (row_at pages i).1 r
-stands i path r inside takes_it there =
-    record { page_there = page_is i path inside takes_it; resource_there = there }
+offers : (i : ℕ) (path body : List ℕ) (asks : Asks) → i < 17
+    → takes (row_at pages i).0 path ≡ true → asks_at (row_at pages i).1 path body ≡ Some asks
+    → Offers path body (row_at pages i).1 asks
+offers i path body asks inside takes_it there =
+    record { page_there = page_is i path inside takes_it; asks_there = there }
 
-one_number : (kind : ℕ → Resource) (x : Option ℕ) (n : ℕ) → x ≡ Some n
-    → option_map (λ n. kind n) x ≡ Some (kind n)
-one_number kind x n e = rw e refl
+one_number : (made : ℕ → Asks) (x : Option ℕ) (n : ℕ) → x ≡ Some n
+    → option_map (λ n. made n) x ≡ Some (made n)
+one_number made x n e = rw e refl
 
-two_numbers : (kind : ℕ → ℕ → Resource) (x y : Option ℕ) (d e : ℕ) → x ≡ Some d → y ≡ Some e
-    → option_and_then (λ d. option_map (λ e. kind d e) y) x ≡ Some (kind d e)
-two_numbers kind x y d e is also = rw (is, also) refl
+two_numbers : (made : ℕ → ℕ → Asks) (x y : Option ℕ) (d e : ℕ) → x ≡ Some d → y ≡ Some e
+    → option_and_then (λ d. option_map (λ e. made d e) y) x ≡ Some (made d e)
+two_numbers made x y d e is also = rw (is, also) refl
 
-swapped : (x y z : Option ℕ) (d a b : ℕ) → x ≡ Some d → y ≡ Some a → z ≡ Some b
-    → option_and_then (λ d. option_and_then (λ a. option_map (λ b. resource.Swap d a b) z) y) x
-    ≡ Some (resource.Swap d a b)
-swapped x y z d a b is also last = rw (is, also, last) refl
+three_numbers : (made : ℕ → ℕ → ℕ → Asks) (x y z : Option ℕ) (d a b : ℕ) → x ≡ Some d
+    → y ≡ Some a → z ≡ Some b
+    → option_and_then (λ d. option_and_then (λ a. option_map (λ b. made d a b) z) y) x
+    ≡ Some (made d a b)
+three_numbers made x y z d a b is also last = rw (is, also, last) refl
 
--- ---- paths without numbers
-
-me_is : StandsFor (path_from (codes "me" ∷ [])) page.Me resource.Me
-me_is = stands 13 _ _ (omega arith) refl refl
-
-my_penalty_is : StandsFor (path_of my_penalty) page.MyPenalty resource.MyPenalty
-my_penalty_is = stands 12 _ _ (omega arith) refl refl
-
-instance_is : StandsFor (path_of instance) page.Instance resource.Instance
-instance_is = stands 10 _ _ (omega arith) refl refl
-
-publication_is : StandsFor (path_of publication) page.Publication resource.Publication
-publication_is = stands 16 _ _ (omega arith) refl refl
-
-publication_penalty_is : StandsFor (path_of publication_penalty) page.PublicationPenalty
-    resource.PublicationPenalty
-publication_penalty_is = stands 14 _ _ (omega arith) refl refl
-
-publication_rooms_is : StandsFor (path_of publication_rooms) page.PublicationRooms
-    resource.PublicationRooms
-publication_rooms_is = stands 15 _ _ (omega arith) refl refl
-
--- ---- paths with one number
+-- ---- paths with numbers
 
 module _ (n : ℕ) (small : IsSmall n) where
-  my_exam_is : StandsFor (path_of (my_exam n)) page.MyExam (resource.MyExam n)
-  my_exam_is =
-      stands 11 _ _ (omega arith) (takes_number n [] [] small tt)
-      (one_number (λ e. resource.MyExam e) _ n (number_here n [] small tt))
+  one_takes : (tail : List ℕ) → EndsSegment tail
+      → takes (param_token ∷ tail) (decimal n ++ tail) ≡ takes tail tail
+  one_takes tail ends = takes_number n tail tail small ends
 
-  owner_is : StandsFor (path_from (codes "exams" ∷ decimal n ∷ codes "owner" ∷ [])) page.Owner
-      (resource.Owner n)
-  owner_is =
-      stands 9 _ _ (omega arith) (takes_number n (codes "/owner") (codes "/owner") small refl)
-      (one_number (λ e. resource.Owner e) _ n (number_here n (codes "/owner") small refl))
-
-  draft_is : StandsFor (path_of (draft n)) page.Draft (resource.Draft n)
-  draft_is =
-      stands 8 _ _ (omega arith) (takes_number n [] [] small tt)
-      (one_number (λ d. resource.Draft d) _ n (number_here n [] small tt))
-
-  draft_penalty_is : StandsFor (path_of (draft_penalty n)) page.DraftPenalty
-      (resource.DraftPenalty n)
-  draft_penalty_is =
-      let tail = codes "/penalty" in
-      stands 4 _ _ (omega arith) (takes_number n tail tail small refl)
-      (one_number (λ d. resource.DraftPenalty d) _ n (number_here n tail small refl))
-
-  draft_violations_is : StandsFor (path_of (draft_violations n)) page.DraftViolations
-      (resource.DraftViolations n)
-  draft_violations_is =
-      let tail = codes "/violations" in
-      stands 7 _ _ (omega arith) (takes_number n tail tail small refl)
-      (one_number (λ d. resource.DraftViolations d) _ n (number_here n tail small refl))
-
-  publish_is : StandsFor (path_of (publish n)) page.Publish (resource.Publish n)
-  publish_is =
-      let tail = codes "/publish" in
-      stands 5 _ _ (omega arith) (takes_number n tail tail small refl)
-      (one_number (λ d. resource.Publish d) _ n (number_here n tail small refl))
-
-  batch_is : StandsFor (path_from (codes "batches" ∷ decimal n ∷ [])) page.Batch (resource.Batch n)
-  batch_is =
-      stands 0 _ _ (omega arith) (takes_number n [] [] small tt)
-      (one_number (λ n. resource.Batch n) _ n (number_here n [] small tt))
-
--- ---- paths with more numbers
+  one_is : (made : ℕ → Asks) (tail : List ℕ) → EndsSegment tail
+      → option_map (λ n. made n) (number_of (first_segment (decimal n ++ tail)))
+      ≡ Some (made n)
+  one_is made tail ends = one_number made _ n (number_here n tail small ends)
 
 module _ (d e : ℕ) (small : IsSmall d) (also : IsSmall e) where
   slot_takes : (tail : List ℕ) → EndsSegment tail
@@ -155,44 +103,28 @@ module _ (d e : ℕ) (small : IsSmall d) (also : IsSmall e) where
       takes_number d (codes "/exams/" ++ param_token ∷ tail)
       (codes "/exams/" ++ (decimal e ++ tail)) small refl ∙ takes_number e tail tail also ends
 
-  slot_number : (kind : ℕ → ℕ → Resource) (tail : List ℕ) → EndsSegment tail
-      → slot_in kind (codes "/drafts/" ++ (decimal d ++ (codes "/exams/" ++ (decimal e ++ tail))))
-      ≡ Some (kind d e)
-  slot_number kind tail ends =
-      two_numbers kind _ _ d e
+  slot_is : (made : ℕ → ℕ → Asks) (tail : List ℕ) → EndsSegment tail
+      → with_two made (codes "/drafts/" ++ (decimal d ++ (codes "/exams/" ++ (decimal e ++ tail))))
+      ≡ Some (made d e)
+  slot_is made tail ends =
+      two_numbers made _ _ d e
       (number_here d (codes "/exams/" ++ (decimal e ++ tail)) small refl)
       (ap (λ (l : List ℕ). number_of (first_segment (behind_slash l)))
       (behind_number d (codes "exams/" ++ (decimal e ++ tail)) small)
       ∙ number_here e tail also ends)
 
-  place_is : StandsFor (path_from (slot_segments d e (codes "place" ∷ []))) page.Place
-      (resource.Place d e)
-  place_is =
-      let tail = codes "/place" in
-      stands 2 _ _ (omega arith) (slot_takes tail refl)
-      (slot_number (λ d e. resource.Place d e) tail refl)
-
-  move_is : StandsFor (path_from (slot_segments d e (codes "move" ∷ []))) page.Move
-      (resource.Move d e)
-  move_is =
-      let tail = codes "/move" in
-      stands 1 _ _ (omega arith) (slot_takes tail refl)
-      (slot_number (λ d e. resource.Move d e) tail refl)
-
-  slot_is : StandsFor (path_of (clear d e)) page.Slot (resource.Slot d e)
-  slot_is =
-      stands 3 _ _ (omega arith) (slot_takes [] tt) (slot_number (λ d e. resource.Slot d e) [] tt)
-
 module _ (d a b : ℕ) (small : IsSmall d) (also : IsSmall a) (last : IsSmall b) where
-  swap_is : StandsFor (path_of (swap d a b)) page.Swap (resource.Swap d a b)
-  swap_is =
+  swap_there : (body : List ℕ)
+      → Offers (path_of (swap d a b)) body page.Swap (by_post (swap d a b))
+  swap_there body =
       let pair = decimal a ++ (slash ∷ (decimal b ++ [])) in
-      stands 6 _ _ (omega arith)
+      offers 6 _ body _ (omega arith)
       (takes_number d (codes "/swap/" ++ param_token ∷ slash ∷ param_token ∷ [])
       (codes "/swap/" ++ pair) small refl
       ∙ takes_number a (slash ∷ param_token ∷ []) (slash ∷ (decimal b ++ [])) also refl
       ∙ takes_number b [] [] last tt)
-      (swapped _ _ _ d a b (number_here d (codes "/swap/" ++ pair) small refl)
+      (three_numbers (λ d a b. by_post (swap d a b)) _ _ _ d a b
+      (number_here d (codes "/swap/" ++ pair) small refl)
       (ap (λ (l : List ℕ). number_of (first_segment (behind_slash l)))
       (behind_number d (codes "swap/" ++ pair) small)
       ∙ number_here a (slash ∷ (decimal b ++ [])) also refl)
@@ -201,68 +133,145 @@ module _ (d a b : ℕ) (small : IsSmall d) (also : IsSmall a) (last : IsSmall b)
       ∙ ap (λ (l : List ℕ). number_of (first_segment l)) (behind_number a (decimal b ++ []) also)
       ∙ number_here b [] last tt))
 
+-- ---- what is offered on each path
+
+-- the page of a command
+abbrev page_for : PlainCommand → Page
+page_for me = page.Me
+page_for (my_exam e) = page.MyExam
+page_for my_penalty = page.MyPenalty
+page_for (load text) = page.Instance
+page_for instance = page.Instance
+page_for (set_owner e dept) = page.Owner
+page_for (new_draft d text) = page.Draft
+page_for (draft d) = page.Draft
+page_for (draft_penalty d) = page.DraftPenalty
+page_for (draft_violations d) = page.DraftViolations
+page_for (drop_draft d) = page.Draft
+page_for (place d e at) = page.Place
+page_for (move d e to) = page.Move
+page_for (clear d e) = page.Slot
+page_for (swap d a b) = page.Swap
+page_for (publish d) = page.Publish
+page_for publication = page.Publication
+page_for publication_penalty = page.PublicationPenalty
+page_for publication_rooms = page.PublicationRooms
+page_for (batch n text) = page.Batch
+
+-- what the methods of its page ask for
+abbrev offer : PlainCommand → List ℕ → Asks
+offer (load text) body = of_instance body
+offer instance body = of_instance body
+offer (set_owner e dept) body = by_put (set_owner e (dept_body body))
+offer (new_draft d text) body = of_draft d body
+offer (draft d) body = of_draft d body
+offer (drop_draft d) body = of_draft d body
+offer (place d e at) body = by_post (place d e (place_body body))
+offer (move d e to) body = by_post (move d e (place_body body))
+offer (clear d e) body = by_delete (clear d e)
+offer (swap d a b) body = by_post (swap d a b)
+offer (publish d) body = by_post (publish d)
+offer (batch n text) body = by_put (batch n (text_body body))
+offer c body = by_get c
+
+abbrev IsOffered : PlainCommand → List ℕ → Type 0
+IsOffered c body = Offers (path_of c) body (page_for c) (offer c body)
+
+draft_there : (d : ℕ) (body : List ℕ) → IsSmall d
+    → Offers (path_of (draft d)) body page.Draft (of_draft d body)
+draft_there d body small =
+    offers 8 _ body _ (omega arith) (one_takes d small [] tt)
+    (one_is d small (λ d. of_draft d body) [] tt)
+
+offered : (c : PlainCommand) (body : List ℕ) → HasSmallNumbers c → IsOffered c body
+offered me body small = offers 13 _ body _ (omega arith) refl refl
+offered (my_exam e) body small =
+    offers 11 _ body _ (omega arith) (one_takes e small [] tt)
+    (one_is e small (λ e. by_get (my_exam e)) [] tt)
+offered my_penalty body small = offers 12 _ body _ (omega arith) refl refl
+offered (load text) body small = offers 10 _ body _ (omega arith) refl refl
+offered instance body small = offers 10 _ body _ (omega arith) refl refl
+offered (set_owner e dept) body small =
+    offers 9 _ body _ (omega arith) (one_takes e small.0 (codes "/owner") refl)
+    (one_is e small.0 (λ e. by_put (set_owner e (dept_body body))) (codes "/owner") refl)
+offered (new_draft d text) body small = draft_there d body small
+offered (draft d) body small = draft_there d body small
+offered (draft_penalty d) body small =
+    offers 4 _ body _ (omega arith) (one_takes d small (codes "/penalty") refl)
+    (one_is d small (λ d. by_get (draft_penalty d)) (codes "/penalty") refl)
+offered (draft_violations d) body small =
+    offers 7 _ body _ (omega arith) (one_takes d small (codes "/violations") refl)
+    (one_is d small (λ d. by_get (draft_violations d)) (codes "/violations") refl)
+offered (drop_draft d) body small = draft_there d body small
+offered (place d e at) body small =
+    offers 2 _ body _ (omega arith) (slot_takes d e small.0 small.1 (codes "/place") refl)
+    (slot_is d e small.0 small.1 (λ d e. by_post (place d e (place_body body))) (codes "/place")
+    refl)
+offered (move d e to) body small =
+    offers 1 _ body _ (omega arith) (slot_takes d e small.0 small.1 (codes "/move") refl)
+    (slot_is d e small.0 small.1 (λ d e. by_post (move d e (place_body body))) (codes "/move")
+    refl)
+offered (clear d e) body small =
+    offers 3 _ body _ (omega arith) (slot_takes d e small.0 small.1 [] tt)
+    (slot_is d e small.0 small.1 (λ d e. by_delete (clear d e)) [] tt)
+offered (swap d a b) body small = swap_there d a b small.0 small.1 small.2 body
+offered (publish d) body small =
+    offers 5 _ body _ (omega arith) (one_takes d small (codes "/publish") refl)
+    (one_is d small (λ d. by_post (publish d)) (codes "/publish") refl)
+offered publication body small = offers 16 _ body _ (omega arith) refl refl
+offered publication_penalty body small = offers 14 _ body _ (omega arith) refl refl
+offered publication_rooms body small = offers 15 _ body _ (omega arith) refl refl
+offered (batch n text) body small =
+    offers 0 _ body _ (omega arith) (one_takes n small [] tt)
+    (one_is n small (λ n. by_put (batch n (text_body body))) [] tt)
+
 -- ---- requests
 
-module _ (path : List ℕ) (p : Page) (r : Resource) (c : PlainCommand)
-    (is : StandsFor path p r) where
-  by : (verb : Verb) (body : List ℕ) → command_of verb r body ≡ Some c
-      → staff_command verb path body ≡ Ok c
-  by verb body e = rw (is.page_there, is.resource_there, e) refl
+-- its method asks for the command itself
+is_asked : (c : PlainCommand) (body : List ℕ) → SaysBody body c
+    → offer c body (verb_of (method_of c)) ≡ Some c
+is_asked (load text) body says = ap (λ (b : Body (List ℕ)). Some (load b)) says
+is_asked (set_owner e dept) body says = ap (λ (b : Body ℕ). Some (set_owner e b)) says
+is_asked (new_draft d text) body says = ap (λ (b : Body (List ℕ)). Some (new_draft d b)) says
+is_asked (place d e at) body says = ap (λ (b : Body Place). Some (place d e b)) says
+is_asked (move d e to) body says = ap (λ (b : Body Place). Some (move d e b)) says
+is_asked (batch n text) body says = ap (λ (b : Body (List ℕ)). Some (batch n b)) says
+is_asked _ body says = refl
 
-  hers_by : her_page r ≡ Some c → candidate_command Get path ≡ Ok c
-  hers_by e = rw (is.page_there, is.resource_there, e) refl
+by : (path body : List ℕ) (p : Page) (asks : Asks) (verb : Verb) (c : PlainCommand)
+    → Offers path body p asks → asks verb ≡ Some c → staff_command verb path body ≡ Ok c
+by path body p asks verb c there e = rw (there.page_there, there.asks_there, e) refl
 
 -- the office and the departments ask for it
 staff_asks : (c : PlainCommand) (body : List ℕ) → HasSmallNumbers c → SaysBody body c
     → staff_command (verb_of (method_of c)) (path_of c) body ≡ Ok c
-staff_asks me body small says = by _ _ _ _ me_is Get body refl
-staff_asks (my_exam e) body small says = by _ _ _ _ (my_exam_is e small) Get body refl
-staff_asks my_penalty body small says = by _ _ _ _ my_penalty_is Get body refl
-staff_asks (load text) body small says =
-    by _ _ _ _ instance_is Put body (ap (λ (b : Body (List ℕ)). Some (load b)) says)
-staff_asks instance body small says = by _ _ _ _ instance_is Get body refl
-staff_asks (set_owner e dept) body small says =
-    by _ _ _ _ (owner_is e small.0) Put body (ap (λ (b : Body ℕ). Some (set_owner e b)) says)
-staff_asks (new_draft d text) body small says =
-    by _ _ _ _ (draft_is d small) Put body (ap (λ (b : Body (List ℕ)). Some (new_draft d b)) says)
-staff_asks (draft d) body small says = by _ _ _ _ (draft_is d small) Get body refl
-staff_asks (draft_penalty d) body small says = by _ _ _ _ (draft_penalty_is d small) Get body refl
-staff_asks (draft_violations d) body small says =
-    by _ _ _ _ (draft_violations_is d small) Get body refl
-staff_asks (drop_draft d) body small says = by _ _ _ _ (draft_is d small) Delete body refl
-staff_asks (place d e at) body small says =
-    by _ _ _ _ (place_is d e small.0 small.1) Post body
-    (ap (λ (b : Body Place). Some (place d e b)) says)
-staff_asks (move d e to) body small says =
-    by _ _ _ _ (move_is d e small.0 small.1) Post body
-    (ap (λ (b : Body Place). Some (move d e b)) says)
-staff_asks (clear d e) body small says =
-    by _ _ _ _ (slot_is d e small.0 small.1) Delete body refl
-staff_asks (swap d a b) body small says =
-    by _ _ _ _ (swap_is d a b small.0 small.1 small.2) Post body refl
-staff_asks (publish d) body small says = by _ _ _ _ (publish_is d small) Post body refl
-staff_asks publication body small says = by _ _ _ _ publication_is Get body refl
-staff_asks publication_penalty body small says = by _ _ _ _ publication_penalty_is Get body refl
-staff_asks publication_rooms body small says = by _ _ _ _ publication_rooms_is Get body refl
-staff_asks (batch n text) body small says =
-    by _ _ _ _ (batch_is n small) Put body (ap (λ (b : Body (List ℕ)). Some (batch n b)) says)
+staff_asks c body small says =
+    by (path_of c) body (page_for c) (offer c body) (verb_of (method_of c)) c
+    (offered c body small) (is_asked c body says)
+
+hers_by : (path : List ℕ) (p : Page) (c : PlainCommand) → page_of path ≡ Some p
+    → her_page p path ≡ Some c → candidate_command Get path ≡ Ok c
+hers_by path p c there e = rw (there, e) refl
 
 -- a candidate asks for her own three
 she_asks : (n : ℕ) (c : PlainCommand) → HasSmallNumbers c → ComesWith (Cand n) c
     → candidate_command (verb_of (method_of c)) (path_of c) ≡ Ok c
-she_asks n me small hers = hers_by _ _ _ _ me_is refl
-she_asks n (my_exam e) small hers = hers_by _ _ _ _ (my_exam_is e small) refl
-she_asks n my_penalty small hers = hers_by _ _ _ _ my_penalty_is refl
+she_asks n me small hers = hers_by _ page.Me me (offered me [] small).page_there refl
+she_asks n (my_exam e) small hers =
+    hers_by _ page.MyExam (my_exam e) (offered (my_exam e) [] small).page_there
+    (ap (option_map my_exam) (number_here e [] small tt))
+she_asks n my_penalty small hers =
+    hers_by _ page.MyPenalty my_penalty (offered my_penalty [] small).page_there refl
 she_asks n _ small hers = cc
 
-asks : (who : Caller) (c : PlainCommand) (body : List ℕ) → ComesWith who c → HasSmallNumbers c
+asked : (who : Caller) (c : PlainCommand) (body : List ℕ) → ComesWith who c → HasSmallNumbers c
     → SaysBody body c → asked_by who (verb_of (method_of c)) (path_of c) body ≡ Ok c
-asks Office c body comes small says = staff_asks c body small says
-asks (Dept d) c body comes small says = staff_asks c body small says
-asks (Cand n) c body comes small says = she_asks n c small comes
+asked Office c body comes small says = staff_asks c body small says
+asked (Dept d) c body comes small says = staff_asks c body small says
+asked (Cand n) c body comes small says = she_asks n c small comes
 
 -- a request that is printed is read back
 pub read_back : (value : Option (List ℕ)) (who : Caller) (c : PlainCommand) (body : List ℕ)
     → caller_in value ≡ Some who → ComesWith who c → HasSmallNumbers c → SaysBody body c
     → reading (method_of c) (path_of c) value body ≡ Ok (record { caller = who; command = c })
-read_back value who c body e comes small says = rw (e, asks who c body comes small says) refl
+read_back value who c body e comes small says = rw (e, asked who c body comes small says) refl

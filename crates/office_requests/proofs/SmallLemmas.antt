@@ -1,12 +1,15 @@
 -- The numbers of a command that was read are in their limits.
-use Rattle.std.proofs.Common.{◌≡◌, ℕ, ◌≤◌, Bool, true, false, List, Option, Some, None, Result, Ok, Err}
-use Rattle.std.proofs.Common.{refl, arith}
+use Rattle.std.proofs.Common.{◌≡◌, ℕ, ◌≤◌, Bool, true, false, List, Option, Some, None}
+use Rattle.std.proofs.Common.{Result, Ok, Err, refl, arith}
 use Rattle.std.specs.Prelude.{nat_le, nat_lt, ◌==◌, length, IfSome, IfOk, if◌then◌else◌, codes}
 use Rattle.std.specs.Prelude.{option_map, option_and_then}
 use Rattle.std.proofs.lemmas.Bool.Decides.{nat_tests}
 use Rattle.exam_terms.specs.Refusing.{◌>>=◌, else_err}
 use Rattle.office_policy.specs.Commands.{IsSmall, IsSmallPlace, IfGiven}
-use Rattle.office_policy.specs.Commands.{HasSmallNumbers}
+use Rattle.office_policy.specs.Commands.{HasSmallNumbers, PlainCommand, me, my_exam, my_penalty}
+use Rattle.office_policy.specs.Commands.{set_owner, draft_penalty, draft_violations, place, move}
+use Rattle.office_policy.specs.Commands.{clear, swap, publish, publication, publication_penalty}
+use Rattle.office_policy.specs.Commands.{publication_rooms, batch}
 use Rattle.office_policy.specs.declared.callers.Caller.{Caller}
 use Rattle.office_policy.specs.declared.callers.Caller.TheVariants.{Office, Dept, Cand}
 use Rattle.office_policy.specs.declared.command.Body.{Body}
@@ -16,20 +19,18 @@ use Rattle.serde_json.specs.Data.{Data}
 use Rattle.serde_json.specs.Find.{get, as_number, as_u64}
 use Rattle.office_requests.specs.Bodies.{at_most, number_at, of_members, members_count, place_in}
 use Rattle.office_requests.specs.Bodies.{dept_in, json_in, given_or_bad, unless_long, place_body}
-use Rattle.office_requests.specs.Bodies.{dept_body}
-use Rattle.office_requests.specs.Commands.{gets, puts, posts, deletes, command_of}
+use Rattle.office_requests.specs.Bodies.{dept_body, text_body}
+use Rattle.office_requests.specs.Commands.{by_get, by_put, by_post, by_delete, of_instance}
+use Rattle.office_requests.specs.Commands.{of_draft, with_one, with_two, with_three, asks_at}
 use Rattle.office_requests.specs.Pages.{page_of}
 use Rattle.office_requests.specs.Paths.{segment, number_in}
 use Rattle.office_requests.specs.Requests.{her_page, her_command, staff_command, asked_by}
-use Rattle.office_requests.specs.Resources.{resource_at, resource_of, slot_in, swap_in}
 use Rattle.office_requests.specs.declared.methods.Verb.{Verb}
-use Rattle.office_requests.specs.declared.methods.Verb.TheVariants.{Get, Put, Post, Delete, Other}
+use Rattle.office_requests.specs.declared.methods.Verb.TheVariants.{Get, Put, Post, Delete}
 use Rattle.office_requests.specs.declared.pages.Page.{Page}
 use Rattle.office_requests.specs.declared.pages.Page.TheVariants as page
 use Rattle.office_requests.specs.declared.requests.Refusal.{Refusal}
 use Rattle.office_requests.specs.declared.requests.Refusal.TheVariants as refusal
-use Rattle.office_requests.specs.declared.resources.Resource.{Resource}
-use Rattle.office_requests.specs.declared.resources.Resource.TheVariants as resource
 
 -- ---- what is there goes on
 
@@ -118,140 +119,113 @@ dept_small bytes =
 
 -- ---- numbers in paths
 
-abbrev HasSmall : Resource → Type 0
-HasSmall resource.Me = Unit {0}
-HasSmall (resource.MyExam e) = IsSmall e
-HasSmall resource.MyPenalty = Unit {0}
-HasSmall resource.Instance = Unit {0}
-HasSmall (resource.Owner e) = IsSmall e
-HasSmall (resource.Draft d) = IsSmall d
-HasSmall (resource.DraftPenalty d) = IsSmall d
-HasSmall (resource.DraftViolations d) = IsSmall d
-HasSmall (resource.Place d e) = IsSmall d × IsSmall e
-HasSmall (resource.Move d e) = IsSmall d × IsSmall e
-HasSmall (resource.Slot d e) = IsSmall d × IsSmall e
-HasSmall (resource.Swap d a b) = IsSmall d × IsSmall a × IsSmall b
-HasSmall (resource.Publish d) = IsSmall d
-HasSmall resource.Publication = Unit {0}
-HasSmall resource.PublicationPenalty = Unit {0}
-HasSmall resource.PublicationRooms = Unit {0}
-HasSmall (resource.Batch n) = IsSmall n
-
-in_path : (place : ℕ) (path : List ℕ) → IfSome (number_in place path) IsSmall
-in_path place path = number_small (segment place path)
-
-one : (kind : ℕ → Resource) (place : ℕ) (path : List ℕ)
-    → ((n : ℕ) → IsSmall n → HasSmall (kind n))
-    → IfSome (option_map (λ n. kind n) (number_in place path)) HasSmall
-one kind place path small =
-    mapped IsSmall HasSmall (λ n. kind n) (number_in place path) (in_path place path) small
-
-slot : (kind : ℕ → ℕ → Resource) (path : List ℕ)
-    → ((d e : ℕ) → IsSmall d → IsSmall e → HasSmall (kind d e))
-    → IfSome (slot_in kind path) HasSmall
-slot kind path small =
-    chained IsSmall HasSmall _ (number_in 2 path) (in_path 2 path)
-    (λ d draft. mapped IsSmall HasSmall _ (number_in 4 path) (in_path 4 path)
-    (λ e exam. small d e draft exam))
-
-swapped : (path : List ℕ) → IfSome (swap_in path) HasSmall
-swapped path =
-    chained IsSmall HasSmall _ (number_in 2 path) (in_path 2 path)
-    (λ d draft. chained IsSmall HasSmall _ (number_in 4 path) (in_path 4 path)
-    (λ a first. mapped IsSmall HasSmall _ (number_in 5 path) (in_path 5 path)
-    (λ b second. (draft, first, second))))
-
-resource_small : (p : Page) (path : List ℕ) → IfSome (resource_at p path) HasSmall
-resource_small page.Me path = tt
-resource_small page.MyExam path = one (λ e. resource.MyExam e) 3 path (λ n small. small)
-resource_small page.MyPenalty path = tt
-resource_small page.Instance path = tt
-resource_small page.Owner path = one (λ e. resource.Owner e) 2 path (λ n small. small)
-resource_small page.Draft path = one (λ d. resource.Draft d) 2 path (λ n small. small)
-resource_small page.DraftPenalty path =
-    one (λ d. resource.DraftPenalty d) 2 path (λ n small. small)
-resource_small page.DraftViolations path =
-    one (λ d. resource.DraftViolations d) 2 path (λ n small. small)
-resource_small page.Place path =
-    slot (λ d e. resource.Place d e) path (λ d e draft exam. (draft, exam))
-resource_small page.Move path =
-    slot (λ d e. resource.Move d e) path (λ d e draft exam. (draft, exam))
-resource_small page.Slot path =
-    slot (λ d e. resource.Slot d e) path (λ d e draft exam. (draft, exam))
-resource_small page.Swap path = swapped path
-resource_small page.Publish path = one (λ d. resource.Publish d) 2 path (λ n small. small)
-resource_small page.Publication path = tt
-resource_small page.PublicationPenalty path = tt
-resource_small page.PublicationRooms path = tt
-resource_small page.Batch path = one (λ n. resource.Batch n) 2 path (λ n small. small)
+in_path : (k : ℕ) (path : List ℕ) → IfSome (number_in k path) IsSmall
+in_path k path = number_small (segment k path)
 
 -- ---- commands
 
-gets_small : (r : Resource) → HasSmall r → IfSome (gets r) HasSmallNumbers
-gets_small resource.Me small = tt
-gets_small (resource.MyExam e) small = small
-gets_small resource.MyPenalty small = tt
-gets_small resource.Instance small = tt
-gets_small (resource.Draft d) small = small
-gets_small (resource.DraftPenalty d) small = small
-gets_small (resource.DraftViolations d) small = small
-gets_small resource.Publication small = tt
-gets_small resource.PublicationPenalty small = tt
-gets_small resource.PublicationRooms small = tt
-gets_small _ small = tt
+-- whatever the method, it asks for a command with small numbers
+abbrev AsksSmall : (Verb → Option PlainCommand) → Type 0
+AsksSmall asks = (verb : Verb) → IfSome (asks verb) HasSmallNumbers
 
-puts_small : (r : Resource) (body : List ℕ) → HasSmall r → IfSome (puts r body) HasSmallNumbers
-puts_small resource.Instance body small = tt
-puts_small (resource.Owner e) body small = (small, dept_small body)
-puts_small (resource.Draft d) body small = small
-puts_small (resource.Batch n) body small = small
-puts_small _ body small = tt
+get_small : (c : PlainCommand) → HasSmallNumbers c → AsksSmall (by_get c)
+get_small c small Get = small
+get_small c small _ = tt
 
-posts_small : (r : Resource) (body : List ℕ) → HasSmall r → IfSome (posts r body) HasSmallNumbers
-posts_small (resource.Place d e) body small = (small.0, small.1, place_small body)
-posts_small (resource.Move d e) body small = (small.0, small.1, place_small body)
-posts_small (resource.Swap d a b) body small = small
-posts_small (resource.Publish d) body small = small
-posts_small _ body small = tt
+put_small : (c : PlainCommand) → HasSmallNumbers c → AsksSmall (by_put c)
+put_small c small Put = small
+put_small c small _ = tt
 
-deletes_small : (r : Resource) → HasSmall r → IfSome (deletes r) HasSmallNumbers
-deletes_small (resource.Draft d) small = small
-deletes_small (resource.Slot d e) small = small
-deletes_small _ small = tt
+post_small : (c : PlainCommand) → HasSmallNumbers c → AsksSmall (by_post c)
+post_small c small Post = small
+post_small c small _ = tt
 
-command_small : (verb : Verb) (r : Resource) (body : List ℕ) → HasSmall r
-    → IfSome (command_of verb r body) HasSmallNumbers
-command_small Get r body small = gets_small r small
-command_small Put r body small = puts_small r body small
-command_small Post r body small = posts_small r body small
-command_small Delete r body small = deletes_small r small
-command_small Other r body small = tt
+delete_small : (c : PlainCommand) → HasSmallNumbers c → AsksSmall (by_delete c)
+delete_small c small Delete = small
+delete_small c small _ = tt
 
-her_page_small : (r : Resource) → HasSmall r → IfSome (her_page r) HasSmallNumbers
-her_page_small resource.Me small = tt
-her_page_small (resource.MyExam e) small = small
-her_page_small resource.MyPenalty small = tt
-her_page_small _ small = tt
+instance_small : (body : List ℕ) → AsksSmall (of_instance body)
+instance_small body Get = tt
+instance_small body Put = tt
+instance_small body _ = tt
+
+draft_small : (d : ℕ) (body : List ℕ) → IsSmall d → AsksSmall (of_draft d body)
+draft_small d body small Get = small
+draft_small d body small Put = small
+draft_small d body small Delete = small
+draft_small d body small _ = tt
+
+one : (k : ℕ) (path : List ℕ) (made : ℕ → Verb → Option PlainCommand)
+    → ((n : ℕ) → IsSmall n → AsksSmall (made n)) → IfSome (with_one k made path) AsksSmall
+one k path made small =
+    mapped IsSmall AsksSmall (λ n. made n) (number_in k path) (in_path k path) small
+
+two : (path : List ℕ) (made : ℕ → ℕ → Verb → Option PlainCommand)
+    → ((d e : ℕ) → IsSmall d → IsSmall e → AsksSmall (made d e))
+    → IfSome (with_two made path) AsksSmall
+two path made small =
+    chained IsSmall AsksSmall (λ d. with_one 4 (made d) path) (number_in 2 path) (in_path 2 path)
+    (λ d draft. one 4 path (made d) (λ e exam. small d e draft exam))
+
+three : (path : List ℕ) (made : ℕ → ℕ → ℕ → Verb → Option PlainCommand)
+    → ((d a b : ℕ) → IsSmall d → IsSmall a → IsSmall b → AsksSmall (made d a b))
+    → IfSome (with_three made path) AsksSmall
+three path made small =
+    chained IsSmall AsksSmall _ (number_in 2 path) (in_path 2 path)
+    (λ d draft. chained IsSmall AsksSmall (λ a. with_one 5 (made d a) path) (number_in 4 path)
+    (in_path 4 path)
+    (λ a first. one 5 path (made d a) (λ b second. small d a b draft first second)))
+
+asks_small : (p : Page) (path body : List ℕ) → IfSome (asks_at p path body) AsksSmall
+asks_small page.Me path body = get_small me tt
+asks_small page.MyExam path body = one 3 path _ (λ e exam. get_small (my_exam e) exam)
+asks_small page.MyPenalty path body = get_small my_penalty tt
+asks_small page.Instance path body = instance_small body
+asks_small page.Owner path body =
+    one 2 path _ (λ e exam. put_small (set_owner e (dept_body body)) (exam, dept_small body))
+asks_small page.Draft path body = one 2 path _ (λ d draft. draft_small d body draft)
+asks_small page.DraftPenalty path body =
+    one 2 path _ (λ d draft. get_small (draft_penalty d) draft)
+asks_small page.DraftViolations path body =
+    one 2 path _ (λ d draft. get_small (draft_violations d) draft)
+asks_small page.Place path body =
+    two path _ (λ d e draft exam.
+    post_small (place d e (place_body body)) (draft, exam, place_small body))
+asks_small page.Move path body =
+    two path _ (λ d e draft exam.
+    post_small (move d e (place_body body)) (draft, exam, place_small body))
+asks_small page.Slot path body =
+    two path _ (λ d e draft exam. delete_small (clear d e) (draft, exam))
+asks_small page.Swap path body =
+    three path _ (λ d a b draft first second. post_small (swap d a b) (draft, first, second))
+asks_small page.Publish path body = one 2 path _ (λ d draft. post_small (publish d) draft)
+asks_small page.Publication path body = get_small publication tt
+asks_small page.PublicationPenalty path body = get_small publication_penalty tt
+asks_small page.PublicationRooms path body = get_small publication_rooms tt
+asks_small page.Batch path body =
+    one 2 path _ (λ n number. put_small (batch n (text_body body)) number)
+
+her_page_small : (p : Page) (path : List ℕ) → IfSome (her_page p path) HasSmallNumbers
+her_page_small page.Me path = tt
+her_page_small page.MyExam path =
+    mapped IsSmall HasSmallNumbers my_exam (number_in 3 path) (in_path 3 path) (λ e exam. exam)
+her_page_small page.MyPenalty path = tt
+her_page_small _ path = tt
 
 her_small : (verb : Verb) (path : List ℕ) → IfSome (her_command verb path) HasSmallNumbers
 her_small Get path =
-    chained HasSmall HasSmallNumbers her_page (resource_of path)
-    (chained (λ (p : Page). Unit {0}) HasSmall (λ p. resource_at p path) (page_of path)
-    (anything _) (λ p any. resource_small p path)) her_page_small
-her_small Put path = tt
-her_small Post path = tt
-her_small Delete path = tt
-her_small Other path = tt
+    chained (λ (p : Page). Unit {0}) HasSmallNumbers (λ p. her_page p path) (page_of path)
+    (anything _) (λ p any. her_page_small p path)
+her_small _ path = tt
 
 staff_small : (verb : Verb) (path body : List ℕ)
     → IfOk (staff_command verb path body) HasSmallNumbers
 staff_small verb path body =
     judged (λ (p : Page). Unit {0}) HasSmallNumbers (else_err refusal.Path (page_of path)) _
     (else_ok (λ (p : Page). Unit {0}) refusal.Path (page_of path) (anything _))
-    (λ p any. judged HasSmall HasSmallNumbers (else_err refusal.Path (resource_at p path)) _
-    (else_ok HasSmall refusal.Path (resource_at p path) (resource_small p path))
-    (λ r small. else_ok HasSmallNumbers (refusal.Method p) (command_of verb r body)
-    (command_small verb r body small)))
+    (λ p any. judged AsksSmall HasSmallNumbers (else_err refusal.Path (asks_at p path body)) _
+    (else_ok AsksSmall refusal.Path (asks_at p path body) (asks_small p path body))
+    (λ asks small. else_ok HasSmallNumbers (refusal.Method p) (asks verb) (small verb)))
 
 -- what is asked for has small numbers, whoever asks
 pub asked_small : (who : Caller) (verb : Verb) (path body : List ℕ)

@@ -1,5 +1,7 @@
--- What a method asks of a resource, with what its body says.
+-- What a method asks for on a page, with the numbers in the path and what the body says.
 use Rattle.std.specs.Prelude.{◌≡◌, ℕ, Bool, true, false, List, Option, Some, None}
+use Rattle.std.specs.Prelude.{option_map, option_and_then, Result}
+use Rattle.exam_terms.specs.Refusing.{◌>>=◌, else_err}
 use Rattle.office_policy.specs.declared.command.Body.TheVariants.{Given}
 use Rattle.office_policy.specs.Commands.{PlainCommand, me, my_exam, my_penalty, load, instance}
 use Rattle.office_policy.specs.Commands.{set_owner, new_draft, draft, draft_penalty}
@@ -7,51 +9,81 @@ use Rattle.office_policy.specs.Commands.{draft_violations, drop_draft, place, mo
 use Rattle.office_policy.specs.Commands.{publish, publication, publication_penalty}
 use Rattle.office_policy.specs.Commands.{publication_rooms, batch}
 use Rattle.office_requests.specs.Bodies.{text_body, place_body, dept_body}
+use Rattle.office_requests.specs.Paths.{number_in}
 use Rattle.office_requests.specs.declared.methods.Verb.{Verb}
-use Rattle.office_requests.specs.declared.methods.Verb.TheVariants.{Get, Put, Post, Delete, Other}
-use Rattle.office_requests.specs.declared.resources.Resource.{Resource}
-use Rattle.office_requests.specs.declared.resources.Resource.TheVariants as resource
+use Rattle.office_requests.specs.declared.methods.Verb.TheVariants.{Get, Put, Post, Delete}
+use Rattle.office_requests.specs.declared.pages.Page.{Page}
+use Rattle.office_requests.specs.declared.pages.Page.TheVariants as page
+use Rattle.office_requests.specs.declared.requests.Refusal.{Refusal}
+use Rattle.office_requests.specs.declared.requests.Refusal.TheVariants as refusal
 
-abbrev pub gets : Resource → Option PlainCommand
-gets resource.Me = Some me
-gets (resource.MyExam e) = Some (my_exam e)
-gets resource.MyPenalty = Some my_penalty
-gets resource.Instance = Some instance
-gets (resource.Draft d) = Some (draft d)
-gets (resource.DraftPenalty d) = Some (draft_penalty d)
-gets (resource.DraftViolations d) = Some (draft_violations d)
-gets resource.Publication = Some publication
-gets resource.PublicationPenalty = Some publication_penalty
-gets resource.PublicationRooms = Some publication_rooms
-gets _ = None
+-- what a method asks for where one alone asks for something
+abbrev pub by_get : PlainCommand → Verb → Option PlainCommand
+by_get c Get = Some c
+by_get c _ = None
 
--- an instance's text is never too long
-abbrev pub puts : Resource → List ℕ → Option PlainCommand
-puts resource.Instance body = Some (load (Given body))
-puts (resource.Owner e) body = Some (set_owner e (dept_body body))
-puts (resource.Draft d) body = Some (new_draft d (text_body body))
-puts (resource.Batch n) body = Some (batch n (text_body body))
-puts _ body = None
+abbrev pub by_put : PlainCommand → Verb → Option PlainCommand
+by_put c Put = Some c
+by_put c _ = None
 
-abbrev pub posts : Resource → List ℕ → Option PlainCommand
-posts (resource.Place d e) body = Some (place d e (place_body body))
-posts (resource.Move d e) body = Some (move d e (place_body body))
-posts (resource.Swap d a b) body = Some (swap d a b)
-posts (resource.Publish d) body = Some (publish d)
-posts _ body = None
+abbrev pub by_post : PlainCommand → Verb → Option PlainCommand
+by_post c Post = Some c
+by_post c _ = None
 
-abbrev pub deletes : Resource → Option PlainCommand
-deletes (resource.Draft d) = Some (drop_draft d)
-deletes (resource.Slot d e) = Some (clear d e)
-deletes _ = None
+abbrev pub by_delete : PlainCommand → Verb → Option PlainCommand
+by_delete c Delete = Some c
+by_delete c _ = None
 
--- the command of a method on a resource, if the resource has that method
-abbrev pub command_of : Verb → Resource → List ℕ → Option PlainCommand
-command_of Get r body = gets r
-command_of Put r body = puts r body
-command_of Post r body = posts r body
-command_of Delete r body = deletes r
-command_of Other r body = None
+-- of the instance; its text is never too long
+abbrev pub of_instance : List ℕ → Verb → Option PlainCommand
+of_instance body Get = Some instance
+of_instance body Put = Some (load (Given body))
+of_instance body _ = None
+
+-- of a draft
+abbrev pub of_draft : ℕ → List ℕ → Verb → Option PlainCommand
+of_draft d body Get = Some (draft d)
+of_draft d body Put = Some (new_draft d (text_body body))
+of_draft d body Delete = Some (drop_draft d)
+of_draft d body _ = None
+
+-- with the number that a segment of the path is; with two numbers, and with three
+abbrev pub with_one : {A : Type 0} → ℕ → (ℕ → A) → List ℕ → Option A
+with_one k made path = option_map (λ n. made n) (number_in k path)
+
+abbrev pub with_two : {A : Type 0} → (ℕ → ℕ → A) → List ℕ → Option A
+with_two made path = option_and_then (λ d. with_one 4 (made d) path) (number_in 2 path)
+
+abbrev pub with_three : {A : Type 0} → (ℕ → ℕ → ℕ → A) → List ℕ → Option A
+with_three made path =
+    option_and_then (λ d. option_and_then (λ a. with_one 5 (made d a) path) (number_in 4 path))
+    (number_in 2 path)
+
+-- what each method of the page asks for; nothing where a number in the path isn't one
+abbrev pub asks_at : Page → List ℕ → List ℕ → Option (Verb → Option PlainCommand)
+asks_at page.Me path body = Some (by_get me)
+asks_at page.MyExam path body = with_one 3 (λ e. by_get (my_exam e)) path
+asks_at page.MyPenalty path body = Some (by_get my_penalty)
+asks_at page.Instance path body = Some (of_instance body)
+asks_at page.Owner path body = with_one 2 (λ e. by_put (set_owner e (dept_body body))) path
+asks_at page.Draft path body = with_one 2 (λ d. of_draft d body) path
+asks_at page.DraftPenalty path body = with_one 2 (λ d. by_get (draft_penalty d)) path
+asks_at page.DraftViolations path body = with_one 2 (λ d. by_get (draft_violations d)) path
+asks_at page.Place path body = with_two (λ d e. by_post (place d e (place_body body))) path
+asks_at page.Move path body = with_two (λ d e. by_post (move d e (place_body body))) path
+asks_at page.Slot path body = with_two (λ d e. by_delete (clear d e)) path
+asks_at page.Swap path body = with_three (λ d a b. by_post (swap d a b)) path
+asks_at page.Publish path body = with_one 2 (λ d. by_post (publish d)) path
+asks_at page.Publication path body = Some (by_get publication)
+asks_at page.PublicationPenalty path body = Some (by_get publication_penalty)
+asks_at page.PublicationRooms path body = Some (by_get publication_rooms)
+asks_at page.Batch path body = with_one 2 (λ n. by_put (batch n (text_body body))) path
+
+-- the command of a method on a page: the path is judged, then the method
+abbrev pub command_at : Page → Verb → List ℕ → List ℕ → Result PlainCommand Refusal
+command_at p verb path body =
+    else_err refusal.Path (asks_at p path body) >>= (λ asks.
+    else_err (refusal.Method p) (asks verb))
 
 -- the command has a body of JSON, which takes memory to read
 abbrev pub has_json : PlainCommand → Bool

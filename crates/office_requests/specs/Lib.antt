@@ -2,7 +2,6 @@ pub mod Patterns
 pub mod Pages
 pub mod Table
 pub mod Paths
-pub mod Resources
 pub mod Methods
 pub mod Bodies
 pub mod Commands

@@ -8,16 +8,14 @@ use Rattle.office_policy.specs.declared.callers.Caller.TheVariants.{Office, Dept
 use Rattle.office_policy.specs.Commands.{PlainCommand, me, my_exam, my_penalty, plain_command}
 use Rattle.office_policy.specs.declared.command.Command.{Command}
 use Rattle.office_requests.specs.Pages.{page_of}
-use Rattle.office_requests.specs.Resources.{resource_at, resource_of}
 use Rattle.office_requests.specs.Methods.{verb_of, allow_of}
-use Rattle.office_requests.specs.Commands.{command_of, HasJson}
+use Rattle.office_requests.specs.Commands.{with_one, command_at, HasJson}
 use Rattle.office_requests.specs.declared.methods.Verb.{Verb}
 use Rattle.office_requests.specs.declared.methods.Verb.TheVariants.{Get}
-use Rattle.office_requests.specs.declared.resources.Resource.{Resource}
-use Rattle.office_requests.specs.declared.resources.Resource.TheVariants as resource
 use Rattle.office_policy.specs.declared.policy.Denial.TheVariants.{P1}
 use Rattle.office_requests.specs.Texts.{error_text, error_reply}
 use Rattle.office_requests.specs.declared.pages.Page.{Page}
+use Rattle.office_requests.specs.declared.pages.Page.TheVariants as page
 use Rattle.office_messages.specs.Reply.{PlainReply, unavailable}
 use Rattle.office_messages.specs.declared.replies.Content.TheVariants.{Json}
 use Rattle.office_messages.specs.declared.statuses.Status.TheVariants.{MethodNotAllowed}
@@ -31,27 +29,25 @@ abbrev pub caller_in : Option (List ℕ) → Option Caller
 caller_in value = option_and_then (λ v. caller_of (trimmed v)) value
 
 -- a candidate's own three pages
-abbrev pub her_page : Resource → Option PlainCommand
-her_page resource.Me = Some me
-her_page (resource.MyExam e) = Some (my_exam e)
-her_page resource.MyPenalty = Some my_penalty
-her_page _ = None
+abbrev pub her_page : Page → List ℕ → Option PlainCommand
+her_page page.Me path = Some me
+her_page page.MyExam path = with_one 3 my_exam path
+her_page page.MyPenalty path = Some my_penalty
+her_page _ path = None
 
 -- one of her pages, by GET
 abbrev pub her_command : Verb → List ℕ → Option PlainCommand
-her_command Get path = option_and_then her_page (resource_of path)
+her_command Get path = option_and_then (λ p. her_page p path) (page_of path)
 her_command _ path = None
 
 -- a candidate asks for one of her pages, or is refused
 abbrev pub candidate_command : Verb → List ℕ → Result PlainCommand Refusal
 candidate_command verb path = else_err refusal.Candidate (her_command verb path)
 
--- the office and departments: the path is judged, then the method
+-- the office and departments ask for a command of a page
 abbrev pub staff_command : Verb → List ℕ → List ℕ → Result PlainCommand Refusal
 staff_command verb path body =
-    else_err refusal.Path (page_of path) >>= (λ page.
-    else_err refusal.Path (resource_at page path) >>= (λ r.
-    else_err (refusal.Method page) (command_of verb r body)))
+    else_err refusal.Path (page_of path) >>= (λ p. command_at p verb path body)
 
 -- what that caller asks for
 abbrev pub asked_by : Caller → Verb → List ℕ → List ℕ → Result PlainCommand Refusal

@@ -1,104 +1,282 @@
-// What a method asks of a resource.
-ghost use Rattle.std.specs.Prelude.{◌≡◌, ℕ, List, IfOk, IfSome, OnErr, IsSomeAnd, option_map};
+// What a method asks for on a page.
+ghost use Rattle.std.specs.Prelude.{◌≡◌, ℕ, List, IfOk};
 ghost use Rattle.std.specs.Borrow.{Bor};
-ghost use Rattle.office_policy.specs.Commands.{plain_command, HoldsText};
-ghost use Rattle.office_requests.specs.Commands.{gets, puts, posts, deletes, command_of, HasJson};
+ghost use Rattle.exam_terms.specs.Refusing.{else_err};
+ghost use Rattle.office_policy.specs.Commands.{HoldsText, me, my_exam, my_penalty, set_owner};
+ghost use Rattle.office_policy.specs.Commands.{draft_penalty, draft_violations, place, move};
+ghost use Rattle.office_policy.specs.Commands.{clear, swap, publish, publication};
+ghost use Rattle.office_policy.specs.Commands.{publication_penalty, publication_rooms, batch};
+ghost use Rattle.office_requests.specs.Bodies.{dept_body, place_body, text_body};
+ghost use Rattle.office_requests.specs.Commands.{by_get, by_put, by_post, by_delete};
+ghost use Rattle.office_requests.specs.Commands.{of_instance, of_draft, command_at};
+ghost use Rattle.office_requests.specs.Requests.{GivesCommand};
+ghost use Rattle.office_requests.specs.declared.pages.Page.TheVariants as page;
+ghost use Rattle.office_requests.specs.declared.requests.Refusal.TheVariants as refusal;
 
 use crate::bodies::{dept_body, place_body, text_body};
 use crate::methods::Verb;
-use crate::resources::Resource;
+use crate::pages::Page;
+use crate::paths::{exam_in, number_in};
+use crate::requests::Refusal;
+use exam_terms::ExamNo;
 use office_policy::{Body, Command};
-use std::alloc::{AllocError, Global};
+use std::alloc::Global;
 
-/// The command of a method on a resource, or none where the resource hasn't that method.
-pub(crate) fn command_of<'a>(
+/// The command of a method on a page. A number in the path that isn't one to nine digits refuses
+/// the path, whatever the method.
+pub(crate) fn command_at<'a>(
     alloc: Global,
+    page: Page,
     verb: Verb,
-    resource: Resource,
+    path: &[u8],
     body: &'a [u8],
-) -> Result<Option<Command<'a>>, AllocError>
-    ensures ok { IfOk result (λ command. option_map plain_command command ≡ command_of verb resource body.now) }
-    ensures lent { IfOk result (λ command. IfSome command (HoldsText body.entry)) }
-    ensures err { OnErr result (IsSomeAnd (command_of verb resource body.now) HasJson) }
+) -> Result<Command<'a>, Refusal>
+    ensures asked { GivesCommand (command_at page verb path.now body.now) result }
+    ensures lent { IfOk result (HoldsText body.entry) }
 {
-    match verb {
-        Verb::Get => Ok(gets(resource)),
-        Verb::Put => puts(alloc, resource, body),
-        Verb::Post => posts(alloc, resource, body),
-        Verb::Delete => Ok(deletes(resource)),
-        Verb::Other => Ok(None),
+    match page {
+        Page::Me => of_me(verb),
+        Page::MyExam => of_my_exam(verb, exam_in(path, 3)?),
+        Page::MyPenalty => of_my_penalty(verb),
+        Page::Instance => of_instance(verb, body),
+        Page::Owner => of_owner(alloc, verb, exam_in(path, 2)?, body),
+        Page::Draft => of_draft(verb, number_in(path, 2)?, body),
+        Page::DraftPenalty => of_draft_penalty(verb, number_in(path, 2)?),
+        Page::DraftViolations => of_draft_violations(verb, number_in(path, 2)?),
+        Page::Place => of_place(alloc, verb, number_in(path, 2)?, exam_in(path, 4)?, body),
+        Page::Move => of_move(alloc, verb, number_in(path, 2)?, exam_in(path, 4)?, body),
+        Page::Slot => of_slot(verb, number_in(path, 2)?, exam_in(path, 4)?),
+        Page::Swap => of_swap(
+            verb,
+            number_in(path, 2)?,
+            exam_in(path, 4)?,
+            exam_in(path, 5)?,
+        ),
+        Page::Publish => of_publish(verb, number_in(path, 2)?),
+        Page::Publication => of_publication(verb),
+        Page::PublicationPenalty => of_publication_penalty(verb),
+        Page::PublicationRooms => of_publication_rooms(verb),
+        Page::Batch => of_batch(verb, number_in(path, 2)?, body),
     }
 }
 
-fn gets<'a>(resource: Resource) -> Option<Command<'a>>
-    ensures command { option_map plain_command result ≡ gets resource }
-    ensures lent { (text : Bor (List ℕ)) → IfSome result (HoldsText text) }
+fn of_me<'a>(verb: Verb) -> Result<Command<'a>, Refusal>
+    ensures asked { GivesCommand (else_err (refusal.Method page.Me) (by_get me verb)) result }
+    ensures lent { (text : Bor (List ℕ)) → IfOk result (HoldsText text) }
 {
-    match resource {
-        Resource::Me => Some(Command::Me),
-        Resource::MyExam(exam) => Some(Command::MyExam(exam)),
-        Resource::MyPenalty => Some(Command::MyPenalty),
-        Resource::Instance => Some(Command::Instance),
-        Resource::Draft(draft) => Some(Command::Draft(draft)),
-        Resource::DraftPenalty(draft) => Some(Command::DraftPenalty(draft)),
-        Resource::DraftViolations(draft) => Some(Command::DraftViolations(draft)),
-        Resource::Publication => Some(Command::Publication),
-        Resource::PublicationPenalty => Some(Command::PublicationPenalty),
-        Resource::PublicationRooms => Some(Command::PublicationRooms),
-        _ => None,
+    match verb {
+        Verb::Get => Ok(Command::Me),
+        _ => Err(Refusal::Method(Page::Me)),
+    }
+}
+
+fn of_my_exam<'a>(verb: Verb, exam: ExamNo) -> Result<Command<'a>, Refusal>
+    ensures asked { GivesCommand
+        (else_err (refusal.Method page.MyExam) (by_get (my_exam exam) verb)) result }
+    ensures lent { (text : Bor (List ℕ)) → IfOk result (HoldsText text) }
+{
+    match verb {
+        Verb::Get => Ok(Command::MyExam(exam)),
+        _ => Err(Refusal::Method(Page::MyExam)),
+    }
+}
+
+fn of_my_penalty<'a>(verb: Verb) -> Result<Command<'a>, Refusal>
+    ensures asked { GivesCommand
+        (else_err (refusal.Method page.MyPenalty) (by_get my_penalty verb)) result }
+    ensures lent { (text : Bor (List ℕ)) → IfOk result (HoldsText text) }
+{
+    match verb {
+        Verb::Get => Ok(Command::MyPenalty),
+        _ => Err(Refusal::Method(Page::MyPenalty)),
     }
 }
 
 // The text of an instance is never too long: no body is longer than it may be.
-fn puts<'a>(
-    alloc: Global,
-    resource: Resource,
-    body: &'a [u8],
-) -> Result<Option<Command<'a>>, AllocError>
-    ensures ok { IfOk result (λ command. option_map plain_command command ≡ puts resource body.now) }
-    ensures lent { IfOk result (λ command. IfSome command (HoldsText body.entry)) }
-    ensures err { OnErr result (IsSomeAnd (puts resource body.now) HasJson) }
+fn of_instance<'a>(verb: Verb, body: &'a [u8]) -> Result<Command<'a>, Refusal>
+    ensures asked { GivesCommand
+        (else_err (refusal.Method page.Instance) (of_instance body.now verb)) result }
+    ensures lent { IfOk result (HoldsText body.entry) }
 {
-    match resource {
-        Resource::Instance => Ok(Some(Command::Load(Body::Given(body)))),
-        Resource::Owner(exam) => Ok(Some(Command::SetOwner(exam, dept_body(alloc, body)?))),
-        Resource::Draft(draft) => Ok(Some(Command::NewDraft(draft, text_body(body)))),
-        Resource::Batch(number) => Ok(Some(Command::Batch(number, text_body(body)))),
-        _ => Ok(None),
+    match verb {
+        Verb::Get => Ok(Command::Instance),
+        Verb::Put => Ok(Command::Load(Body::Given(body))),
+        _ => Err(Refusal::Method(Page::Instance)),
     }
 }
 
-fn posts<'a>(
+fn of_owner<'a>(
     alloc: Global,
-    resource: Resource,
-    body: &'a [u8],
-) -> Result<Option<Command<'a>>, AllocError>
-    ensures ok { IfOk result (λ command. option_map plain_command command ≡ posts resource body.now) }
-    ensures lent { IfOk result (λ command. IfSome command (HoldsText body.entry)) }
-    ensures err { OnErr result (IsSomeAnd (posts resource body.now) HasJson) }
+    verb: Verb,
+    exam: ExamNo,
+    body: &[u8],
+) -> Result<Command<'a>, Refusal>
+    ensures asked { GivesCommand (else_err (refusal.Method page.Owner)
+        (by_put (set_owner exam (dept_body body.now)) verb)) result }
+    ensures lent { (text : Bor (List ℕ)) → IfOk result (HoldsText text) }
 {
-    match resource {
-        Resource::Place(draft, exam) => {
-            let place = place_body(alloc, body)?;
-            Ok(Some(Command::Place(draft, exam, place)))
-        }
-        Resource::Move(draft, exam) => {
-            let place = place_body(alloc, body)?;
-            Ok(Some(Command::Move(draft, exam, place)))
-        }
-        Resource::Swap(draft, first, second) => Ok(Some(Command::Swap(draft, first, second))),
-        Resource::Publish(draft) => Ok(Some(Command::Publish(draft))),
-        _ => Ok(None),
+    match verb {
+        Verb::Put => match dept_body(alloc, body) {
+            Ok(said) => Ok(Command::SetOwner(exam, said)),
+            Err(_) => Err(Refusal::NoMemory),
+        },
+        _ => Err(Refusal::Method(Page::Owner)),
     }
 }
 
-fn deletes<'a>(resource: Resource) -> Option<Command<'a>>
-    ensures command { option_map plain_command result ≡ deletes resource }
-    ensures lent { (text : Bor (List ℕ)) → IfSome result (HoldsText text) }
+fn of_draft<'a>(verb: Verb, draft: u32, body: &'a [u8]) -> Result<Command<'a>, Refusal>
+    ensures asked { GivesCommand
+        (else_err (refusal.Method page.Draft) (of_draft draft body.now verb)) result }
+    ensures lent { IfOk result (HoldsText body.entry) }
 {
-    match resource {
-        Resource::Draft(draft) => Some(Command::DropDraft(draft)),
-        Resource::Slot(draft, exam) => Some(Command::Clear(draft, exam)),
-        _ => None,
+    match verb {
+        Verb::Get => Ok(Command::Draft(draft)),
+        Verb::Put => Ok(Command::NewDraft(draft, text_body(body))),
+        Verb::Delete => Ok(Command::DropDraft(draft)),
+        _ => Err(Refusal::Method(Page::Draft)),
+    }
+}
+
+fn of_draft_penalty<'a>(verb: Verb, draft: u32) -> Result<Command<'a>, Refusal>
+    ensures asked { GivesCommand
+        (else_err (refusal.Method page.DraftPenalty) (by_get (draft_penalty draft) verb)) result }
+    ensures lent { (text : Bor (List ℕ)) → IfOk result (HoldsText text) }
+{
+    match verb {
+        Verb::Get => Ok(Command::DraftPenalty(draft)),
+        _ => Err(Refusal::Method(Page::DraftPenalty)),
+    }
+}
+
+fn of_draft_violations<'a>(verb: Verb, draft: u32) -> Result<Command<'a>, Refusal>
+    ensures asked { GivesCommand
+        (else_err (refusal.Method page.DraftViolations) (by_get (draft_violations draft) verb)) result }
+    ensures lent { (text : Bor (List ℕ)) → IfOk result (HoldsText text) }
+{
+    match verb {
+        Verb::Get => Ok(Command::DraftViolations(draft)),
+        _ => Err(Refusal::Method(Page::DraftViolations)),
+    }
+}
+
+fn of_place<'a>(
+    alloc: Global,
+    verb: Verb,
+    draft: u32,
+    exam: ExamNo,
+    body: &[u8],
+) -> Result<Command<'a>, Refusal>
+    ensures asked { GivesCommand (else_err (refusal.Method page.Place)
+        (by_post (place draft exam (place_body body.now)) verb)) result }
+    ensures lent { (text : Bor (List ℕ)) → IfOk result (HoldsText text) }
+{
+    match verb {
+        Verb::Post => match place_body(alloc, body) {
+            Ok(said) => Ok(Command::Place(draft, exam, said)),
+            Err(_) => Err(Refusal::NoMemory),
+        },
+        _ => Err(Refusal::Method(Page::Place)),
+    }
+}
+
+fn of_move<'a>(
+    alloc: Global,
+    verb: Verb,
+    draft: u32,
+    exam: ExamNo,
+    body: &[u8],
+) -> Result<Command<'a>, Refusal>
+    ensures asked { GivesCommand (else_err (refusal.Method page.Move)
+        (by_post (move draft exam (place_body body.now)) verb)) result }
+    ensures lent { (text : Bor (List ℕ)) → IfOk result (HoldsText text) }
+{
+    match verb {
+        Verb::Post => match place_body(alloc, body) {
+            Ok(said) => Ok(Command::Move(draft, exam, said)),
+            Err(_) => Err(Refusal::NoMemory),
+        },
+        _ => Err(Refusal::Method(Page::Move)),
+    }
+}
+
+fn of_slot<'a>(verb: Verb, draft: u32, exam: ExamNo) -> Result<Command<'a>, Refusal>
+    ensures asked { GivesCommand
+        (else_err (refusal.Method page.Slot) (by_delete (clear draft exam) verb)) result }
+    ensures lent { (text : Bor (List ℕ)) → IfOk result (HoldsText text) }
+{
+    match verb {
+        Verb::Delete => Ok(Command::Clear(draft, exam)),
+        _ => Err(Refusal::Method(Page::Slot)),
+    }
+}
+
+fn of_swap<'a>(
+    verb: Verb,
+    draft: u32,
+    first: ExamNo,
+    second: ExamNo,
+) -> Result<Command<'a>, Refusal>
+    ensures asked { GivesCommand
+        (else_err (refusal.Method page.Swap) (by_post (swap draft first second) verb)) result }
+    ensures lent { (text : Bor (List ℕ)) → IfOk result (HoldsText text) }
+{
+    match verb {
+        Verb::Post => Ok(Command::Swap(draft, first, second)),
+        _ => Err(Refusal::Method(Page::Swap)),
+    }
+}
+
+fn of_publish<'a>(verb: Verb, draft: u32) -> Result<Command<'a>, Refusal>
+    ensures asked { GivesCommand
+        (else_err (refusal.Method page.Publish) (by_post (publish draft) verb)) result }
+    ensures lent { (text : Bor (List ℕ)) → IfOk result (HoldsText text) }
+{
+    match verb {
+        Verb::Post => Ok(Command::Publish(draft)),
+        _ => Err(Refusal::Method(Page::Publish)),
+    }
+}
+
+fn of_publication<'a>(verb: Verb) -> Result<Command<'a>, Refusal>
+    ensures asked { GivesCommand
+        (else_err (refusal.Method page.Publication) (by_get publication verb)) result }
+    ensures lent { (text : Bor (List ℕ)) → IfOk result (HoldsText text) }
+{
+    match verb {
+        Verb::Get => Ok(Command::Publication),
+        _ => Err(Refusal::Method(Page::Publication)),
+    }
+}
+
+fn of_publication_penalty<'a>(verb: Verb) -> Result<Command<'a>, Refusal>
+    ensures asked { GivesCommand
+        (else_err (refusal.Method page.PublicationPenalty) (by_get publication_penalty verb)) result }
+    ensures lent { (text : Bor (List ℕ)) → IfOk result (HoldsText text) }
+{
+    match verb {
+        Verb::Get => Ok(Command::PublicationPenalty),
+        _ => Err(Refusal::Method(Page::PublicationPenalty)),
+    }
+}
+
+fn of_publication_rooms<'a>(verb: Verb) -> Result<Command<'a>, Refusal>
+    ensures asked { GivesCommand
+        (else_err (refusal.Method page.PublicationRooms) (by_get publication_rooms verb)) result }
+    ensures lent { (text : Bor (List ℕ)) → IfOk result (HoldsText text) }
+{
+    match verb {
+        Verb::Get => Ok(Command::PublicationRooms),
+        _ => Err(Refusal::Method(Page::PublicationRooms)),
+    }
+}
+
+fn of_batch<'a>(verb: Verb, number: u32, body: &'a [u8]) -> Result<Command<'a>, Refusal>
+    ensures asked { GivesCommand (else_err (refusal.Method page.Batch)
+        (by_put (batch number (text_body body.now)) verb)) result }
+    ensures lent { IfOk result (HoldsText body.entry) }
+{
+    match verb {
+        Verb::Put => Ok(Command::Batch(number, text_body(body))),
+        _ => Err(Refusal::Method(Page::Batch)),
     }
 }

@@ -8,7 +8,6 @@ mod methods;
 mod pages;
 mod paths;
 mod requests;
-mod resources;
 mod routes;
 mod texts;
 

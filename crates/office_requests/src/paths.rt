@@ -1,17 +1,32 @@
 // The segments of a path.
-ghost use Rattle.std.specs.Prelude.{◌≡◌};
+ghost use Rattle.std.specs.Prelude.{◌≡◌, Some, None, IfOk, IfErr};
 ghost use Rattle.office_requests.specs.Paths.{first_segment, behind_slash, segment, number_in};
+ghost use Rattle.office_requests.specs.declared.requests.Refusal.TheVariants as refusal;
 
+use crate::requests::Refusal;
+use exam_terms::ExamNo;
 use office_policy::read_number;
 
 const SLASH: u8 = b'/';
 
 /// The number that a segment of the path is; segments are counted from 0, and before the path's
-/// first slash there is an empty one.
-pub(crate) fn number_in(path: &[u8], place: u32) -> Option<u32>
-    ensures { result ≡ number_in place path.now }
+/// first slash there is an empty one. A path is refused where it isn't a number.
+pub(crate) fn number_in(path: &[u8], place: u32) -> Result<u32, Refusal>
+    ensures ok { IfOk result (λ n. number_in place path.now ≡ Some n) }
+    ensures err { IfErr result (λ e. e ≡ refusal.Path × (number_in place path.now ≡ None)) }
 {
-    read_number(segment(path, place))
+    match read_number(segment(path, place)) {
+        Some(number) => Ok(number),
+        None => Err(Refusal::Path),
+    }
+}
+
+/// The same of an exam.
+pub(crate) fn exam_in(path: &[u8], place: u32) -> Result<ExamNo, Refusal>
+    ensures ok { IfOk result (λ n. number_in place path.now ≡ Some n) }
+    ensures err { IfErr result (λ e. e ≡ refusal.Path × (number_in place path.now ≡ None)) }
+{
+    Ok(ExamNo::new(number_in(path, place)?))
 }
 
 #[tactic(auto, using(crate::proofs::PathLemmas::segment_later))]

@@ -4,16 +4,15 @@ ghost use Rattle.std.specs.Borrow.{Bor};
 ghost use Rattle.office_messages.specs.Reply.{plain_reply};
 ghost use Rattle.office_policy.specs.Commands.{plain_command, HoldsText, HasSmallNumbers};
 ghost use Rattle.office_requests.specs.Methods.{verb_of};
-ghost use Rattle.office_requests.specs.Resources.{resource_of};
 ghost use Rattle.office_requests.specs.Requests.{caller_in, her_page, her_command};
 ghost use Rattle.office_requests.specs.Requests.{staff_command, asked_by};
 ghost use Rattle.office_requests.specs.Requests.{reading, GivesAsked, GivesCommand};
 ghost use Rattle.office_requests.specs.Requests.{not_allowed, refusal_reply};
 
-use crate::commands::command_of;
+use crate::commands::command_at;
 use crate::methods::{Verb, allow};
 use crate::pages::Page;
-use crate::resources::{Resource, resource_at};
+use crate::paths::exam_in;
 use crate::routes::Routes;
 use crate::texts::FixedError;
 use office_messages::{Allow, Reply, Request, unavailable};
@@ -70,7 +69,6 @@ fn not_allowed(page: Page) -> Reply
 
 /// Who asks, and for what: caller, a candidate's pages, path, method, in this order. A body that
 /// is too long or doesn't read is part of the command.
-#[tactic(auto, using(crate::proofs::RequestLemmas::asked_is_ok))]
 pub fn read_request<'a>(
     alloc: Global,
     routes: &Routes,
@@ -122,27 +120,21 @@ fn her_command<'a>(routes: &Routes, verb: Verb, target: &str) -> Option<Command<
     ensures lent { (text : Bor (List ℕ)) → IfSome result (HoldsText text) }
 {
     match verb {
-        Verb::Get => her_page(resource_of(routes, target)?),
+        Verb::Get => her_page(routes.page(target)?, target.as_bytes()),
         _ => None,
     }
 }
 
-fn her_page<'a>(resource: Resource) -> Option<Command<'a>>
-    ensures command { option_map plain_command result ≡ her_page resource }
+fn her_page<'a>(page: Page, path: &[u8]) -> Option<Command<'a>>
+    ensures command { option_map plain_command result ≡ her_page page path.now }
     ensures lent { (text : Bor (List ℕ)) → IfSome result (HoldsText text) }
 {
-    match resource {
-        Resource::Me => Some(Command::Me),
-        Resource::MyExam(exam) => Some(Command::MyExam(exam)),
-        Resource::MyPenalty => Some(Command::MyPenalty),
+    match page {
+        Page::Me => Some(Command::Me),
+        Page::MyExam => Some(Command::MyExam(exam_in(path, 3).ok()?)),
+        Page::MyPenalty => Some(Command::MyPenalty),
         _ => None,
     }
-}
-
-fn resource_of(routes: &Routes, target: &str) -> Option<Resource>
-    ensures { result ≡ resource_of target.now }
-{
-    resource_at(routes.page(target)?, target.as_bytes())
 }
 
 // What the office or a department asks for.
@@ -159,14 +151,5 @@ fn staff_command<'a>(
     let Some(page) = routes.page(target) else {
         return Err(Refusal::Path);
     };
-    let Some(resource) = resource_at(page, target.as_bytes()) else {
-        return Err(Refusal::Path);
-    };
-    let Ok(command) = command_of(alloc, verb, resource, body) else {
-        return Err(Refusal::NoMemory);
-    };
-    match command {
-        Some(command) => Ok(command),
-        None => Err(Refusal::Method(page)),
-    }
+    command_at(alloc, page, verb, target.as_bytes(), body)
 }

@@ -1,8 +1,9 @@
 use Rattle.std.proofs.Common.{subst, Result}
-use Rattle.std.specs.Prelude.{IfOk}
+use Rattle.std.specs.Prelude.{IfOk, option_copied}
 use Rattle.office_policy.specs.Commands.{PlainCommand, HasSmallNumbers}
 use Rattle.office_requests.specs.Methods.{verb_of}
 use Rattle.office_requests.specs.declared.requests.Refusal.{Refusal}
+use Rattle.office_requests.proofs.RequestLemmas.{refused}
 use Rattle.office_requests.proofs.SmallLemmas.{asked_small}
 use Rattle.office_requests.proofs.requests.read_request.Goals as goal
 
@@ -11,3 +12,9 @@ returns-in-Ok-clause-within c =
     let request = c.args.request.now in
     subst (λ (r : Result PlainCommand Refusal). IfOk r HasSmallNumbers) c.in-Ok.ensures.asked
     (asked_small c.in-Some.caller (verb_of request.method.now) request.target.now request.body.now)
+
+pub returns-in-Err-clause-asked : goal.returns-in-Err-clause-asked
+returns-in-Err-clause-asked c =
+    let request = c.args.request.now in
+    refused (option_copied request.caller) c.in-Some.caller request.method.now request.target.now
+    request.body.now c.in-Err.refusal c.in-Some.ensures c.in-Err.ensures.asked
