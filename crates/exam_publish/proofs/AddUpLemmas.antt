@@ -24,7 +24,7 @@ use Rattle.exam_publish.specs.declared.seat_row.SeatRow.{SeatRow}
 use Rattle.exam_publish.specs.declared.share_lists.RoomShare.{RoomShare}
 use Rattle.exam_publish.specs.AddUp.{AddUpTo}
 use Rattle.exam_publish.specs.Changed.{rows_of, students_of}
-use Rattle.exam_publish.specs.Rows.{AreRowsOf, RowBefore, IsAtExam}
+use Rattle.exam_publish.specs.Rows.{ArePublishedRows, RowBefore, IsAtExam}
 use Rattle.exam_publish.specs.Shares.{enrolled_in, share_of, student_shares, exam_shares, period_share, period_shares, is_in_period, is_in_room, room_share, room_shares, shares_of}
 use Rattle.exam_publish.proofs.RowLemmas.{pairs_in, are_enrolments, are_students, her_periods}
 use Rattle.exam_publish.proofs.PlaceLemmas.{rows_exist}
@@ -106,7 +106,7 @@ abbrev sittings : List SeatRow → ℕ → List ℕ
 sittings rows s = map (λ row. row.period) (rows_of s rows)
 
 -- what students' rows cost is the part of the penalty that pairs of exams make
-student_sum : (cost : ℕ → ℕ → ℕ) (I : Session) (rows : List SeatRow) (T : Placing) → IsInstance I → AreRowsOf I rows T
+student_sum : (cost : ℕ → ℕ → ℕ) (I : Session) (rows : List SeatRow) (T : Placing) → IsInstance I → ArePublishedRows I rows T
     → sum_by (λ s. candidate_cost cost (sittings rows s)) (students_of rows) ≡ pair_part cost (enrolled_in (length I.exams) rows) (period_of T)
 student_sum cost I rows T known are =
     let n = length I.exams in
@@ -120,7 +120,7 @@ student_sum cost I rows T known are =
 
 -- ---- all of it
 
-pub adds_up : (I : Session) (rows : List SeatRow) (T : Placing) → IsInstance I → AreRowsOf I rows T
+pub adds_up : (I : Session) (rows : List SeatRow) (T : Placing) → IsInstance I → ArePublishedRows I rows T
     → AddUpTo (track I (enrolled_in (length I.exams) rows) T) (shares_of I rows T)
 adds_up I rows T known are =
     let E = enrolled_in (length I.exams) rows in

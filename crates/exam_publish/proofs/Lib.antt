@@ -1,8 +1,14 @@
 pub mod ListLemmas
 pub mod PermitLemmas
 pub mod ChangedLemmas
+pub mod FreeLemmas
 pub mod SeatingLemmas
+pub mod SearchLemmas
 pub mod SeatLemmas
+pub mod NumberedLemmas
+pub mod EntrantLemmas
+pub mod HeldLemmas
+pub mod GivingLemmas
 pub mod PlaceLemmas
 pub mod RowLemmas
 pub mod StudentLemmas

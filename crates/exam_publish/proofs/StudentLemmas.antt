@@ -18,7 +18,7 @@ use Rattle.exam_score.specs.Penalty.{PersonalPenalty}
 use Rattle.exam_publish.specs.declared.seat_row.SeatRow.{SeatRow}
 use Rattle.exam_publish.specs.Changed.{rows_of, has_row, students_of, with_number}
 use Rattle.exam_publish.specs.Groups.{AreSorted, IsRun, shares_in}
-use Rattle.exam_publish.specs.Rows.{RowBefore, AreRowsOf}
+use Rattle.exam_publish.specs.Rows.{RowBefore, ArePublishedRows}
 use Rattle.exam_publish.specs.Shares.{share_of, student_shares}
 use Rattle.exam_publish.proofs.ListLemmas.{any_map, has_ascending, ascends, each_filter}
 use Rattle.exam_publish.proofs.PlaceLemmas.{rows_exist}
@@ -226,7 +226,7 @@ her_exams (r ∷ rs) s h = go (eqb r.student s) refl (her_exams rs s h.1)
     go true is more = (later_exams r rs s (eqb-true r.student s is) h.0, more)
     go false is more = more
 
-pub few_rows : (I : Session) (rows : List SeatRow) (T : Placing) (s : ℕ) → AreRowsOf I rows T → length I.exams ≤ 2000 → length (rows_of s rows) ≤ 2000
+pub few_rows : (I : Session) (rows : List SeatRow) (T : Placing) (s : ℕ) → ArePublishedRows I rows T → length I.exams ≤ 2000 → length (rows_of s rows) ≤ 2000
 few_rows I rows T s are few =
     let exams = map (λ (row : SeatRow). row.exam) (rows_of s rows) in
     let all = each_filter (λ row. row.exam < length I.exams) (λ row. eqb row.student s) rows (rows_exist I rows T are) in

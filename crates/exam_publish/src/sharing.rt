@@ -1,7 +1,7 @@
 // Who has which share of the penalty.
 ghost use Rattle.std.specs.Prelude.{◌≡◌, length, IfOk};
 ghost use Rattle.exam_publish.specs.AddUp.{AddUpTo};
-ghost use Rattle.exam_publish.specs.Rows.{AreRowsOf};
+ghost use Rattle.exam_publish.specs.Rows.{ArePublishedRows};
 ghost use Rattle.exam_publish.specs.Shares.{enrolled_in, shares_of};
 ghost use Rattle.exam_score.specs.Track.{track};
 
@@ -22,7 +22,7 @@ pub fn shares(
     rows: &[SeatRow],
     timetable: &Timetable,
 ) -> Result<Shares, AllocError>
-    requires { AreRowsOf instance.now rows.now timetable.now }
+    requires { ArePublishedRows instance.now rows.now timetable.now }
     ensures shares { IfOk result (λ shares. shares
         ≡ shares_of instance.now rows.now timetable.now) }
     ensures add_up { IfOk result (AddUpTo (track instance.now
