@@ -126,11 +126,11 @@ adds_up I rows T known are =
     let E = enrolled_in (length I.exams) rows in
     let students = students_of rows in
     let row : sum_by (λ share. share.1.row) (student_shares I rows) ≡ pair_part (row_cost I.periods I.weights) E (period_of T)
-    = sum_by_map (λ (share : ℕ × PersonalPenalty). share.1.row) (λ s. (s, share_of I rows s)) students ∙ student_sum (row_cost I.periods I.weights) I rows T known are in
+    = sum_by_map (λ (share : ℕ × PersonalPenalty). share.1.row) (λ s. (s, share_of I.periods I.weights (rows_of s rows))) students ∙ student_sum (row_cost I.periods I.weights) I rows T known are in
     let day : sum_by (λ share. share.1.day) (student_shares I rows) ≡ pair_part (day_cost I.periods I.weights) E (period_of T)
-    = sum_by_map (λ (share : ℕ × PersonalPenalty). share.1.day) (λ s. (s, share_of I rows s)) students ∙ student_sum (day_cost I.periods I.weights) I rows T known are in
+    = sum_by_map (λ (share : ℕ × PersonalPenalty). share.1.day) (λ s. (s, share_of I.periods I.weights (rows_of s rows))) students ∙ student_sum (day_cost I.periods I.weights) I rows T known are in
     let spread : sum_by (λ share. share.1.spread) (student_shares I rows) ≡ pair_part (spread_cost I.periods I.weights) E (period_of T)
-    = sum_by_map (λ (share : ℕ × PersonalPenalty). share.1.spread) (λ s. (s, share_of I rows s)) students ∙ student_sum (spread_cost I.periods I.weights) I rows T known are in
+    = sum_by_map (λ (share : ℕ × PersonalPenalty). share.1.spread) (λ s. (s, share_of I.periods I.weights (rows_of s rows))) students ∙ student_sum (spread_cost I.periods I.weights) I rows T known are in
     let mixed : sum_by (λ share. share.mixed) (room_shares I T) ≡ sum_below (length I.rooms) (room_mixed I T)
     = range_sum (λ (share : RoomShare). share.mixed) (room_share I T) (length I.rooms) in
     let front : sum (exam_shares I rows T) ≡ sum_below (length I.exams) (exam_front I E T)

@@ -1,7 +1,7 @@
 -- The entrants of one exam more, and what all of them keep.
 use Rattle.std.specs.Prelude.{IfSome, slice_get}
 use Rattle.std.specs.List.{AllByRecursion, cons_option}
-use Rattle.std.proofs.Common.{◌≡◌, ℕ, zero, suc, ◌+◌, ◌<◌, ◌≤◌, List, [], ◌∷◌, ◌++◌, length, map, take, filter_map, Option, Some, None, option_map, All, AllPairs, Contains, refl, sym, ◌∙◌, ap, ap₂, subst, arith, append-nil}
+use Rattle.std.proofs.Common.{◌≡◌, ℕ, zero, suc, ◌+◌, ◌<◌, ◌≤◌, List, [], ◌∷◌, ◌++◌, length, map, take, Option, Some, None, option_map, All, Contains, refl, sym, ◌∙◌, ap, ap₂, subst, arith, append-nil}
 use Rattle.std.proofs.lemmas.List.Elements.{filter_map-append, All-from_recursion, recursion_from_All, All-contains}
 use Rattle.exam_model.specs.Enrolments.{Enrolled, AreEnrolments, students}
 use Rattle.exam_model.specs.Fits.{Fits, PlaceExists}

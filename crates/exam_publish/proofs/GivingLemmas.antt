@@ -1,18 +1,16 @@
 -- Seats given out along the entrants: what is done, and what is left beside the rows that stand.
 use Rattle.std.specs.Prelude.{slice_set, slice_index, replicate, unwrap_or, is_some}
-use Rattle.std.specs.List.{list_any}
-use Rattle.std.proofs.Common.{◌≡◌, ℕ, suc, ◌+◌, ◌*◌, ◌<◌, ◌≤◌, ◌⊎◌, inl, inr, Bool, true, false, cond, ◌&&◌, eqb, List, [], ◌∷◌, ◌++◌, length, drop, get_or, Option, None, Some, refl, sym, ◌∙◌, ap, ap₂, subst, arith, append_assoc, eqb-true}
-use Rattle.std.proofs.lemmas.Bool.{cases_eq, and_from, and_parts, eq-eqb, false_from_ne_true}
+use Rattle.std.proofs.Common.{◌≡◌, ℕ, ◌+◌, ◌*◌, ◌<◌, ◌≤◌, ◌⊎◌, inl, inr, Bool, true, false, cond, eqb, List, [], ◌∷◌, ◌++◌, length, drop, get_or, None, Some, refl, sym, ◌∙◌, ap, ap₂, subst, arith, append_assoc, eqb-true}
+use Rattle.std.proofs.lemmas.Bool.{cases_eq, and_parts, false_from_ne_true}
 use Rattle.std.proofs.lemmas.List.{at_drop_more, length-replicate, length-set, get_or-set_same, get_or-set_other}
 use Rattle.std.proofs.lemmas.Nat.{same_from_place}
 use Rattle.exam_terms.specs.declared.place.Place.{Place}
-use Rattle.exam_model.specs.Enrolments.{has_student}
 use Rattle.exam_rules.specs.Places.{is_one_place}
 use Rattle.exam_publish.specs.declared.entrants.Entrant.{Entrant}
 use Rattle.exam_publish.specs.declared.held.Held.{Held}
 use Rattle.exam_publish.specs.declared.seat_row.SeatRow.{SeatRow}
 use Rattle.exam_publish.specs.Rows.{row_place}
-use Rattle.exam_publish.specs.Seating.{slot_of, is_held, AreHeld, IsNextFree, IsLast, AreLast}
+use Rattle.exam_publish.specs.Seating.{slot_of, AreHeld, IsNextFree, IsLast, AreLast}
 use Rattle.exam_publish.specs.Seats.{kept_rows, seats_at, least_free, new_row, rows_beside, rows_for}
 use Rattle.exam_publish.proofs.FreeLemmas.{IsNext, is_next, last_here, last_there, le_taken, length_seats}
 use Rattle.exam_publish.proofs.SeatLemmas.{same_place, length_filter_map}

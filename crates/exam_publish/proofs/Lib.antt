@@ -17,3 +17,4 @@ pub mod SizeLemmas
 pub mod DurationLemmas
 pub mod AddUpLemmas
 pub mod PublishedLemmas
+pub mod ShareLemmas

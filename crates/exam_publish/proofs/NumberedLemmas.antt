@@ -1,7 +1,6 @@
 -- Where no seat is kept, each pair has the next number of its room and period.
 use Rattle.std.specs.List.{cons_option}
-use Rattle.std.proofs.Common.{◌≡◌, ℕ, ◌+◌, ◌<◌, ◌≤◌, Bool, true, false, cond, ◌&&◌, eqb, List, [], ◌∷◌, ◌++◌, Option, None, Some, option_map, count_by, refl, sym, ◌∙◌, ap, ap₂, subst, arith}
-use Rattle.std.proofs.lemmas.Bool.{and_from, eq-eqb}
+use Rattle.std.proofs.Common.{◌≡◌, ℕ, ◌+◌, Bool, true, false, cond, List, [], ◌∷◌, ◌++◌, Option, None, Some, option_map, count_by, refl, sym, ◌∙◌, ap, ap₂, subst, arith}
 use Rattle.std.proofs.lemmas.List.Sums.{sum_by_push}
 use Rattle.exam_terms.specs.declared.place.Place.{Place}
 use Rattle.exam_model.specs.Enrolments.{Enrolled, AreEnrolments}
@@ -10,14 +9,13 @@ use Rattle.exam_model.specs.Timetable.{Placing, place_of}
 use Rattle.exam_model.proofs.PairLemmas.{are_pairs}
 use Rattle.exam_model.proofs.SumLemmas.{chain_from_index}
 use Rattle.exam_rules.specs.Places.{where_placed, is_one_place}
-use Rattle.exam_publish.specs.declared.entrants.Entrant.{Entrant}
 use Rattle.exam_publish.specs.declared.seat_row.SeatRow.{SeatRow}
 use Rattle.exam_publish.specs.Numbered.{sits_at, row_with, numbered_rows}
 use Rattle.exam_publish.specs.Rows.{row_place}
 use Rattle.exam_publish.specs.Seating.{IsLast}
 use Rattle.exam_publish.specs.Seats.{entrant, entrants, kept_rows, seats_at, least_free, new_row, rows_beside, seat_rows}
 use Rattle.exam_publish.proofs.FreeLemmas.{IsNext, is_next, last_here, last_there}
-use Rattle.exam_publish.proofs.SeatLemmas.{one_place, same_place}
+use Rattle.exam_publish.proofs.SeatLemmas.{one_place}
 use Rattle.exam_publish.proofs.SeatingLemmas.{rows_after, numbered}
 
 none_kept : (T : Placing) (ps : List Pair) → kept_rows (entrants ps T []) ≡ []

@@ -1,6 +1,6 @@
 -- The rows of a timetable that may be published are the enrolments that it was published with.
 use Rattle.std.specs.List.{list_any}
-use Rattle.std.proofs.Common.{◌≡◌, List, length, None, refl, sym, ◌∙◌, ap, arith}
+use Rattle.std.proofs.Common.{◌≡◌, List, length, None, sym, ◌∙◌, ap, arith}
 use Rattle.std.proofs.lemmas.List.FromFn.{length-map-range_with_len}
 use Rattle.exam_model.specs.Enrolments.{Enrolled, AreEnrolments}
 use Rattle.exam_model.specs.Fits.{Fits}

@@ -1,14 +1,14 @@
 -- What holds of all seats: each is one of its room, none is given twice, and rows are in order.
 use Rattle.std.specs.List.{AllByRecursion, cons_option, find}
 use Rattle.std.specs.Prelude.{IfSome, IsSome, is_some, is_none, slice_get, nat_lt, unwrap_or}
-use Rattle.std.proofs.Common.{◌≡◌, ℕ, zero, suc, ◌+◌, ◌<◌, ◌≤◌, inl, inr, Bool, true, false, cond, ◌&&◌, eqb, ltb, List, [], ◌∷◌, ◌++◌, length, map, get_or, Option, None, Some, option_map, count_by, filter_map, All, AllPairs, Contains, refl, sym, ◌∙◌, ap, ap₂, subst, arith, lt-ltb, eqb-true}
+use Rattle.std.proofs.Common.{◌≡◌, ℕ, zero, suc, ◌+◌, ◌<◌, ◌≤◌, inl, inr, Bool, true, false, cond, ◌&&◌, eqb, ltb, List, [], ◌∷◌, ◌++◌, length, map, get_or, Option, None, Some, option_map, count_by, filter_map, AllPairs, Contains, refl, sym, ◌∙◌, ap, ap₂, subst, arith, lt-ltb, eqb-true}
 use Rattle.std.proofs.lemmas.Bool.{and_parts, and_from, eq-eqb, cond-true, false_from_ne_true, false≢true, true≢false, cases_lt, cases_eq, or_left}
 use Rattle.std.proofs.lemmas.Bool.Decides.{nat_tests}
 use Rattle.std.proofs.lemmas.Option.{none-some}
 use Rattle.std.proofs.lemmas.List.{length-map, get_or_default}
 use Rattle.std.proofs.lemmas.List.Elements.{All-from_recursion, recursion_from_All, All-contains_itself, All-contains}
 use Rattle.std.proofs.lemmas.List.Sums.{sum_by-cons}
-use Rattle.exam_model.specs.Instance.{Session, IsInstance}
+use Rattle.exam_model.specs.Instance.{Session}
 use Rattle.exam_model.specs.Enrolments.{Enrolled, AreEnrolments, has_student}
 use Rattle.exam_model.specs.Fits.{Fits, PlaceExists}
 use Rattle.exam_model.specs.Pairs.{Pair, pairs_at, pairs_from, pairs_of, is_pair, ComesBefore, ArePairsOf}
@@ -28,8 +28,7 @@ use Rattle.exam_publish.specs.declared.seat_row.SeatRow.{SeatRow}
 use Rattle.exam_publish.specs.Numbered.{sits_at}
 use Rattle.exam_publish.specs.Permit.{publish_refusal, first_unplaced, least_breach}
 use Rattle.exam_publish.specs.Rows.{row_pair, row_place, RowBefore, RowsInOrder, IsAtExam, ArePublishedRows}
-use Rattle.exam_publish.specs.Seating.{EntrantExists, KeepsSmallSeat}
-use Rattle.exam_publish.specs.Seats.{IsSeatOf, HasSeat, HaveOwnSeats, AreSeated, is_row_at, entrant, entrants, kept_rows, seats_at, least_free, new_row, entrant_row, standing_with, rows_beside, seat_rows}
+use Rattle.exam_publish.specs.Seats.{IsSeatOf, HasSeat, HaveOwnSeats, AreSeated, is_row_at, entrant, entrants, kept_rows, seats_at, least_free, new_row, standing_with, rows_beside, seat_rows}
 use Rattle.exam_publish.proofs.FreeLemmas.{least_is, least_small, length_seats, has_seats, still_taken}
 use Rattle.exam_publish.proofs.ListLemmas.{index_from_chain}
 use Rattle.exam_publish.proofs.PermitLemmas.{neither, all_placed}

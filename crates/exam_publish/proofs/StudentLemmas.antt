@@ -160,7 +160,7 @@ no_row s (x ∷ xs) a = ap₂ (λ a b. a || b) (ne_eqb x.student s a.0) (no_row 
 
 -- one student more
 pub shared_more : (I : Session) (rows rest : List SeatRow) (shares more : List (ℕ × PersonalPenalty)) (r : SeatRow) (n : ℕ) → IsShared I rows shares rest
-    → r ≡ get_or rest 0 r → 0 < length rest → IsRun rest r.student n → more ≡ shares ++ (r.student, share_of I rows r.student) ∷ [] → IsShared I rows more (drop n rest)
+    → r ≡ get_or rest 0 r → 0 < length rest → IsRun rest r.student n → more ≡ shares ++ (r.student, share_of I.periods I.weights (rows_of r.student rows)) ∷ [] → IsShared I rows more (drop n rest)
 shared_more I rows rest shares more r n was is some run added =
     let s = r.student in
     let own = own_rows rest s n run in
@@ -171,7 +171,7 @@ shared_more I rows rest shares more r n was is some run added =
     = ap students_of (sym (take-append-drop n rest)) ∙ run_students s (take n rest) (drop n rest) (omega arith) own later in
     record {
       shared = ap (λ xs. xs ++ shares_in I rows (students_of (drop n rest))) added
-          ∙ append_assoc shares ((s, share_of I rows s) ∷ []) (shares_in I rows (students_of (drop n rest)))
+          ∙ append_assoc shares ((s, share_of I.periods I.weights (rows_of s rows)) ∷ []) (shares_in I rows (students_of (drop n rest)))
           ∙ ap (λ xs. shares ++ shares_in I rows xs) (sym students) ∙ was.shared;
       by_student = λ i j d l m. (let size = length-drop n rest in
           subst (λ (x : SeatRow). x.student ≤ (get_or (drop n rest) j d).student) (sym (get_or-drop n rest i d))

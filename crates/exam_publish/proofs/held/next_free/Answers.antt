@@ -1,6 +1,4 @@
-use Rattle.std.proofs.Common.{◌≡◌, ◌≤◌, true, arith, sym, ◌∙◌}
-use Rattle.std.specs.List.{list_any}
-use Rattle.exam_publish.specs.Seating.{is_held}
+use Rattle.std.proofs.Common.{arith, sym}
 use Rattle.exam_publish.proofs.SearchLemmas.{held_small}
 use Rattle.exam_publish.proofs.held.next_free.Goals as goal
 

@@ -1,4 +1,4 @@
-use Rattle.std.proofs.Common.{◌≡◌, ℕ, ◌+◌, ◌-◌, ◌<◌, ◌≤◌, true}
+use Rattle.std.proofs.Common.{◌≡◌, ℕ, ◌-◌, ◌<◌, ◌≤◌, true}
 use Rattle.std.specs.List.{list_any}
 use Rattle.exam_publish.specs.Seating.{is_held}
 use Rattle.exam_publish.proofs.held.next_free.Given as goal

@@ -1,10 +1,9 @@
-use Rattle.std.proofs.Common.{◌≡◌, ◌+◌, ◌*◌, ◌<◌, ◌≤◌, ◌++◌, ◌∷◌, [], None, Some, length, get_or, ap, ap₂, sym, subst, ◌∙◌, arith}
+use Rattle.std.proofs.Common.{◌≡◌, ◌+◌, ◌*◌, ◌<◌, ◌++◌, ◌∷◌, [], length, get_or, ap, ap₂, sym, subst, ◌∙◌, arith}
 use Rattle.std.specs.Prelude.{slice_set, slice_index}
 use Rattle.std.proofs.lemmas.List.{get_or_read}
 use Rattle.exam_publish.specs.Seating.{slot_of, EntrantExists}
 use Rattle.exam_publish.specs.declared.entrants.Entrant.{Entrant}
-use Rattle.exam_publish.proofs.GivingLemmas.{AreGiven, none_given, kept_given, new_given, last_small}
-use Rattle.exam_publish.proofs.SeatingLemmas.{slot_within}
+use Rattle.exam_publish.proofs.GivingLemmas.{AreGiven, none_given, new_given, last_small}
 use Rattle.exam_publish.proofs.seating.seat_all.Goals as goal
 
 pub entrants-init : goal.entrants-init

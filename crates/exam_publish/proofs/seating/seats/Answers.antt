@@ -1,7 +1,5 @@
-use Rattle.std.proofs.Common.{◌≡◌, ◌≤◌, ◌∙◌, List, Result, Ok, Err, IfOk, length, map, All, ap, sym, subst, refl, arith}
-use Rattle.exam_model.specs.Pairs.{Pair, pairs_of}
-use Rattle.exam_model.specs.Instance.{Session}
-use Rattle.exam_model.specs.Timetable.{Placing}
+use Rattle.std.proofs.Common.{◌≡◌, ◌≤◌, ◌∙◌, List, length, map, All, ap, sym, subst}
+use Rattle.exam_model.specs.Pairs.{pairs_of}
 use Rattle.exam_publish.specs.declared.seat_row.SeatRow.{SeatRow}
 use Rattle.exam_publish.specs.declared.entrants.Entrant.{Entrant}
 use Rattle.exam_publish.specs.Rows.{ArePublishedRows, row_pair}
