@@ -8,8 +8,7 @@ use Rattle.exam_model.specs.Pairs.{Pair, ComesBefore}
 use Rattle.exam_model.proofs.SumLemmas.{IsChain, chain_from_index, each_weaker}
 use Rattle.exam_model.proofs.SameSet.{same_list}
 use Rattle.exam_publish.specs.declared.seat_row.SeatRow.{SeatRow}
-use Rattle.exam_publish.specs.Rows.{RowBefore, RowsInOrder, row_pair}
-use Rattle.exam_publish.specs.Seats.{comes_before}
+use Rattle.exam_publish.specs.Rows.{comes_before, RowBefore, RowsInOrder, row_pair}
 use Rattle.exam_publish.specs.Changed.{rows_of, has_row, same_row, same_rows, is_changed, students_of, changed_students}
 use Rattle.exam_publish.proofs.ListLemmas.{each_filter, chain_filter, any_map, has_filter, has_ascending, chain_ascending, ascending_from_chain}
 

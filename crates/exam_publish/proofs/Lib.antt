@@ -1,8 +1,14 @@
 pub mod ListLemmas
 pub mod PermitLemmas
 pub mod ChangedLemmas
+pub mod FreeLemmas
 pub mod SeatingLemmas
+pub mod SearchLemmas
 pub mod SeatLemmas
+pub mod NumberedLemmas
+pub mod EntrantLemmas
+pub mod HeldLemmas
+pub mod GivingLemmas
 pub mod PlaceLemmas
 pub mod RowLemmas
 pub mod StudentLemmas
@@ -11,3 +17,4 @@ pub mod SizeLemmas
 pub mod DurationLemmas
 pub mod AddUpLemmas
 pub mod PublishedLemmas
+pub mod ShareLemmas

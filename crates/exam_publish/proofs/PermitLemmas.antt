@@ -1,14 +1,18 @@
 -- The first exam without a place, and what a refusal says.
-use Rattle.std.proofs.Common.{◌≡◌, ℕ, ◌<◌, ◌≤◌, inl, inr, cond, not, Option, Some, None, length, refl, sym, ◌∙◌, ap, arith, lt-ltb, le-ltb}
-use Rattle.std.specs.Prelude.{IsSome, is_some, is_none, nat_lt}
+use Rattle.std.proofs.Common.{true, false, List, [], ◌∷◌, Contains, ◌≡◌, ℕ, ◌<◌, ◌≤◌, inl, inr, cond, not, Option, Some, None, length, refl, sym, ◌∙◌, ap, arith, lt-ltb, le-ltb}
+use Rattle.std.specs.Prelude.{slice_get, IsSome, is_some, is_none, nat_lt}
 use Rattle.std.specs.List.{position_or_len}
-use Rattle.std.proofs.lemmas.Bool.{cases_lt, not-false}
+use Rattle.std.proofs.lemmas.Bool.{cases_lt, not-false, false_from_ne_true}
 use Rattle.std.proofs.lemmas.Option.{none-some}
 use Rattle.std.proofs.lemmas.List.Sums.{position_or_len_is, fails_before_first}
+use Rattle.exam_model.specs.Enrolments.{Enrolled}
+use Rattle.exam_model.specs.Instance.{Session}
 use Rattle.exam_model.specs.Timetable.{Placing, place_of, IsFirstUnplaced}
 use Rattle.exam_rules.specs.declared.breach.Breach.{Breach}
+use Rattle.exam_rules.specs.Breaches.{breaches_of, is_breach}
+use Rattle.exam_rules.proofs.BreachLemmas.{breaches_have}
 use Rattle.exam_publish.specs.declared.fault.PublishFault.TheVariants.{Broken, Unplaced}
-use Rattle.exam_publish.specs.Permit.{first_unplaced, first_fault}
+use Rattle.exam_publish.specs.Permit.{first_unplaced, publish_fault}
 
 first_is : (T : Placing) (e : ℕ) → e ≤ length T → ((k : ℕ) → k < e → IsSome (place_of T k))
     → (e < length T → place_of T e ≡ None) → position_or_len is_none T ≡ e
@@ -36,7 +40,27 @@ all_placed T none e within =
     ]
 
 -- without a refusal there is neither an exam without a place nor a breach
-pub neither : (e : Option ℕ) (b : Option Breach) → first_fault e b ≡ None → (e ≡ None) × (b ≡ None)
+pub neither : (e : Option ℕ) (b : Option Breach) → publish_fault e b ≡ None → (e ≡ None) × (b ≡ None)
 neither None None h = (refl, refl)
 neither None (Some b) h = absurd (none-some (Broken b) (sym h))
 neither (Some e) b h = absurd (none-some (Unplaced e) (sym h))
+
+-- where there is no first breach, there is none
+pub none_broken : (I : Session) (E : Enrolled) (T : Placing) → length T ≡ length I.exams → slice_get (breaches_of I E T) 0 ≡ None → (b : Breach) → is_breach I E T b ≡ false
+none_broken I E T same none b =
+    false_from_ne_true (is_breach I E T b) (λ h. not_there (breaches_of I E T) none ((breaches_have I E T same b).1 h))
+  where
+    not_there : (xs : List Breach) → slice_get xs 0 ≡ None → Contains xs b → ⊥
+    not_there [] h there = let l = there.1 in absurd (omega arith)
+    not_there (x ∷ xs) h there = absurd (none-some x (sym h))
+
+-- the first breach is one
+pub first_broken : (I : Session) (E : Enrolled) (T : Placing) (b : Breach) → length T ≡ length I.exams → slice_get (breaches_of I E T) 0 ≡ Some b → is_breach I E T b ≡ true
+first_broken I E T b same first = (breaches_have I E T same b).0 (at_front (breaches_of I E T) first)
+  where
+    at_front : (xs : List Breach) → slice_get xs 0 ≡ Some b → Contains xs b
+    at_front [] h = absurd (none-some b h)
+    at_front (x ∷ xs) h = (0, omega arith, some_same h)
+      where
+        some_same : Some x ≡ Some b → x ≡ b
+        some_same h = cc

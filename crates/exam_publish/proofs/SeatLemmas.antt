@@ -1,16 +1,17 @@
 -- What holds of all seats: each is one of its room, none is given twice, and rows are in order.
-use Rattle.std.specs.List.{AllByRecursion, cons_option}
-use Rattle.std.proofs.Common.{◌≡◌, ℕ, zero, suc, ◌+◌, ◌<◌, ◌≤◌, inl, inr, Bool, true, false, cond, ◌&&◌, eqb, ltb, List, [], ◌∷◌, ◌++◌, length, get_or, Option, None, Some, option_map, count_by, filter_map, All, AllPairs, Contains, refl, sym, ◌∙◌, ap, subst, arith, lt-ltb}
-use Rattle.std.specs.Prelude.{IfSome, slice_get, nat_lt}
-use Rattle.std.proofs.lemmas.Bool.{and_parts, and_from, eq-eqb, cond-true, false_from_ne_true}
+use Rattle.std.specs.List.{AllByRecursion, cons_option, find}
+use Rattle.std.specs.Prelude.{IfSome, IsSome, is_some, is_none, slice_get, nat_lt, unwrap_or}
+use Rattle.std.proofs.Common.{◌≡◌, ℕ, zero, suc, ◌+◌, ◌<◌, ◌≤◌, inl, inr, Bool, true, false, cond, ◌&&◌, eqb, ltb, List, [], ◌∷◌, ◌++◌, length, map, get_or, Option, None, Some, option_map, count_by, filter_map, AllPairs, Contains, refl, sym, ◌∙◌, ap, ap₂, subst, arith, lt-ltb, eqb-true}
+use Rattle.std.proofs.lemmas.Bool.{and_parts, and_from, eq-eqb, cond-true, false_from_ne_true, false≢true, true≢false, cases_lt, cases_eq, or_left}
 use Rattle.std.proofs.lemmas.Bool.Decides.{nat_tests}
 use Rattle.std.proofs.lemmas.Option.{none-some}
-use Rattle.std.proofs.lemmas.List.Elements.{All-from_recursion, recursion_from_All, All-contains_itself}
-use Rattle.std.proofs.lemmas.List.Sums.{sum_by-cons, sum_by-le-sum_by}
+use Rattle.std.proofs.lemmas.List.{length-map, get_or_default}
+use Rattle.std.proofs.lemmas.List.Elements.{All-from_recursion, recursion_from_All, All-contains_itself, All-contains}
+use Rattle.std.proofs.lemmas.List.Sums.{sum_by-cons}
 use Rattle.exam_model.specs.Instance.{Session}
-use Rattle.exam_model.specs.Enrolments.{Enrolled, AreEnrolments}
+use Rattle.exam_model.specs.Enrolments.{Enrolled, AreEnrolments, has_student}
 use Rattle.exam_model.specs.Fits.{Fits, PlaceExists}
-use Rattle.exam_model.specs.Pairs.{Pair, pairs_at, pairs_from, pairs_of, ComesBefore, ArePairsOf}
+use Rattle.exam_model.specs.Pairs.{Pair, pairs_at, pairs_from, pairs_of, is_pair, ComesBefore, ArePairsOf}
 use Rattle.exam_model.specs.Sums.{sum_below}
 use Rattle.exam_model.specs.Timetable.{Placing, place_of}
 use Rattle.exam_terms.specs.declared.place.Place.{Place}
@@ -22,13 +23,16 @@ use Rattle.exam_rules.specs.declared.breach.BreachRule.TheVariants.{Capacity}
 use Rattle.exam_rules.specs.Breaches.{breaches_of, is_overfull, is_too_small}
 use Rattle.exam_rules.specs.Places.{where_placed, is_one_place, load_at}
 use Rattle.exam_rules.proofs.BreachLemmas.{breaches_have}
+use Rattle.exam_publish.specs.declared.entrants.Entrant.{Entrant}
 use Rattle.exam_publish.specs.declared.seat_row.SeatRow.{SeatRow}
+use Rattle.exam_publish.specs.Numbered.{sits_at}
 use Rattle.exam_publish.specs.Permit.{publish_refusal, first_unplaced, least_breach}
-use Rattle.exam_publish.specs.Rows.{RowBefore, IsAtExam, AreRowsOf}
-use Rattle.exam_publish.specs.Seats.{comes_before, sits_at, seat_number, row_with, seat_row, seat_rows, IsSeatOf, HasSeat, HaveOwnSeats}
+use Rattle.exam_publish.specs.Rows.{row_pair, row_place, RowBefore, RowsInOrder, IsAtExam, ArePublishedRows}
+use Rattle.exam_publish.specs.Seats.{IsSeatOf, HasSeat, HaveOwnSeats, AreSeated, is_row_at, entrant, entrants, kept_rows, seats_at, least_free, new_row, standing_with, rows_beside, seat_rows}
+use Rattle.exam_publish.proofs.FreeLemmas.{least_is, least_small, length_seats, has_seats, still_taken}
 use Rattle.exam_publish.proofs.ListLemmas.{index_from_chain}
 use Rattle.exam_publish.proofs.PermitLemmas.{neither, all_placed}
-use Rattle.exam_publish.proofs.SeatingLemmas.{before_itself, length_pairs}
+use Rattle.exam_publish.proofs.SeatingLemmas.{length_pairs}
 
 -- ---- along a list of what may be missing
 
@@ -49,99 +53,271 @@ chain_filter_map {X} R f (x ∷ xs) h = go (f x) h.0 (chain_filter_map R f xs h.
     go None k more = more
     go (Some r) k more = (each_filter_map (R r) f xs k, more)
 
-length_filter_map : {X Y : Type 0} (f : X → Option Y) (xs : List X) → length (filter_map f xs) ≤ length xs
+pub each_all : {X : Type 0} (P : X → Type 0) → ((x : X) → P x) → (xs : List X) → AllByRecursion P xs
+each_all P h [] = tt
+each_all P h (x ∷ xs) = (h x, each_all P h xs)
+
+both_each : {X : Type 0} (P Q : X → Type 0) (xs : List X) → AllByRecursion P xs → AllByRecursion Q xs → AllByRecursion (λ x. P x × Q x) xs
+both_each P Q [] a b = tt
+both_each P Q (x ∷ xs) a b = ((a.0, b.0), both_each P Q xs a.1 b.1)
+
+pub length_filter_map : {X Y : Type 0} (f : X → Option Y) (xs : List X) → length (filter_map f xs) ≤ length xs
 length_filter_map f [] = omega arith
 length_filter_map f (x ∷ xs) =
     let more = length_filter_map f xs in
     elim (f x) as (λ o. length (cons_option o (filter_map f xs)) ≤ length (x ∷ xs)) [ None ↦ omega arith | Some y ↦ omega arith ]
 
 -- a chain whose elements all keep something
-chain_with_each : {X : Type 0} (P : X → Type 0) (R : X → X → Type 0) (xs : List X) → AllByRecursion P xs → IsChain R xs → IsChain (λ x y. P x × R x y) xs
+chain_with_each : {X : Type 0} (P : X → Type 0) (R : X → X → Type 0) (xs : List X) → AllByRecursion P xs → IsChain R xs
+    → IsChain (λ x y. P x × (P y × R x y)) xs
 chain_with_each P R [] a h = tt
-chain_with_each P R (x ∷ xs) a h = (each_weaker (R x) (λ y. P x × R x y) (λ y k. (a.0, k)) xs h.0, chain_with_each P R xs a.1 h.1)
+chain_with_each P R (x ∷ xs) a h =
+    (each_weaker (λ y. P y × R x y) (λ y. P x × (P y × R x y)) (λ y k. (a.0, k)) xs (both_each P (R x) xs a.1 h.0), chain_with_each P R xs a.1 h.1)
 
--- ---- counts
+each_unmap : {X Y : Type 0} (P : Y → Type 0) (f : X → Y) (xs : List X) → AllByRecursion P (map f xs) → AllByRecursion (λ x. P (f x)) xs
+each_unmap P f [] h = tt
+each_unmap P f (x ∷ xs) h = (h.0, each_unmap P f xs h.1)
 
-le_cond : (a b : Bool) → (a ≡ true → b ≡ true) → ◌≤◌ (cond a 1 0) (cond b 1 0)
-le_cond true b h = rw (h refl) (omega arith)
-le_cond false b h = omega arith
+chain_unmap : {X Y : Type 0} (R : Y → Y → Type 0) (f : X → Y) (xs : List X) → IsChain R (map f xs) → IsChain (λ x y. R (f x) (f y)) xs
+chain_unmap R f [] h = tt
+chain_unmap R f (x ∷ xs) h = (each_unmap (R (f x)) f xs h.0, chain_unmap R f xs h.1)
 
-count_le : {X : Type 0} (f g : X → Bool) → ((x : X) → f x ≡ true → g x ≡ true) → (xs : List X) → count_by f xs ≤ count_by g xs
-count_le f g h xs = sum_by-le-sum_by (λ x. cond (f x) 1 0) (λ x. cond (g x) 1 0) xs (λ x. le_cond (f x) (g x) (h x))
+some_weaker : {X : Type 0} (P Q : X → Type 0) → ((x : X) → P x → Q x) → (o : Option X) → IfSome o P → IfSome o Q
+some_weaker P Q h None k = tt
+some_weaker P Q h (Some x) k = h x k
 
--- where one element passes only the weaker test, that counts more
-count_less : {X : Type 0} (f g : X → Bool) → ((x : X) → f x ≡ true → g x ≡ true) → (x : X) → f x ≡ false → g x ≡ true → (xs : List X)
-    → (k : ℕ) → k < length xs → get_or xs k x ≡ x → count_by f xs + 1 ≤ count_by g xs
-count_less f g h x out inn [] k l is = absurd (omega arith)
-count_less f g h x out inn (y ∷ ys) zero l is =
-    let a = sum_by-cons (λ x. cond (f x) 1 0) y ys in
-    let b = sum_by-cons (λ x. cond (g x) 1 0) y ys in
-    let rest = count_le f g h ys in
-    let none : ◌≡◌ {A = ℕ} (cond (f y) 1 0) 0 = ap (λ z. cond (f z) 1 0) is ∙ ap (λ c. cond c 1 0) out in
-    let one : ◌≡◌ {A = ℕ} (cond (g y) 1 0) 1 = ap (λ z. cond (g z) 1 0) is ∙ ap (λ c. cond c 1 0) inn in
-    omega arith
-count_less f g h x out inn (y ∷ ys) (suc k) l is =
-    let a = sum_by-cons (λ x. cond (f x) 1 0) y ys in
-    let b = sum_by-cons (λ x. cond (g x) 1 0) y ys in
-    let rest = count_less f g h x out inn ys k (omega arith) is in
-    let here = le_cond (f y) (g y) (h y) in
-    omega arith
+-- what is found is one that passes, and keeps what all keep
+find_keeps : {X : Type 0} (P : X → Type 0) (t : X → Bool) (xs : List X) → AllByRecursion P xs → IfSome (find t xs) (λ x. P x × (t x ≡ true))
+find_keeps P t [] a = tt
+find_keeps {X} P t (x ∷ xs) a = go (t x) refl (find_keeps P t xs a.1)
+  where
+    go : (b : Bool) → t x ≡ b → IfSome (find t xs) (λ x. P x × (t x ≡ true)) → IfSome (cond b (Some x) (find t xs)) (λ x. P x × (t x ≡ true))
+    go true is more = (a.0, is)
+    go false is more = more
 
--- ---- seats of one place
+-- ---- entrants
 
--- a seat is at most the number of pairs there
-seat_small : (pairs : List Pair) (T : Placing) (at : Place) (p : Pair) → Contains pairs p → sits_at T at p ≡ true
-    → seat_number pairs T at p ≤ count_by (sits_at T at) pairs
-seat_small pairs T at p there here =
-    count_less (λ q. comes_before q p && sits_at T at q) (sits_at T at) (λ q h. (and_parts (comes_before q p) (sits_at T at q) h).1)
-    p (ap (λ b. b && sits_at T at p) (before_itself p)) here pairs there.0 there.1 there.2
+-- an entrant at her exam's place, who keeps a row of her own there
+pub record IsFair (T : Placing) (old : List SeatRow) (x : Entrant) : Type 0 where
+  pub at_exam : place_of T x.exam ≡ Some x.place
+  pub pair : IfSome x.kept (λ row. row_pair row ≡ record { exam = x.exam; student = x.student })
+  pub place : IfSome x.kept (λ row. row_place row ≡ x.place)
+  pub from_old : IfSome x.kept (Contains old)
 
-before_true : (p q : Pair) → ComesBefore p q → comes_before p q ≡ true
-before_true p q h = elim h as (λ _. comes_before p q ≡ true) [ inl less ↦ grind (arith, nat_tests) | inr same ↦ grind (arith, nat_tests) ]
+pub one_place : (at q : Place) → is_one_place at q ≡ true → q ≡ at
+one_place at q h =
+    let parts = and_parts (eqb at.period q.period) (eqb at.room q.room) h in
+    fields (eqb-true at.period q.period parts.0) (eqb-true at.room q.room parts.1)
+  where
+    fields : at.period ≡ q.period → at.room ≡ q.room → q ≡ at
+    fields a b = λ i. record { period = sym a i; room = sym b i }
 
-before_along : (r p q : Pair) → comes_before r p ≡ true → comes_before p q ≡ true → comes_before r q ≡ true
-before_along r p q h k = grind (arith, nat_tests, h, k)
+one_pair : (row : SeatRow) (p : Pair) → is_pair row.student row.exam p ≡ true → row_pair row ≡ p
+one_pair row p h =
+    let parts = and_parts (eqb p.student row.student) (eqb p.exam row.exam) h in
+    fields (eqb-true p.student row.student parts.0) (eqb-true p.exam row.exam parts.1)
+  where
+    fields : p.student ≡ row.student → p.exam ≡ row.exam → row_pair row ≡ p
+    fields a b = λ i. record { exam = sym b i; student = sym a i }
 
--- a later pair there has a greater seat
-seats_rise : (pairs : List Pair) (T : Placing) (at : Place) (p q : Pair) → Contains pairs p → ComesBefore p q → sits_at T at p ≡ true
-    → seat_number pairs T at p < seat_number pairs T at q
-seats_rise pairs T at p q there before here =
-    let first = before_true p q before in
-    let more = count_less (λ r. comes_before r p && sits_at T at r) (λ r. comes_before r q && sits_at T at r)
-    (λ r h. let parts = and_parts (comes_before r p) (sits_at T at r) h in and_from (comes_before r q) (sits_at T at r) (before_along r p q parts.0 first) parts.1)
-    p (ap (λ b. b && sits_at T at p) (before_itself p)) (and_from (comes_before p q) (sits_at T at p) first here) pairs there.0 there.1 there.2 in
-    omega arith
+fair : (T : Placing) (old : List SeatRow) (p : Pair) (at : Place) → place_of T p.exam ≡ Some at → IsFair T old (entrant old p at)
+fair T old p at here =
+    let found = find_keeps (Contains old) (is_row_at p at) old (recursion_from_All (Contains old) old (All-contains_itself old)) in
+    let parts : (row : SeatRow) → is_row_at p at row ≡ true → (is_pair row.student row.exam p ≡ true) × (is_one_place at (row_place row) ≡ true)
+    = λ row h. and_parts (is_pair row.student row.exam p) (is_one_place at (row_place row)) h in
+    record {
+      at_exam = here;
+      pair = some_weaker (λ row. Contains old row × (is_row_at p at row ≡ true)) (λ row. row_pair row ≡ p) (λ row k. one_pair row p (parts row k.1).0) (find (is_row_at p at) old) found;
+      place = some_weaker (λ row. Contains old row × (is_row_at p at row ≡ true)) (λ row. row_place row ≡ at) (λ row k. one_place at (row_place row) (parts row k.1).1) (find (is_row_at p at) old) found;
+      from_old = some_weaker (λ row. Contains old row × (is_row_at p at row ≡ true)) (Contains old) (λ row k. k.0) (find (is_row_at p at) old) found;
+    }
 
-same_place : (at : Place) → is_one_place at at ≡ true
+-- what holds of each pair's entrant holds of all
+pub each_entrant : (P : Entrant → Type 0) (T : Placing) (old : List SeatRow) (pairs : List Pair)
+    → AllByRecursion (λ p. (at : Place) → place_of T p.exam ≡ Some at → P (entrant old p at)) pairs → AllByRecursion P (entrants pairs T old)
+each_entrant P T old pairs all =
+    each_filter_map P (λ p. option_map (entrant old p) (place_of T p.exam)) pairs
+    (each_weaker (λ (p : Pair). (at : Place) → place_of T p.exam ≡ Some at → P (entrant old p at)) (λ p. IfSome (option_map (entrant old p) (place_of T p.exam)) P)
+    (λ p h. go p (place_of T p.exam) refl h) pairs all)
+  where
+    go : (p : Pair) (o : Option Place) → place_of T p.exam ≡ o → ((at : Place) → place_of T p.exam ≡ Some at → P (entrant old p at)) → IfSome (option_map (entrant old p) o) P
+    go p None is h = tt
+    go p (Some at) is h = h at is
+
+pub all_fair : (T : Placing) (old : List SeatRow) (pairs : List Pair) → AllByRecursion (IsFair T old) (entrants pairs T old)
+all_fair T old pairs =
+    each_entrant (IsFair T old) T old pairs (each_all (λ (p : Pair). (at : Place) → place_of T p.exam ≡ Some at → IsFair T old (entrant old p at)) (λ p at here. fair T old p at here) pairs)
+
+-- where each exam has a place, each pair has its entrant
+pub entrant_pairs : (T : Placing) (old : List SeatRow) (pairs : List Pair) → AllByRecursion (λ p. IsSome (place_of T p.exam)) pairs
+    → map (λ (x : Entrant). record { exam = x.exam; student = x.student }) (entrants pairs T old) ≡ pairs
+entrant_pairs T old [] h = refl
+entrant_pairs T old (p ∷ ps) h = go (place_of T p.exam) h.0 (entrant_pairs T old ps h.1)
+  where
+    go : (o : Option Place) → is_some o ≡ true → map (λ (x : Entrant). record { exam = x.exam; student = x.student }) (entrants ps T old) ≡ ps
+        → map (λ (x : Entrant). record { exam = x.exam; student = x.student }) (cons_option (option_map (entrant old p) o) (entrants ps T old)) ≡ p ∷ ps
+    go None k more = absurd (false≢true k)
+    go (Some at) k more = ap (λ qs. p ∷ qs) more
+
+-- ---- rows of their entrants
+
+pub rows_pairs : (T : Placing) (old standing : List SeatRow) (xs : List Entrant) → AllByRecursion (IsFair T old) xs
+    → map row_pair (rows_beside standing xs) ≡ map (λ (x : Entrant). record { exam = x.exam; student = x.student }) xs
+rows_pairs T old standing [] h = refl
+rows_pairs T old standing (x ∷ xs) h =
+    ap₂ (λ p ps. p ∷ ps) (go x.kept h.0.pair) (rows_pairs T old (standing_with standing x) xs h.1)
+  where
+    go : (o : Option SeatRow) → IfSome o (λ row. row_pair row ≡ record { exam = x.exam; student = x.student })
+        → row_pair (unwrap_or o (new_row standing x)) ≡ record { exam = x.exam; student = x.student }
+    go None k = refl
+    go (Some row) k = k
+
+rows_at_exams : (T : Placing) (old standing : List SeatRow) (xs : List Entrant) → AllByRecursion (IsFair T old) xs
+    → AllByRecursion (IsAtExam T) (rows_beside standing xs)
+rows_at_exams T old standing [] h = tt
+rows_at_exams T old standing (x ∷ xs) h = (go x.kept h.0.pair h.0.place, rows_at_exams T old (standing_with standing x) xs h.1)
+  where
+    go : (o : Option SeatRow) → IfSome o (λ row. row_pair row ≡ record { exam = x.exam; student = x.student }) → IfSome o (λ row. row_place row ≡ x.place)
+        → IsAtExam T (unwrap_or o (new_row standing x))
+    go None k l = h.0.at_exam
+    go (Some row) k l = ap (λ (p : Pair). place_of T p.exam) k ∙ h.0.at_exam ∙ ap (λ q. Some q) (sym l)
+
+-- ---- seats within the room
+
+abbrev pub is_new_at : Place → Entrant → Bool
+is_new_at at x = is_none x.kept && is_one_place at x.place
+
+pub same_place : (at : Place) → is_one_place at at ≡ true
 same_place at = and_from (eqb at.period at.period) (eqb at.room at.room) (eq-eqb at.period at.period refl) (eq-eqb at.room at.room refl)
 
-sits : (T : Placing) (p : Pair) (at : Place) → place_of T p.exam ≡ Some at → sits_at T at p ≡ true
-sits T p at here = ap (where_placed (is_one_place at)) here ∙ same_place at
+-- seats that a room has, where there are no more rows than it has seats
+abbrev Has : Session → List SeatRow → Type 0
+Has I rows = AllByRecursion (HasSeat I) rows
 
-one_place : (at q : Place) → at.period ≡ q.period → at.room ≡ q.room → at ≡ q
-one_place at q a b = λ i. record { period = a i; room = b i }
+-- as many as stand there and are still to come
+abbrev IsRoomFor : (Place → ℕ) → List SeatRow → List Entrant → Type 0
+IsRoomFor most standing xs = (at : Place) → length (seats_at at standing) + count_by (is_new_at at) xs ≤ most at
 
-own_seats : (pairs : List Pair) (T : Placing) (p q : Pair) → Contains pairs p × ComesBefore p q
-    → IfSome (seat_row pairs T p) (λ r. IfSome (seat_row pairs T q) (HaveOwnSeats r))
-own_seats pairs T p q h = go (place_of T p.exam) refl (place_of T q.exam)
+rows_within : (I : Session) (most : Place → ℕ) (standing : List SeatRow) (xs : List Entrant) → IsRoomFor most standing xs → Has I (kept_rows xs)
+    → AllByRecursion (λ (x : Entrant). (n : ℕ) → 1 ≤ n → n ≤ most x.place → IsSeatOf (slice_get I.rooms x.place.room) n) xs → Has I (rows_beside standing xs)
+rows_within I most standing [] room kept fits = tt
+rows_within I most standing (x ∷ xs) room kept fits = step x.kept room kept (λ s r k. rows_within I most s xs r k fits.1)
   where
-    go : (o : Option Place) → place_of T p.exam ≡ o → (u : Option Place)
-        → IfSome (option_map (λ at. row_with p at (seat_number pairs T at p)) o) (λ r. IfSome (option_map (λ at. row_with q at (seat_number pairs T at q)) u) (HaveOwnSeats r))
-    go None is u = tt
-    go (Some at) is None = tt
-    go (Some at) is (Some other) = λ a b c.
-        let same = one_place at other a b in
-        let less = seats_rise pairs T at p q h.0 h.1 (sits T p at is) in
-        let equal : seat_number pairs T at p ≡ seat_number pairs T at q = c ∙ ap (λ z. seat_number pairs T z q) (sym same) in
-        absurd (omega arith)
+    counted : (at : Place) (o : Option SeatRow) → count_by (is_new_at at) (record x { kept = o } ∷ xs) ≡ cond (is_none o && is_one_place at x.place) 1 0 + count_by (is_new_at at) xs
+    counted at o = sum_by-cons (λ y. cond (is_new_at at y) 1 0) (record x { kept = o }) xs
 
-pub seats_apart : (pairs : List Pair) (T : Placing) → IsChain ComesBefore pairs → AllPairs HaveOwnSeats (seat_rows pairs T)
-seats_apart pairs T order =
-    index_from_chain HaveOwnSeats (seat_rows pairs T)
-    (chain_filter_map HaveOwnSeats (seat_row pairs T) pairs
-    (chain_weaker (λ p q. Contains pairs p × ComesBefore p q) (λ p q. IfSome (seat_row pairs T p) (λ r. IfSome (seat_row pairs T q) (HaveOwnSeats r)))
-    (own_seats pairs T) pairs
-    (chain_with_each (Contains pairs) ComesBefore pairs (recursion_from_All (Contains pairs) pairs (All-contains_itself pairs)) order)))
+    step : (o : Option SeatRow) → IsRoomFor most standing (record x { kept = o } ∷ xs) → Has I (kept_rows (record x { kept = o } ∷ xs))
+        → ((s : List SeatRow) → IsRoomFor most s xs → Has I (kept_rows xs) → Has I (rows_beside s xs)) → Has I (rows_beside standing (record x { kept = o } ∷ xs))
+    step (Some row) room kept more = (kept.0, more standing (λ at. (let c = counted at (Some row) in let r = room at in omega arith)) kept.1)
+    step None room kept more =
+        let free = least_is (seats_at x.place standing) in
+        let small = least_small (seats_at x.place standing) in
+        let one : ◌≡◌ {A = ℕ} (cond (is_one_place x.place x.place) 1 0) 1 = ap (λ b. cond b 1 0) (same_place x.place) in
+        let c = counted x.place None in
+        let r = room x.place in
+        let low : 1 ≤ least_free (seats_at x.place standing) = free.low in
+        (fits.0 (least_free (seats_at x.place standing)) low (omega arith), more (new_row standing x ∷ standing) (λ at. after at) kept)
+      where
+        after : (at : Place) → length (seats_at at (new_row standing x ∷ standing)) + count_by (is_new_at at) xs ≤ most at
+        after at =
+            let l = length_seats at (new_row standing x) standing in
+            let c = counted at None in
+            let r = room at in
+            omega arith
+
+-- ---- no seat twice
+
+-- a row's seat is one of those that stand
+abbrev IsTaken : List SeatRow → SeatRow → Type 0
+IsTaken standing r = has_student (seats_at (row_place r) standing) r.seat ≡ true
+
+-- a row that stands shares its seat with no row of entrants who keep other seats
+apart : (r : SeatRow) (standing : List SeatRow) (xs : List Entrant) → IsTaken standing r → AllByRecursion (HaveOwnSeats r) (kept_rows xs)
+    → AllByRecursion (HaveOwnSeats r) (rows_beside standing xs)
+apart r standing [] taken kept = tt
+apart r standing (x ∷ xs) taken kept = step x.kept kept (λ s t k. apart r s xs t k)
+  where
+    other : HaveOwnSeats r (new_row standing x)
+    other a b c =
+        let free = (least_is (seats_at x.place standing)).free in
+        let same : row_place r ≡ x.place = (λ i. record { period = a i; room = b i }) in
+        true≢false (sym taken ∙ ap₂ (λ at n. has_student (seats_at at standing) n) same c ∙ free)
+
+    step : (o : Option SeatRow) → AllByRecursion (HaveOwnSeats r) (kept_rows (record x { kept = o } ∷ xs))
+        → ((s : List SeatRow) → IsTaken s r → AllByRecursion (HaveOwnSeats r) (kept_rows xs) → AllByRecursion (HaveOwnSeats r) (rows_beside s xs))
+        → AllByRecursion (HaveOwnSeats r) (rows_beside standing (record x { kept = o } ∷ xs))
+    step (Some row) kept more = (kept.0, more standing taken kept.1)
+    step None kept more = (other, more (new_row standing x ∷ standing) (still_taken (row_place r) (new_row standing x) standing r.seat taken) kept)
+
+taken_first : (r : SeatRow) (rs : List SeatRow) → IsTaken (r ∷ rs) r
+taken_first r rs =
+    has_seats (row_place r) r rs r.seat
+    ∙ or_left (is_one_place (row_place r) (row_place r) && eqb r.seat r.seat) (has_student (seats_at (row_place r) rs) r.seat)
+    (and_from (is_one_place (row_place r) (row_place r)) (eqb r.seat r.seat) (same_place (row_place r)) (eq-eqb r.seat r.seat refl))
+
+own_rows : (standing : List SeatRow) (xs : List Entrant) → IsChain HaveOwnSeats (kept_rows xs) → AllByRecursion (IsTaken standing) (kept_rows xs)
+    → IsChain HaveOwnSeats (rows_beside standing xs)
+own_rows standing [] chain taken = tt
+own_rows standing (x ∷ xs) chain taken = step x.kept chain taken (λ s c t. own_rows s xs c t)
+  where
+    free_of : (r : SeatRow) → IsTaken standing r → HaveOwnSeats (new_row standing x) r
+    free_of r there a b c =
+        let free = (least_is (seats_at x.place standing)).free in
+        let same : row_place r ≡ x.place = (λ i. record { period = sym a i; room = sym b i }) in
+        true≢false (sym there ∙ ap₂ (λ at n. has_student (seats_at at standing) n) same (sym c) ∙ free)
+
+    step : (o : Option SeatRow) → IsChain HaveOwnSeats (kept_rows (record x { kept = o } ∷ xs)) → AllByRecursion (IsTaken standing) (kept_rows (record x { kept = o } ∷ xs))
+        → ((s : List SeatRow) → IsChain HaveOwnSeats (kept_rows xs) → AllByRecursion (IsTaken s) (kept_rows xs) → IsChain HaveOwnSeats (rows_beside s xs))
+        → IsChain HaveOwnSeats (rows_beside standing (record x { kept = o } ∷ xs))
+    step (Some row) chain taken more = (apart row standing xs taken.0 chain.0, more standing chain.1 taken.1)
+    step None chain taken more =
+        let row : SeatRow = new_row standing x in (
+          apart row (row ∷ standing) xs (taken_first row standing) (each_weaker (IsTaken standing) (HaveOwnSeats row) free_of (kept_rows xs) taken),
+          more (row ∷ standing) chain (each_weaker (IsTaken standing) (IsTaken (row ∷ standing)) (λ r t. still_taken (row_place r) row standing r.seat t) (kept_rows xs) taken),
+        )
+
+-- rows that stand are taken
+taken_itself : (rows : List SeatRow) → AllByRecursion (IsTaken rows) rows
+taken_itself [] = tt
+taken_itself (r ∷ rs) =
+    (taken_first r rs, each_weaker (IsTaken rs) (IsTaken (r ∷ rs)) (λ q t. still_taken (row_place q) r rs q.seat t) rs (taken_itself rs))
+
+-- two old rows of different pairs have different seats
+own_old : (old : List SeatRow) → AllPairs HaveOwnSeats old → (r q : SeatRow) → Contains old r → Contains old q → (row_pair r ≡ row_pair q → ⊥) → HaveOwnSeats r q
+own_old old own r q there also other a b c =
+    let i = there.0 in
+    let j = also.0 in
+    let at_j : get_or old j r ≡ q = get_or_default old j r q also.1 ∙ also.2 in
+    elim (cases_lt i j) as (λ _. ⊥) [
+      | inl less ↦ own i j r less also.1 (ap (λ (x : SeatRow). x.period) there.2 ∙ a ∙ ap (λ (x : SeatRow). x.period) (sym at_j)) (ap (λ (x : SeatRow). x.room) there.2 ∙ b ∙ ap (λ (x : SeatRow). x.room) (sym at_j))
+          (ap (λ (x : SeatRow). x.seat) there.2 ∙ c ∙ ap (λ (x : SeatRow). x.seat) (sym at_j))
+      | inr past ↦ elim (cases_eq i j) as (λ _. ⊥) [
+        | inl same ↦ other (ap row_pair (sym there.2 ∙ ap (λ k. get_or old k r) same ∙ at_j))
+        | inr apart ↦ own j i r (omega arith) there.1 (ap (λ (x : SeatRow). x.period) at_j ∙ sym a ∙ ap (λ (x : SeatRow). x.period) (sym there.2)) (ap (λ (x : SeatRow). x.room) at_j ∙ sym b ∙ ap (λ (x : SeatRow). x.room) (sym there.2))
+            (ap (λ (x : SeatRow). x.seat) at_j ∙ sym c ∙ ap (λ (x : SeatRow). x.seat) (sym there.2))
+      ]
+    ]
+
+kept_own : (T : Placing) (old : List SeatRow) → AllPairs HaveOwnSeats old → (xs : List Entrant) → AllByRecursion (IsFair T old) xs
+    → IsChain (λ (x y : Entrant). ComesBefore (record { exam = x.exam; student = x.student }) (record { exam = y.exam; student = y.student })) xs → IsChain HaveOwnSeats (kept_rows xs)
+kept_own T old own xs fairs order =
+    chain_filter_map HaveOwnSeats (λ (x : Entrant). x.kept) xs
+    (chain_weaker (λ (x y : Entrant). IsFair T old x × (IsFair T old y × ComesBefore (record { exam = x.exam; student = x.student }) (record { exam = y.exam; student = y.student })))
+    (λ (x y : Entrant). IfSome x.kept (λ r. IfSome y.kept (HaveOwnSeats r)))
+    (λ x y h. both x y h.1.1 x.kept h.0.pair h.0.from_old y.kept h.1.0.pair h.1.0.from_old) xs
+    (chain_with_each (IsFair T old) (λ (x y : Entrant). ComesBefore (record { exam = x.exam; student = x.student }) (record { exam = y.exam; student = y.student })) xs fairs order))
+  where
+    not_before_itself : (p q : Pair) → ComesBefore p q → p ≡ q → ⊥
+    not_before_itself p q h same = elim h as (λ _. ⊥) [ inl less ↦ absurd (omega (arith, ap (λ (z : Pair). z.exam) same)) | inr tie ↦ absurd (omega (arith, tie.1, ap (λ (z : Pair). z.student) same)) ]
+
+    both : (x y : Entrant) → ComesBefore (record { exam = x.exam; student = x.student }) (record { exam = y.exam; student = y.student })
+        → (o : Option SeatRow) → IfSome o (λ row. row_pair row ≡ record { exam = x.exam; student = x.student }) → IfSome o (Contains old)
+        → (u : Option SeatRow) → IfSome u (λ row. row_pair row ≡ record { exam = y.exam; student = y.student }) → IfSome u (Contains old)
+        → IfSome o (λ r. IfSome u (HaveOwnSeats r))
+    both x y before None a b u c d = tt
+    both x y before (Some r) a b None c d = tt
+    both x y before (Some r) a b (Some q) c d =
+        own_old old own r q b d (λ same. not_before_itself (record { exam = x.exam; student = x.student }) (record { exam = y.exam; student = y.student }) before (sym a ∙ same ∙ c))
 
 -- ---- as many as the room's load
 
@@ -195,74 +371,93 @@ within_room [] r n load l h low high = absurd (omega arith)
 within_room (x ∷ xs) zero n load l h low high = let most = not_more x.capacity load h in (low, omega arith)
 within_room (x ∷ xs) (suc r) n load l h low high = within_room xs r n load (omega arith) h low high
 
-one_seat : (I : Session) (E : Enrolled) (T : Placing) → Fits I E T → ArePairsOf E (pairs_of E) → breaches_of I E T ≡ [] → (p : Pair) → Contains (pairs_of E) p
-    → p.exam < length T → IfSome (seat_row (pairs_of E) T p) (HasSeat I)
-one_seat I E T fits are none p there exists = go (place_of T p.exam) refl
+-- kept seats and seats to come are no more than entrants
+counted_entrants : (T : Placing) (old : List SeatRow) (at : Place) (xs : List Entrant) → AllByRecursion (IsFair T old) xs
+    → length (seats_at at (kept_rows xs)) + count_by (is_new_at at) xs ≡ count_by (λ (x : Entrant). is_one_place at x.place) xs
+counted_entrants T old at [] h = refl
+counted_entrants T old at (x ∷ xs) h = step x.kept h.0.place (counted_entrants T old at xs h.1)
   where
-    go : (o : Option Place) → place_of T p.exam ≡ o → IfSome (option_map (λ at. row_with p at (seat_number (pairs_of E) T at p)) o) (HasSeat I)
-    go None is = tt
-    go (Some at) is =
-        let place = subst (PlaceExists I) is (fits.places p.exam None exists) in
-        let load : seat_number (pairs_of E) T at p ≤ load_at E T at = subst (λ n. seat_number (pairs_of E) T at p ≤ n) (loaded E T at are) (seat_small (pairs_of E) T at p there (sits T p at is)) in
-        let fine : is_too_small (slice_get I.rooms at.room) (load_at E T at) ≡ false
-        = sym (ap (where_placed (λ q. is_too_small (slice_get I.rooms q.room) (load_at E T q))) is) ∙ roomy I E T p.exam fits.timetable none in
-        within_room I.rooms at.room (seat_number (pairs_of E) T at p) (load_at E T at) place.1 fine (omega arith) load
+    step : (o : Option SeatRow) → IfSome o (λ row. row_place row ≡ x.place) → length (seats_at at (kept_rows xs)) + count_by (is_new_at at) xs ≡ count_by (λ (x : Entrant). is_one_place at x.place) xs
+        → length (seats_at at (kept_rows (record x { kept = o } ∷ xs))) + count_by (is_new_at at) (record x { kept = o } ∷ xs) ≡ count_by (λ (x : Entrant). is_one_place at x.place) (record x { kept = o } ∷ xs)
+    step None k more =
+        let a = sum_by-cons (λ y. cond (is_new_at at y) 1 0) (record x { kept = None }) xs in
+        let b = sum_by-cons (λ (y : Entrant). cond (is_one_place at y.place) 1 0) (record x { kept = None }) xs in
+        omega arith
+    step (Some row) k more =
+        let a = sum_by-cons (λ y. cond (is_new_at at y) 1 0) (record x { kept = Some row }) xs in
+        let b = sum_by-cons (λ (y : Entrant). cond (is_one_place at y.place) 1 0) (record x { kept = Some row }) xs in
+        let l = length_seats at row (kept_rows xs) in
+        let same : ◌≡◌ {A = ℕ} (cond (is_one_place at (row_place row)) 1 0) (cond (is_one_place at x.place) 1 0) = ap (λ q. cond (is_one_place at q) 1 0) k in
+        omega arith
 
-both_each : {X : Type 0} (P Q : X → Type 0) (xs : List X) → AllByRecursion P xs → AllByRecursion Q xs → AllByRecursion (λ x. P x × Q x) xs
-both_each P Q [] a b = tt
-both_each P Q (x ∷ xs) a b = ((a.0, b.0), both_each P Q xs a.1 b.1)
+counted_pairs : (T : Placing) (old : List SeatRow) (at : Place) (ps : List Pair)
+    → count_by (λ (x : Entrant). is_one_place at x.place) (entrants ps T old) ≡ count_by (sits_at T at) ps
+counted_pairs T old at [] = refl
+counted_pairs T old at (p ∷ ps) = go (place_of T p.exam) refl (counted_pairs T old at ps)
+  where
+    go : (o : Option Place) → place_of T p.exam ≡ o → count_by (λ (x : Entrant). is_one_place at x.place) (entrants ps T old) ≡ count_by (sits_at T at) ps
+        → count_by (λ (x : Entrant). is_one_place at x.place) (cons_option (option_map (entrant old p) o) (entrants ps T old)) ≡ count_by (sits_at T at) (p ∷ ps)
+    go None is more =
+        let b = sum_by-cons (λ q. cond (sits_at T at q) 1 0) p ps in
+        let none : ◌≡◌ {A = ℕ} (cond (sits_at T at p) 1 0) 0 = ap (λ o. cond (where_placed (is_one_place at) o) 1 0) is in
+        omega arith
+    go (Some q) is more =
+        let a = sum_by-cons (λ (y : Entrant). cond (is_one_place at y.place) 1 0) (entrant old p q) (entrants ps T old) in
+        let b = sum_by-cons (λ q. cond (sits_at T at q) 1 0) p ps in
+        let same : ◌≡◌ {A = ℕ} (cond (sits_at T at p) 1 0) (cond (is_one_place at q) 1 0) = ap (λ o. cond (where_placed (is_one_place at) o) 1 0) is in
+        omega arith
 
 -- ---- all of it
 
-in_order : (pairs : List Pair) (T : Placing) (p q : Pair) → ComesBefore p q → IfSome (seat_row pairs T p) (λ r. IfSome (seat_row pairs T q) (RowBefore r))
-in_order pairs T p q h = go (place_of T p.exam) (place_of T q.exam)
-  where
-    go : (o u : Option Place) → IfSome (option_map (λ at. row_with p at (seat_number pairs T at p)) o) (λ r. IfSome (option_map (λ at. row_with q at (seat_number pairs T at q)) u) (RowBefore r))
-    go None u = tt
-    go (Some at) None = tt
-    go (Some at) (Some other) = h
+pub record AreSeats (I : Session) (E : Enrolled) (T : Placing) (old rows : List SeatRow) : Type 0 where
+  pub pairs : map row_pair rows ≡ pairs_of E
+  pub seated : AreSeated I rows
+  pub published : ArePublishedRows I rows T
 
-at_exam : (pairs : List Pair) (T : Placing) (p : Pair) → IfSome (seat_row pairs T p) (IsAtExam T)
-at_exam pairs T p = go (place_of T p.exam) refl
-  where
-    go : (o : Option Place) → place_of T p.exam ≡ o → IfSome (option_map (λ at. row_with p at (seat_number pairs T at p)) o) (IsAtExam T)
-    go None is = tt
-    go (Some at) is = is
-
-each_all : {X : Type 0} (P : X → Type 0) → ((x : X) → P x) → (xs : List X) → AllByRecursion P xs
-each_all P h [] = tt
-each_all P h (x ∷ xs) = (h x, each_all P h xs)
-
-pub record AreSeats (I : Session) (E : Enrolled) (T : Placing) (rows : List SeatRow) : Type 0 where
-  pub seated : rows ≡ seat_rows (pairs_of E) T
-  pub within : All (HasSeat I) rows
-  pub unique : AllPairs HaveOwnSeats rows
-  pub sound : AreRowsOf I rows T
-
-pub are_seats : (I : Session) (E : Enrolled) (T : Placing) (rows : List SeatRow) → Fits I E T → AreEnrolments E → publish_refusal I E T ≡ None
-    → rows ≡ seat_rows (pairs_of E) T → AreSeats I E T rows
-are_seats I E T rows fits known permitted is =
+pub are_seats : (I : Session) (E : Enrolled) (T : Placing) (old : List SeatRow) → Fits I E T → AreEnrolments E → publish_refusal I E T ≡ None → AreSeated I old
+    → AreSeats I E T old (seat_rows (pairs_of E) T old)
+are_seats I E T old fits known permitted was =
     let pairs = pairs_of E in
+    let xs : List Entrant = entrants pairs T old in
+    let rows : List SeatRow = seat_rows pairs T old in
     let are = are_pairs E known in
     let none = neither (first_unplaced T) (least_breach I E T) permitted in
-    let order = chain_from_index ComesBefore pairs are.ordered in
+    let clean = no_first (breaches_of I E T) none.1 in
+    let placed = all_placed T none.0 in
     let exist : AllByRecursion (λ p. p.exam < length T) pairs = from_within (length T) 0 E (omega (arith, fits.timetable, fits.enrolments)) in
-    let few : length (seat_rows pairs T) ≤ 200000 = omega (arith, length_filter_map (seat_row pairs T) pairs, length_pairs 0 E, known.pairs) in
+    let fairs = all_fair T old pairs in
+    let own_pairs : map (λ (x : Entrant). record { exam = x.exam; student = x.student }) xs ≡ pairs
+    = entrant_pairs T old pairs (each_weaker (λ (p : Pair). p.exam < length T) (λ p. IsSome (place_of T p.exam)) (λ p lt. placed p.exam lt) pairs exist) in
+    let same : map row_pair rows ≡ pairs = rows_pairs T old (kept_rows xs) xs fairs ∙ own_pairs in
+    let order : IsChain ComesBefore pairs = chain_from_index ComesBefore pairs are.ordered in
+    let entrant_order = chain_unmap ComesBefore (λ (x : Entrant). record { exam = x.exam; student = x.student }) xs (subst (IsChain ComesBefore) (sym own_pairs) order) in
+    let in_order : RowsInOrder rows = index_from_chain RowBefore rows (chain_unmap ComesBefore row_pair rows (subst (IsChain ComesBefore) (sym same) order)) in
+    let room : IsRoomFor (load_at E T) (kept_rows xs) xs
+    = λ at. (let c = counted_entrants T old at xs fairs in let p = counted_pairs T old at pairs in let l = loaded E T at are in omega arith) in
+    let kept : Has I (kept_rows xs)
+    = each_filter_map (HasSeat I) (λ (x : Entrant). x.kept) xs (each_weaker (IsFair T old) (λ (x : Entrant). IfSome x.kept (HasSeat I))
+    (λ x h. some_weaker (Contains old) (HasSeat I) (λ row there. All-contains (HasSeat I) old row was.within there) x.kept h.from_old) xs fairs) in
+    let seats : AllByRecursion (λ (x : Entrant). (n : ℕ) → 1 ≤ n → n ≤ load_at E T x.place → IsSeatOf (slice_get I.rooms x.place.room) n) xs
+    = each_entrant (λ (x : Entrant). (n : ℕ) → 1 ≤ n → n ≤ load_at E T x.place → IsSeatOf (slice_get I.rooms x.place.room) n) T old pairs
+    (each_weaker (λ (p : Pair). p.exam < length T) (λ (p : Pair). (at : Place) → place_of T p.exam ≡ Some at → (n : ℕ) → 1 ≤ n → n ≤ load_at E T at → IsSeatOf (slice_get I.rooms at.room) n)
+    (λ p lt at here n low high.
+    let place = subst (PlaceExists I) here (fits.places p.exam None lt) in
+    let fine : is_too_small (slice_get I.rooms at.room) (load_at E T at) ≡ false
+    = sym (ap (where_placed (λ q. is_too_small (slice_get I.rooms q.room) (load_at E T q))) here) ∙ roomy I E T p.exam fits.timetable clean in
+    within_room I.rooms at.room n (load_at E T at) place.1 fine low high) pairs exist) in
     record {
-      seated = is;
-      within = subst (All (HasSeat I)) (sym is) (All-from_recursion (HasSeat I) (seat_rows pairs T) (each_filter_map (HasSeat I) (seat_row pairs T) pairs
-          (each_weaker (λ p. Contains pairs p × (p.exam < length T)) (λ p. IfSome (seat_row pairs T p) (HasSeat I))
-          (λ p h. one_seat I E T fits are (no_first (breaches_of I E T) none.1) p h.0 h.1) pairs
-          (both_each (Contains pairs) (λ p. p.exam < length T) pairs (recursion_from_All (Contains pairs) pairs (All-contains_itself pairs)) exist))));
-      unique = subst (AllPairs HaveOwnSeats) (sym is) (seats_apart pairs T order);
-      sound = record {
+      pairs = same;
+      seated = record {
+        in_order = in_order;
+        within = All-from_recursion (HasSeat I) rows (rows_within I (load_at E T) (kept_rows xs) xs room kept seats);
+        own = index_from_chain HaveOwnSeats rows (own_rows (kept_rows xs) xs (kept_own T old was.own xs fairs entrant_order) (taken_itself (kept_rows xs)));
+      };
+      published = record {
         exams = fits.timetable;
         places = fits.places;
-        complete = all_placed T none.0;
-        few = subst (λ xs. length xs ≤ 200000) (sym is) few;
-        in_order = subst (AllPairs RowBefore) (sym is) (index_from_chain RowBefore (seat_rows pairs T) (chain_filter_map RowBefore (seat_row pairs T) pairs
-            (chain_weaker ComesBefore (λ p q. IfSome (seat_row pairs T p) (λ r. IfSome (seat_row pairs T q) (RowBefore r))) (in_order pairs T) pairs order)));
-        at_exams = subst (All (IsAtExam T)) (sym is) (All-from_recursion (IsAtExam T) (seat_rows pairs T) (each_filter_map (IsAtExam T) (seat_row pairs T) pairs
-            (each_all (λ p. IfSome (seat_row pairs T p) (IsAtExam T)) (at_exam pairs T) pairs)));
+        complete = placed;
+        few = omega (arith, ap length same, length-map rows row_pair, length_pairs 0 E, known.pairs);
+        in_order = in_order;
+        at_exams = All-from_recursion (IsAtExam T) rows (rows_at_exams T old (kept_rows xs) xs fairs);
       };
     }

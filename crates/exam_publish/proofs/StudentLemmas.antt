@@ -18,7 +18,7 @@ use Rattle.exam_score.specs.Penalty.{PersonalPenalty}
 use Rattle.exam_publish.specs.declared.seat_row.SeatRow.{SeatRow}
 use Rattle.exam_publish.specs.Changed.{rows_of, has_row, students_of, with_number}
 use Rattle.exam_publish.specs.Groups.{AreSorted, IsRun, shares_in}
-use Rattle.exam_publish.specs.Rows.{RowBefore, AreRowsOf}
+use Rattle.exam_publish.specs.Rows.{RowBefore, ArePublishedRows}
 use Rattle.exam_publish.specs.Shares.{share_of, student_shares}
 use Rattle.exam_publish.proofs.ListLemmas.{any_map, has_ascending, ascends, each_filter}
 use Rattle.exam_publish.proofs.PlaceLemmas.{rows_exist}
@@ -160,7 +160,7 @@ no_row s (x ∷ xs) a = ap₂ (λ a b. a || b) (ne_eqb x.student s a.0) (no_row 
 
 -- one student more
 pub shared_more : (I : Session) (rows rest : List SeatRow) (shares more : List (ℕ × PersonalPenalty)) (r : SeatRow) (n : ℕ) → IsShared I rows shares rest
-    → r ≡ get_or rest 0 r → 0 < length rest → IsRun rest r.student n → more ≡ shares ++ (r.student, share_of I rows r.student) ∷ [] → IsShared I rows more (drop n rest)
+    → r ≡ get_or rest 0 r → 0 < length rest → IsRun rest r.student n → more ≡ shares ++ (r.student, share_of I.periods I.weights (rows_of r.student rows)) ∷ [] → IsShared I rows more (drop n rest)
 shared_more I rows rest shares more r n was is some run added =
     let s = r.student in
     let own = own_rows rest s n run in
@@ -171,7 +171,7 @@ shared_more I rows rest shares more r n was is some run added =
     = ap students_of (sym (take-append-drop n rest)) ∙ run_students s (take n rest) (drop n rest) (omega arith) own later in
     record {
       shared = ap (λ xs. xs ++ shares_in I rows (students_of (drop n rest))) added
-          ∙ append_assoc shares ((s, share_of I rows s) ∷ []) (shares_in I rows (students_of (drop n rest)))
+          ∙ append_assoc shares ((s, share_of I.periods I.weights (rows_of s rows)) ∷ []) (shares_in I rows (students_of (drop n rest)))
           ∙ ap (λ xs. shares ++ shares_in I rows xs) (sym students) ∙ was.shared;
       by_student = λ i j d l m. (let size = length-drop n rest in
           subst (λ (x : SeatRow). x.student ≤ (get_or (drop n rest) j d).student) (sym (get_or-drop n rest i d))
@@ -226,7 +226,7 @@ her_exams (r ∷ rs) s h = go (eqb r.student s) refl (her_exams rs s h.1)
     go true is more = (later_exams r rs s (eqb-true r.student s is) h.0, more)
     go false is more = more
 
-pub few_rows : (I : Session) (rows : List SeatRow) (T : Placing) (s : ℕ) → AreRowsOf I rows T → length I.exams ≤ 2000 → length (rows_of s rows) ≤ 2000
+pub few_rows : (I : Session) (rows : List SeatRow) (T : Placing) (s : ℕ) → ArePublishedRows I rows T → length I.exams ≤ 2000 → length (rows_of s rows) ≤ 2000
 few_rows I rows T s are few =
     let exams = map (λ (row : SeatRow). row.exam) (rows_of s rows) in
     let all = each_filter (λ row. row.exam < length I.exams) (λ row. eqb row.student s) rows (rows_exist I rows T are) in

@@ -1,5 +1,5 @@
 -- The shares add up to the penalty, in all and part by part.
-use Rattle.std.specs.Prelude.{◌≡◌, ℕ, ◌+◌, sum, sum_by}
+use Rattle.std.specs.Prelude.{◌≡◌, ℕ, ◌+◌, ◌<◌, ◌^◌, All, sum, sum_by}
 use Rattle.exam_score.specs.Penalty.{Penalty, personal_total, total_of}
 use Rattle.exam_publish.specs.Shares.{Sharing}
 
@@ -21,3 +21,11 @@ pub record AddUpTo (penalty : Penalty) (shares : Sharing) : Type 0 where
   pub period : sum shares.periods ≡ penalty.period
   pub room : sum_by (λ share. share.penalty) shares.rooms ≡ penalty.room
   pub total : share_total shares ≡ total_of penalty
+
+-- no share reaches 2^62, nor do all together
+pub record AreSmall (shares : Sharing) : Type 0 where
+  pub students : All (λ share. personal_total share.1 < 2 ^ 62) shares.students
+  pub exams : All (λ share. share < 2 ^ 62) shares.exams
+  pub periods : All (λ share. share < 2 ^ 62) shares.periods
+  pub rooms : All (λ share. share.penalty + share.mixed < 2 ^ 62) shares.rooms
+  pub total : share_total shares < 2 ^ 62

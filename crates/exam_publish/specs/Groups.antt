@@ -18,7 +18,8 @@ pub record AreSorted (rows sorted : List SeatRow) : Type 0 where
 
 -- the shares of these students
 abbrev pub shares_in : Session → List SeatRow → List ℕ → List (ℕ × PersonalPenalty)
-shares_in I rows students = map (λ s. (s, share_of I rows s)) students
+shares_in I rows students =
+    map (λ s. (s, share_of I.periods I.weights (rows_of s rows))) students
 
 -- the first n rows are of a student, and the one behind them is not
 pub record IsRun (rows : List SeatRow) (s n : ℕ) : Type 0 where

@@ -1,6 +1,7 @@
 pub mod Permit
 pub mod Rows
 pub mod Seats
+pub mod Numbered
 pub mod Seating
 pub mod Changed
 pub mod Shares

@@ -1,5 +1,5 @@
 -- Seat rows: whose they are, and in which order they stand.
-use Rattle.std.specs.Prelude.{◌≡◌, ℕ, ◌<◌, ◌≤◌, List, length, Some, All, AllPairs, IsSome}
+use Rattle.std.specs.Prelude.{◌≡◌, ℕ, ◌<◌, ◌≤◌, Bool, ◌&&◌, ◌||◌, ◌==◌, nat_lt, List, length, Some, All, AllPairs, IsSome}
 use Rattle.exam_terms.specs.declared.place.Place.{Place}
 use Rattle.exam_model.specs.Instance.{Session}
 use Rattle.exam_model.specs.Fits.{PlaceExists}
@@ -15,6 +15,10 @@ row_pair row = record { exam = row.exam; student = row.student }
 abbrev pub row_place : SeatRow → Place
 row_place row = record { period = row.period; room = row.room }
 
+-- whether a pair's exam is smaller, or the same and her number smaller
+abbrev pub comes_before : Pair → Pair → Bool
+comes_before p q = nat_lt p.exam q.exam || ((p.exam == q.exam) && nat_lt p.student q.student)
+
 -- of a smaller exam, or of the same exam and a smaller student
 abbrev pub RowBefore : SeatRow → SeatRow → Type 0
 RowBefore row other = ComesBefore (row_pair row) (row_pair other)
@@ -27,8 +31,8 @@ RowsInOrder rows = AllPairs RowBefore rows
 abbrev pub IsAtExam : Placing → SeatRow → Type 0
 IsAtExam T row = place_of T row.exam ≡ Some (row_place row)
 
--- rows of a timetable in which each exam of the session has a place
-pub record AreRowsOf (I : Session) (rows : List SeatRow) (T : Placing) : Type 0 where
+-- the rows are a publication of a timetable in which each exam of the session has a place
+pub record ArePublishedRows (I : Session) (rows : List SeatRow) (T : Placing) : Type 0 where
   pub exams : length T ≡ length I.exams
   pub places : All (PlaceExists I) T
   pub complete : (e : ℕ) → e < length T → IsSome (place_of T e)

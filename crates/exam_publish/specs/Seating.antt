@@ -1,33 +1,59 @@
--- How seats are given out along the pairs.
-use Rattle.std.specs.Prelude.{◌≡◌, ℕ, ◌+◌, ◌*◌, ◌<◌, List, [], ◌∷◌, ◌++◌, length, count_by, option_map, slice_index, take}
-use Rattle.std.specs.List.{cons_option}
+-- How seats are given out along the entrants.
+use Rattle.std.specs.Prelude.{◌≡◌, ℕ, ◌+◌, ◌*◌, ◌<◌, ◌≤◌, Bool, true, false, ◌&&◌, ◌==◌, List, length, All, IfSome, slice_index}
+use Rattle.std.specs.List.{list_any}
+use Rattle.std.specs.List.Sorted.{IsSorted}
+use Rattle.std.specs.Ordering.{nat_cmp, ordering_then}
+use Rattle.std.specs.declared.cmp.Ordering.{Ordering}
 use Rattle.exam_terms.specs.declared.place.Place.{Place}
-use Rattle.exam_model.specs.Enrolments.{Enrolled}
-use Rattle.exam_model.specs.Pairs.{Pair, pairs_of}
-use Rattle.exam_model.specs.Timetable.{Placing, place_of}
+use Rattle.exam_model.specs.Enrolments.{has_student}
+use Rattle.exam_model.specs.Instance.{Session}
+use Rattle.exam_publish.specs.declared.entrants.Entrant.{Entrant}
+use Rattle.exam_publish.specs.declared.held.Held.{Held}
 use Rattle.exam_publish.specs.declared.seat_row.SeatRow.{SeatRow}
-use Rattle.exam_publish.specs.Seats.{sits_at, row_with}
+use Rattle.exam_publish.specs.Seats.{seats_at}
 
 -- a place's entry in a table with a line of rooms for each period
 abbrev pub slot_of : ℕ → Place → ℕ
 slot_of rooms at = at.period * rooms + at.room
 
--- the rows of an exam's students at a place, with the seats after n
-abbrev pub rows_at : ℕ → Place → ℕ → List ℕ → List SeatRow
-rows_at e at n [] = []
-rows_at e at n (s ∷ ss) =
-    row_with (record { exam = e; student = s }) at (n + 1) ∷ rows_at e at (n + 1) ss
+-- an entrant's place exists
+pub record EntrantExists (I : Session) (x : Entrant) : Type 0 where
+  pub period : x.place.period < length I.periods
+  pub room : x.place.room < length I.rooms
 
--- the rows of pairs behind those that were seen, each with the next seat of its place
-abbrev pub rows_after : Placing → List Pair → List Pair → List SeatRow
-rows_after T seen [] = []
-rows_after T seen (p ∷ ps) =
-    cons_option (option_map (λ at. row_with p at (count_by (sits_at T at) seen + 1)) (place_of T p.exam))
-    (rows_after T (seen ++ p ∷ []) ps)
+-- a row that is kept has a seat that a room can have
+abbrev pub KeepsSmallSeat : Entrant → Type 0
+KeepsSmallSeat x = IfSome x.kept (λ row. row.seat ≤ 100000)
 
--- the pairs of the exams below i have their rows, and each place's entry counts its seats
-pub record AreSeated (E : Enrolled) (T : Placing) (periods rooms i : ℕ) (taken : List ℕ) (rows : List SeatRow) : Type 0 where
-  pub seated : rows ≡ rows_after T [] (pairs_of (take i E))
-  pub count : length taken ≡ periods * rooms
+-- whether it is this seat in this room and period
+abbrev pub is_held : Place → ℕ → Held → Bool
+is_held at n h = (h.period == at.period) && ((h.room == at.room) && (h.seat == n))
+
+-- by period, then room, then seat
+abbrev pub held_cmp : Held → Held → Ordering
+held_cmp x y =
+    ordering_then (nat_cmp x.period y.period)
+    (ordering_then (nat_cmp x.room y.room) (nat_cmp x.seat y.seat))
+
+-- the seats that these rows hold, in order
+pub record AreHeld (kept : List SeatRow) (held : List Held) : Type 0 where
+  pub members : (at : Place) (n : ℕ) → list_any (is_held at n) held ≡ has_student (seats_at at kept) n
+  pub sorted : IsSorted held_cmp held
+  pub small : All (λ h. h.seat ≤ 100000) held
+
+-- the least seat from n on that is not held in a room and period
+pub record IsNextFree (held : List Held) (at : Place) (from n : ℕ) : Type 0 where
+  pub least : from ≤ n
+  pub free : list_any (is_held at n) held ≡ false
+  pub between : (k : ℕ) → from ≤ k → k < n → list_any (is_held at k) held ≡ true
+
+-- up to this seat all are taken, and beyond it only those that are kept
+pub record IsLast (kept standing : List SeatRow) (at : Place) (n : ℕ) : Type 0 where
+  pub all : (k : ℕ) → 1 ≤ k → k ≤ n → has_student (seats_at at standing) k ≡ true
+  pub beyond : (k : ℕ) → n < k → has_student (seats_at at standing) k ≡ has_student (seats_at at kept) k
+
+-- each place's entry is the last seat that was given there
+pub record AreLast (kept standing : List SeatRow) (periods rooms : ℕ) (last : List ℕ) : Type 0 where
+  pub count : length last ≡ periods * rooms
   pub each : (at : Place) → at.period < periods → at.room < rooms
-      → slice_index taken (slot_of rooms at) ≡ count_by (sits_at T at) (pairs_of (take i E))
+      → IsLast kept standing at (slice_index last (slot_of rooms at))

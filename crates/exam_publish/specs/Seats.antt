@@ -1,42 +1,18 @@
--- Who sits where: seats are numbered through each room and period, by exam and then by student.
-use Rattle.std.specs.Prelude.{◌≡◌, ◌≤◌, ℕ, ◌+◌, Bool, ◌&&◌, ◌||◌, ◌==◌, nat_lt, List, Option, None, Some, count_by, filter_map, option_map, slice_get}
+-- Who sits where: an old seat stays where its exam stands as before, and the others are seated around the seats that stay.
+use Rattle.std.specs.Prelude.{◌≡◌, ◌≤◌, ℕ, ◌+◌, Bool, not, ◌&&◌, if◌then◌else◌, List, [], ◌∷◌, length, map, filter, filter_map, Option, None, Some, All, AllPairs, option_map, unwrap_or, is_some, slice_get}
+use Rattle.std.specs.List.{find, position_or_len, range_with_len}
 use Rattle.exam_terms.specs.declared.place.Place.{Place}
 use Rattle.exam_model.specs.declared.parts.Room.{Room}
+use Rattle.exam_model.specs.Enrolments.{has_student}
 use Rattle.exam_model.specs.Instance.{Session}
-use Rattle.exam_model.specs.Pairs.{Pair}
+use Rattle.exam_model.specs.Pairs.{Pair, is_pair}
 use Rattle.exam_model.specs.Timetable.{Placing, place_of}
-use Rattle.exam_rules.specs.Places.{where_placed, is_one_place}
+use Rattle.exam_rules.specs.Places.{is_one_place}
+use Rattle.exam_publish.specs.declared.entrants.Entrant.{Entrant}
 use Rattle.exam_publish.specs.declared.seat_row.SeatRow.{SeatRow}
+use Rattle.exam_publish.specs.Rows.{row_place, RowsInOrder}
 
--- whether a pair's exam is smaller, or the same and her number smaller
-abbrev pub comes_before : Pair → Pair → Bool
-comes_before p q = nat_lt p.exam q.exam || ((p.exam == q.exam) && nat_lt p.student q.student)
-
--- whether a pair's exam stands in this room and period
-abbrev pub sits_at : Placing → Place → Pair → Bool
-sits_at T at q = where_placed (is_one_place at) (place_of T q.exam)
-
--- one more than the number of pairs in this room and period that come before
-abbrev pub seat_number : List Pair → Placing → Place → Pair → ℕ
-seat_number pairs T at p = count_by (λ q. comes_before q p && sits_at T at q) pairs + 1
-
--- a pair's row with a seat
-abbrev pub row_with : Pair → Place → ℕ → SeatRow
-row_with p at seat = record {
-  student = p.student;
-  exam = p.exam;
-  period = at.period;
-  room = at.room;
-  seat = seat;
-}
-
--- a pair's row, if its exam has a place
-abbrev pub seat_row : List Pair → Placing → Pair → Option SeatRow
-seat_row pairs T p = option_map (λ at. row_with p at (seat_number pairs T at p)) (place_of T p.exam)
-
--- the rows of all pairs, in their order
-abbrev pub seat_rows : List Pair → Placing → List SeatRow
-seat_rows pairs T = filter_map (seat_row pairs T) pairs
+-- ---- seats
 
 -- a seat from 1 up to the number of students that a room holds
 abbrev pub IsSeatOf : Option Room → ℕ → Type 0
@@ -50,3 +26,76 @@ HasSeat I row = IsSeatOf (slice_get I.rooms row.room) row.seat
 -- two rows of one period and room have different seats
 abbrev pub HaveOwnSeats : SeatRow → SeatRow → Type 0
 HaveOwnSeats row other = row.period ≡ other.period → row.room ≡ other.room → row.seat ≡ other.seat → ⊥
+
+-- rows in order, each with a seat of its room, and none with the seat of another
+pub record AreSeated (I : Session) (rows : List SeatRow) : Type 0 where
+  pub in_order : RowsInOrder rows
+  pub within : All (HasSeat I) rows
+  pub own : AllPairs HaveOwnSeats rows
+
+-- ---- who keeps a seat
+
+-- whether a row is the pair's, in this room and period
+abbrev pub is_row_at : Pair → Place → SeatRow → Bool
+is_row_at p at row = is_pair row.student row.exam p && is_one_place at (row_place row)
+
+-- a pair, where its exam stands now, and its old row if that is there
+abbrev pub entrant : List SeatRow → Pair → Place → Entrant
+entrant old p at = record {
+  student = p.student;
+  exam = p.exam;
+  place = at;
+  kept = find (is_row_at p at) old;
+}
+
+-- the entrants of the pairs whose exams have places, in order
+abbrev pub entrants : List Pair → Placing → List SeatRow → List Entrant
+entrants pairs T old =
+    filter_map (λ p. option_map (entrant old p) (place_of T p.exam)) pairs
+
+-- the rows that entrants keep
+abbrev pub kept_rows : List Entrant → List SeatRow
+kept_rows xs = filter_map (λ x. x.kept) xs
+
+-- ---- the seats of the others
+
+-- the seats that rows have in a room and period
+abbrev pub seats_at : Place → List SeatRow → List ℕ
+seats_at at rows = map (λ row. row.seat) (filter (λ row. is_one_place at (row_place row)) rows)
+
+-- the least number from 1 that is none of these
+abbrev pub least_free : List ℕ → ℕ
+least_free taken =
+    position_or_len (λ n. not (has_student taken n)) (range_with_len 1 (length taken)) + 1
+
+-- the row of an entrant who keeps none: its seat is the least one there that no row has
+abbrev pub new_row : List SeatRow → Entrant → SeatRow
+new_row standing x = record {
+  student = x.student;
+  exam = x.exam;
+  period = x.place.period;
+  room = x.place.room;
+  seat = least_free (seats_at x.place standing);
+}
+
+-- an entrant's row beside the rows that stand: the one that is kept, or a new one
+abbrev pub entrant_row : List SeatRow → Entrant → SeatRow
+entrant_row standing x = unwrap_or x.kept (new_row standing x)
+
+-- a new row stands from then on; a kept one has stood before
+abbrev pub standing_with : List SeatRow → Entrant → List SeatRow
+standing_with standing x = if is_some x.kept then standing else new_row standing x ∷ standing
+
+-- the rows of entrants one after another, beside the rows that stand
+abbrev pub rows_beside : List SeatRow → List Entrant → List SeatRow
+rows_beside standing [] = []
+rows_beside standing (x ∷ xs) =
+    entrant_row standing x ∷ rows_beside (standing_with standing x) xs
+
+-- the rows of all entrants: those that are kept stand before any other is given
+abbrev pub rows_for : List Entrant → List SeatRow
+rows_for xs = rows_beside (kept_rows xs) xs
+
+-- the rows of all pairs, in their order
+abbrev pub seat_rows : List Pair → Placing → List SeatRow → List SeatRow
+seat_rows pairs T old = rows_for (entrants pairs T old)

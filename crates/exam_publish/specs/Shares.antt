@@ -5,6 +5,8 @@ use Rattle.exam_terms.specs.declared.place.Place.{Place}
 use Rattle.exam_model.specs.Instance.{Session}
 use Rattle.exam_model.specs.Enrolments.{Enrolled}
 use Rattle.exam_model.specs.Timetable.{Placing}
+use Rattle.exam_model.specs.declared.parts.Period.{Period}
+use Rattle.exam_model.specs.declared.parts.Weights.{Weights}
 use Rattle.exam_rules.specs.Places.{where_placed}
 use Rattle.exam_score.specs.Penalty.{PersonalPenalty}
 use Rattle.exam_score.specs.Personal.{personal_of}
@@ -22,12 +24,12 @@ abbrev pub enrolled_in : ℕ → List SeatRow → Enrolled
 enrolled_in exams rows = map (students_in rows) (range_with_len 0 exams)
 
 -- what the periods of a candidate's rows cost her
-abbrev pub share_of : Session → List SeatRow → ℕ → PersonalPenalty
-share_of I rows s = personal_of I.periods I.weights (map (λ row. row.period) (rows_of s rows))
+abbrev pub share_of : List Period → Weights → List SeatRow → PersonalPenalty
+share_of periods weights own = personal_of periods weights (map (λ row. row.period) own)
 
 -- each candidate with rows, ascending, and her share
 abbrev pub student_shares : Session → List SeatRow → List (ℕ × PersonalPenalty)
-student_shares I rows = map (λ s. (s, share_of I rows s)) (students_of rows)
+student_shares I rows = map (λ s. (s, share_of I.periods I.weights (rows_of s rows))) (students_of rows)
 
 -- each exam's share of the front load, sizes by the rows
 abbrev pub exam_shares : Session → List SeatRow → Placing → List ℕ

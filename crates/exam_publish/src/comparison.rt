@@ -1,8 +1,7 @@
 // Whose rows differ between two publications.
 ghost use Rattle.std.specs.Prelude.{◌≡◌, ℕ, ◌&&◌, ◌||◌, ◌==◌, IfOk, OnOk};
 ghost use Rattle.exam_model.specs.Enrolments.{IsAscending, has_student};
-ghost use Rattle.exam_publish.specs.Rows.{RowsInOrder, row_pair};
-ghost use Rattle.exam_publish.specs.Seats.{comes_before};
+ghost use Rattle.exam_publish.specs.Rows.{RowsInOrder, comes_before, row_pair};
 ghost use Rattle.exam_publish.specs.Changed.{is_changed, changed_students, ascending, has_row};
 
 use crate::seat_row::SeatRow;

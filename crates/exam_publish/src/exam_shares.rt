@@ -1,7 +1,7 @@
 // The shares of exams: what each makes of the front load, sizes by the rows.
 ghost use Rattle.std.specs.Prelude.{◌≡◌, ◌<◌, ◌≤◌, ℕ, length, nat_lt, IfOk, Option};
 ghost use Rattle.exam_model.specs.Sums.{count_below};
-ghost use Rattle.exam_publish.specs.Rows.{AreRowsOf};
+ghost use Rattle.exam_publish.specs.Rows.{ArePublishedRows};
 ghost use Rattle.exam_publish.specs.Shares.{exam_shares};
 ghost use Rattle.exam_publish.specs.Tallies.{AreTallied, is_larger_by, front_by};
 ghost use Rattle.exam_publish.specs.Groups.{is_of_exam};
@@ -18,7 +18,7 @@ pub fn exam_shares(
     rows: &[SeatRow],
     timetable: &Timetable,
 ) -> Result<Vec<u64>, AllocError>
-    requires { AreRowsOf instance.now rows.now timetable.now }
+    requires { ArePublishedRows instance.now rows.now timetable.now }
     ensures { IfOk result (λ shares. shares.items
         ≡ exam_shares instance.now rows.now timetable.now) }
 {
@@ -38,7 +38,7 @@ fn sizes_of(
     rows: &[SeatRow],
     timetable: &Timetable,
 ) -> Result<Vec<u64>, AllocError>
-    requires { AreRowsOf instance.now rows.now timetable.now }
+    requires { ArePublishedRows instance.now rows.now timetable.now }
     ensures { IfOk result (λ sizes. AreTallied (λ e. 1) is_of_exam (length instance.now.exams)
         rows.now sizes.items) }
 {

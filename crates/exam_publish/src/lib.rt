@@ -3,8 +3,10 @@
 
 mod comparison;
 mod durations;
+mod entrants;
 mod exam_shares;
 mod fault;
+mod held;
 mod laws;
 mod permission;
 mod place_shares;
@@ -16,7 +18,7 @@ mod student_shares;
 
 pub use comparison::changed;
 pub use fault::PublishFault;
-pub use laws::{seated_as_enrolled, shares_add_up};
+pub use laws::{numbered_at_first, seated_as_enrolled, shares_add_up, unchanged_share_stays};
 pub use permission::permit;
 pub use seat_row::SeatRow;
 pub use seating::seats;

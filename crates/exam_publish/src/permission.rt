@@ -1,7 +1,9 @@
 // Whether a timetable may be published.
-ghost use Rattle.std.specs.Prelude.{◌≡◌, None, IfErr, OnOk};
+ghost use Rattle.std.specs.Prelude.{◌≡◌, None, false, IfErr, OnOk};
 ghost use Rattle.exam_model.specs.Fits.{Fits};
-ghost use Rattle.exam_publish.specs.Permit.{publish_refusal, RefusesPublication};
+ghost use Rattle.exam_publish.specs.Permit.{publish_refusal, IsComplete, NamesCause, RefusesPublication};
+ghost use Rattle.exam_rules.specs.Breaches.{is_breach};
+ghost use Rattle.exam_rules.specs.declared.breach.Breach.{Breach};
 
 use crate::fault::PublishFault;
 use exam_model::{Enrolments, Instance, Timetable};
@@ -17,10 +19,14 @@ pub fn permit(
 ) -> Result<(), PublishFault>
     requires { Fits instance.now enrolments.now timetable.now }
     ensures ok { OnOk result (publish_refusal instance.now enrolments.now timetable.now ≡ None) }
+    ensures complete { OnOk result (IsComplete timetable.now) }
+    ensures unbroken { OnOk result ((b : Breach)
+        → is_breach instance.now enrolments.now timetable.now b ≡ false) }
 
     // An exam without a place is judged before any breach.
     ensures refused { IfErr result
         (RefusesPublication instance.now enrolments.now timetable.now) }
+    ensures cause { IfErr result (NamesCause instance.now enrolments.now timetable.now) }
 {
     if let Some(exam) = timetable.complete() {
         return Err(PublishFault::Unplaced(exam));

@@ -1,47 +1,91 @@
-// Seats: one pass over all exams, with a counter for each room and period.
-ghost use Rattle.std.specs.Prelude.{◌≡◌, ◌<◌, ◌≤◌, ◌+◌, ◌*◌, ◌++◌, None, length, All, AllPairs, IfOk, OnOk};
+// Seats: kept ones first, and the others in one pass, with the last seat given in each room and period.
+ghost use Rattle.std.specs.Prelude.{◌≡◌, ◌<◌, ◌≤◌, ◌+◌, ◌*◌, None, length, map, All, IfOk};
 ghost use Rattle.exam_model.specs.Fits.{Fits};
 ghost use Rattle.exam_model.specs.Pairs.{pairs_of};
 ghost use Rattle.exam_publish.specs.Permit.{publish_refusal};
-ghost use Rattle.exam_publish.specs.Rows.{AreRowsOf};
-ghost use Rattle.exam_publish.specs.Seats.{seat_rows, HasSeat, HaveOwnSeats};
-ghost use Rattle.exam_publish.specs.Seating.{slot_of, rows_at};
+ghost use Rattle.exam_publish.specs.Rows.{ArePublishedRows, row_pair};
+ghost use Rattle.exam_publish.specs.Seats.{AreSeated, kept_rows, rows_for, seat_rows};
+ghost use Rattle.exam_publish.specs.Seating.{AreHeld, EntrantExists};
 
+use crate::entrants::{Entrant, entrants_of};
+use crate::held::{Held, held_seats, next_free};
 use crate::seat_row::SeatRow;
-use exam_model::{Enrolments, ExamNo, Instance, PeriodNo, Place, RoomNo, StudentNo, Timetable};
+use exam_model::{Enrolments, Instance, PeriodNo, RoomNo, Timetable};
 use std::alloc::{AllocError, Global};
 
-/// A seat for each enrolment of a timetable that may be published, as `permit` says. In each room
-/// and period seats are numbered from 1, by exam and then by student.
+/// A seat for each enrolment of a timetable that may be published, as `permit` says. Who has an old
+/// row in the room and period of now keeps its seat. The others, by exam and then by student, each
+/// get the least number from 1 that nobody keeps there and that no earlier one was given there.
 pub fn seats(
     alloc: Global,
     instance: &Instance,
     enrolments: &Enrolments,
     timetable: &Timetable,
+    old: &[SeatRow],
 ) -> Result<Vec<SeatRow>, AllocError>
     requires fits { Fits instance.now enrolments.now timetable.now }
     requires permitted { publish_refusal instance.now enrolments.now timetable.now ≡ None }
+    requires old_seated { AreSeated instance.now old.now }
     ensures rows { IfOk result (λ rows. rows.items
-        ≡ seat_rows (pairs_of enrolments.now) timetable.now) }
-    ensures within { IfOk result (λ rows. All (HasSeat instance.now) rows.items) }
-    ensures unique { IfOk result (λ rows. AllPairs HaveOwnSeats rows.items) }
-    ensures sound { IfOk result (λ rows. AreRowsOf instance.now rows.items timetable.now) }
+        ≡ seat_rows (pairs_of enrolments.now) timetable.now old.now) }
+    ensures pairs { IfOk result (λ rows. map row_pair rows.items ≡ pairs_of enrolments.now) }
+    ensures seated { IfOk result (λ rows. AreSeated instance.now rows.items) }
+    ensures published { IfOk result
+        (λ rows. ArePublishedRows instance.now rows.items timetable.now) }
+{
+    let _known = (instance.rooms(), enrolments.pairs()); // read for their limits
+    let entrants = entrants_of(alloc, enrolments, timetable, old)?;
+    let held = held_seats(alloc, &entrants)?;
+    let rows = seat_all(alloc, instance, &entrants, &held)?;
+    Ok(rows)
+}
+
+// The rows of all entrants.
+fn seat_all(
+    alloc: Global,
+    instance: &Instance,
+    entrants: &[Entrant],
+    held: &[Held],
+) -> Result<Vec<SeatRow>, AllocError>
+    requires exist { All (EntrantExists instance.now) entrants.now }
+    requires few { length entrants.now ≤ 200000 }
+    requires held { AreHeld (kept_rows entrants.now) held.now }
+    ensures { IfOk result (λ rows. rows.items ≡ rows_for entrants.now) }
 {
     let places = instance.periods() * instance.rooms();
-    let mut taken = vec![in alloc; 0u32; places as usize]?;
-    let mut rows = Vec::with_capacity(alloc, enrolments.pairs() as usize)?;
-    'exams: for exam in 0..instance.exams() {
-        let exam = ExamNo::new(exam);
-        let Some(place) = timetable.get(exam) else {
+    let mut last = vec![in alloc; 0u32; places as usize]?;
+    let mut rows = Vec::with_capacity(alloc, entrants.len())?;
+    'entrants: for entrant in entrants {
+        if let Some(row) = entrant.kept {
+            rows.push(row)?;
             continue;
-        };
-        let students = enrolments.students(exam);
+        }
+        let place = entrant.place;
         let slot = slot_of(instance, place.period, place.room);
-        let before = taken[slot];
-        add_rows(&mut rows, exam, place, before, students)?;
-        taken[slot] = before + students.len() as u32;
+        let seat = next_free(held, &place, last[slot] + 1);
+        last[slot] = seat;
+        rows.push(new_row(*entrant, seat))?;
     }
     Ok(rows)
+}
+
+// An entrant's row with a seat.
+fn new_row(entrant: Entrant, seat: u32) -> SeatRow
+    ensures { result ≡ record {
+      student = entrant.student;
+      exam = entrant.exam;
+      period = entrant.place.period;
+      room = entrant.place.room;
+      seat = seat;
+    } }
+{
+    SeatRow {
+        student: entrant.student,
+        exam: entrant.exam,
+        period: entrant.place.period,
+        room: entrant.place.room,
+        seat,
+    }
 }
 
 /// A place's entry in a table with a line of rooms for each period.
@@ -53,31 +97,4 @@ pub fn slot_of(instance: &Instance, period: PeriodNo, room: RoomNo) -> usize
 {
     let _periods = instance.periods();
     period.get() as usize * instance.rooms() as usize + room.get() as usize
-}
-
-// Adds the rows of an exam's students, with the seats after those that are taken.
-fn add_rows(
-    rows: &mut Vec<SeatRow>,
-    exam: ExamNo,
-    place: Place,
-    taken: u32,
-    students: &[StudentNo],
-) -> Result<(), AllocError>
-    requires { taken + length students.now ≤ 200000 }
-    ensures { OnOk result (rows.new.items
-        ≡ rows.old.items ++ rows_at exam place taken students.now) }
-{
-    let (period, room) = (place.period, place.room);
-    let mut seat = taken;
-    'students: for student in students {
-        seat += 1;
-        rows.push(SeatRow {
-            student: *student,
-            exam,
-            period,
-            room,
-            seat,
-        })?;
-    }
-    Ok(())
 }

@@ -1,7 +1,9 @@
 // Who has which share of the penalty.
-ghost use Rattle.std.specs.Prelude.{◌≡◌, length, IfOk};
-ghost use Rattle.exam_publish.specs.AddUp.{AddUpTo};
-ghost use Rattle.exam_publish.specs.Rows.{AreRowsOf};
+ghost use Rattle.std.specs.Prelude.{◌≡◌, ℕ, length, map, IfOk};
+ghost use Rattle.exam_model.specs.Enrolments.{IsAscending, has_student};
+ghost use Rattle.exam_publish.specs.AddUp.{AddUpTo, AreSmall};
+ghost use Rattle.exam_publish.specs.Changed.{has_row};
+ghost use Rattle.exam_publish.specs.Rows.{ArePublishedRows};
 ghost use Rattle.exam_publish.specs.Shares.{enrolled_in, shares_of};
 ghost use Rattle.exam_score.specs.Track.{track};
 
@@ -22,11 +24,15 @@ pub fn shares(
     rows: &[SeatRow],
     timetable: &Timetable,
 ) -> Result<Shares, AllocError>
-    requires { AreRowsOf instance.now rows.now timetable.now }
+    requires { ArePublishedRows instance.now rows.now timetable.now }
     ensures shares { IfOk result (λ shares. shares
         ≡ shares_of instance.now rows.now timetable.now) }
+    ensures ascending { IfOk result (λ shares. IsAscending (map (λ share. share.0) shares.students)) }
+    ensures seated { IfOk result (λ shares. (s : ℕ)
+        → has_student (map (λ share. share.0) shares.students) s ≡ has_row rows.now s) }
     ensures add_up { IfOk result (AddUpTo (track instance.now
         (enrolled_in (length instance.now.exams) rows.now) timetable.now)) }
+    ensures small { IfOk result AreSmall }
 {
     let _kept = instance.periods(); // read for its limits
     let students = student_shares(alloc, instance, rows, timetable)?;

@@ -1,6 +1,6 @@
 // The shares of students: the personal penalty of each one's rows.
 ghost use Rattle.std.specs.Prelude.{◌≡◌, map, IfOk};
-ghost use Rattle.exam_publish.specs.Rows.{AreRowsOf};
+ghost use Rattle.exam_publish.specs.Rows.{ArePublishedRows};
 ghost use Rattle.exam_publish.specs.Shares.{student_shares};
 ghost use Rattle.exam_publish.specs.Groups.{AreSorted, IsRun};
 
@@ -16,7 +16,7 @@ pub fn student_shares(
     rows: &[SeatRow],
     timetable: &Timetable,
 ) -> Result<Vec<(StudentNo, PersonalParts)>, AllocError>
-    requires { AreRowsOf instance.now rows.now timetable.now }
+    requires { ArePublishedRows instance.now rows.now timetable.now }
     ensures { IfOk result (λ shares. shares.items ≡ student_shares instance.now rows.now) }
 {
     let _kept = timetable.exams(); // read for its limit of exams

@@ -1,6 +1,6 @@
 // Seats, shares and publications of the small session.
 ghost use Rattle.std.specs.Prelude.{IfOk};
-ghost use Rattle.exam_publish.specs.Rows.{AreRowsOf, RowsInOrder};
+ghost use Rattle.exam_publish.specs.Rows.{ArePublishedRows, RowsInOrder};
 
 use crate::given::{
     APART, ONE_ROOM, PAIRS, Places, WEIGHTS, after, assert_same, enrolled, fits, placed, small,
@@ -35,13 +35,13 @@ fn published(
     enrolments: &Enrolments,
     timetable: &Timetable,
 ) -> Result<Vec<SeatRow>, Fail>
-    ensures { IfOk result (λ rows. AreRowsOf instance.now rows.items timetable.now) }
+    ensures { IfOk result (λ rows. ArePublishedRows instance.now rows.items timetable.now) }
 {
     if !fits(instance, enrolments, timetable) {
         return Err("a place that doesn't exist")?;
     }
     permit(alloc, instance, enrolments, timetable)?;
-    Ok(seats(alloc, instance, enrolments, timetable)?)
+    Ok(seats(alloc, instance, enrolments, timetable, &[])?)
 }
 
 // Rows of exam, student, period, room and seat.

@@ -1,0 +1,96 @@
+-- Shares are small and those of the rows' students, and stay where rows do.
+use Rattle.std.specs.List.{AllByRecursion}
+use Rattle.std.proofs.Common.{◌≡◌, ℕ, ◌+◌, ◌<◌, ◌^◌, true, false, ◌&&◌, eqb, List, [], ◌∷◌, length, map, sum_by, All, refl, sym, ◌∙◌, ap, ap₂, subst, arith, eqb-true}
+use Rattle.std.proofs.lemmas.Bool.{and_parts, not-false}
+use Rattle.std.proofs.lemmas.List.Elements.{All-from_recursion}
+use Rattle.std.proofs.lemmas.List.FromFn.{length-map-range_with_len}
+use Rattle.std.proofs.lemmas.List.Sums.{sum_by-cons}
+use Rattle.exam_model.specs.Enrolments.{Enrolled, IsAscending, has_student}
+use Rattle.exam_model.specs.Instance.{Session, IsInstance}
+use Rattle.exam_model.specs.Timetable.{Placing}
+use Rattle.exam_model.proofs.SumLemmas.{chain_from_index}
+use Rattle.exam_score.specs.Penalty.{PersonalPenalty, personal_total}
+use Rattle.exam_score.specs.Track.{track}
+use Rattle.exam_score.proofs.SmallLemmas.{penalty_small}
+use Rattle.exam_publish.specs.declared.seat_row.SeatRow.{SeatRow}
+use Rattle.exam_publish.specs.declared.share_lists.RoomShare.{RoomShare}
+use Rattle.exam_publish.specs.AddUp.{AddUpTo, AreSmall, share_total}
+use Rattle.exam_publish.specs.Changed.{rows_of, has_row, same_row, same_rows, is_changed, students_of}
+use Rattle.exam_publish.specs.Rows.{RowBefore, ArePublishedRows}
+use Rattle.exam_publish.specs.Shares.{Sharing, students_in, enrolled_in, share_of, student_shares}
+use Rattle.exam_publish.proofs.ListLemmas.{any_map, ascends, has_ascending}
+use Rattle.exam_publish.proofs.PlaceLemmas.{rows_exist}
+use Rattle.exam_publish.proofs.RowLemmas.{are_enrolments}
+
+-- ---- rows that stay
+
+equal_row : (r q : SeatRow) → same_row r q ≡ true → r ≡ q
+equal_row r q h =
+    let a = and_parts (eqb r.student q.student) (eqb r.exam q.exam && (eqb r.period q.period && (eqb r.room q.room && eqb r.seat q.seat))) h in
+    let b = and_parts (eqb r.exam q.exam) (eqb r.period q.period && (eqb r.room q.room && eqb r.seat q.seat)) a.1 in
+    let c = and_parts (eqb r.period q.period) (eqb r.room q.room && eqb r.seat q.seat) b.1 in
+    let d = and_parts (eqb r.room q.room) (eqb r.seat q.seat) c.1 in
+    fields (eqb-true r.student q.student a.0) (eqb-true r.exam q.exam b.0) (eqb-true r.period q.period c.0) (eqb-true r.room q.room d.0) (eqb-true r.seat q.seat d.1)
+  where
+    fields : r.student ≡ q.student → r.exam ≡ q.exam → r.period ≡ q.period → r.room ≡ q.room → r.seat ≡ q.seat → r ≡ q
+    fields a b c d e = λ i. record { student = a i; exam = b i; period = c i; room = d i; seat = e i }
+
+equal_rows : (rs qs : List SeatRow) → same_rows rs qs ≡ true → rs ≡ qs
+equal_rows [] [] h = refl
+equal_rows [] (q ∷ qs) h = cc
+equal_rows (r ∷ rs) [] h = cc
+equal_rows (r ∷ rs) (q ∷ qs) h =
+    let parts = and_parts (same_row r q) (same_rows rs qs) h in
+    ap₂ (λ x xs. x ∷ xs) (equal_row r q parts.0) (equal_rows rs qs parts.1)
+
+pub same_share : (I : Session) (old new : List SeatRow) (s : ℕ) → is_changed old new s ≡ false
+    → share_of I.periods I.weights (rows_of s old) ≡ share_of I.periods I.weights (rows_of s new)
+same_share I old new s h =
+    ap (share_of I.periods I.weights) (equal_rows (rows_of s old) (rows_of s new) (not-false (same_rows (rows_of s old) (rows_of s new)) h))
+
+-- ---- whose shares
+
+firsts : (f : ℕ → PersonalPenalty) (xs : List ℕ) → map (λ (share : ℕ × PersonalPenalty). share.0) (map (λ s. (s, f s)) xs) ≡ xs
+firsts f [] = refl
+firsts f (x ∷ xs) = ap (λ ys. x ∷ ys) (firsts f xs)
+
+sharing : (I : Session) (rows : List SeatRow) → map (λ (share : ℕ × PersonalPenalty). share.0) (student_shares I rows) ≡ students_of rows
+sharing I rows = firsts (λ s. share_of I.periods I.weights (rows_of s rows)) (students_of rows)
+
+pub shares_ascend : (I : Session) (rows : List SeatRow) → IsAscending (map (λ (share : ℕ × PersonalPenalty). share.0) (student_shares I rows))
+shares_ascend I rows = subst IsAscending (sym (sharing I rows)) (ascends (map (λ (row : SeatRow). row.student) rows))
+
+pub shares_seated : (I : Session) (rows : List SeatRow) (s : ℕ) → has_student (map (λ (share : ℕ × PersonalPenalty). share.0) (student_shares I rows)) s ≡ has_row rows s
+shares_seated I rows s =
+    ap (λ xs. has_student xs s) (sharing I rows)
+    ∙ has_ascending (map (λ (row : SeatRow). row.student) rows) s
+    ∙ any_map (λ t. eqb t s) (λ (row : SeatRow). row.student) rows
+
+-- ---- how much
+
+each_below : {X : Type 0} (f : X → ℕ) (n : ℕ) (xs : List X) → sum_by f xs < n → AllByRecursion (λ x. f x < n) xs
+each_below f n [] h = tt
+each_below f n (x ∷ xs) h = let c = sum_by-cons f x xs in (omega arith, each_below f n xs (omega arith))
+
+pub small_shares : (n : ℕ) → n ≡ 2 ^ 62 → (shares : Sharing) → share_total shares < n → AreSmall shares
+small_shares n is shares h =
+    let a = each_below (λ (share : ℕ × PersonalPenalty). personal_total share.1) n shares.students (omega arith) in
+    let b = each_below (λ (share : ℕ). share) n shares.exams (omega arith) in
+    let c = each_below (λ (share : ℕ). share) n shares.periods (omega arith) in
+    let d = each_below (λ (share : RoomShare). share.penalty + share.mixed) n shares.rooms (omega arith) in
+    record {
+      students = subst (λ m. All (λ (share : ℕ × PersonalPenalty). personal_total share.1 < m) shares.students) is (All-from_recursion (λ (share : ℕ × PersonalPenalty). personal_total share.1 < n) shares.students a);
+      exams = subst (λ m. All (λ (share : ℕ). share < m) shares.exams) is (All-from_recursion (λ (share : ℕ). share < n) shares.exams b);
+      periods = subst (λ m. All (λ (share : ℕ). share < m) shares.periods) is (All-from_recursion (λ (share : ℕ). share < n) shares.periods c);
+      rooms = subst (λ m. All (λ (share : RoomShare). share.penalty + share.mixed < m) shares.rooms) is (All-from_recursion (λ (share : RoomShare). share.penalty + share.mixed < n) shares.rooms d);
+      total = subst (λ m. share_total shares < m) is h;
+    }
+
+pub published_small : (I : Session) (rows : List SeatRow) (T : Placing) (shares : Sharing) → IsInstance I → ArePublishedRows I rows T
+    → AddUpTo (track I (enrolled_in (length I.exams) rows) T) shares → AreSmall shares
+published_small I rows T shares known are adds =
+    let n = length I.exams in
+    let E : Enrolled = enrolled_in n rows in
+    let made = are_enrolments n rows (omega (arith, known.limits.counts.0.0)) (omega (arith, known.limits.counts.0.1)) are.few (chain_from_index RowBefore rows are.in_order) (rows_exist I rows T are) in
+    let small = penalty_small I E T known made (record { enrolments = length-map-range_with_len (students_in rows) 0 n; timetable = are.exams; places = are.places }) in
+    small_shares (2 ^ 62) refl shares (subst (λ k. k < 2 ^ 62) (sym adds.total) small)

@@ -1,0 +1,89 @@
+// Who comes to be seated, and which old rows are kept.
+ghost use Rattle.std.specs.Prelude.{◌≡◌, ◌++◌, length, map, IfOk, OnOk};
+ghost use Rattle.std.specs.List.{find};
+ghost use Rattle.exam_model.specs.Pairs.{pairs_of};
+ghost use Rattle.exam_publish.specs.Rows.{RowsInOrder, row_place};
+ghost use Rattle.exam_rules.specs.Places.{is_one_place};
+ghost use Rattle.exam_publish.specs.Seats.{is_row_at, entrant, entrants};
+
+use crate::seat_row::SeatRow;
+use exam_model::{Enrolments, ExamNo, Place, StudentNo, Timetable};
+use std::alloc::{AllocError, Global};
+
+/// A student of an exam, where the exam stands now, and her old row if that is there.
+#[derive(Clone, Copy)]
+pub struct Entrant {
+    pub student: StudentNo,
+    pub exam: ExamNo,
+    pub place: Place,
+    pub kept: Option<SeatRow>,
+}
+
+/// The entrants of all exams that have a place, in order.
+pub fn entrants_of(
+    alloc: Global,
+    enrolments: &Enrolments,
+    timetable: &Timetable,
+    old: &[SeatRow],
+) -> Result<Vec<Entrant>, AllocError>
+    requires exams { length timetable.now ≡ length enrolments.now }
+    requires in_order { RowsInOrder old.now }
+    ensures { IfOk result (λ found. found.items
+        ≡ entrants (pairs_of enrolments.now) timetable.now old.now) }
+{
+    let mut found = Vec::with_capacity(alloc, enrolments.pairs() as usize)?;
+    'exams: for exam in 0..enrolments.exams() {
+        let exam = ExamNo::new(exam);
+        let Some(place) = timetable.get(exam) else {
+            continue;
+        };
+        add_entrants(&mut found, exam, &place, enrolments.students(exam), old)?;
+    }
+    Ok(found)
+}
+
+// Adds an exam's students.
+fn add_entrants(
+    found: &mut Vec<Entrant>,
+    exam: ExamNo,
+    place: &Place,
+    students: &[StudentNo],
+    old: &[SeatRow],
+) -> Result<(), AllocError>
+    requires { RowsInOrder old.now }
+    ensures { OnOk result (found.new.items ≡ found.old.items
+        ++ map (λ s. entrant old.now (record { exam = exam; student = s }) place.now) students.now) }
+{
+    'students: for student in students {
+        let student = *student;
+        let kept = kept_row(old, exam, student, place);
+        found.push(Entrant {
+            student,
+            exam,
+            place: *place,
+            kept,
+        })?;
+    }
+    Ok(())
+}
+
+// The old row of a student's exam, if it is at this place.
+fn kept_row(old: &[SeatRow], exam: ExamNo, student: StudentNo, place: &Place) -> Option<SeatRow>
+    requires { RowsInOrder old.now }
+    ensures { result
+        ≡ find (is_row_at (record { exam = exam; student = student }) place.now) old.now }
+{
+    let searched = old.binary_search_by_key(&(exam, student), |row| (row.exam, row.student));
+    let Ok(at) = searched else {
+        return None;
+    };
+    let row = &old[at];
+    if is_at(row, place) { Some(*row) } else { None }
+}
+
+// Whether a row is in a room and period.
+fn is_at(row: &SeatRow, place: &Place) -> bool
+    ensures { result ≡ is_one_place place.now (row_place row.now) }
+{
+    place.period == row.period && place.room == row.room
+}

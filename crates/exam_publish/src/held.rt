@@ -1,0 +1,64 @@
+// The seats that are kept, and the free ones between them.
+ghost use Rattle.std.specs.Prelude.{◌≡◌, ◌≤◌, All, IfOk};
+ghost use Rattle.std.specs.List.{list_any};
+ghost use Rattle.std.specs.List.Sorted.{IsSorted};
+ghost use Rattle.exam_publish.specs.Seats.{kept_rows};
+ghost use Rattle.exam_publish.specs.Seating.{AreHeld, IsNextFree, KeepsSmallSeat, held_cmp, is_held};
+
+use crate::entrants::Entrant;
+use exam_model::{PeriodNo, Place, RoomNo};
+use std::alloc::{AllocError, Global};
+
+/// A seat that is kept; ordered by period, then room, then seat.
+#[derive(Clone, Copy, PartialEq, Eq, PartialOrd, Ord)]
+pub struct Held {
+    pub period: PeriodNo,
+    pub room: RoomNo,
+    pub seat: u32,
+}
+
+/// The seats that entrants keep, in order.
+pub fn held_seats(alloc: Global, entrants: &[Entrant]) -> Result<Vec<Held>, AllocError>
+    requires { All KeepsSmallSeat entrants.now }
+    ensures { IfOk result (λ held. AreHeld (kept_rows entrants.now) held.items) }
+{
+    let mut held = Vec::new(alloc);
+    'entrants: for entrant in entrants {
+        let Some(row) = entrant.kept else {
+            continue;
+        };
+        held.push(Held {
+            period: row.period,
+            room: row.room,
+            seat: row.seat,
+        })?;
+    }
+    held.sort_unstable();
+    Ok(held)
+}
+
+/// The least seat from this one on that nobody keeps in a room and period.
+pub fn next_free(held: &[Held], place: &Place, from: u32) -> u32
+    requires sorted { IsSorted held_cmp held.now }
+    requires small { All (λ h. h.seat ≤ 100000) held.now }
+    ensures { IsNextFree held.now place.now from result }
+{
+    let mut seat = from;
+    'seats: while is_held(held, place, seat) {
+        seat += 1;
+    }
+    seat
+}
+
+// Whether somebody keeps this seat.
+fn is_held(held: &[Held], place: &Place, seat: u32) -> bool
+    requires { IsSorted held_cmp held.now }
+    ensures { result ≡ list_any (is_held place.now seat) held.now }
+{
+    let searched = Held {
+        period: place.period,
+        room: place.room,
+        seat,
+    };
+    held.binary_search(&searched).is_ok()
+}
