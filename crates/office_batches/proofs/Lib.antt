@@ -1,1 +1,2 @@
 mod RecordLemmas
+mod TurnLemmas

@@ -14,6 +14,7 @@ use Rattle.exam_model.specs.declared.change.Change.{Change}
 use Rattle.office_files.specs.Reading.{at_line}
 use Rattle.office_files.specs.declared.fault.FaultKind.TheVariants.{BadHeader}
 use Rattle.office_files.specs.declared.fault.FileFault.{FileFault}
+use Rattle.office_batches.proofs.TurnLemmas.{all_records}
 use Rattle.office_batches.specs.BatchText.{Record, behind, changes_from, records_in}
 
 -- the bytes that a slice gives as a reader
@@ -78,7 +79,9 @@ started text reader source config trim ready begins = record {
   trim = trim;
   ready = ready;
   counted = omega arith;
-  whole = ap (λ (s : State). changes_from 1 [] (records_from default_config (length text + 1) s (strip_bom text))) (sym begins);
+  whole = ap (changes_from 1 []) (sym (all_records text))
+      ∙ ap (λ (s : State). changes_from 1 [] (records_from default_config (length text + 1) s (strip_bom text)))
+      (sym begins);
 }
 
 module _ (text : List ℕ) (a b : Reader (Bor (List ℕ))) (changes : List Change) (before : ℕ)

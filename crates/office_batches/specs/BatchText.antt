@@ -2,8 +2,7 @@
 -- the first names the columns.
 use Rattle.std.specs.Prelude.{ℕ, ◌+◌, Bool, true, false, ◌&&◌, ◌||◌, ◌==◌, nat_le, if◌then◌else◌, List, [], ◌∷◌, ◌++◌, length, codes, slice_index_or, Result, Ok, Err}
 use Rattle.std.specs.Str.{str_eq_ignore_ascii_case}
-use Rattle.csv.specs.Reading.{default_config, records_from, strip_bom}
-use Rattle.csv.specs.declared.parser.State.TheVariants as state
+use Rattle.csv.specs.Reading.{default_config, records, strip_bom}
 use Rattle.exam_terms.specs.Refusing.{◌>>=◌, unless}
 use Rattle.exam_model.specs.declared.change.Change.{Change}
 use Rattle.office_files.specs.Fields.{trimmed}
@@ -65,10 +64,9 @@ changes_from line before [] =
 changes_from line before (fields ∷ others) =
     at_line line (behind line before fields) >>= λ now. changes_from (line + 1) now others
 
--- the records of a text, without a byte order mark; each ends with a byte or with the text, so
--- there are no more than these
+-- the records of a text, without a byte order mark
 abbrev pub records_in : List ℕ → List Record
-records_in b = records_from default_config (length b + 1) state.StartRecord (strip_bom b)
+records_in b = records default_config (strip_bom b)
 
 -- the reading of a batch: the changes that it spells, or its first fault
 abbrev pub batch_in : List ℕ → Result (List Change) FileFault
