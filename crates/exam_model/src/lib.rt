@@ -1,6 +1,7 @@
 //! The values of an examination session: an instance, enrolments and a timetable.
 #![tactic(auto)]
 
+mod change;
 mod enrolments;
 mod fault;
 mod instance;
@@ -12,6 +13,7 @@ mod roll;
 mod rules;
 mod timetable;
 
+pub use change::Change;
 pub use enrolments::Enrolments;
 pub use exam_calendar::Date;
 pub use exam_terms::{DeptNo, ExamNo, PeriodNo, Place, RoomNo, StudentNo};

@@ -1,0 +1,2 @@
+mod RecordLemmas
+mod TurnLemmas

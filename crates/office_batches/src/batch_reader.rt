@@ -1,0 +1,74 @@
+// Reading a batch.
+ghost use Rattle.std.specs.Prelude.{◌≡◌, ◌≤◌, ◌+◌, ◌∷◌, [], length, IfErr};
+ghost use Rattle.csv.specs.Records.{fields_of};
+ghost use Rattle.office_files.specs.Faults.{IsOfNoLine};
+ghost use Rattle.office_files.specs.Reading.{Gives, at_line};
+ghost use Rattle.office_batches.specs.BatchText.{batch_in, behind, changes_from, records_in};
+
+use crate::change_reader::{change_in, is_header};
+use csv::{ByteRecord, ReaderBuilder};
+use exam_model::Change;
+use office_files::{FaultKind, FileFault};
+use std::alloc::Global;
+
+// The longest batch, in bytes.
+const LONGEST_BATCH: usize = 1_048_576;
+
+/// The changes that a batch spells: records of comma-separated values, the first of which is
+/// `student,exam,action`. A fault is that of the first faulty record, counted from 1, and in it
+/// that of the first faulty field; any fault of the first record is `BadHeader`. `TooLong` (above
+/// 1,048,576 bytes) and `NoMemory` have line 0.
+pub fn read_batch(alloc: Global, text: &[u8]) -> Result<Vec<Change>, FileFault>
+    ensures exact { Gives (λ read. read.items) result (batch_in text.now) }
+    ensures memory { IfErr result IsOfNoLine }
+{
+    if text.len() > LONGEST_BATCH {
+        return Err(FileFault {
+            line: 0,
+            what: FaultKind::TooLong,
+        });
+    }
+    changes_in(alloc, text)
+}
+
+// The changes of a batch that is not too long.
+fn changes_in(alloc: Global, text: &[u8]) -> Result<Vec<Change>, FileFault>
+    requires { length text.now ≤ 1048576 }
+    ensures exact { Gives (λ read. read.items) result (changes_from 1 [] (records_in text.now)) }
+    ensures memory { IfErr result IsOfNoLine }
+{
+    let mut reader = ReaderBuilder::new()
+        .has_headers(false)
+        .flexible(true)
+        .from_reader(alloc, text);
+    let mut row = ByteRecord::new(alloc);
+    let mut changes: Vec<Change> = Vec::new(alloc);
+    let last = text.len() as u32 + 1; // so many records there are at most
+    'records: for before in 0..last {
+        match reader.read_byte_record(&mut row) {
+            Ok(true) => add_record(&mut changes, &row, before + 1)?,
+            Ok(false) if before == 0 => return Err(FileFault::at(1, FaultKind::BadHeader)),
+            Ok(false) => return Ok(changes),
+            Err(_) => return Err(FileFault::NO_MEMORY),
+        }
+    }
+    Ok(changes)
+}
+
+// Puts what a record says behind the changes before it.
+fn add_record(changes: &mut Vec<Change>, row: &ByteRecord, line: u32) -> Result<(), FileFault>
+    ensures exact { Gives (λ _. changes.new.items) result
+        (at_line line (behind line changes.old.items (fields_of row.now))) }
+    ensures memory { IfErr result IsOfNoLine }
+{
+    if line == 1 {
+        if !is_header(row) {
+            return Err(FileFault::at(line, FaultKind::BadHeader));
+        }
+        return Ok(());
+    }
+    match change_in(row) {
+        Ok(change) => Ok(changes.push(change)?),
+        Err(what) => Err(FileFault::at(line, what)),
+    }
+}

@@ -1,0 +1,67 @@
+// Reading one record of a batch.
+ghost use Rattle.std.specs.Prelude.{◌≡◌, Ok, Err};
+ghost use Rattle.std.specs.Prelude.{codes};
+ghost use Rattle.csv.specs.Records.{fields_of};
+ghost use Rattle.office_batches.specs.BatchText.{action, change_in, field, has_three, is_header, says};
+
+use csv::ByteRecord;
+use exam_model::{Change, ExamNo, StudentNo};
+use office_files::{FaultKind, number, same_word, trimmed};
+
+/// Whether a record names the columns.
+pub fn is_header(row: &ByteRecord) -> bool
+    ensures { result ≡ is_header (fields_of row.now) }
+{
+    says(row, 0, b"student") && says(row, 1, b"exam") && says(row, 2, b"action") && has_three(row)
+}
+
+/// The change that a record says.
+pub fn change_in(row: &ByteRecord) -> Result<Change, FaultKind>
+    ensures { result ≡ change_in (fields_of row.now) }
+{
+    let student = StudentNo::new(number(field(row, 0), 999_999_999)?);
+    let student = student.ok_or(FaultKind::OutOfRange)?;
+    let exam = ExamNo::new(number(field(row, 1), 1999)?);
+    let add = action(row)?;
+    if !has_three(row) {
+        return Err(FaultKind::StrayText);
+    }
+    Ok(Change { student, exam, add })
+}
+
+// Whether the student is added.
+fn action(row: &ByteRecord) -> Result<bool, FaultKind>
+    ensures { result ≡ action (fields_of row.now) }
+{
+    if says(row, 2, b"add") {
+        return Ok(true);
+    }
+    if says(row, 2, b"drop") {
+        return Ok(false);
+    }
+    Err(FaultKind::BadWord)
+}
+
+// Whether nothing stands behind the third field, but for one empty field at the end.
+fn has_three(row: &ByteRecord) -> bool
+    ensures { result ≡ has_three (fields_of row.now) }
+{
+    row.len() <= 3 || (row.len() == 4 && field(row, 3).is_empty())
+}
+
+// Whether a field is the word.
+fn says(row: &ByteRecord, place: usize, word: &[u8]) -> bool
+    ensures { result ≡ says (fields_of row.now) place word.now }
+{
+    same_word(field(row, place), word)
+}
+
+// A field without the blanks around it, empty where it is missing.
+fn field(row: &ByteRecord, place: usize) -> &[u8]
+    ensures { result.now ≡ field (fields_of row.now) place }
+{
+    match row.get(place) {
+        Some(field) => trimmed(field),
+        None => &[],
+    }
+}
