@@ -2,7 +2,7 @@
 use Rattle.std.proofs.Common.{◌≡◌, ◌∙◌, ℕ, ◌+◌, ◌-◌, ◌<◌, ◌≤◌, Bool, true, false, List, [], length, set, refl, sym, ap, subst, arith, slice_index_or, Fits, w32, Result, Ok, Err, OnErr}
 use Rattle.std.specs.Prelude.{not}
 use Rattle.std.proofs.lemmas.List.{get_or_read, set-get_or}
-use Rattle.exam_model.specs.Enrolments.{Enrolled, AreEnrolments, IsAscending, Enters, Leaves, Adds, Removes, students, has, has_student, pair_count}
+use Rattle.exam_model.specs.Enrolments.{Enrolled, AreEnrolments, AreNumbers, IsAscending, Enters, Leaves, Adds, Removes, students, has, has_student, pair_count}
 use Rattle.exam_model.specs.Changes.{with_pair, without_pair}
 use Rattle.exam_model.proofs.StudentLemmas.{entered, left}
 use Rattle.exam_model.proofs.EnrolmentLemmas.{adds_set, enrolments_set, removes_set, enrolments_left}
@@ -69,23 +69,23 @@ pair_entered E e s p roll new lt is enters was =
 
 -- and the count goes up for one who is new, and stays for one who isn't
 pub counted_new : (E : Enrolled) (e s p : ℕ) (roll new : List ℕ) → e < length E
-    → roll ≡ slice_index_or E e roll → Enters roll new s → has_student roll s ≡ false
+    → s ≤ 999999999 → roll ≡ slice_index_or E e roll → Enters roll new s → has_student roll s ≡ false
     → p < 200000 → IsCounted E p → IsCounted (set E e new) (p + 1)
-counted_new E e s p roll new lt is enters absent room was =
+counted_new E e s p roll new lt known is enters absent room was =
     let here = subst (λ (r : List ℕ). Enters r new s) (get_or_read E e roll lt is []) enters in
     let none = sym (is_has E e s roll lt is) ∙ absent in
     let count : p ≡ pair_count E = was.1 in
     let more = rw none at ((adds_set E e s new lt here).pairs) in
-    (enrolments_set E e s new lt here (λ x. omega arith) was.0, omega arith)
+    (enrolments_set E e s new lt known here (λ x. omega arith) was.0, omega arith)
 
 pub counted_old : (E : Enrolled) (e s p : ℕ) (roll new : List ℕ) → e < length E
-    → roll ≡ slice_index_or E e roll → Enters roll new s → has_student roll s ≡ true
+    → s ≤ 999999999 → roll ≡ slice_index_or E e roll → Enters roll new s → has_student roll s ≡ true
     → IsCounted E p → IsCounted (set E e new) p
-counted_old E e s p roll new lt is enters present was =
+counted_old E e s p roll new lt known is enters present was =
     let here = subst (λ (r : List ℕ). Enters r new s) (get_or_read E e roll lt is []) enters in
     let there : has E s e ≡ true = sym (is_has E e s roll lt is) ∙ present in
     let same = rw there at ((adds_set E e s new lt here).pairs) in
-    (enrolments_set E e s new lt here (λ x. absurd (cc)) was.0, was.1 ∙ sym same)
+    (enrolments_set E e s new lt known here (λ x. absurd (cc)) was.0, was.1 ∙ sym same)
 
 -- a student taken out of the exam's list is a pair taken out
 pub removes_left : (E : Enrolled) (e s : ℕ) (roll new : List ℕ) → e < length E
@@ -125,12 +125,12 @@ count_same E e s p roll new lt is leaves absent was =
 
 -- students put into an exam that has none are so many pairs more
 pub counted_filled : (E : Enrolled) (e p : ℕ) (xs : List ℕ) → e < length E → students E e ≡ []
-    → IsAscending xs → length xs ≤ 200000 - p → IsCounted E p
+    → IsAscending xs → AreNumbers xs → length xs ≤ 200000 - p → IsCounted E p
     → IsCounted (set E e xs) (p + length xs)
-counted_filled E e p xs lt none up fits was =
+counted_filled E e p xs lt none up known fits was =
     let count : p ≡ pair_count E = was.1 in
     let sum = pair_count-enrol E e xs lt none in
-    (enrolments_enrol E e xs lt none up (omega (arith, was.0.pairs)) was.0, omega arith)
+    (enrolments_enrol E e xs lt none up known (omega (arith, was.0.pairs)) was.0, omega arith)
 
 -- more students than there is room for are refused, and so many as there is room for have a number
 pub more_refuse : (E : Enrolled) (p n : ℕ) → 200000 - p < n → IsCounted E p

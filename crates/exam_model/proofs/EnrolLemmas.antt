@@ -4,7 +4,7 @@ use Rattle.std.proofs.Common.{get_or-set_other, get_or-set_same}
 use Rattle.std.proofs.lemmas.Bool.{cases_eq}
 use Rattle.std.proofs.lemmas.List.{length-set}
 use Rattle.std.proofs.lemmas.List.Sums.{sum_by-set}
-use Rattle.exam_model.specs.Enrolments.{Enrolled, AreEnrolments, IsAscending, students, pair_count}
+use Rattle.exam_model.specs.Enrolments.{Enrolled, AreEnrolments, AreNumbers, IsAscending, students, pair_count}
 
 -- so many pairs are there with these students in an exam that had none
 pub pair_count-enrol : (E : Enrolled) (e : ℕ) (xs : List ℕ) → e < length E → students E e ≡ [] →
@@ -16,9 +16,9 @@ pair_count-enrol E e xs lt none =
 
 -- and they stay what every value of the type keeps
 pub enrolments_enrol : (E : Enrolled) (e : ℕ) (xs : List ℕ) → e < length E → students E e ≡ [] →
-    IsAscending xs → pair_count E + length xs ≤ 200000 → AreEnrolments E →
+    IsAscending xs → AreNumbers xs → pair_count E + length xs ≤ 200000 → AreEnrolments E →
     AreEnrolments (set E e xs)
-enrolments_enrol E e xs lt none up fits was = record {
+enrolments_enrol E e xs lt none up known fits was = record {
   exams = omega (arith, length-set E e xs, was.exams);
   ascending = λ f within. elim (cases_eq f e) [
     | inl same ↦ rw same (rw (get_or-set_same E e xs [] lt) up)
@@ -26,4 +26,8 @@ enrolments_enrol E e xs lt none up fits was = record {
         (was.ascending f (omega (arith, length-set E e xs)))
   ];
   pairs = omega (arith, pair_count-enrol E e xs lt none);
+  numbers = λ f. elim (cases_eq f e) [
+    | inl same ↦ rw same (rw (get_or-set_same E e xs [] lt) known)
+    | inr other ↦ rw (get_or-set_other E e f xs [] other) (was.numbers f)
+  ];
 }

@@ -1,12 +1,13 @@
 -- What the lists of students are after a change, and with no pair.
-use Rattle.std.proofs.Common.{◌≡◌, ℕ, zero, suc, ◌+◌, ◌<◌, ◌≤◌, Bool, true, false, List, [], length, set, refl, subst, sym, inl, inr, arith, if◌then◌else◌}
+use mathlib.Core.Bool.{true≢false}
+use Rattle.std.proofs.Common.{◌≡◌, ◌∙◌, eqb, ℕ, zero, suc, ◌+◌, ◌<◌, ◌≤◌, Bool, true, false, List, [], length, set, refl, subst, sym, inl, inr, arith, if◌then◌else◌}
 use Rattle.std.specs.Prelude.{◌==◌, ◌||◌, ◌&&◌, not, replicate}
 use Rattle.std.proofs.lemmas.Bool.{eq-eqb, ne_eqb, cases_eq}
 use Rattle.std.proofs.lemmas.List.{length-set}
 use Rattle.std.proofs.lemmas.List.Folds.{sum_by-replicate}
 use Rattle.std.proofs.lemmas.List.Sums.{sum_by-set, get_or-le-sum_by}
 use Rattle.std.proofs.Common.{get_or-set_other, get_or-set_same}
-use Rattle.exam_model.specs.Enrolments.{Enrolled, AreEnrolments, Enters, Leaves, Adds, Removes, students, has, size_of, pair_count, no_pairs}
+use Rattle.exam_model.specs.Enrolments.{Enrolled, AreEnrolments, AreNumbers, has_student, Enters, Leaves, Adds, Removes, students, has, size_of, pair_count, no_pairs}
 
 -- no exam has more students than there are pairs
 pub size-le : (E : Enrolled) (e : ℕ) → e < length E → size_of E e ≤ pair_count E
@@ -30,6 +31,7 @@ enrolments_none n low high = record {
   exams = omega (arith, length-none n);
   ascending = λ e lt. rw (students-none n e) (λ i j below within. absurd (omega arith));
   pairs = omega (arith, pair_count-none n);
+  numbers = λ e. rw (students-none n e) (λ s is. absurd (true≢false (sym is)));
 }
 
 pub and-true : (a : Bool) → (a && true) ≡ a
@@ -76,11 +78,28 @@ adds_set E e s new lt enters = record {
       let back : f ≡ e → ⊥ = λ q. other (sym q) in
       rw (ne_eqb e f other, get_or-set_other E e f new [] back, and-false (s == t)) refl
 
+-- a number comes in, and one goes
+numbers_entered : (old new : List ℕ) (s : ℕ) → s ≤ 999999999 → Enters old new s → AreNumbers old
+    → AreNumbers new
+numbers_entered old new s known enters was t is =
+    elim (cases_eq s t) [
+      | inl same ↦ subst (λ (x : ℕ). x ≤ 999999999) same known
+      | inr other ↦ was t (subst (λ b. (b || has_student old t) ≡ true) (ne_eqb s t other)
+          (sym (enters.members t) ∙ is))
+    ]
+
+and_right : (a b : Bool) → (a && b) ≡ true → b ≡ true
+and_right true b is = is
+and_right false b is = absurd (cc)
+
+numbers_left : (old new : List ℕ) (s : ℕ) → Leaves old new s → AreNumbers old → AreNumbers new
+numbers_left old new s leaves was t is = was t (and_right (not (eqb s t)) (has_student old t) (sym (leaves.members t) ∙ is))
+
 -- and keeps what every value of the type keeps, where there is room for a new pair
-pub enrolments_set : (E : Enrolled) (e s : ℕ) (new : List ℕ) → e < length E
+pub enrolments_set : (E : Enrolled) (e s : ℕ) (new : List ℕ) → e < length E → s ≤ 999999999
     → Enters (students E e) new s → (has E s e ≡ false → pair_count E < 200000) → AreEnrolments E
     → AreEnrolments (set E e new)
-enrolments_set E e s new lt enters room was = record {
+enrolments_set E e s new lt known enters room was = record {
   exams = omega (arith, length-set E e new, was.exams);
   ascending = λ f within. elim (cases_eq f e) [
     | inl same ↦ rw same (rw (get_or-set_same E e new [] lt) enters.ascending)
@@ -88,6 +107,10 @@ enrolments_set E e s new lt enters room was = record {
         (was.ascending f (omega (arith, length-set E e new)))
   ];
   pairs = fits;
+  numbers = λ f. elim (cases_eq f e) [
+    | inl same ↦ rw same (rw (get_or-set_same E e new [] lt) (numbers_entered _ new s known enters (was.numbers e)))
+    | inr other ↦ rw (get_or-set_other E e f new [] other) (was.numbers f)
+  ];
 } where
   fits : pair_count (set E e new) ≤ 200000
   fits = elim (has E s e) as (λ b. has E s e ≡ b → pair_count (set E e new) ≤ 200000) [
@@ -146,6 +169,10 @@ enrolments_left E e s new lt leaves was = record {
     | false ↦ λ is. let left = rw is at (removes_set E e s new lt leaves).pairs in
         omega (arith, was.pairs)
   ] refl;
+  numbers = λ f. elim (cases_eq f e) [
+    | inl same ↦ rw same (rw (get_or-set_same E e new [] lt) (numbers_left _ new s leaves (was.numbers e)))
+    | inr other ↦ rw (get_or-set_other E e f new [] other) (was.numbers f)
+  ];
 }
 
 pub ruleset size_facts = (size-le)

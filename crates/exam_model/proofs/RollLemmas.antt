@@ -1,16 +1,17 @@
 -- What a search finds among ascending numbers, and what an insert at that place leaves.
-use Rattle.std.proofs.Common.{◌≡◌, ℕ, suc, ◌+◌, ◌-◌, ◌<◌, ◌≤◌, Bool, true, false, List, ◌∷◌, ◌++◌, length, Result, Ok, Err, IfOk, IfErr, refl, ap, subst, sym, ◌∙◌, inl, inr, arith, take, drop}
+use Rattle.std.proofs.Common.{◌≡◌, ℕ, suc, ◌+◌, ◌-◌, ◌<◌, ◌≤◌, Bool, true, false, List, [], ◌∷◌, ◌++◌, length, Result, Ok, Err, IfOk, IfErr, refl, ap, subst, sym, ◌∙◌, inl, inr, arith, take, drop}
 use Rattle.std.specs.Prelude.{◌==◌, ◌||◌, ◌&&◌, not, is_ok, slice_index}
 use Rattle.std.specs.List.{insert, remove, list_any}
 use Rattle.std.specs.List.Sorted.{IsBinarySearchResult}
 use Rattle.std.specs.Ordering.{nat_cmp}
 use Rattle.std.proofs.Math.Seq.{split_at}
-use Rattle.std.proofs.lemmas.Bool.{eq-eqb, eqb-true, ne_eqb, cases_lt}
+use mathlib.Core.Bool.{true≢false}
+use Rattle.std.proofs.lemmas.Bool.{eq-eqb, eqb-true, ne_eqb, cases_eq, cases_lt}
 use Rattle.std.proofs.lemmas.List.{get_or_default, take-append-drop}
 use Rattle.std.proofs.lemmas.List.Sorted.{searched}
 use Rattle.std.proofs.lemmas.List.Edits.{length-insert, get_or-insert_below, get_or-insert_at, get_or-insert_above, length-remove, get_or-remove_below, get_or-remove_above}
 use Rattle.std.proofs.lemmas.List.Folds.{list_any_at, list_any_none, list_any-append}
-use Rattle.exam_model.specs.Enrolments.{IsAscending, IsAt, IsGap, Enters, Leaves, has_student}
+use Rattle.exam_model.specs.Enrolments.{AreNumbers, IsAscending, IsAt, IsGap, Enters, Leaves, has_student}
 
 -- ascending numbers rise
 pub rise : (xs : List ℕ) → IsAscending xs → (i j : ℕ) → i ≤ j → j < length xs
@@ -179,5 +180,16 @@ leaves_again xs x i gap up = record {
   size = rw (has_gap xs x i gap) refl;
   ascending = up;
 }
+
+-- numbers at all places are numbers of all members
+pub are_numbers : (xs : List ℕ) → ((k : ℕ) → k < length xs → slice_index xs k ≤ 999999999)
+    → AreNumbers xs
+are_numbers [] each s is = absurd (true≢false (sym is))
+are_numbers (x ∷ xs) each s is =
+    elim (cases_eq x s) [
+      | inl same ↦ subst (λ (t : ℕ). t ≤ 999999999) same (each 0 (omega arith))
+      | inr other ↦ are_numbers xs (λ k lt. each (suc k) (omega arith)) s
+          (subst (λ b. (b || has_student xs s) ≡ true) (ne_eqb x s other) is)
+    ]
 
 pub ruleset roll_facts = (has_at, has_gap, ascending_insert, enters_insert, enters_again, leaves_remove, leaves_again)

@@ -1,6 +1,7 @@
 -- A set of pairs (student, exam), seen as the students of each exam in ascending order.
-use Rattle.std.specs.Prelude.{◌≡◌, ℕ, ◌+◌, ◌<◌, ◌≤◌, Bool, false, not, ◌&&◌, ◌||◌, ◌==◌, if◌then◌else◌, List, [], length, slice_index, slice_index_or, sum_by, count_by, replicate}
+use Rattle.std.specs.Prelude.{◌≡◌, ℕ, ◌+◌, ◌<◌, ◌≤◌, Bool, true, false, not, ◌&&◌, ◌||◌, ◌==◌, if◌then◌else◌, List, [], length, slice_index, slice_index_or, sum_by, count_by, replicate}
 use Rattle.std.specs.List.{list_any}
+use Rattle.exam_terms.specs.declared.limits.TheConstants.{MAX_EXAMS, MAX_PAIRS, MAX_STUDENT}
 use Rattle.exam_model.specs.declared.fault.ModelFault.{ModelFault}
 use Rattle.exam_model.specs.declared.fault.ModelFault.TheVariants.{Range, NoSuch, NoMemory}
 
@@ -15,6 +16,10 @@ has_student students s = list_any (λ t. t == s) students
 -- each number is greater than those before it
 abbrev pub IsAscending : List ℕ → Type 0
 IsAscending xs = (i j : ℕ) → i < j → j < length xs → slice_index xs i < slice_index xs j
+
+-- each is a number that a student can have
+abbrev pub AreNumbers : List ℕ → Type 0
+AreNumbers xs = (s : ℕ) → has_student xs s ≡ true → s ≤ MAX_STUDENT
 
 -- the students of an exam, and none where there is no such exam
 abbrev pub students : Enrolled → ℕ → List ℕ
@@ -38,9 +43,10 @@ pair_count E = sum_by length E
 
 -- what every value of the type keeps
 pub record AreEnrolments (E : Enrolled) : Type 0 where
-  pub exams : (1 ≤ length E) × (length E ≤ 2000)
+  pub exams : (1 ≤ length E) × (length E ≤ MAX_EXAMS)
   pub ascending : (e : ℕ) → e < length E → IsAscending (students E e)
-  pub pairs : pair_count E ≤ 200000
+  pub pairs : pair_count E ≤ MAX_PAIRS
+  pub numbers : (e : ℕ) → AreNumbers (students E e)
 
 -- no pairs, for so many exams
 abbrev pub no_pairs : ℕ → Enrolled
@@ -61,13 +67,13 @@ pub record Removes (old new : Enrolled) (s e : ℕ) : Type 0 where
 -- why a pair is not added: no such exam, then no room for a pair that is new
 abbrev pub RefusesPair : Enrolled → ℕ → ℕ → ModelFault → Type 0
 RefusesPair E s e NoSuch = length E ≤ e
-RefusesPair E s e Range = (e < length E) × (has E s e ≡ false) × (pair_count E ≡ 200000)
+RefusesPair E s e Range = (e < length E) × (has E s e ≡ false) × (pair_count E ≡ MAX_PAIRS)
 RefusesPair E s e NoMemory = Unit {0}
 
 -- why students are not put into an exam that has none: there is no room for so many pairs
 abbrev pub RefusesAll : Enrolled → List ℕ → ModelFault → Type 0
 RefusesAll E xs NoSuch = ⊥
-RefusesAll E xs Range = 200000 < pair_count E + length xs
+RefusesAll E xs Range = MAX_PAIRS < pair_count E + length xs
 RefusesAll E xs NoMemory = Unit {0}
 
 -- student s stands at place i of the list

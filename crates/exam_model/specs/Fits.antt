@@ -14,6 +14,11 @@ abbrev pub PlaceExists : Session → Option Place → Type 0
 PlaceExists I None = Unit {0}
 PlaceExists I (Some at) = (at.period < length I.periods) × (at.room < length I.rooms)
 
+-- a timetable of just the session's exams, and every place in it exists
+pub record Suits (I : Session) (T : Placing) : Type 0 where
+  pub exams : length T ≡ length I.exams
+  pub places : All (PlaceExists I) T
+
 -- the three speak of one number of exams, and the places in the timetable exist
 pub record Fits (I : Session) (E : Enrolled) (T : Placing) : Type 0 where
   pub enrolments : length E ≡ length I.exams

@@ -1,5 +1,6 @@
 -- The limits of the numbers in an instance.
 use Rattle.std.specs.Prelude.{ℕ, ◌≤◌, IsTrue}
+use Rattle.exam_terms.specs.declared.limits.TheConstants.{MAX_AMOUNT, MAX_EXAMS, MAX_MINUTES, MAX_PERIODS, MAX_ROOMS, MAX_RULES}
 use Rattle.exam_calendar.specs.Dates.{is_civil}
 use Rattle.exam_model.specs.declared.parts.Exam.{Exam}
 use Rattle.exam_model.specs.declared.parts.Period.{Period}
@@ -8,11 +9,11 @@ use Rattle.exam_model.specs.declared.parts.Weights.{Weights}
 
 -- a capacity, a penalty, a weight, FRONTLOAD's number of exams or periods, or the period spread
 abbrev pub IsAmount : ℕ → Type 0
-IsAmount n = n ≤ 100000
+IsAmount n = n ≤ MAX_AMOUNT
 
 -- a length of time within one day
 abbrev pub IsMinutes : ℕ → Type 0
-IsMinutes n = n ≤ 1440
+IsMinutes n = n ≤ MAX_MINUTES
 
 -- how long it lasts
 abbrev pub ExamInLimits : Exam → Type 0
@@ -41,5 +42,5 @@ IsCount limit n = (1 ≤ n) × (n ≤ limit)
 -- so many exams, periods, rooms, rules on periods and rules on rooms
 abbrev pub AreCounted : ℕ → ℕ → ℕ → ℕ → ℕ → Type 0
 AreCounted exams periods rooms period_rules room_rules =
-    IsCount 2000 exams × IsCount 200 periods × IsCount 200 rooms
-    × (period_rules ≤ 5000) × (room_rules ≤ 5000)
+    IsCount MAX_EXAMS exams × IsCount MAX_PERIODS periods × IsCount MAX_ROOMS rooms
+    × (period_rules ≤ MAX_RULES) × (room_rules ≤ MAX_RULES)

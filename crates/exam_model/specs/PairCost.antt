@@ -1,11 +1,12 @@
 -- What two exams of one student cost, by the periods where they stand.
 use Rattle.std.specs.Prelude.{◌≡◌, ℕ, ◌≤◌, Option, Some, None}
+use Rattle.exam_terms.specs.declared.limits.TheConstants.{MAX_AMOUNT}
 
 -- what every such cost keeps: either order, nothing within one period, and a limit
 pub record CostLaws {C : Type 0} (cost_of : C → ℕ → ℕ → ℕ) : Type 0 where
   pub symmetric : (c : C) (p q : ℕ) → cost_of c p q ≡ cost_of c q p
   pub zero_on_equal : (c : C) (p : ℕ) → cost_of c p p ≡ 0
-  pub small : (c : C) (p q : ℕ) → cost_of c p q ≤ 100000
+  pub small : (c : C) (p q : ℕ) → cost_of c p q ≤ MAX_AMOUNT
 
 -- the cost of two exams by their periods, nothing where one stands nowhere
 abbrev pub cost_between : (ℕ → ℕ → ℕ) → Option ℕ → Option ℕ → ℕ

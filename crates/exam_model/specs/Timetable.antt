@@ -1,5 +1,6 @@
 -- A timetable: a partial map from the exams 0, 1, 2, .. to places.
 use Rattle.std.specs.Prelude.{◌≡◌, ℕ, ◌<◌, ◌≤◌, List, length, Option, None, IsSome, slice_index_or, replicate}
+use Rattle.exam_terms.specs.declared.limits.TheConstants.{MAX_EXAMS}
 use Rattle.exam_terms.specs.declared.place.Place.{Place}
 
 -- at each exam's number its place, if it has one
@@ -16,7 +17,7 @@ unplaced exams = replicate exams None
 
 -- a number of exams that a timetable may have
 abbrev pub HasExams : Placing → Type 0
-HasExams t = (1 ≤ length t) × (length t ≤ 2000)
+HasExams t = (1 ≤ length t) × (length t ≤ MAX_EXAMS)
 
 -- the exam has no place, and each smaller one has
 pub record IsFirstUnplaced (t : Placing) (e : ℕ) : Type 0 where

@@ -1,15 +1,15 @@
 // Which student sits which exam: contracts see each exam's students, ascending.
 ghost use Rattle.std.specs.Prelude.{◌≡◌, ◌<◌, ◌≤◌, [], not, length, slice_set, IfOk, IfErr, OnOk, OnErr};
+ghost use Rattle.exam_terms.specs.declared.limits.TheConstants.{MAX_EXAMS};
 ghost use Rattle.exam_model.specs.Changes.{with_pair, without_pair};
 ghost use Rattle.exam_model.specs.Enrolments.{Enrolled, AreEnrolments, IsAscending, Adds, Removes, RefusesPair, RefusesAll, students, has, size_of, shared, pair_count, no_pairs};
 
 use crate::fault::ModelFault;
 use crate::roll::Roll;
+use exam_terms::limits::MAX_PAIRS;
 use exam_terms::{ExamNo, StudentNo};
 use std::alloc::{AllocError, Global};
 use std::marker::Model;
-
-const MOST_PAIRS: u32 = 200_000;
 
 /// A set of pairs of a student and an exam, at most 200,000, for 1 to 2,000 exams.
 #[derive(Debug, Drop)]
@@ -30,7 +30,7 @@ impl Enrolments {
     /// The empty set of pairs, for so many exams. Only memory can be refused.
     pub fn new(alloc: Global, exams: u32) -> Result<Enrolments, ModelFault>
         requires at_least { 1 ≤ exams }
-        requires at_most { exams ≤ 2000 }
+        requires at_most { exams ≤ MAX_EXAMS }
         ensures empty { IfOk result (λ made. made ≡ no_pairs exams) }
         ensures kept { IfOk result AreEnrolments }
         ensures memory { IfErr result (λ fault. fault ≡ ModelFault.NoMemory) }
@@ -133,7 +133,8 @@ impl Enrolments {
         ensures kept { AreEnrolments self.new }
         ensures refused { IfErr result (RefusesPair self.old student exam) }
     {
-        let full = self.pairs >= MOST_PAIRS;
+        let _number = student.get(); // read for its limit
+        let full = self.pairs >= MAX_PAIRS;
         let Some(roll) = self.rolls.get_mut(exam.get() as usize) else {
             return Err(ModelFault::NoSuch);
         };
@@ -174,7 +175,7 @@ impl Enrolments {
         ensures refused { IfErr result (RefusesAll self.old sitters.now) }
     {
         let count = sitters.len();
-        if count > (MOST_PAIRS - self.pairs) as usize {
+        if count > (MAX_PAIRS - self.pairs) as usize {
             return Err(ModelFault::Range);
         }
         self.rolls[exam.get() as usize].fill(sitters)?;

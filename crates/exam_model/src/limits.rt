@@ -5,6 +5,7 @@ ghost use Rattle.exam_model.specs.Instance.{session, InLimits, PeriodRuleExists,
 
 use crate::parts::{Exam, Period, Room, Weights};
 use crate::rules::{PeriodRule, RoomRule};
+use exam_terms::limits::{MAX_AMOUNT, MAX_EXAMS, MAX_MINUTES, MAX_PERIODS, MAX_ROOMS, MAX_RULES};
 
 impl Period {
     pub(crate) fn in_limits(&self) -> bool
@@ -14,8 +15,8 @@ impl Period {
             && self.hour <= 23
             && self.minute <= 59
             && self.second <= 59
-            && self.length <= 1440
-            && self.penalty <= 100_000
+            && self.length <= MAX_MINUTES
+            && self.penalty <= MAX_AMOUNT
     }
 }
 
@@ -23,13 +24,13 @@ impl Weights {
     pub(crate) fn in_limits(&self) -> bool
         ensures { IsTrue result ↔ WeightsInLimits self.now }
     {
-        self.row <= 100_000
-            && self.day <= 100_000
-            && self.spread <= 100_000
-            && self.mixed <= 100_000
-            && self.front_exams <= 100_000
-            && self.front_periods <= 100_000
-            && self.front <= 100_000
+        self.row <= MAX_AMOUNT
+            && self.day <= MAX_AMOUNT
+            && self.spread <= MAX_AMOUNT
+            && self.mixed <= MAX_AMOUNT
+            && self.front_exams <= MAX_AMOUNT
+            && self.front_periods <= MAX_AMOUNT
+            && self.front <= MAX_AMOUNT
     }
 }
 
@@ -71,28 +72,28 @@ fn are_counted(
     ensures { IsTrue result ↔ AreCounted (length exams.now) (length periods.now)
         (length rooms.now) (length period_rules.now) (length room_rules.now) }
 {
-    is_count(2000, exams.len())
-        && is_count(200, periods.len())
-        && is_count(200, rooms.len())
-        && period_rules.len() <= 5000
-        && room_rules.len() <= 5000
+    is_count(MAX_EXAMS, exams.len())
+        && is_count(MAX_PERIODS, periods.len())
+        && is_count(MAX_ROOMS, rooms.len())
+        && period_rules.len() <= MAX_RULES as usize
+        && room_rules.len() <= MAX_RULES as usize
 }
 
-fn is_count(limit: usize, count: usize) -> bool
+fn is_count(limit: u32, count: usize) -> bool
     ensures { IsTrue result ↔ IsCount limit count }
 {
-    (1..=limit).contains(&count)
+    (1..=limit as usize).contains(&count)
 }
 
 fn each_in_limits(exams: &[Exam], periods: &[Period], rooms: &[Room]) -> bool
     ensures { IsTrue result ↔ (All ExamInLimits exams.now × All PeriodInLimits periods.now
         × All RoomInLimits rooms.now) }
 {
-    exams.iter().all(|e| e.minutes <= 1440)
+    exams.iter().all(|e| e.minutes <= MAX_MINUTES)
         && periods.iter().all(|p| p.in_limits())
         && rooms
             .iter()
-            .all(|r| r.capacity <= 100_000 && r.penalty <= 100_000)
+            .all(|r| r.capacity <= MAX_AMOUNT && r.penalty <= MAX_AMOUNT)
 }
 
 /// Whether every exam that a rule names is one of so many.

@@ -1,6 +1,6 @@
 // The students of one exam, ascending: contracts see the list of their numbers.
 ghost use Rattle.std.specs.Prelude.{◌≡◌, ℕ, List, [], IfOk, IfErr, OnOk, OnErr, not};
-ghost use Rattle.exam_model.specs.Enrolments.{IsAscending, IsAt, IsGap, Enters, Leaves, has_student};
+ghost use Rattle.exam_model.specs.Enrolments.{AreNumbers, IsAscending, IsAt, IsGap, Enters, Leaves, has_student};
 
 use exam_terms::StudentNo;
 use std::alloc::{AllocError, Global};
@@ -47,8 +47,10 @@ impl Roll {
         requires empty { self.old ≡ [] }
         requires ascending { IsAscending students.now }
         ensures ok { OnOk result (self.new ≡ students.now) }
+        ensures numbers { AreNumbers students.now }
         ensures err { OnErr result (self.new ≡ self.old) }
     {
+        tell_numbers(students);
         self.students.extend_from_slice(students)
     }
 
@@ -94,5 +96,14 @@ impl Roll {
             }
             Err(_) => false,
         }
+    }
+}
+
+// Reads the numbers for their limit, and does nothing.
+fn tell_numbers(students: &[StudentNo])
+    ensures { AreNumbers students.now }
+{
+    for student in students {
+        let _number = student.get();
     }
 }

@@ -1,5 +1,6 @@
 // A timetable: contracts see a list with each exam's place, if it has one.
 ghost use Rattle.std.specs.Prelude.{◌≡◌, ◌<◌, ◌≤◌, ℕ, length, Some, None, IfOk, IfNone, IfSome, IsSome, slice_set};
+ghost use Rattle.exam_terms.specs.declared.limits.TheConstants.{MAX_EXAMS};
 ghost use Rattle.exam_model.specs.Timetable.{Placing, place_of, unplaced, HasExams, IsFirstUnplaced};
 
 use exam_terms::{ExamNo, Place};
@@ -24,7 +25,7 @@ impl Timetable {
     /// The timetable of so many exams in which none is placed.
     pub fn new(alloc: Global, exams: u32) -> Result<Timetable, AllocError>
         requires at_least { 1 ≤ exams }
-        requires at_most { exams ≤ 2000 }
+        requires at_most { exams ≤ MAX_EXAMS }
         ensures { IfOk result (λ made. made ≡ unplaced exams) }
     {
         let places = vec![in alloc; None; exams as usize]?;

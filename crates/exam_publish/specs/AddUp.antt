@@ -11,6 +11,18 @@ share_total shares =
     + sum shares.periods
     + sum_by (λ share. share.penalty + share.mixed) shares.rooms
 
+-- the shares of each kind together
+abbrev pub added_up : Sharing → Penalty
+added_up shares = record {
+  row = sum_by (λ share. share.1.row) shares.students;
+  day = sum_by (λ share. share.1.day) shares.students;
+  spread = sum_by (λ share. share.1.spread) shares.students;
+  mixed = sum_by (λ share. share.mixed) shares.rooms;
+  front = sum shares.exams;
+  period = sum shares.periods;
+  room = sum_by (λ share. share.penalty) shares.rooms;
+}
+
 -- each part is the sum of the shares of its kind, and the total that of all
 pub record AddUpTo (penalty : Penalty) (shares : Sharing) : Type 0 where
   pub row : sum_by (λ share. share.1.row) shares.students ≡ penalty.row

@@ -1,5 +1,6 @@
 -- Seat rows: whose they are, and in which order they stand.
 use Rattle.std.specs.Prelude.{◌≡◌, ℕ, ◌<◌, ◌≤◌, Bool, ◌&&◌, ◌||◌, ◌==◌, nat_lt, List, length, Some, All, AllPairs, IsSome}
+use Rattle.exam_terms.specs.declared.limits.TheConstants.{MAX_PAIRS, MAX_STUDENT}
 use Rattle.exam_terms.specs.declared.place.Place.{Place}
 use Rattle.exam_model.specs.Instance.{Session}
 use Rattle.exam_model.specs.Fits.{PlaceExists}
@@ -31,11 +32,15 @@ RowsInOrder rows = AllPairs RowBefore rows
 abbrev pub IsAtExam : Placing → SeatRow → Type 0
 IsAtExam T row = place_of T row.exam ≡ Some (row_place row)
 
+-- each row's student has a number that a student can have
+abbrev pub AreNumbered : List SeatRow → Type 0
+AreNumbered rows = All (λ row. row.student ≤ MAX_STUDENT) rows
+
 -- the rows are a publication of a timetable in which each exam of the session has a place
 pub record ArePublishedRows (I : Session) (rows : List SeatRow) (T : Placing) : Type 0 where
   pub exams : length T ≡ length I.exams
   pub places : All (PlaceExists I) T
   pub complete : (e : ℕ) → e < length T → IsSome (place_of T e)
-  pub few : length rows ≤ 200000
+  pub few : length rows ≤ MAX_PAIRS
   pub in_order : RowsInOrder rows
   pub at_exams : All (IsAtExam T) rows

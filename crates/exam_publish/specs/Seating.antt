@@ -4,6 +4,7 @@ use Rattle.std.specs.List.{list_any}
 use Rattle.std.specs.List.Sorted.{IsSorted}
 use Rattle.std.specs.Ordering.{nat_cmp, ordering_then}
 use Rattle.std.specs.declared.cmp.Ordering.{Ordering}
+use Rattle.exam_terms.specs.declared.limits.TheConstants.{MAX_AMOUNT}
 use Rattle.exam_terms.specs.declared.place.Place.{Place}
 use Rattle.exam_model.specs.Enrolments.{has_student}
 use Rattle.exam_model.specs.Instance.{Session}
@@ -23,7 +24,7 @@ pub record EntrantExists (I : Session) (x : Entrant) : Type 0 where
 
 -- a row that is kept has a seat that a room can have
 abbrev pub KeepsSmallSeat : Entrant → Type 0
-KeepsSmallSeat x = IfSome x.kept (λ row. row.seat ≤ 100000)
+KeepsSmallSeat x = IfSome x.kept (λ row. row.seat ≤ MAX_AMOUNT)
 
 -- whether it is this seat in this room and period
 abbrev pub is_held : Place → ℕ → Held → Bool
@@ -39,7 +40,7 @@ held_cmp x y =
 pub record AreHeld (kept : List SeatRow) (held : List Held) : Type 0 where
   pub members : (at : Place) (n : ℕ) → list_any (is_held at n) held ≡ has_student (seats_at at kept) n
   pub sorted : IsSorted held_cmp held
-  pub small : All (λ h. h.seat ≤ 100000) held
+  pub small : All (λ h. h.seat ≤ MAX_AMOUNT) held
 
 -- the least seat from n on that is not held in a room and period
 pub record IsNextFree (held : List Held) (at : Place) (from n : ℕ) : Type 0 where

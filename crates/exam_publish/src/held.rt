@@ -2,6 +2,7 @@
 ghost use Rattle.std.specs.Prelude.{◌≡◌, ◌≤◌, All, IfOk};
 ghost use Rattle.std.specs.List.{list_any};
 ghost use Rattle.std.specs.List.Sorted.{IsSorted};
+ghost use Rattle.exam_terms.specs.declared.limits.TheConstants.{MAX_AMOUNT};
 ghost use Rattle.exam_publish.specs.Seats.{kept_rows};
 ghost use Rattle.exam_publish.specs.Seating.{AreHeld, IsNextFree, KeepsSmallSeat, held_cmp, is_held};
 
@@ -40,7 +41,7 @@ pub fn held_seats(alloc: Global, entrants: &[Entrant]) -> Result<Vec<Held>, Allo
 /// The least seat from this one on that nobody keeps in a room and period.
 pub fn next_free(held: &[Held], place: &Place, from: u32) -> u32
     requires sorted { IsSorted held_cmp held.now }
-    requires small { All (λ h. h.seat ≤ 100000) held.now }
+    requires small { All (λ h. h.seat ≤ MAX_AMOUNT) held.now }
     ensures { IsNextFree held.now place.now from result }
 {
     let mut seat = from;

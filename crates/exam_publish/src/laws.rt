@@ -9,7 +9,7 @@ ghost use Rattle.exam_publish.specs.declared.seat_row.SeatRow.{SeatRow};
 ghost use Rattle.exam_publish.specs.AddUp.{AddUpTo};
 ghost use Rattle.exam_publish.specs.Changed.{is_changed, rows_of};
 ghost use Rattle.exam_publish.specs.Permit.{publish_refusal};
-ghost use Rattle.exam_publish.specs.Rows.{ArePublishedRows};
+ghost use Rattle.exam_publish.specs.Rows.{AreNumbered, ArePublishedRows};
 ghost use Rattle.exam_publish.specs.Numbered.{numbered_rows};
 ghost use Rattle.exam_publish.specs.Seats.{AreSeated, seat_rows};
 ghost use Rattle.exam_publish.specs.Shares.{enrolled_in, share_of, shares_of};
@@ -19,7 +19,7 @@ ghost use Rattle.exam_score.specs.Track.{track};
 /// all, and part by part.
 pub fn shares_add_up()
     ensures { (I : Session) (rows : List SeatRow) (T : Placing) → IsInstance I
-        → ArePublishedRows I rows T
+        → ArePublishedRows I rows T → AreNumbered rows
         → AddUpTo (track I (enrolled_in (length I.exams) rows) T) (shares_of I rows T) }
 {}
 

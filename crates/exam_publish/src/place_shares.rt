@@ -1,7 +1,7 @@
 // The shares of periods and rooms.
-ghost use Rattle.std.specs.Prelude.{◌≡◌, length, map, All, IfOk};
+ghost use Rattle.std.specs.Prelude.{◌≡◌, length, map, IfOk};
 ghost use Rattle.std.specs.List.{range_with_len};
-ghost use Rattle.exam_model.specs.Fits.{PlaceExists};
+ghost use Rattle.exam_model.specs.Fits.{Suits};
 ghost use Rattle.exam_publish.specs.Shares.{period_shares, penalty_in, room_shares};
 
 use crate::durations::{durations, mixed_in};
@@ -15,8 +15,7 @@ pub fn period_shares(
     instance: &Instance,
     timetable: &Timetable,
 ) -> Result<Vec<u64>, AllocError>
-    requires exams { length timetable.now ≡ length instance.now.exams }
-    requires places { All (PlaceExists instance.now) timetable.now }
+    requires { Suits instance.now timetable.now }
     ensures { IfOk result (λ shares. shares.items ≡ period_shares instance.now timetable.now) }
 {
     let mut shares = vec![in alloc; 0u64; instance.periods() as usize]?;
@@ -37,8 +36,7 @@ fn room_penalties(
     instance: &Instance,
     timetable: &Timetable,
 ) -> Result<Vec<u64>, AllocError>
-    requires exams { length timetable.now ≡ length instance.now.exams }
-    requires places { All (PlaceExists instance.now) timetable.now }
+    requires { Suits instance.now timetable.now }
     ensures { IfOk result (λ shares. shares.items ≡ map (penalty_in instance.now timetable.now)
         (range_with_len 0 (length instance.now.rooms))) }
 {
@@ -60,8 +58,7 @@ pub fn room_shares(
     instance: &Instance,
     timetable: &Timetable,
 ) -> Result<Vec<RoomShare>, AllocError>
-    requires exams { length timetable.now ≡ length instance.now.exams }
-    requires places { All (PlaceExists instance.now) timetable.now }
+    requires { Suits instance.now timetable.now }
     ensures { IfOk result (λ shares. shares.items ≡ room_shares instance.now timetable.now) }
 {
     let _kept = instance.rooms(); // read for its limits

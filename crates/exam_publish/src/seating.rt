@@ -1,5 +1,6 @@
 // Seats: kept ones first, and the others in one pass, with the last seat given in each room and period.
 ghost use Rattle.std.specs.Prelude.{◌≡◌, ◌<◌, ◌≤◌, ◌+◌, ◌*◌, None, length, map, All, IfOk};
+ghost use Rattle.exam_terms.specs.declared.limits.TheConstants.{MAX_PAIRS};
 ghost use Rattle.exam_model.specs.Fits.{Fits};
 ghost use Rattle.exam_model.specs.Pairs.{pairs_of};
 ghost use Rattle.exam_publish.specs.Permit.{publish_refusal};
@@ -48,7 +49,7 @@ fn seat_all(
     held: &[Held],
 ) -> Result<Vec<SeatRow>, AllocError>
     requires exist { All (EntrantExists instance.now) entrants.now }
-    requires few { length entrants.now ≤ 200000 }
+    requires few { length entrants.now ≤ MAX_PAIRS }
     requires held { AreHeld (kept_rows entrants.now) held.now }
     ensures { IfOk result (λ rows. rows.items ≡ rows_for entrants.now) }
 {

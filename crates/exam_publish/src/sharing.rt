@@ -3,7 +3,7 @@ ghost use Rattle.std.specs.Prelude.{◌≡◌, ℕ, length, map, IfOk};
 ghost use Rattle.exam_model.specs.Enrolments.{IsAscending, has_student};
 ghost use Rattle.exam_publish.specs.AddUp.{AddUpTo, AreSmall};
 ghost use Rattle.exam_publish.specs.Changed.{has_row};
-ghost use Rattle.exam_publish.specs.Rows.{ArePublishedRows};
+ghost use Rattle.exam_publish.specs.Rows.{AreNumbered, ArePublishedRows};
 ghost use Rattle.exam_publish.specs.Shares.{enrolled_in, shares_of};
 ghost use Rattle.exam_score.specs.Track.{track};
 
@@ -35,9 +35,19 @@ pub fn shares(
     ensures small { IfOk result AreSmall }
 {
     let _kept = instance.periods(); // read for its limits
+    tell_numbers(rows);
     let students = student_shares(alloc, instance, rows, timetable)?;
     let exams = exam_shares(alloc, instance, rows, timetable)?;
     let periods = period_shares(alloc, instance, timetable)?;
     let rooms = room_shares(alloc, instance, timetable)?;
     Ok(Shares::of(students, exams, periods, rooms))
+}
+
+// Reads the students' numbers for their limit, and does nothing.
+fn tell_numbers(rows: &[SeatRow])
+    ensures { AreNumbered rows.now }
+{
+    'rows: for row in rows {
+        let _number = row.student.get();
+    }
 }

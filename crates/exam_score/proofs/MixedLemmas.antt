@@ -12,7 +12,7 @@ use Rattle.std.proofs.lemmas.Option.{get_or_from_slice_get}
 use Rattle.std.proofs.lemmas.List.Sorted.{sorted_far, ranks_by, sum_by-IsPermutation, All-permutation}
 use Rattle.exam_model.specs.Instance.{Session, IsInstance}
 use Rattle.exam_model.specs.Timetable.{Placing, place_of}
-use Rattle.exam_score.specs.Places.{IsWithin, StandsIn}
+use Rattle.exam_model.specs.Fits.{PlaceExists, Suits}
 use Rattle.exam_model.specs.Sums.{sum_below, count_below}
 use Rattle.exam_model.specs.declared.parts.Exam.{Exam}
 use Rattle.exam_terms.specs.declared.place.Place.{Place}
@@ -288,13 +288,13 @@ mixed_is s t stays sorted are moved order =
     ∙ sum_below-same _ _ (λ p i. (count_below duration_count (λ m. nat_lt 0 (counts p r m i)) - 1) * w) (length s.periods)) (length s.rooms)
 
 -- what a placed exam's stay has exists
-pub stay_exists : (s : Session) (t : Placing) (e : ℕ) (at : Place) (x : Exam) → IsInstance s → IsWithin s t → e < length t → place_of t e ≡ Some at → slice_get s.exams e ≡ Some x
+pub stay_exists : (s : Session) (t : Placing) (e : ℕ) (at : Place) (x : Exam) → IsInstance s → Suits s t → e < length t → place_of t e ≡ Some at → slice_get s.exams e ≡ Some x
     → StayExists s (record { period = at.period; room = at.room; minutes = x.minutes })
 stay_exists s t e at x known fits within placed is =
-    let there : StandsIn s at = rw placed at (fits.places e within) in
+    let there : PlaceExists s (Some at) = rw placed at (fits.places e None within) in
     let long : (get_or s.exams e x).minutes ≤ 1440 = known.limits.exams e x (let h = fits.exams in omega arith) in
     record {
-      period = there.period;
-      room = there.room;
+      period = there.0;
+      room = there.1;
       minutes = rw (get_or_from_slice_get s.exams e x x is) at long;
     }

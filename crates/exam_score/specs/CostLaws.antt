@@ -3,6 +3,7 @@
 use Rattle.std.specs.Prelude.{◌≡◌, ℕ, ◌≤◌, min, Bool, true, false, ◌&&◌, ◌==◌, nat_lt, nat_le, List, length, if◌then◌else◌}
 use Rattle.std.proofs.Common.{refl, ap, ◌∙◌, arith}
 use Rattle.std.proofs.lemmas.Bool.Decides.{nat_tests}
+use Rattle.exam_terms.specs.declared.limits.TheConstants.{MAX_AMOUNT}
 use Rattle.exam_model.specs.Instance.{gap, same_day}
 use Rattle.exam_model.proofs.DayLemmas.{same_day-swap}
 use Rattle.exam_model.specs.PairCost.{CostLaws}
@@ -15,11 +16,11 @@ use Rattle.exam_score.specs.declared.pair_costs.SpreadCost.{SpreadCost}
 
 -- two in a row
 abbrev pub row_cost_of : RowCost → ℕ → ℕ → ℕ
-row_cost_of c p q = min (row_cost c.0.now.periods c.0.now.weights p q) 100000
+row_cost_of c p q = min (row_cost c.0.now.periods c.0.now.weights p q) MAX_AMOUNT
 
 -- two in a day
 abbrev pub day_cost_of : DayCost → ℕ → ℕ → ℕ
-day_cost_of c p q = min (day_cost c.0.now.periods c.0.now.weights p q) 100000
+day_cost_of c p q = min (day_cost c.0.now.periods c.0.now.weights p q) MAX_AMOUNT
 
 -- within the spread
 abbrev pub spread_cost_of : SpreadCost → ℕ → ℕ → ℕ
@@ -66,15 +67,15 @@ spread_cost-small periods weights p q = grind (arith, nat_tests)
 
 pub row_laws : CostLaws row_cost_of
 row_laws = record {
-  symmetric = λ c p q. ap (λ n. min n 100000) (row_cost-swap c.0.now.periods c.0.now.weights p q);
-  zero_on_equal = λ c p. ap (λ n. min n 100000) (row_cost-none c.0.now.periods c.0.now.weights p);
+  symmetric = λ c p q. ap (λ n. min n MAX_AMOUNT) (row_cost-swap c.0.now.periods c.0.now.weights p q);
+  zero_on_equal = λ c p. ap (λ n. min n MAX_AMOUNT) (row_cost-none c.0.now.periods c.0.now.weights p);
   small = λ c p q. omega arith;
 }
 
 pub day_laws : CostLaws day_cost_of
 day_laws = record {
-  symmetric = λ c p q. ap (λ n. min n 100000) (day_cost-swap c.0.now.periods c.0.now.weights p q);
-  zero_on_equal = λ c p. ap (λ n. min n 100000) (day_cost-none c.0.now.periods c.0.now.weights p);
+  symmetric = λ c p q. ap (λ n. min n MAX_AMOUNT) (day_cost-swap c.0.now.periods c.0.now.weights p q);
+  zero_on_equal = λ c p. ap (λ n. min n MAX_AMOUNT) (day_cost-none c.0.now.periods c.0.now.weights p);
   small = λ c p q. omega arith;
 }
 

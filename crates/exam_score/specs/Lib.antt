@@ -4,7 +4,6 @@ pub mod CostLaws
 pub mod Regrouping
 pub mod Personal
 pub mod Track
-pub mod Places
 pub mod Rows
 pub mod Walk
 pub mod Lines

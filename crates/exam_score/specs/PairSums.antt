@@ -1,5 +1,6 @@
 -- The parts that pairs of exams make.
-use Rattle.std.specs.Prelude.{◌≡◌, ◌≤◌}
+use Rattle.std.specs.Prelude.{◌≡◌, ◌≤◌, ◌*◌}
+use Rattle.exam_terms.specs.declared.limits.TheConstants.{MAX_AMOUNT, MAX_PAIRS}
 use Rattle.exam_model.specs.Instance.{Session}
 use Rattle.exam_model.specs.Enrolments.{Enrolled}
 use Rattle.exam_model.specs.Timetable.{Placing}
@@ -13,6 +14,6 @@ pub record ArePairParts (s : Session) (E : Enrolled) (t : Placing) (sums : PairS
   pub row : sums.row ≡ pair_part (row_cost s.periods s.weights) E (period_of t)
   pub day : sums.day ≡ pair_part (day_cost s.periods s.weights) E (period_of t)
   pub spread : sums.spread ≡ pair_part (spread_cost s.periods s.weights) E (period_of t)
-  pub few_rows : sums.row ≤ 4000000000000000
-  pub few_days : sums.day ≤ 4000000000000000
-  pub few_spread : sums.spread ≤ 4000000000000000
+  pub few_rows : sums.row ≤ MAX_PAIRS * MAX_PAIRS * MAX_AMOUNT
+  pub few_days : sums.day ≤ MAX_PAIRS * MAX_PAIRS * MAX_AMOUNT
+  pub few_spread : sums.spread ≤ MAX_PAIRS * MAX_PAIRS * MAX_AMOUNT

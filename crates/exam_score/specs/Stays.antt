@@ -1,5 +1,6 @@
 -- Placed exams by period, room and minutes.
 use Rattle.std.specs.Prelude.{◌≡◌, ℕ, ◌<◌, ◌≤◌, Bool, ◌&&◌, ◌==◌, not, if◌then◌else◌, ◌+◌, List, [], ◌∷◌, length, count_by, All}
+use Rattle.exam_terms.specs.declared.limits.TheConstants.{MAX_EXAMS, MAX_MINUTES}
 use Rattle.exam_model.specs.Instance.{Session}
 use Rattle.exam_model.specs.Timetable.{Placing}
 use Rattle.exam_score.specs.Track.{lasting}
@@ -13,12 +14,12 @@ is_stay p r m x = ((x.period == p) && (x.room == r)) && (x.minutes == m)
 pub record StayExists (s : Session) (x : Stay) : Type 0 where
   pub period : x.period < length s.periods
   pub room : x.room < length s.rooms
-  pub minutes : x.minutes ≤ 1440
+  pub minutes : x.minutes ≤ MAX_MINUTES
 
 -- one for each placed exam
 pub record AreStays (s : Session) (t : Placing) (stays : List Stay) : Type 0 where
   pub counts : (p r m : ℕ) → count_by (is_stay p r m) stays ≡ lasting s t p r m
-  pub few : length stays ≤ 2000
+  pub few : length stays ≤ MAX_EXAMS
   pub exist : All (StayExists s) stays
 
 -- not after it by period, then room, then minutes

@@ -1,5 +1,6 @@
 -- The penalty of a timetable, part by part (ITC 2007, soft constraints).
 use Rattle.std.specs.Prelude.{ℕ, ◌+◌, ◌-◌, ◌*◌, Bool, false, ◌&&◌, ◌||◌, if◌then◌else◌, ◌==◌, nat_lt, nat_le, Option, Some, None, length, slice_get}
+use Rattle.exam_terms.specs.declared.limits.TheConstants.{MAX_MINUTES}
 use Rattle.exam_model.specs.Instance.{Session}
 use Rattle.exam_model.specs.Enrolments.{Enrolled, size_of}
 use Rattle.exam_model.specs.Timetable.{Placing, place_of}
@@ -45,9 +46,9 @@ room_part s t = sum_below (length s.exams) (λ e. exam_room s (place_of t e))
 
 -- ---- mixed durations
 
--- the durations that there are: 0 to 1,440 minutes
+-- the durations that there are, 0 minutes among them
 unfoldable pub duration_count : ℕ
-duration_count = 1441
+duration_count = MAX_MINUTES + 1
 
 -- how long an exam lasts, if it exists
 abbrev pub minutes_of : Option Exam → ℕ

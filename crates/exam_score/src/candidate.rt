@@ -1,5 +1,6 @@
 // The personal penalty.
 ghost use Rattle.std.specs.Prelude.{◌≡◌, ◌*◌, ◌≤◌, length, sum_by};
+ghost use Rattle.exam_terms.specs.declared.limits.TheConstants.{MAX_AMOUNT, MAX_EXAMS};
 ghost use Rattle.exam_score.specs.Personal.{personal_of};
 ghost use Rattle.exam_score.specs.Regrouping.{candidate_cost};
 
@@ -10,7 +11,7 @@ use exam_model::{Instance, PairCost, PeriodNo};
 /// What one candidate's exams cost her, by the periods where they stand: row, day and spread over
 /// all pairs of places in the list. A period beyond the instance costs nothing.
 pub fn personal(instance: &Instance, periods: &[PeriodNo]) -> PersonalParts
-    requires { length periods.now ≤ 2000 }
+    requires { length periods.now ≤ MAX_EXAMS }
     ensures { result ≡ personal_of instance.now.periods instance.now.weights periods.now }
 {
     let _kept = instance.periods();
@@ -22,7 +23,7 @@ pub fn personal(instance: &Instance, periods: &[PeriodNo]) -> PersonalParts
 
 // The cost of all pairs of places.
 fn cost_of_pairs<C: PairCost>(cost: &C, periods: &[PeriodNo]) -> u64
-    requires { length periods.now ≤ 2000 }
+    requires { length periods.now ≤ MAX_EXAMS }
     ensures cost { result ≡ candidate_cost (C.cost_of cost.now) periods.now }
     ensures small { result ≤ 400000000000 }
 {
@@ -37,9 +38,9 @@ fn cost_of_pairs<C: PairCost>(cost: &C, periods: &[PeriodNo]) -> u64
 
 // What one exam costs beside the others.
 fn cost_beside<C: PairCost>(cost: &C, period: PeriodNo, others: &[PeriodNo]) -> u64
-    requires { length others.now ≤ 2000 }
+    requires { length others.now ≤ MAX_EXAMS }
     ensures sum { result ≡ sum_by (C.cost_of cost.now period) others.now }
-    ensures small { result ≤ length others.now * 100000 }
+    ensures small { result ≤ length others.now * MAX_AMOUNT }
 {
     let mut total = 0;
     for other in others {

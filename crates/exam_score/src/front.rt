@@ -1,6 +1,7 @@
 // Front load: the largest exams are to come early.
-ghost use Rattle.std.specs.Prelude.{◌≡◌, ◌≤◌, ◌<◌, length, count_by, nat_lt, nat_le, IfOk, Option};
-ghost use Rattle.exam_score.specs.Places.{IsWithin};
+ghost use Rattle.std.specs.Prelude.{◌≡◌, ◌≤◌, ◌<◌, ◌*◌, length, count_by, nat_lt, nat_le, IfOk, Option};
+ghost use Rattle.exam_terms.specs.declared.limits.TheConstants.{MAX_AMOUNT, MAX_EXAMS};
+ghost use Rattle.exam_model.specs.Fits.{Suits};
 ghost use Rattle.exam_model.specs.Sums.{count_below};
 ghost use Rattle.exam_model.specs.Enrolments.{size_of};
 ghost use Rattle.exam_score.specs.Front.{AreSizes, is_larger_by, front_by};
@@ -17,29 +18,30 @@ pub fn front_load(
     enrolments: &Enrolments,
     timetable: &Timetable,
 ) -> Result<u64, AllocError>
-    requires fits { IsWithin instance.now timetable.now }
+    requires fits { Suits instance.now timetable.now }
     requires exams { length enrolments.now ≡ length instance.now.exams }
     ensures part { IfOk result (λ n. n ≡ front_part instance.now enrolments.now timetable.now) }
-    ensures small { IfOk result (λ n. n ≤ 200000000) }
+    ensures small { IfOk result (λ n. n ≤ MAX_EXAMS * MAX_AMOUNT) }
 {
     let sizes = sizes_of(alloc, enrolments)?;
     let mut total = 0;
     for exam in 0..enrolments.exams() {
-        let place = timetable.get(ExamNo::new(exam));
-        total += front_of(instance, &sizes, exam, place);
+        let exam = ExamNo::new(exam);
+        total += front_share(instance, &sizes, exam, timetable.get(exam));
     }
     Ok(total)
 }
 
-// What one exam makes of it.
-fn front_of(instance: &Instance, sizes: &[u32], exam: u32, place: Option<Place>) -> u64
-    requires few { length sizes.now ≤ 2000 }
+/// What one exam makes of the front load where it stands at this place, by the number of each
+/// exam's students.
+pub fn front_share(instance: &Instance, sizes: &[u32], exam: ExamNo, place: Option<Place>) -> u64
+    requires few { length sizes.now ≤ MAX_EXAMS }
     requires exists { exam < length sizes.now }
-    ensures front { result ≡ front_by instance.now sizes.now place exam }
-    ensures small { result ≤ 100000 }
+    ensures share { result ≡ front_by instance.now sizes.now place exam }
+    ensures small { result ≤ MAX_AMOUNT }
 {
     let weights = instance.weights();
-    if is_late(instance, place) && is_largest(sizes, exam, weights.front_exams) {
+    if is_late(instance, place) && is_largest(sizes, exam.get(), weights.front_exams) {
         u64::from(weights.front)
     } else {
         0
@@ -62,7 +64,7 @@ fn is_late(instance: &Instance, place: Option<Place>) -> bool
 // Whether fewer exams than so many come before this one, the greater first, and then the smaller
 // number.
 fn is_largest(sizes: &[u32], exam: u32, most: u32) -> bool
-    requires few { length sizes.now ≤ 2000 }
+    requires few { length sizes.now ≤ MAX_EXAMS }
     requires exists { exam < length sizes.now }
     ensures { result
         ≡ nat_lt (count_below (length sizes.now) (λ f. is_larger_by sizes.now f exam)) most }
@@ -73,7 +75,7 @@ fn is_largest(sizes: &[u32], exam: u32, most: u32) -> bool
 }
 
 fn count_not_smaller(sizes: &[u32], size: u32) -> u32
-    requires few { length sizes.now ≤ 2000 }
+    requires few { length sizes.now ≤ MAX_EXAMS }
     ensures count { result ≡ count_by (λ x. nat_le size x) sizes.now }
     ensures small { result ≤ length sizes.now }
 {
@@ -85,7 +87,7 @@ fn count_not_smaller(sizes: &[u32], size: u32) -> u32
 }
 
 fn count_larger(sizes: &[u32], size: u32) -> u32
-    requires few { length sizes.now ≤ 2000 }
+    requires few { length sizes.now ≤ MAX_EXAMS }
     ensures count { result ≡ count_by (λ x. nat_lt size x) sizes.now }
     ensures small { result ≤ length sizes.now }
 {

@@ -20,7 +20,9 @@ mod walk;
 
 pub use candidate::personal;
 pub use changes::difference;
+pub use front::front_share;
 pub use laws::{penalty_is_small, regrouping};
+pub use mixed::{Stay, stays_of};
 pub use pair_costs::{DayCost, RowCost, SpreadCost};
 pub use parts::Parts;
 pub use personal_parts::PersonalParts;

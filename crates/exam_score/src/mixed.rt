@@ -1,13 +1,14 @@
 // Mixed durations: exams of different durations in one room and period.
-ghost use Rattle.std.specs.Prelude.{◌≡◌, ◌≤◌, ◌<◌, ◌+◌, length, IfOk, AllPairs, count_by, Some};
-ghost use Rattle.exam_score.specs.Places.{IsWithin};
+ghost use Rattle.std.specs.Prelude.{◌≡◌, ◌≤◌, ◌<◌, ◌+◌, ◌*◌, length, IfOk, AllPairs, count_by, Some};
+ghost use Rattle.exam_terms.specs.declared.limits.TheConstants.{MAX_AMOUNT, MAX_EXAMS};
+ghost use Rattle.exam_model.specs.Fits.{Suits};
 ghost use Rattle.exam_score.specs.Stays.{AreStays, next_differs, further};
 ghost use Rattle.exam_score.specs.Track.{mixed_part};
 
 use exam_model::{ExamNo, Instance, PeriodNo, RoomNo, Timetable};
 use std::alloc::{AllocError, Global};
 
-// A placed exam; ordered by period, then room, then minutes.
+/// Where an exam stands and how long it lasts; ordered by period, then room, then minutes.
 #[derive(Clone, Copy, PartialEq, Eq, PartialOrd, Ord)]
 pub struct Stay {
     pub period: PeriodNo,
@@ -21,9 +22,9 @@ pub fn mixed_durations(
     instance: &Instance,
     timetable: &Timetable,
 ) -> Result<u64, AllocError>
-    requires fits { IsWithin instance.now timetable.now }
+    requires fits { Suits instance.now timetable.now }
     ensures part { IfOk result (λ n. n ≡ mixed_part instance.now timetable.now) }
-    ensures small { IfOk result (λ n. n ≤ 200000000) }
+    ensures small { IfOk result (λ n. n ≤ MAX_EXAMS * MAX_AMOUNT) }
 {
     let mut stays = stays_of(alloc, instance, timetable)?;
     stays.sort_unstable();
@@ -32,7 +33,7 @@ pub fn mixed_durations(
 
 // How many stays have the place of the next one, and another duration.
 fn count_further(stays: &[Stay]) -> u64
-    requires { length stays.now ≤ 2000 }
+    requires { length stays.now ≤ MAX_EXAMS }
     ensures count { result ≡ further stays.now }
     ensures small { result ≤ length stays.now }
 {
@@ -60,14 +61,14 @@ fn differs_from_next(stay: Stay, others: &[Stay]) -> u64
     }
 }
 
-// The stays of all placed exams.
+/// The stays of all placed exams, in the order of the exams.
 #[tactic(auto, using(exam_model::proofs::SumLemmas::sum_below_more))]
-fn stays_of(
+pub fn stays_of(
     alloc: Global,
     instance: &Instance,
     timetable: &Timetable,
 ) -> Result<Vec<Stay>, AllocError>
-    requires fits { IsWithin instance.now timetable.now }
+    requires fits { Suits instance.now timetable.now }
     ensures { IfOk result (λ stays. AreStays instance.now timetable.now stays.items) }
 {
     let mut stays = Vec::with_capacity(alloc, timetable.exams() as usize)?;

@@ -1,5 +1,6 @@
 // The numbers of a penalty: contracts see them as a record.
-ghost use Rattle.std.specs.Prelude.{◌≡◌, ◌+◌, ◌^◌, ◌<◌, ◌≤◌, Some, None, IfSome, IfNone};
+ghost use Rattle.std.specs.Prelude.{◌≡◌, ◌+◌, ◌*◌, ◌^◌, ◌<◌, ◌≤◌, Some, None, IfSome, IfNone};
+ghost use Rattle.exam_terms.specs.declared.limits.TheConstants.{MAX_AMOUNT, MAX_EXAMS, MAX_PAIRS};
 ghost use Rattle.exam_score.specs.Penalty.{Penalty, total_of};
 
 use crate::places::PlaceSums;
@@ -93,8 +94,10 @@ impl Parts {
 
     // The same of numbers that are known to be small.
     pub(crate) fn of(pairs: PairSums, mixed: u64, front: u64, places: PlaceSums) -> Parts
-        requires pairs { pairs.row + pairs.day + pairs.spread ≤ 12000000000000000 }
-        requires others { mixed + front + places.periods + places.rooms ≤ 800000000 }
+        requires pairs { pairs.row + pairs.day + pairs.spread
+            ≤ 3 * (MAX_PAIRS * MAX_PAIRS * MAX_AMOUNT) }
+        requires others { mixed + front + places.periods + places.rooms
+            ≤ 4 * (MAX_EXAMS * MAX_AMOUNT) }
         ensures { result ≡ record {
           row = pairs.row;
           day = pairs.day;

@@ -1,6 +1,7 @@
 // What periods and rooms cost.
-ghost use Rattle.std.specs.Prelude.{◌≡◌, ◌<◌, ◌≤◌, length, slice_get};
-ghost use Rattle.exam_score.specs.Places.{IsWithin};
+ghost use Rattle.std.specs.Prelude.{◌≡◌, ◌<◌, ◌≤◌, ◌*◌, length, slice_get};
+ghost use Rattle.exam_terms.specs.declared.limits.TheConstants.{MAX_AMOUNT, MAX_EXAMS};
+ghost use Rattle.exam_model.specs.Fits.{Suits};
 ghost use Rattle.exam_score.specs.Track.{period_penalty, room_penalty, period_part, room_part};
 
 use exam_model::{ExamNo, Instance, PeriodNo, RoomNo, Timetable};
@@ -15,11 +16,11 @@ pub struct PlaceSums {
 // Each placed exam costs what its period and its room cost.
 #[tactic(auto, using(exam_model::proofs::SumLemmas::sum_below_more))]
 pub fn place_penalties(instance: &Instance, timetable: &Timetable) -> PlaceSums
-    requires fits { IsWithin instance.now timetable.now }
+    requires fits { Suits instance.now timetable.now }
     ensures periods { result.periods ≡ period_part instance.now timetable.now }
     ensures rooms { result.rooms ≡ room_part instance.now timetable.now }
-    ensures small_periods { result.periods ≤ 200000000 }
-    ensures small_rooms { result.rooms ≤ 200000000 }
+    ensures small_periods { result.periods ≤ MAX_EXAMS * MAX_AMOUNT }
+    ensures small_rooms { result.rooms ≤ MAX_EXAMS * MAX_AMOUNT }
 {
     let mut sums = PlaceSums {
         periods: 0,
@@ -37,7 +38,7 @@ pub fn place_penalties(instance: &Instance, timetable: &Timetable) -> PlaceSums
 fn penalty_of_period(instance: &Instance, period: PeriodNo) -> u64
     requires exists { period < length instance.now.periods }
     ensures penalty { result ≡ period_penalty (slice_get instance.now.periods period) }
-    ensures small { result ≤ 100000 }
+    ensures small { result ≤ MAX_AMOUNT }
 {
     let _kept = instance.periods();
     u64::from(instance.period(period).penalty)
@@ -46,7 +47,7 @@ fn penalty_of_period(instance: &Instance, period: PeriodNo) -> u64
 fn penalty_of_room(instance: &Instance, room: RoomNo) -> u64
     requires exists { room < length instance.now.rooms }
     ensures penalty { result ≡ room_penalty (slice_get instance.now.rooms room) }
-    ensures small { result ≤ 100000 }
+    ensures small { result ≤ MAX_AMOUNT }
 {
     let _kept = instance.rooms();
     u64::from(instance.room(room).penalty)

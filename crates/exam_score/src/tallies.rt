@@ -1,5 +1,6 @@
 // How many exams each student has in each period.
 ghost use Rattle.std.specs.Prelude.{◌≡◌, ℕ, ◌+◌, ◌-◌, ◌≤◌, min, ◌<◌, ◌↔◌, IsTrue, length, slice_index, slice_index_or, slice_set, sum_by, All, AllPairs, IfOk, OnOk};
+ghost use Rattle.exam_terms.specs.declared.limits.TheConstants.{MAX_PAIRS};
 ghost use Rattle.exam_model.specs.Enrolments.{size_of};
 ghost use Rattle.exam_score.specs.Rows.{row_at};
 ghost use Rattle.exam_score.specs.Tallies.{tally_sum, slot_of, AreCounted, AreFiled, AreLinked, Grows, Extends};
@@ -50,7 +51,7 @@ pub fn tallies_of(
     sittings: &[Sitting],
 ) -> Result<Vec<Tally>, AllocError>
     requires exist { All (λ x. x.exam < length enrolments.now) sittings.now }
-    requires few { sum_by (λ x. size_of enrolments.now x.exam) sittings.now ≤ 200000 }
+    requires few { sum_by (λ x. size_of enrolments.now x.exam) sittings.now ≤ MAX_PAIRS }
     requires ascending { AllPairs (λ x y. x.period ≤ y.period) sittings.now }
     ensures counted { IfOk result (λ tallies.
         AreCounted enrolments.now sittings.now tallies.items) }
@@ -77,7 +78,7 @@ fn file_all(
 ) -> Result<Filing, AllocError>
     requires some { 0 < slots }
     requires exist { All (λ x. x.exam < length enrolments.now) sittings.now }
-    requires few { sum_by (λ x. size_of enrolments.now x.exam) sittings.now ≤ 200000 }
+    requires few { sum_by (λ x. size_of enrolments.now x.exam) sittings.now ≤ MAX_PAIRS }
     requires ascending { AllPairs (λ x y. x.period ≤ y.period) sittings.now }
     ensures counted { IfOk result (λ filing.
         AreCounted enrolments.now sittings.now filing.tallies.items) }
@@ -122,7 +123,7 @@ fn count_students(
 ) -> Result<(), AllocError>
     requires some { 0 < slots }
     requires filed { AreFiled tallies.old.items last.old.items slots }
-    requires few { length tallies.old.items + length students.now ≤ 200000 }
+    requires few { length tallies.old.items + length students.now ≤ MAX_PAIRS }
     requires not_later { All (λ x. x.period ≤ period) tallies.old.items }
     ensures counted { OnOk result ((f : Row → ℕ) → sum_by (tally_sum f) tallies.new.items
         ≡ sum_by (tally_sum f) tallies.old.items
@@ -148,7 +149,7 @@ fn count_one(
 ) -> Result<(), AllocError>
     requires some { 0 < slots }
     requires filed { AreFiled tallies.old.items last.old.items slots }
-    requires few { length tallies.old.items < 200000 }
+    requires few { length tallies.old.items < MAX_PAIRS }
     requires not_later { All (λ x. x.period ≤ period) tallies.old.items }
     ensures counted { OnOk result ((f : Row → ℕ) → sum_by (tally_sum f) tallies.new.items
         ≡ sum_by (tally_sum f) tallies.old.items + f (row_at period student)) }

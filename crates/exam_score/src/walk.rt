@@ -1,5 +1,6 @@
 // Row, day and spread: each tally beside the earlier ones of its student.
 ghost use Rattle.std.specs.Prelude.{◌≡◌, ℕ, ◌-◌, ◌≤◌, ◌<◌, length, take, slice_index_or, sum_by, IfSome, IfNone};
+ghost use Rattle.exam_terms.specs.declared.limits.TheConstants.{MAX_PAIRS};
 ghost use Rattle.exam_score.specs.Cost.{row_cost, day_cost, spread_cost};
 ghost use Rattle.exam_score.specs.Lines.{IsLine, IsTable, IsFirstCost};
 ghost use Rattle.exam_score.specs.Tallies.{tally_beside, tally_cost, row_count, AreLinked, IsReached};
@@ -27,7 +28,7 @@ const NOTHING: PairSums = PairSums {
 pub fn sums_of_pairs(instance: &Instance, lines: &[Line], tallies: &[Tally]) -> PairSums
     requires table { IsTable instance.now lines.now }
     requires linked { AreLinked tallies.now }
-    requires few { row_count tallies.now ≤ 200000 }
+    requires few { row_count tallies.now ≤ MAX_PAIRS }
     ensures row { result.row
         ≡ tally_cost (row_cost instance.now.periods instance.now.weights) tallies.now }
     ensures day { result.day
@@ -59,7 +60,7 @@ fn beside(
     requires here { (d : Tally) → slice_index_or tallies.now at d ≡ tally.now }
     requires table { IsTable instance.now lines.now }
     requires linked { AreLinked tallies.now }
-    requires few { row_count tallies.now ≤ 200000 }
+    requires few { row_count tallies.now ≤ MAX_PAIRS }
     ensures row { result.row
         ≡ sum_by (tally_beside (row_cost instance.now.periods instance.now.weights) tally.now)
         (take at tallies.now) }
@@ -83,7 +84,7 @@ fn along(instance: &Instance, line: &Line, tallies: &[Tally], at: usize, tally: 
     requires line { IsLine instance.now tally.now.period line.now.costs.items }
     requires first { IsFirstCost instance.now tally.now.period line.now.first }
     requires linked { AreLinked tallies.now }
-    requires few { row_count tallies.now ≤ 200000 }
+    requires few { row_count tallies.now ≤ MAX_PAIRS }
     ensures row { result.row
         ≡ sum_by (tally_beside (row_cost instance.now.periods instance.now.weights) tally.now)
         (take at tallies.now) }

@@ -2,6 +2,7 @@
 //! departments, and places.
 #![tactic(auto)]
 
+pub mod limits;
 mod numbers;
 mod place;
 

@@ -1,9 +1,11 @@
 -- Digits at the front of a line, and what a field of few digits says.
 use Rattle.std.proofs.Common.{◌≡◌, ◌≢◌, ℕ, zero, suc, ◌+◌, ◌-◌, ◌*◌, ◌^◌, ◌<◌, ◌≤◌}
 use Rattle.std.proofs.Common.{Bool, true, false, List, [], ◌∷◌, ◌++◌, length, get_or, take, drop}
-use Rattle.std.proofs.Common.{add-one, Some, None, refl, sym, ap, ◌∙◌, inl, inr, arith}
-use Rattle.std.specs.Prelude.{◌&&◌, nat_le, nat_lt, if◌then◌else◌, map}
-use Rattle.std.specs.List.{list_all, onto_first}
+use Rattle.std.proofs.Common.{add-one, Some, None, refl, sym, ap, subst, eqb-true, ◌∙◌, inl, inr, arith}
+use Rattle.std.specs.Prelude.{◌&&◌, ◌==◌, not, nat_le, nat_lt, if◌then◌else◌, map}
+use mathlib.Core.Bool.{true≢false}
+use Rattle.std.specs.Int.Bits.{bit_xor}
+use Rattle.std.specs.List.{list_all, onto_first, range_with_len}
 use Rattle.std.specs.Char.{is_ascii_digit}
 use Rattle.std.proofs.Math.Nat.{pow-le-pow_right, pow-suc}
 use Rattle.std.proofs.lemmas.Bool.{eq-eqb, ne_eqb, and_parts, lt-ltb, le-leb, lt-leb}
@@ -11,7 +13,8 @@ use Rattle.std.proofs.lemmas.Bool.{cases_lt, cases_eq}
 use Rattle.std.proofs.lemmas.List.{take-append-drop, take-take, length-take, length-take-le}
 use Rattle.std.proofs.lemmas.List.{length-append, append-nil, get_or-take}
 use Rattle.std.proofs.lemmas.Grind.{common_steps}
-use Rattle.std.proofs.lemmas.List.Folds.{list_all_more}
+use Rattle.std.proofs.lemmas.List.Folds.{list_all_at, list_all_more}
+use Rattle.std.proofs.lemmas.List.FromFn.{get_or-range_with_len, length-range_with_len}
 use Rattle.office_files.specs.Fields.{ended_parts, is_blank, before_end, trim_end}
 use Rattle.office_files.specs.Fields.{trimmed, fields_of, first, rest}
 use Rattle.office_files.specs.Numbers.{read_on, is_number, at_most, number}
@@ -46,6 +49,46 @@ is_digit b least most = grind (arith, common_steps)
 
 pub digit_range : (b : ℕ) → is_ascii_digit b ≡ true → (48 ≤ b) × (b ≤ 57)
 digit_range b e = grind (arith, common_steps)
+
+-- a byte and 48, bit by bit: at most 9 for a digit, and then its value, and more for any other byte
+digit_told : ℕ → Bool
+digit_told b =
+    if nat_le (bit_xor b 48) 9 then is_ascii_digit b && (bit_xor b 48 == b - 48)
+    else not (is_ascii_digit b)
+
+all_told : list_all digit_told (range_with_len 0 256) ≡ true
+unfolding digit_told
+all_told = refl
+
+byte_told : (b : ℕ) → b < 256 → digit_told b ≡ true
+byte_told b lt =
+    let at : get_or (range_with_len 0 256) b 0 ≡ b = omega (arith, get_or-range_with_len 0 256 b 0 lt) in
+    elim (digit_told b) as (λ t. digit_told b ≡ t → digit_told b ≡ true) [
+      | true ↦ λ e. e
+      | false ↦ λ e. absurd (true≢false (sym all_told ∙ list_all_at digit_told (range_with_len 0 256) b 0
+          (omega (arith, length-range_with_len 0 256))
+          (ap digit_told at ∙ e)))
+    ] refl
+
+pub low_is_digit : (b : ℕ) → b < 256 → bit_xor b 48 ≤ 9
+    → (is_ascii_digit b ≡ true) × (bit_xor b 48 ≡ b - 48)
+unfolding digit_told
+low_is_digit b lt low =
+    let told = subst (λ t. (if t then is_ascii_digit b && (bit_xor b 48 == b - 48)
+        else not (is_ascii_digit b)) ≡ true) (le-leb (bit_xor b 48) 9 low) (byte_told b lt) in
+    let both = and_parts (is_ascii_digit b) (bit_xor b 48 == b - 48) told in
+    (both.0, eqb-true (bit_xor b 48) (b - 48) both.1)
+
+pub high_is_none : (b : ℕ) → b < 256 → 9 < bit_xor b 48 → is_ascii_digit b ≡ false
+unfolding digit_told
+high_is_none b lt high =
+    let told = subst (λ t. (if t then is_ascii_digit b && (bit_xor b 48 == b - 48)
+        else not (is_ascii_digit b)) ≡ true) (lt-leb (bit_xor b 48) 9 high) (byte_told b lt) in
+    not_true (is_ascii_digit b) told
+  where
+    not_true : (a : Bool) → not a ≡ true → a ≡ false
+    not_true true is = sym is
+    not_true false is = refl
 
 pub digit_no_blank : (b : ℕ) → is_ascii_digit b ≡ true → is_blank b ≡ false
 digit_no_blank b e =

@@ -6,6 +6,9 @@ ghost use Rattle.office_files.specs.Digits.{Says, NoDigitAt, IsFront, few_digits
 // Numbers of so many digits fit a u32.
 const MOST_DIGITS: usize = 9;
 
+// The digits are this byte and the nine behind it, in which it has all bits that they share.
+const ZERO: u32 = 48;
+
 /// The line without the space at its start, where there is one.
 #[inline]
 pub fn behind_space(line: &[u8]) -> &[u8]
@@ -26,10 +29,11 @@ fn digits(text: &[u8]) -> (u32, usize)
 {
     let mut value: u32 = 0;
     for (i, byte) in text.iter().enumerate() {
-        if !byte.is_ascii_digit() {
+        let digit = u32::from(*byte) ^ ZERO; // any other byte is above 9 then
+        if digit > 9 {
             return (value, i);
         }
-        value = 10 * value + u32::from(*byte - b'0');
+        value = 10 * value + digit;
     }
     (value, text.len())
 }

@@ -1,4 +1,4 @@
-use Rattle.std.proofs.Common.{◌≡◌, ◌∙◌, ◌<◌, false, sym}
+use Rattle.std.proofs.Common.{◌≡◌, ◌∙◌, ◌<◌, false, sym, arith}
 use Rattle.exam_model.specs.Enrolments.{has_student}
 use Rattle.exam_model.proofs.CountLemmas.{set_again, counted_again, one_more_fits, new_absent, old_present, is_has, full_refuses, adds_entered, pair_entered, counted_new, counted_old, on_err}
 use Rattle.exam_model.proofs.enrolments.Enrolments.add.Goals.{else-full-via-then-full+else-not-has, else-full-via-else-full}
@@ -65,14 +65,14 @@ invariant_of-self-then-fresh c =
       | else-full-via-else-full w ↦ w.if-full.false
     ] in
     counted_new c.self.inside.rolls.items c.get.result c.args.student c.self.inside.pairs
-    c.in-Some.roll.now c.add.new.self c.in-Some.ensures.item.3.0 c.in-Some.ensures.value
-    c.in_ok-fresh.ensures.ok absent room c.self.invariant
+    c.in-Some.roll.now c.add.new.self c.in-Some.ensures.item.3.0 (omega (arith, c.get-number.ensures.number, c.get-number.ensures.within))
+    c.in-Some.ensures.value c.in_ok-fresh.ensures.ok absent room c.self.invariant
 
 pub invariant_of-self-else-fresh : goal.invariant_of-self-else-fresh
 invariant_of-self-else-fresh c =
     counted_old c.self.inside.rolls.items c.get.result c.args.student c.self.inside.pairs
-    c.in-Some.roll.now c.add.new.self c.in-Some.ensures.item.3.0 c.in-Some.ensures.value
-    c.in_ok-fresh.ensures.ok
+    c.in-Some.roll.now c.add.new.self c.in-Some.ensures.item.3.0 (omega (arith, c.get-number.ensures.number, c.get-number.ensures.within))
+    c.in-Some.ensures.value c.in_ok-fresh.ensures.ok
     (old_present c.in_ok-fresh.fresh _ c.in_ok-fresh.ensures.fresh c.if-fresh.false)
     c.self.invariant
 

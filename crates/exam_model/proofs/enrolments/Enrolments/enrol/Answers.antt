@@ -57,7 +57,7 @@ invariant_of-self-2 c =
     (counted_filled c.self.inside.rolls.items c.get.result c.self.inside.pairs
     c.args.sitters.now (exam_within c.self.view_is c.get.ensures c.requires.exists)
     (rw (c.self.view_is, c.get.ensures) c.requires.empty) c.requires.ascending
-    c.if-count-self.false c.self.invariant)
+    c.fill.ensures.numbers c.if-count-self.false c.self.invariant)
 
 pub returns-clause-ok : goal.returns-clause-ok
 returns-clause-ok c = rw (c.self.view_is, c.get.ensures, c.in_ok-fill.ensures.ok)
