@@ -430,7 +430,7 @@ def send_slowly(client):
 
 
 def read_slowly(client):
-    client.sendall(message("GET", "/instance"))
+    client.sendall(message("GET", "/instance") * 4)
     trickle(lambda: client.recv(1), 0.25, 40)
 
 
@@ -439,7 +439,7 @@ def ask_nothing(client):
 
 
 def wide_instance():
-    """An instance whose canonical text no socket takes at once."""
+    """An instance whose canonical text is long: a socket takes one at once, but not four."""
     exams = [", ".join(str(number) for number in [120, *range(10**8 + exam, 10**8 + exam + 100)])
              for exam in range(2_000)]
     return "\n".join(["[Exams:2000]", *exams, "[Periods:1]", "01:01:2000, 09:00:00, 120, 0",
