@@ -1,0 +1,12 @@
+//! Connections over sockets, one after another, each with its patience.
+#![tactic(auto)]
+
+mod accepting;
+mod listening;
+mod pace;
+mod paced;
+mod serving;
+
+pub use accepting::{Plan, Service, serve_connections};
+pub use listening::{announce, listen};
+pub use serving::serve_connection;
