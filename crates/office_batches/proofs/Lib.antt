@@ -1,2 +1,1 @@
-mod RecordLemmas
-mod TurnLemmas
+mod BatchLaws

@@ -1,6 +1,6 @@
 // Laws of texts: functions with no code, whose contracts are the laws.
-ghost use Rattle.std.specs.Prelude.{◌≡◌, ◌<◌, ◌≤◌, ℕ, List, All, IsSome, Ok, length};
-ghost use Rattle.exam_model.specs.Enrolments.{AreEnrolments, Enrolled, students};
+ghost use Rattle.std.specs.Prelude.{◌≡◌, ◌<◌, ℕ, List, IsSome, Ok, length};
+ghost use Rattle.exam_model.specs.Enrolments.{AreEnrolments, Enrolled};
 ghost use Rattle.exam_model.specs.Instance.{IsInstance, Session};
 ghost use Rattle.exam_model.specs.Timetable.{Placing, place_of};
 ghost use Rattle.office_files.specs.CanonicalText.{canonical_instance, canonical_solution};
@@ -45,7 +45,6 @@ pub fn solution_readings_agree()
 pub fn canonical_instance_reads_back()
     ensures { (I : Session) (E : Enrolled) → IsInstance I → AreEnrolments E
         → length E ≡ length I.exams
-        → ((e : ℕ) → e < length E → All (λ s. s ≤ 999999999) (students E e))
         → InstanceText (canonical_instance I E) I E }
 {}
 
