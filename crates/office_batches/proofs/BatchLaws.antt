@@ -1,5 +1,5 @@
 -- The reading of a batch and the relation of text and changes say the same.
-use Rattle.std.proofs.Common.{◌≡◌, ℕ, ◌+◌, ◌≤◌, Bool, true, false, List, [], ◌∷◌, ◌++◌, length, map, Result, Ok, Err, Option, Some, None, refl, sym, ap, ap₂, ◌∙◌, arith, append-nil}
+use Rattle.std.proofs.Common.{◌≡◌, ℕ, ◌+◌, ◌≤◌, Bool, true, false, List, [], ◌∷◌, ◌++◌, length, map, Result, Ok, Err, Some, None, refl, sym, ap, ap₂, ◌∙◌, arith, append-nil}
 use Rattle.std.specs.Prelude.{nat_le, if◌then◌else◌}
 use Rattle.std.proofs.lemmas.Bool.{le-leb, leb-true, ne_eqb}
 use Rattle.std.proofs.lemmas.List.{append_assoc}
@@ -10,7 +10,7 @@ use Rattle.office_files.specs.Reading.{at_line}
 use Rattle.office_files.specs.declared.fault.FaultKind.{FaultKind}
 use Rattle.office_files.specs.declared.fault.FaultKind.TheVariants.{TooLong, BadHeader}
 use Rattle.office_files.specs.declared.fault.FileFault.{FileFault}
-use Rattle.office_batches.specs.BatchText.{Record, BatchText, change_in, is_header, behind, changes_from, records_in, batch_in}
+use Rattle.office_batches.specs.BatchText.{Record, BatchText, change_in, is_header, changes_from, records_in, batch_in}
 use Rattle.office_batches.specs.FirstFault.{first_from, first_of, first_batch_fault}
 
 -- ---- records behind the first
@@ -51,38 +51,46 @@ read_from line before (r ∷ rs) (x ∷ xs) le is =
 abbrev Says : List Change → List Record → List Change → Type 0
 Says before rs out = (xs : List Change) × (out ≡ before ++ xs) × (map change_in rs ≡ map Ok xs)
 
+spelled_by : (line : ℕ) (before : List Change) (r : Record) (rs : List Record) (out : List Change) → 2 ≤ line
+    → changes_from line before (r ∷ rs) ≡ Ok out → (c : Result Change FaultKind) → change_in r ≡ c
+    → ((x : Change) → changes_from (line + 1) (before ++ x ∷ []) rs ≡ Ok out → Says (before ++ x ∷ []) rs out)
+    → Says before (r ∷ rs) out
+spelled_by line before r rs out le is (Err what) e later =
+    let apart : Err (let f : FileFault = record { line = line; what = what } in f) ≡ Ok out
+    = sym (step line before r rs le ∙ ap (going_on line before rs) e) ∙ is in
+    absurd (cc)
+spelled_by line before r rs out le is (Ok x) e later =
+    let said = later x (sym (step line before r rs le ∙ ap (going_on line before rs) e) ∙ is) in
+    (x ∷ said.0, said.1 ∙ more before said.0 x, ap₂ (λ y ys. y ∷ ys) e said.2)
+
 spelled_from : (line : ℕ) (before : List Change) (rs : List Record) (out : List Change) → 2 ≤ line
     → changes_from line before rs ≡ Ok out → Says before rs out
 spelled_from line before [] out le is =
     let same : Ok before ≡ Ok out = sym (end line before le) ∙ is in
     let equal : before ≡ out = cc in
-    ([], (sym equal ∙ sym (append-nil before), refl))
-spelled_from line before (r ∷ rs) out le is = go (change_in r) refl
-  where
-    go : (c : Result Change FaultKind) → change_in r ≡ c → Says before (r ∷ rs) out
-    go (Err what) e =
-        let apart : Err (let f : FileFault = record { line = line; what = what } in f) ≡ Ok out
-        = sym (step line before r rs le ∙ ap (going_on line before rs) e) ∙ is in
-        absurd (cc)
-    go (Ok x) e =
-        let later = spelled_from (line + 1) (before ++ x ∷ []) rs out (omega arith)
-        (sym (step line before r rs le ∙ ap (going_on line before rs) e) ∙ is) in
-        (x ∷ later.0, (later.1 ∙ more before later.0 x, ap₂ (λ y ys. y ∷ ys) e later.2))
+    ([], sym equal ∙ sym (append-nil before), refl)
+spelled_from line before (r ∷ rs) out le is =
+    spelled_by line before r rs out le is (change_in r) refl
+    (λ x read. spelled_from (line + 1) (before ++ x ∷ []) rs out (omega arith) read)
+
+fault_as : (line : ℕ) (before : List Change) (r : Record) (rs : List Record) → 2 ≤ line
+    → (c : Result Change FaultKind) → change_in r ≡ c
+    → ((x : Change) → first_from (line + 1) rs ≡ fault_of (changes_from (line + 1) (before ++ x ∷ []) rs))
+    → first_from line (r ∷ rs) ≡ fault_of (changes_from line before (r ∷ rs))
+fault_as line before r rs le (Err what) e later =
+    ap (λ d. at_line_or line (fault_of d) (first_from (line + 1) rs)) e
+    ∙ sym (ap fault_of (step line before r rs le ∙ ap (going_on line before rs) e))
+fault_as line before r rs le (Ok x) e later =
+    ap (λ d. at_line_or line (fault_of d) (first_from (line + 1) rs)) e
+    ∙ later x
+    ∙ sym (ap fault_of (step line before r rs le ∙ ap (going_on line before rs) e))
 
 fault_from : (line : ℕ) (before : List Change) (rs : List Record) → 2 ≤ line
     → first_from line rs ≡ fault_of (changes_from line before rs)
 fault_from line before [] le = sym (ap fault_of (end line before le))
-fault_from line before (r ∷ rs) le = go (change_in r) refl
-  where
-    go : (c : Result Change FaultKind) → change_in r ≡ c
-        → first_from line (r ∷ rs) ≡ fault_of (changes_from line before (r ∷ rs))
-    go (Err what) e =
-        ap (λ d. at_line_or line (fault_of d) (first_from (line + 1) rs)) e
-        ∙ sym (ap fault_of (step line before r rs le ∙ ap (going_on line before rs) e))
-    go (Ok x) e =
-        ap (λ d. at_line_or line (fault_of d) (first_from (line + 1) rs)) e
-        ∙ fault_from (line + 1) (before ++ x ∷ []) rs (omega arith)
-        ∙ sym (ap fault_of (step line before r rs le ∙ ap (going_on line before rs) e))
+fault_from line before (r ∷ rs) le =
+    fault_as line before r rs le (change_in r) refl
+    (λ x. fault_from (line + 1) (before ++ x ∷ []) rs (omega arith))
 
 -- ---- the whole
 

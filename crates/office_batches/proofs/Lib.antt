@@ -1,1 +1,3 @@
+mod RecordLemmas
+mod TurnLemmas
 mod BatchLaws

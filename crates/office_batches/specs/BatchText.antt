@@ -1,6 +1,6 @@
 -- What a batch of changes spells, and its first fault: records of comma-separated values, of which
 -- the first names the columns.
-use Rattle.std.specs.Prelude.{◌≡◌, ◌≤◌, ℕ, ◌+◌, Bool, true, false, ◌&&◌, ◌||◌, ◌==◌, nat_le, if◌then◌else◌, List, [], ◌∷◌, ◌++◌, length, map, codes, slice_index_or, Result, Ok, Err}
+use Rattle.std.specs.Prelude.{◌≡◌, ◌≤◌, ℕ, ◌+◌, ◌-◌, Bool, true, false, ◌&&◌, ◌||◌, ◌==◌, nat_le, if◌then◌else◌, List, [], ◌∷◌, ◌++◌, length, map, codes, slice_index_or, Result, Ok, Err}
 use Rattle.std.specs.Str.{str_eq_ignore_ascii_case}
 use Rattle.exam_terms.specs.declared.limits.TheConstants.{MAX_EXAMS, MAX_STUDENT, TEXT_BYTES}
 use Rattle.csv.specs.Reading.{default_config, records, strip_bom}
