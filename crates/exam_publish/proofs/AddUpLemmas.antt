@@ -24,7 +24,7 @@ use Rattle.exam_publish.specs.declared.seat_row.SeatRow.{SeatRow}
 use Rattle.exam_publish.specs.declared.share_lists.RoomShare.{RoomShare}
 use Rattle.exam_publish.specs.AddUp.{AddUpTo}
 use Rattle.exam_publish.specs.Changed.{rows_of, students_of}
-use Rattle.exam_publish.specs.Rows.{ArePublishedRows, RowBefore, IsAtExam}
+use Rattle.exam_publish.specs.Rows.{AreNumbered, ArePublishedRows, RowBefore, IsAtExam}
 use Rattle.exam_publish.specs.Shares.{enrolled_in, share_of, student_shares, exam_shares, period_share, period_shares, is_in_period, is_in_room, room_share, room_shares, shares_of}
 use Rattle.exam_publish.proofs.RowLemmas.{pairs_in, are_enrolments, are_students, her_periods}
 use Rattle.exam_publish.proofs.PlaceLemmas.{rows_exist}
@@ -106,31 +106,31 @@ abbrev sittings : List SeatRow → ℕ → List ℕ
 sittings rows s = map (λ row. row.period) (rows_of s rows)
 
 -- what students' rows cost is the part of the penalty that pairs of exams make
-student_sum : (cost : ℕ → ℕ → ℕ) (I : Session) (rows : List SeatRow) (T : Placing) → IsInstance I → ArePublishedRows I rows T
+student_sum : (cost : ℕ → ℕ → ℕ) (I : Session) (rows : List SeatRow) (T : Placing) → IsInstance I → ArePublishedRows I rows T → AreNumbered rows
     → sum_by (λ s. candidate_cost cost (sittings rows s)) (students_of rows) ≡ pair_part cost (enrolled_in (length I.exams) rows) (period_of T)
-student_sum cost I rows T known are =
+student_sum cost I rows T known are numbered =
     let n = length I.exams in
     let E = enrolled_in n rows in
     let order = chain_from_index RowBefore rows are.in_order in
     let exist = rows_exist I rows T are in
     let pairs = pairs_in n rows order exist in
-    let enrolled = are_enrolments n rows (omega (arith, known.limits.counts.0.0)) (omega (arith, known.limits.counts.0.1)) are.few order exist in
+    let enrolled = are_enrolments n rows (omega (arith, known.limits.counts.0.0)) (omega (arith, known.limits.counts.0.1)) are.few order exist (recursion_from_All (λ (row : SeatRow). row.student ≤ 999999999) rows numbered) in
     sym (regrouped_by_students cost E (period_of T) (students_of rows) (are_pairs E enrolled) (are_students n rows pairs)
     ∙ sum_by-same _ _ (λ s. ap (candidate_cost cost) (ap (λ ps. periods_of ps (period_of T) s) pairs ∙ her_periods T rows s (recursion_from_All (IsAtExam T) rows are.at_exams))) (students_of rows))
 
 -- ---- all of it
 
-pub adds_up : (I : Session) (rows : List SeatRow) (T : Placing) → IsInstance I → ArePublishedRows I rows T
+pub adds_up : (I : Session) (rows : List SeatRow) (T : Placing) → IsInstance I → ArePublishedRows I rows T → AreNumbered rows
     → AddUpTo (track I (enrolled_in (length I.exams) rows) T) (shares_of I rows T)
-adds_up I rows T known are =
+adds_up I rows T known are numbered =
     let E = enrolled_in (length I.exams) rows in
     let students = students_of rows in
     let row : sum_by (λ share. share.1.row) (student_shares I rows) ≡ pair_part (row_cost I.periods I.weights) E (period_of T)
-    = sum_by_map (λ (share : ℕ × PersonalPenalty). share.1.row) (λ s. (s, share_of I.periods I.weights (rows_of s rows))) students ∙ student_sum (row_cost I.periods I.weights) I rows T known are in
+    = sum_by_map (λ (share : ℕ × PersonalPenalty). share.1.row) (λ s. (s, share_of I.periods I.weights (rows_of s rows))) students ∙ student_sum (row_cost I.periods I.weights) I rows T known are numbered in
     let day : sum_by (λ share. share.1.day) (student_shares I rows) ≡ pair_part (day_cost I.periods I.weights) E (period_of T)
-    = sum_by_map (λ (share : ℕ × PersonalPenalty). share.1.day) (λ s. (s, share_of I.periods I.weights (rows_of s rows))) students ∙ student_sum (day_cost I.periods I.weights) I rows T known are in
+    = sum_by_map (λ (share : ℕ × PersonalPenalty). share.1.day) (λ s. (s, share_of I.periods I.weights (rows_of s rows))) students ∙ student_sum (day_cost I.periods I.weights) I rows T known are numbered in
     let spread : sum_by (λ share. share.1.spread) (student_shares I rows) ≡ pair_part (spread_cost I.periods I.weights) E (period_of T)
-    = sum_by_map (λ (share : ℕ × PersonalPenalty). share.1.spread) (λ s. (s, share_of I.periods I.weights (rows_of s rows))) students ∙ student_sum (spread_cost I.periods I.weights) I rows T known are in
+    = sum_by_map (λ (share : ℕ × PersonalPenalty). share.1.spread) (λ s. (s, share_of I.periods I.weights (rows_of s rows))) students ∙ student_sum (spread_cost I.periods I.weights) I rows T known are numbered in
     let mixed : sum_by (λ share. share.mixed) (room_shares I T) ≡ sum_below (length I.rooms) (room_mixed I T)
     = range_sum (λ (share : RoomShare). share.mixed) (room_share I T) (length I.rooms) in
     let front : sum (exam_shares I rows T) ≡ sum_below (length I.exams) (exam_front I E T)

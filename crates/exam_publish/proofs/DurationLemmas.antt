@@ -24,33 +24,11 @@ use Rattle.exam_model.specs.declared.parts.Exam.{Exam}
 use Rattle.exam_terms.specs.declared.place.Place.{Place}
 use Rattle.exam_model.proofs.SumLemmas.{IsChain, chain_weaker, each_weaker, sum_by-agree, sum_by-once, sum_below-same, sum_below-within, sum_below-turned, sum_below-at, sum_below_more}
 use Rattle.exam_score.specs.Track.{duration_count, minutes_of, is_at, lasts, lasting, durations, room_mixed}
-use Rattle.exam_publish.specs.declared.durations.Stay.{Stay}
-use Rattle.exam_publish.specs.Durations.{is_stay, StayExists, AreStaysBelow, AreStays, is_in_slot, AreDurations}
+use Rattle.exam_score.specs.Stays.{is_stay, StayExists, AreStays}
+use Rattle.exam_score.specs.declared.mixed.Stay.{Stay}
+use Rattle.exam_publish.specs.Durations.{is_in_slot, AreDurations}
 use Rattle.exam_publish.specs.Tallies.{AreTallied}
 use Rattle.exam_publish.proofs.SeatingLemmas.{slot_within}
-
--- ---- one exam more
-
-pub stays_more : (I : Session) (T : Placing) (e : ℕ) (stays : List Stay) (at : Place) (x : Exam) → place_of T e ≡ Some at → slice_get I.exams e ≡ Some x
-    → StayExists I (record { period = at.period; room = at.room; minutes = x.minutes }) → AreStaysBelow I T e stays
-    → AreStaysBelow I T (e + 1) (stays ++ record { period = at.period; room = at.room; minutes = x.minutes } ∷ [])
-stays_more I T e stays at x placed is exists was = record {
-  counts = λ p r m. sum_by_push (λ z. cond (is_stay p r m z) 1 0) stays (record { period = at.period; room = at.room; minutes = x.minutes })
-      ∙ ap₂ (λ a b. a + b) (was.counts p r m) (λ i. cond (is_at p r (sym placed i) && (minutes_of (sym is i) == m)) 1 0)
-      ∙ sym (sum_below_more (λ e. cond (lasts I T p r m e) 1 0) e);
-  few = let h = was.few in let l = length-append stays (record { period = at.period; room = at.room; minutes = x.minutes } ∷ []) in omega arith;
-  exist = All-push (StayExists I) stays (record { period = at.period; room = at.room; minutes = x.minutes }) was.exist exists;
-}
-
-pub stay_exists : (I : Session) (e : ℕ) (at : Place) (x : Exam) → IsInstance I → PlaceExists I (Some at) → e < length I.exams → slice_get I.exams e ≡ Some x
-    → StayExists I (record { period = at.period; room = at.room; minutes = x.minutes })
-stay_exists I e at x known place within is =
-    let long : (get_or I.exams e x).minutes ≤ 1440 = known.limits.exams e x within in
-    record {
-      period = place.0;
-      room = place.1;
-      minutes = rw (get_or_from_slice_get I.exams e x x is) at long;
-    }
 
 -- ---- the order of the stays
 

@@ -1,14 +1,16 @@
 -- The enrolments that rows are: their pairs are those of the rows.
-use Rattle.std.specs.List.{cons_option, AllByRecursion, range_with_len}
+use Rattle.std.specs.List.{cons_option, list_any, AllByRecursion, range_with_len}
 use Rattle.std.proofs.Common.{◌≡◌, ◌≢◌, ℕ, zero, suc, ◌+◌, ◌<◌, ◌≤◌, ◌⊎◌, inl, inr, Bool, true, false, cond, ◌||◌, eqb, List, [], ◌∷◌, ◌++◌, length, map, filter, filter_map, Some, option_map, All, refl, sym, ◌∙◌, ap, ap₂, subst, arith, eqb-true}
-use Rattle.std.proofs.lemmas.Bool.{cases_eq, eq-eqb, ne_eqb, or_right, or_left}
-use Rattle.std.proofs.lemmas.List.{length-map}
+use mathlib.Core.Bool.{true≢false}
+use Rattle.std.proofs.lemmas.Bool.{and_from, cases_eq, cases_lt, eq-eqb, ne_eqb, or_right, or_left}
+use Rattle.std.proofs.lemmas.List.{get_or_past, length-map}
 use Rattle.std.proofs.lemmas.List.Elements.{All-from_recursion}
 use Rattle.std.proofs.lemmas.List.FromFn.{length-map-range_with_len, get_or-map-range_with_len}
-use Rattle.exam_model.specs.Enrolments.{AreEnrolments, has_student, students}
+use Rattle.exam_model.specs.Enrolments.{Enrolled, AreEnrolments, AreNumbers, has_student, students}
 use Rattle.exam_model.specs.Fits.{period_of}
-use Rattle.exam_model.specs.Pairs.{Pair, pairs_at, pairs_from, pairs_of}
+use Rattle.exam_model.specs.Pairs.{Pair, is_pair, pairs_at, pairs_from, pairs_of}
 use Rattle.exam_model.specs.Timetable.{Placing}
+use Rattle.exam_model.proofs.PairLemmas.{are_pairs}
 use Rattle.exam_model.proofs.SumLemmas.{IsChain, each_weaker, chain_weaker}
 use Rattle.exam_score.specs.Regrouping.{periods_of, AreStudentsOf}
 use Rattle.exam_publish.specs.declared.seat_row.SeatRow.{SeatRow}
@@ -94,9 +96,44 @@ chain_students (r ∷ rs) e h = go (eqb r.exam e) refl (chain_students rs e h.1)
 pub students_at : (n : ℕ) (rows : List SeatRow) (e : ℕ) → e < n → students (enrolled_in n rows) e ≡ students_in rows e
 students_at n rows e lt = get_or-map-range_with_len (students_in rows) 0 n e e [] lt (omega arith)
 
+-- the students of an exam have the numbers that those of the rows have
+numbers_in : (rows : List SeatRow) (e : ℕ) → AllByRecursion (λ row. row.student ≤ 999999999) rows → AreNumbers (students_in rows e)
+numbers_in [] e h = λ s is. absurd (true≢false (sym is))
+numbers_in (r ∷ rs) e h = go (eqb r.exam e) (numbers_in rs e h.1)
+  where
+    go : (b : Bool) → AreNumbers (students_in rs e)
+        → AreNumbers (map (λ row. row.student) (cond b (r ∷ filter (λ row. eqb row.exam e) rs) (filter (λ row. eqb row.exam e) rs)))
+    go false more = more
+    go true more = λ s is. elim (cases_eq r.student s) [
+      | inl same ↦ subst (λ (t : ℕ). t ≤ 999999999) same h.0
+      | inr other ↦ more s (subst (λ b. (b || has_student (students_in rs e) s) ≡ true) (ne_eqb r.student s other) is)
+    ]
+
+none_past : (n : ℕ) (rows : List SeatRow) (e : ℕ) → n ≤ e → students (enrolled_in n rows) e ≡ []
+none_past n rows e past = get_or_past (enrolled_in n rows) e [] (omega (arith, length-map-range_with_len (students_in rows) 0 n))
+
+numbered_enrolments : (n : ℕ) (rows : List SeatRow) (e : ℕ) → AllByRecursion (λ row. row.student ≤ 999999999) rows → AreNumbers (students (enrolled_in n rows) e)
+numbered_enrolments n rows e h = elim (cases_lt e n) [
+  | inl lt ↦ subst AreNumbers (sym (students_at n rows e lt)) (numbers_in rows e h)
+  | inr past ↦ subst AreNumbers (sym (none_past n rows e past)) (λ s is. absurd (true≢false (sym is)))
+]
+
+-- rows of pairs of enrolments have their numbers
+pub rows_numbered : (E : Enrolled) (rows : List SeatRow) → AreEnrolments E → map row_pair rows ≡ pairs_of E → AllByRecursion (λ row. row.student ≤ 999999999) rows
+rows_numbered E rows known pairs =
+    each rows (λ s e is. known.numbers e s (sym ((are_pairs E known).members s e) ∙ ap (list_any (is_pair s e)) (sym pairs) ∙ is))
+  where
+    each : (rows : List SeatRow) → ((s e : ℕ) → list_any (is_pair s e) (map row_pair rows) ≡ true → s ≤ 999999999) → AllByRecursion (λ row. row.student ≤ 999999999) rows
+    each [] h = tt
+    each (r ∷ rs) h = (
+      h r.student r.exam (or_left (is_pair r.student r.exam (row_pair r)) (list_any (is_pair r.student r.exam) (map row_pair rs))
+          (and_from (eqb r.student r.student) (eqb r.exam r.exam) (eq-eqb r.student r.student refl) (eq-eqb r.exam r.exam refl))),
+      each rs (λ s e is. h s e (or_right (is_pair s e (row_pair r)) (list_any (is_pair s e) (map row_pair rs)) is)),
+    )
+
 pub are_enrolments : (n : ℕ) (rows : List SeatRow) → 1 ≤ n → n ≤ 2000 → length rows ≤ 200000 → IsChain RowBefore rows → AllByRecursion (λ row. row.exam < n) rows
-    → AreEnrolments (enrolled_in n rows)
-are_enrolments n rows low high few order exist =
+    → AllByRecursion (λ row. row.student ≤ 999999999) rows → AreEnrolments (enrolled_in n rows)
+are_enrolments n rows low high few order exist numbered =
     let long = length-map-range_with_len (students_in rows) 0 n in
     let pairs = pairs_in n rows order exist in
     let count = length_pairs 0 (enrolled_in n rows) in
@@ -106,6 +143,7 @@ are_enrolments n rows low high few order exist =
       exams = (omega arith, omega arith);
       ascending = λ e lt. rw (students_at n rows e (omega arith)) (ascending_from_chain (students_in rows e) (chain_students rows e order));
       pairs = omega arith;
+      numbers = λ e. numbered_enrolments n rows e numbered;
     }
 
 -- ---- the students of the rows

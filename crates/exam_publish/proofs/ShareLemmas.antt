@@ -1,8 +1,8 @@
 -- Shares are small and those of the rows' students, and stay where rows do.
 use Rattle.std.specs.List.{AllByRecursion}
-use Rattle.std.proofs.Common.{◌≡◌, ℕ, ◌+◌, ◌<◌, ◌^◌, true, false, ◌&&◌, eqb, List, [], ◌∷◌, length, map, sum_by, All, refl, sym, ◌∙◌, ap, ap₂, subst, arith, eqb-true}
+use Rattle.std.proofs.Common.{◌≡◌, ℕ, ◌+◌, ◌<◌, ◌≤◌, ◌^◌, true, false, ◌&&◌, eqb, List, [], ◌∷◌, length, map, sum_by, All, refl, sym, ◌∙◌, ap, ap₂, subst, arith, eqb-true}
 use Rattle.std.proofs.lemmas.Bool.{and_parts, not-false}
-use Rattle.std.proofs.lemmas.List.Elements.{All-from_recursion}
+use Rattle.std.proofs.lemmas.List.Elements.{All-from_recursion, recursion_from_All}
 use Rattle.std.proofs.lemmas.List.FromFn.{length-map-range_with_len}
 use Rattle.std.proofs.lemmas.List.Sums.{sum_by-cons}
 use Rattle.exam_model.specs.Enrolments.{Enrolled, IsAscending, has_student}
@@ -16,7 +16,7 @@ use Rattle.exam_publish.specs.declared.seat_row.SeatRow.{SeatRow}
 use Rattle.exam_publish.specs.declared.share_lists.RoomShare.{RoomShare}
 use Rattle.exam_publish.specs.AddUp.{AddUpTo, AreSmall, share_total}
 use Rattle.exam_publish.specs.Changed.{rows_of, has_row, same_row, same_rows, is_changed, students_of}
-use Rattle.exam_publish.specs.Rows.{RowBefore, ArePublishedRows}
+use Rattle.exam_publish.specs.Rows.{RowBefore, AreNumbered, ArePublishedRows}
 use Rattle.exam_publish.specs.Shares.{Sharing, students_in, enrolled_in, share_of, student_shares}
 use Rattle.exam_publish.proofs.ListLemmas.{any_map, ascends, has_ascending}
 use Rattle.exam_publish.proofs.PlaceLemmas.{rows_exist}
@@ -86,11 +86,11 @@ small_shares n is shares h =
       total = subst (λ m. share_total shares < m) is h;
     }
 
-pub published_small : (I : Session) (rows : List SeatRow) (T : Placing) (shares : Sharing) → IsInstance I → ArePublishedRows I rows T
+pub published_small : (I : Session) (rows : List SeatRow) (T : Placing) (shares : Sharing) → IsInstance I → ArePublishedRows I rows T → AreNumbered rows
     → AddUpTo (track I (enrolled_in (length I.exams) rows) T) shares → AreSmall shares
-published_small I rows T shares known are adds =
+published_small I rows T shares known are numbered adds =
     let n = length I.exams in
     let E : Enrolled = enrolled_in n rows in
-    let made = are_enrolments n rows (omega (arith, known.limits.counts.0.0)) (omega (arith, known.limits.counts.0.1)) are.few (chain_from_index RowBefore rows are.in_order) (rows_exist I rows T are) in
+    let made = are_enrolments n rows (omega (arith, known.limits.counts.0.0)) (omega (arith, known.limits.counts.0.1)) are.few (chain_from_index RowBefore rows are.in_order) (rows_exist I rows T are) (recursion_from_All (λ (row : SeatRow). row.student ≤ 999999999) rows numbered) in
     let small = penalty_small I E T known made (record { enrolments = length-map-range_with_len (students_in rows) 0 n; timetable = are.exams; places = are.places }) in
     small_shares (2 ^ 62) refl shares (subst (λ k. k < 2 ^ 62) (sym adds.total) small)

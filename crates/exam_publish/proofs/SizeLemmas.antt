@@ -12,7 +12,8 @@ use Rattle.exam_score.specs.Track.{is_larger, is_late, exam_front}
 use Rattle.exam_publish.specs.declared.seat_row.SeatRow.{SeatRow}
 use Rattle.exam_publish.specs.Groups.{is_of_exam}
 use Rattle.exam_publish.specs.Shares.{enrolled_in}
-use Rattle.exam_publish.specs.Tallies.{AreTallied, is_larger_by, front_by}
+use Rattle.exam_score.specs.Front.{is_larger_by, front_by}
+use Rattle.exam_publish.specs.Tallies.{AreTallied}
 use Rattle.exam_publish.proofs.RowLemmas.{students_at}
 
 size_is : (n : ℕ) (rows : List SeatRow) (sizes : List ℕ) → AreTallied (λ e. 1) is_of_exam n rows sizes → (e : ℕ) → e < n → slice_index sizes e ≡ size_of (enrolled_in n rows) e

@@ -15,6 +15,7 @@ mod seating;
 mod share_lists;
 mod sharing;
 mod student_shares;
+mod sums;
 
 pub use comparison::changed;
 pub use fault::PublishFault;

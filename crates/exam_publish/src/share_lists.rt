@@ -1,8 +1,11 @@
 // The shares of a publication: contracts see them as their lists.
-ghost use Rattle.std.specs.Prelude.{◌≡◌};
+ghost use Rattle.std.specs.Prelude.{◌≡◌, ◌<◌, ◌≤◌, ◌^◌, IfSome, IfNone};
+ghost use Rattle.exam_publish.specs.AddUp.{AddUpTo, added_up};
+ghost use Rattle.exam_score.specs.Penalty.{Penalty, total_of};
 
+use crate::sums::{room_sums, student_sums, sum_of};
 use exam_model::StudentNo;
-use exam_score::PersonalParts;
+use exam_score::{Parts, PersonalParts};
 use std::marker::Model;
 
 /// A room's share: what its penalty makes over all exams that stand in it, and beside it its mixed
@@ -56,6 +59,31 @@ impl Shares {
             periods,
             rooms,
         }
+    }
+
+    /// The penalty that all shares make together, part by part, unless it reaches 2^62.
+    pub fn parts(&self) -> Option<Parts>
+        ensures some { IfSome result (λ parts. parts ≡ added_up self.now) }
+        ensures within { IfSome result (λ parts. total_of parts < 2 ^ 62) }
+        ensures none { IfNone result (2 ^ 62 ≤ total_of (added_up self.now)) }
+
+        // The shares of a timetable make its penalty.
+        ensures penalty { (penalty : Penalty) → AddUpTo penalty self.now
+            → IfSome result (λ parts. parts ≡ penalty) }
+    {
+        let students = student_sums(&self.students)?;
+        let front = sum_of(&self.exams)?;
+        let period = sum_of(&self.periods)?;
+        let rooms = room_sums(&self.rooms)?;
+        Parts::new(
+            students.row,
+            students.day,
+            students.spread,
+            rooms.mixed,
+            front,
+            period,
+            rooms.penalty,
+        )
     }
 
     /// What the exams of each candidate with a seat cost her; candidates ascending.

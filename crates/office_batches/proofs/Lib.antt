@@ -1,2 +1,3 @@
 mod RecordLemmas
 mod TurnLemmas
+mod BatchLaws

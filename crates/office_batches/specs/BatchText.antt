@@ -1,7 +1,8 @@
 -- What a batch of changes spells, and its first fault: records of comma-separated values, of which
 -- the first names the columns.
-use Rattle.std.specs.Prelude.{ℕ, ◌+◌, Bool, true, false, ◌&&◌, ◌||◌, ◌==◌, nat_le, if◌then◌else◌, List, [], ◌∷◌, ◌++◌, length, codes, slice_index_or, Result, Ok, Err}
+use Rattle.std.specs.Prelude.{◌≡◌, ◌≤◌, ℕ, ◌+◌, ◌-◌, Bool, true, false, ◌&&◌, ◌||◌, ◌==◌, nat_le, if◌then◌else◌, List, [], ◌∷◌, ◌++◌, length, map, codes, slice_index_or, Result, Ok, Err}
 use Rattle.std.specs.Str.{str_eq_ignore_ascii_case}
+use Rattle.exam_terms.specs.declared.limits.TheConstants.{MAX_EXAMS, MAX_STUDENT, TEXT_BYTES}
 use Rattle.csv.specs.Reading.{default_config, records, strip_bom}
 use Rattle.exam_terms.specs.Refusing.{◌>>=◌, unless}
 use Rattle.exam_model.specs.declared.change.Change.{Change}
@@ -44,8 +45,8 @@ action fields =
 -- the change that a record says: the student, the exam, and what is done
 abbrev pub change_in : Record → Result Change FaultKind
 change_in fields = do
-  student ← number 999999999 (field fields 0)
-  exam ← number 1999 (field fields 1)
+  student ← number MAX_STUDENT (field fields 0)
+  exam ← number (MAX_EXAMS - 1) (field fields 1)
   add ← action fields
   _ ← unless (has_three fields) StrayText
   Ok (record { student = student; exam = exam; add = add })
@@ -71,5 +72,15 @@ records_in b = records default_config (strip_bom b)
 -- the reading of a batch: the changes that it spells, or its first fault
 abbrev pub batch_in : List ℕ → Result (List Change) FileFault
 batch_in b = do
-  _ ← at_line 0 (unless (nat_le (length b) 1048576) TooLong)
+  _ ← at_line 0 (unless (nat_le (length b) TEXT_BYTES) TooLong)
   changes_from 1 [] (records_in b)
+
+-- a text that is short enough spells changes: its first record names the columns, and each other
+-- record says its change
+pub record BatchText (b : List ℕ) (changes : List Change) : Type 0 where
+  pub within : length b ≤ TEXT_BYTES
+  pub header : Record
+  pub others : List Record
+  pub records : records_in b ≡ header ∷ others
+  pub columns : is_header header ≡ true
+  pub say : map change_in others ≡ map Ok changes

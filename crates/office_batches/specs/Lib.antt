@@ -1,1 +1,2 @@
 pub mod BatchText
+pub mod FirstFault

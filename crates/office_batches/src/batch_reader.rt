@@ -1,5 +1,6 @@
 // Reading a batch.
 ghost use Rattle.std.specs.Prelude.{◌≡◌, ◌≤◌, ◌+◌, ◌∷◌, [], length, IfErr};
+ghost use Rattle.exam_terms.specs.declared.limits.TheConstants.{TEXT_BYTES};
 ghost use Rattle.csv.specs.Records.{fields_of};
 ghost use Rattle.office_files.specs.Faults.{IsOfNoLine};
 ghost use Rattle.office_files.specs.Reading.{Gives, at_line};
@@ -8,11 +9,9 @@ ghost use Rattle.office_batches.specs.BatchText.{batch_in, behind, changes_from,
 use crate::change_reader::{change_in, is_header};
 use csv::{ByteRecord, ReaderBuilder};
 use exam_model::Change;
+use exam_terms::limits::TEXT_BYTES;
 use office_files::{FaultKind, FileFault};
 use std::alloc::Global;
-
-// The longest batch, in bytes.
-const LONGEST_BATCH: usize = 1_048_576;
 
 /// The changes that a batch spells: records of comma-separated values, the first of which is
 /// `student,exam,action`. A fault is that of the first faulty record, counted from 1, and in it
@@ -22,7 +21,7 @@ pub fn read_batch(alloc: Global, text: &[u8]) -> Result<Vec<Change>, FileFault>
     ensures exact { Gives (λ read. read.items) result (batch_in text.now) }
     ensures memory { IfErr result IsOfNoLine }
 {
-    if text.len() > LONGEST_BATCH {
+    if text.len() > TEXT_BYTES {
         return Err(FileFault {
             line: 0,
             what: FaultKind::TooLong,
@@ -33,7 +32,7 @@ pub fn read_batch(alloc: Global, text: &[u8]) -> Result<Vec<Change>, FileFault>
 
 // The changes of a batch that is not too long.
 fn changes_in(alloc: Global, text: &[u8]) -> Result<Vec<Change>, FileFault>
-    requires { length text.now ≤ 1048576 }
+    requires { length text.now ≤ TEXT_BYTES }
     ensures exact { Gives (λ read. read.items) result (changes_from 1 [] (records_in text.now)) }
     ensures memory { IfErr result IsOfNoLine }
 {

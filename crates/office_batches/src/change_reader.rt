@@ -6,6 +6,7 @@ ghost use Rattle.office_batches.specs.BatchText.{action, change_in, field, has_t
 
 use csv::ByteRecord;
 use exam_model::{Change, ExamNo, StudentNo};
+use exam_terms::limits::{MAX_EXAMS, MAX_STUDENT};
 use office_files::{FaultKind, number, same_word, trimmed};
 
 /// Whether a record names the columns.
@@ -19,9 +20,9 @@ pub fn is_header(row: &ByteRecord) -> bool
 pub fn change_in(row: &ByteRecord) -> Result<Change, FaultKind>
     ensures { result ≡ change_in (fields_of row.now) }
 {
-    let student = StudentNo::new(number(field(row, 0), 999_999_999)?);
+    let student = StudentNo::new(number(field(row, 0), MAX_STUDENT)?);
     let student = student.ok_or(FaultKind::OutOfRange)?;
-    let exam = ExamNo::new(number(field(row, 1), 1999)?);
+    let exam = ExamNo::new(number(field(row, 1), MAX_EXAMS - 1)?);
     let add = action(row)?;
     if !has_three(row) {
         return Err(FaultKind::StrayText);

@@ -14,6 +14,7 @@ use crate::reading::{InputFault, instance_text, whole_text};
 use exam_model::{Enrolments, Instance, Timetable};
 use exam_rules::breaches;
 use exam_score::score;
+use exam_terms::limits::TEXT_BYTES;
 use office_files::{FileFault, read_instance, read_solution};
 use office_reports::{penalty_report, violation_report};
 use std::alloc::{AllocError, Global};
@@ -35,8 +36,6 @@ pub enum CheckFault {
     /// Memory ran out.
     NoMemory,
 }
-
-const SOLUTION_BYTES: usize = 1_048_576;
 
 fn of_instance(fault: InputFault) -> CheckFault
     ensures { result ≡ of_instance fault }
@@ -88,7 +87,7 @@ fn solution_of<R: Read>(
     ensures exist { IfOk result (λ timetable. All (PlaceExists instance.now) timetable) }
     ensures taken { TakesAtMost 1048577 (R.remaining reader.old) (R.remaining reader.new) }
 {
-    let text = whole_text(alloc, reader, SOLUTION_BYTES)?;
+    let text = whole_text(alloc, reader, TEXT_BYTES)?;
     Ok(read_solution(alloc, &text, instance)?)
 }
 

@@ -1,7 +1,9 @@
 // The whole text of a reader, within a limit of bytes and a number of reads.
 ghost use Rattle.std.specs.Prelude.{◌≡◌, ◌<◌, ◌≤◌, ◌+◌, ◌++◌, ℕ, length, IfErr, IfOk, IfSome, OnOk};
+ghost use Rattle.exam_terms.specs.declared.limits.TheConstants.{INSTANCE_BYTES};
 ghost use Rattle.office_check.specs.Inputs.{RefusesText, StaysUnread, TakesAtMost};
 
+use exam_terms::limits::INSTANCE_BYTES;
 use office_files::{FaultKind, FileFault};
 use std::alloc::{AllocError, Global};
 use std::io::{ErrorKind, Read};
@@ -78,8 +80,6 @@ impl From<Unread> for InputFault {
     }
 }
 
-const INSTANCE_BYTES: usize = 4_194_304;
-
 const TOO_LONG: FileFault = FileFault {
     line: 0,
     what: FaultKind::TooLong,
@@ -111,7 +111,7 @@ pub(crate) fn whole_text<R: Read>(
     reader: &mut R,
     limit: usize,
 ) -> Result<Vec<u8>, InputFault>
-    requires { limit ≤ 4194304 }
+    requires { limit ≤ INSTANCE_BYTES }
     ensures whole { IfOk result (λ text. IfSome (R.remaining reader.old)
         (λ input. input ≡ text.items)) }
     ensures short { IfOk result (λ text. length text.items ≤ limit) }
@@ -130,7 +130,7 @@ fn text_in<R: Read>(
     limit: usize,
     reads: &mut u32,
 ) -> Result<Vec<u8>, Unread>
-    requires { limit ≤ 4194304 }
+    requires { limit ≤ INSTANCE_BYTES }
     ensures whole { IfOk result (λ text. IfSome (R.remaining reader.old)
         (λ input. input ≡ text.items)) }
     ensures short { IfOk result (λ text. length text.items ≤ limit) }
@@ -164,9 +164,9 @@ fn text_in<R: Read>(
 pub fn instance_text<R: Read>(alloc: Global, reader: &mut R) -> Result<Vec<u8>, InputFault>
     ensures whole { IfOk result (λ text. IfSome (R.remaining reader.old)
         (λ input. input ≡ text.items)) }
-    ensures short { IfOk result (λ text. length text.items ≤ 4194304) }
+    ensures short { IfOk result (λ text. length text.items ≤ INSTANCE_BYTES) }
     ensures refused { IfErr result (λ fault. IfSome (R.remaining reader.old)
-        (λ input. RefusesText 4194304 input fault)) }
+        (λ input. RefusesText INSTANCE_BYTES input fault)) }
     // The reader is read no further than one byte past the limit.
     ensures taken { TakesAtMost 4194305 (R.remaining reader.old) (R.remaining reader.new) }
 {

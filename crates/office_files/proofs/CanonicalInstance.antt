@@ -1,14 +1,14 @@
 -- The canonical text of an instance spells it.
 use Rattle.std.proofs.Common.{◌≡◌, ℕ, suc, ◌+◌, ◌*◌, ◌<◌, ◌≤◌, ◌/◌, false, List, [], ◌∷◌, ◌++◌, length}
-use Rattle.std.proofs.Common.{Ok, refl, sym, ap, subst, ◌∙◌, arith, append-nil, length-append}
+use Rattle.std.proofs.Common.{Ok, eqb, refl, sym, ap, subst, ◌∙◌, arith, append-nil, length-append}
 use Rattle.std.specs.Prelude.{map, decimal, codes, All, nat_lt, not, ◌==◌}
 use Rattle.std.specs.List.{flat_map, AllByRecursion}
-use Rattle.std.proofs.lemmas.Bool.{lt-ltb, ne_eqb}
+use Rattle.std.proofs.lemmas.Bool.{eq-eqb, lt-ltb, ne_eqb, or_left, or_right}
 use Rattle.std.proofs.lemmas.List.{append_assoc}
 use Rattle.std.proofs.lemmas.List.Concat.{flat_map-cons}
 use Rattle.std.proofs.lemmas.List.Elements.{All-head, All-tail}
 use Rattle.std.proofs.lemmas.List.Sums.{sum_by-cons, sum_by_push}
-use Rattle.exam_model.specs.Enrolments.{Enrolled, AreEnrolments, IsAscending, students, pair_count}
+use Rattle.exam_model.specs.Enrolments.{Enrolled, AreEnrolments, AreNumbers, IsAscending, has_student, students, pair_count}
 use Rattle.exam_model.specs.Instance.{Session, IsInstance, PeriodRuleExists, RoomRuleExists}
 use Rattle.exam_calendar.proofs.DateLemmas.{date_ranges}
 use Rattle.exam_model.specs.Limits.{ExamInLimits, PeriodInLimits, RoomInLimits, WeightsInLimits}
@@ -398,30 +398,32 @@ six_lengths a b c d e f =
       length-append a b,
     ) refl
 
-numbers_all : (E : Enrolled) → ((e : ℕ) → e < length E → All (λ s. s ≤ 999999999) (students E e))
+numbers_each : (ss : List ℕ) → AreNumbers ss → AllByRecursion (λ s. s ≤ 999999999) ss
+numbers_each [] known = tt
+numbers_each (s ∷ ss) known = (
+  known s (or_left (eqb s s) (has_student ss s) (eq-eqb s s refl)),
+  numbers_each ss (λ t is. known t (or_right (eqb s t) (has_student ss t) is)),
+)
+
+numbers_all : (E : Enrolled) → ((e : ℕ) → AreNumbers (students E e))
     → AllByRecursion (AllByRecursion (λ s. s ≤ 999999999)) E
 numbers_all [] all = tt
-numbers_all (ss ∷ E) all = (
-  each_of (λ (s : ℕ). s ≤ 999999999) (λ (s : ℕ). s ≤ 999999999) (λ s le. le) ss (all 0 (omega arith)),
-  numbers_all E (λ e lt. all (suc e) (omega arith)),
-)
+numbers_all (ss ∷ E) all = (numbers_each ss (all 0), numbers_all E (λ e. all (suc e)))
 
 abbrev with_exams : Session → List Exam → Session
 with_exams I xs = record I { exams = xs }
 
 -- what is written spells the instance and its enrolments
 pub instance_spelled : (I : Session) (E : Enrolled) → IsInstance I → AreEnrolments E
-    → length E ≡ length I.exams
-    → ((e : ℕ) → e < length E → All (λ s. s ≤ 999999999) (students E e))
-    → InstanceText (canonical_instance I E) I E
-instance_spelled I E is kept fits numbers =
+    → length E ≡ length I.exams → InstanceText (canonical_instance I E) I E
+instance_spelled I E is kept fits =
     let es : List ExamLine = exam_lines_of I.exams E in
     let ws = weightings_of I.weights in
     let counts = counts_of es in
     let limits = is.limits in
     let counted = limits.counts in
     let many : length es ≡ length I.exams = length_lines I.exams E fits in
-    let such = exams_such I.exams E limits.exams kept.ascending (numbers_all E numbers) in
+    let such = exams_such I.exams E limits.exams kept.ascending (numbers_all E kept.numbers) in
     let pairs = pairs_all I.exams E fits in
     let period_rules = rw (sym many) at is.numbers.period_rules in
     let room_rules = rw (sym many) at is.numbers.room_rules in
@@ -503,8 +505,6 @@ instance_spelled I E is kept fits numbers =
 
 -- and is read as the same
 pub instance_same : (I : Session) (E : Enrolled) → IsInstance I → AreEnrolments E
-    → length E ≡ length I.exams
-    → ((e : ℕ) → e < length E → All (λ s. s ≤ 999999999) (students E e))
-    → instance_in (canonical_instance I E) ≡ Ok (I, E)
-instance_same I E is kept fits numbers =
-    text_is_read (canonical_instance I E) I E (instance_spelled I E is kept fits numbers)
+    → length E ≡ length I.exams → instance_in (canonical_instance I E) ≡ Ok (I, E)
+instance_same I E is kept fits =
+    text_is_read (canonical_instance I E) I E (instance_spelled I E is kept fits)

@@ -17,6 +17,7 @@ pub mod ItemLaws
 pub mod SectionLaws
 pub mod SolutionLaws
 pub mod InstanceLaws
+pub mod NameLaws
 pub mod ReaderLaws
 mod FaultLemmas
 pub mod FirstFaultLaws

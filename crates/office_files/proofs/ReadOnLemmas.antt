@@ -75,7 +75,7 @@ pub low_is_digit : (b : ℕ) → b < 256 → bit_xor b 48 ≤ 9
 unfolding digit_told
 low_is_digit b lt low =
     let told = subst (λ t. (if t then is_ascii_digit b && (bit_xor b 48 == b - 48)
-        else not (is_ascii_digit b)) ≡ true) (le-leb (bit_xor b 48) 9 low) (byte_told b lt) in
+    else not (is_ascii_digit b)) ≡ true) (le-leb (bit_xor b 48) 9 low) (byte_told b lt) in
     let both = and_parts (is_ascii_digit b) (bit_xor b 48 == b - 48) told in
     (both.0, eqb-true (bit_xor b 48) (b - 48) both.1)
 
@@ -83,7 +83,7 @@ pub high_is_none : (b : ℕ) → b < 256 → 9 < bit_xor b 48 → is_ascii_digit
 unfolding digit_told
 high_is_none b lt high =
     let told = subst (λ t. (if t then is_ascii_digit b && (bit_xor b 48 == b - 48)
-        else not (is_ascii_digit b)) ≡ true) (lt-leb (bit_xor b 48) 9 high) (byte_told b lt) in
+    else not (is_ascii_digit b)) ≡ true) (lt-leb (bit_xor b 48) 9 high) (byte_told b lt) in
     not_true (is_ascii_digit b) told
   where
     not_true : (a : Bool) → not a ≡ true → a ≡ false

@@ -2,6 +2,7 @@
 use Rattle.std.specs.Prelude.{◌≡◌, ℕ, ◌+◌, ◌<◌, ◌||◌, nat_lt}
 use Rattle.std.specs.Prelude.{List, [], ◌∷◌, length, map, sum_by, slice_set}
 use Rattle.std.specs.Prelude.{Option, Some, None, Result, Ok, Err}
+use Rattle.exam_terms.specs.declared.limits.TheConstants.{MAX_MINUTES, MAX_PAIRS, MAX_STUDENT}
 use Rattle.exam_terms.specs.Refusing.{◌>>=◌, unless}
 use Rattle.exam_model.specs.Changes.{with_student}
 use Rattle.exam_model.specs.Enrolments.{Enrolled, AreEnrolments, has_student, students, pair_count}
@@ -23,8 +24,8 @@ pub record ExamLine : Type 0 where
 abbrev pub students_in : ℕ → List ℕ → List (List ℕ) → Result (List ℕ) FaultKind
 students_in pairs seen [] = Ok seen
 students_in pairs seen (field ∷ fields) = do
-  s ← number 999999999 field
-  _ ← unless (has_student seen s || nat_lt (pairs + length seen) 200000) OutOfRange
+  s ← number MAX_STUDENT field
+  _ ← unless (has_student seen s || nat_lt (pairs + length seen) MAX_PAIRS) OutOfRange
   students_in pairs (with_student s seen) fields
 
 -- how many pairs stand on lines
@@ -34,7 +35,7 @@ pairs_on lines = sum_by (λ line. length line.students) lines
 -- a line of the section of exams behind so many pairs
 abbrev pub exam_behind : ℕ → List (List ℕ) → Result ExamLine FaultKind
 exam_behind pairs fields = do
-  minutes ← number 1440 (first fields)
+  minutes ← number MAX_MINUTES (first fields)
   students ← students_in pairs [] (rest fields)
   Ok (record { minutes = minutes; students = students })
 
@@ -81,7 +82,7 @@ named_first (Err what) names = []
 -- the students whom fields name, up to the first field that names none
 abbrev pub named_in : List (List ℕ) → List ℕ
 named_in [] = []
-named_in (field ∷ fields) = named_first (number 999999999 field) (named_in fields)
+named_in (field ∷ fields) = named_first (number MAX_STUDENT field) (named_in fields)
 
 -- the fault of a field that names no student, or a later one
 abbrev pub fault_first : Result ℕ FaultKind → Option FaultKind → Option FaultKind
@@ -91,4 +92,4 @@ fault_first (Err what) later = Some what
 -- the fault of the first field that names no student
 abbrev pub fault_in : List (List ℕ) → Option FaultKind
 fault_in [] = None
-fault_in (field ∷ fields) = fault_first (number 999999999 field) (fault_in fields)
+fault_in (field ∷ fields) = fault_first (number MAX_STUDENT field) (fault_in fields)

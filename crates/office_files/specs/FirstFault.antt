@@ -1,6 +1,7 @@
 -- The fault of each line of a file where no line before it has one, and the first of them.
 use Rattle.std.specs.Prelude.{ℕ, zero, suc, ◌+◌, ◌==◌, nat_lt, nat_le, if◌then◌else◌, List, [], ◌∷◌}
 use Rattle.std.specs.Prelude.{◌++◌, length, Option, None, Some, Result, Ok, Err}
+use Rattle.exam_terms.specs.declared.limits.TheConstants.{INSTANCE_BYTES, TEXT_BYTES}
 use Rattle.exam_model.specs.Instance.{Session}
 use Rattle.office_files.specs.ExamLines.{exam_line}
 use Rattle.office_files.specs.Fields.{fields_of}
@@ -105,7 +106,7 @@ first_from end s (line ∷ lines) =
 -- the first fault of an instance file, if it has one
 abbrev pub first_fault : List ℕ → Option FileFault
 first_fault b =
-    if nat_le (length b) 4194304 then first_from (line_count b + 1) at_start (lines_of b)
+    if nat_le (length b) INSTANCE_BYTES then first_from (line_count b + 1) at_start (lines_of b)
     else Some (record { line = 0; what = TooLong })
 
 -- the first fault of the lines of a solution behind those before them
@@ -120,6 +121,6 @@ first_place_fault counts end before (line ∷ lines) =
 -- the first fault of a solution file for a session, if it has one
 abbrev pub first_solution_fault : Session → List ℕ → Option FileFault
 first_solution_fault I b =
-    if nat_le (length b) 1048576
+    if nat_le (length b) TEXT_BYTES
     then first_place_fault (counts_in I) (line_count b + 1) [] (lines_of b)
     else Some (record { line = 0; what = TooLong })

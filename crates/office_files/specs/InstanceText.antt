@@ -1,5 +1,6 @@
 -- What an instance file spells, and how it is read (ITC 2007, input format).
 use Rattle.std.specs.Prelude.{◌≡◌, ℕ, ◌+◌, ◌≤◌, nat_le, List, [], ◌∷◌, map, length, codes, None, Some, Result, Ok, Err}
+use Rattle.exam_terms.specs.declared.limits.TheConstants.{INSTANCE_BYTES, MAX_EXAMS, MAX_PERIODS, MAX_ROOMS}
 use Rattle.exam_terms.specs.Refusing.{◌>>=◌, unless}
 use Rattle.exam_model.specs.Enrolments.{Enrolled}
 use Rattle.exam_model.specs.Instance.{Session}
@@ -20,13 +21,13 @@ use Rattle.office_files.specs.declared.fault.FileFault.{FileFault}
 
 -- how each section begins
 abbrev pub exams_heading : Heading
-exams_heading = record { word = codes "Exams"; limit = Some 2000 }
+exams_heading = record { word = codes "Exams"; limit = Some MAX_EXAMS }
 
 abbrev pub periods_heading : Heading
-periods_heading = record { word = codes "Periods"; limit = Some 200 }
+periods_heading = record { word = codes "Periods"; limit = Some MAX_PERIODS }
 
 abbrev pub rooms_heading : Heading
-rooms_heading = record { word = codes "Rooms"; limit = Some 200 }
+rooms_heading = record { word = codes "Rooms"; limit = Some MAX_ROOMS }
 
 abbrev pub period_rules_heading : Heading
 period_rules_heading = record { word = codes "PeriodHardConstraints"; limit = None }
@@ -68,7 +69,7 @@ enrolled_of s = map (λ line. line.students) s.exams
 -- a text that is short enough spells a session and enrolments: its lines are the six sections in
 -- their order, and nothing behind them
 pub record InstanceText (b : List ℕ) (I : Session) (E : Enrolled) : Type 0 where
-  pub within : length b ≤ 4194304
+  pub within : length b ≤ INSTANCE_BYTES
   pub said : Spelled
   pub behind_exams : List Located
   pub behind_periods : List Located
@@ -111,7 +112,7 @@ later_sections end exams lines = do
 -- the reading of an instance file: what it spells, or its first fault
 abbrev pub instance_in : List ℕ → Result (Session × Enrolled) FileFault
 instance_in b = do
-  _ ← at_line 0 (unless (nat_le (length b) 4194304) TooLong)
+  _ ← at_line 0 (unless (nat_le (length b) INSTANCE_BYTES) TooLong)
   exams ← section_in exams_heading exam_line (line_count b + 1) (lines_of b)
   said ← later_sections (line_count b + 1) exams.0 exams.1
   Ok (session_of said, enrolled_of said)

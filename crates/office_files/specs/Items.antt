@@ -1,6 +1,7 @@
 -- What the lines of the sections say (ITC 2007, input format), and those of a solution.
 use Rattle.std.specs.Prelude.{ℕ, ◌-◌, nat_lt, if◌then◌else◌, List, length, codes, Result, Ok, Err}
 use Rattle.std.specs.Str.{str_eq_ignore_ascii_case}
+use Rattle.exam_terms.specs.declared.limits.TheConstants.{MAX_AMOUNT, MAX_MINUTES, MAX_RULES}
 use Rattle.exam_terms.specs.Refusing.{◌>>=◌, unless}
 use Rattle.exam_model.specs.declared.parts.Period.{Period}
 use Rattle.exam_terms.specs.declared.place.Place.{Place}
@@ -22,16 +23,16 @@ abbrev pub period_in : List (List ℕ) → Result Period FaultKind
 period_in fields = do
   date ← date_of (first fields)
   time ← time_of (first (rest fields))
-  minutes ← number 1440 (first (rest (rest fields)))
-  penalty ← number 100000 (first (rest (rest (rest fields))))
+  minutes ← number MAX_MINUTES (first (rest (rest fields)))
+  penalty ← number MAX_AMOUNT (first (rest (rest (rest fields))))
   _ ← ended (rest (rest (rest (rest fields))))
   Ok (record { date = date; hour = time.0; minute = time.1; second = time.2; length = minutes; penalty = penalty })
 
 -- capacity, penalty
 abbrev pub room_in : List (List ℕ) → Result Room FaultKind
 room_in fields = do
-  capacity ← number 100000 (first fields)
-  penalty ← number 100000 (first (rest fields))
+  capacity ← number MAX_AMOUNT (first fields)
+  penalty ← number MAX_AMOUNT (first (rest fields))
   _ ← ended (rest (rest fields))
   Ok (record { capacity = capacity; penalty = penalty })
 
@@ -85,12 +86,12 @@ room_line counts before fields = room_in fields
 -- a line of a section of rules, of which there are at most 5,000
 abbrev pub period_rule_line : Counts → List PeriodRule → List (List ℕ) → Result PeriodRule FaultKind
 period_rule_line counts before fields = do
-  _ ← unless (nat_lt (length before) 5000) OutOfRange
+  _ ← unless (nat_lt (length before) MAX_RULES) OutOfRange
   period_rule_in counts.exams fields
 
 abbrev pub room_rule_line : Counts → List RoomRule → List (List ℕ) → Result RoomRule FaultKind
 room_rule_line counts before fields = do
-  _ ← unless (nat_lt (length before) 5000) OutOfRange
+  _ ← unless (nat_lt (length before) MAX_RULES) OutOfRange
   room_rule_in counts.exams fields
 
 -- a line of a solution: the place of the next exam, where there is one

@@ -9,6 +9,7 @@ pub mod Reading
 pub mod Items
 pub mod Weightings
 pub mod ExamLines
+pub mod Names
 pub mod Sections
 pub mod InstanceText
 pub mod SolutionText

@@ -1,6 +1,7 @@
 -- The lines of a text that aren't blank, each with its place in the text.
 use Rattle.std.specs.Prelude.{ℕ, ◌+◌, ◌-◌, ◌<◌, ◌≤◌, Bool, false, ◌==◌, if◌then◌else◌}
 use Rattle.std.specs.Prelude.{List, [], ◌∷◌, length}
+use Rattle.exam_terms.specs.declared.limits.TheConstants.{INSTANCE_BYTES}
 use Rattle.office_files.specs.Fields.{ended_parts, trim_start, trimmed}
 
 -- how many lines a text has; behind a last line feed there is none
@@ -71,5 +72,5 @@ section_size (row ∷ rows) = if is_header row.text then 0 else section_size row
 -- the place and the line of what is left of a text stay within its limit
 pub record HasPlaces (line at : ℕ) (left : List ℕ) : Type 0 where
   pub at_most : at ≤ 4194305
-  pub within : 0 < length left → at + length left ≤ 4194304
+  pub within : 0 < length left → at + length left ≤ INSTANCE_BYTES
   pub lines : line + length left ≤ 4194305

@@ -1,5 +1,6 @@
 -- What a solution file spells, and how it is read (ITC 2007, output format).
 use Rattle.std.specs.Prelude.{◌≡◌, ℕ, ◌+◌, ◌≤◌, ◌==◌, nat_le, List, [], map, length, Some, Result, Ok}
+use Rattle.exam_terms.specs.declared.limits.TheConstants.{TEXT_BYTES}
 use Rattle.exam_terms.specs.Refusing.{◌>>=◌, unless}
 use Rattle.exam_model.specs.Instance.{Session}
 use Rattle.exam_model.specs.Timetable.{Placing}
@@ -17,7 +18,7 @@ counts_in I = record { exams = length I.exams; periods = length I.periods; rooms
 
 -- a text that is short enough spells a complete timetable: one line for each exam, in their order
 pub record SolutionText (b : List ℕ) (I : Session) (T : Placing) : Type 0 where
-  pub within : length b ≤ 1048576
+  pub within : length b ≤ TEXT_BYTES
   pub places : List Place
   pub spelled : Spell (place_line (counts_in I)) (lines_of b) places
   pub complete : length places ≡ length I.exams
@@ -33,5 +34,5 @@ timetable_in counts b = do
 -- the reading of a solution file: the timetable that it spells, or its first fault
 abbrev pub solution_in : Session → List ℕ → Result Placing FileFault
 solution_in I b = do
-  _ ← at_line 0 (unless (nat_le (length b) 1048576) TooLong)
+  _ ← at_line 0 (unless (nat_le (length b) TEXT_BYTES) TooLong)
   timetable_in (counts_in I) b

@@ -2,6 +2,7 @@
 use Rattle.std.specs.Prelude.{ℕ, Bool, true, false, not, if◌then◌else◌, List, [], ◌∷◌, codes, Result, Ok, Err}
 use Rattle.std.specs.List.{list_any}
 use Rattle.std.specs.Str.{str_eq_ignore_ascii_case}
+use Rattle.exam_terms.specs.declared.limits.TheConstants.{MAX_AMOUNT}
 use Rattle.exam_terms.specs.Refusing.{◌>>=◌, unless}
 use Rattle.exam_model.specs.declared.parts.Weights.{Weights}
 use Rattle.office_files.specs.Fields.{first, rest, ended}
@@ -36,16 +37,16 @@ has_word _ _ = false
 -- one number behind a word
 abbrev pub amount_in : List (List ℕ) → Result ℕ FaultKind
 amount_in fields = do
-  amount ← number 100000 (first fields)
+  amount ← number MAX_AMOUNT (first fields)
   _ ← ended (rest fields)
   Ok amount
 
 -- how many exams, how many periods, what weight
 abbrev pub front_in : List (List ℕ) → Result Weighting FaultKind
 front_in fields = do
-  exams ← number 100000 (first fields)
-  periods ← number 100000 (first (rest fields))
-  weight ← number 100000 (first (rest (rest fields)))
+  exams ← number MAX_AMOUNT (first fields)
+  periods ← number MAX_AMOUNT (first (rest fields))
+  weight ← number MAX_AMOUNT (first (rest (rest fields)))
   _ ← ended (rest (rest (rest fields)))
   Ok (said.Front exams periods weight)
 

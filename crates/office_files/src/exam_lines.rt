@@ -1,6 +1,7 @@
 // Reading the lines of the section of exams.
 ghost use Rattle.std.specs.Prelude.{◌≡◌, ◌≢◌, ◌≤◌, [], length, take, drop, true};
 ghost use Rattle.std.specs.Prelude.{OnOk, IfOk, IfErr, Err};
+ghost use Rattle.exam_terms.specs.declared.limits.TheConstants.{MAX_EXAMS, MAX_STUDENT};
 ghost use Rattle.exam_model.specs.Enrolments.{IsAscending, pair_count};
 ghost use Rattle.office_files.specs.Faults.{IsOfNoLine};
 ghost use Rattle.office_files.specs.Fields.{fields_of, first, rest};
@@ -14,15 +15,16 @@ use crate::fault::{FaultKind, FileFault};
 use crate::fields::Fields;
 use crate::lines::Lines;
 use exam_model::{Enrolments, Exam, ExamNo, ModelFault, StudentNo};
+use exam_terms::limits::{MAX_MINUTES, MAX_STUDENT};
 use std::alloc::{AllocError, Global};
 
 // The student whom the next field names.
 #[inline]
 fn next_student(fields: &mut Fields<'_>) -> Result<StudentNo, FaultKind>
-    ensures student { result ≡ number 999999999 (first fields.old) }
+    ensures student { result ≡ number MAX_STUDENT (first fields.old) }
     ensures left { fields.new ≡ rest fields.old }
 {
-    let value = fields.next_number(999_999_999)?;
+    let value = fields.next_number(MAX_STUDENT)?;
     StudentNo::new(value).ok_or(FaultKind::OutOfRange)
 }
 
@@ -96,7 +98,7 @@ fn exam_line(
         → exam_behind (pair_count enrolments.old) (fields_of line.now) ≡ Err what) }
 {
     let mut fields = Fields::new(line);
-    let minutes = fields.next_number(1440)?;
+    let minutes = fields.next_number(MAX_MINUTES)?;
     let Ok(told) = gather(fields, named) else {
         return Err(FaultKind::NoMemory);
     };
@@ -118,7 +120,7 @@ pub fn exam_lines(
     count: u32,
 ) -> Result<(Vec<Exam>, Enrolments), FileFault>
     requires some { 1 ≤ count }
-    requires most { count ≤ 2000 }
+    requires most { count ≤ MAX_EXAMS }
     requires there { count ≤ length lines.old }
     ensures found { IfOk result (λ read. SaysExams (take count lines.old) read.0.items read.1) }
     ensures fault { IfErr result (λ fault. fault.what ≢ FaultKind.NoMemory

@@ -1,5 +1,6 @@
 // Reading an instance file.
 ghost use Rattle.std.specs.Prelude.{◌≡◌, ◌≢◌, ℕ, ◌+◌, ◌≤◌, List, map, length, Ok, Err, Some, None, IfOk, IfErr};
+ghost use Rattle.exam_terms.specs.declared.limits.TheConstants.{INSTANCE_BYTES};
 ghost use Rattle.exam_model.specs.Enrolments.{Enrolled};
 ghost use Rattle.exam_model.specs.Instance.{Session, IsInstance};
 ghost use Rattle.office_files.specs.ExamLines.{ExamLine, exam_line, exam_of};
@@ -17,10 +18,8 @@ use crate::fault::{FaultKind, FileFault};
 use crate::sections::Sections;
 use crate::weightings::{Weighting, weights_of};
 use exam_model::{Enrolments, Exam, Instance, ModelFault, Period, PeriodRule, Room, RoomRule};
+use exam_terms::limits::{INSTANCE_BYTES, MAX_EXAMS, MAX_PERIODS, MAX_ROOMS};
 use std::alloc::Global;
-
-// The longest instance file, in bytes.
-const LONGEST_INSTANCE: usize = 4_194_304;
 
 // What the sections behind that of the exams say.
 #[derive(Drop)]
@@ -37,7 +36,7 @@ fn exams_section(
     alloc: Global,
     sections: &mut Sections<'_>,
 ) -> Result<(Vec<Exam>, Enrolments), FileFault>
-    requires within { length sections.old.source.now ≤ 4194304 }
+    requires within { length sections.old.source.now ≤ INSTANCE_BYTES }
     ensures found { IfOk result (λ r. (said : List ExamLine)
         × (section_in exams_heading exam_line (line_count sections.old.source.now + 1)
         sections.old.lines ≡ Ok (said, sections.new.lines))
@@ -48,13 +47,13 @@ fn exams_section(
     ensures same { sections.new.source.now ≡ sections.old.source.now }
     ensures memory { IfErr result IsOfNoLine }
 {
-    let size = sections.open(b"Exams", Some(2000))?;
+    let size = sections.open(b"Exams", Some(MAX_EXAMS))?;
     exam_lines(alloc, &mut sections.lines, size as u32)
 }
 
 // The sections behind that of the exams, of which there are so many.
 fn later_sections(alloc: Global, sections: &mut Sections<'_>, exams: u32) -> Result<Said, FileFault>
-    requires within { length sections.old.source.now ≤ 4194304 }
+    requires within { length sections.old.source.now ≤ INSTANCE_BYTES }
     ensures found { (exam_lines : List ExamLine) → length exam_lines ≡ exams → IfOk result (λ said.
         later_sections (line_count sections.old.source.now + 1) exam_lines sections.old.lines
         ≡ Ok (record {
@@ -76,8 +75,8 @@ fn later_sections(alloc: Global, sections: &mut Sections<'_>, exams: u32) -> Res
         periods: 0,
         rooms: 0,
     };
-    let periods: Vec<Period> = sections.next(alloc, b"Periods", Some(200), counts)?;
-    let rooms: Vec<Room> = sections.next(alloc, b"Rooms", Some(200), counts)?;
+    let periods: Vec<Period> = sections.next(alloc, b"Periods", Some(MAX_PERIODS), counts)?;
+    let rooms: Vec<Room> = sections.next(alloc, b"Rooms", Some(MAX_ROOMS), counts)?;
     let period_rules: Vec<PeriodRule> = sections.next(
         alloc,
         b"PeriodHardConstraints",
@@ -139,7 +138,7 @@ fn instance_of(alloc: Global, exams: &[Exam], said: &Said) -> Result<Instance, F
 
 // The instance of a file that is not too long.
 fn instance_in(alloc: Global, source: &[u8]) -> Result<(Instance, Enrolments), FileFault>
-    requires within { length source.now ≤ 4194304 }
+    requires within { length source.now ≤ INSTANCE_BYTES }
     ensures exact { Gives (λ r. (r.0, r.1)) result (instance_in source.now) }
     ensures memory { IfErr result IsOfNoLine }
 {
@@ -171,7 +170,7 @@ pub fn read_instance(alloc: Global, source: &[u8]) -> Result<(Instance, Enrolmen
     ensures exact { Gives (λ read. (read.0, read.1)) result (instance_in source.now) }
     ensures memory { IfErr result IsOfNoLine }
 {
-    if source.len() > LONGEST_INSTANCE {
+    if source.len() > INSTANCE_BYTES {
         return Err(FileFault {
             line: 0,
             what: FaultKind::TooLong,

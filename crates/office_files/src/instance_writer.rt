@@ -1,6 +1,5 @@
 // Writing an instance file.
 ghost use Rattle.std.specs.Prelude.{◌≡◌, ◌++◌, ◌∷◌, ◌<◌, ◌≤◌, ℕ, [], All, Ok, length, IfOk, IfErr, OnOk, string_bytes};
-ghost use Rattle.exam_model.specs.Enrolments.{students};
 ghost use Rattle.office_files.specs.CanonicalText.{section_text, exam_text, period_text, room_text};
 ghost use Rattle.office_files.specs.CanonicalText.{period_rule_text, room_rule_text, weighting_text};
 ghost use Rattle.office_files.specs.CanonicalText.{exam_lines_of, weightings_of, canonical_instance};
@@ -22,10 +21,8 @@ fn add_exams(
     enrolments: &Enrolments,
 ) -> Result<(), AllocError>
     requires fits { length enrolments.now ≡ length instance.now.exams }
-    ensures lines { OnOk result (string_bytes text.new ≡ string_bytes text.old
+    ensures { OnOk result (string_bytes text.new ≡ string_bytes text.old
         ++ section_text exams_heading exam_text (exam_lines_of instance.now.exams enrolments.now)) }
-    ensures numbers { OnOk result ((e : ℕ) → e < length enrolments.now
-        → All (λ s. s ≤ 999999999) (students enrolments.now e)) }
 {
     let count = instance.exams();
     write!(text, "[Exams:{count}]\r\n")?;

@@ -11,9 +11,7 @@ use crate::fields::{Fields, ended};
 use crate::rule_word::{rule_by, rule_word};
 use crate::words::same_word;
 use exam_model::{ExamNo, Period, PeriodNo, PeriodRule, Place, Room, RoomNo, RoomRule};
-
-// The most lines of a section of rules.
-const MOST_RULES: usize = 5000;
+use exam_terms::limits::{MAX_AMOUNT, MAX_MINUTES, MAX_RULES};
 
 /// What a line of one kind says, behind the items of the lines before it.
 pub trait LineItem: Sized {
@@ -32,8 +30,8 @@ impl LineItem for Period {
         let mut fields = Fields::new(line);
         let date = date_of(fields.next())?;
         let (hour, minute, second) = time_of(fields.next())?;
-        let length = fields.next_number(1440)?;
-        let penalty = fields.next_number(100_000)?;
+        let length = fields.next_number(MAX_MINUTES)?;
+        let penalty = fields.next_number(MAX_AMOUNT)?;
         ended(fields)?;
         Ok(Period {
             date,
@@ -53,8 +51,8 @@ impl LineItem for Room {
 
     fn read(_counts: Counts, _before: &[Room], line: &[u8]) -> Result<Room, FaultKind> {
         let mut fields = Fields::new(line);
-        let capacity = fields.next_number(100_000)?;
-        let penalty = fields.next_number(100_000)?;
+        let capacity = fields.next_number(MAX_AMOUNT)?;
+        let penalty = fields.next_number(MAX_AMOUNT)?;
         ended(fields)?;
         Ok(Room { capacity, penalty })
     }
@@ -66,7 +64,7 @@ impl LineItem for PeriodRule {
     ghost reading = { period_rule_line };
 
     fn read(counts: Counts, before: &[PeriodRule], line: &[u8]) -> Result<PeriodRule, FaultKind> {
-        if before.len() >= MOST_RULES {
+        if before.len() >= MAX_RULES as usize {
             return Err(FaultKind::OutOfRange);
         }
         let mut fields = Fields::new(line);
@@ -85,7 +83,7 @@ impl LineItem for RoomRule {
     ghost reading = { room_rule_line };
 
     fn read(counts: Counts, before: &[RoomRule], line: &[u8]) -> Result<RoomRule, FaultKind> {
-        if before.len() >= MOST_RULES {
+        if before.len() >= MAX_RULES as usize {
             return Err(FaultKind::OutOfRange);
         }
         let mut fields = Fields::new(line);

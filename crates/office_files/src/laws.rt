@@ -1,18 +1,29 @@
 // Laws of texts: functions with no code, whose contracts are the laws.
-ghost use Rattle.std.specs.Prelude.{◌≡◌, ◌<◌, ◌≤◌, ℕ, List, All, IsSome, Ok, length};
-ghost use Rattle.exam_model.specs.Enrolments.{AreEnrolments, Enrolled, students};
+ghost use Rattle.std.specs.Prelude.{◌≡◌, ◌+◌, ◌<◌, ℕ, List, Some, IsSome, Ok, length, slice_get};
+ghost use Rattle.exam_model.specs.Enrolments.{AreEnrolments, Enrolled, has};
 ghost use Rattle.exam_model.specs.Instance.{IsInstance, Session};
 ghost use Rattle.exam_model.specs.Timetable.{Placing, place_of};
 ghost use Rattle.office_files.specs.CanonicalText.{canonical_instance, canonical_solution};
 ghost use Rattle.office_files.specs.CanonicalText.{SuitsTimetable};
+ghost use Rattle.office_files.specs.Names.{name_student};
+ghost use Rattle.office_files.specs.Fields.{fields_of, rest};
 ghost use Rattle.office_files.specs.FirstFault.{fault_of, first_fault, first_solution_fault};
 ghost use Rattle.office_files.specs.InstanceText.{InstanceText, instance_in};
+ghost use Rattle.office_files.specs.Lines.{Located, lines_of};
 ghost use Rattle.office_files.specs.SolutionText.{SolutionText, solution_in};
 
 /// A text spells at most one instance, with one set of enrolments.
 pub fn one_instance()
     ensures { (b : List ℕ) (I J : Session) (E F : Enrolled) → InstanceText b I E
         → InstanceText b J F → (I ≡ J) × (E ≡ F) }
+{}
+
+/// Who sits an exam in what a text spells: just the students whom a field of the exam's line names
+/// behind the first; the line of exam e is line e + 1 of those that aren't blank.
+pub fn sits_as_named()
+    ensures { (b : List ℕ) (I : Session) (E : Enrolled) (s e : ℕ) (line : Located)
+        → InstanceText b I E → e < length I.exams → slice_get (lines_of b) (e + 1) ≡ Some line
+        → has E s e ≡ name_student (rest (fields_of line.text)) s }
 {}
 
 /// A text spells at most one timetable for an instance.
@@ -45,7 +56,6 @@ pub fn solution_readings_agree()
 pub fn canonical_instance_reads_back()
     ensures { (I : Session) (E : Enrolled) → IsInstance I → AreEnrolments E
         → length E ≡ length I.exams
-        → ((e : ℕ) → e < length E → All (λ s. s ≤ 999999999) (students E e))
         → InstanceText (canonical_instance I E) I E }
 {}
 

@@ -55,9 +55,8 @@ pub fn add_period(text: &mut String, period: &Period) -> Result<(), AllocError>
 
 /// Adds the line of an exam and those who sit it.
 pub fn add_exam(text: &mut String, exam: Exam, students: &[StudentNo]) -> Result<(), AllocError>
-    ensures line { OnOk result (string_bytes text.new ≡ string_bytes text.old
+    ensures { OnOk result (string_bytes text.new ≡ string_bytes text.old
         ++ line_of (exam_text (record { minutes = exam.minutes; students = students.now }))) }
-    ensures numbers { OnOk result (All (λ s. s ≤ 999999999) students.now) }
 {
     let minutes = exam.minutes;
     write!(text, "{minutes}")?;

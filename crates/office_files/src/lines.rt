@@ -1,6 +1,7 @@
 // The lines of a text that aren't blank.
 ghost use Rattle.std.specs.Prelude.{◌≡◌, ◌<◌, ◌≤◌, ◌+◌, ◌∷◌, [], List, length};
 ghost use Rattle.std.specs.Prelude.{MatchOption, IfSome};
+ghost use Rattle.exam_terms.specs.declared.limits.TheConstants.{INSTANCE_BYTES};
 ghost use Rattle.office_files.specs.Fields.{ended_parts};
 ghost use Rattle.office_files.specs.Lines.{Located, placed, without_return, located, lines_from};
 ghost use Rattle.office_files.specs.Lines.{lines_of, line_count, section_size, HasPlaces};
@@ -42,7 +43,7 @@ fn cut_line(text: &[u8]) -> (&[u8], &[u8])
 
 /// How many lines a text has, the blank ones too.
 pub fn line_count(source: &[u8]) -> u32
-    requires { length source.now ≤ 4194304 }
+    requires { length source.now ≤ INSTANCE_BYTES }
     ensures { result ≡ line_count source.now }
 {
     let mut left = source;
@@ -105,7 +106,7 @@ impl<'a> Lines<'a> {
     /// The lines of this text, from the first on.
     #[inline]
     pub fn new(source: &'a [u8]) -> Lines<'a>
-        requires { length source.now ≤ 4194304 }
+        requires { length source.now ≤ INSTANCE_BYTES }
         ensures { result ≡ lines_of source.now }
     {
         Lines {
@@ -118,7 +119,7 @@ impl<'a> Lines<'a> {
     /// The next line that isn't blank.
     pub fn next(&mut self) -> Option<Token<'a>>
         ensures inside { IfSome result (λ row. (0 < length row.text.now)
-            × (row.start + length row.text.now ≤ 4194304)) }
+            × (row.start + length row.text.now ≤ INSTANCE_BYTES)) }
         ensures row { MatchOption result ((self.old ≡ []) × (self.new ≡ []))
             (λ row. self.old ≡ token_of row ∷ self.new) }
     {

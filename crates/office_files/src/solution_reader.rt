@@ -1,5 +1,6 @@
 // Reading a solution file.
 ghost use Rattle.std.specs.Prelude.{◌≡◌, ◌≢◌, ◌+◌, ◌≤◌, All, length, map, Some, None, IfOk, IfErr};
+ghost use Rattle.exam_terms.specs.declared.limits.TheConstants.{MAX_EXAMS, TEXT_BYTES};
 ghost use Rattle.exam_model.specs.Fits.{PlaceExists};
 ghost use Rattle.exam_model.specs.Timetable.{Placing};
 ghost use Rattle.office_files.specs.Faults.{IsOfNoLine};
@@ -13,16 +14,14 @@ use crate::fault::{FaultKind, FileFault};
 use crate::lines::{Lines, line_count};
 use crate::sections::all_items;
 use exam_model::{ExamNo, Instance, Place, Timetable};
+use exam_terms::limits::TEXT_BYTES;
 use std::alloc::Global;
-
-// The longest solution file, in bytes.
-const LONGEST_SOLUTION: usize = 1_048_576;
 
 // The complete timetable of these places.
 #[tactic(auto, using(crate::proofs::SolutionLemmas::all_placed))]
 fn timetable_of(alloc: Global, places: &[Place]) -> Result<Timetable, FileFault>
     requires some { 1 ≤ length places.now }
-    requires most { length places.now ≤ 2000 }
+    requires most { length places.now ≤ MAX_EXAMS }
     ensures made { IfOk result (λ made. made ≡ map Some places.now) }
     ensures memory { IfErr result (λ fault. (fault.what ≡ FaultKind.NoMemory) × (fault.line ≡ 0)) }
 {
@@ -36,9 +35,9 @@ fn timetable_of(alloc: Global, places: &[Place]) -> Result<Timetable, FileFault>
 // The timetable of a file that is not too long.
 #[tactic(auto, using(crate::proofs::SectionLemmas::section_facts))]
 fn timetable_in(alloc: Global, source: &[u8], counts: Counts) -> Result<Timetable, FileFault>
-    requires within { length source.now ≤ 1048576 }
+    requires within { length source.now ≤ TEXT_BYTES }
     requires some { 1 ≤ counts.exams }
-    requires most { counts.exams ≤ 2000 }
+    requires most { counts.exams ≤ MAX_EXAMS }
     ensures exact { Gives (λ read. read) result (timetable_in counts source.now) }
     ensures memory { IfErr result IsOfNoLine }
 {
@@ -58,7 +57,7 @@ fn solution_in(alloc: Global, source: &[u8], instance: &Instance) -> Result<Time
     ensures exist { IfOk result (λ read. All (PlaceExists instance.now) read) }
     ensures memory { IfErr result IsOfNoLine }
 {
-    if source.len() > LONGEST_SOLUTION {
+    if source.len() > TEXT_BYTES {
         return Err(FileFault {
             line: 0,
             what: FaultKind::TooLong,

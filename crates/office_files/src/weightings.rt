@@ -12,6 +12,7 @@ use crate::items::LineItem;
 use crate::numbers::number;
 use crate::words::same_word;
 use exam_model::Weights;
+use exam_terms::limits::MAX_AMOUNT;
 
 /// The word of a weighting line.
 #[derive(Clone, Copy)]
@@ -74,7 +75,7 @@ fn is_said(word: WeightWord, before: &[Weighting]) -> bool
 fn amount_in(mut fields: Fields<'_>) -> Result<u32, FaultKind>
     ensures { result ≡ amount_in fields.entry }
 {
-    let amount = number(fields.next(), 100_000)?;
+    let amount = number(fields.next(), MAX_AMOUNT)?;
     ended(fields)?;
     Ok(amount)
 }
@@ -82,9 +83,9 @@ fn amount_in(mut fields: Fields<'_>) -> Result<u32, FaultKind>
 fn front_in(mut fields: Fields<'_>) -> Result<Weighting, FaultKind>
     ensures { result ≡ front_in fields.entry }
 {
-    let exams = number(fields.next(), 100_000)?;
-    let periods = number(fields.next(), 100_000)?;
-    let weight = number(fields.next(), 100_000)?;
+    let exams = number(fields.next(), MAX_AMOUNT)?;
+    let periods = number(fields.next(), MAX_AMOUNT)?;
+    let weight = number(fields.next(), MAX_AMOUNT)?;
     ended(fields)?;
     Ok(Weighting::Front(exams, periods, weight))
 }

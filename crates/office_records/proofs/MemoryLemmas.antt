@@ -1,4 +1,5 @@
 -- A database stands for one session, with one set of enrolments.
+use mathlib.Core.Bool.{true≢false}
 use Rattle.std.proofs.Common.{◌≡◌, ℕ, zero, suc, ◌≤◌, pos, Bool, true, false, List, [], ◌∷◌, map, length, Some, None, Ok, Result, refl, sym, ◌∙◌, ap, arith, subst, All}
 use Rattle.std.specs.Prelude.{IsPermutation}
 use Rattle.std.proofs.lemmas.List.{length-replicate}
@@ -79,6 +80,7 @@ no_enrolments n low high = record {
   exams = let long : length (no_pairs n) ≡ n = length-replicate n [] in (omega (arith, long), omega (arith, long));
   ascending = λ e lt. rw (no_students n e) (λ i j below within. absurd (omega arith));
   pairs = let sums = sum_by-replicate {X = List ℕ} length n [] in omega (arith, sums);
+  numbers = λ e. rw (no_students n e) (λ s is. absurd (true≢false (sym is)));
 }
 
 -- an instance is read back from the text that is stored for it
@@ -89,9 +91,6 @@ read_back I is =
     let n = length I.exams in
     instance_same I (no_pairs n) is
     (no_enrolments n is.limits.counts.0.0 is.limits.counts.0.1) (length-replicate n [])
-    (λ e h k d within. absurd (let none = no_students n e in
-    let empty : length (students (no_pairs n) e) ≡ 0 = ap length none in
-    omega (arith, empty, within)))
 
 ok_is : {A F : Type 0} (x y : A) → (◌≡◌ {A = Result A F} (Ok x) (Ok y)) → x ≡ y
 ok_is x y e = cc

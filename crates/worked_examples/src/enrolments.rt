@@ -128,6 +128,18 @@ fn a_pair_that_is_taken_out_leaves_the_others(rt: HostRuntime) -> Result<(), Fai
 }
 
 #[test]
+fn a_copy_goes_its_own_way(rt: HostRuntime) -> Result<(), Fail> {
+    let enrolments = three_exams(&rt, rt.alloc())?;
+    let mut copy = enrolments.copy(rt.alloc())?;
+    assert_same(&rt, copy.pairs(), 4, "copied");
+    has_students(&rt, &copy, 0, &[1, 4, 9])?;
+    assert_same(&rt, add(&mut copy, 5, 1)?, true, "added to the copy");
+    assert_same(&rt, (copy.pairs(), enrolments.pairs()), (5, 4), "pairs");
+    has_students(&rt, &enrolments, 1, &[])?;
+    has_students(&rt, &copy, 1, &[5])
+}
+
+#[test]
 fn a_full_set_takes_no_new_pair(rt: HostRuntime) -> Result<(), Fail> {
     let mut enrolments = Enrolments::new(rt.alloc(), 100)?;
     for exam in 0..100 {

@@ -1,17 +1,22 @@
 // Seats, shares and publications of the small session.
-ghost use Rattle.std.specs.Prelude.{IfOk};
+ghost use Rattle.std.specs.Prelude.{All, IfOk};
 ghost use Rattle.exam_publish.specs.Rows.{ArePublishedRows, RowsInOrder};
+ghost use Rattle.exam_publish.specs.Seats.{AreSeated};
 
 use crate::given::{
-    APART, ONE_ROOM, PAIRS, Places, WEIGHTS, after, assert_same, enrolled, fits, placed, small,
-    student,
+    APART, ONE_ROOM, PAIRS, Places, WEIGHTS, after, assert_same, enrolled, fits, numbers, placed,
+    small, student,
 };
 use exam_model::{Enrolments, ExamNo, Instance, PeriodNo, RoomNo, StudentNo, Timetable};
 use exam_publish::{PublishFault, RoomShare, SeatRow, Shares, changed, permit, seats, shares};
+use exam_score::score;
 use office_reports::rooms_report;
 use std::alloc::Global;
 use std::process::Abort;
 use std::test::Fail;
+
+// The small session's exams with exam 2 moved out of the room that it shares with exam 3.
+const MOVED_OUT: Places = [Some((0, 0)), Some((1, 0)), Some((0, 1)), Some((3, 1))];
 
 fn session(alloc: Global) -> Result<(Instance, Enrolments), Fail> {
     let instance = small(alloc, &[after()], &[], WEIGHTS)?;
@@ -28,20 +33,23 @@ fn refusal(alloc: Global, places: &Places) -> Result<Option<PublishFault>, Fail>
     Ok(permit(alloc, &instance, &enrolments, &timetable).err())
 }
 
-// The rows of a timetable that may be published.
+// The rows of a timetable that may be published, where these rows were there before.
 fn published(
     alloc: Global,
     instance: &Instance,
     enrolments: &Enrolments,
     timetable: &Timetable,
+    old: &[SeatRow],
 ) -> Result<Vec<SeatRow>, Fail>
-    ensures { IfOk result (λ rows. ArePublishedRows instance.now rows.items timetable.now) }
+    requires { AreSeated instance.now old.now }
+    ensures rows { IfOk result (λ rows. ArePublishedRows instance.now rows.items timetable.now) }
+    ensures seated { IfOk result (λ rows. AreSeated instance.now rows.items) }
 {
     if !fits(instance, enrolments, timetable) {
         return Err("a place that doesn't exist")?;
     }
     permit(alloc, instance, enrolments, timetable)?;
-    Ok(seats(alloc, instance, enrolments, timetable, &[])?)
+    Ok(seats(alloc, instance, enrolments, timetable, old)?)
 }
 
 // Rows of exam, student, period, room and seat.
@@ -65,7 +73,7 @@ fn rows_at(alloc: Global, places: &Places) -> Result<Vec<SeatRow>, Fail>
 {
     let (instance, enrolments) = session(alloc)?;
     let timetable = placed(alloc, places)?;
-    published(alloc, &instance, &enrolments, &timetable)
+    published(alloc, &instance, &enrolments, &timetable, &[])
 }
 
 // Whether the small session has just these rows with its exams at these places.
@@ -107,12 +115,73 @@ fn two_exams_in_one_room(rt: HostRuntime) -> Result<(), Fail> {
     has_rows(&rt, rt.alloc(), &ONE_ROOM, &wanted)
 }
 
+// The total of a timetable.
+fn total(
+    alloc: Global,
+    instance: &Instance,
+    enrolments: &Enrolments,
+    timetable: &Timetable,
+) -> Result<u64, Fail> {
+    if !fits(instance, enrolments, timetable) {
+        return Err("a place that doesn't exist")?;
+    }
+    Ok(score(alloc, instance, enrolments, timetable)?.total())
+}
+
+// The rows of the small session published with exams 2 and 3 in one room, then with exam 2 moved
+// out of it, and then with exam 2 back.
+fn moved_out_and_back(alloc: Global) -> Result<[Vec<SeatRow>; 3], Fail>
+    ensures { IfOk result (λ rows. All (λ own. RowsInOrder own.items) rows) }
+{
+    let (instance, enrolments) = session(alloc)?;
+    let together = placed(alloc, &ONE_ROOM)?;
+    let first = published(alloc, &instance, &enrolments, &together, &[])?;
+    let apart = placed(alloc, &MOVED_OUT)?;
+    let out = published(alloc, &instance, &enrolments, &apart, &first)?;
+    let back = published(alloc, &instance, &enrolments, &together, &out)?;
+    Ok([first, out, back])
+}
+
+#[test]
+fn seats_kept(rt: HostRuntime) -> Result<(), Fail> {
+    let alloc = rt.alloc();
+    let [first, out, back] = moved_out_and_back(alloc)?;
+    let kept = [
+        (0, 1, 0, 0, 1),
+        (0, 2, 0, 0, 2),
+        (1, 2, 1, 0, 1),
+        (1, 3, 1, 0, 2),
+        (2, 3, 0, 1, 1),
+        (3, 1, 3, 1, 2),
+    ];
+    assert_same(&rt, out.as_slice(), rows(alloc, &kept)?.as_slice(), "moved");
+    assert_same(&rt, back.as_slice(), first.as_slice(), "moved back");
+    let moved = changed(alloc, &first, &out)?;
+    assert_same(&rt, moved.as_slice(), [student(3)?].as_slice(), "changed");
+    let afresh = rows_at(alloc, &MOVED_OUT)?;
+    let moved = changed(alloc, &first, &afresh)?;
+    let both = [student(1)?, student(3)?];
+    assert_same(&rt, moved.as_slice(), both.as_slice(), "numbered afresh");
+    Ok(())
+}
+
+#[test]
+fn totals_of_moved_exams(rt: HostRuntime) -> Result<(), Fail> {
+    let (instance, enrolments) = session(rt.alloc())?;
+    for (places, wanted) in [(APART, 37), (ONE_ROOM, 44), (MOVED_OUT, 36)] {
+        let timetable = placed(rt.alloc(), &places)?;
+        let found = total(rt.alloc(), &instance, &enrolments, &timetable)?;
+        assert_same(&rt, found, wanted, places);
+    }
+    Ok(())
+}
+
 #[test]
 fn worked_rooms(rt: HostRuntime) -> Result<(), Fail> {
     let alloc = rt.alloc();
     let (instance, enrolments) = session(alloc)?;
     let timetable = placed(alloc, &APART)?;
-    let rows = published(alloc, &instance, &enrolments, &timetable)?;
+    let rows = published(alloc, &instance, &enrolments, &timetable, &[])?;
     let text = rooms_report(alloc, &instance, &timetable, &rows)?;
     let wanted = "\
 per room    used     cap  exams
@@ -138,7 +207,7 @@ per room    used     cap  exams
 fn solution_shares(alloc: Global) -> Result<Shares, Fail> {
     let (instance, enrolments) = session(alloc)?;
     let timetable = placed(alloc, &APART)?;
-    let rows = published(alloc, &instance, &enrolments, &timetable)?;
+    let rows = published(alloc, &instance, &enrolments, &timetable, &[])?;
     Ok(shares(alloc, &instance, &rows, &timetable)?)
 }
 
@@ -156,6 +225,8 @@ fn worked_shares(rt: HostRuntime) -> Result<(), Fail> {
     assert_same(&rt, shares.periods(), [0, 0, 10, 5].as_slice(), "periods");
     let rooms = [0, 7].map(|penalty| RoomShare { penalty, mixed: 0 });
     assert_same(&rt, shares.rooms(), rooms.as_slice(), "rooms");
+    let parts = shares.parts().ok_or("a penalty of 2^62")?;
+    assert_same(&rt, numbers(&parts), [7, 5, 3, 0, 0, 15, 7], "parts");
     Ok(())
 }
 

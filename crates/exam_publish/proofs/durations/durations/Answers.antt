@@ -3,7 +3,8 @@ use Rattle.std.specs.List.{dedup}
 use Rattle.std.specs.Prelude.{slice_set}
 use Rattle.std.proofs.lemmas.List.{get_or_read, take_more, take_all, length-take}
 use Rattle.std.proofs.lemmas.List.Filters.{dedup_is}
-use Rattle.exam_publish.specs.Durations.{StayExists, is_in_slot}
+use Rattle.exam_score.specs.Stays.{StayExists}
+use Rattle.exam_publish.specs.Durations.{is_in_slot}
 use Rattle.exam_publish.specs.Tallies.{AreTallied}
 use Rattle.exam_publish.proofs.DurationLemmas.{AreKinds, are_kinds, stay_eq, are_durations}
 use Rattle.exam_publish.proofs.TallyLemmas.{tally_more}

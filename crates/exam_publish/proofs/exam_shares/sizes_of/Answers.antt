@@ -1,6 +1,7 @@
 use Rattle.std.proofs.Common.{◌+◌, ◌<◌, ◌++◌, ◌∷◌, [], length, take, eqb, ap, sym, subst, ◌∙◌, arith}
 use Rattle.std.specs.Prelude.{slice_set}
 use Rattle.std.proofs.lemmas.List.{get_or_read, take_more, length-take}
+use Rattle.std.proofs.lemmas.List.Sums.{count_by-le-length}
 use Rattle.exam_publish.specs.Groups.{is_of_exam}
 use Rattle.exam_publish.specs.Rows.{IsAtExam}
 use Rattle.exam_publish.specs.Tallies.{AreTallied}
@@ -18,9 +19,10 @@ overflow_add-size c =
     let exists = row_exists T r at in
     let lt : key < length c.rows.sizes.items = omega (arith, exists, c.get-exam.ensures, c.requires.exams, c.rows.invariant.count) in
     let is = get_or_read c.rows.sizes.items key c.index.result.now lt c.index.ensures 0 in
-    let few = c.rows.invariant.small key in
+    let each = c.rows.invariant.each key (omega (arith, exists, c.get-exam.ensures, c.requires.exams)) in
+    let few = count_by-le-length (is_of_exam key) (take i c.args.rows.now) in
     let long = length-take i c.args.rows.now in
-    omega (arith, is, few, long, c.rows-test.true, c.requires.few)
+    omega (arith, is, each, few, long, c.rows-test.true, c.requires.few)
 
 pub rows-preserved : goal.rows-preserved
 rows-preserved c =

@@ -15,7 +15,7 @@ returns-clause-add_up c =
     let T = c.args.timetable.now in
     let is : c.of.result ≡ shares_of I rows T
     = c.of.ensures ∙ (λ i. record { students = c.in_ok-students.ensures i; exams = c.in_ok-exams.ensures i; periods = c.in_ok-periods.ensures i; rooms = c.in_ok-rooms.ensures i }) in
-    subst (AddUpTo (track I (enrolled_in (length I.exams) rows) T)) (sym is) (adds_up I rows T c.periods-kept.ensures.kept c.requires)
+    subst (AddUpTo (track I (enrolled_in (length I.exams) rows) T)) (sym is) (adds_up I rows T c.periods-kept.ensures.kept c.requires c.tell_numbers.ensures)
 
 pub returns-clause-small : goal.returns-clause-small
 returns-clause-small c =
@@ -24,7 +24,7 @@ returns-clause-small c =
     let T = c.args.timetable.now in
     let is : c.of.result ≡ shares_of I rows T
     = c.of.ensures ∙ (λ i. record { students = c.in_ok-students.ensures i; exams = c.in_ok-exams.ensures i; periods = c.in_ok-periods.ensures i; rooms = c.in_ok-rooms.ensures i }) in
-    subst AreSmall (sym is) (published_small I rows T (shares_of I rows T) c.periods-kept.ensures.kept c.requires (adds_up I rows T c.periods-kept.ensures.kept c.requires))
+    subst AreSmall (sym is) (published_small I rows T (shares_of I rows T) c.periods-kept.ensures.kept c.requires c.tell_numbers.ensures (adds_up I rows T c.periods-kept.ensures.kept c.requires c.tell_numbers.ensures))
 
 pub returns-clause-ascending : goal.returns-clause-ascending
 returns-clause-ascending c =

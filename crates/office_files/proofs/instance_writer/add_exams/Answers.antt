@@ -1,7 +1,6 @@
-use Rattle.std.proofs.Common.{◌≡◌, ◌∙◌, ◌++◌, ℕ, List, ap, sym, length, string_bytes, arith, Some, ◌≤◌, subst, inl, inr}
+use Rattle.std.proofs.Common.{◌≡◌, ◌∙◌, ◌++◌, ℕ, List, ap, sym, length, string_bytes, arith, Some}
 use Rattle.std.specs.List.{flat_map}
-use Rattle.std.specs.Prelude.{slice_get, All}
-use Rattle.std.proofs.lemmas.Bool.{cases_lt}
+use Rattle.std.specs.Prelude.{slice_get}
 use Rattle.exam_model.specs.Enrolments.{students}
 use Rattle.office_files.specs.CanonicalText.{line_of, header_text, exam_text, exam_lines_of}
 use Rattle.office_files.specs.ExamLines.{ExamLine}
@@ -18,23 +17,13 @@ loop-number-preserved c =
     = line_at exams E c.loop-number.number c.exam.result c.requires.fits
     (ap (slice_get exams) (sym c.new-exam.ensures) ∙ c.exam.ensures)
     ∙ ap (λ (ss : List ℕ). Some (let y : ExamLine = record { minutes = c.exam.result.minutes; students = ss } in y)) (ap (students E) (sym c.new-exam.ensures) ∙ sym c.students-students.ensures.all) in
-    record {
-      text = step (λ x. line_of (exam_text x))
-          (string_bytes c.args.text.now ++ line_of (header_text exams_heading (length exams)))
-          (string_bytes c.loop-number.text) _ (exam_lines_of exams E) c.loop-number.number line at
-          c.loop-number.invariant.text c.in_ok-add_exam.ensures.line;
-      numbers = λ e lt. elim (cases_lt e c.loop-number.number) [
-        | inl below ↦ c.loop-number.invariant.numbers e below
-        | inr other ↦
-            let same : c.loop-number.number ≡ e = omega arith in
-            subst (λ (ss : List ℕ). All (λ s. s ≤ 999999999) ss)
-            (c.students-students.ensures.all ∙ ap (students E) (c.new-exam.ensures ∙ same))
-            c.in_ok-add_exam.ensures.numbers
-      ];
-    }
+    step (λ x. line_of (exam_text x))
+    (string_bytes c.args.text.now ++ line_of (header_text exams_heading (length exams)))
+    (string_bytes c.loop-number.text) _ (exam_lines_of exams E) c.loop-number.number line at
+    c.loop-number.invariant c.in_ok-add_exam.ensures
 
-pub returns-clause-lines : goal.returns-clause-lines
-returns-clause-lines c =
+pub returns : goal.returns
+returns c =
     let exams = c.args.instance.now.exams in
     let E = c.args.enrolments.now in
     let lines = exam_lines_of exams E in
@@ -43,6 +32,6 @@ returns-clause-lines c =
     whole (λ x. line_of (exam_text x)) (string_bytes c.args.text.now)
     (line_of (header_text exams_heading (length exams))) (string_bytes c.loop-number.text) lines
     c.loop-number.number
-    (omega (arith, many, c.exams-count.ensures.count, c.loop-number-test.false)) c.loop-number.invariant.text
+    (omega (arith, many, c.exams-count.ensures.count, c.loop-number-test.false)) c.loop-number.invariant
     ∙ ap (λ (n : ℕ). string_bytes c.args.text.now ++ (line_of (header_text exams_heading n) ++ flat))
     (sym many)

@@ -8,7 +8,7 @@ use Rattle.office_files.proofs.instance_writer.write_instance.Goals as goal
 pub returns-clause-text : goal.returns-clause-text
 returns-clause-text c =
     ap (λ (v : Vec ℕ Global). v.items) c.into_bytes.ensures.value
-    ∙ six_written _ _ _ _ _ _ _ _ _ _ _ _ _ c.new-text.ensures.bytes c.in_ok-add_exams.ensures.lines
+    ∙ six_written _ _ _ _ _ _ _ _ _ _ _ _ _ c.new-text.ensures.bytes c.in_ok-add_exams.ensures
     c.in_ok-add_periods.ensures c.in_ok-add_rooms.ensures c.in_ok-add_period_rules.ensures
     c.in_ok-add_room_rules.ensures c.in_ok-add_weightings.ensures
 
@@ -18,8 +18,7 @@ returns-clause-spells c =
     let E = c.args.enrolments.now in
     let text : c.into_bytes.result.items ≡ canonical_instance I E = returns-clause-text c in
     subst (λ (b : List ℕ). InstanceText b I E) (sym text)
-    (instance_spelled I E c.exams-exams.ensures.kept c.pairs-pairs.ensures.kept c.requires.fits
-    c.in_ok-add_exams.ensures.numbers)
+    (instance_spelled I E c.exams-exams.ensures.kept c.pairs-pairs.ensures.kept c.requires.fits)
 
 pub returns-clause-same : goal.returns-clause-same
 returns-clause-same c =
@@ -28,4 +27,3 @@ returns-clause-same c =
     let text : c.into_bytes.result.items ≡ canonical_instance I E = returns-clause-text c in
     ap instance_in text
     ∙ instance_same I E c.exams-exams.ensures.kept c.pairs-pairs.ensures.kept c.requires.fits
-    c.in_ok-add_exams.ensures.numbers
