@@ -1,5 +1,6 @@
 -- The lines that are printed while connections are served.
-use Rattle.std.specs.Prelude.{ℕ, List, [], ◌∷◌, ◌++◌, codes, decimal}
+use Rattle.std.specs.Prelude.{ℕ, ◌≤◌, List, [], ◌∷◌, ◌++◌, Option, codes, decimal}
+use Rattle.std.specs.Io.KnownBytes.{Appends}
 use Rattle.office_messages.specs.declared.connection.ServeFault.{ServeFault}
 use Rattle.office_messages.specs.declared.connection.ServeFault.TheVariants as fault
 
@@ -22,3 +23,7 @@ fault_lines (f ∷ fs) = fault_line f ++ fault_lines fs
 -- the line that tells the port
 abbrev pub listening_line : ℕ → List ℕ
 listening_line port = codes "listening 127.0.0.1:" ++ decimal port ++ 10 ∷ []
+
+-- the line that tells some port is printed
+abbrev pub PrintsPort : Option (List ℕ) → Option (List ℕ) → Type 0
+PrintsPort old new = (port : ℕ) × (port ≤ 65535) × Appends old new (listening_line port)

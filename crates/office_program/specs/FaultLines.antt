@@ -12,6 +12,8 @@ use Rattle.office_check.specs.declared.checking.CheckFault.{CheckFault}
 use Rattle.office_check.specs.declared.checking.CheckFault.TheVariants as check
 use Rattle.office_program.specs.declared.loading.LoadFault.{LoadFault}
 use Rattle.office_program.specs.declared.loading.LoadFault.TheVariants as load
+use Rattle.office_connections.specs.declared.running.RunFault.{RunFault}
+use Rattle.office_connections.specs.declared.running.RunFault.TheVariants as run
 use Rattle.office_check.specs.declared.reading.InputFault.{InputFault}
 use Rattle.office_check.specs.declared.reading.InputFault.TheVariants as input
 use Rattle.office_program.specs.declared.faults.ProgramFault.{ProgramFault}
@@ -55,6 +57,7 @@ fault_line (fault.Solution f) = codes "examoffice: solution line " ++ decimal f.
     ++ codes ": fault " ++ decimal (number_of f.what)
 fault_line fault.CannotOpen = codes "examoffice: cannot open database"
 fault_line (fault.Store f) = codes "examoffice: store fault " ++ decimal (store_number_of f)
+fault_line fault.CannotListen = codes "examoffice: cannot listen"
 fault_line fault.CannotWrite = codes "examoffice: cannot write"
 fault_line fault.NoMemory = codes "examoffice: no memory"
 
@@ -105,6 +108,18 @@ abbrev pub IsOfLoad : List ℕ → ProgramFault → Type 0
 IsOfLoad path shown =
     ((of : InputFault) × (fault_line shown ≡ input_line path of))
     ⊎ ((text : List ℕ) × IsOfOffice text shown)
+
+-- the line of a fault of a server's run, without its end
+abbrev pub run_line : RunFault → List ℕ
+run_line run.Listen = fault_line fault.CannotListen
+run_line run.Write = fault_line fault.CannotWrite
+
+-- the fault shows as one of a database, of the office in it, or of a server's run
+abbrev pub IsOfServe : ProgramFault → Type 0
+IsOfServe shown =
+    ((of : Error) × (fault_line shown ≡ open_line of))
+    ⊎ (((of : StoreFault) × (fault_line shown ≡ fault_line (fault.Store of)))
+    ⊎ ((of : RunFault) × (fault_line shown ≡ run_line of)))
 
 -- the line for words that are no texts, without its end
 abbrev pub not_text_line : List ℕ

@@ -1,10 +1,12 @@
 // What ends the program with status 1, and the line that it is printed as.
 ghost use Rattle.std.specs.Prelude.{◌≡◌};
 ghost use Rattle.office_program.specs.FaultLines.{check_line, fault_line, input_line, load_line};
-ghost use Rattle.office_program.specs.FaultLines.{number_of, open_line, store_number_of};
+ghost use Rattle.office_program.specs.FaultLines.{number_of, open_line, run_line};
+ghost use Rattle.office_program.specs.FaultLines.{store_number_of};
 
 use crate::loading::LoadFault;
 use office_check::{CheckFault, InputFault};
+use office_connections::RunFault;
 use office_files::{FaultKind, FileFault};
 use office_store::{Refusal, StoreFault};
 use sqlite::{Error, ErrorCode};
@@ -18,6 +20,7 @@ pub enum ProgramFault<'a> {
     Solution(FileFault),
     CannotOpen,
     Store(StoreFault),
+    CannotListen,
     CannotWrite,
     NoMemory,
 }
@@ -68,6 +71,7 @@ impl fmt::Display for ProgramFault<'_> {
                 let number = store_number_of(*fault);
                 write!(f, "examoffice: store fault {number}")
             }
+            ProgramFault::CannotListen => write!(f, "examoffice: cannot listen"),
             ProgramFault::CannotWrite => write!(f, "examoffice: cannot write"),
             ProgramFault::NoMemory => write!(f, "examoffice: no memory"),
         }
@@ -109,6 +113,16 @@ pub fn fault_of_load<'a>(fault: LoadFault) -> ProgramFault<'a>
         ),
         LoadFault::Store(fault) => ProgramFault::Store(fault),
         LoadFault::Write => ProgramFault::CannotWrite,
+    }
+}
+
+// What a fault of a server's run is to the program.
+pub fn fault_of_run<'a>(fault: RunFault) -> ProgramFault<'a>
+    ensures { fault_line result ≡ run_line fault }
+{
+    match fault {
+        RunFault::Listen => ProgramFault::CannotListen,
+        RunFault::Write => ProgramFault::CannotWrite,
     }
 }
 

@@ -1,12 +1,13 @@
-//! What the program does: it judges a solution, or loads an office, as the words of its command
-//! line say.
+//! What the program does: it judges a solution, or loads or serves an office, as the words of its
+//! command line say.
 #![tactic(auto)]
 
 mod faults;
 mod loading;
 mod program;
+mod serving;
 mod words;
 
 pub use loading::{LoadFault, load_run};
 pub use program::{refuse_arguments, run_program};
-pub use words::{Task, read_words, words_of};
+pub use words::{Task, Terms, read_words, words_of};

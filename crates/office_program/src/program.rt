@@ -16,6 +16,7 @@ ghost use Rattle.office_program.specs.declared.words.Task.{Task};
 
 use crate::faults::{ProgramFault, fault_of_input, fault_of_load, fault_of_open, fault_on};
 use crate::loading::load_run;
+use crate::serving::serve;
 use crate::words::{Task, read_words};
 use clap::Error;
 use clap::error::ErrorKind;
@@ -122,10 +123,11 @@ fn load<'a, W: Write>(
 }
 
 // Does a task.
-fn run_task<'a, W: Write>(
+fn run_task<'a, W: Write, E: Write>(
     rt: &HostRuntime,
     task: &'a Task,
     out: &mut W,
+    err: &mut E,
 ) -> Result<u8, ProgramFault<'a>>
     ensures status { IfOk result (λ status. (status ≡ 0) ⊎ (status ≡ 3)) }
     ensures broken { IfOk result (λ status. status ≡ 3
@@ -139,6 +141,7 @@ fn run_task<'a, W: Write>(
     match task {
         Task::Check(instance, solution) => check(rt, instance, solution, out),
         Task::Load(database, instance) => load(rt, database, instance, out),
+        Task::Serve(database, terms) => serve(rt, database, *terms, out, err),
     }
 }
 
@@ -199,9 +202,9 @@ pub fn refuse_arguments<E: Write>(fault: &io::Error, err: &mut E) -> u8
 }
 
 /// Does what the words say, of which the first is the program's name, and answers the exit
-/// status: 0 done, 1 a fault of a file, an office, `out` or memory, 2 a mistake in the words, 3 a
-/// solution that breaks a hard rule. The line of a fault and the text of a mistake go to `err`,
-/// all else goes to `out`.
+/// status: 0 done, 1 a fault of a file, an office, a port, `out` or memory, 2 a mistake in the
+/// words, 3 a solution that breaks a hard rule. The line of a fault, also of a connection, and the
+/// text of a mistake go to `err`, all else goes to `out`.
 pub fn run_program<O: Write, E: Write>(
     rt: &HostRuntime,
     words: &[String],
@@ -228,7 +231,7 @@ pub fn run_program<O: Write, E: Write>(
         Ok(task) => task,
         Err(error) => return refuse_words(&error, out, err),
     };
-    match run_task(rt, &task, out) {
+    match run_task(rt, &task, out, err) {
         Ok(status) => status,
         Err(fault) => complain(&fault, err),
     }
