@@ -1,1 +1,2 @@
 mod LengthLemmas
+mod FloatLemmas

@@ -1,5 +1,5 @@
 -- What each answer of the office is as a reply: a status and a body.
-use Rattle.std.specs.Prelude.{ℕ, ◌+◌, Bool, true, false, List, [], ◌∷◌, map, codes, Option, Some, None, option_map, digits}
+use Rattle.std.specs.Prelude.{ℕ, ◌+◌, Bool, true, false, List, [], ◌∷◌, map, codes, Option, Some, None, option_map}
 use Rattle.exam_rules.specs.declared.breach.Breach.{Breach}
 use Rattle.exam_draft.specs.declared.fault.EditFault.{EditFault}
 use Rattle.exam_draft.specs.declared.fault.EditFault.TheVariants as edit

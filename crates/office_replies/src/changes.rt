@@ -26,7 +26,12 @@ pub fn owner_reply(room: Vec<u8>, exam: ExamNo, dept: u32) -> Reply
     ensures { plain_reply result ≡ json_reply Status.Done (owner_text exam dept) }
 {
     let first = number(b"dept", u64::from(dept));
-    object_reply(room, Status::Done, first, &[number(b"exam", u64::from(exam.get()))])
+    object_reply(
+        room,
+        Status::Done,
+        first,
+        &[number(b"exam", u64::from(exam.get()))],
+    )
 }
 
 /// The reply where a draft is new: its penalty.

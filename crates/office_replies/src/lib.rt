@@ -6,9 +6,7 @@ mod objects;
 mod refusals;
 mod views;
 
-pub use changes::{
-    dropped_reply, edited_reply, loaded_reply, new_draft_reply, owner_reply,
-};
+pub use changes::{dropped_reply, edited_reply, loaded_reply, new_draft_reply, owner_reply};
 pub use objects::{REPLY_ROOM, reply_room};
 pub use refusals::refusal_reply;
 pub use views::{draft_reply, text_reply};

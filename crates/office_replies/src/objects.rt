@@ -1,6 +1,6 @@
 // Small objects of JSON, put together in room that was made before a command ran: so a change that
 // was made is answered, however little memory is left.
-ghost use Rattle.std.specs.Prelude.{◌≡◌, ◌+◌, ◌≤◌, ◌<◌, ◌++◌, ◌∷◌, All, IfOk, length, decimal};
+ghost use Rattle.std.specs.Prelude.{◌≡◌, ◌+◌, ◌≤◌, ◌<◌, ◌++◌, All, IfOk, length, decimal};
 ghost use Rattle.std.specs.Prelude.{map, vec_len, vec_capacity};
 ghost use Rattle.office_messages.specs.Reply.{plain_reply, json_reply};
 ghost use Rattle.office_replies.specs.Objects.{IsShort, IsShortSaid, member_text, object_text};
@@ -36,7 +36,7 @@ pub fn reply_room(alloc: Global) -> Result<Vec<u8>, AllocError>
 
 // A member that is a number.
 pub(crate) fn number(key: &'static [u8], number: u64) -> Member
-    ensures { result ≡ record { key = key; says = Says.Number number } }
+    ensures { result ≡ record { key = key.entry; says = Says.Number number } }
 {
     Member {
         key,
@@ -46,7 +46,7 @@ pub(crate) fn number(key: &'static [u8], number: u64) -> Member
 
 // A member that is a word.
 pub(crate) fn word(key: &'static [u8], word: &'static [u8]) -> Member
-    ensures { result ≡ record { key = key; says = Says.Word word } }
+    ensures { result ≡ record { key = key.entry; says = Says.Word word.entry } }
 {
     Member {
         key,
@@ -55,15 +55,11 @@ pub(crate) fn word(key: &'static [u8], word: &'static [u8]) -> Member
 }
 
 // The reply with an object of up to four members, in the room that was made for it.
-pub(crate) fn object_reply(
-    room: Vec<u8>,
-    status: Status,
-    first: Member,
-    others: &[Member],
-) -> Reply
+pub(crate) fn object_reply(room: Vec<u8>, status: Status, first: Member, others: &[Member]) -> Reply
     requires room { REPLY_ROOM ≤ vec_capacity room }
     requires few { length others.now ≤ 3 }
-    requires short { All IsShort (first ∷ others.now) }
+    requires first { IsShort first }
+    requires others { All IsShort others.now }
     ensures { plain_reply result
         ≡ json_reply status (object_text (plain_member first) (map plain_member others.now)) }
 {
@@ -81,7 +77,8 @@ pub(crate) fn object_reply(
 fn put_object(room: &mut Vec<u8>, first: Member, others: &[Member])
     requires room { REPLY_ROOM ≤ vec_capacity room.old }
     requires few { length others.now ≤ 3 }
-    requires short { All IsShort (first ∷ others.now) }
+    requires first { IsShort first }
+    requires others { All IsShort others.now }
     ensures { room.new.items
         ≡ object_text (plain_member first) (map plain_member others.now) }
 {

@@ -77,7 +77,12 @@ fn broken_reply(room: Vec<u8>, breach: Breach) -> Reply
     let exam = number(b"exam", u64::from(breach.exam.get()));
     let other = number(b"other", u64::from(breach.other.get()));
     let rule = word(b"rule", rule_name(breach.rule).as_bytes());
-    object_reply(room, Status::Conflict, word(b"error", b"broken"), &[exam, other, rule])
+    object_reply(
+        room,
+        Status::Conflict,
+        word(b"error", b"broken"),
+        &[exam, other, rule],
+    )
 }
 
 fn unplaced_reply(room: Vec<u8>, exam: ExamNo) -> Reply
@@ -95,5 +100,10 @@ fn file_reply(room: Vec<u8>, fault: FileFault) -> Reply
 {
     let kind = number(b"fault", u64::from(kind_number(fault.what)));
     let line = number(b"line", u64::from(fault.line));
-    object_reply(room, Status::BadRequest, word(b"error", b"file"), &[kind, line])
+    object_reply(
+        room,
+        Status::BadRequest,
+        word(b"error", b"file"),
+        &[kind, line],
+    )
 }
