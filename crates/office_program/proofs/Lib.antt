@@ -1,1 +1,2 @@
 pub mod LoadFacts
+pub mod NumberLemmas

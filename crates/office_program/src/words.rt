@@ -1,7 +1,7 @@
 // The words of a command line.
 ghost use Rattle.std.specs.IoError.{error_kind};
 ghost use Rattle.std.specs.Iterator.{Drains};
-ghost use Rattle.std.specs.Prelude.{◌≡◌, IfErr, IfOk, Some, false, map, string_bytes};
+ghost use Rattle.std.specs.Prelude.{◌≡◌, ◌≤◌, IfErr, IfOk, Some, false, map, string_bytes};
 ghost use Rattle.std.specs.Vec.Iter.{into_iter_steps};
 ghost use Rattle.std.specs.declared.io.ErrorKind.TheVariants as failure;
 ghost use Rattle.clap.specs.Words.{FailsBy, found_of, kind_of, rows_of, rule_of};
@@ -10,10 +10,12 @@ ghost use Rattle.clap.specs.Faults.{fault_of};
 ghost use Rattle.clap.specs.declared.builder.texts.Texts.TheVariants.{One};
 ghost use Rattle.clap.specs.declared.error.kind.ErrorKind.TheVariants.{OutOfMemory};
 ghost use Rattle.clap.specs.Words.{first_of};
-ghost use Rattle.office_program.specs.Program.{AddsShape, HasCheckValues, HasLoadValues, IsTask};
-ghost use Rattle.office_program.specs.Program.{check_app, load_app, named_rule, program, required_rule};
+ghost use Rattle.office_program.specs.Program.{AddsShape, HasCheckValues, HasLoadValues};
+ghost use Rattle.office_program.specs.Program.{HasNumber, HasServeValues, HasTerms, IsTask};
+ghost use Rattle.office_program.specs.Program.{check_app, connections_rule, load_app, named_rule};
+ghost use Rattle.office_program.specs.Program.{patience_rule, port_rule, program, required_rule, serve_app};
 
-use clap::{Arg, ArgMatches, Command, Error};
+use clap::{Arg, ArgMatches, Command, Error, value_parser};
 use std::alloc::{AllocError, Global};
 use std::env::Args;
 use std::io;
@@ -25,7 +27,27 @@ pub enum Task {
     Check(String, String),
     /// Loads an office: its database's file, then the instance's.
     Load(String, String),
+    /// Serves an office: its database's file, and on which terms.
+    Serve(String, Terms),
 }
+
+/// On which terms an office is served.
+#[derive(Clone, Copy)]
+pub struct Terms {
+    /// The port of 127.0.0.1 that is listened on; 0 takes any.
+    pub port: u16,
+    /// How many connections are served, 1 to 1,000,000.
+    pub connections: u32,
+    /// How many seconds a client may take, 1 to 86,400.
+    pub patience: u32,
+}
+
+// The bounds of the numbers of `serve`.
+const MOST_PORT: u32 = 65_535;
+
+const MOST_CONNECTIONS: u32 = 1_000_000;
+
+const MOST_PATIENCE: u32 = 86_400;
 
 /// The words of the command line, in their order.
 pub fn words_of(alloc: Global, args: Args) -> io::Result<Vec<String>>
@@ -82,6 +104,58 @@ fn load_command<'a>(alloc: Global) -> Result<Command<'a>, AllocError>
         .arg(instance)
 }
 
+// The option that says how patient the office is.
+fn patience_option<'a>(alloc: Global) -> Arg<'a>
+    ensures rule { rule_of result ≡ patience_rule }
+    ensures local { result.global ≡ false }
+{
+    Arg::new(alloc, "patience")
+        .long("patience")
+        .value_name("SECONDS")
+        .help("How long a client may take for a message, and for a reply")
+        .default_value("30")
+        .value_parser(value_parser!(u32).range(1..=86_400))
+}
+
+// The option that says on which port the office listens.
+fn port_option<'a>(alloc: Global) -> Arg<'a>
+    ensures rule { rule_of result ≡ port_rule }
+    ensures local { result.global ≡ false }
+{
+    Arg::new(alloc, "port")
+        .long("port")
+        .value_name("N")
+        .help("The port of 127.0.0.1; 0 takes any")
+        .required(true)
+        .value_parser(value_parser!(u16).range(0..=65_535))
+}
+
+// The option that says how many connections are served.
+fn connections_option<'a>(alloc: Global) -> Arg<'a>
+    ensures rule { rule_of result ≡ connections_rule }
+    ensures local { result.global ≡ false }
+{
+    Arg::new(alloc, "connections")
+        .long("connections")
+        .value_name("K")
+        .help("How many connections are served")
+        .required(true)
+        .value_parser(value_parser!(u32).range(1..=1_000_000))
+}
+
+// The command `serve`.
+fn serve_command<'a>(alloc: Global) -> Result<Command<'a>, AllocError>
+    ensures { IfOk result (λ c. AddsShape c serve_app.top) }
+{
+    let database = named(alloc, "db", "FILE", "The file of the office's database");
+    Command::new(alloc, "serve")
+        .about("Serves an office over HTTP, one connection after another")
+        .arg(database)?
+        .arg(port_option(alloc))?
+        .arg(connections_option(alloc))?
+        .arg(patience_option(alloc))
+}
+
 // What clap finds in the words.
 fn matches(alloc: Global, words: &[String]) -> Result<ArgMatches<'_>, Error>
     ensures found { IfOk result (λ m.
@@ -90,11 +164,13 @@ fn matches(alloc: Global, words: &[String]) -> Result<ArgMatches<'_>, Error>
 {
     let check = check_command(alloc)?;
     let load = load_command(alloc)?;
+    let serve = serve_command(alloc)?;
     let whole = Command::new(alloc, "examoffice")
         .about("The office of an examination session, by the rules of ITC 2007")
         .subcommand_required(true)
         .subcommand(check)?
-        .subcommand(load)?;
+        .subcommand(load)?
+        .subcommand(serve)?;
     whole.try_get_matches_from(words)
 }
 
@@ -108,6 +184,19 @@ fn value_of(alloc: Global, values: &ArgMatches<'_>, id: &str) -> Result<String, 
     match values.get_str(id) {
         Some(value) => Ok(String::from_str(alloc, value)?),
         None => Err(Error::from(AllocError)),
+    }
+}
+
+// The number that was found, within these bounds. Clap has seen to them too, but its contract says
+// so of no subcommand: a number beyond them would be answered as out of memory.
+fn number_of(values: &ArgMatches<'_>, id: &str, least: u32, most: u32) -> Result<u32, Error>
+    ensures ok { IfOk result (λ n. HasNumber id.now (rows_of (found_of values.now)) n
+        × (least ≤ n) × (n ≤ most)) }
+    ensures err { IfErr result (λ e. kind_of e ≡ OutOfMemory) }
+{
+    match values.get_one::<u32>(id) {
+        Some(number) if least <= number && number <= most => Ok(number),
+        _ => Err(Error::from(AllocError)),
     }
 }
 
@@ -131,6 +220,30 @@ fn load_task(alloc: Global, values: &ArgMatches<'_>) -> Result<Task, Error>
     Ok(Task::Load(database, instance))
 }
 
+// The terms of `serve` with these values.
+fn terms_of(values: &ArgMatches<'_>) -> Result<Terms, Error>
+    ensures ok { IfOk result (HasTerms (rows_of (found_of values.now))) }
+    ensures err { IfErr result (λ e. kind_of e ≡ OutOfMemory) }
+{
+    let port = number_of(values, "port", 0, MOST_PORT)?;
+    let connections = number_of(values, "connections", 1, MOST_CONNECTIONS)?;
+    let patience = number_of(values, "patience", 1, MOST_PATIENCE)?;
+    Ok(Terms {
+        port: port as u16,
+        connections,
+        patience,
+    })
+}
+
+// The task of `serve` with these values.
+fn serve_task(alloc: Global, values: &ArgMatches<'_>) -> Result<Task, Error>
+    ensures ok { IfOk result (HasServeValues (rows_of (found_of values.now))) }
+    ensures err { IfErr result (λ e. kind_of e ≡ OutOfMemory) }
+{
+    let database = value_of(alloc, values, "db")?;
+    Ok(Task::Serve(database, terms_of(values)?))
+}
+
 /// The command that the words give, of which the first is the program's name. An error shows as
 /// the text for the user: a mistake in the words, a call for help, or out of memory.
 pub fn read_words(alloc: Global, words: &[String]) -> Result<Task, Error>
@@ -141,8 +254,11 @@ pub fn read_words(alloc: Global, words: &[String]) -> Result<Task, Error>
     if let Some(values) = found.subcommand_matches("check") {
         return check_task(alloc, values);
     }
-    match found.subcommand_matches("load") {
-        Some(values) => load_task(alloc, values),
+    if let Some(values) = found.subcommand_matches("load") {
+        return load_task(alloc, values);
+    }
+    match found.subcommand_matches("serve") {
+        Some(values) => serve_task(alloc, values),
         None => Err(Error::from(AllocError)),
     }
 }

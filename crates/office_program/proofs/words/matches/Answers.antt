@@ -3,7 +3,7 @@ use Rattle.std.proofs.lemmas.Result.{IfOk-weaker}
 use Rattle.clap.specs.Words.{FailsBy, app_of, is_simple, new_app, subcommand_of, with_subcommand}
 use Rattle.clap.specs.Faults.{fault_of, is_simple_and_free}
 use Rattle.clap.specs.Simple.{app_of_fields}
-use Rattle.office_program.specs.Program.{check_app, load_app, program, wants_subcommand}
+use Rattle.office_program.specs.Program.{check_app, load_app, program, serve_app, wants_subcommand}
 use Rattle.office_program.proofs.words.matches.Goals as goal
 
 -- the command that is built is the program
@@ -17,8 +17,12 @@ whole_is c =
     (wants_subcommand (new_app (codes "examoffice"))) check_app.top =
     c.in_ok-check.ensures _ _ c.in_ok-subcommand.ensures
     ∙ ap (λ a. with_subcommand a check_app.top) wants in
-    c.in_ok-load.ensures _ _ c.in_ok-whole.ensures
-    ∙ ap (λ a. with_subcommand a load_app.top) judges
+    let loads : app_of c.in_ok-subcommand-2.field-0 ≡ with_subcommand (with_subcommand
+    (wants_subcommand (new_app (codes "examoffice"))) check_app.top) load_app.top =
+    c.in_ok-load.ensures _ _ c.in_ok-subcommand-2.ensures
+    ∙ ap (λ a. with_subcommand a load_app.top) judges in
+    c.in_ok-serve.ensures _ _ c.in_ok-whole.ensures
+    ∙ ap (λ a. with_subcommand a serve_app.top) loads
 
 pub returns-clause-found : goal.returns-clause-found
 returns-clause-found c =

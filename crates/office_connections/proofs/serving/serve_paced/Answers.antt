@@ -1,0 +1,9 @@
+use Rattle.office_connections.proofs.ReachLemmas.{lent_reaches, served_reaches}
+use Rattle.office_connections.proofs.serving.serve_paced.Goals as goal
+
+pub returns : goal.returns
+returns g c = record {
+  reached = lent_reaches (λ m. m.machine.ghost_name) (λ m. m.machine.now) g.M.Machine.Answers _ _ _
+      c.machine-1.given.1
+      (served_reaches _ c.serve.result _ _ _ _ _ c.serve.ensures.ok c.serve.ensures.err);
+}

@@ -1,0 +1,29 @@
+-- The lines that are printed while connections are served.
+use Rattle.std.specs.Prelude.{ℕ, ◌≤◌, List, [], ◌∷◌, ◌++◌, Option, codes, decimal}
+use Rattle.std.specs.Io.KnownBytes.{Appends}
+use Rattle.office_messages.specs.declared.connection.ServeFault.{ServeFault}
+use Rattle.office_messages.specs.declared.connection.ServeFault.TheVariants as fault
+
+-- the number by which a connection's fault is printed
+abbrev pub number_of : ServeFault → ℕ
+number_of fault.Read = 1
+number_of fault.Write = 2
+number_of fault.TooMany = 3
+number_of fault.NoMemory = 4
+
+-- the line of a connection's fault
+abbrev pub fault_line : ServeFault → List ℕ
+fault_line f = codes "examoffice: connection fault " ++ decimal (number_of f) ++ 10 ∷ []
+
+-- the lines of some faults, one after another
+abbrev pub fault_lines : List ServeFault → List ℕ
+fault_lines [] = []
+fault_lines (f ∷ fs) = fault_line f ++ fault_lines fs
+
+-- the line that tells the port
+abbrev pub listening_line : ℕ → List ℕ
+listening_line port = codes "listening 127.0.0.1:" ++ decimal port ++ 10 ∷ []
+
+-- the line that tells some port is printed
+abbrev pub PrintsPort : Option (List ℕ) → Option (List ℕ) → Type 0
+PrintsPort old new = (port : ℕ) × (port ≤ 65535) × Appends old new (listening_line port)

@@ -1,0 +1,14 @@
+//! Connections over sockets, one after another, each with its patience.
+#![tactic(auto)]
+
+mod accepting;
+mod listening;
+mod pace;
+mod paced;
+mod running;
+mod serving;
+
+pub use accepting::{Plan, Service, serve_connections};
+pub use listening::{announce, listen};
+pub use running::{RunFault, serve_run};
+pub use serving::serve_connection;

@@ -1,0 +1,100 @@
+// The time that a client has.
+ghost use Rattle.std.specs.Prelude.{◌<◌, IfOk};
+ghost use Rattle.std.specs.Duration.{as_nanos};
+
+use std::cell::Cell;
+use std::io::{Error, ErrorKind, Result};
+use std::time::{Clock, Duration, Instant};
+
+// What a client is to do next.
+#[derive(Clone, Copy, PartialEq, Eq)]
+enum Awaited {
+    // To begin a message.
+    Message,
+    // To send the rest of one.
+    Rest,
+    // To take a reply.
+    Taking,
+}
+
+// How long a client may take for each thing that it is to do. A wait begins with the first call
+// that waits, so the office's own time is not the client's.
+#[derive(Drop)]
+pub(crate) struct Pace<'a, C> {
+    clock: &'a C,
+    patience: Duration,
+    awaited: Cell<Awaited>,
+    // When the wait ends that has begun.
+    due: Cell<Option<Instant>>,
+}
+
+impl<'a, C: Clock> Pace<'a, C> {
+    pub(crate) fn new(clock: &'a C, patience: Duration) -> Pace<'a, C> {
+        Pace {
+            clock,
+            patience,
+            awaited: Cell::new(Awaited::Message),
+            due: Cell::new(None),
+        }
+    }
+
+    fn begin(&self, awaited: Awaited) {
+        self.awaited.set(awaited);
+        self.due.set(None);
+    }
+
+    // The office is about to read: behind a reply the next message is awaited.
+    pub(crate) fn is_to_send(&self) {
+        if self.awaited.get() == Awaited::Taking {
+            self.begin(Awaited::Message);
+        }
+    }
+
+    // Bytes came: if they are a message's first, its rest is awaited.
+    pub(crate) fn has_sent(&self) {
+        if self.awaited.get() == Awaited::Message {
+            self.begin(Awaited::Rest);
+        }
+    }
+
+    // The office is about to write.
+    pub(crate) fn is_to_take(&self) {
+        if self.awaited.get() != Awaited::Taking {
+            self.begin(Awaited::Taking);
+        }
+    }
+
+    // A reply is made, which the client has the whole time to take.
+    pub(crate) fn has_reply(&self) {
+        self.begin(Awaited::Taking);
+    }
+
+    // Nothing that comes from now on is answered: all of it is one rest.
+    pub(crate) fn is_left(&self) {
+        self.begin(Awaited::Rest);
+    }
+
+    // When the wait ends.
+    fn end(&self, now: Instant) -> Result<Instant> {
+        if let Some(end) = self.due.get() {
+            return Ok(end);
+        }
+        let Some(end) = now.checked_add(self.patience) else {
+            return Err(Error::from(ErrorKind::InvalidInput));
+        };
+        self.due.set(Some(end));
+        Ok(end)
+    }
+
+    // What is left of the wait.
+    pub(crate) fn left(&self) -> Result<Duration>
+        ensures { IfOk result (λ left. 0 < as_nanos left) }
+    {
+        let now = Instant::now(self.clock)?;
+        let left = self.end(now)?.duration_since(now);
+        if left.is_zero() {
+            return Err(Error::from(ErrorKind::TimedOut));
+        }
+        Ok(left)
+    }
+}

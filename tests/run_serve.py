@@ -1,0 +1,581 @@
+#!/usr/bin/env python3
+"""run_serve.py PROGRAM: the office over real sockets, byte for byte.
+
+Each worked example is asked whole, in single bytes and in one piece, on one connection and an
+office of its own. Then come stock curl, many connections, slow clients, clients that vanish, and
+kills at random moments. A failing case is printed with what was expected and what came, and the
+last line counts the cases.
+"""
+import argparse
+import contextlib
+import json
+import pathlib
+import random
+import shutil
+import signal
+import socket
+import struct
+import subprocess
+import sys
+import tempfile
+import threading
+import time
+from collections import namedtuple
+
+EXAMPLES = pathlib.Path(__file__).resolve().parent.parent / "examples"
+SMALL, SOLUTION, SMALLEST = ((EXAMPLES / name).read_bytes()
+                             for name in ("small.exam", "small.sol", "smallest.exam"))
+SECONDS = 60
+PHRASES = {200: "OK", 201: "Created", 400: "Bad Request", 403: "Forbidden", 404: "Not Found",
+           405: "Method Not Allowed", 409: "Conflict", 413: "Payload Too Large",
+           501: "Not Implemented"}
+
+# What a client asks, in messages, and the bytes that come back; `start` is the file that is loaded.
+Case = namedtuple("Case", "name start asked replies")
+
+
+def message(method, path, body=b"", caller="office", fields=()):
+    lines = [f"{method} {path} HTTP/1.1", "Host: office"]
+    lines += [f"X-Caller: {caller}"] if caller else []
+    lines += [f"Content-Length: {len(body)}"] if body else []
+    return "".join(f"{line}\r\n" for line in [*lines, *fields, ""]).encode() + body
+
+
+def reply(status, body, kind="application/json", allow=None):
+    body = body.encode() if isinstance(body, str) else body
+    fields = [f"HTTP/1.1 {status} {PHRASES[status]}", f"Content-Type: {kind}"]
+    fields += [f"Allow: {allow}"] if allow else []
+    fields += [f"Content-Length: {len(body)}", ""]
+    return "".join(f"{field}\r\n" for field in fields).encode() + body
+
+
+def text(body):
+    return reply(200, body, "text/plain")
+
+
+def error(status, what, allow=None):
+    return reply(status, '{"error":"%s"}' % what, allow=allow)
+
+
+def broken(rule, exam, other):
+    return reply(409, '{"error":"broken","exam":%d,"other":%d,"rule":"%s"}' % (exam, other, rule))
+
+
+def forbidden(rule):
+    return reply(403, '{"error":"forbidden","rule":"%s"}' % rule)
+
+
+def drafted(status, penalty):
+    return reply(status, '{"draft":1,"penalty":%d}' % penalty)
+
+
+def at(period, room):
+    return b'{"period":%d,"room":%d}' % (period, room)
+
+
+def place(exam, period, room, caller="office"):
+    return message("POST", f"/drafts/1/exams/{exam}/place", at(period, room), caller)
+
+
+def move(exam, period, room):
+    return message("POST", f"/drafts/1/exams/{exam}/move", at(period, room))
+
+
+def swap(exam, other, caller="office"):
+    return message("POST", f"/drafts/1/swap/{exam}/{other}", caller=caller)
+
+
+def clear(exam):
+    return message("DELETE", f"/drafts/1/exams/{exam}")
+
+
+def report(*parts):
+    names = ("two in a row", "two in a day", "period spread", "mixed durations", "front load",
+             "period penalty", "room penalty", "total")
+    return "".join(f"{name} {part}\n" for name, part in zip(names, parts, strict=True))
+
+
+EMPTY, FROM_SOLUTION = message("PUT", "/drafts/1"), message("PUT", "/drafts/1", SOLUTION)
+PENALTY, VIOLATIONS = message("GET", "/drafts/1/penalty"), message("GET", "/drafts/1/violations")
+PLACES = ('{"draft":1,"exams":[{"exam":0,"period":0,"room":0},{"exam":1,"period":1,"room":0},'
+          '{"exam":2,"period":3,"room":1},{"exam":3,"period":2,"room":0}],"penalty":37}')
+
+
+def case(name, start, *exchanges):
+    return Case(name, start, [asked for asked, _ in exchanges], [came for _, came in exchanges])
+
+
+CASES = [
+    case("owners_and_callers", SMALL,
+         (message("PUT", "/exams/0/owner", b'{"dept":3}'), reply(200, '{"dept":3,"exam":0}')),
+         (EMPTY, drafted(201, 0)),
+         (place(0, 0, 0, "dept:3"), drafted(200, 0)),
+         (place(1, 0, 0, "dept:3"), forbidden("P3")),
+         (swap(0, 1, "dept:3"), forbidden("P3")),
+         (place(9, 0, 0, "dept:3"), forbidden("P3")),
+         (message("PUT", "/instance", SMALL, "dept:3"), forbidden("P2")),
+         (message("GET", "/drafts/1/penalty", caller="dept:4"), text(report(*[0] * 8))),
+         (message("GET", "/drafts/1/penalty", caller=None), error(400, "caller")),
+         (message("GET", "/drafts/1/penalty", caller="dept:0"), error(400, "caller")),
+         (message("GET", "/drafts/1/penalty", caller=" \toffice "), text(report(*[0] * 8))),
+         (message("POST", "/instance"), error(405, "method", "GET, PUT")),
+         (message("POST", "/drafts/1"), error(405, "method", "GET, PUT, DELETE")),
+         (message("PUT", "/drafts/1/penalty"), error(405, "method", "GET")),
+         (message("GET", "/drafts/1/swap/0/1", caller="dept:4"), error(405, "method", "POST")),
+         (message("POST", "/instance", caller="cand:1"), forbidden("P1")),
+         (message("GET", "/drafts/8", caller="cand:2"), forbidden("P1")),
+         (message("GET", "/drafts/1", caller="cand:2"), forbidden("P1")),
+         (message("GET", "/nowhere"), error(404, "path")),
+         (message("GET", "/drafts/1234567890"), error(404, "path"))),
+    case("clash_comes_first", SMALL,
+         (EMPTY, drafted(201, 0)),
+         (place(0, 0, 0), drafted(200, 0)),
+         (place(1, 0, 0), broken("Clash", 0, 1))),
+    case("too_long_for_period", SMALL,
+         (EMPTY, drafted(201, 0)),
+         (place(0, 2, 0), broken("Duration", 0, 0)),
+         (place(0, 1, 0), drafted(200, 0))),
+    case("swap", SMALL,
+         (FROM_SOLUTION, drafted(201, 37)),
+         (swap(1, 2), drafted(200, 30)),
+         (PENALTY, text(report(0, 5, 3, 0, 0, 15, 7, 30))),
+         (swap(1, 2), drafted(200, 37)),
+         (swap(0, 3), broken("Duration", 0, 0)),
+         (PENALTY, text(report(7, 5, 3, 0, 0, 15, 7, 37)))),
+    case("edit_refusals_in_order", SMALL,
+         (EMPTY, drafted(201, 0)),
+         (place(0, 0, 0), drafted(200, 0)),
+         (place(0, 0, 0), error(409, "already-placed")),
+         (move(1, 0, 0), error(409, "not-placed")),
+         (clear(1), error(409, "not-placed")),
+         (swap(0, 0), error(409, "same-exam")),
+         (place(9, 0, 0), error(404, "number")),
+         (place(1, 4, 0), error(404, "number")),
+         (place(1, 0, 2), error(404, "number")),
+         (message("POST", "/drafts/1/exams/1/place", b'{"period":0}'), error(400, "body")),
+         (message("POST", "/drafts/2/exams/1/place", at(0, 0)), error(404, "draft")),
+         (clear(0), drafted(200, 0))),
+    case("smallest_instance", None,
+         (message("PUT", "/drafts/9"), error(409, "not-loaded")),
+         (message("GET", "/instance"), error(409, "not-loaded")),
+         (message("PUT", "/instance", b""), reply(400, '{"error":"file","fault":2,"line":1}')),
+         (message("PUT", "/instance", SMALLEST),
+          reply(201, '{"exams":1,"pairs":0,"periods":1,"rooms":1}')),
+         (message("PUT", "/instance", SMALLEST), error(409, "loaded")),
+         (message("PUT", "/drafts/9"), error(404, "draft")),
+         (EMPTY, drafted(201, 0)),
+         (EMPTY, error(409, "draft-taken")),
+         (place(0, 0, 0), drafted(200, 0)),
+         (VIOLATIONS, text("breaches 0\n")),
+         (PENALTY, text(report(*[0] * 8)))),
+    case("reports_and_dropped_draft", SMALL,
+         (FROM_SOLUTION, drafted(201, 37)),
+         (message("GET", "/instance"), text(SMALL.replace(b"\n", b"\r\n"))),
+         (message("GET", "/drafts/1"), reply(200, PLACES)),
+         (VIOLATIONS, text("breaches 0\n")),
+         (message("DELETE", "/drafts/1"), reply(200, '{"draft":1}')),
+         (message("DELETE", "/drafts/1"), error(404, "draft")),
+         (message("GET", "/drafts/1"), error(404, "draft"))),
+    case("a draft with breaches", SMALL,
+         (message("PUT", "/drafts/1", b"3, 0\n1, 0\n3, 1\n2, 0\n"), drafted(201, 34)),
+         (VIOLATIONS, text("breaches 1\nAfter 1 0\n")),
+         (PENALTY, text(report(0, 0, 3, 0, 4, 20, 7, 34))),
+         (message("PUT", "/drafts/2", b"0, 0\n"), reply(400, '{"error":"file","fault":3,"line":2}'))),
+    case("a message that asks for the end", SMALL,
+         (EMPTY, drafted(201, 0)),
+         (message("GET", "/drafts/1/penalty", fields=["Connection: Close"]),
+          text(report(*[0] * 8)))),
+    case("a message in chunks", SMALL,
+         (EMPTY, drafted(201, 0)),
+         (message("GET", "/drafts/1", fields=["Transfer-Encoding: chunked"]),
+          error(501, "transfer"))),
+    case("a message that is no request", SMALL,
+         (EMPTY, drafted(201, 0)), (b"no request\r\n\r\n", error(400, "request"))),
+    case("a message to no host", SMALL,
+         (EMPTY, drafted(201, 0)),
+         (b"GET /drafts/1 HTTP/1.1\r\nX-Caller: office\r\n\r\n", error(400, "request"))),
+    case("a message to no host, of the older HTTP", SMALL,
+         (EMPTY, drafted(201, 0)),
+         (b"GET /drafts/1/violations HTTP/1.0\r\nX-Caller: office\r\n\r\n", text("breaches 0\n"))),
+]
+
+
+class Office:
+    """The program while it serves a database; its end is waited for, and judged."""
+
+    def __init__(self, program, database, connections=1_000_000, patience=None):
+        more = ["--patience", str(patience)] if patience else []
+        self.process = subprocess.Popen(
+            [program, "serve", "--db", str(database), "--port", "0",
+             "--connections", str(connections), *more],
+            stdin=subprocess.DEVNULL, stdout=subprocess.PIPE, stderr=subprocess.PIPE)
+        line = self.process.stdout.readline()
+        if not line.startswith(b"listening 127.0.0.1:") or not line.endswith(b"\n"):
+            self.process.kill()
+            raise OSError(f"it did not listen: {line!r}, {self.process.stderr.read()!r}")
+        self.port = int(line.rpartition(b":")[2])
+
+    def connect(self, **more):
+        client = socket.create_connection(("127.0.0.1", self.port), SECONDS, **more)
+        client.setsockopt(socket.IPPROTO_TCP, socket.TCP_NODELAY, 1)
+        return client
+
+    def ended(self):
+        """The status, and what standard error got."""
+        _, stderr = self.process.communicate(timeout=SECONDS)
+        return self.process.returncode, stderr
+
+    def killed(self):
+        self.process.kill()
+        return self.process.communicate()[1]
+
+
+def received(client, length):
+    """So many bytes of a connection, or fewer where it ends."""
+    parts = bytearray()
+    while len(parts) < length:
+        part = client.recv(min(length - len(parts), 65_536))
+        if not part:
+            break
+        parts += part
+    return bytes(parts)
+
+
+def rest(client):
+    return received(client, 1 << 30)
+
+
+def told(client, question):
+    """What came back to all that was sent, or the error where the connection was reset."""
+    try:
+        client.sendall(question)
+        client.shutdown(socket.SHUT_WR)
+        return rest(client)
+    except OSError as fault:
+        return fault
+
+
+def asked(client, question, answer):
+    """Asks; what came back, of the answer's length."""
+    client.sendall(question)
+    return received(client, len(answer))
+
+
+def whole(client, case):
+    return b"".join(asked(client, *pair) for pair in zip(case.asked, case.replies))
+
+
+def in_single_bytes(client, case):
+    came = b""
+    for question, answer in zip(case.asked, case.replies):
+        for byte in question:
+            client.sendall(bytes([byte]))
+        came += received(client, len(answer))
+    return came
+
+
+def in_one_piece(client, case):
+    return asked(client, b"".join(case.asked), b"".join(case.replies))
+
+
+class Run:
+    """The cases that were run, and how many failed."""
+
+    def __init__(self, program, folder):
+        self.program, self.folder = program, pathlib.Path(folder)
+        self.count = self.failed = 0
+        self.loaded = {}
+
+    def database(self, start):
+        """A file of its own, into which this instance is loaded."""
+        if start and start not in self.loaded:
+            source, made = self.folder / "source.exam", self.folder / f"loaded{len(self.loaded)}"
+            source.write_bytes(start)
+            subprocess.run([self.program, "load", "--db", str(made), str(source)], check=True,
+                           stdout=subprocess.DEVNULL, timeout=SECONDS)
+            self.loaded[start] = made
+        path = self.folder / "term.db"
+        for file in self.folder.glob("term.db*"):
+            file.unlink()
+        if start:
+            shutil.copy(self.loaded[start], path)
+        return path
+
+    def office(self, start=SMALL, **more):
+        return Office(self.program, self.database(start), **more)
+
+    def judge(self, name, expected, got):
+        self.count += 1
+        if expected != got:
+            self.failed += 1
+            print(f"serve: {name}", f"  expected {shown(expected)}", f"  got      {shown(got)}",
+                  sep="\n", flush=True)
+
+
+def shown(it):
+    mine = repr(it)
+    return mine if len(mine) < 1_200 else f"{mine[:800]} .. {mine[-300:]}"
+
+
+def worked_examples(run):
+    for case in CASES:
+        for way in (whole, in_single_bytes, in_one_piece):
+            office = run.office(case.start, connections=1)
+            with office.connect() as client:
+                got = way(client, case)
+                client.shutdown(socket.SHUT_WR)
+                got += rest(client)
+            name = f"{case.name}, {way.__name__.replace('_', ' ')}"
+            run.judge(name, (b"".join(case.replies), (0, b"")), (got, office.ended()))
+
+
+def stock_curl(run):
+    """What a first user types."""
+    office, caller = run.office(connections=3), ["-H", "X-Caller: office"]
+    drafts = f"http://127.0.0.1:{office.port}/drafts/1"
+    commands = [["--data-binary", f"@{EXAMPLES / 'small.sol'}", "-X", "PUT", drafts],
+                [f"{drafts}/penalty"],
+                ["-d", '{"period":3,"room":1}', f"{drafts}/exams/2/move"]]
+    printed = [b'{"draft":1,"penalty":37}', report(7, 5, 3, 0, 0, 15, 7, 37).encode(),
+               b'{"draft":1,"penalty":37}']
+    got = [subprocess.run(["curl", "-s", *caller, *words], capture_output=True, timeout=SECONDS,
+                          check=False).stdout for words in commands]
+    run.judge("curl", (printed, (0, b"")), (got, office.ended()))
+
+
+def many_connections(run):
+    office = run.office(connections=1_000)
+    answer, wrong = error(404, "draft"), 0
+    for _ in range(1_000):
+        with office.connect() as client:
+            question = message("GET", "/drafts/1/penalty", fields=["Connection: close"])
+            client.sendall(question)
+            wrong += rest(client) != answer
+    run.judge("1,000 connections", (0, (0, b"")), (wrong, office.ended()))
+
+
+def last_message(run):
+    """The hundredth reply is the last, and arrives although more was asked."""
+    office = run.office(connections=1)
+    with office.connect() as client:
+        got = told(client, message("GET", "/drafts/1") * 150)
+    run.judge("a hundred replies", (error(404, "draft") * 100, (0, b"")), (got, office.ended()))
+
+
+def long_message(run):
+    """A message that is too long is refused while its body still comes, and the reply arrives."""
+    office, length = run.office(connections=1), 5_000_000
+    head = message("PUT", "/instance", fields=[f"Content-Length: {length}"])
+    with office.connect() as client:
+        got = told(client, head + b"x" * length)
+    run.judge("a long message", (error(413, "length"), (0, b"")), (got, office.ended()))
+
+
+def vanish(client):
+    """Resets the connection."""
+    client.setsockopt(socket.SOL_SOCKET, socket.SO_LINGER, struct.pack("ii", 1, 0))
+    client.close()
+
+
+def failing_reader_and_writer(run):
+    """A client that vanishes behind its reply, and one before it: the command stands, and the next
+    one is served."""
+    office = run.office(connections=4)
+    client = office.connect()
+    first = asked(client, EMPTY, drafted(201, 0))
+    vanish(client)
+    with office.connect() as client:
+        second = asked(client, place(0, 0, 0), drafted(200, 0))
+    client = office.connect()
+    office.process.send_signal(signal.SIGSTOP)
+    client.sendall(clear(0))
+    vanish(client)
+    office.process.send_signal(signal.SIGCONT)
+    with office.connect() as client:
+        third = asked(client, clear(0), error(409, "not-placed"))
+    run.judge("failing_reader_and_writer",
+              (drafted(201, 0), drafted(200, 0), error(409, "not-placed"), 0,
+               b"examoffice: connection fault 1\nexamoffice: connection fault 2\n"),
+              (first, second, third, *office.ended()))
+
+
+def trickle(act, seconds, times):
+    """Acts so often, so many seconds apart, until it fails."""
+    with contextlib.suppress(OSError):
+        for _ in range(times):
+            act()
+            time.sleep(seconds)
+
+
+def waited(run, name, start, slow, patience, fault):
+    """A slow client is first, and the next one is served within twice the patience."""
+    office = run.office(start, connections=2, patience=patience)
+    first = socket.socket()
+    first.setsockopt(socket.SOL_SOCKET, socket.SO_RCVBUF, 4_096)
+    first.connect(("127.0.0.1", office.port))
+    thread = threading.Thread(target=slow, args=(first,), daemon=True)
+    thread.start()
+    began = time.monotonic()
+    with office.connect() as client:
+        got = asked(client, message("GET", "/drafts/1"), error(404, "draft"))
+    is_soon = time.monotonic() - began < 2 * patience + 1
+    first.close()
+    run.judge(name, (error(404, "draft"), True, (0, b"examoffice: connection fault %d\n" % fault)),
+              (got, is_soon, office.ended()))
+
+
+def send_slowly(client):
+    left = iter(message("GET", "/drafts/1"))
+    trickle(lambda: client.sendall(bytes([next(left)])), 0.25, 40)
+
+
+def read_slowly(client):
+    client.sendall(message("GET", "/instance") * 4)
+    trickle(lambda: client.recv(1), 0.25, 40)
+
+
+def ask_nothing(client):
+    time.sleep(10)
+
+
+def wide_instance():
+    """An instance whose canonical text is long: a socket takes one at once, but not four."""
+    exams = [", ".join(str(number) for number in [120, *range(10**8 + exam, 10**8 + exam + 100)])
+             for exam in range(2_000)]
+    return "\n".join(["[Exams:2000]", *exams, "[Periods:1]", "01:01:2000, 09:00:00, 120, 0",
+                      "[Rooms:1]", "100, 0", "[PeriodHardConstraints]", "[RoomHardConstraints]",
+                      "[InstitutionalWeightings]", ""]).encode()
+
+
+def slow_clients(run):
+    waited(run, "a client that sends slowly", SMALL, send_slowly, 2, 1)
+    waited(run, "a client that asks nothing", SMALL, ask_nothing, 2, 1)
+    waited(run, "a client that reads slowly", wide_instance(), read_slowly, 2, 2)
+
+
+def patient_client(run):
+    """Within its limits a client is served for longer than the patience: it waits before it asks,
+    and halfway through its message, and sends its next message behind the first half of one."""
+    office, patience = run.office(connections=1, patience=2), 2
+    question, answer = message("GET", "/drafts/1"), error(404, "draft")
+    middle, got, began = len(question) // 2, b"", time.monotonic()
+    with office.connect() as client:
+        for _ in range(2):
+            time.sleep(0.6 * patience)
+            client.sendall(question[:middle])
+            time.sleep(0.6 * patience)
+            got += asked(client, question[middle:] + question[:middle], answer)
+            time.sleep(0.6 * patience)
+            got += asked(client, question[middle:], answer)
+    is_long = time.monotonic() - began > 3 * patience
+    run.judge("a patient client", (answer * 4, True, (0, b"")), (got, is_long, office.ended()))
+
+
+# ---- kills
+
+Change = namedtuple("Change", "question status drafts")
+STEPS = {(2, 0): (3, 1), (3, 1): (3, 0), (3, 0): (2, 0)}
+
+
+def change(rng, drafts):
+    """A change at random, of drafts that differ from the small solution in the place of exam 3."""
+    number, after = rng.randint(1, 8), dict(drafts)
+    if number not in drafts:
+        after[number] = (2, 0)
+        return Change(message("PUT", f"/drafts/{number}", SOLUTION), 201, after)
+    if rng.random() < 0.2:
+        del after[number]
+        return Change(message("DELETE", f"/drafts/{number}"), 200, after)
+    after[number] = STEPS[drafts[number]]
+    return Change(message("POST", f"/drafts/{number}/exams/3/move", at(*after[number])), 200, after)
+
+
+def one_reply(client):
+    """A whole reply: its status and its body; where the connection ends before, an OSError."""
+    head = b""
+    while not head.endswith(b"\r\n\r\n"):
+        byte = client.recv(1)
+        if not byte:
+            raise OSError("the connection ended")
+        head += byte
+    length = int(head.partition(b"Content-Length: ")[2].partition(b"\r\n")[0])
+    body = received(client, length)
+    if len(body) < length:
+        raise OSError("the connection ended")
+    return int(head.split(b" ")[1]), body
+
+
+def change_until_killed(office, rng, drafts):
+    """Makes changes until the office is gone: what stands, and what may stand beside it."""
+    asked_for, wrong = drafts, 0
+    with contextlib.suppress(OSError):
+        while True:
+            with office.connect() as client:
+                for _ in range(100):
+                    step = change(rng, drafts)
+                    asked_for = step.drafts
+                    client.sendall(step.question)
+                    wrong += one_reply(client)[0] != step.status
+                    drafts = step.drafts
+    return drafts, asked_for, wrong
+
+
+def drafts_of(office):
+    """The drafts that the office has, with the place of exam 3."""
+    found = {}
+    with office.connect() as client:
+        for number in range(1, 9):
+            client.sendall(message("GET", f"/drafts/{number}"))
+            status, body = one_reply(client)
+            if status == 200:
+                place_of = json.loads(body)["exams"][3]
+                found[number] = (place_of["period"], place_of["room"])
+    return found
+
+
+def kills(run, count):
+    rng, database, drafts, made = random.Random(27), run.database(SMALL), {}, 0
+    for number in range(count):
+        office = Office(run.program, database)
+        killer = threading.Timer(rng.uniform(0.0, 0.15), office.process.kill)
+        killer.start()
+        stands, asked_for, wrong = change_until_killed(office, rng, drafts)
+        killer.join()
+        office.killed()
+        made += stands != drafts
+        office = Office(run.program, database)
+        found = drafts_of(office)
+        office.killed()
+        run.judge(f"kill {number}", (True, 0), (found in (stands, asked_for) or
+                                                (found, stands, asked_for), wrong))
+        drafts = found
+    run.judge("kills amid changes", True, made > count // 2 or made)
+
+
+def words():
+    parser = argparse.ArgumentParser(description=__doc__)
+    parser.add_argument("program", metavar="PROGRAM")
+    parser.add_argument("--kills", type=int, default=20, help="kills at random moments (20)")
+    parser.add_argument("--plain", action="store_true",
+                        help="a program that has no limits of time and does not read on behind its "
+                             "last reply, as bench/office")
+    return parser.parse_args()
+
+
+def main():
+    given = words()
+    program = str(pathlib.Path(given.program).resolve())
+    with tempfile.TemporaryDirectory() as folder:
+        run = Run(program, folder)
+        tests = [worked_examples, stock_curl, many_connections, failing_reader_and_writer]
+        if not given.plain:
+            tests += [last_message, long_message, slow_clients, patient_client]
+        for test in tests:
+            test(run)
+        kills(run, given.kills)
+    print(f"serve: {run.count} cases, {run.failed} failed")
+    sys.exit(1 if run.failed else 0)
+
+
+if __name__ == "__main__":
+    main()
