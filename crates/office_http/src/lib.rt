@@ -8,4 +8,4 @@ mod serving;
 pub use office_desk::{Desk, Office, Refusal, StoreFault};
 pub use office_requests::{End, Request, Reply, Routes, ServeFault, Served};
 pub use replying::reply;
-pub use serving::serve;
+pub use serving::{AnsweringDesk, serve};

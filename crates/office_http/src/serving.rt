@@ -14,14 +14,14 @@ use sqlite::Alter;
 use std::alloc::Global;
 use std::io::{Read, Write};
 
-// A desk that answers the messages of a connection, which is lent for it.
+/// A desk that answers the messages of connections, by a table of routes.
 #[derive(Drop)]
-struct Lent<'a, S: Alter> {
-    desk: &'a mut Desk<S>,
-    routes: Routes,
+pub struct AnsweringDesk<'a, S: Alter> {
+    pub desk: &'a mut Desk<S>,
+    pub routes: Routes,
 }
 
-impl<S: Alter> Machine for Lent<'_, S> {
+impl<S: Alter> Machine for AnsweringDesk<'_, S> {
     ghost use Rattle.std.specs.Prelude.{◌≡◌};
     ghost use Rattle.office_http.specs.Replying.{Answered};
 
@@ -58,6 +58,6 @@ pub fn serve<R: Read, W: Write, S: Alter>(
     let Ok(routes) = Routes::new(alloc) else {
         return Err(ServeFault::NoMemory);
     };
-    let mut machine = Lent { desk, routes };
+    let mut machine = AnsweringDesk { desk, routes };
     office_messages::serve(alloc, reader, writer, &mut machine, turns)
 }
