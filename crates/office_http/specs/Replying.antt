@@ -1,0 +1,38 @@
+-- What the office replies to a request.
+use Rattle.std.specs.Prelude.{◌≡◌, ◌⊎◌, true, Result, Ok, Err}
+use Rattle.sqlite.specs.Held.{Held, state}
+use Rattle.sqlite.specs.State.{HasCleanDisk}
+use Rattle.sqlite.specs.Store.{Ghosts}
+use Rattle.office_messages.specs.Reply.{PlainReply, unavailable}
+use Rattle.office_messages.specs.Stream.{PlainRequest}
+use Rattle.office_requests.specs.Requests.{PlainAsked, reading, refusal_reply}
+use Rattle.office_requests.specs.declared.requests.Refusal.{Refusal}
+use Rattle.office_model.specs.Answers.{PlainAnswer, shows}
+use Rattle.office_model.specs.Office.{OfficeState}
+use Rattle.office_model.specs.Step.{Steps}
+use Rattle.office_replies.specs.Replies.{reply_to}
+use Rattle.office_store.specs.Running.{Now}
+
+-- what a message asks for is one step of the office, whose answer is the reply; what asks for
+-- nothing is refused, and the office stays
+abbrev pub RepliesTo : Result PlainAsked Refusal → OfficeState → PlainReply → OfficeState → Type 0
+RepliesTo (Ok asked) old reply new =
+    (answer : PlainAnswer) × Steps old asked.caller asked.command answer new
+    × (reply ≡ reply_to answer)
+RepliesTo (Err refusal) old reply new = (new ≡ old) × (reply ≡ refusal_reply refusal)
+
+-- the office replies so to a request, and goes on to the other
+abbrev pub Replies : OfficeState → PlainRequest → PlainReply → OfficeState → Type 0
+Replies old request reply new =
+    RepliesTo (reading request.method request.target request.caller request.body) old reply new
+
+-- the reply of an answer; where memory for what is to be shown runs out, the reply that says so
+abbrev pub IsReplyOf : PlainAnswer → PlainReply → Type 0
+IsReplyOf answer reply = (reply ≡ reply_to answer) ⊎ ((shows answer ≡ true) × (reply ≡ unavailable))
+
+-- the office that a file stands for replies so, over a disk that returns what was written
+pub record Answered {S : Type 0} (store : Ghosts S) (old : Held S) (request : PlainRequest)
+    (reply : PlainReply) (new : Held S) : Type 0 where
+  pub clean : HasCleanDisk (state store new) → HasCleanDisk (state store old)
+  pub step : HasCleanDisk (state store new) → (office : OfficeState) → Now (state store old) office
+      → (next : OfficeState) × Replies office request reply next × Now (state store new) next

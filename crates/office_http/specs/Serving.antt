@@ -1,0 +1,32 @@
+-- A connection to the office, from its first message to its end.
+use Rattle.std.specs.Prelude.{ℕ, List, Option, IfSome}
+use Rattle.std.specs.Io.KnownBytes.{Appends}
+use Rattle.sqlite.specs.Held.{Held, state}
+use Rattle.sqlite.specs.State.{State, HasCleanDisk}
+use Rattle.sqlite.specs.Store.{Ghosts}
+use Rattle.office_messages.specs.Serve.{Item, Begins, BreaksOff, Serves, Told}
+use Rattle.office_messages.specs.declared.connection.Served.{Served}
+use Rattle.office_messages.specs.declared.connection.ServeFault.{ServeFault}
+use Rattle.office_messages.specs.declared.connection.ServeFault.TheVariants.{Write}
+use Rattle.office_model.specs.Office.{OfficeState}
+use Rattle.office_http.specs.Replying.{Replies}
+use Rattle.office_store.specs.Running.{Now}
+
+-- a front of the stream's messages was answered: the replies are those of the office; where the
+-- writer failed all but the last went out whole, and the last command stands too
+abbrev pub AnswersFront : Option (List ℕ) → Option (List ℕ) → Option (List ℕ) → ServeFault
+    → OfficeState → OfficeState → Type 0
+AnswersFront input before after Write old new =
+    (items : List Item) × (output : List ℕ) × IfSome input (Begins items 0)
+    × BreaksOff Replies input before after items output old new
+AnswersFront input before after fault old new =
+    (items : List Item) × (output : List ℕ) × IfSome input (Begins items 0)
+    × Told Replies items old output new × Appends before after output
+
+-- whatever office stands before, one that it leads to stands afterwards, over a disk that returns
+-- what was written
+abbrev pub Leads : {S : Type 0} → Ghosts S → (OfficeState → OfficeState → Type 0) → Held S → Held S
+    → Type 0
+Leads store LeadsTo old new =
+    HasCleanDisk (state store new) → (office : OfficeState) → Now (state store old) office
+    → (next : OfficeState) × LeadsTo office next × Now (state store new) next

@@ -1,0 +1,11 @@
+//! The office over messages: requests are answered by the desk, connection by connection.
+#![tactic(auto)]
+
+mod answers;
+mod replying;
+mod serving;
+
+pub use office_desk::{Desk, Office, Refusal, StoreFault};
+pub use office_requests::{End, Request, Reply, Routes, ServeFault, Served};
+pub use replying::reply;
+pub use serving::{AnsweringDesk, serve};

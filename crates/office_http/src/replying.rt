@@ -1,0 +1,40 @@
+// One request.
+ghost use Rattle.sqlite.specs.Held.{state};
+ghost use Rattle.office_messages.specs.Heads.{plain_request};
+ghost use Rattle.office_messages.specs.Reply.{plain_reply};
+ghost use Rattle.office_http.specs.Replying.{Answered};
+
+use crate::answers::answer_reply;
+use office_desk::Desk;
+use office_messages::{Reply, Request, unavailable};
+use office_replies::reply_room;
+use office_requests::{Asked, Routes, read_request};
+use sqlite::Alter;
+use std::alloc::Global;
+
+/// Replies to a request: it is read, the desk runs its command, and the answer is put into words.
+/// Where memory runs out nothing is done, and the reply says that the office is unavailable; a
+/// change that was made is never answered so.
+pub fn reply<S: Alter>(
+    alloc: Global,
+    routes: &Routes,
+    desk: &mut Desk<S>,
+    request: &Request<'_>,
+) -> Reply
+    ensures { Answered S.Store desk.old (plain_request request.now) (plain_reply result) desk.new }
+{
+    match read_request(alloc, routes, request) {
+        Ok(asked) => asked_reply(alloc, desk, &asked),
+        Err(refusal) => refusal.reply(),
+    }
+}
+
+// The reply to what is asked for. The room for it is there before anything is done.
+fn asked_reply<S: Alter>(alloc: Global, desk: &mut Desk<S>, asked: &Asked<'_>) -> Reply
+{
+    let Ok(room) = reply_room(alloc) else {
+        return unavailable();
+    };
+    let answer = desk.run(alloc, asked.caller, &asked.command);
+    answer_reply(alloc, room, answer)
+}

@@ -1,0 +1,63 @@
+// One connection.
+ghost use Rattle.std.specs.Prelude.{◌≡◌, ◌≤◌, IfErr, IfOk};
+ghost use Rattle.sqlite.specs.Held.{state};
+ghost use Rattle.sqlite.specs.State.{HasCleanDisk};
+ghost use Rattle.office_messages.specs.Serve.{Serves};
+ghost use Rattle.office_http.specs.Replying.{Replies};
+ghost use Rattle.office_http.specs.Serving.{AnswersFront, Leads};
+
+use crate::replying::reply;
+use office_desk::Desk;
+use office_messages::{Machine, Reply, Request, ServeFault, Served};
+use office_requests::Routes;
+use sqlite::Alter;
+use std::alloc::Global;
+use std::io::{Read, Write};
+
+/// A desk that answers the messages of connections, by a table of routes.
+#[derive(Drop)]
+pub struct AnsweringDesk<'a, S: Alter> {
+    pub desk: &'a mut Desk<S>,
+    pub routes: Routes,
+}
+
+impl<S: Alter> Machine for AnsweringDesk<'_, S> {
+    ghost use Rattle.std.specs.Prelude.{◌≡◌};
+    ghost use Rattle.office_http.specs.Replying.{Answered};
+
+    ghost Answers = { λ old request reply new.
+        (new.desk.ghost_name ≡ old.desk.ghost_name)
+        × Answered S.Store old.desk.now request reply new.desk.now };
+
+    fn answer(&mut self, alloc: Global, request: &Request<'_>) -> Reply {
+        reply(alloc, &self.routes, self.desk, request)
+    }
+}
+
+/// Serves a connection to the office: its messages are answered one after another, each before the
+/// next is read. A turn is one call of `read`; those used are taken from `turns`.
+pub fn serve<R: Read, W: Write, S: Alter>(
+    alloc: Global,
+    reader: &mut R,
+    writer: &mut W,
+    desk: &mut Desk<S>,
+    turns: &mut u64,
+) -> Result<Served, ServeFault>
+    // The bytes are those of the office on the messages of the whole stream, in whatever pieces it
+    // came, and the file stands for the office after them.
+    ensures ok { IfOk result (λ served. Leads S.Store
+        (λ office next. Serves Replies (R.remaining reader.old) (W.contents writer.old)
+        (W.contents writer.new) office next served) desk.old desk.new) }
+    ensures err { IfErr result (λ fault. Leads S.Store
+        (AnswersFront (R.remaining reader.old) (W.contents writer.old) (W.contents writer.new) fault)
+        desk.old desk.new) }
+    ensures clean { HasCleanDisk (state S.Store desk.new) → HasCleanDisk (state S.Store desk.old) }
+    ensures spent { IfErr result (λ fault. fault ≡ ServeFault.TooMany → turns.new ≡ 0) }
+    ensures turns { turns.new ≤ turns.old }
+{
+    let Ok(routes) = Routes::new(alloc) else {
+        return Err(ServeFault::NoMemory);
+    };
+    let mut machine = AnsweringDesk { desk, routes };
+    office_messages::serve(alloc, reader, writer, &mut machine, turns)
+}

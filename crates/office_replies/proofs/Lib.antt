@@ -1,0 +1,2 @@
+mod LengthLemmas
+mod FloatLemmas

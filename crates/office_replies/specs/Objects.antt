@@ -1,0 +1,53 @@
+-- Small objects of JSON as texts.
+use Rattle.std.specs.Prelude.{ℕ, ◌≤◌, ◌++◌, ◌∷◌, [], List, length, codes, decimal}
+use Rattle.std.specs.List.{flat_map}
+use Rattle.office_replies.specs.declared.objects.Member.{Member}
+use Rattle.office_replies.specs.declared.objects.Says.{Says}
+use Rattle.office_replies.specs.declared.objects.Says.TheVariants.{Number, Word}
+
+-- a key, and the text of what it says
+pub record PlainMember : Type 0 where
+  pub key : List ℕ
+  pub says : List ℕ
+
+-- a word between quotes
+abbrev pub quoted : List ℕ → List ℕ
+quoted word = codes "\"" ++ word ++ codes "\""
+
+-- a member that is a number, or a word
+abbrev pub number : List ℕ → ℕ → PlainMember
+number key n = record { key = key; says = decimal n }
+
+abbrev pub word : List ℕ → List ℕ → PlainMember
+word key w = record { key = key; says = quoted w }
+
+unfoldable pub member_text : PlainMember → List ℕ
+member_text m = quoted m.key ++ codes ":" ++ m.says
+
+-- one more member, behind a comma
+abbrev pub further_text : PlainMember → List ℕ
+further_text m = codes "," ++ member_text m
+
+-- an object of these members, in this order
+abbrev pub object_text : PlainMember → List PlainMember → List ℕ
+object_text first others =
+    codes "{" ++ member_text first ++ flat_map further_text others ++ codes "}"
+
+-- ---- as the program holds them
+
+abbrev pub said_text : Says → List ℕ
+said_text (Number n) = decimal n
+said_text (Word w) = quoted w.now
+
+abbrev pub plain_member : Member → PlainMember
+plain_member m = record { key = m.key.now; says = said_text m.says }
+
+-- a word of at most 16 bytes
+abbrev pub IsShortSaid : Says → Type 0
+IsShortSaid (Number n) = Unit {0}
+IsShortSaid (Word w) = length w.now ≤ 16
+
+-- so are a member's key and its word
+pub record IsShort (m : Member) : Type 0 where
+  pub key : length m.key.now ≤ 16
+  pub says : IsShortSaid m.says

@@ -1,0 +1,62 @@
+// Replies to changes that were made: they take no memory but the room that was made before.
+ghost use Rattle.std.specs.Prelude.{◌≡◌, ◌≤◌, vec_capacity};
+ghost use Rattle.office_messages.specs.Reply.{plain_reply, json_reply};
+ghost use Rattle.office_replies.specs.Replies.{dropped_text, loaded_text, owner_text, penalty_text};
+
+use crate::objects::{REPLY_ROOM, number, object_reply};
+use exam_terms::ExamNo;
+use office_messages::{Reply, Status};
+use office_model::Loaded;
+
+/// The reply to a load: how much was loaded.
+pub fn loaded_reply(room: Vec<u8>, loaded: Loaded) -> Reply
+    requires { REPLY_ROOM ≤ vec_capacity room }
+    ensures { plain_reply result ≡ json_reply Status.Created (loaded_text loaded) }
+{
+    let first = number(b"exams", u64::from(loaded.exams));
+    let pairs = number(b"pairs", u64::from(loaded.pairs));
+    let periods = number(b"periods", u64::from(loaded.periods));
+    let rooms = number(b"rooms", u64::from(loaded.rooms));
+    object_reply(room, Status::Created, first, &[pairs, periods, rooms])
+}
+
+/// The reply where a department owns an exam now; 0 is none.
+pub fn owner_reply(room: Vec<u8>, exam: ExamNo, dept: u32) -> Reply
+    requires { REPLY_ROOM ≤ vec_capacity room }
+    ensures { plain_reply result ≡ json_reply Status.Done (owner_text exam dept) }
+{
+    let first = number(b"dept", u64::from(dept));
+    object_reply(
+        room,
+        Status::Done,
+        first,
+        &[number(b"exam", u64::from(exam.get()))],
+    )
+}
+
+/// The reply where a draft is new: its penalty.
+pub fn new_draft_reply(room: Vec<u8>, draft: u32, penalty: u64) -> Reply
+    requires { REPLY_ROOM ≤ vec_capacity room }
+    ensures { plain_reply result ≡ json_reply Status.Created (penalty_text draft penalty) }
+{
+    let first = number(b"draft", u64::from(draft));
+    object_reply(room, Status::Created, first, &[number(b"penalty", penalty)])
+}
+
+/// The reply where a draft is edited: its penalty now.
+pub fn edited_reply(room: Vec<u8>, draft: u32, penalty: u64) -> Reply
+    requires { REPLY_ROOM ≤ vec_capacity room }
+    ensures { plain_reply result ≡ json_reply Status.Done (penalty_text draft penalty) }
+{
+    let first = number(b"draft", u64::from(draft));
+    object_reply(room, Status::Done, first, &[number(b"penalty", penalty)])
+}
+
+/// The reply where a draft is gone.
+pub fn dropped_reply(room: Vec<u8>, draft: u32) -> Reply
+    requires { REPLY_ROOM ≤ vec_capacity room }
+    ensures { plain_reply result ≡ json_reply Status.Done (dropped_text draft) }
+{
+    let first = number(b"draft", u64::from(draft));
+    object_reply(room, Status::Done, first, &[])
+}

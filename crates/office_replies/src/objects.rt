@@ -1,0 +1,157 @@
+// Small objects of JSON, put together in room that was made before a command ran: so a change that
+// was made is answered, however little memory is left.
+ghost use Rattle.std.specs.Prelude.{◌≡◌, ◌+◌, ◌≤◌, ◌<◌, ◌++◌, All, IfOk, length, decimal};
+ghost use Rattle.std.specs.Prelude.{map, vec_len, vec_capacity};
+ghost use Rattle.office_messages.specs.Reply.{plain_reply, json_reply};
+ghost use Rattle.office_replies.specs.Objects.{IsShort, IsShortSaid, member_text, object_text};
+ghost use Rattle.office_replies.specs.Objects.{plain_member, quoted, said_text};
+
+use itoa::Buffer;
+use office_messages::{Content, Payload, Reply, Status};
+use std::alloc::{AllocError, Global};
+
+/// The bytes kept for a reply to a change.
+pub const REPLY_ROOM: usize = 256;
+
+/// A member of an object.
+#[derive(Clone, Copy)]
+pub(crate) struct Member {
+    pub(crate) key: &'static [u8],
+    pub(crate) says: Says,
+}
+
+/// What a member says. A word has no character that JSON escapes.
+#[derive(Clone, Copy)]
+pub(crate) enum Says {
+    Number(u64),
+    Word(&'static [u8]),
+}
+
+/// Room for a reply to a change.
+pub fn reply_room(alloc: Global) -> Result<Vec<u8>, AllocError>
+    ensures { IfOk result (λ room. REPLY_ROOM ≤ vec_capacity room) }
+{
+    Vec::with_capacity(alloc, REPLY_ROOM)
+}
+
+// A member that is a number.
+pub(crate) fn number(key: &'static [u8], number: u64) -> Member
+    ensures { result ≡ record { key = key.entry; says = Says.Number number } }
+{
+    Member {
+        key,
+        says: Says::Number(number),
+    }
+}
+
+// A member that is a word.
+pub(crate) fn word(key: &'static [u8], word: &'static [u8]) -> Member
+    ensures { result ≡ record { key = key.entry; says = Says.Word word.entry } }
+{
+    Member {
+        key,
+        says: Says::Word(word),
+    }
+}
+
+// The reply with an object of up to four members, in the room that was made for it.
+pub(crate) fn object_reply(room: Vec<u8>, status: Status, first: Member, others: &[Member]) -> Reply
+    requires room { REPLY_ROOM ≤ vec_capacity room }
+    requires few { length others.now ≤ 3 }
+    requires first { IsShort first }
+    requires others { All IsShort others.now }
+    ensures { plain_reply result
+        ≡ json_reply status (object_text (plain_member first) (map plain_member others.now)) }
+{
+    let mut room = room;
+    put_object(&mut room, first, others);
+    Reply {
+        status,
+        allow: None,
+        content: Content::Json,
+        body: Payload::Made(room),
+    }
+}
+
+// Puts an object of up to four members into the room, in place of what was there.
+fn put_object(room: &mut Vec<u8>, first: Member, others: &[Member])
+    requires room { REPLY_ROOM ≤ vec_capacity room.old }
+    requires few { length others.now ≤ 3 }
+    requires first { IsShort first }
+    requires others { All IsShort others.now }
+    ensures { room.new.items
+        ≡ object_text (plain_member first) (map plain_member others.now) }
+{
+    room.clear();
+    put(room, b"{");
+    put_member(room, first);
+    for member in others {
+        put(room, b",");
+        put_member(room, *member);
+    }
+    put(room, b"}");
+}
+
+// Adds a member, for which there is room.
+#[tactic(auto, unfolding(crate::specs::Objects::member_text))]
+fn put_member(room: &mut Vec<u8>, member: Member)
+    requires short { IsShort member }
+    requires room { vec_len room.old + 45 ≤ vec_capacity room.old }
+    ensures text { room.new.items ≡ room.old.items ++ member_text (plain_member member) }
+    ensures len { vec_len room.new ≤ vec_len room.old + 45 }
+    ensures room { vec_capacity room.old ≤ vec_capacity room.new }
+{
+    put(room, b"\"");
+    put(room, member.key);
+    put(room, b"\":");
+    put_said(room, member.says);
+}
+
+// Adds what a member says, for which there is room.
+fn put_said(room: &mut Vec<u8>, says: Says)
+    requires short { IsShortSaid says }
+    requires room { vec_len room.old + 20 ≤ vec_capacity room.old }
+    ensures text { room.new.items ≡ room.old.items ++ said_text says }
+    ensures len { vec_len room.new ≤ vec_len room.old + 20 }
+    ensures room { vec_capacity room.old ≤ vec_capacity room.new }
+{
+    match says {
+        Says::Number(number) => put_number(room, number),
+        Says::Word(word) => put_word(room, word),
+    }
+}
+
+// Adds a number in decimal, for which there is room.
+#[tactic(auto, using(crate::proofs::LengthLemmas::decimal_is_short))]
+fn put_number(room: &mut Vec<u8>, number: u64)
+    requires room { vec_len room.old + 20 ≤ vec_capacity room.old }
+    ensures text { room.new.items ≡ room.old.items ++ decimal number }
+    ensures len { vec_len room.new ≤ vec_len room.old + 20 }
+    ensures room { vec_capacity room.old ≤ vec_capacity room.new }
+{
+    let mut digits = Buffer::new();
+    put(room, digits.format(number).as_bytes());
+}
+
+// Adds a word between quotes, for which there is room.
+fn put_word(room: &mut Vec<u8>, word: &[u8])
+    requires short { length word.now ≤ 16 }
+    requires room { vec_len room.old + 20 ≤ vec_capacity room.old }
+    ensures text { room.new.items ≡ room.old.items ++ quoted word.now }
+    ensures len { vec_len room.new ≤ vec_len room.old + 20 }
+    ensures room { vec_capacity room.old ≤ vec_capacity room.new }
+{
+    put(room, b"\"");
+    put(room, word);
+    put(room, b"\"");
+}
+
+// Adds a text, for which there is room.
+fn put(room: &mut Vec<u8>, text: &[u8])
+    requires { vec_len room.old + length text.now ≤ vec_capacity room.old }
+    ensures text { room.new.items ≡ room.old.items ++ text.now }
+    ensures len { vec_len room.new ≡ vec_len room.old + length text.now }
+    ensures room { vec_capacity room.old ≤ vec_capacity room.new }
+{
+    room.extend_from_slice(text).unwrap();
+}
