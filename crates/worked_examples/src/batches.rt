@@ -38,11 +38,23 @@ fn a_batch_is_read_record_by_record(rt: HostRuntime) -> Result<(), Fail> {
     let twice = [(1, 1, true), (1, 1, true), (9, 2, false)];
     let none: [(u32, u32, bool); 0] = [];
     let cases = [
-        (b"student,exam,action\n1,1,add\n1,1,add\n9,2,drop".as_slice(), twice.as_slice()),
+        (
+            b"student,exam,action\n1,1,add\n1,1,add\n9,2,drop".as_slice(),
+            twice.as_slice(),
+        ),
         (b"student,exam,action\n1,1,add\n1,1,add\n9,2,drop\n", &twice),
-        (b"student,exam,action\r\n1,1,add\r\n\r\n1,1,add\r\n9,2,drop\r\n\r\n", &twice),
-        (b" Student,EXAM\t, action ,\n 1 ,\t1,ADD\n01,0001, Add,\n9,2,dRoP", &twice),
-        (b"\"student\",exam,action\n\"1\",1,\"add\"\n1,\" 1\",add\n9,2,drop", &twice),
+        (
+            b"student,exam,action\r\n1,1,add\r\n\r\n1,1,add\r\n9,2,drop\r\n\r\n",
+            &twice,
+        ),
+        (
+            b" Student,EXAM\t, action ,\n 1 ,\t1,ADD\n01,0001, Add,\n9,2,dRoP",
+            &twice,
+        ),
+        (
+            b"\"student\",exam,action\n\"1\",1,\"add\"\n1,\" 1\",add\n9,2,drop",
+            &twice,
+        ),
         (b"student,exam,action", &none),
     ];
     for (text, wanted) in cases {
@@ -64,14 +76,26 @@ fn the_first_fault_of_a_batch_is_answered(rt: HostRuntime) -> Result<(), Fail> {
         (b"student,exam\n1,1,add", 1, FaultKind::BadHeader),
         (b"student,exam,action\nx,2000,move", 2, FaultKind::BadNumber),
         (b"student,exam,action\n,1,add", 2, FaultKind::BadNumber),
-        (b"student,exam,action\n1000000000,x,add", 2, FaultKind::OutOfRange),
+        (
+            b"student,exam,action\n1000000000,x,add",
+            2,
+            FaultKind::OutOfRange,
+        ),
         (b"student,exam,action\n1,-1,add", 2, FaultKind::BadNumber),
-        (b"student,exam,action\n1,2000,move", 2, FaultKind::OutOfRange),
+        (
+            b"student,exam,action\n1,2000,move",
+            2,
+            FaultKind::OutOfRange,
+        ),
         (b"student,exam,action\n1,1,move,x", 2, FaultKind::BadWord),
         (b"student,exam,action\n1,1", 2, FaultKind::BadWord),
         (b"student,exam,action\n1,1,add,x", 2, FaultKind::StrayText),
         (b"student,exam,action\n1,1,add,,", 2, FaultKind::StrayText),
-        (b"student,exam,action\n\n1,1,add\n\n1,1,", 3, FaultKind::BadWord),
+        (
+            b"student,exam,action\n\n1,1,add\n\n1,1,",
+            3,
+            FaultKind::BadWord,
+        ),
     ];
     for (text, line, what) in cases {
         let found = read_batch(rt.alloc(), text).err();
