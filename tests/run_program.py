@@ -103,6 +103,10 @@ def unloaded(name, database, instance, text):
     return Case(name, ("load", "--db", database, instance), 1, b"", b"examoffice: %s\n" % text)
 
 
+def served(database="served.db", port="0", connections="1", *more):
+    return ("serve", "--db", database, "--port", port, "--connections", connections, *more)
+
+
 def usage(name, *words):
     return Case(name, words, 2, b"", Holding())
 
@@ -167,11 +171,18 @@ CASES = [
     unloaded("a folder as database", "a folder", "small.exam", b"cannot open database"),
     unloaded("a file that is no database", "small.sol", "small.exam", b"cannot open database"),
     unloaded("a database in memory", ":memory:", "small.exam", b"cannot open database"),
+    Case("a server of a database in no folder", served("none/none.db"), 1, b"",
+         b"examoffice: cannot open database\n"),
+    Case("a server of a file that is no database", served("small.sol"), 1, b"",
+         b"examoffice: cannot open database\n"),
+    Case("a server that is told to a full device", served(), 1, b"",
+         b"examoffice: cannot write\n", "/dev/full"),
     Case("words that are no texts", (b"check\xff",), 2, b"",
          b"error: the words are not all UTF-8\n"),
     Case("help", ("--help",), 0, Holding(b"check"), b""),
     Case("help names the load", ("--help",), 0, Holding(b"load"), b""),
     Case("help for the load", ("load", "--help"), 0, Holding(b"--db <FILE>"), b""),
+    Case("help for the server", ("serve", "--help"), 0, Holding(b"--patience <SECONDS>"), b""),
     Case("help for the check", ("check", "--help"), 0, Holding(b"check"), b""),
     usage("no words"),
     usage("an unknown command", "frobnicate"),
@@ -182,6 +193,15 @@ CASES = [
     usage("a load into no database", "load", "small.exam"),
     usage("a load of no instance", "load", "--db", "none.db"),
     usage("a load into two databases", "load", "--db", "a.db", "--db", "b.db", "small.exam"),
+    usage("a server of no database", "serve", "--port", "0", "--connections", "1"),
+    usage("a server on no port", "serve", "--db", "served.db", "--connections", "1"),
+    usage("a server without end", "serve", "--db", "served.db", "--port", "0"),
+    usage("a server on a port beyond the last", *served(port="65536")),
+    usage("a server on no number", *served(port="http")),
+    usage("a server of no connection", *served(connections="0")),
+    usage("a server of too many connections", *served(connections="1000001")),
+    usage("a server of no patience", *served("served.db", "0", "1", "--patience", "0")),
+    usage("a server of too much patience", *served("served.db", "0", "1", "--patience", "86401")),
     usage("a check with an unknown option", "check", "--frobnicate", "small.exam", "small.sol"),
 ]
 

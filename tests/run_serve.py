@@ -399,6 +399,20 @@ def failing_reader_and_writer(run):
               (first, second, third, *office.ended()))
 
 
+def port_is_taken(run):
+    """A second office cannot listen on the port of the first."""
+    office = run.office(connections=1)
+    words = [run.program, "serve", "--db", str(run.folder / "other.db"), "--port",
+             str(office.port), "--connections", "1"]
+    done = subprocess.run(words, stdin=subprocess.DEVNULL, capture_output=True, timeout=SECONDS,
+                          check=False)
+    with office.connect() as client:
+        got = asked(client, message("GET", "/drafts/1"), error(404, "draft"))
+    run.judge("a port that is taken",
+              (1, b"", b"examoffice: cannot listen\n", error(404, "draft"), (0, b"")),
+              (done.returncode, done.stdout, done.stderr, got, office.ended()))
+
+
 def trickle(act, seconds, times):
     """Acts so often, so many seconds apart, until it fails."""
     with contextlib.suppress(OSError):
@@ -567,7 +581,8 @@ def main():
     program = str(pathlib.Path(given.program).resolve())
     with tempfile.TemporaryDirectory() as folder:
         run = Run(program, folder)
-        tests = [worked_examples, stock_curl, many_connections, failing_reader_and_writer]
+        tests = [worked_examples, stock_curl, many_connections, failing_reader_and_writer,
+                 port_is_taken]
         if not given.plain:
             tests += [last_message, long_message, slow_clients, patient_client]
         for test in tests:
