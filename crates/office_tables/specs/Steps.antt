@@ -86,6 +86,17 @@ pub record Keeps (old new : State) : Type 0 where
   pub committed : IsTrue new.is_open → new.committed ≡ old.committed
   pub mode : old.in_transaction ≡ false → new.in_transaction ≡ false
 
+-- of a connection: on a clean disk, what answers Ok was open
+abbrev pub AnswersOpen : {S X : Type 0} → Ghosts S → Held S → Held S → Result X Error → Type 0
+AnswersOpen store old new result =
+    HasCleanDisk (state store new) → OnOk result (IsTrue (state store old).is_open)
+
+-- and what is open afterwards was
+abbrev pub OpensNone : {S : Type 0} → Ghosts S → Held S → Held S → Type 0
+OpensNone store old new =
+    HasCleanDisk (state store new)
+    → IsTrue (state store new).is_open → IsTrue (state store old).is_open
+
 -- the same of a connection: on a clean disk, where the tables stand, what is answered is so
 abbrev pub Reads : {S X : Type 0} → Ghosts S → (Tables → X → Type 0)
     → Held S → Held S → Result X Error → Type 0
