@@ -2,7 +2,7 @@
 use Rattle.std.proofs.Common.{◌≡◌, Some, None, refl, sym, ◌∙◌, ap, subst, IsTrue, inl, inr}
 use Rattle.exam_model.specs.Enrolments.{Enrolled}
 use Rattle.exam_model.specs.Instance.{Session}
-use Rattle.sqlite.specs.State.{State, HasCleanDisk}
+use Rattle.sqlite.specs.State.{State, HasCleanDisk, IsUnchanged}
 use Rattle.office_tables.specs.Steps.{Keeps}
 use Rattle.office_tables.specs.Tables.{Tables, Stands as Held}
 use Rattle.office_records.specs.Office.{OfficeState, Records}
@@ -69,18 +69,40 @@ kept_of (Some r) I E h = record {
     some_is : {X : Type 0} {x y : X} → Some x ≡ Some y → x ≡ y
     some_is e = cc
 
--- ---- a reader, of a file that can be read
+-- ---- a reader of one table, which opens no store
 
-pub now_read : (a b : State) (o : OfficeState) → IsAwake a → IsKept a.now o
-    → ((t : Tables) → Held a.now t → Keeps a b) → Now b o
-now_read a b o awake kept reads opened =
-    let still = still_kept a b (λ _. awake.1) (reads kept.held kept.tables) opened in
-    subst (λ db. IsKept db o) (sym still.1) kept
+-- all that was written had been committed; the reader leaves the tables, or what was committed
+module _ (a b : State) (m : Memory) (rest : IsAtRest a m) (clean : HasCleanDisk b → HasCleanDisk a)
+    (settled : IsTrue a.is_open → a.now ≡ a.committed) where
+  now_read : (o : OfficeState) → ((t : Tables) → Held a.now t → Keeps a b) → IsKept a.now o → Now b o
+  now_read o reads kept opened =
+      let still = still_kept a b settled (reads kept.held kept.tables) opened in
+      subst (λ db. IsKept db o) (sym still.1) kept
 
-pub rest_read : (a b : State) (m : Memory) → IsAtRest a m → (HasCleanDisk b → HasCleanDisk a)
-    → (HasCleanDisk b → IsAwake a) → (HasCleanDisk b → (t : Tables) → Held a.now t → Keeps a b)
-    → IsAtRest b m
-rest_read a b m rest clean awake reads is_clean opened =
-    let woken = awake is_clean in
-    let here = rest (clean is_clean) woken.0 in
-    (here.0, now_read a b here.0 woken here.1 (reads is_clean) opened, here.2)
+  module _ (was_open : HasCleanDisk b → IsTrue b.is_open → IsTrue a.is_open)
+      (reads : HasCleanDisk b → (t : Tables) → Held a.now t → Keeps a b) where
+    pub rest_read : IsAtRest b m
+    rest_read is_clean opened =
+        let here = rest (clean is_clean) (was_open is_clean opened) in
+        (here.0, now_read here.0 (reads is_clean) here.1 opened, here.2)
+
+    pub stays_read : HasCleanDisk b → (o : OfficeState) → Now a o → Now b o
+    stays_read is_clean o now opened =
+        now_read o (reads is_clean) (now (was_open is_clean opened)) opened
+
+  -- it has answered
+  module _ (was_open : HasCleanDisk b → IsTrue a.is_open)
+      (same : HasCleanDisk b → (t : Tables) → Held a.now t → IsUnchanged a b) where
+    unchanged_read : HasCleanDisk b → IsUnchanged a b
+    unchanged_read is_clean =
+        let here = rest (clean is_clean) (was_open is_clean) in
+        same is_clean here.1.held here.1.tables
+
+    pub awake_read : HasCleanDisk b → IsAwake b
+    awake_read is_clean =
+        let is = (unchanged_read is_clean).0 in
+        (is.is_open, is.now_is ∙ settled (was_open is_clean) ∙ sym is.committed_is)
+
+    -- what stands now stood before
+    pub kept_read : HasCleanDisk b → (o : OfficeState) → IsKept b.now o → IsKept a.now o
+    kept_read is_clean o = subst (λ db. IsKept db o) (unchanged_read is_clean).0.now_is

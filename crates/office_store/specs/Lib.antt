@@ -5,3 +5,4 @@ pub mod Turning
 pub mod Running
 pub mod Reading
 pub mod Beginning
+pub mod Opening

@@ -79,7 +79,7 @@ impl<S: Alter> Office<S> {
         ensures clean { HasCleanDisk (state S.Store self.new)
             → HasCleanDisk (state S.Store self.old) }
     {
-        self.look()?;
+        let _at_rest = self.conn.is_autocommit(); // read for what it says of the last commit
         let rows = drafts_of(alloc, &mut self.conn, number)?;
         Ok(rows)
     }

@@ -7,6 +7,7 @@ mod editing;
 mod fault;
 mod loading;
 mod office;
+mod opening;
 mod owning;
 mod reading;
 mod transactions;

@@ -8,7 +8,7 @@ ghost use Rattle.office_records.specs.Office.{IsOffice, OfficeState, memory_of};
 ghost use Rattle.office_store.specs.Commands.{draft_in, draft_shown, session_shown};
 ghost use Rattle.office_records.specs.Stands.{IsKept, slot_rows};
 ghost use Rattle.office_store.specs.Reading.{AreRowsOf, shown};
-ghost use Rattle.office_store.specs.Running.{Does, IsAwake, IsStill, Now, Runs};
+ghost use Rattle.office_store.specs.Running.{Does, IsAwake, Now, Runs};
 
 use crate::drafting::draft_row;
 use crate::fault::StoreFault;
@@ -28,8 +28,9 @@ pub(crate) struct DraftRows {
 }
 
 impl<S: Alter> Office<S> {
-    /// The session with its live enrolments, as they are at hand: what the file says while it can be
-    /// read, which `look` asks. `NotLoaded`: there is none yet.
+    /// The session with its live enrolments, as they are at hand: what the file says while it can
+    /// be read, which `draft`, `owner` or `look` tell where they answer. `NotLoaded`: there is
+    /// none yet.
     pub fn session(&self) -> Result<(&Instance, &Enrolments), StoreFault>
         ensures shown { HasCleanDisk (state S.Store self.now)
             → IsTrue (state S.Store self.now).is_open → (office : OfficeState)
@@ -48,6 +49,9 @@ impl<S: Alter> Office<S> {
     /// number.
     pub fn draft(&mut self, alloc: Global, number: u32) -> Result<(Timetable, Parts), StoreFault>
         ensures runs { Runs S.Store (draft_shown number) self.old self.new result }
+        // What is at hand is then what the file says.
+        ensures awake { HasCleanDisk (state S.Store self.new)
+            → OnOk result (IsAwake (state S.Store self.new)) }
         ensures clean { HasCleanDisk (state S.Store self.new) → HasCleanDisk (state S.Store self.old) }
     {
         let found = self.draft_rows(alloc, number)?;
@@ -80,14 +84,14 @@ impl<S: Alter> Office<S> {
             → IsKept (state S.Store self.new).now office
             → IfOk result (λ rows.
             IsPermutation rows.items (slot_rows number (draft_in number office))) }
-        ensures still { HasCleanDisk (state S.Store self.new)
-            → IsStill (state S.Store self.old) (state S.Store self.new) }
+        ensures still { HasCleanDisk (state S.Store self.new) → (office : OfficeState)
+            → Now (state S.Store self.old) office → Now (state S.Store self.new) office }
         ensures awake { HasCleanDisk (state S.Store self.new)
             → OnOk result (IsAwake (state S.Store self.new)) }
         ensures fault { IfErr result (λ e. e ≡ StoreFault.Store) }
         ensures clean { HasCleanDisk (state S.Store self.new) → HasCleanDisk (state S.Store self.old) }
     {
-        self.look()?;
+        let _at_rest = self.conn.is_autocommit(); // read for what it says of the last commit
         let rows = slots_of(alloc, &mut self.conn, number)?;
         Ok(rows)
     }
