@@ -1,0 +1,43 @@
+-- What the office answers, without where its texts lie in memory.
+use Rattle.std.specs.Prelude.{ℕ, List}
+use Rattle.exam_model.specs.Timetable.{Placing}
+use Rattle.exam_score.specs.Penalty.{PersonalPenalty}
+use Rattle.office_policy.specs.declared.policy.Denial.{Denial}
+use Rattle.office_model.specs.Views.{ShownExam}
+use Rattle.office_model.specs.declared.counts.Counts.{Counts}
+use Rattle.office_model.specs.declared.counts.Loaded.{Loaded}
+use Rattle.office_model.specs.declared.counts.Published.{Published}
+use Rattle.office_model.specs.declared.fault.StoreFault.{StoreFault}
+
+pub data PlainAnswer : Type 0 where
+  -- a candidate, her exams and what they cost her; one of them; the cost alone; no exam of hers
+  my_exams : ℕ → List ShownExam → PersonalPenalty → PlainAnswer
+  my_one : ShownExam → PlainAnswer
+  my_cost : PersonalPenalty → PlainAnswer
+  not_mine : PlainAnswer
+  -- how much was loaded
+  now_loaded : Loaded → PlainAnswer
+  -- an instance, a solution or a report
+  text : List ℕ → PlainAnswer
+  -- an exam and the department that owns it now
+  now_owned : ℕ → ℕ → PlainAnswer
+  -- a draft that is new, or edited, and its penalty; one that is gone
+  now_drafted : ℕ → ℕ → PlainAnswer
+  now_edited : ℕ → ℕ → PlainAnswer
+  now_dropped : ℕ → PlainAnswer
+  -- a draft, its timetable and its penalty
+  shown_draft : ℕ → Placing → ℕ → PlainAnswer
+  -- a draft that is published now; nothing is published
+  now_published : ℕ → Published → PlainAnswer
+  unpublished : PlainAnswer
+  -- a batch and what its lines did
+  now_enrolled : ℕ → Counts → PlainAnswer
+  -- the policy denies the command
+  denied : Denial → PlainAnswer
+  -- the body is not of the form that is asked for, or too long
+  bad_body : PlainAnswer
+  long_body : PlainAnswer
+  -- the state of the office refuses the command
+  refused : StoreFault → PlainAnswer
+  -- nothing was done and nothing is told
+  unavailable : PlainAnswer

@@ -1,0 +1,108 @@
+-- What a batch of changes makes of the enrolments: its lines act in file order, and a batch acts once.
+use Rattle.std.specs.Prelude.{ℕ, ◌+◌, Bool, true, false, not, ◌&&◌, ◌==◌, nat_le, nat_lt, if◌then◌else◌, List, [], ◌∷◌, length, filter, Option, Some, None, Result, Ok, Err}
+use Rattle.std.specs.List.{find, list_all}
+use Rattle.exam_terms.specs.Refusing.{◌>>=◌, unless}
+use Rattle.exam_model.specs.declared.change.Change.{Change}
+use Rattle.exam_model.specs.Changes.{with_pair, without_pair}
+use Rattle.exam_model.specs.Enrolments.{Enrolled, has, pair_count}
+use Rattle.exam_draft.specs.Edits.{exam_exists}
+use Rattle.exam_draft.specs.declared.fault.EditFault.TheVariants.{NoSuch}
+use Rattle.office_batches.specs.BatchText.{batch_in}
+use Rattle.office_files.specs.declared.fault.FileFault.{FileFault}
+use Rattle.office_model.specs.Commands.{Gives, named, when_loaded}
+use Rattle.office_model.specs.Office.{OfficeState, Records, KeptBatch}
+use Rattle.office_model.specs.declared.counts.Counts.{Counts}
+use Rattle.office_model.specs.declared.fault.Refusal.TheVariants as refusal
+use Rattle.office_model.specs.declared.fault.StoreFault.{StoreFault}
+use Rattle.office_model.specs.declared.fault.StoreFault.TheVariants.{BatchDiffers, TooMany, Refused}
+
+-- ---- lines
+
+-- whether a line adds a pair that isn't there, or drops one that is
+abbrev pub acts : Change → Enrolled → Bool
+acts change E =
+    if change.add then not (has E change.student change.exam)
+    else has E change.student change.exam
+
+-- the enrolments after a line
+abbrev pub after_change : Change → Enrolled → Enrolled
+after_change change E =
+    if change.add then with_pair E change.student change.exam
+    else without_pair E change.student change.exam
+
+-- the enrolments after all lines, in file order
+abbrev pub after_changes : List Change → Enrolled → Enrolled
+after_changes [] E = E
+after_changes (change ∷ changes) E = after_changes changes (after_change change E)
+
+-- one more add, drop or neither
+abbrev pub counted : Change → Enrolled → Counts → Counts
+counted change E n =
+    if acts change E then
+    (if change.add then record n { added = n.added + 1 }
+    else record n { dropped = n.dropped + 1 })
+    else record n { unchanged = n.unchanged + 1 }
+
+abbrev pub no_counts : Counts
+no_counts = record { added = 0; dropped = 0; unchanged = 0 }
+
+-- the lines in file order, refused where the pairs pass the limit at any of them
+abbrev pub enrolled : List Change → Enrolled → Counts → Result (Counts × Enrolled) StoreFault
+enrolled [] E n = Ok (n, E)
+enrolled (change ∷ changes) E n = do
+  _ ← unless (nat_le (pair_count (after_change change E)) 200000) TooMany
+  enrolled changes (after_change change E) (counted change E n)
+
+-- ---- batches
+
+-- what was kept under a number
+abbrev pub kept_under : ℕ → List KeptBatch → Option KeptBatch
+kept_under number batches = find (λ b. b.no == number) batches
+
+-- whether two texts are the same bytes
+abbrev pub same_bytes : List ℕ → List ℕ → Bool
+same_bytes [] [] = true
+same_bytes [] (y ∷ ys) = false
+same_bytes (x ∷ xs) [] = false
+same_bytes (x ∷ xs) (y ∷ ys) = (x == y) && same_bytes xs ys
+
+-- a batch whose number isn't kept
+abbrev pub newly_enrolled : ℕ → List ℕ → List Change → Records → Gives Counts
+newly_enrolled number bytes changes r = do
+  _ ← unless (list_all (λ change. exam_exists r.session change.exam) changes)
+      (Refused (refusal.Edit NoSuch))
+  done ← enrolled changes r.enrolments no_counts
+  _ ← unless (nat_lt (length r.batches) 10000) TooMany
+  Ok (done.0, Some (record r {
+    enrolments = done.1;
+    batches = record { no = number; bytes = bytes; counts = done.0 } ∷ r.batches;
+  }))
+
+-- a batch whose number is kept has its first counts for the same bytes, and changes nothing
+abbrev pub enrolled_by : Option KeptBatch → ℕ → List ℕ → List Change → Records → Gives Counts
+enrolled_by None number bytes changes r = newly_enrolled number bytes changes r
+enrolled_by (Some kept) number bytes changes r = do
+  _ ← unless (same_bytes kept.bytes bytes) BatchDiffers
+  Ok (kept.counts, Some r)
+
+abbrev pub batch_enrolled : ℕ → List ℕ → OfficeState → Gives Counts
+batch_enrolled number bytes office = do
+  changes ← named (λ f. Refused (refusal.File f)) (batch_in bytes)
+  r ← when_loaded office
+  enrolled_by (kept_under number r.batches) number bytes changes r
+
+-- ---- whom a batch changes
+
+-- the lines that name a student
+abbrev pub changes_to : ℕ → List Change → List Change
+changes_to s changes = filter (λ change. change.student == s) changes
+
+-- the lines of a batch whose number isn't kept
+abbrev pub lines_if_new : Option KeptBatch → Result (List Change) FileFault → List Change
+lines_if_new None (Ok changes) = changes
+lines_if_new None (Err fault) = []
+lines_if_new (Some kept) read = []
+
+abbrev pub kept_in : OfficeState → ℕ → Option KeptBatch
+kept_in None number = None
+kept_in (Some r) number = kept_under number r.batches

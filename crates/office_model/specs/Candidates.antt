@@ -1,0 +1,29 @@
+-- What a candidate is told, by her view alone.
+use Rattle.std.specs.Prelude.{ℕ, ◌==◌, Option, Some, None}
+use Rattle.std.specs.List.{find}
+use Rattle.office_policy.specs.Commands.{PlainCommand, me, my_exam, my_penalty}
+use Rattle.office_policy.specs.declared.policy.Denial.TheVariants.{P1}
+use Rattle.office_model.specs.Answers.{PlainAnswer, my_exams, my_one, my_cost, not_mine, denied}
+use Rattle.office_model.specs.Views.{View, ShownExam, shown_exams, shown_penalty}
+
+-- what a candidate can ask for: all of her exams, one of them, or what they cost her
+pub data Asked : Type 0 where
+  whole cost : Asked
+  one : ℕ → Asked
+
+abbrev pub exam_answer : Option ShownExam → PlainAnswer
+exam_answer None = not_mine
+exam_answer (Some shown) = my_one shown
+
+-- the answer to a candidate; of an exam that isn't hers nothing is told, not even whether it exists
+abbrev pub told : ℕ → Asked → View → PlainAnswer
+told s whole view = my_exams s (shown_exams view) (shown_penalty view)
+told s (one n) view = exam_answer (find (λ shown. shown.exam == n) (shown_exams view))
+told s cost view = my_cost (shown_penalty view)
+
+-- the answer to any command of a candidate: to her three, and the denial of all others
+abbrev pub answer_to : ℕ → PlainCommand → View → PlainAnswer
+answer_to s me view = told s whole view
+answer_to s (my_exam n) view = told s (one n) view
+answer_to s my_penalty view = told s cost view
+answer_to s _ view = denied P1

@@ -1,0 +1,10 @@
+pub mod Office
+pub mod Commands
+pub mod Batches
+pub mod Publishing
+pub mod Views
+pub mod Answers
+pub mod Candidates
+pub mod Step
+pub mod Quiet
+pub mod Runs

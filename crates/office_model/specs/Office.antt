@@ -1,0 +1,86 @@
+-- The office: nothing, or the records of one examination session.
+use Rattle.std.specs.Prelude.{◌≡◌, ◌≢◌, ℕ, ◌<◌, ◌≤◌, ◌==◌, if◌then◌else◌, List, length, All, AllPairs, Option, Some, None, IsSome}
+use Rattle.exam_model.specs.Enrolments.{Enrolled, AreEnrolments, students}
+use Rattle.exam_model.specs.Fits.{Fits}
+use Rattle.exam_model.specs.Instance.{Session, IsInstance}
+use Rattle.exam_model.specs.Timetable.{Placing}
+use Rattle.exam_publish.specs.declared.seat_row.SeatRow.{SeatRow}
+use Rattle.exam_publish.specs.Permit.{least_breach}
+use Rattle.exam_publish.specs.Rows.{ArePublishedRows}
+use Rattle.exam_publish.specs.Seats.{AreSeated}
+use Rattle.exam_publish.specs.Shares.{enrolled_in}
+use Rattle.office_model.specs.declared.counts.Counts.{Counts}
+
+-- what is published: where each exam stands, and who sits where
+pub record Publication : Type 0 where
+  pub timetable : Placing
+  pub rows : List SeatRow
+
+-- a batch that was accepted, with what it counted
+pub record KeptBatch : Type 0 where
+  pub no : ℕ
+  pub bytes : List ℕ
+  pub counts : Counts
+
+-- what is kept of a loaded session; a department 0 is no owner
+pub record Records : Type 0 where
+  pub session : Session
+  pub owner_of : ℕ → ℕ
+  pub enrolments : Enrolled
+  pub draft : ℕ → Option Placing
+  pub published : Option Publication
+  pub batches : List KeptBatch
+
+-- before a load there is nothing
+abbrev pub OfficeState : Type 0
+OfficeState = Option Records
+
+-- a function with another value at one number
+abbrev pub set_at : {X : Type 0} → ℕ → X → (ℕ → X) → ℕ → X
+set_at k x f n = if n == k then x else f n
+
+-- the enrolments that a publication was made with: the pairs of its seat rows
+abbrev pub published_enrolments : Session → Publication → Enrolled
+published_enrolments I p = enrolled_in (length I.exams) p.rows
+
+-- ---- what every office keeps
+
+-- enrolments of this session's exams; a student's number has at most nine digits
+pub record AreEnrolled (I : Session) (E : Enrolled) : Type 0 where
+  pub set : AreEnrolments E
+  pub exams : length E ≡ length I.exams
+  pub students : (e : ℕ) → e < length E → All (λ s. s ≤ 999999999) (students E e)
+
+-- each exam has a place, no rule is broken with the enrolments of the rows, each row is at its
+-- exam's place, and each seat is one of its room and nobody else's
+pub record IsPublication (I : Session) (p : Publication) : Type 0 where
+  pub rows : ArePublishedRows I p.rows p.timetable
+  pub seated : AreSeated I p.rows
+  pub enrolled : AreEnrolled I (published_enrolments I p)
+  pub unbroken : least_breach I (published_enrolments I p) p.timetable ≡ None
+
+-- a batch within its limits
+pub record IsKeptBatch (b : KeptBatch) : Type 0 where
+  pub number : b.no ≤ 999999999
+  pub size : length b.bytes ≤ 1048576
+
+-- batches of different numbers, no more than are kept
+pub record AreKept (batches : List KeptBatch) : Type 0 where
+  pub few : length batches ≤ 10000
+  pub within : All IsKeptBatch batches
+  pub numbers : AllPairs (λ b c. b.no ≢ c.no) batches
+
+-- of a loaded office
+pub record AreRecords (r : Records) : Type 0 where
+  pub session : IsInstance r.session
+  pub enrolled : AreEnrolled r.session r.enrolments
+  pub departments : (e : ℕ) → r.owner_of e ≤ 999
+  pub owned : (e : ℕ) → r.owner_of e ≢ 0 → e < length r.session.exams
+  pub numbered : (d : ℕ) → IsSome (r.draft d) → (1 ≤ d) × (d ≤ 8)
+  pub drafts : (d : ℕ) (T : Placing) → r.draft d ≡ Some T → Fits r.session r.enrolments T
+  pub publication : (p : Publication) → r.published ≡ Some p → IsPublication r.session p
+  pub batches : AreKept r.batches
+
+abbrev pub IsOffice : OfficeState → Type 0
+IsOffice None = Unit {0}
+IsOffice (Some r) = AreRecords r

@@ -1,0 +1,42 @@
+-- Which requests are quiet for a candidate: those that leave her view as it was.
+use Rattle.std.specs.Prelude.{◌≡◌, ℕ, Bool, true, false, if◌then◌else◌, List, []}
+use Rattle.exam_model.specs.declared.change.Change.{Change}
+use Rattle.office_batches.specs.BatchText.{batch_in}
+use Rattle.office_policy.specs.Commands.{PlainCommand, batch}
+use Rattle.office_policy.specs.declared.command.Body.TheVariants.{Given}
+use Rattle.office_model.specs.Answers.{PlainAnswer, now_loaded, now_published, now_enrolled}
+use Rattle.office_model.specs.Batches.{changes_to, kept_in, lines_if_new}
+use Rattle.office_model.specs.Office.{OfficeState}
+
+-- an accepted load, publication or batch, by its answer
+abbrev pub is_load : PlainAnswer → Bool
+is_load (now_loaded counts) = true
+is_load _ = false
+
+abbrev pub is_publication : PlainAnswer → Bool
+is_publication (now_published d counts) = true
+is_publication _ = false
+
+abbrev pub is_batch : PlainAnswer → Bool
+is_batch (now_enrolled number counts) = true
+is_batch _ = false
+
+-- the changes that a command would newly make: those of a batch whose number isn't kept
+abbrev pub asked_changes : OfficeState → PlainCommand → List Change
+asked_changes old (batch number (Given bytes)) = lines_if_new (kept_in old number) (batch_in bytes)
+asked_changes old _ = []
+
+-- the changes that a request newly made, where it was answered so
+abbrev pub new_changes : OfficeState → PlainCommand → PlainAnswer → List Change
+new_changes old command answer = if is_batch answer then asked_changes old command else []
+
+-- neither an accepted load nor an accepted publication
+pub record KeepsPublication (answer : PlainAnswer) : Type 0 where
+  pub no_load : is_load answer ≡ false
+  pub no_publication : is_publication answer ≡ false
+
+-- neither of these, nor a newly accepted batch that names her
+pub record IsQuiet (s : ℕ) (old : OfficeState) (command : PlainCommand) (answer : PlainAnswer)
+    : Type 0 where
+  pub keeps : KeepsPublication answer
+  pub names_others : changes_to s (new_changes old command answer) ≡ []

@@ -1,0 +1,152 @@
+-- One step of the office: the policy is judged, then the body, then the state.
+use Rattle.std.specs.Prelude.{◌≡◌, ℕ, ◌⊎◌, List, Option, Some, None, option_map, Result, Ok, Err}
+use Rattle.exam_terms.specs.Refusing.{◌>>=◌, else_err}
+use Rattle.exam_model.specs.Enrolments.{Enrolled}
+use Rattle.exam_model.specs.Instance.{Session}
+use Rattle.exam_model.specs.Timetable.{Placing}
+use Rattle.exam_draft.specs.declared.edit.Edit.{Edit}
+use Rattle.exam_draft.specs.declared.edit.Edit.TheVariants as edit
+use Rattle.exam_rules.specs.Breaches.{breaches_of}
+use Rattle.exam_score.specs.Penalty.{total_of}
+use Rattle.exam_score.specs.Track.{track}
+use Rattle.office_files.specs.CanonicalText.{canonical_instance, canonical_solution}
+use Rattle.office_policy.specs.Commands.{PlainCommand, me, my_exam, my_penalty, load, instance}
+use Rattle.office_policy.specs.Commands.{set_owner, new_draft, draft, draft_penalty}
+use Rattle.office_policy.specs.Commands.{draft_violations, drop_draft, place, move, clear, swap}
+use Rattle.office_policy.specs.Commands.{publish, publication, publication_penalty}
+use Rattle.office_policy.specs.Commands.{publication_rooms, batch}
+use Rattle.office_policy.specs.Policy.{permits}
+use Rattle.office_policy.specs.declared.callers.Caller.{Caller}
+use Rattle.office_policy.specs.declared.callers.Caller.TheVariants.{Office, Dept, Cand}
+use Rattle.office_policy.specs.declared.command.Body.{Body}
+use Rattle.office_policy.specs.declared.command.Body.TheVariants.{Given, Bad, Long}
+use Rattle.office_policy.specs.declared.policy.Denial.{Denial}
+use Rattle.office_reports.specs.Reports.{penalty_text, violation_text}
+use Rattle.office_reports.specs.Rooms.{rooms_text}
+use Rattle.office_model.specs.Answers.{PlainAnswer, now_loaded, text, now_owned, now_drafted}
+use Rattle.office_model.specs.Answers.{now_edited, now_dropped, shown_draft, now_published}
+use Rattle.office_model.specs.Answers.{unpublished, now_enrolled, denied, bad_body, long_body}
+use Rattle.office_model.specs.Answers.{refused, unavailable}
+use Rattle.office_model.specs.Batches.{batch_enrolled}
+use Rattle.office_model.specs.Candidates.{Asked, whole, one, cost, told}
+use Rattle.office_model.specs.Commands.{Gives, draft_dropped, draft_edited, draft_made, loaded}
+use Rattle.office_model.specs.Commands.{owned, owner_in, draft_shown, session_shown, when_loaded}
+use Rattle.office_model.specs.Office.{OfficeState, Publication, published_enrolments}
+use Rattle.office_model.specs.Publishing.{draft_published}
+use Rattle.office_model.specs.Views.{view_of}
+use Rattle.office_model.specs.declared.fault.StoreFault.TheVariants.{NoDraft}
+
+-- the office after a step, and what is answered
+abbrev pub Outcome : Type 0
+Outcome = OfficeState × PlainAnswer
+
+-- what a command gives is answered; or its refusal, with the office as it was
+abbrev pub outcome : {A : Type 0} → (A → PlainAnswer) → OfficeState → Gives A → Outcome
+outcome says old (Ok given) = (given.1, says given.0)
+outcome says old (Err fault) = (old, refused fault)
+
+-- a body is judged before the state
+abbrev pub with_body : {A : Type 0} → OfficeState → (A → Outcome) → Body A → Outcome
+with_body old go (Given x) = go x
+with_body old go Bad = (old, bad_body)
+with_body old go Long = (old, long_body)
+
+-- ---- what is read
+
+-- a draft beside the session and the live enrolments
+abbrev pub draft_in_session : ℕ → OfficeState → Gives ((Session × Enrolled) × Placing)
+draft_in_session d office = do
+  r ← when_loaded office
+  T ← else_err NoDraft (r.draft d)
+  Ok (((r.session, r.enrolments), T), office)
+
+abbrev pub violations_of : (Session × Enrolled) × Placing → List ℕ
+violations_of found = violation_text (breaches_of found.0.0 found.0.1 found.1)
+
+-- the session and what is published of it, if there is a publication
+abbrev pub publication_in : OfficeState → Option (Session × Publication)
+publication_in None = None
+publication_in (Some r) = option_map (λ p. (r.session, p)) r.published
+
+-- of the publication, if there is one
+abbrev pub of_published : (Session → Publication → List ℕ) → Option (Session × Publication)
+    → PlainAnswer
+of_published says None = unpublished
+of_published says (Some found) = text (says found.0 found.1)
+
+-- the penalty of the publication with the enrolments that it was made with
+abbrev pub published_penalty : Session → Publication → List ℕ
+published_penalty I p = penalty_text (track I (published_enrolments I p) p.timetable)
+
+-- what a permitted candidate's command gives
+abbrev pub told_to : Caller → Asked → OfficeState → Outcome
+told_to Office asked old = (old, unavailable)
+told_to (Dept d) asked old = (old, unavailable)
+told_to (Cand s) asked old = (old, told s asked (view_of s old))
+
+-- ---- the commands
+
+abbrev pub edit_outcome : ℕ → Edit → OfficeState → Outcome
+edit_outcome d change old = outcome (now_edited d) old (draft_edited d change old)
+
+-- a command that the policy permits
+abbrev pub permitted : OfficeState → Caller → PlainCommand → Outcome
+permitted old caller me = told_to caller whole old
+permitted old caller (my_exam n) = told_to caller (one n) old
+permitted old caller my_penalty = told_to caller cost old
+permitted old caller (load body) =
+    with_body old (λ bytes. outcome now_loaded old (loaded bytes old)) body
+permitted old caller instance =
+    outcome (λ s. text (canonical_instance s.0 s.1)) old (session_shown old)
+permitted old caller (set_owner exam body) =
+    with_body old (λ dept. outcome (λ done. now_owned exam dept) old (owned exam dept old)) body
+permitted old caller (new_draft d body) =
+    with_body old (λ bytes. outcome (now_drafted d) old (draft_made d bytes old)) body
+permitted old caller (draft d) =
+    outcome (λ found. shown_draft d found.0 (total_of found.1)) old (draft_shown d old)
+permitted old caller (draft_penalty d) =
+    outcome (λ found. text (penalty_text found.1)) old (draft_shown d old)
+permitted old caller (draft_violations d) =
+    outcome (λ found. text (violations_of found)) old (draft_in_session d old)
+permitted old caller (drop_draft d) = outcome (λ done. now_dropped d) old (draft_dropped d old)
+permitted old caller (place d exam body) =
+    with_body old (λ at. edit_outcome d (edit.Place exam at) old) body
+permitted old caller (move d exam body) =
+    with_body old (λ to. edit_outcome d (edit.Move exam to) old) body
+permitted old caller (clear d exam) = edit_outcome d (edit.Clear exam) old
+permitted old caller (swap d a b) = edit_outcome d (edit.Swap a b) old
+permitted old caller (publish d) = outcome (now_published d) old (draft_published d old)
+permitted old caller publication =
+    (old, of_published (λ I p. canonical_solution p.timetable) (publication_in old))
+permitted old caller publication_penalty =
+    (old, of_published published_penalty (publication_in old))
+permitted old caller publication_rooms =
+    (old, of_published (λ I p. rooms_text I p.timetable p.rows) (publication_in old))
+permitted old caller (batch number body) =
+    with_body old (λ bytes. outcome (now_enrolled number) old (batch_enrolled number bytes old)) body
+
+-- the owners of the exams that a command edits, 0 where it edits none
+abbrev pub owners_in : OfficeState → PlainCommand → ℕ × ℕ
+owners_in old (place d exam body) = (owner_in exam old, 0)
+owners_in old (move d exam body) = (owner_in exam old, 0)
+owners_in old (clear d exam) = (owner_in exam old, 0)
+owners_in old (swap d a b) = (owner_in a old, owner_in b old)
+owners_in old _ = (0, 0)
+
+-- what the policy says of a command in this office
+abbrev pub allowed_in : OfficeState → Caller → PlainCommand → Result (Unit {0}) Denial
+allowed_in old caller command =
+    permits caller command (owners_in old command).0 (owners_in old command).1
+
+abbrev pub if_allowed : Result (Unit {0}) Denial → OfficeState → Caller → PlainCommand → Outcome
+if_allowed (Ok done) old caller command = permitted old caller command
+if_allowed (Err denial) old caller command = (old, denied denial)
+
+-- one step
+abbrev pub step : OfficeState → Caller → PlainCommand → Outcome
+step old caller command = if_allowed (allowed_in old caller command) old caller command
+
+-- a step, or nothing done and nothing told
+abbrev pub Steps : OfficeState → Caller → PlainCommand → PlainAnswer → OfficeState → Type 0
+Steps old caller command answer new =
+    ((new, answer) ≡ step old caller command) ⊎ ((new ≡ old) × (answer ≡ unavailable))

@@ -1,0 +1,113 @@
+-- What of the office is a candidate's, and what she is shown of it.
+use Rattle.std.specs.Prelude.{ℕ, Bool, ◌==◌, List, [], ◌∷◌, ◌++◌, map, Option, Some, None, option_map, option_and_then, slice_get}
+use Rattle.std.specs.List.{find, list_any}
+use Rattle.exam_calendar.specs.declared.date.Date.{Date}
+use Rattle.exam_terms.specs.declared.place.Place.{Place}
+use Rattle.exam_model.specs.Changes.{exams_sat}
+use Rattle.exam_model.specs.Instance.{Session}
+use Rattle.exam_model.specs.Timetable.{place_of}
+use Rattle.exam_model.specs.declared.parts.Period.{Period}
+use Rattle.exam_model.specs.declared.parts.Weights.{Weights}
+use Rattle.exam_publish.specs.Changed.{ascending, rows_of}
+use Rattle.exam_publish.specs.Shares.{share_of}
+use Rattle.exam_publish.specs.declared.seat_row.SeatRow.{SeatRow}
+use Rattle.exam_score.specs.Penalty.{PersonalPenalty}
+use Rattle.office_model.specs.Office.{OfficeState, Publication}
+use Rattle.office_model.specs.Publishing.{rows_now}
+
+-- her live enrolments, the published places of her exams, her seat rows; the periods and the weights
+pub record View : Type 0 where
+  pub enrolled : List ℕ
+  pub places : List (Option Place)
+  pub seats : List SeatRow
+  pub periods : List Period
+  pub weights : Weights
+
+-- the exams where she is enrolled or has a seat, ascending
+abbrev pub her_exams : List ℕ → List SeatRow → List ℕ
+her_exams enrolled seats = ascending (enrolled ++ map (λ row. row.exam) seats)
+
+abbrev pub published_place : Option Publication → ℕ → Option Place
+published_place None e = None
+published_place (Some p) e = place_of p.timetable e
+
+abbrev pub view_from : Session → List ℕ → Option Publication → List SeatRow → View
+view_from I enrolled published seats = record {
+  enrolled = enrolled;
+  places = map (published_place published) (her_exams enrolled seats);
+  seats = seats;
+  periods = I.periods;
+  weights = I.weights;
+}
+
+abbrev pub no_weights : Weights
+no_weights = record {
+  row = 0;
+  day = 0;
+  spread = 0;
+  mixed = 0;
+  front_exams = 0;
+  front_periods = 0;
+  front = 0;
+}
+
+abbrev pub no_view : View
+no_view = record { enrolled = []; places = []; seats = []; periods = []; weights = no_weights }
+
+-- a candidate's view of the office: empty before a load
+abbrev pub view_of : ℕ → OfficeState → View
+view_of c None = no_view
+view_of c (Some r) =
+    view_from r.session (exams_sat r.enrolments c) r.published (rows_of c (rows_now r.published))
+
+-- ---- what she is shown of it
+
+-- a place with its day and time
+pub record ShownPlace : Type 0 where
+  pub period : ℕ
+  pub date : Date
+  pub hour : ℕ
+  pub minute : ℕ
+  pub second : ℕ
+  pub room : ℕ
+
+-- one of her exams: whether she is enrolled, where it is published, and her seat
+pub record ShownExam : Type 0 where
+  pub exam : ℕ
+  pub enrolled : Bool
+  pub at : Option ShownPlace
+  pub seat : Option ℕ
+
+abbrev pub shown_at : Place → Period → ShownPlace
+shown_at at p = record {
+  period = at.period;
+  date = p.date;
+  hour = p.hour;
+  minute = p.minute;
+  second = p.second;
+  room = at.room;
+}
+
+abbrev pub shown_place : List Period → Place → Option ShownPlace
+shown_place periods at = option_map (shown_at at) (slice_get periods at.period)
+
+abbrev pub shown_exam : View → ℕ → Option Place → ShownExam
+shown_exam view exam place = record {
+  exam = exam;
+  enrolled = list_any (λ e. e == exam) view.enrolled;
+  at = option_and_then (shown_place view.periods) place;
+  seat = option_map (λ row. row.seat) (find (λ row. row.exam == exam) view.seats);
+}
+
+abbrev pub shown_from : View → List ℕ → List (Option Place) → List ShownExam
+shown_from view [] places = []
+shown_from view (e ∷ exams) [] = []
+shown_from view (e ∷ exams) (place ∷ places) = shown_exam view e place ∷ shown_from view exams places
+
+-- her exams, ascending
+abbrev pub shown_exams : View → List ShownExam
+shown_exams view = shown_from view (her_exams view.enrolled view.seats) view.places
+
+-- what the periods of her seat rows cost
+abbrev pub shown_penalty : View → PersonalPenalty
+shown_penalty view = share_of view.periods view.weights view.seats

@@ -1,0 +1,34 @@
+// What accepted commands count.
+
+/// How much was loaded.
+#[derive(Clone, Copy, Debug, PartialEq, Eq)]
+pub struct Loaded {
+    /// 1 to 2,000.
+    pub exams: u32,
+    /// Pairs of a student and an exam that she sits, at most 200,000.
+    pub pairs: u32,
+    /// 1 to 200.
+    pub periods: u32,
+    /// 1 to 200.
+    pub rooms: u32,
+}
+
+/// What a publication changed.
+#[derive(Clone, Copy, Debug, PartialEq, Eq)]
+pub struct Published {
+    /// Candidates whose seat rows differ from those before.
+    pub changed: u32,
+    /// The penalty of the published timetable, below 2^62.
+    pub penalty: u64,
+}
+
+/// What the lines of a batch did.
+#[derive(Clone, Copy, Debug, PartialEq, Eq)]
+pub struct Counts {
+    /// Adds of a pair that was not there.
+    pub added: u32,
+    /// Drops of a pair that was there.
+    pub dropped: u32,
+    /// All other lines.
+    pub unchanged: u32,
+}

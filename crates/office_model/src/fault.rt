@@ -1,0 +1,79 @@
+// Why a command is refused.
+ghost use Rattle.std.specs.Prelude.{◌≡◌, ◌≢◌};
+
+use exam_draft::EditFault;
+use exam_publish::PublishFault;
+use office_files::{FaultKind, FileFault};
+
+/// What a file, an edit or a publication was refused for; never out of memory, which is
+/// [`StoreFault::Store`].
+#[derive(Clone, Copy, Debug, PartialEq, Eq)]
+pub enum Refusal {
+    /// An edit is not possible, or an exam does not exist.
+    Edit(EditFault),
+    /// A timetable may not be published.
+    Publish(PublishFault),
+    /// A file is faulty.
+    File(FileFault),
+}
+
+/// Why a command is refused. The order is that of the numbers that are printed.
+#[derive(Clone, Copy, Debug, PartialEq, Eq)]
+pub enum StoreFault {
+    /// There is an instance already.
+    Loaded,
+    /// There is no instance yet.
+    NotLoaded,
+    /// There is no such draft, or the number is not one of 1 to 8.
+    NoDraft,
+    /// The draft is there already.
+    DraftTaken,
+    /// The number of the batch is kept with other bytes.
+    BatchDiffers,
+    /// There would be more pairs or batches than are kept.
+    TooMany,
+    /// A file, an edit or a publication was refused.
+    Refused(Refusal),
+    /// A statement failed, or memory ran out; nothing has changed.
+    Store,
+    /// The tables are not those of an office, or what they hold is not what it should be.
+    BadSchema,
+}
+
+impl StoreFault {
+    /// The refusal of a file; out of memory is no refusal.
+    pub fn of_file(fault: FileFault) -> StoreFault
+        ensures memory { fault.what ≡ FaultKind.NoMemory → result ≡ StoreFault.Store }
+        ensures refused { fault.what ≢ FaultKind.NoMemory
+            → result ≡ StoreFault.Refused (Refusal.File fault) }
+    {
+        match fault.what {
+            FaultKind::NoMemory => StoreFault::Store,
+            _ => StoreFault::Refused(Refusal::File(fault)),
+        }
+    }
+
+    /// The refusal of an edit; out of memory is no refusal.
+    pub fn of_edit(fault: EditFault) -> StoreFault
+        ensures memory { fault ≡ EditFault.NoMemory → result ≡ StoreFault.Store }
+        ensures refused { fault ≢ EditFault.NoMemory
+            → result ≡ StoreFault.Refused (Refusal.Edit fault) }
+    {
+        match fault {
+            EditFault::NoMemory => StoreFault::Store,
+            _ => StoreFault::Refused(Refusal::Edit(fault)),
+        }
+    }
+
+    /// The refusal of a publication; out of memory is no refusal.
+    pub fn of_publication(fault: PublishFault) -> StoreFault
+        ensures memory { fault ≡ PublishFault.NoMemory → result ≡ StoreFault.Store }
+        ensures refused { fault ≢ PublishFault.NoMemory
+            → result ≡ StoreFault.Refused (Refusal.Publish fault) }
+    {
+        match fault {
+            PublishFault::NoMemory => StoreFault::Store,
+            _ => StoreFault::Refused(Refusal::Publish(fault)),
+        }
+    }
+}
