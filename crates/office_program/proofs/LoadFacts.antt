@@ -1,10 +1,10 @@
 -- What is known of a load from its parts.
 use Rattle.std.proofs.Common.{◌≡◌, ◌⊎◌, inl, inr, Err, IfErr, Ok, Result}
-use Rattle.office_records.specs.Office.{OfficeState}
-use Rattle.office_store.specs.Commands.{Gives}
+use Rattle.office_model.specs.Office.{OfficeState}
+use Rattle.office_model.specs.Commands.{Gives}
 use Rattle.office_store.specs.Running.{IsFault}
-use Rattle.office_store.specs.declared.fault.StoreFault.{StoreFault}
-use Rattle.office_store.specs.declared.fault.StoreFault.TheVariants.{Store}
+use Rattle.office_model.specs.declared.fault.StoreFault.{StoreFault}
+use Rattle.office_model.specs.declared.fault.StoreFault.TheVariants.{Store}
 
 -- a refusal where no office is found is none of a command's
 pub no_office : {A : Type 0} (gives : Gives A) (fault : StoreFault) (P : OfficeState → Type 0)

@@ -2,10 +2,10 @@
 use Rattle.std.specs.Prelude.{◌≡◌, ℕ, ◌++◌, ◌∷◌, [], List, Option, Ok, codes, decimal}
 use Rattle.std.specs.Io.KnownBytes.{Appends}
 use Rattle.sqlite.specs.State.{State}
-use Rattle.office_records.specs.Office.{OfficeState}
-use Rattle.office_store.specs.Commands.{NamesFirstFault, SpellsSession, loaded}
+use Rattle.office_model.specs.Office.{OfficeState}
+use Rattle.office_model.specs.Commands.{NamesFirstFault, SpellsSession, loaded}
 use Rattle.office_store.specs.Running.{IsFault, Now}
-use Rattle.office_store.specs.declared.loading.Loaded.{Loaded}
+use Rattle.office_model.specs.declared.counts.Loaded.{Loaded}
 use Rattle.office_program.specs.declared.loading.LoadFault.{LoadFault}
 use Rattle.office_program.specs.declared.loading.LoadFault.TheVariants.{Store, Write}
 

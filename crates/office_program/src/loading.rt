@@ -3,7 +3,7 @@ ghost use Rattle.std.specs.Prelude.{◌≢◌, IfErr, IfOk, OnOk};
 ghost use Rattle.std.specs.Io.KnownBytes.{Appends, Keeps};
 ghost use Rattle.sqlite.specs.Held.{state};
 ghost use Rattle.sqlite.specs.State.{HasCleanDisk};
-ghost use Rattle.office_records.specs.Office.{OfficeState};
+ghost use Rattle.office_model.specs.Office.{OfficeState};
 ghost use Rattle.office_store.specs.Running.{Now};
 ghost use Rattle.office_store.specs.Opening.{IsOfficeOf};
 ghost use Rattle.office_program.specs.Load.{Loads, NamesTextFault, PrintsCounts, RefusesLoad, loaded_text};

@@ -5,12 +5,12 @@ use Rattle.std.specs.Prelude.{IsTrue}
 use Rattle.sqlite.specs.Effect.{Database}
 use Rattle.office_tables.specs.Schema.{no_schema}
 use Rattle.office_tables.proofs.Creates.{has_tables}
-use Rattle.office_records.specs.Office.{OfficeState}
+use Rattle.office_model.specs.Office.{OfficeState}
 use Rattle.office_records.specs.Stands.{IsKept}
 use Rattle.office_store.specs.Faults.{IsOfDatabase}
 use Rattle.office_store.specs.Opening.{IsOfficeOf}
-use Rattle.office_store.specs.declared.fault.StoreFault.{StoreFault}
-use Rattle.office_store.specs.declared.fault.StoreFault.TheVariants.{BadSchema, Store}
+use Rattle.office_model.specs.declared.fault.StoreFault.{StoreFault}
+use Rattle.office_model.specs.declared.fault.StoreFault.TheVariants.{BadSchema, Store}
 
 -- with no table, it stands for the office before its load alone
 pub before_load : (db : Database) (there : OfficeState) → db.schema ≡ no_schema

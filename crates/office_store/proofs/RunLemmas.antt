@@ -5,8 +5,8 @@ use Rattle.exam_model.specs.Instance.{Session}
 use Rattle.sqlite.specs.State.{State, HasCleanDisk, IsUnchanged}
 use Rattle.office_tables.specs.Steps.{Keeps}
 use Rattle.office_tables.specs.Tables.{Tables, Stands as Held}
-use Rattle.office_records.specs.Office.{OfficeState, Records}
-use Rattle.office_records.specs.Office.{Memory, memory_of}
+use Rattle.office_model.specs.Office.{OfficeState, Records}
+use Rattle.office_records.specs.Memory.{Memory, memory_of}
 use Rattle.office_store.specs.Running.{Now, IsAtRest, IsAwake, IsStill}
 use Rattle.office_records.specs.Stands.{IsKept}
 use Rattle.office_store.specs.Turning.{Undone}

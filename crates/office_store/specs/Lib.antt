@@ -1,4 +1,3 @@
-pub mod Commands
 pub mod Changes
 pub mod Faults
 pub mod Turning

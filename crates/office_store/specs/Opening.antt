@@ -2,7 +2,7 @@
 use Rattle.std.specs.Prelude.{◌≡◌, ◌⊎◌, None}
 use Rattle.sqlite.specs.Effect.{Database}
 use Rattle.office_tables.specs.Schema.{no_schema}
-use Rattle.office_records.specs.Office.{OfficeState}
+use Rattle.office_model.specs.Office.{OfficeState}
 use Rattle.office_records.specs.Stands.{IsKept}
 
 -- the database stands for this office; one with no table stands for the office before its load

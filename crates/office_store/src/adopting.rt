@@ -3,12 +3,13 @@ ghost use Rattle.std.specs.Prelude.{◌≡◌, ◌⊎◌, false, IfErr, IfOk, On
 ghost use Rattle.sqlite.specs.Held.{state};
 ghost use Rattle.sqlite.specs.State.{HasCleanDisk, IsUnchanged};
 ghost use Rattle.office_tables.specs.Steps.{Keeps};
-ghost use Rattle.office_records.specs.Office.{AreTogether, OfficeState, memory_of};
+ghost use Rattle.office_model.specs.Office.{OfficeState};
+ghost use Rattle.office_records.specs.Memory.{AreTogether, memory_of};
 ghost use Rattle.office_records.specs.Stands.{IsKept};
 ghost use Rattle.office_store.specs.Faults.{IsOfDatabase};
 ghost use Rattle.office_store.specs.Turning.{Undone};
 
-use crate::fault::StoreFault;
+use office_model::StoreFault;
 use crate::office::Office;
 use exam_model::{Enrolments, Instance};
 use office_records::kept_of;
@@ -67,8 +68,10 @@ fn kept_in<S: Alter>(
         → Keeps (state S.Store conn.old) (state S.Store conn.new) }
     ensures rests { conn.old.in_transaction ≡ false → conn.new.in_transaction ≡ false }
 {
-    let Some(found) = adopt_tables(alloc, conn)? else {
-        return Err(StoreFault::BadSchema);
+    let found = match adopt_tables(alloc, conn) {
+        Ok(Some(found)) => found,
+        Ok(None) => return Err(StoreFault::BadSchema),
+        Err(_) => return Err(StoreFault::Store),
     };
     let kept = kept_of(alloc, &found)?;
     Ok(kept)

@@ -13,6 +13,5 @@ mod reading;
 mod transactions;
 
 pub use exam_draft::Edit;
-pub use fault::{Refusal, StoreFault};
-pub use loading::Loaded;
 pub use office::Office;
+pub use office_model::{Loaded, Refusal, StoreFault};

@@ -2,13 +2,13 @@
 ghost use Rattle.std.specs.Prelude.{◌≡◌, ◌⊎◌, IfErr, IfOk};
 ghost use Rattle.sqlite.specs.Held.{state};
 ghost use Rattle.sqlite.specs.State.{HasCleanDisk};
-ghost use Rattle.office_records.specs.Office.{OfficeState};
+ghost use Rattle.office_model.specs.Office.{OfficeState};
 ghost use Rattle.office_store.specs.Faults.{IsOfDatabase};
 ghost use Rattle.office_store.specs.Opening.{IsOfficeOf};
 ghost use Rattle.office_store.specs.Running.{Now};
 ghost use Rattle.office_store.specs.Turning.{Undone};
 
-use crate::fault::StoreFault;
+use office_model::StoreFault;
 use crate::office::Office;
 use office_tables::is_bare;
 use sqlite::{Alter, Connection};

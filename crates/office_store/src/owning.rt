@@ -2,12 +2,13 @@
 ghost use Rattle.std.specs.Prelude.{◌≡◌, ◌≤◌, IfErr, IfOk, OnOk, map};
 ghost use Rattle.sqlite.specs.Held.{state};
 ghost use Rattle.sqlite.specs.State.{HasCleanDisk};
-ghost use Rattle.office_store.specs.Commands.{owned, owner_in};
-ghost use Rattle.office_records.specs.Office.{OfficeState};
+ghost use Rattle.office_model.specs.Commands.{owned, owner_in};
+ghost use Rattle.office_model.specs.Office.{OfficeState};
 ghost use Rattle.office_store.specs.Running.{IsAwake, Now, Reads, Runs};
 ghost use Rattle.office_records.specs.Stands.{some_dept};
 
-use crate::fault::{Refusal, StoreFault};
+use office_model::{Refusal, StoreFault};
+use crate::fault::Failed;
 use crate::office::Office;
 use crate::transactions::put_owner;
 use exam_draft::EditFault;
@@ -52,7 +53,7 @@ impl<S: Alter> Office<S> {
     }
 
     // The rows of an exam's owner: one, or none.
-    fn owners(&mut self, alloc: Global, exam: ExamNo) -> Result<Vec<OwnerRow>, StoreFault>
+    fn owners(&mut self, alloc: Global, exam: ExamNo) -> Result<Vec<OwnerRow>, Failed>
         ensures rows { HasCleanDisk (state S.Store self.new) → (office : OfficeState)
             → Now (state S.Store self.old) office
             → IfOk result (λ rows. map (λ r. r.dept) rows.items ≡ some_dept (owner_in exam office)) }
@@ -60,7 +61,6 @@ impl<S: Alter> Office<S> {
             → Now (state S.Store self.old) office → Now (state S.Store self.new) office }
         ensures awake { HasCleanDisk (state S.Store self.new)
             → OnOk result (IsAwake (state S.Store self.new)) }
-        ensures fault { IfErr result (λ e. e ≡ StoreFault.Store) }
         ensures clean { HasCleanDisk (state S.Store self.new) → HasCleanDisk (state S.Store self.old) }
     {
         let _at_rest = self.conn.is_autocommit(); // read for what it says of the last commit

@@ -5,15 +5,16 @@ use Rattle.sqlite.specs.Effect.{Database}
 use Rattle.sqlite.specs.Held.{state}
 use Rattle.office_tables.specs.Adopting.{IsAdopted, tables_of}
 use Rattle.office_tables.specs.Tables.{Tables, Stands as Held}
-use Rattle.office_records.specs.Office.{OfficeState, IsOffice}
+use Rattle.office_model.specs.Office.{OfficeState, IsOffice}
 use Rattle.office_records.specs.Stands.{IsKept, IsSound, Stands}
 use Rattle.office_records.specs.declared.fault.RecordFault.{RecordFault}
 use Rattle.office_records.specs.declared.fault.RecordFault.TheVariants.{NoMemory, BadRows}
 use Rattle.office_records.proofs.SameTables.{same_stands, same_sound}
 use Rattle.office_records.proofs.UnpublishedLemmas.{not_foreign}
-use Rattle.office_store.specs.Faults.{store_fault, IsOfDatabase}
-use Rattle.office_store.specs.declared.fault.StoreFault.{StoreFault}
-use Rattle.office_store.specs.declared.fault.StoreFault.TheVariants.{BadSchema}
+use Rattle.office_records.specs.Faults.{store_fault}
+use Rattle.office_store.specs.Faults.{IsOfDatabase}
+use Rattle.office_model.specs.declared.fault.StoreFault.{StoreFault}
+use Rattle.office_model.specs.declared.fault.StoreFault.TheVariants.{BadSchema}
 use Rattle.office_store.proofs.adopting.kept_in.Goals as goal
 
 -- the tables are foreign
