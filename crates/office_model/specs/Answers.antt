@@ -1,5 +1,5 @@
 -- What the office answers, without where its texts lie in memory.
-use Rattle.std.specs.Prelude.{ℕ, List}
+use Rattle.std.specs.Prelude.{ℕ, Bool, true, false, List}
 use Rattle.exam_model.specs.Timetable.{Placing}
 use Rattle.exam_score.specs.Penalty.{PersonalPenalty}
 use Rattle.office_policy.specs.declared.policy.Denial.{Denial}
@@ -41,3 +41,12 @@ pub data PlainAnswer : Type 0 where
   refused : StoreFault → PlainAnswer
   -- nothing was done and nothing is told
   unavailable : PlainAnswer
+
+-- whether it shows something that is kept
+abbrev pub shows : PlainAnswer → Bool
+shows (my_exams s exams penalty) = true
+shows (my_one exam) = true
+shows (my_cost penalty) = true
+shows (text bytes) = true
+shows (shown_draft d T penalty) = true
+shows _ = false

@@ -73,10 +73,13 @@ newly_enrolled number bytes changes r = do
       (Refused (refusal.Edit NoSuch))
   done ← enrolled changes r.enrolments no_counts
   _ ← unless (nat_lt (length r.batches) 10000) TooMany
-  Ok (done.0, Some (record r {
-    enrolments = done.1;
-    batches = record { no = number; bytes = bytes; counts = done.0 } ∷ r.batches;
-  }))
+  Ok (
+    done.0,
+    Some (record r {
+      enrolments = done.1;
+      batches = record { no = number; bytes = bytes; counts = done.0 } ∷ r.batches;
+    }),
+  )
 
 -- a batch whose number is kept has its first counts for the same bytes, and changes nothing
 abbrev pub enrolled_by : Option KeptBatch → ℕ → List ℕ → List Change → Records → Gives Counts

@@ -1,4 +1,5 @@
 pub mod Office
+pub mod Numbers
 pub mod Commands
 pub mod Batches
 pub mod Publishing

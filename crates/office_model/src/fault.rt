@@ -1,5 +1,6 @@
 // Why a command is refused.
 ghost use Rattle.std.specs.Prelude.{◌≡◌, ◌≢◌};
+ghost use Rattle.office_model.specs.Numbers.{kind_number, store_number};
 
 use exam_draft::EditFault;
 use exam_publish::PublishFault;
@@ -88,4 +89,28 @@ impl StoreFault {
             _ => StoreFault::Refused(Refusal::Publish(fault)),
         }
     }
+
+    /// The number by which it is printed.
+    pub fn number(self) -> u8
+        ensures { result ≡ store_number self }
+    {
+        match self {
+            StoreFault::Loaded => 1,
+            StoreFault::NotLoaded => 2,
+            StoreFault::NoDraft => 3,
+            StoreFault::DraftTaken => 4,
+            StoreFault::BatchDiffers => 5,
+            StoreFault::TooMany => 6,
+            StoreFault::Refused(_) => 7,
+            StoreFault::Store => 8,
+            StoreFault::BadSchema => 9,
+        }
+    }
+}
+
+/// The number by which a file's fault is printed.
+pub fn kind_number(what: FaultKind) -> u8
+    ensures { result ≡ kind_number what }
+{
+    what as u8
 }

@@ -4,6 +4,11 @@
 
 mod counts;
 mod fault;
+mod laws;
 
 pub use counts::{Counts, Loaded, Published};
-pub use fault::{Refusal, StoreFault};
+pub use fault::{Refusal, StoreFault, kind_number};
+pub use laws::{
+    quiet_run, quiet_step, same_changes_same_view, same_view_same_answer, shown_changes_nothing,
+    told_by_view,
+};

@@ -4,5 +4,5 @@
 mod reports;
 mod rooms;
 
-pub use reports::{penalty_report, violation_report};
+pub use reports::{penalty_report, rule_name, violation_report};
 pub use rooms::rooms_report;

@@ -29,7 +29,8 @@ fn add_breach(text: &mut String, breach: Breach) -> Result<(), AllocError>
     write!(text, "{rule} {exam} {other}\n")
 }
 
-fn rule_name(rule: BreachRule) -> &'static str
+/// The name of a rule, as reports and replies have it.
+pub fn rule_name(rule: BreachRule) -> &'static str
     ensures { result.now ≡ rule_name rule }
 {
     match rule {

@@ -1,0 +1,8 @@
+pub mod CommandLemmas
+pub mod StepLemmas
+pub mod ShownLemmas
+pub mod QuietLemmas
+pub mod SameLemmas
+pub mod FollowLemmas
+pub mod ChangeLemmas
+pub mod ToldLemmas
