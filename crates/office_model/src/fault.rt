@@ -5,6 +5,7 @@ ghost use Rattle.office_model.specs.Numbers.{kind_number, store_number};
 use exam_draft::EditFault;
 use exam_publish::PublishFault;
 use office_files::{FaultKind, FileFault};
+use std::alloc::AllocError;
 
 /// What a file, an edit or a publication was refused for; never out of memory, which is
 /// [`StoreFault::Store`].
@@ -39,6 +40,17 @@ pub enum StoreFault {
     Store,
     /// The tables are not those of an office, or what they hold is not what it should be.
     BadSchema,
+}
+
+impl From<AllocError> for StoreFault {
+    ghost use Rattle.std.specs.Prelude.{◌≡◌};
+    ghost use Rattle.office_model.specs.declared.fault.StoreFault.TheVariants.{Store};
+
+    ghost from_gives = { λ _ e. e ≡ Store };
+
+    fn from(_error: AllocError) -> StoreFault {
+        StoreFault::Store
+    }
 }
 
 impl StoreFault {

@@ -1,14 +1,11 @@
 -- What `load` makes of the office that a database stands for, and what it prints.
-use Rattle.std.specs.Prelude.{◌≡◌, ◌⊎◌, ℕ, ◌++◌, ◌∷◌, [], List, None, Option, Ok, codes, decimal}
+use Rattle.std.specs.Prelude.{◌≡◌, ℕ, ◌++◌, ◌∷◌, [], List, Option, Ok, codes, decimal}
 use Rattle.std.specs.Io.KnownBytes.{Appends}
-use Rattle.sqlite.specs.Effect.{Database}
 use Rattle.sqlite.specs.State.{State}
-use Rattle.office_records.specs.Office.{OfficeState}
-use Rattle.office_records.specs.Stands.{IsKept}
-use Rattle.office_store.specs.Commands.{NamesFirstFault, SpellsSession, loaded}
+use Rattle.office_model.specs.Office.{OfficeState}
+use Rattle.office_model.specs.Commands.{NamesFirstFault, SpellsSession, loaded}
 use Rattle.office_store.specs.Running.{IsFault, Now}
-use Rattle.office_store.specs.declared.loading.Loaded.{Loaded}
-use Rattle.office_tables.specs.Schema.{no_schema}
+use Rattle.office_model.specs.declared.counts.Loaded.{Loaded}
 use Rattle.office_program.specs.declared.loading.LoadFault.{LoadFault}
 use Rattle.office_program.specs.declared.loading.LoadFault.TheVariants.{Store, Write}
 
@@ -21,10 +18,6 @@ loaded_line l =
 -- the same, with its end
 abbrev pub loaded_text : Loaded → List ℕ
 loaded_text l = loaded_line l ++ 10 ∷ []
-
--- the database stands for this office; one with no table stands for the office before its load
-abbrev pub IsOfficeOf : Database → OfficeState → Type 0
-IsOfficeOf db office = ((db.schema ≡ no_schema) × (office ≡ None)) ⊎ IsKept db office
 
 -- the text is loaded into the office: this is how much, and the new office stands
 pub record IsLoaded (text : List ℕ) (office : OfficeState) (after : State) (counts : Loaded)

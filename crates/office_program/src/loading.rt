@@ -1,16 +1,14 @@
 // A session loaded into the office of a database.
-ghost use Rattle.std.specs.Prelude.{◌≡◌, ◌≢◌, ◌⊎◌, IfErr, IfOk, OnOk};
+ghost use Rattle.std.specs.Prelude.{◌≢◌, IfErr, IfOk, OnOk};
 ghost use Rattle.std.specs.Io.KnownBytes.{Appends, Keeps};
 ghost use Rattle.sqlite.specs.Held.{state};
 ghost use Rattle.sqlite.specs.State.{HasCleanDisk};
-ghost use Rattle.office_records.specs.Office.{OfficeState};
+ghost use Rattle.office_model.specs.Office.{OfficeState};
 ghost use Rattle.office_store.specs.Running.{Now};
-ghost use Rattle.office_store.specs.declared.fault.StoreFault.TheVariants as store;
-ghost use Rattle.office_store.specs.Faults.{IsOfDatabase};
-ghost use Rattle.office_program.specs.Load.{IsOfficeOf, Loads, NamesTextFault, PrintsCounts, RefusesLoad, loaded_text};
+ghost use Rattle.office_store.specs.Opening.{IsOfficeOf};
+ghost use Rattle.office_program.specs.Load.{Loads, NamesTextFault, PrintsCounts, RefusesLoad, loaded_text};
 
 use office_store::{Loaded, Office, StoreFault};
-use office_tables::is_bare;
 use sqlite::{Alter, Connection};
 use std::alloc::Global;
 use std::fmt;
@@ -23,30 +21,6 @@ pub enum LoadFault {
     Store(StoreFault),
     /// It is loaded, but the writer failed; how much of the line went out is not known.
     Write,
-}
-
-/// The office of a database: a new one where there is no table, index or view. `BadSchema`: what
-/// is there is no office. `Store`: a statement failed, memory was refused, or a transaction is
-/// open. A refusal hands the connection back.
-pub fn office_in<S: Alter>(
-    alloc: Global,
-    conn: Connection<S>,
-) -> Result<Office<S>, (StoreFault, Connection<S>)>
-    // The office that the database stands for is the one that is found.
-    ensures found { IfOk result (λ office. HasCleanDisk (state S.Store office)
-        → (there : OfficeState) → IsOfficeOf (state S.Store conn).now there
-        → Now (state S.Store office) there) }
-    ensures fault { IfErr result (λ e. IsOfDatabase e.0) }
-    // But for Store, it stands for none.
-    ensures refused { IfErr result (λ e. HasCleanDisk (state S.Store e.1)
-        → (e.0 ≡ store.Store) ⊎ ((there : OfficeState)
-        → IsOfficeOf (state S.Store conn).now there → ⊥)) }
-{
-    if is_bare(&conn) {
-        Office::create(conn)
-    } else {
-        Office::adopt(alloc, conn)
-    }
 }
 
 // It shows as the line of how much was loaded.
@@ -142,7 +116,7 @@ pub fn load_run<S: Alter, W: Write>(
     // A text that is refused has the fault first that is named.
     ensures first { IfErr result (λ e. NamesTextFault text.now e.0) }
 {
-    let mut office = match office_in(alloc, conn) {
+    let mut office = match Office::open(alloc, conn) {
         Ok(office) => office,
         Err((fault, conn)) => return Err((LoadFault::Store(fault), conn)),
     };

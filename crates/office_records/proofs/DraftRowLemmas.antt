@@ -16,7 +16,7 @@ use Rattle.exam_score.specs.Track.{track}
 use Rattle.office_tables.specs.declared.rows.DraftRow.{DraftRow}
 use Rattle.office_tables.specs.declared.rows.SlotRow.{SlotRow}
 use Rattle.office_records.specs.Found.{AreDrafts, AreSlots}
-use Rattle.office_records.specs.Office.{set_at}
+use Rattle.office_model.specs.Office.{set_at}
 use Rattle.office_records.specs.Stands.{drafts_at, slots_at, slot_rows, once, parts_of}
 use Rattle.office_records.proofs.PassLemmas.{none_pass, one_passes, found_one, passes_at}
 use Rattle.office_records.proofs.PassLemmas.{each_passes, all_pass, two_pass}

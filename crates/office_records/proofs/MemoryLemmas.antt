@@ -19,8 +19,8 @@ use Rattle.office_files.specs.InstanceText.{instance_in}
 use Rattle.office_files.proofs.CanonicalInstance.{instance_same}
 use Rattle.office_tables.specs.Tables.{Tables, Stands as Held, Holds, Meta, meta_row, flag, keyed, keyless, enrol_row as enrol_columns}
 use Rattle.office_tables.specs.declared.rows.EnrolRow.{EnrolRow}
-use Rattle.office_records.specs.Office.{OfficeState, Records, AreRecords, AreEnrolled}
-use Rattle.office_records.specs.Office.{memory_of}
+use Rattle.office_model.specs.Office.{OfficeState, Records, AreRecords, AreEnrolled}
+use Rattle.office_records.specs.Memory.{memory_of}
 use Rattle.office_records.specs.Stands.{IsKept, Stands, StandsLoaded, enrol_row, meta_row as session_row}
 
 -- ---- the rows of a table

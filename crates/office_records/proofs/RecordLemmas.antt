@@ -1,5 +1,5 @@
 -- The rows of each table make an office's records, and an office's records the rows of each table.
-use Rattle.std.proofs.Common.{◌≡◌, ℕ, List, [], ◌∷◌, Some, Option, refl, ap, subst}
+use Rattle.std.proofs.Common.{◌≡◌, ℕ, List, [], ◌∷◌, Some, None, Option, refl, ap, arith, subst}
 use Rattle.std.proofs.lemmas.List.Sorted.{IsPermutation-sym, IsPermutation-trans}
 use Rattle.exam_model.specs.Enrolments.{Enrolled}
 use Rattle.exam_model.specs.Instance.{Session}
@@ -10,7 +10,8 @@ use Rattle.office_tables.specs.Tables.{Tables}
 use Rattle.office_tables.specs.declared.found.Found.{Found}
 use Rattle.office_tables.specs.declared.rows.EnrolRow.{EnrolRow}
 use Rattle.office_records.specs.Found.{IsSessionRow, AreOwners, AreEnrolRows, AreDrafts}
-use Rattle.office_records.specs.Office.{OfficeState, Records, AreRecords, IsOffice, memory_of}
+use Rattle.office_model.specs.Office.{OfficeState, Records, AreKept, AreRecords, IsOffice}
+use Rattle.office_records.specs.Memory.{memory_of}
 use Rattle.office_records.specs.Stands.{IsSound, Stands, StandsLoaded}
 use Rattle.office_records.proofs.MemoryLemmas.{same_enrolments}
 use Rattle.office_records.proofs.SessionLemmas.{one_session}
@@ -21,6 +22,14 @@ pub one_set : (I : Session) (rows : List EnrolRow) (E F : Enrolled) → AreEnrol
 one_set I rows E F e f =
     same_enrolments I E F e.enrolled f.enrolled
     (IsPermutation-trans _ _ _ (IsPermutation-sym _ _ e.rows) f.rows)
+
+-- where no batch is kept
+pub no_batch_kept : AreKept []
+no_batch_kept = record {
+  few = omega arith;
+  within = λ k b no. absurd (omega (arith, no));
+  numbers = λ j k b before no. absurd (omega (arith, no));
+}
 
 head_is : {X : Type 0} {x y : X} {xs ys : List X} → x ∷ xs ≡ y ∷ ys → x ≡ y
 head_is e = cc
@@ -38,20 +47,23 @@ module _ (found : Found) where
       → (office : OfficeState) × Stands t office × IsSound t office × IsOffice office
       × (memory_of office ≡ Some (I, E))
   office_of I E session owners enrols drafts = (
-    Some (record { session = I; owner_of = owners.0; enrolments = E; draft = drafts.0 }),
+    Some (record {
+      session = I;
+      owner_of = owners.0;
+      enrolments = E;
+      draft = drafts.0;
+      published = None;
+      batches = [];
+    }),
     record {
       meta = ap (λ m. m ∷ []) session.row;
       owner = owners.1.rows;
       enrol = enrols.rows;
       draft = drafts.1.rows;
       slot = drafts.1.slots;
-      unpublished = record {
-        placed = refl;
-        seat = refl;
-        share_student = refl;
-        share_part = refl;
-        batch = refl;
-      };
+      published = record { none = refl; no_place = refl; no_seat = refl };
+      shares = record { of_students = refl; of_parts = refl };
+      batches = record { none = refl; no_row = refl };
     },
     drafts.1.scored,
     record {
@@ -61,6 +73,8 @@ module _ (found : Found) where
       owned = owners.1.owned;
       numbered = drafts.1.numbered;
       drafts = drafts.1.fits;
+      publication = λ p no. absurd cc;
+      batches = no_batch_kept;
     },
     refl,
   )

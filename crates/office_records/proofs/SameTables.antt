@@ -17,7 +17,7 @@ use Rattle.office_tables.specs.Tables.{batch_row, meta_row}
 use Rattle.office_tables.specs.declared.rows.OwnerRow.{OwnerRow}
 use Rattle.office_tables.specs.declared.rows.DraftRow.{DraftRow}
 use Rattle.office_tables.specs.declared.rows.SlotRow.{SlotRow}
-use Rattle.office_records.specs.Office.{OfficeState, Records}
+use Rattle.office_model.specs.Office.{OfficeState, Records}
 use Rattle.office_records.specs.Stands.{IsScoredRow, IsSound, Stands, StandsLoaded, some_dept, once}
 use Rattle.office_records.proofs.MemoryLemmas.{same_rows, same_one, meta_back, meta_is}
 
@@ -142,13 +142,16 @@ module _ (db : Database) (t u : Tables) (p : Held db t) (q : Held db u) where
     slot = λ d. IsPermutation-trans _ _ _
         (IsPermutation-filter (λ (x : SlotRow). eqb x.draft d) _ _ (IsPermutation-sym _ _ slots))
         (h.slot d);
-    unpublished = record {
-      placed = no_placed h.unpublished.placed;
-      seat = no_seat h.unpublished.seat;
-      share_student = no_share_student h.unpublished.share_student;
-      share_part = no_share_part h.unpublished.share_part;
-      batch = no_batch h.unpublished.batch;
+    published = record {
+      none = h.published.none;
+      no_place = no_placed h.published.no_place;
+      no_seat = no_seat h.published.no_seat;
     };
+    shares = record {
+      of_students = no_share_student h.shares.of_students;
+      of_parts = no_share_part h.shares.of_parts;
+    };
+    batches = record { none = h.batches.none; no_row = no_batch h.batches.no_row };
   }
 
   -- they stand for the same offices

@@ -21,7 +21,7 @@ use Rattle.office_tables.specs.Tables.{Tables}
 use Rattle.office_tables.specs.declared.rows.OwnerRow.{OwnerRow}
 use Rattle.office_tables.specs.declared.rows.DraftRow.{DraftRow}
 use Rattle.office_tables.specs.declared.rows.SlotRow.{SlotRow}
-use Rattle.office_records.specs.Office.{OfficeState, Records, AreRecords, IsOffice}
+use Rattle.office_model.specs.Office.{OfficeState, Records, AreRecords, IsOffice}
 use Rattle.office_records.specs.Stands.{IsKept, Stands, some_dept, once, slot_rows, slots_from}
 use Rattle.office_records.specs.Stands.{enrol_row}
 
@@ -165,11 +165,11 @@ is_unpublished t (Some r) stands is = record {
   slot = each_key (λ (x : SlotRow). x.draft) FitsSlot t.slot
       (λ d. all-permutation FitsSlot _ _ (IsPermutation-sym _ _ (stands.slot d))
       (slots_fit r is d (r.draft d) refl));
-  placed = stands.unpublished.placed;
-  seat = stands.unpublished.seat;
-  share_student = stands.unpublished.share_student;
-  share_part = stands.unpublished.share_part;
-  batch = stands.unpublished.batch;
+  placed = stands.published.no_place;
+  seat = stands.published.no_seat;
+  share_student = stands.shares.of_students;
+  share_part = stands.shares.of_parts;
+  batch = stands.batches.no_row;
 }
 
 -- a database that stands for an office is not foreign

@@ -12,7 +12,7 @@ use Rattle.office_tables.specs.declared.rows.OwnerRow.{OwnerRow}
 use Rattle.office_tables.specs.declared.rows.EnrolRow.{EnrolRow}
 use Rattle.office_tables.specs.declared.rows.DraftRow.{DraftRow}
 use Rattle.office_tables.specs.declared.rows.SlotRow.{SlotRow}
-use Rattle.office_records.specs.Office.{AreEnrolled}
+use Rattle.office_model.specs.Office.{AreEnrolled}
 use Rattle.office_records.specs.Stands.{meta_row, enrol_row, slots_from, slot_rows, once, some_dept, owners_at, drafts_at, slots_at, parts_of}
 
 -- the row of this session, which nobody has published

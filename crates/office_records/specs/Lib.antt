@@ -1,4 +1,5 @@
-pub mod Office
+pub mod Memory
 pub mod Stands
 pub mod Found
 pub mod NextRow
+pub mod Faults

@@ -11,12 +11,16 @@ use Rattle.exam_score.specs.Penalty.{Penalty}
 use Rattle.exam_score.specs.Track.{track}
 use Rattle.office_files.specs.CanonicalText.{canonical_instance}
 use Rattle.office_tables.specs.Tables as tables
-use Rattle.office_tables.specs.Tables.{Tables, Meta, empty_tables}
+use Rattle.office_tables.specs.Tables.{Tables, Meta, Batch, empty_tables}
 use Rattle.office_tables.specs.declared.rows.OwnerRow.{OwnerRow}
 use Rattle.office_tables.specs.declared.rows.EnrolRow.{EnrolRow}
 use Rattle.office_tables.specs.declared.rows.DraftRow.{DraftRow}
 use Rattle.office_tables.specs.declared.rows.SlotRow.{SlotRow}
-use Rattle.office_records.specs.Office.{OfficeState, Records, IsOffice}
+use Rattle.office_tables.specs.declared.rows.PartShareRow.{PartShareRow}
+use Rattle.office_tables.specs.declared.rows.PlacedRow.{PlacedRow}
+use Rattle.office_tables.specs.declared.rows.SeatRow.{SeatRow}
+use Rattle.office_tables.specs.declared.rows.StudentShareRow.{StudentShareRow}
+use Rattle.office_model.specs.Office.{OfficeState, Records, Publication, KeptBatch, IsOffice}
 
 -- ---- the rows of an office
 
@@ -63,13 +67,22 @@ drafts_at d rows = filter (λ r. r.no == d) rows
 abbrev pub slots_at : ℕ → List SlotRow → List SlotRow
 slots_at d rows = filter (λ r. r.draft == d) rows
 
--- there is no publication, no share and no batch
-pub record HasNoPublication (t : Tables) : Type 0 where
-  pub placed : t.placed ≡ []
-  pub seat : t.seat ≡ []
-  pub share_student : t.share_student ≡ []
-  pub share_part : t.share_part ≡ []
-  pub batch : t.batch ≡ []
+-- nothing is published: no publication is stored yet
+pub record StandsPublished (places : List PlacedRow) (seats : List SeatRow)
+    (published : Option Publication) : Type 0 where
+  pub none : published ≡ None
+  pub no_place : places ≡ []
+  pub no_seat : seats ≡ []
+
+-- there are no shares of a publication
+pub record HasNoShares (students : List StudentShareRow) (parts : List PartShareRow) : Type 0 where
+  pub of_students : students ≡ []
+  pub of_parts : parts ≡ []
+
+-- no batch is kept: none is stored yet
+pub record StandsBatches (rows : List Batch) (kept : List KeptBatch) : Type 0 where
+  pub none : kept ≡ []
+  pub no_row : rows ≡ []
 
 -- each table holds just the office's part; the parts of penalties aren't looked at
 pub record StandsLoaded (t : Tables) (r : Records) : Type 0 where
@@ -78,7 +91,9 @@ pub record StandsLoaded (t : Tables) (r : Records) : Type 0 where
   pub enrol : IsPermutation t.enrol (map enrol_row (pairs_of r.enrolments))
   pub draft : (d : ℕ) → map (λ row. row.no) (drafts_at d t.draft) ≡ once (is_some (r.draft d)) d
   pub slot : (d : ℕ) → IsPermutation (slots_at d t.slot) (slot_rows d (r.draft d))
-  pub unpublished : HasNoPublication t
+  pub published : StandsPublished t.placed t.seat r.published
+  pub shares : HasNoShares t.share_student t.share_part
+  pub batches : StandsBatches t.batch r.batches
 
 -- the tables stand for the office: before a load they are empty
 abbrev pub Stands : Tables → OfficeState → Type 0

@@ -1,5 +1,6 @@
 // Why rows are not taken for records.
 use office_files::{FaultKind, FileFault};
+use office_model::StoreFault;
 use std::alloc::AllocError;
 
 /// Why rows are not taken for records.
@@ -33,6 +34,20 @@ impl From<FileFault> for RecordFault {
         match fault.what {
             FaultKind::NoMemory => RecordFault::NoMemory,
             _ => RecordFault::BadRows,
+        }
+    }
+}
+
+impl From<RecordFault> for StoreFault {
+    ghost use Rattle.std.specs.Prelude.{◌≡◌};
+    ghost use Rattle.office_records.specs.Faults.{store_fault};
+
+    ghost from_gives = { λ fault e. e ≡ store_fault fault };
+
+    fn from(fault: RecordFault) -> StoreFault {
+        match fault {
+            RecordFault::NoMemory => StoreFault::Store,
+            RecordFault::BadRows => StoreFault::BadSchema,
         }
     }
 }

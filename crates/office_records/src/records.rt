@@ -2,7 +2,8 @@
 ghost use Rattle.std.specs.Prelude.{◌≡◌, ◌↔◌, IfErr, IfOk, IsTrue};
 ghost use Rattle.office_tables.specs.Adopting.{tables_of};
 ghost use Rattle.office_tables.specs.Tables.{empty_tables};
-ghost use Rattle.office_records.specs.Office.{IsOffice, OfficeState, memory_of};
+ghost use Rattle.office_model.specs.Office.{IsOffice, OfficeState};
+ghost use Rattle.office_records.specs.Memory.{memory_of};
 ghost use Rattle.office_records.specs.Stands.{IsSound, Stands};
 
 use crate::drafts::check_drafts;

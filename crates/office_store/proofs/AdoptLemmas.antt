@@ -4,7 +4,8 @@ use Rattle.sqlite.specs.Held.{Held, state}
 use Rattle.sqlite.specs.State.{State, IsUnchanged}
 use Rattle.sqlite.specs.Store.{Ghosts}
 use Rattle.office_tables.specs.Steps.{Keeps}
-use Rattle.office_records.specs.Office.{Memory, OfficeState, IsOffice, AreTogether, memory_of}
+use Rattle.office_model.specs.Office.{OfficeState, IsOffice}
+use Rattle.office_records.specs.Memory.{Memory, AreTogether, memory_of}
 use Rattle.office_records.specs.Stands.{IsKept}
 use Rattle.office_store.specs.Turning.{Undone}
 

@@ -13,15 +13,16 @@ use Rattle.office_files.specs.declared.fault.FileFault.{FileFault}
 use Rattle.office_tables.specs.Tables.{Tables, Stands as Held}
 use Rattle.office_tables.specs.declared.rows.DraftRow.{DraftRow}
 use Rattle.office_tables.specs.declared.rows.SlotRow.{SlotRow}
-use Rattle.office_records.specs.Office.{OfficeState, Records, Memory, memory_of, set_at}
+use Rattle.office_model.specs.Office.{OfficeState, Records, set_at}
+use Rattle.office_records.specs.Memory.{Memory, memory_of}
 use Rattle.office_records.specs.Stands.{IsKept, once, parts_of}
 use Rattle.office_store.specs.Beginning.{Begins}
 use Rattle.office_store.specs.Changes.{draft_put, draft_removed}
-use Rattle.office_store.specs.Commands.{Gives, draft_dropped, draft_in, draft_made, first_timetable, is_draft_number, named, penalty_now}
+use Rattle.office_model.specs.Commands.{Gives, draft_dropped, draft_in, draft_made, first_timetable, is_draft_number, named, penalty_now}
 use Rattle.office_store.specs.Running.{IsFault}
-use Rattle.office_store.specs.declared.fault.Refusal.TheVariants.{File}
-use Rattle.office_store.specs.declared.fault.StoreFault.{StoreFault}
-use Rattle.office_store.specs.declared.fault.StoreFault.TheVariants.{NoDraft, DraftTaken, Refused, Store}
+use Rattle.office_model.specs.declared.fault.Refusal.TheVariants.{File}
+use Rattle.office_model.specs.declared.fault.StoreFault.{StoreFault}
+use Rattle.office_model.specs.declared.fault.StoreFault.TheVariants.{NoDraft, DraftTaken, Refused, Store}
 use Rattle.office_store.proofs.CommandLemmas.{Denies, Moves}
 use Rattle.office_store.proofs.DraftLemmas.{left_kept, made_kept}
 use Rattle.office_store.proofs.RunLemmas.{IsKeptOf, kept_of}

@@ -4,12 +4,13 @@ use Rattle.sqlite.specs.Effect.{Database}
 use Rattle.sqlite.specs.Held.{Held, state}
 use Rattle.sqlite.specs.State.{State, HasCleanDisk}
 use Rattle.sqlite.specs.Store.{Ghosts}
-use Rattle.office_records.specs.Office.{OfficeState, Memory, memory_of}
+use Rattle.office_model.specs.Office.{OfficeState}
+use Rattle.office_records.specs.Memory.{Memory, memory_of}
 use Rattle.office_records.specs.Stands.{IsKept}
-use Rattle.office_store.specs.Commands.{Gives}
+use Rattle.office_model.specs.Commands.{Gives}
 use Rattle.office_store.specs.Running.{Does, IsAtRest, IsAwake, IsFault, IsStill, Now, Runs}
-use Rattle.office_store.specs.declared.fault.StoreFault.{StoreFault}
-use Rattle.office_store.specs.declared.fault.StoreFault.TheVariants.{NotLoaded}
+use Rattle.office_model.specs.declared.fault.StoreFault.{StoreFault}
+use Rattle.office_model.specs.declared.fault.StoreFault.TheVariants.{NotLoaded}
 use Rattle.office_store.proofs.ReadLemmas.{does_now}
 use Rattle.office_store.proofs.RunLemmas.{at_hand, nothing_kept, now_still}
 

@@ -16,8 +16,8 @@ use Rattle.office_tables.specs.Tables.{Tables, Stands as Held}
 use Rattle.office_tables.specs.declared.rows.DraftRow.{DraftRow}
 use Rattle.office_tables.specs.declared.rows.SlotRow.{SlotRow}
 use Rattle.office_store.specs.Changes.{draft_put, draft_removed}
-use Rattle.office_store.specs.Commands.{draft_in}
-use Rattle.office_records.specs.Office.{OfficeState, Records, AreRecords, set_at}
+use Rattle.office_model.specs.Commands.{draft_in}
+use Rattle.office_model.specs.Office.{OfficeState, Records, AreRecords, set_at}
 use Rattle.office_records.specs.Stands.{Stands, StandsLoaded, IsSound, IsScoredRow, IsKept, drafts_at, slots_at, slots_from, slot_rows, slot_row, parts_of, once}
 use Rattle.office_records.proofs.KeyLemmas.{none_of, all_of_other, each_left}
 use Rattle.office_records.proofs.MemoryLemmas.{same_one}
@@ -129,13 +129,9 @@ module _ (t : Tables) (r : Records) (d : ℕ) (T : Placing) (row : DraftRow) (sl
     enrol = h.enrol;
     draft = λ n. made_draft n (eqb n d) refl;
     slot = λ n. made_slot n (eqb n d) refl;
-    unpublished = record {
-      placed = h.unpublished.placed;
-      seat = h.unpublished.seat;
-      share_student = h.unpublished.share_student;
-      share_part = h.unpublished.share_part;
-      batch = h.unpublished.batch;
-    };
+    published = h.published;
+    shares = h.shares;
+    batches = h.batches;
   }
 
   none_there : drafts_at d t.draft ≡ []
@@ -170,6 +166,8 @@ made_records r d T low high fits h = record {
   owned = h.owned;
   numbered = λ n. number n (eqb n d) refl;
   drafts = λ n S. fit n S (eqb n d);
+  publication = h.publication;
+  batches = h.batches;
 }
   where
     number : (n : ℕ) (b : Bool) → eqb n d ≡ b → IsSome (cond b (Some T) (r.draft n))
@@ -227,13 +225,9 @@ module _ (t : Tables) (r : Records) (d : ℕ) (h : StandsLoaded t r) where
     enrol = h.enrol;
     draft = λ n. left_draft n (eqb n d) refl;
     slot = λ n. left_slot n (eqb n d) refl;
-    unpublished = record {
-      placed = h.unpublished.placed;
-      seat = h.unpublished.seat;
-      share_student = h.unpublished.share_student;
-      share_part = h.unpublished.share_part;
-      batch = h.unpublished.batch;
-    };
+    published = h.published;
+    shares = h.shares;
+    batches = h.batches;
   }
 
 left_sound : (t : Tables) (r : Records) (d : ℕ) → IsSound t (Some r)
@@ -255,6 +249,8 @@ left_records r d h = record {
   owned = h.owned;
   numbered = λ n. number n (eqb n d);
   drafts = λ n S. fit n S (eqb n d);
+  publication = h.publication;
+  batches = h.batches;
 }
   where
     number : (n : ℕ) (b : Bool) → IsSome (cond b None (r.draft n)) → (1 ≤ n) × (n ≤ 8)

@@ -14,14 +14,15 @@ use Rattle.office_tables.specs.declared.rows.DraftRow.{DraftRow}
 use Rattle.office_tables.specs.declared.rows.SlotRow.{SlotRow}
 use Rattle.office_store.specs.Changes.{edit_put}
 use Rattle.exam_draft.specs.Edits.{edited, edited_exams}
-use Rattle.office_store.specs.Commands.{draft_edited, draft_shown, named, penalty_now}
+use Rattle.office_model.specs.Commands.{draft_edited, draft_shown, named, penalty_now}
 use Rattle.office_store.specs.Reading.{AreRowsOf}
 use Rattle.office_store.specs.Running.{Edits, IsFault}
-use Rattle.office_store.specs.declared.fault.Refusal.TheVariants as refusal
-use Rattle.office_store.specs.declared.fault.StoreFault.{StoreFault}
-use Rattle.office_store.specs.declared.fault.StoreFault.TheVariants.{BadSchema, Refused, Store}
+use Rattle.office_model.specs.declared.fault.Refusal.TheVariants as refusal
+use Rattle.office_model.specs.declared.fault.StoreFault.{StoreFault}
+use Rattle.office_model.specs.declared.fault.StoreFault.TheVariants.{BadSchema, Refused, Store}
 use Rattle.exam_draft.specs.declared.edit.Edit.{Edit}
-use Rattle.office_records.specs.Office.{IsOffice, Memory, OfficeState, Records, memory_of, set_at}
+use Rattle.office_model.specs.Office.{IsOffice, OfficeState, Records, set_at}
+use Rattle.office_records.specs.Memory.{Memory, memory_of}
 use Rattle.office_records.specs.Stands.{IsKept, parts_of}
 use Rattle.office_store.proofs.CommandLemmas.{Denies, Moves}
 use Rattle.office_store.proofs.EditLemmas.{edit_kept}

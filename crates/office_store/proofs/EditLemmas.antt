@@ -22,7 +22,7 @@ use Rattle.office_store.specs.Changes.{edit_put}
 use Rattle.exam_draft.specs.Edits.{edited, edited_exams}
 use Rattle.exam_draft.specs.declared.edit.Edit.{Edit}
 use Rattle.exam_draft.specs.declared.edit.Edit.TheVariants as edit
-use Rattle.office_records.specs.Office.{Records, set_at}
+use Rattle.office_model.specs.Office.{Records, set_at}
 use Rattle.office_records.specs.Stands.{StandsLoaded, IsSound, IsScoredRow, IsKept, drafts_at, slots_at, slots_from, slot_rows, parts_of, once}
 use Rattle.office_records.proofs.KeyLemmas.{none_of, all_of_other, each_left}
 use Rattle.office_store.proofs.DraftLemmas.{made_records}
@@ -150,13 +150,9 @@ module _ (t : Tables) (r : Records) (T new : Placing) (row : DraftRow) (exams : 
           enrol = h.enrol;
           draft = λ n. edit_draft n (eqb n row.no) refl;
           slot = λ n. edit_slot n (eqb n row.no) refl;
-          unpublished = record {
-            placed = h.unpublished.placed;
-            seat = h.unpublished.seat;
-            share_student = h.unpublished.share_student;
-            share_part = h.unpublished.share_part;
-            batch = h.unpublished.batch;
-          };
+          published = h.published;
+          shares = h.shares;
+          batches = h.batches;
         })
 
   edit_sound : parts_of row ≡ track r.session r.enrolments new → IsSound t (Some r)

@@ -11,3 +11,4 @@ pub mod EditLemmas
 pub mod EditCallLemmas
 pub mod StepLemmas
 pub mod CommandLemmas
+pub mod OpenLemmas

@@ -14,11 +14,12 @@ use Rattle.office_files.specs.InstanceText.{InstanceText, instance_in, session_o
 use Rattle.office_tables.specs.Tables.{Tables, Stands as Held, empty_tables}
 use Rattle.office_tables.specs.declared.rows.EnrolRow.{EnrolRow}
 use Rattle.office_store.specs.Changes.{session_put}
-use Rattle.office_store.specs.Commands.{fresh, counts_of, loaded}
-use Rattle.office_records.specs.Office.{OfficeState, AreEnrolled}
-use Rattle.office_records.specs.Office.{Memory, memory_of}
-use Rattle.office_store.specs.declared.fault.StoreFault.TheVariants.{Loaded}
-use Rattle.office_store.specs.declared.loading.Loaded as loading
+use Rattle.office_model.specs.Commands.{fresh, counts_of, loaded}
+use Rattle.office_model.specs.Office.{OfficeState, AreEnrolled}
+use Rattle.office_records.specs.Memory.{Memory, memory_of}
+use Rattle.office_model.specs.declared.fault.StoreFault.TheVariants.{Loaded}
+use Rattle.office_model.specs.declared.counts.Loaded as loading
+use Rattle.office_records.proofs.RecordLemmas.{no_batch_kept}
 use Rattle.office_store.proofs.CommandLemmas.{Denies, Moves}
 use Rattle.office_records.specs.Stands.{StandsLoaded, IsKept, enrol_row}
 
@@ -74,13 +75,9 @@ module _ (I : Session) (E : Enrolled) (text : List ℕ) (rows : List EnrolRow)
         (IsPermutation-sym _ _ (IsPermutation-reverse rows)));
     draft = λ d. refl;
     slot = λ d. IsPermutation-refl [];
-    unpublished = record {
-      placed = refl;
-      seat = refl;
-      share_student = refl;
-      share_part = refl;
-      batch = refl;
-    };
+    published = record { none = refl; no_place = refl; no_seat = refl };
+    shares = record { of_students = refl; of_parts = refl };
+    batches = record { none = refl; no_row = refl };
   }
 
   -- the database stands for the office with that session alone
@@ -98,6 +95,8 @@ module _ (I : Session) (E : Enrolled) (text : List ℕ) (rows : List EnrolRow)
       owned = λ e no. absurd (no refl);
       numbered = λ d no. absurd cc;
       drafts = λ d T no. absurd cc;
+      publication = λ p no. absurd cc;
+      batches = no_batch_kept;
     };
   }
 

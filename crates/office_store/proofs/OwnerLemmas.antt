@@ -10,15 +10,16 @@ use Rattle.office_tables.specs.declared.rows.OwnerRow.{OwnerRow}
 use Rattle.office_store.specs.Changes.{owner_put}
 use Rattle.exam_model.specs.Enrolments.{Enrolled}
 use Rattle.exam_model.specs.Instance.{Session}
-use Rattle.office_records.specs.Office.{OfficeState, Memory, Records, AreRecords, memory_of, set_at}
+use Rattle.office_model.specs.Office.{OfficeState, Records, AreRecords, set_at}
+use Rattle.office_records.specs.Memory.{Memory, memory_of}
 use Rattle.office_store.proofs.CommandLemmas.{Denies, Moves}
 use Rattle.office_store.proofs.RunLemmas.{kept_of}
 use Rattle.exam_draft.specs.Edits.{exam_exists}
 use Rattle.exam_draft.specs.declared.fault.EditFault.TheVariants.{NoSuch}
-use Rattle.office_store.specs.Commands.{owned, owner_in}
+use Rattle.office_model.specs.Commands.{owned, owner_in}
 use Rattle.office_records.specs.Stands.{Stands, StandsLoaded, IsSound, IsKept, owners_at, some_dept}
-use Rattle.office_store.specs.declared.fault.Refusal.TheVariants.{Edit}
-use Rattle.office_store.specs.declared.fault.StoreFault.TheVariants.{Refused}
+use Rattle.office_model.specs.declared.fault.Refusal.TheVariants.{Edit}
+use Rattle.office_model.specs.declared.fault.StoreFault.TheVariants.{Refused}
 use Rattle.office_records.proofs.KeyLemmas.{none_of, all_of_other}
 use Rattle.office_records.proofs.MemoryLemmas.{same_one}
 
@@ -67,13 +68,9 @@ module _ (t : Tables) (r : Records) (e d : ℕ) (h : StandsLoaded t r) where
     enrol = h.enrol;
     draft = h.draft;
     slot = h.slot;
-    unpublished = record {
-      placed = h.unpublished.placed;
-      seat = h.unpublished.seat;
-      share_student = h.unpublished.share_student;
-      share_part = h.unpublished.share_part;
-      batch = h.unpublished.batch;
-    };
+    published = h.published;
+    shares = h.shares;
+    batches = h.batches;
   }
   owner_stands false is = record {
     meta = h.meta;
@@ -81,13 +78,9 @@ module _ (t : Tables) (r : Records) (e d : ℕ) (h : StandsLoaded t r) where
     enrol = h.enrol;
     draft = h.draft;
     slot = h.slot;
-    unpublished = record {
-      placed = h.unpublished.placed;
-      seat = h.unpublished.seat;
-      share_student = h.unpublished.share_student;
-      share_part = h.unpublished.share_part;
-      batch = h.unpublished.batch;
-    };
+    published = h.published;
+    shares = h.shares;
+    batches = h.batches;
   }
 
 -- what is put where a department is 0, and where it is not
@@ -116,6 +109,8 @@ owner_records r e d exists few h = record {
   owned = λ x. exam x (eqb x e) refl;
   numbered = h.numbered;
   drafts = h.drafts;
+  publication = h.publication;
+  batches = h.batches;
 }
   where
     department : (x : ℕ) (b : Bool) → cond b d (r.owner_of x) ≤ 999

@@ -13,13 +13,14 @@ use Rattle.office_tables.specs.Tables.{Tables}
 use Rattle.office_tables.specs.declared.rows.DraftRow.{DraftRow}
 use Rattle.office_tables.specs.declared.rows.SlotRow.{SlotRow}
 use Rattle.office_records.specs.Found.{AreSlots}
-use Rattle.office_records.specs.Office.{OfficeState, Records, AreRecords, IsOffice, memory_of}
+use Rattle.office_model.specs.Office.{OfficeState, Records, AreRecords, IsOffice}
+use Rattle.office_records.specs.Memory.{memory_of}
 use Rattle.office_records.specs.Stands.{Stands, IsSound, IsScoredRow, drafts_at, slots_at, slots_from, slot_rows, parts_of, once}
 use Rattle.office_records.specs.declared.fault.RecordFault.{RecordFault}
 use Rattle.office_records.specs.declared.fault.RecordFault.TheVariants.{NoMemory, BadRows}
-use Rattle.office_store.specs.declared.fault.StoreFault.{StoreFault}
-use Rattle.office_store.specs.Commands.{Gives, draft_in, draft_shown, session_shown}
-use Rattle.office_store.specs.Faults.{store_fault}
+use Rattle.office_model.specs.declared.fault.StoreFault.{StoreFault}
+use Rattle.office_model.specs.Commands.{Gives, draft_in, draft_shown, session_shown}
+use Rattle.office_records.specs.Faults.{store_fault}
 use Rattle.office_store.specs.Running.{Does, IsFault}
 use Rattle.office_store.specs.Reading.{AreRowsOf, AreScored}
 use Rattle.office_store.proofs.DraftLemmas.{slots_are}

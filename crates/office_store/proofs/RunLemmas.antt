@@ -2,11 +2,11 @@
 use Rattle.std.proofs.Common.{◌≡◌, Some, None, refl, sym, ◌∙◌, ap, subst, IsTrue, inl, inr}
 use Rattle.exam_model.specs.Enrolments.{Enrolled}
 use Rattle.exam_model.specs.Instance.{Session}
-use Rattle.sqlite.specs.State.{State, HasCleanDisk}
+use Rattle.sqlite.specs.State.{State, HasCleanDisk, IsUnchanged}
 use Rattle.office_tables.specs.Steps.{Keeps}
 use Rattle.office_tables.specs.Tables.{Tables, Stands as Held}
-use Rattle.office_records.specs.Office.{OfficeState, Records}
-use Rattle.office_records.specs.Office.{Memory, memory_of}
+use Rattle.office_model.specs.Office.{OfficeState, Records}
+use Rattle.office_records.specs.Memory.{Memory, memory_of}
 use Rattle.office_store.specs.Running.{Now, IsAtRest, IsAwake, IsStill}
 use Rattle.office_records.specs.Stands.{IsKept}
 use Rattle.office_store.specs.Turning.{Undone}
@@ -69,18 +69,26 @@ kept_of (Some r) I E h = record {
     some_is : {X : Type 0} {x y : X} → Some x ≡ Some y → x ≡ y
     some_is e = cc
 
--- ---- a reader, of a file that can be read
+-- ---- a reader of one table, which opens no store
 
-pub now_read : (a b : State) (o : OfficeState) → IsAwake a → IsKept a.now o
-    → ((t : Tables) → Held a.now t → Keeps a b) → Now b o
-now_read a b o awake kept reads opened =
-    let still = still_kept a b (λ _. awake.1) (reads kept.held kept.tables) opened in
-    subst (λ db. IsKept db o) (sym still.1) kept
+-- all that was written had been committed
+module _ (a b : State) (m : Memory) (rest : IsAtRest a m) (clean : HasCleanDisk b → HasCleanDisk a)
+    (settled : IsTrue a.is_open → a.now ≡ a.committed) where
+  -- it leaves the tables, or what was committed
+  module _ (was_open : HasCleanDisk b → IsTrue b.is_open → IsTrue a.is_open)
+      (reads : HasCleanDisk b → (t : Tables) → Held a.now t → Keeps a b) where
+    pub still_read : HasCleanDisk b → IsStill a b
+    still_read is_clean opened =
+        let here = rest (clean is_clean) (was_open is_clean opened) in
+        still_kept a b settled (reads is_clean here.1.held here.1.tables) opened
 
-pub rest_read : (a b : State) (m : Memory) → IsAtRest a m → (HasCleanDisk b → HasCleanDisk a)
-    → (HasCleanDisk b → IsAwake a) → (HasCleanDisk b → (t : Tables) → Held a.now t → Keeps a b)
-    → IsAtRest b m
-rest_read a b m rest clean awake reads is_clean opened =
-    let woken = awake is_clean in
-    let here = rest (clean is_clean) woken.0 in
-    (here.0, now_read a b here.0 woken here.1 (reads is_clean) opened, here.2)
+    pub rest_read : IsAtRest b m
+    rest_read = rest_still a b m clean still_read rest
+
+  -- it has answered: what stands now stood before
+  pub kept_read : (HasCleanDisk b → IsTrue a.is_open)
+      → (HasCleanDisk b → (t : Tables) → Held a.now t → IsUnchanged a b)
+      → HasCleanDisk b → (o : OfficeState) → IsKept b.now o → IsKept a.now o
+  kept_read was_open same is_clean o =
+      let here = rest (clean is_clean) (was_open is_clean) in
+      subst (λ db. IsKept db o) (same is_clean here.1.held here.1.tables).0.now_is

@@ -1,7 +1,5 @@
 -- A whole transaction, from a connection at rest to its commit.
-use Rattle.std.proofs.Common.{◌≡◌, refl, sym, subst, IsTrue, Result, OnOk, arith, true, false, []}
-use Rattle.std.proofs.lemmas.Result.{on_ok_weaker}
-use Rattle.sqlite.specs.declared.error.Error.{Error}
+use Rattle.std.proofs.Common.{◌≡◌, refl, sym, subst, IsTrue, arith, true, false, []}
 use Rattle.sqlite.specs.Held.{Held, state}
 use Rattle.sqlite.specs.State.{HasCleanDisk, Survives, Shows, KeepsCounts}
 use Rattle.sqlite.specs.Store.{Ghosts}
@@ -22,16 +20,16 @@ module _ {S : Type 0} (g : Ghosts S) (old begun last end : Held S)
   pub changed : (f : Tables → Tables)
       → (HasCleanDisk (state g last) → IsTrue begun.in_transaction
       → Makes f (state g begun) (state g last))
-      → (r : Result (Unit {0}) Error)
-      → (HasCleanDisk (state g end) → OnOk r (IsTrue (state g last).in_transaction
+      → (HasCleanDisk (state g end) → IsTrue (state g last).in_transaction
       × Shows (state g last) (state g end) (state g last).now (state g last).now false
-      × KeepsCounts (state g last) (state g end) × ((state g end).marks ≡ [])))
-      → HasCleanDisk (state g end) → OnOk r (Changed f (state g old) (state g end))
-  changed f makes r ok clean =
+      × KeepsCounts (state g last) (state g end) × ((state g end).marks ≡ []))
+      → HasCleanDisk (state g end) → Changed f (state g old) (state g end)
+  changed f makes ok clean =
       let before = last_clean clean in
+      let done = ok clean in
       let made = subst (λ h. IsTrue h.in_transaction → Makes f (state g h) (state g last)) begins
       (makes before) refl in
-      on_ok_weaker r (λ done. record {
+      record {
         was_open = was_open before done.1.was_open;
         makes = λ t h. subst (λ db. Stands db (f t)) (sym done.1.now_is) (made.1 t h);
-      }) (ok clean)
+      }

@@ -1,7 +1,7 @@
-pub mod Commands
 pub mod Changes
 pub mod Faults
 pub mod Turning
 pub mod Running
 pub mod Reading
 pub mod Beginning
+pub mod Opening

@@ -4,9 +4,9 @@ use Rattle.std.specs.Borrow.{Bor}
 use Rattle.std.specs.List.{AllByRecursion}
 use Rattle.office_tables.specs.declared.rows.DraftRow.{DraftRow}
 use Rattle.office_tables.specs.declared.rows.SlotRow.{SlotRow}
-use Rattle.office_records.specs.Office.{OfficeState}
+use Rattle.office_model.specs.Office.{OfficeState}
 use Rattle.office_records.specs.Stands.{IsScoredRow, once, slot_rows}
-use Rattle.office_store.specs.Commands.{draft_in}
+use Rattle.office_model.specs.Commands.{draft_in}
 
 -- each row of a draft has the penalty of its timetable
 abbrev pub AreScored : List DraftRow → OfficeState → Type 0

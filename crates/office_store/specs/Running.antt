@@ -6,12 +6,13 @@ use Rattle.sqlite.specs.Held.{Held, state}
 use Rattle.sqlite.specs.State.{State, HasCleanDisk}
 use Rattle.sqlite.specs.Store.{Ghosts}
 use Rattle.exam_draft.specs.Edits.{edited}
-use Rattle.office_store.specs.Commands.{Gives, draft_edited}
+use Rattle.office_model.specs.Commands.{Gives, draft_edited}
 use Rattle.exam_draft.specs.declared.edit.Edit.{Edit}
-use Rattle.office_records.specs.Office.{OfficeState, Records, Memory, memory_of}
+use Rattle.office_model.specs.Office.{OfficeState, Records}
+use Rattle.office_records.specs.Memory.{Memory, memory_of}
 use Rattle.office_records.specs.Stands.{IsKept}
-use Rattle.office_store.specs.declared.fault.StoreFault.{StoreFault}
-use Rattle.office_store.specs.declared.fault.StoreFault.TheVariants.{Store, BadSchema}
+use Rattle.office_model.specs.declared.fault.StoreFault.{StoreFault}
+use Rattle.office_model.specs.declared.fault.StoreFault.TheVariants.{Store, BadSchema}
 
 -- while the store is open, its tables stand for this office
 abbrev pub Now : State → OfficeState → Type 0

@@ -3,14 +3,15 @@ ghost use Rattle.std.specs.Prelude.{◌≡◌, ◌⊎◌, false, IfErr, IfOk, On
 ghost use Rattle.sqlite.specs.Held.{state};
 ghost use Rattle.sqlite.specs.State.{HasCleanDisk, IsUnchanged};
 ghost use Rattle.office_tables.specs.Steps.{Keeps};
-ghost use Rattle.office_records.specs.Office.{AreTogether, OfficeState, memory_of};
+ghost use Rattle.office_model.specs.Office.{OfficeState};
+ghost use Rattle.office_records.specs.Memory.{AreTogether, memory_of};
 ghost use Rattle.office_records.specs.Stands.{IsKept};
 ghost use Rattle.office_store.specs.Faults.{IsOfDatabase};
 ghost use Rattle.office_store.specs.Turning.{Undone};
 
-use crate::fault::StoreFault;
 use crate::office::Office;
 use exam_model::{Enrolments, Instance};
+use office_model::StoreFault;
 use office_records::kept_of;
 use office_tables::adopt_tables;
 use sqlite::{Alter, Connection};
@@ -19,7 +20,8 @@ use std::alloc::Global;
 impl<S: Alter> Office<S> {
     /// Takes over a database that holds an office. `BadSchema`: the tables are not those of an
     /// office, or what they hold is not what it should be. `Store`: a statement failed, memory was
-    /// refused, or a transaction is open. A refusal hands the connection back; nothing changes.
+    /// refused, a transaction is open, or the row numbers of a table don't ascend, which no file
+    /// that SQLite wrote shows. A refusal hands the connection back; nothing changes.
     pub fn adopt(
         alloc: Global,
         conn: Connection<S>,
@@ -67,8 +69,10 @@ fn kept_in<S: Alter>(
         → Keeps (state S.Store conn.old) (state S.Store conn.new) }
     ensures rests { conn.old.in_transaction ≡ false → conn.new.in_transaction ≡ false }
 {
-    let Some(found) = adopt_tables(alloc, conn)? else {
-        return Err(StoreFault::BadSchema);
+    let found = match adopt_tables(alloc, conn) {
+        Ok(Some(found)) => found,
+        Ok(None) => return Err(StoreFault::BadSchema),
+        Err(_) => return Err(StoreFault::Store),
     };
     let kept = kept_of(alloc, &found)?;
     Ok(kept)

@@ -5,18 +5,19 @@ ghost use Rattle.sqlite.specs.State.{HasCleanDisk};
 ghost use Rattle.exam_model.specs.Fits.{PlaceExists};
 ghost use Rattle.office_tables.specs.Amounts.{AreAmounts};
 ghost use Rattle.office_store.specs.Beginning.{Begins};
-ghost use Rattle.office_store.specs.Commands.{draft_dropped, draft_in, draft_made, first_timetable, is_draft_number};
-ghost use Rattle.office_records.specs.Office.{OfficeState};
+ghost use Rattle.office_model.specs.Commands.{draft_dropped, draft_in, draft_made, first_timetable, is_draft_number};
+ghost use Rattle.office_model.specs.Office.{OfficeState};
 ghost use Rattle.office_store.specs.Reading.{AreScored};
 ghost use Rattle.office_store.specs.Running.{IsAwake, Now, Runs};
 ghost use Rattle.office_records.specs.Stands.{IsKept, once, parts_of, slots_from};
 
-use crate::fault::StoreFault;
+use crate::fault::Failed;
 use crate::office::Office;
 use crate::transactions::{put_draft, remove_draft};
 use exam_model::{Enrolments, ExamNo, Instance, Timetable};
 use exam_score::{Parts, score};
 use office_files::read_solution;
+use office_model::StoreFault;
 use office_tables::{DraftRow, SlotRow, drafts_of};
 use sqlite::Alter;
 use std::alloc::{AllocError, Global};
@@ -63,7 +64,7 @@ impl<S: Alter> Office<S> {
     }
 
     // The row of a draft: one, or none.
-    pub(crate) fn drafts(&mut self, alloc: Global, number: u32) -> Result<Vec<DraftRow>, StoreFault>
+    pub(crate) fn drafts(&mut self, alloc: Global, number: u32) -> Result<Vec<DraftRow>, Failed>
         ensures rows { HasCleanDisk (state S.Store self.new) → (office : OfficeState)
             → IsKept (state S.Store self.new).now office
             → IfOk result (λ rows. map (λ r. r.no) rows.items
@@ -75,11 +76,10 @@ impl<S: Alter> Office<S> {
             → Now (state S.Store self.old) office → Now (state S.Store self.new) office }
         ensures awake { HasCleanDisk (state S.Store self.new)
             → OnOk result (IsAwake (state S.Store self.new)) }
-        ensures fault { IfErr result (λ e. e ≡ StoreFault.Store) }
         ensures clean { HasCleanDisk (state S.Store self.new)
             → HasCleanDisk (state S.Store self.old) }
     {
-        self.look()?;
+        let _at_rest = self.conn.is_autocommit(); // read for what it says of the last commit
         let rows = drafts_of(alloc, &mut self.conn, number)?;
         Ok(rows)
     }

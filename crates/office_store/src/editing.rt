@@ -5,19 +5,20 @@ ghost use Rattle.sqlite.specs.State.{HasCleanDisk};
 ghost use Rattle.exam_model.specs.Fits.{Fits};
 ghost use Rattle.exam_score.specs.Track.{track};
 ghost use Rattle.exam_draft.specs.Edits.{edited, edited_exams};
-ghost use Rattle.office_records.specs.Office.{IsOffice, Records, memory_of};
-ghost use Rattle.office_store.specs.Commands.{draft_edited, named};
+ghost use Rattle.office_model.specs.Office.{IsOffice, Records};
+ghost use Rattle.office_records.specs.Memory.{memory_of};
+ghost use Rattle.office_model.specs.Commands.{draft_edited, named};
 ghost use Rattle.office_store.specs.Reading.{AreRowsOf};
 ghost use Rattle.office_store.specs.Running.{Edits, Runs};
 
 use crate::drafting::draft_row;
-use crate::fault::{Refusal, StoreFault};
 use crate::office::Office;
 use crate::reading::{DraftRows, draft_of};
 use crate::transactions::put_edit;
 use exam_draft::{Draft, Edit};
 use exam_model::{Enrolments, Instance, Timetable};
 use exam_score::Parts;
+use office_model::{Refusal, StoreFault};
 use sqlite::Alter;
 use std::alloc::Global;
 

@@ -7,11 +7,11 @@ mod editing;
 mod fault;
 mod loading;
 mod office;
+mod opening;
 mod owning;
 mod reading;
 mod transactions;
 
 pub use exam_draft::Edit;
-pub use fault::{Refusal, StoreFault};
-pub use loading::Loaded;
 pub use office::Office;
+pub use office_model::{Loaded, Refusal, StoreFault};

@@ -5,32 +5,19 @@ ghost use Rattle.sqlite.specs.State.{HasCleanDisk};
 ghost use Rattle.exam_model.specs.Enrolments.{AreEnrolments, students};
 ghost use Rattle.exam_model.specs.Instance.{IsInstance};
 ghost use Rattle.exam_model.specs.Pairs.{pairs_at, pairs_of};
-ghost use Rattle.office_store.specs.Commands.{NamesFirstFault, SpellsSession, counts_of, loaded};
+ghost use Rattle.office_model.specs.Commands.{NamesFirstFault, SpellsSession, counts_of, loaded};
 ghost use Rattle.office_store.specs.Running.{Runs};
 ghost use Rattle.office_records.specs.Stands.{enrol_row};
 
-use crate::fault::StoreFault;
 use crate::office::Office;
 use crate::transactions::put_session;
 use exam_model::{Enrolments, ExamNo, Instance, StudentNo};
 use office_files::read_instance;
+use office_model::{Loaded, StoreFault};
 use office_records::text_of;
 use office_tables::EnrolRow;
 use sqlite::Alter;
 use std::alloc::{AllocError, Global};
-
-/// How much was loaded.
-#[derive(Clone, Copy, Debug, PartialEq, Eq)]
-pub struct Loaded {
-    /// 1 to 2,000.
-    pub exams: u32,
-    /// Pairs of a student and an exam that she sits, at most 200,000.
-    pub pairs: u32,
-    /// 1 to 200.
-    pub periods: u32,
-    /// 1 to 200.
-    pub rooms: u32,
-}
 
 impl<S: Alter> Office<S> {
     /// Loads the session of an instance file with its enrolments, once. `Refused`: the file is faulty;

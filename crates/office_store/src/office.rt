@@ -8,9 +8,9 @@ ghost use Rattle.office_store.specs.Running.{IsAwake, IsStill};
 ghost use Rattle.office_store.specs.Turning.{Undone};
 ghost use Rattle.office_records.specs.Stands.{IsKept};
 
-use crate::fault::StoreFault;
 use crate::transactions::make_tables;
 use exam_model::{Enrolments, Instance};
+use office_model::StoreFault;
 use office_tables::{is_bare, look};
 use sqlite::{Alter, Connection};
 use std::marker::Model;
@@ -27,7 +27,7 @@ pub struct Office<S: Alter> {
 impl<S: Alter> Model for Office<S> {
     ghost use Rattle.std.specs.Prelude.{◌≡◌, false};
     ghost use Rattle.sqlite.specs.Held.{Held, held_code, state};
-    ghost use Rattle.office_records.specs.Office.{AreTogether};
+    ghost use Rattle.office_records.specs.Memory.{AreTogether};
     ghost use Rattle.office_store.specs.Running.{IsAtRest};
 
     ghost Value = { Held S };
@@ -79,8 +79,10 @@ impl<S: Alter> Office<S> {
         ensures clean { HasCleanDisk (state S.Store self.new) → HasCleanDisk (state S.Store self.old) }
     {
         let _at_rest = self.conn.is_autocommit(); // read for what it says of the last commit
-        look(&mut self.conn)?;
-        Ok(())
+        match look(&mut self.conn) {
+            Ok(()) => Ok(()),
+            Err(_) => Err(StoreFault::Store),
+        }
     }
 
     /// Gives the connection back, with its tables.

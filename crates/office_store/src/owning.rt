@@ -1,17 +1,18 @@
 // Who owns an exam.
-ghost use Rattle.std.specs.Prelude.{◌≡◌, ◌≤◌, IfErr, IfOk, map};
+ghost use Rattle.std.specs.Prelude.{◌≡◌, ◌≤◌, IfErr, IfOk, OnOk, map};
 ghost use Rattle.sqlite.specs.Held.{state};
 ghost use Rattle.sqlite.specs.State.{HasCleanDisk};
-ghost use Rattle.office_store.specs.Commands.{owned, owner_in};
-ghost use Rattle.office_records.specs.Office.{OfficeState};
-ghost use Rattle.office_store.specs.Running.{Now, Reads, Runs};
+ghost use Rattle.office_model.specs.Commands.{owned, owner_in};
+ghost use Rattle.office_model.specs.Office.{OfficeState};
+ghost use Rattle.office_store.specs.Running.{IsAwake, Now, Reads, Runs};
 ghost use Rattle.office_records.specs.Stands.{some_dept};
 
-use crate::fault::{Refusal, StoreFault};
+use crate::fault::Failed;
 use crate::office::Office;
 use crate::transactions::put_owner;
 use exam_draft::EditFault;
 use exam_model::ExamNo;
+use office_model::{Refusal, StoreFault};
 use office_tables::{OwnerRow, owners_of};
 use sqlite::Alter;
 use std::alloc::Global;
@@ -38,6 +39,9 @@ impl<S: Alter> Office<S> {
     /// The department that owns an exam; 0 where there is no such exam or owner.
     pub fn owner(&mut self, alloc: Global, exam: ExamNo) -> Result<u32, StoreFault>
         ensures reads { Reads S.Store (owner_in exam) self.old self.new result }
+        // What is at hand is then what the file says.
+        ensures awake { HasCleanDisk (state S.Store self.new)
+            → OnOk result (IsAwake (state S.Store self.new)) }
         ensures clean { HasCleanDisk (state S.Store self.new) → HasCleanDisk (state S.Store self.old) }
     {
         let rows = self.owners(alloc, exam)?;
@@ -49,16 +53,17 @@ impl<S: Alter> Office<S> {
     }
 
     // The rows of an exam's owner: one, or none.
-    fn owners(&mut self, alloc: Global, exam: ExamNo) -> Result<Vec<OwnerRow>, StoreFault>
+    fn owners(&mut self, alloc: Global, exam: ExamNo) -> Result<Vec<OwnerRow>, Failed>
         ensures rows { HasCleanDisk (state S.Store self.new) → (office : OfficeState)
             → Now (state S.Store self.old) office
             → IfOk result (λ rows. map (λ r. r.dept) rows.items ≡ some_dept (owner_in exam office)) }
         ensures still { HasCleanDisk (state S.Store self.new) → (office : OfficeState)
             → Now (state S.Store self.old) office → Now (state S.Store self.new) office }
-        ensures fault { IfErr result (λ e. e ≡ StoreFault.Store) }
+        ensures awake { HasCleanDisk (state S.Store self.new)
+            → OnOk result (IsAwake (state S.Store self.new)) }
         ensures clean { HasCleanDisk (state S.Store self.new) → HasCleanDisk (state S.Store self.old) }
     {
-        self.look()?;
+        let _at_rest = self.conn.is_autocommit(); // read for what it says of the last commit
         let rows = owners_of(alloc, &mut self.conn, exam.get())?;
         Ok(rows)
     }

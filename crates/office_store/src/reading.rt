@@ -4,17 +4,19 @@ ghost use Rattle.sqlite.specs.Held.{state};
 ghost use Rattle.sqlite.specs.State.{HasCleanDisk};
 ghost use Rattle.exam_model.specs.Fits.{Fits};
 ghost use Rattle.exam_score.specs.Track.{track};
-ghost use Rattle.office_records.specs.Office.{IsOffice, OfficeState, memory_of};
-ghost use Rattle.office_store.specs.Commands.{draft_in, draft_shown, session_shown};
+ghost use Rattle.office_model.specs.Office.{IsOffice, OfficeState};
+ghost use Rattle.office_records.specs.Memory.{memory_of};
+ghost use Rattle.office_model.specs.Commands.{draft_in, draft_shown, session_shown};
 ghost use Rattle.office_records.specs.Stands.{IsKept, slot_rows};
 ghost use Rattle.office_store.specs.Reading.{AreRowsOf, shown};
 ghost use Rattle.office_store.specs.Running.{Does, IsAwake, IsStill, Now, Runs};
 
 use crate::drafting::draft_row;
-use crate::fault::StoreFault;
+use crate::fault::Failed;
 use crate::office::Office;
 use exam_model::{Enrolments, Instance, Timetable};
 use exam_score::{Parts, score};
+use office_model::StoreFault;
 use office_records::timetable_of;
 use office_tables::{DraftRow, SlotRow, slots_of};
 use sqlite::Alter;
@@ -28,8 +30,9 @@ pub(crate) struct DraftRows {
 }
 
 impl<S: Alter> Office<S> {
-    /// The session with its live enrolments, as they are at hand: what the file says while it can be
-    /// read, which `look` asks. `NotLoaded`: there is none yet.
+    /// The session with its live enrolments, as they are at hand: what the file says while it can
+    /// be read, which `draft`, `owner` or `look` tell where they answer. `NotLoaded`: there is
+    /// none yet.
     pub fn session(&self) -> Result<(&Instance, &Enrolments), StoreFault>
         ensures shown { HasCleanDisk (state S.Store self.now)
             → IsTrue (state S.Store self.now).is_open → (office : OfficeState)
@@ -48,6 +51,9 @@ impl<S: Alter> Office<S> {
     /// number.
     pub fn draft(&mut self, alloc: Global, number: u32) -> Result<(Timetable, Parts), StoreFault>
         ensures runs { Runs S.Store (draft_shown number) self.old self.new result }
+        // What is at hand is then what the file says.
+        ensures awake { HasCleanDisk (state S.Store self.new)
+            → OnOk result (IsAwake (state S.Store self.new)) }
         ensures clean { HasCleanDisk (state S.Store self.new) → HasCleanDisk (state S.Store self.old) }
     {
         let found = self.draft_rows(alloc, number)?;
@@ -58,7 +64,7 @@ impl<S: Alter> Office<S> {
     }
 
     // The rows of a draft and of its places.
-    pub(crate) fn draft_rows(&mut self, alloc: Global, number: u32) -> Result<DraftRows, StoreFault>
+    pub(crate) fn draft_rows(&mut self, alloc: Global, number: u32) -> Result<DraftRows, Failed>
         ensures rows { HasCleanDisk (state S.Store self.new) → (office : OfficeState)
             → IsKept (state S.Store self.new).now office
             → IfOk result (λ found. AreRowsOf office number found.rows.items found.slots.items) }
@@ -66,7 +72,6 @@ impl<S: Alter> Office<S> {
             → Now (state S.Store self.old) office → Now (state S.Store self.new) office }
         ensures awake { HasCleanDisk (state S.Store self.new)
             → OnOk result (IsAwake (state S.Store self.new)) }
-        ensures fault { IfErr result (λ e. e ≡ StoreFault.Store) }
         ensures clean { HasCleanDisk (state S.Store self.new) → HasCleanDisk (state S.Store self.old) }
     {
         let rows = self.drafts(alloc, number)?;
@@ -75,7 +80,7 @@ impl<S: Alter> Office<S> {
     }
 
     // The rows of a draft's places.
-    fn slots(&mut self, alloc: Global, number: u32) -> Result<Vec<SlotRow>, StoreFault>
+    fn slots(&mut self, alloc: Global, number: u32) -> Result<Vec<SlotRow>, Failed>
         ensures rows { HasCleanDisk (state S.Store self.new) → (office : OfficeState)
             → IsKept (state S.Store self.new).now office
             → IfOk result (λ rows.
@@ -84,10 +89,9 @@ impl<S: Alter> Office<S> {
             → IsStill (state S.Store self.old) (state S.Store self.new) }
         ensures awake { HasCleanDisk (state S.Store self.new)
             → OnOk result (IsAwake (state S.Store self.new)) }
-        ensures fault { IfErr result (λ e. e ≡ StoreFault.Store) }
         ensures clean { HasCleanDisk (state S.Store self.new) → HasCleanDisk (state S.Store self.old) }
     {
-        self.look()?;
+        let _at_rest = self.conn.is_autocommit(); // read for what it says of the last commit
         let rows = slots_of(alloc, &mut self.conn, number)?;
         Ok(rows)
     }

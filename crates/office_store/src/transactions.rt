@@ -9,6 +9,7 @@ ghost use Rattle.office_tables.specs.Tables.{Stands, empty_tables};
 ghost use Rattle.office_store.specs.Changes.{draft_put, draft_removed, edit_put, owner_put, session_put, slot_put, slots_put};
 ghost use Rattle.office_store.specs.Turning.{Changed, Turned, Undone};
 
+use crate::fault::Failed;
 use exam_model::{ExamNo, Place, Timetable};
 use office_tables::{
     DraftRow, EnrolRow, OwnerRow, SlotRow, create_tables, delete_draft, delete_meta, delete_owner,
@@ -18,7 +19,7 @@ use office_tables::{
 use sqlite::{Alter, Connection, Error, Transaction};
 
 // Makes the ten tables, which then stand for the office without a session.
-pub fn make_tables<S: Alter>(conn: &mut Connection<S>) -> Result<(), Error>
+pub fn make_tables<S: Alter>(conn: &mut Connection<S>) -> Result<(), Failed>
     requires rests { conn.old.in_transaction ≡ false }
     ensures done { HasCleanDisk (state S.Store conn.new) → OnOk result (Turned (IsBlank no_schema)
         (λ db. Stands db empty_tables) (state S.Store conn.old) (state S.Store conn.new)) }
@@ -29,7 +30,8 @@ pub fn make_tables<S: Alter>(conn: &mut Connection<S>) -> Result<(), Error>
 {
     let mut tx = conn.transaction();
     create_tables(&mut tx)?;
-    tx.commit()
+    tx.commit()?;
+    Ok(())
 }
 
 // The session in place of none, and its enrolments.
@@ -53,7 +55,7 @@ pub fn put_session<S: Alter>(
     conn: &mut Connection<S>,
     instance: &[u8],
     pairs: &[EnrolRow],
-) -> Result<(), Error>
+) -> Result<(), Failed>
     requires rests { conn.old.in_transaction ≡ false }
     ensures done { HasCleanDisk (state S.Store conn.new)
         → OnOk result (Changed (session_put instance.now pairs.now) (state S.Store conn.old)
@@ -65,7 +67,8 @@ pub fn put_session<S: Alter>(
 {
     let mut tx = conn.transaction();
     session_in(&mut tx, instance, pairs)?;
-    tx.commit()
+    tx.commit()?;
+    Ok(())
 }
 
 // An owner in place of another; a department 0 is none.
@@ -82,7 +85,7 @@ fn owner_in<S: Alter>(tx: &mut Transaction<'_, S>, exam: u32, dept: u32) -> Resu
 }
 
 // Puts an exam's owner in place of another.
-pub fn put_owner<S: Alter>(conn: &mut Connection<S>, exam: u32, dept: u32) -> Result<(), Error>
+pub fn put_owner<S: Alter>(conn: &mut Connection<S>, exam: u32, dept: u32) -> Result<(), Failed>
     requires rests { conn.old.in_transaction ≡ false }
     ensures done { HasCleanDisk (state S.Store conn.new) → OnOk result (Changed (owner_put exam dept)
         (state S.Store conn.old) (state S.Store conn.new)) }
@@ -93,7 +96,8 @@ pub fn put_owner<S: Alter>(conn: &mut Connection<S>, exam: u32, dept: u32) -> Re
 {
     let mut tx = conn.transaction();
     owner_in(&mut tx, exam, dept)?;
-    tx.commit()
+    tx.commit()?;
+    Ok(())
 }
 
 // A draft, with the places of its exams.
@@ -116,7 +120,7 @@ pub fn put_draft<S: Alter>(
     conn: &mut Connection<S>,
     row: DraftRow,
     slots: &[SlotRow],
-) -> Result<(), Error>
+) -> Result<(), Failed>
     requires rests { conn.old.in_transaction ≡ false }
     requires amounts { AreAmounts row }
     ensures done { HasCleanDisk (state S.Store conn.new) → OnOk result (Changed (draft_put row slots.now)
@@ -128,7 +132,8 @@ pub fn put_draft<S: Alter>(
 {
     let mut tx = conn.transaction();
     draft_in(&mut tx, row, slots)?;
-    tx.commit()
+    tx.commit()?;
+    Ok(())
 }
 
 // A draft goes, with the places of its exams.
@@ -142,7 +147,7 @@ fn draft_out<S: Alter>(tx: &mut Transaction<'_, S>, number: u32) -> Result<(), E
 }
 
 // Takes a draft out, with the places of its exams.
-pub fn remove_draft<S: Alter>(conn: &mut Connection<S>, number: u32) -> Result<(), Error>
+pub fn remove_draft<S: Alter>(conn: &mut Connection<S>, number: u32) -> Result<(), Failed>
     requires rests { conn.old.in_transaction ≡ false }
     ensures done { HasCleanDisk (state S.Store conn.new) → OnOk result (Changed (draft_removed number)
         (state S.Store conn.old) (state S.Store conn.new)) }
@@ -153,7 +158,8 @@ pub fn remove_draft<S: Alter>(conn: &mut Connection<S>, number: u32) -> Result<(
 {
     let mut tx = conn.transaction();
     draft_out(&mut tx, number)?;
-    tx.commit()
+    tx.commit()?;
+    Ok(())
 }
 
 // An exam stands there in a draft, or nowhere.
@@ -225,7 +231,7 @@ pub fn put_edit<S: Alter>(
     row: DraftRow,
     timetable: &Timetable,
     exams: &[ExamNo],
-) -> Result<(), Error>
+) -> Result<(), Failed>
     requires rests { conn.old.in_transaction ≡ false }
     requires amounts { AreAmounts row }
     requires exist { All (λ e. e < length timetable.now) exams.now }
@@ -239,5 +245,6 @@ pub fn put_edit<S: Alter>(
 {
     let mut tx = conn.transaction();
     edit_in(&mut tx, row, timetable, exams)?;
-    tx.commit()
+    tx.commit()?;
+    Ok(())
 }

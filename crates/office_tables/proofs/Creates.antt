@@ -1,5 +1,5 @@
 -- What each CREATE TABLE means, one after the other.
-use Rattle.std.proofs.Common.{◌≡◌, ℕ, List, [], false, codes, Ok, refl}
+use Rattle.std.proofs.Common.{◌≡◌, ◌∙◌, ℕ, List, [], false, codes, length, Ok, ap, arith, refl, sym}
 use Rattle.std.specs.Fmt.{digits}
 use Rattle.sqlite.specs.Command.TheVariants.{CreateTable}
 use Rattle.sqlite.specs.Compile.{table_defined_by}
@@ -11,7 +11,9 @@ use Rattle.sqlite_tied.specs.Compute.{everything}
 use Rattle.sqlite.specs.Change.{created}
 use Rattle.sqlite.specs.Does.{lacks_sequence}
 use Rattle.sqlite.specs.State.{State}
+use Rattle.sqlite.specs.Effect.{Database}
 use Rattle.office_tables.specs.Steps.{HasRun, Leads}
+use Rattle.office_tables.specs.Tables.{Tables, Stands}
 use Rattle.office_tables.proofs.Statements.{creates}
 use Rattle.office_schema.specs.Schema.{office_schema}
 use Rattle.office_tables.specs.Schema.{IsBlank, no_schema, schema_1, schema_2, schema_3, schema_4, schema_5, schema_6, schema_7, schema_8, schema_9, schema_10}
@@ -107,3 +109,10 @@ batch_defined = record { command = refl; whole = refl; defined = refl; plain = (
 pub whole : schema_10 ≡ office_schema
 unfolding digits
 whole = refl
+
+-- a database where these tables stand is not bare
+pub has_tables : (db : Database) (t : Tables) → Stands db t → db.schema ≡ no_schema → ⊥
+has_tables db t stands bare =
+    let none : length office_schema.tables ≡ length no_schema.tables =
+    ap (λ (s : Schema). length s.tables) (sym stands.schema ∙ bare) in
+    omega (none, arith)

@@ -1,19 +1,13 @@
 -- What a statement inside a transaction leaves of it.
-use Rattle.std.proofs.Common.{◌+◌, ◌<◌, ◌++◌, ◌∷◌, [], reverse, take, get_or, length, ◌≡◌, inl, inr, ℕ, List, Bool, true, false, Ok, Err, Result, refl, ap, ◌∙◌, IsTrue, arith, subst, IfErr, OnErr, OnOk}
+use Rattle.std.proofs.Common.{◌+◌, ◌<◌, ◌++◌, ◌∷◌, [], reverse, take, get_or, length, ◌≡◌, inl, inr, ℕ, List, Bool, true, false, Ok, Err, Result, refl, ap, ◌∙◌, IsTrue, arith, OnOk}
 use Rattle.std.proofs.lemmas.List.{take_more, reverse-append}
 use Rattle.sqlite_value.specs.Order.{Row}
-use Rattle.sqlite_trees.specs.Tree.{Trees}
 use Rattle.sqlite.specs.declared.error.Error.{Error}
 use Rattle.sqlite.specs.State.{State, HasCleanDisk, Survives, Executes, ExecutesInside, KeepsCommit}
-use Rattle.std.proofs.lemmas.Result.{IfErr-weaker, on_ok_weaker}
-use Rattle.sqlite.specs.Effect.{Database}
-use Rattle.sqlite.specs.Held.{Held, state}
-use Rattle.sqlite.specs.Store.{Ghosts}
-use Rattle.sqlite.proofs.Callers.{survives_begin}
-use Rattle.sqlite.specs.Steps.{FailsToCommit}
+use Rattle.std.proofs.lemmas.Result.{on_ok_weaker}
 use Rattle.sqlite.proofs.StateLemmas.{survives_then}
 use Rattle.office_tables.specs.Tables.{Tables, Stands}
-use Rattle.office_tables.specs.Steps.{Within, HasRun, Makes, Undoes, Commits, Leads}
+use Rattle.office_tables.specs.Steps.{Within, HasRun, Makes}
 
 -- what answers `Ok` was inside
 pub inside_of : {T E Z : Type 0} {x : T} {e : E} (b : Bool) → (b ≡ false → (◌≡◌ {A = Result T E} (Ok x) (Err e)) × Z) → IsTrue b
@@ -56,67 +50,6 @@ pub changes_by : (f : Tables → Tables) (sql : List ℕ) (params : Row) (old ne
     → OnOk r (HasRun sql params old new) → OnOk r (Makes f old new)
 changes_by f sql params old new r step =
     on_ok_weaker r (λ ran. (ran.inside, λ t stands. step ran.count t stands ran.executed))
-
--- ---- a whole transaction, from a connection at rest
-
--- a commit that failed leaves the last commit
-pub commit_undone : (old last end : State) (e : Error) → IsTrue last.in_transaction → KeepsCommit old last → FailsToCommit last end e → Undoes old end
-commit_undone old last end e inside kept (inl h) = record {
-  now = λ o. (h.3.undone o).0 ∙ kept.committed (h.3.was_open o);
-  committed = λ o. (h.3.undone o).1 ∙ kept.committed (h.3.was_open o);
-}
-commit_undone old last end e inside kept (inr h) = absurd (let is = h.1 in cc)
-
-pub commit_clean : (last end : State) (P : Trees → Type 0) → Survives last end P → HasCleanDisk end → HasCleanDisk last
-commit_clean last end P s clean = omega (arith, s.clean)
-
-pub leads_then : (P Q R : Database → Type 0) (a b c : State) → Leads P Q a b → Leads Q R b c → Leads P R a c
-leads_then P Q R a b c p q = (q.0, λ h. q.1 (p.1 h))
-
--- from the connection as it was before `transaction`, through what was done last, to how it ended
-module _ {S : Type 0} (g : Ghosts S) (old begun last end : Held S) (begins : begun ≡ record old { in_transaction = true }) (within : Within (state g begun) (state g last))
-    (survives : Survives (state g last) (state g end) (λ db. db ≡ (state g last).now.trees)) where
-  last_clean : HasCleanDisk (state g end) → HasCleanDisk (state g last)
-  last_clean = commit_clean (state g last) (state g end) _ survives
-
-  kept_from : HasCleanDisk (state g last) → KeepsCommit (state g old) (state g last)
-  kept_from clean =
-      let k = (subst (λ h. Within (state g h) (state g last)) begins within).kept clean in
-      record { was_open = k.was_open; committed = k.committed }
-
-  module _ (P Q : Database → Type 0) (leads : HasCleanDisk (state g last) → IsTrue begun.in_transaction → Leads P Q (state g begun) (state g last)) where
-    pub led : HasCleanDisk (state g last) → Leads P Q (state g old) (state g last)
-    led clean =
-        let m = subst (λ h. IsTrue h.in_transaction → Leads P Q (state g h) (state g last)) begins (leads clean) refl in
-        (m.0, m.1)
-
-    pub led_undone : (r : Result (Unit {0}) Error) → (HasCleanDisk (state g end) → IfErr r (FailsToCommit (state g last) (state g end))) → HasCleanDisk (state g end) → OnErr r (Undoes (state g old) (state g end))
-    led_undone r h clean =
-        let before = last_clean clean in
-        IfErr-weaker r _ _ (λ e fails. commit_undone (state g old) (state g last) (state g end) e (led before).0 (kept_from before) fails) (h clean)
-
-    pub led_survives : Survives (state g old) (state g end) (λ trees. (after : Database) × (trees ≡ after.trees) × (P (state g old).now → Q after))
-    led_survives =
-        survives_then (state g old) (state g last) (state g end) _ _ _ (λ _ db none. absurd none)
-        (λ clean db is. ((state g last).now, is, (led (last_clean clean)).1))
-        (survives_begin g old (state g last) _ (subst (λ h. Within (state g h) (state g last)) begins within).survives) survives
-
-  module _ (f : Tables → Tables) (makes : HasCleanDisk (state g last) → IsTrue begun.in_transaction → Makes f (state g begun) (state g last)) where
-    made : HasCleanDisk (state g last) → Makes f (state g old) (state g last)
-    made clean =
-        let m = subst (λ h. IsTrue h.in_transaction → Makes f (state g h) (state g last)) begins (makes clean) refl in
-        (m.0, m.1)
-
-    pub whole_undone : (r : Result (Unit {0}) Error) → (HasCleanDisk (state g end) → IfErr r (FailsToCommit (state g last) (state g end))) → HasCleanDisk (state g end) → OnErr r (Undoes (state g old) (state g end))
-    whole_undone r h clean =
-        let before = last_clean clean in
-        IfErr-weaker r _ _ (λ e fails. commit_undone (state g old) (state g last) (state g end) e (made before).0 (kept_from before) fails) (h clean)
-
-    pub whole_survives : Survives (state g old) (state g end) (Commits f (state g old))
-    whole_survives =
-        survives_then (state g old) (state g last) (state g end) _ _ _ (λ _ db none. absurd none)
-        (λ clean db is. ((state g last).now, is, (made (last_clean clean)).1))
-        (survives_begin g old (state g last) _ (subst (λ h. Within (state g h) (state g last)) begins within).survives) survives
 
 -- ---- a loop of inserts
 

@@ -1,15 +1,13 @@
 -- What a reader leaves.
-use Rattle.std.proofs.Common.{inl, inr, ℕ, List, Some, None, Ok, Err, Result, OnOk, Option, arith, sym, subst, ◌∙◌}
+use Rattle.std.proofs.Common.{inl, inr, ℕ, List, Some, None, Ok, Err, Result, OnOk, Option, subst, ◌∙◌}
 use Rattle.sqlite_value.specs.Order.{Row}
 use Rattle.sqlite.specs.declared.error.Error.{Error}
 use Rattle.sqlite_schema.specs.declared.command.Returning.{Returning}
 use Rattle.sqlite_resolve.specs.declared.compiled.Compiled.{Compiled}
 use Rattle.sqlite.specs.Listing.{understood}
 use Rattle.sqlite.specs.State.{State, Survives, IsUnchanged, IsRolledBack, IsNotRun, FailsToShow, FailsToQuery, Shown, ShowsRows, CommitsShowing}
-use Rattle.sqlite.proofs.StateLemmas.{survives_weaker, survives_then}
+use Rattle.sqlite.proofs.StateLemmas.{survives_weaker}
 use Rattle.sqlite.proofs.Callers.{IsPlain, never_commits}
-use Rattle.sqlite.specs.Effect.{Database}
-use Rattle.sqlite.specs.State.{HasCleanDisk}
 use Rattle.office_tables.specs.Tables.{Tables, Stands}
 use Rattle.office_tables.specs.Steps.{Nothing, Keeps}
 
@@ -41,13 +39,6 @@ shown_same sql params old new rows plain h = (subst (ShowsRows old new sql h.0 _
 pub commits_nothing : (sql : List ℕ) (params : Row) (old new : State) → ((t : Tables) → Stands old.now t → IsPlain (understood old.now.schema sql)) → Survives old new (CommitsShowing sql params old)
     → Survives old new (Nothing old)
 commits_nothing sql params old new plain = survives_weaker old new _ _ (λ _ db h t stands. never_commits sql params old db (plain t stands) h)
-
--- a second reader after the first
-pub nothing_then : (a b c : State) → (HasCleanDisk b → (t : Tables) → Stands a.now t → Stands b.now t) → Survives a b (Nothing a) → Survives b c (Nothing b) → Survives a c (Nothing a)
-nothing_then a b c same p q = survives_then a b c _ _ _ (λ _ db h. h) (λ clean db h t stands. h t (same (omega (arith, clean, q.clean)) t stands)) p q
-
-pub stands_still : (a b : State) (t : Tables) → IsUnchanged a b → Stands a.now t → Stands b.now t
-stands_still a b t same = subst (λ (d : Database). Stands d t) (sym same.0.now_is)
 
 pub keeps_after : (a b c : State) → IsUnchanged a b → Keeps b c → Keeps a c
 keeps_after a b c same h = record {

@@ -1,5 +1,5 @@
--- What a step leaves of a connection: inside a transaction, at its end, and after a reader. The store
--- says what a connection shows by states: as it is now, as it was last committed, and what a crash leaves.
+-- What a step leaves of a connection: inside a transaction, and after a reader. The store says what a
+-- connection shows by states: as it is now, as it was last committed, and what a crash leaves.
 use Rattle.std.specs.Prelude.{◌≡◌, ◌⊎◌, ℕ, List, false, IsTrue, IfOk, OnOk, Ok, Result}
 use Rattle.sqlite_trees.specs.Tree.{Trees}
 use Rattle.sqlite_value.specs.Order.{Row}
@@ -8,8 +8,7 @@ use Rattle.sqlite.specs.Effect.{Database}
 use Rattle.sqlite.specs.Held.{Held, state}
 use Rattle.sqlite.specs.State.{State, Executes, HasCleanDisk, Survives, KeepsCommit, IsUnchanged}
 use Rattle.sqlite.specs.Store.{Ghosts}
-use Rattle.office_tables.specs.Schema.{no_schema, IsBlank}
-use Rattle.office_tables.specs.Tables.{Tables, Stands, empty_tables}
+use Rattle.office_tables.specs.Tables.{Tables, Stands}
 
 -- ---- inside a transaction
 
@@ -54,25 +53,6 @@ Changes store f old new result =
     HasCleanDisk (state store new) → IsTrue old.in_transaction
     → OnOk result (Makes f (state store old) (state store new))
 
--- ---- a whole transaction
-
--- the database is as the last commit left it
-pub record Undoes (old new : State) : Type 0 where
-  pub now : IsTrue new.is_open → new.now ≡ old.committed
-  pub committed : IsTrue new.is_open → new.committed ≡ old.committed
-
--- the trees are those of a database whose tables have changed so
-abbrev pub Commits : (Tables → Tables) → State → Trees → Type 0
-Commits f old trees =
-    (after : Database) × (trees ≡ after.trees)
-    × ((t : Tables) → Stands old.now t → Stands after (f t))
-
--- the trees are those of a new office, where there was no table
-abbrev pub IsCreated : State → Trees → Type 0
-IsCreated old trees =
-    (after : Database) × (trees ≡ after.trees)
-    × (IsBlank no_schema old.now → Stands after empty_tables)
-
 -- ---- a reader
 
 -- it commits nothing where the tables stand
@@ -85,6 +65,17 @@ pub record Keeps (old new : State) : Type 0 where
   pub now : IsTrue new.is_open → (new.now ≡ old.now) ⊎ (new.now ≡ old.committed)
   pub committed : IsTrue new.is_open → new.committed ≡ old.committed
   pub mode : old.in_transaction ≡ false → new.in_transaction ≡ false
+
+-- of a connection: on a clean disk, what answers Ok was open
+abbrev pub AnswersOpen : {S X : Type 0} → Ghosts S → Held S → Held S → Result X Error → Type 0
+AnswersOpen store old new result =
+    HasCleanDisk (state store new) → OnOk result (IsTrue (state store old).is_open)
+
+-- and what is open afterwards was
+abbrev pub OpensNone : {S : Type 0} → Ghosts S → Held S → Held S → Type 0
+OpensNone store old new =
+    HasCleanDisk (state store new)
+    → IsTrue (state store new).is_open → IsTrue (state store old).is_open
 
 -- the same of a connection: on a clean disk, where the tables stand, what is answered is so
 abbrev pub Reads : {S X : Type 0} → Ghosts S → (Tables → X → Type 0)

@@ -5,7 +5,7 @@ ghost use Rattle.sqlite.specs.State.{Survives};
 ghost use Rattle.office_tables.specs.Changes.{with_draft, without_draft};
 ghost use Rattle.office_tables.specs.Tables.{draft_row};
 ghost use Rattle.sqlite.specs.Values.{bound};
-ghost use Rattle.office_tables.specs.Steps.{Changes, LeavesAll, LeavesCommitted, Nothing, Reads, Within};
+ghost use Rattle.office_tables.specs.Steps.{AnswersOpen, Changes, LeavesAll, LeavesCommitted, Nothing, OpensNone, Reads, Within};
 ghost use Rattle.office_tables.specs.Amounts.{AreAmounts};
 
 use crate::amounts::signed;
@@ -64,6 +64,8 @@ pub fn drafts_of<S: Alter>(
     no: u32,
 ) -> Result<Vec<DraftRow>, Error>
     ensures rows { Reads S.Store (λ t rows. IsPermutation (filter (λ r. r.no == no) t.draft) rows.items) conn.old conn.new result }
+    ensures open { AnswersOpen S.Store conn.old conn.new result }
+    ensures was_open { OpensNone S.Store conn.old conn.new }
     ensures same { LeavesAll S.Store conn.old conn.new result }
     ensures kept { LeavesCommitted S.Store conn.old conn.new }
     ensures mode { conn.old.in_transaction ≡ false → conn.new.in_transaction ≡ false }

@@ -3,7 +3,7 @@ ghost use Rattle.std.specs.Prelude.{◌≡◌, ◌==◌, false, filter, IsPermut
 ghost use Rattle.sqlite.specs.Held.{state};
 ghost use Rattle.sqlite.specs.State.{Survives};
 ghost use Rattle.office_tables.specs.Changes.{with_owner, without_owner};
-ghost use Rattle.office_tables.specs.Steps.{Changes, LeavesAll, LeavesCommitted, Nothing, Reads, Within};
+ghost use Rattle.office_tables.specs.Steps.{AnswersOpen, Changes, LeavesAll, LeavesCommitted, Nothing, OpensNone, Reads, Within};
 
 use crate::records::read_all;
 use crate::rows::OwnerRow;
@@ -40,6 +40,8 @@ pub fn owners_of<S: Alter>(
     exam: u32,
 ) -> Result<Vec<OwnerRow>, Error>
     ensures rows { Reads S.Store (λ t rows. IsPermutation (filter (λ r. r.exam == exam) t.owner) rows.items) conn.old conn.new result }
+    ensures open { AnswersOpen S.Store conn.old conn.new result }
+    ensures was_open { OpensNone S.Store conn.old conn.new }
     ensures same { LeavesAll S.Store conn.old conn.new result }
     ensures kept { LeavesCommitted S.Store conn.old conn.new }
     ensures mode { conn.old.in_transaction ≡ false → conn.new.in_transaction ≡ false }

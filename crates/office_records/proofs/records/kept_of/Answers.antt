@@ -6,7 +6,7 @@ use Rattle.exam_model.specs.Timetable.{Placing}
 use Rattle.office_tables.specs.Adopting.{tables_of}
 use Rattle.office_tables.specs.Tables.{Tables, empty_tables}
 use Rattle.office_records.specs.Found.{AreOwners, AreEnrolRows, AreDrafts}
-use Rattle.office_records.specs.Office.{OfficeState, Records, AreRecords, IsOffice}
+use Rattle.office_model.specs.Office.{OfficeState, Records, AreRecords, IsOffice}
 use Rattle.office_records.specs.Stands.{IsSound, Stands, StandsLoaded}
 use Rattle.office_records.specs.declared.fault.RecordFault.{RecordFault}
 use Rattle.office_records.specs.declared.fault.RecordFault.TheVariants.{BadRows}

@@ -1,4 +1,4 @@
-use Rattle.std.proofs.Common.{rules, ◌≡◌, subst, OnOk}
+use Rattle.std.proofs.Common.{rules, ◌≡◌, subst}
 use Rattle.sqlite.specs.Held.{state}
 use Rattle.sqlite.specs.State.{HasCleanDisk}
 use Rattle.office_store.specs.Changes.{edit_put}
@@ -12,8 +12,7 @@ returns-clause-done g c =
     let same : c.commit.new.self.0 ≡ c.conn-2-1.given.0 = search rules in
     let all = changed g.S.Store old c.transaction-tx.result.conn.now c.edit_in.new.tx.conn.now
     c.commit.new.self.0 c.transaction-tx.ensures.begun c.edit_in.ensures.within
-    c.commit.ensures.survives _ c.in_ok-edit_in.ensures.makes c.commit.result
-    c.commit.ensures.ok in
-    subst (λ h. HasCleanDisk (state g.S.Store h) → OnOk c.commit.result
-    (Changed (edit_put c.args.row c.args.timetable.now c.args.exams.now) (state g.S.Store old)
-    (state g.S.Store h))) same all
+    c.commit.ensures.survives _ c.in_ok-edit_in.ensures.makes c.in_ok-commit.ensures.ok in
+    subst (λ h. HasCleanDisk (state g.S.Store h)
+    → Changed (edit_put c.args.row c.args.timetable.now c.args.exams.now) (state g.S.Store old)
+    (state g.S.Store h)) same all

@@ -1,4 +1,4 @@
-use Rattle.std.proofs.Common.{rules, ◌≡◌, subst, OnOk}
+use Rattle.std.proofs.Common.{rules, ◌≡◌, subst}
 use Rattle.sqlite.specs.Held.{state}
 use Rattle.sqlite.specs.State.{HasCleanDisk}
 use Rattle.office_store.specs.Changes.{draft_removed}
@@ -12,8 +12,7 @@ returns-clause-done g c =
     let same : c.commit.new.self.0 ≡ c.conn-2-1.given.0 = search rules in
     let all = changed g.S.Store old c.transaction-tx.result.conn.now c.draft_out.new.tx.conn.now
     c.commit.new.self.0 c.transaction-tx.ensures.begun c.draft_out.ensures.within
-    c.commit.ensures.survives _ c.in_ok-draft_out.ensures.makes c.commit.result
-    c.commit.ensures.ok in
-    subst (λ h. HasCleanDisk (state g.S.Store h) → OnOk c.commit.result
-    (Changed (draft_removed c.args.number) (state g.S.Store old) (state g.S.Store h)))
+    c.commit.ensures.survives _ c.in_ok-draft_out.ensures.makes c.in_ok-commit.ensures.ok in
+    subst (λ h. HasCleanDisk (state g.S.Store h) → Changed (draft_removed c.args.number)
+    (state g.S.Store old) (state g.S.Store h))
     same all

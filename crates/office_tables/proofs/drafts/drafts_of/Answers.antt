@@ -3,6 +3,7 @@ use Rattle.std.proofs.lemmas.Result.{IfOk-weaker}
 use Rattle.sqlite.specs.Held.{state}
 use Rattle.office_tables.specs.Records.{draft_of}
 use Rattle.office_tables.proofs.DraftLemmas.{drafts_of_text, drafts_of_plain_in, drafts_of_read}
+use Rattle.office_tables.proofs.LookLemmas.{was_open}
 use Rattle.office_tables.proofs.Reading.{on_ok_both, kept_failed, kept_unchanged, shown_same, commits_nothing}
 use Rattle.office_tables.proofs.drafts.drafts_of.Goals as goal
 
@@ -40,3 +41,15 @@ returns-clause-same g c clean t stands =
     let old = state g.S.Store c.args.conn.now in
     on_ok_both c.read_all.result
     (shown_same drafts_of_text _ old _ _ (drafts_of_plain_in old t stands) (c.in_ok-rows.ensures.ok clean))
+
+pub returns-clause-open : goal.returns-clause-open
+returns-clause-open g c clean =
+    on_ok_both c.read_all.result
+    (was_open drafts_of_text _ _ _ _ (c.in_ok-rows.ensures.ok clean))
+
+pub returns-clause-was_open : goal.returns-clause-was_open
+returns-clause-was_open g c clean _ = was_open drafts_of_text _ _ _ _ (c.in_ok-rows.ensures.ok clean)
+
+pub returns-in_err-rows-clause-was_open : goal.returns-in_err-rows-clause-was_open
+returns-in_err-rows-clause-was_open g c clean =
+    (kept_failed drafts_of_text _ _ _ _ (c.in_err-rows.ensures.err clean)).was_open

@@ -1,7 +1,7 @@
 use Rattle.std.proofs.Common.{rules, ◌≡◌, None, refl}
 use Rattle.sqlite.specs.Held.{state}
-use Rattle.office_store.specs.Commands.{draft_dropped}
-use Rattle.office_store.specs.declared.fault.StoreFault.TheVariants.{NoDraft, NotLoaded}
+use Rattle.office_model.specs.Commands.{draft_dropped}
+use Rattle.office_model.specs.declared.fault.StoreFault.TheVariants.{NoDraft, NotLoaded}
 use Rattle.office_store.proofs.CallLemmas.{drop_denied, drop_moves}
 use Rattle.office_store.proofs.CommandLemmas.{not_loaded, refuses, rests, runs, seen}
 use Rattle.office_store.proofs.office.Office.drop_draft.Goals as goal

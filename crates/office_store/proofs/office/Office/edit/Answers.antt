@@ -1,9 +1,9 @@
 use Rattle.std.proofs.Common.{rules, ◌≡◌, Err, refl, sym, subst}
 use Rattle.sqlite.specs.Held.{state}
 use Rattle.exam_draft.specs.Edits.{edited_exams}
-use Rattle.office_store.specs.Commands.{draft_edited}
+use Rattle.office_model.specs.Commands.{draft_edited}
 use Rattle.office_store.specs.Running.{Runs}
-use Rattle.office_store.specs.declared.fault.StoreFault.TheVariants.{NotLoaded}
+use Rattle.office_model.specs.declared.fault.StoreFault.TheVariants.{NotLoaded}
 use Rattle.office_store.proofs.CommandLemmas.{not_loaded, refuses, rests, runs, seen}
 use Rattle.office_store.proofs.EditCallLemmas.{edit_denied, edit_moves}
 use Rattle.office_store.proofs.office.Office.edit.Goals as goal

@@ -3,9 +3,9 @@ use Rattle.std.specs.Prelude.{is_some}
 use Rattle.sqlite.specs.Held.{state}
 use Rattle.exam_model.specs.Enrolments.{Enrolled}
 use Rattle.exam_model.specs.Instance.{Session}
-use Rattle.office_records.specs.Office.{AreEnrolled}
-use Rattle.office_store.specs.Commands.{loaded}
-use Rattle.office_store.specs.declared.fault.StoreFault.TheVariants.{Loaded}
+use Rattle.office_model.specs.Office.{AreEnrolled}
+use Rattle.office_model.specs.Commands.{loaded}
+use Rattle.office_model.specs.declared.fault.StoreFault.TheVariants.{Loaded}
 use Rattle.office_store.proofs.CommandLemmas.{refuses, rests, runs, stays_by}
 use Rattle.office_store.proofs.LoadLemmas.{as_many, load_denied, load_moves}
 use Rattle.office_store.proofs.office.Office.load.Goals as goal

@@ -1,9 +1,9 @@
 use Rattle.std.proofs.Common.{Err, ap, refl, ◌∙◌, sym, subst}
 use Rattle.std.proofs.lemmas.Result.{err_from_is_err_and}
 use Rattle.sqlite.specs.Held.{state}
-use Rattle.office_store.specs.Commands.{draft_made}
+use Rattle.office_model.specs.Commands.{draft_made}
 use Rattle.office_store.specs.Running.{Runs}
-use Rattle.office_store.specs.declared.fault.StoreFault.TheVariants.{DraftTaken, NoDraft, NotLoaded}
+use Rattle.office_model.specs.declared.fault.StoreFault.TheVariants.{DraftTaken, NoDraft, NotLoaded}
 use Rattle.office_store.proofs.CallLemmas.{made_moves, number_denied, taken_denied, text_denied}
 use Rattle.office_store.proofs.CommandLemmas.{not_loaded, refuses, rests, runs, seen}
 use Rattle.office_store.proofs.office.Office.new_draft.Goals as goal

@@ -1,6 +1,6 @@
 use Rattle.std.proofs.Common.{Some, None, refl, ap, subst}
 use Rattle.sqlite.specs.Held.{state}
-use Rattle.office_store.specs.Commands.{session_shown}
+use Rattle.office_model.specs.Commands.{session_shown}
 use Rattle.office_store.specs.Running.{IsAtRest}
 use Rattle.office_store.proofs.ReadLemmas.{session_told}
 use Rattle.office_store.proofs.RunLemmas.{at_hand, nothing_kept}

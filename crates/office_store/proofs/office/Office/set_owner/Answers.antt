@@ -1,9 +1,9 @@
 use Rattle.std.proofs.Common.{◌<◌, ◌≤◌, length, arith, refl}
 use Rattle.sqlite.specs.Held.{state}
 use Rattle.exam_draft.specs.declared.fault.EditFault.TheVariants.{NoSuch}
-use Rattle.office_store.specs.Commands.{owned}
-use Rattle.office_store.specs.declared.fault.Refusal.TheVariants.{Edit}
-use Rattle.office_store.specs.declared.fault.StoreFault.TheVariants.{NotLoaded, Refused}
+use Rattle.office_model.specs.Commands.{owned}
+use Rattle.office_model.specs.declared.fault.Refusal.TheVariants.{Edit}
+use Rattle.office_model.specs.declared.fault.StoreFault.TheVariants.{NotLoaded, Refused}
 use Rattle.office_store.proofs.CommandLemmas.{not_loaded, refuses, rests, runs, stays_by}
 use Rattle.office_store.proofs.OwnerLemmas.{no_exam_denied, owner_moves}
 use Rattle.office_store.proofs.office.Office.set_owner.Goals as goal

@@ -1,8 +1,8 @@
 use Rattle.std.proofs.Common.{sym, subst}
 use Rattle.office_records.specs.Stands.{IsKept}
-use Rattle.office_program.proofs.LoadFacts.{before_load, fails, if_err, if_ok, is_kept}
-use Rattle.office_program.proofs.LoadFacts.{kept_still, or_none}
-use Rattle.office_program.proofs.loading.office_in.Goals as goal
+use Rattle.office_store.proofs.AdoptLemmas.{kept_still}
+use Rattle.office_store.proofs.OpenLemmas.{before_load, fails, if_err, if_ok, is_kept, or_none}
+use Rattle.office_store.proofs.office.Office.open.Goals as goal
 
 -- a new office has no session
 pub returns-then-is_bare-clause-found : goal.returns-then-is_bare-clause-found
@@ -15,7 +15,7 @@ returns-then-is_bare-clause-found g c = if_ok c.create.result _ _ _
 pub returns-else-is_bare-clause-found : goal.returns-else-is_bare-clause-found
 returns-else-is_bare-clause-found g c = if_ok c.adopt.result _ _ _
     (λ office same _ clean there is stays. kept_still g.S.Store _ _ there (same clean)
-    (is_kept _ there (fails _ _ c.is_bare.ensures.1 c.if-is_bare.false) is) stays)
+    (is_kept _ there (fails _ _ c.is_bare.ensures.1 c.if-is_bare.false) is))
     c.adopt.ensures.same c.adopt.ensures.same
 
 -- what is no office's database

@@ -1,0 +1,47 @@
+-- The office that a database stands for when it is opened, by whether it has a table.
+use Rattle.std.proofs.Common.{◌≡◌, ◌∙◌, ◌⊎◌, None, inl, inr, sym, subst, Bool, true, false}
+use Rattle.std.proofs.Common.{Err, IfErr, IfOk, Ok, Result}
+use Rattle.std.specs.Prelude.{IsTrue}
+use Rattle.sqlite.specs.Effect.{Database}
+use Rattle.office_tables.specs.Schema.{no_schema}
+use Rattle.office_tables.proofs.Creates.{has_tables}
+use Rattle.office_model.specs.Office.{OfficeState}
+use Rattle.office_records.specs.Stands.{IsKept}
+use Rattle.office_store.specs.Faults.{IsOfDatabase}
+use Rattle.office_store.specs.Opening.{IsOfficeOf}
+use Rattle.office_model.specs.declared.fault.StoreFault.{StoreFault}
+use Rattle.office_model.specs.declared.fault.StoreFault.TheVariants.{BadSchema, Store}
+
+-- with no table, it stands for the office before its load alone
+pub before_load : (db : Database) (there : OfficeState) → db.schema ≡ no_schema
+    → IsOfficeOf db there → there ≡ None
+before_load db there bare (inl is) = is.1
+before_load db there bare (inr kept) = absurd (has_tables db kept.held kept.tables bare)
+
+-- with tables, it is kept
+pub is_kept : (db : Database) (there : OfficeState) → (db.schema ≡ no_schema → ⊥)
+    → IsOfficeOf db there → IsKept db there
+is_kept db there tables (inl is) = absurd (tables is.0)
+is_kept db there tables (inr kept) = kept
+
+-- a test that fails
+pub fails : (b : Bool) (P : Type 0) → (P → IsTrue b) → b ≡ false → P → ⊥
+fails b P tells is holds = let never : true ≡ false = sym (tells holds) ∙ is in cc
+
+-- what follows from two facts of a value follows of an Ok
+pub if_ok : {A E : Type 0} (result : Result A E) (P Q T : A → Type 0)
+    → ((a : A) → P a → Q a → T a) → IfOk result P → IfOk result Q → IfOk result T
+if_ok (Ok a) P Q T follows p q = follows a p q
+if_ok (Err e) P Q T follows p q = tt
+
+-- and of an Err
+pub if_err : {A E : Type 0} (result : Result A E) (P Q T : E → Type 0)
+    → ((e : E) → P e → Q e → T e) → IfErr result P → IfErr result Q → IfErr result T
+if_err (Ok a) P Q T follows p q = tt
+if_err (Err e) P Q T follows p q = follows e p q
+
+-- a fault of the database is the store's, or what a wrong schema says
+pub or_none : {fault : StoreFault} {P : Type 0} → IsOfDatabase fault → (fault ≡ BadSchema → P)
+    → (fault ≡ Store) ⊎ P
+or_none (inl is) says = inl is
+or_none (inr wrong) says = inr (says wrong)

@@ -1,0 +1,44 @@
+// A database that holds an office or nothing, opened.
+ghost use Rattle.std.specs.Prelude.{◌≡◌, ◌⊎◌, IfErr, IfOk};
+ghost use Rattle.sqlite.specs.Held.{state};
+ghost use Rattle.sqlite.specs.State.{HasCleanDisk};
+ghost use Rattle.office_model.specs.Office.{OfficeState};
+ghost use Rattle.office_store.specs.Faults.{IsOfDatabase};
+ghost use Rattle.office_store.specs.Opening.{IsOfficeOf};
+ghost use Rattle.office_store.specs.Running.{Now};
+ghost use Rattle.office_store.specs.Turning.{Undone};
+
+use crate::office::Office;
+use office_model::StoreFault;
+use office_tables::is_bare;
+use sqlite::{Alter, Connection};
+use std::alloc::Global;
+
+impl<S: Alter> Office<S> {
+    /// The office of a database: a new one where there is no table, index or view. `BadSchema`: what
+    /// is there is no office. `Store`: a statement failed, memory was refused, or a transaction is
+    /// open. A refusal hands the connection back.
+    pub fn open(
+        alloc: Global,
+        conn: Connection<S>,
+    ) -> Result<Office<S>, (StoreFault, Connection<S>)>
+        // The office that the database stands for is the one that is found.
+        ensures found { IfOk result (λ office. HasCleanDisk (state S.Store office)
+            → (there : OfficeState) → IsOfficeOf (state S.Store conn).now there
+            → Now (state S.Store office) there) }
+        ensures fault { IfErr result (λ e. IsOfDatabase e.0) }
+        // But for Store, it stands for none.
+        ensures refused { IfErr result (λ e. HasCleanDisk (state S.Store e.1)
+            → (e.0 ≡ StoreFault.Store) ⊎ ((there : OfficeState)
+            → IsOfficeOf (state S.Store conn).now there → ⊥)) }
+        // Whatever the refusal, the tables are as they were.
+        ensures undone { IfErr result (λ e. (e.1 ≡ conn) ⊎ (HasCleanDisk (state S.Store e.1)
+            → Undone (state S.Store conn) (state S.Store e.1))) }
+    {
+        if is_bare(&conn) {
+            Office::create(conn)
+        } else {
+            Office::adopt(alloc, conn)
+        }
+    }
+}
