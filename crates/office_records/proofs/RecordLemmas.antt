@@ -24,8 +24,8 @@ one_set I rows E F e f =
     (IsPermutation-trans _ _ _ (IsPermutation-sym _ _ e.rows) f.rows)
 
 -- where no batch is kept
-pub none_kept : AreKept []
-none_kept = record {
+pub no_batch_kept : AreKept []
+no_batch_kept = record {
   few = omega arith;
   within = λ k b no. absurd (omega (arith, no));
   numbers = λ j k b before no. absurd (omega (arith, no));
@@ -74,7 +74,7 @@ module _ (found : Found) where
       numbered = drafts.1.numbered;
       drafts = drafts.1.fits;
       publication = λ p no. absurd cc;
-      batches = none_kept;
+      batches = no_batch_kept;
     },
     refl,
   )

@@ -71,38 +71,24 @@ kept_of (Some r) I E h = record {
 
 -- ---- a reader of one table, which opens no store
 
--- all that was written had been committed; the reader leaves the tables, or what was committed
+-- all that was written had been committed
 module _ (a b : State) (m : Memory) (rest : IsAtRest a m) (clean : HasCleanDisk b → HasCleanDisk a)
     (settled : IsTrue a.is_open → a.now ≡ a.committed) where
-  now_read : (o : OfficeState) → ((t : Tables) → Held a.now t → Keeps a b) → IsKept a.now o → Now b o
-  now_read o reads kept opened =
-      let still = still_kept a b settled (reads kept.held kept.tables) opened in
-      subst (λ db. IsKept db o) (sym still.1) kept
-
+  -- it leaves the tables, or what was committed
   module _ (was_open : HasCleanDisk b → IsTrue b.is_open → IsTrue a.is_open)
       (reads : HasCleanDisk b → (t : Tables) → Held a.now t → Keeps a b) where
-    pub rest_read : IsAtRest b m
-    rest_read is_clean opened =
+    pub still_read : HasCleanDisk b → IsStill a b
+    still_read is_clean opened =
         let here = rest (clean is_clean) (was_open is_clean opened) in
-        (here.0, now_read here.0 (reads is_clean) here.1 opened, here.2)
+        still_kept a b settled (reads is_clean here.1.held here.1.tables) opened
 
-    pub stays_read : HasCleanDisk b → (o : OfficeState) → Now a o → Now b o
-    stays_read is_clean o now opened =
-        now_read o (reads is_clean) (now (was_open is_clean opened)) opened
+    pub rest_read : IsAtRest b m
+    rest_read = rest_still a b m clean still_read rest
 
-  -- it has answered
-  module _ (was_open : HasCleanDisk b → IsTrue a.is_open)
-      (same : HasCleanDisk b → (t : Tables) → Held a.now t → IsUnchanged a b) where
-    unchanged_read : HasCleanDisk b → IsUnchanged a b
-    unchanged_read is_clean =
-        let here = rest (clean is_clean) (was_open is_clean) in
-        same is_clean here.1.held here.1.tables
-
-    pub awake_read : HasCleanDisk b → IsAwake b
-    awake_read is_clean =
-        let is = (unchanged_read is_clean).0 in
-        (is.is_open, is.now_is ∙ settled (was_open is_clean) ∙ sym is.committed_is)
-
-    -- what stands now stood before
-    pub kept_read : HasCleanDisk b → (o : OfficeState) → IsKept b.now o → IsKept a.now o
-    kept_read is_clean o = subst (λ db. IsKept db o) (unchanged_read is_clean).0.now_is
+  -- it has answered: what stands now stood before
+  pub kept_read : (HasCleanDisk b → IsTrue a.is_open)
+      → (HasCleanDisk b → (t : Tables) → Held a.now t → IsUnchanged a b)
+      → HasCleanDisk b → (o : OfficeState) → IsKept b.now o → IsKept a.now o
+  kept_read was_open same is_clean o =
+      let here = rest (clean is_clean) (was_open is_clean) in
+      subst (λ db. IsKept db o) (same is_clean here.1.held here.1.tables).0.now_is

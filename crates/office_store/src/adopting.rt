@@ -9,9 +9,9 @@ ghost use Rattle.office_records.specs.Stands.{IsKept};
 ghost use Rattle.office_store.specs.Faults.{IsOfDatabase};
 ghost use Rattle.office_store.specs.Turning.{Undone};
 
-use office_model::StoreFault;
 use crate::office::Office;
 use exam_model::{Enrolments, Instance};
+use office_model::StoreFault;
 use office_records::kept_of;
 use office_tables::adopt_tables;
 use sqlite::{Alter, Connection};
@@ -20,7 +20,8 @@ use std::alloc::Global;
 impl<S: Alter> Office<S> {
     /// Takes over a database that holds an office. `BadSchema`: the tables are not those of an
     /// office, or what they hold is not what it should be. `Store`: a statement failed, memory was
-    /// refused, or a transaction is open. A refusal hands the connection back; nothing changes.
+    /// refused, a transaction is open, or the row numbers of a table don't ascend, which no file
+    /// that SQLite wrote shows. A refusal hands the connection back; nothing changes.
     pub fn adopt(
         alloc: Global,
         conn: Connection<S>,

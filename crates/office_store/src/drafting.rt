@@ -11,13 +11,13 @@ ghost use Rattle.office_store.specs.Reading.{AreScored};
 ghost use Rattle.office_store.specs.Running.{IsAwake, Now, Runs};
 ghost use Rattle.office_records.specs.Stands.{IsKept, once, parts_of, slots_from};
 
-use office_model::StoreFault;
 use crate::fault::Failed;
 use crate::office::Office;
 use crate::transactions::{put_draft, remove_draft};
 use exam_model::{Enrolments, ExamNo, Instance, Timetable};
 use exam_score::{Parts, score};
 use office_files::read_solution;
+use office_model::StoreFault;
 use office_tables::{DraftRow, SlotRow, drafts_of};
 use sqlite::Alter;
 use std::alloc::{AllocError, Global};

@@ -12,13 +12,13 @@ ghost use Rattle.office_store.specs.Reading.{AreRowsOf};
 ghost use Rattle.office_store.specs.Running.{Edits, Runs};
 
 use crate::drafting::draft_row;
-use office_model::{Refusal, StoreFault};
 use crate::office::Office;
 use crate::reading::{DraftRows, draft_of};
 use crate::transactions::put_edit;
 use exam_draft::{Draft, Edit};
 use exam_model::{Enrolments, Instance, Timetable};
 use exam_score::Parts;
+use office_model::{Refusal, StoreFault};
 use sqlite::Alter;
 use std::alloc::Global;
 

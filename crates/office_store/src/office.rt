@@ -8,9 +8,9 @@ ghost use Rattle.office_store.specs.Running.{IsAwake, IsStill};
 ghost use Rattle.office_store.specs.Turning.{Undone};
 ghost use Rattle.office_records.specs.Stands.{IsKept};
 
-use office_model::StoreFault;
 use crate::transactions::make_tables;
 use exam_model::{Enrolments, Instance};
+use office_model::StoreFault;
 use office_tables::{is_bare, look};
 use sqlite::{Alter, Connection};
 use std::marker::Model;

@@ -8,8 +8,8 @@ ghost use Rattle.office_store.specs.Opening.{IsOfficeOf};
 ghost use Rattle.office_store.specs.Running.{Now};
 ghost use Rattle.office_store.specs.Turning.{Undone};
 
-use office_model::StoreFault;
 use crate::office::Office;
+use office_model::StoreFault;
 use office_tables::is_bare;
 use sqlite::{Alter, Connection};
 use std::alloc::Global;

@@ -7,12 +7,12 @@ ghost use Rattle.office_model.specs.Office.{OfficeState};
 ghost use Rattle.office_store.specs.Running.{IsAwake, Now, Reads, Runs};
 ghost use Rattle.office_records.specs.Stands.{some_dept};
 
-use office_model::{Refusal, StoreFault};
 use crate::fault::Failed;
 use crate::office::Office;
 use crate::transactions::put_owner;
 use exam_draft::EditFault;
 use exam_model::ExamNo;
+use office_model::{Refusal, StoreFault};
 use office_tables::{OwnerRow, owners_of};
 use sqlite::Alter;
 use std::alloc::Global;

@@ -10,15 +10,15 @@ ghost use Rattle.office_model.specs.Commands.{draft_in, draft_shown, session_sho
 ghost use Rattle.office_records.specs.Stands.{IsKept, slot_rows};
 ghost use Rattle.office_store.specs.Judging.{draft_judged, listed};
 ghost use Rattle.office_store.specs.Reading.{AreRowsOf, shown};
-ghost use Rattle.office_store.specs.Running.{Does, IsAwake, Now, Runs};
+ghost use Rattle.office_store.specs.Running.{Does, IsAwake, IsStill, Now, Runs};
 
 use crate::drafting::draft_row;
-use office_model::StoreFault;
 use crate::fault::Failed;
 use crate::office::Office;
 use exam_model::{Enrolments, Instance, Timetable};
 use exam_rules::{Breach, breaches};
 use exam_score::{Parts, score};
+use office_model::StoreFault;
 use office_records::timetable_of;
 use office_tables::{DraftRow, SlotRow, slots_of};
 use sqlite::Alter;
@@ -100,8 +100,8 @@ impl<S: Alter> Office<S> {
             → IsKept (state S.Store self.new).now office
             → IfOk result (λ rows.
             IsPermutation rows.items (slot_rows number (draft_in number office))) }
-        ensures still { HasCleanDisk (state S.Store self.new) → (office : OfficeState)
-            → Now (state S.Store self.old) office → Now (state S.Store self.new) office }
+        ensures still { HasCleanDisk (state S.Store self.new)
+            → IsStill (state S.Store self.old) (state S.Store self.new) }
         ensures awake { HasCleanDisk (state S.Store self.new)
             → OnOk result (IsAwake (state S.Store self.new)) }
         ensures clean { HasCleanDisk (state S.Store self.new) → HasCleanDisk (state S.Store self.old) }

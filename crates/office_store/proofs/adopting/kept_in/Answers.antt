@@ -1,4 +1,4 @@
-use Rattle.std.proofs.Common.{◌≡◌, Result, Ok, Err, refl, sym, ◌∙◌, inl, inr, subst}
+use Rattle.std.proofs.Common.{rules, ◌≡◌, Some, None, Result, Ok, Err, refl, sym, ◌∙◌, inl, inr, subst}
 use Rattle.std.specs.Prelude.{IfErr}
 use Rattle.std.specs.Result.{IsErrAnd}
 use Rattle.sqlite.specs.Effect.{Database}
@@ -18,10 +18,11 @@ use Rattle.office_model.specs.declared.fault.StoreFault.TheVariants.{BadSchema}
 use Rattle.office_store.proofs.adopting.kept_in.Goals as goal
 
 -- the tables are foreign
-pub returns-in_default-clause-none : goal.returns-in_default-clause-none
-returns-in_default-clause-none g c clean bad o kept =
+pub returns-in-Ok-None-clause-none : goal.returns-in-Ok-None-clause-none
+returns-in-Ok-None-clause-none g c clean bad o kept =
     let db = (state g.S.Store c.args.conn.now).now in
-    not_foreign db o kept (subst (IsAdopted db) c.in_default.is (c.in_ok-found.ensures.found clean))
+    let none : c.in-Ok-None.field-0 ≡ None = search rules in
+    not_foreign db o kept (subst (IsAdopted db) none (c.in-Ok-None.ensures.found clean))
 
 named : (fault : RecordFault) → store_fault fault ≡ BadSchema → fault ≡ BadRows
 named NoMemory e = absurd cc
@@ -45,11 +46,11 @@ none_found db t held none o kept =
 pub returns-in_err-kept-clause-none : goal.returns-in_err-kept-clause-none
 returns-in_err-kept-clause-none g c clean =
     let db = (state g.S.Store c.args.conn.now).now in
-    let held : Held db (tables_of c.in-Some.found)
-    = subst (IsAdopted db) c.in-Some.is (c.in_ok-found.ensures.found clean) in
-    told c.from_residual-in_err-kept.result c.in_err-kept.field-0.0
-    c.from_residual-in_err-kept.ensures.1
-    (λ bad. none_found db (tables_of c.in-Some.found) held (c.in_err-kept.ensures.none bad))
+    let some : c.in-Ok-Some.field-0 ≡ Some c.in-Ok-Some.found = search rules in
+    let held : Held db (tables_of c.in-Ok-Some.found)
+    = subst (IsAdopted db) some (c.in-Ok-Some.ensures.found clean) in
+    told c.from_residual.result c.in_err-kept.field-0.0 c.from_residual.ensures.1
+    (λ bad. none_found db (tables_of c.in-Ok-Some.found) held (c.in_err-kept.ensures.none bad))
 
 of_database : {X : Type 0} (r : Result X StoreFault) (fault : RecordFault)
     → IsErrAnd r (λ e. e ≡ store_fault fault) → IfErr r IsOfDatabase
@@ -59,5 +60,4 @@ of_database (Err e) BadRows is = inr is
 
 pub returns-in_err-kept-clause-fault : goal.returns-in_err-kept-clause-fault
 returns-in_err-kept-clause-fault g c =
-    of_database c.from_residual-in_err-kept.result c.in_err-kept.field-0.0
-    c.from_residual-in_err-kept.ensures.1
+    of_database c.from_residual.result c.in_err-kept.field-0.0 c.from_residual.ensures.1

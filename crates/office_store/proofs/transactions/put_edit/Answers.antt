@@ -13,6 +13,6 @@ returns-clause-done g c =
     let all = changed g.S.Store old c.transaction-tx.result.conn.now c.edit_in.new.tx.conn.now
     c.commit.new.self.0 c.transaction-tx.ensures.begun c.edit_in.ensures.within
     c.commit.ensures.survives _ c.in_ok-edit_in.ensures.makes c.in_ok-commit.ensures.ok in
-    subst (λ h. HasCleanDisk (state g.S.Store h) 
+    subst (λ h. HasCleanDisk (state g.S.Store h)
     → Changed (edit_put c.args.row c.args.timetable.now c.args.exams.now) (state g.S.Store old)
     (state g.S.Store h)) same all

@@ -12,8 +12,8 @@ invariant_of-self g c = (
   rest_read (state g.S.Store c.self.inside.conn) (state g.S.Store c.drafts_of.new.conn)
       c.self.inside.kept c.self.invariant.1
       (λ k. omega (arith, c.drafts_of.ensures.survives.clean, k))
-      (c.is_autocommit.ensures.settled
-      (c.is_autocommit.ensures.value ∙ ap not c.self.invariant.0))
+      (c.is_autocommit-at_rest.ensures.settled
+      (c.is_autocommit-at_rest.ensures.value ∙ ap not c.self.invariant.0))
       c.drafts_of.ensures.was_open c.drafts_of.ensures.kept,
   c.self.invariant.2,
 )
@@ -23,8 +23,8 @@ returns-clause-rows g c clean office here =
     let kept = kept_read (state g.S.Store c.self.inside.conn) (state g.S.Store c.drafts_of.new.conn)
     c.self.inside.kept c.self.invariant.1
     (λ k. omega (arith, c.drafts_of.ensures.survives.clean, k))
-    (c.is_autocommit.ensures.settled
-    (c.is_autocommit.ensures.value ∙ ap not c.self.invariant.0))
+    (c.is_autocommit-at_rest.ensures.settled
+    (c.is_autocommit-at_rest.ensures.value ∙ ap not c.self.invariant.0))
     c.in_ok-rows.ensures.open c.in_ok-rows.ensures.same clean office here in
     draft_read kept.held office c.args.number c.in_ok-rows.rows.items kept.stands
     (c.in_ok-rows.ensures.rows clean kept.held kept.tables)
@@ -34,8 +34,8 @@ returns-clause-scored g c clean office here =
     let kept = kept_read (state g.S.Store c.self.inside.conn) (state g.S.Store c.drafts_of.new.conn)
     c.self.inside.kept c.self.invariant.1
     (λ k. omega (arith, c.drafts_of.ensures.survives.clean, k))
-    (c.is_autocommit.ensures.settled
-    (c.is_autocommit.ensures.value ∙ ap not c.self.invariant.0))
+    (c.is_autocommit-at_rest.ensures.settled
+    (c.is_autocommit-at_rest.ensures.value ∙ ap not c.self.invariant.0))
     c.in_ok-rows.ensures.open c.in_ok-rows.ensures.same clean office here in
     scored_read kept.held office c.args.number c.in_ok-rows.rows.items kept.sound
     (c.in_ok-rows.ensures.rows clean kept.held kept.tables)

@@ -14,8 +14,8 @@ invariant_of-self g c = (
   rest_read (state g.S.Store c.self.inside.conn) (state g.S.Store c.owners_of.new.conn)
       c.self.inside.kept c.self.invariant.1
       (λ k. omega (arith, c.owners_of.ensures.survives.clean, k))
-      (c.is_autocommit.ensures.settled
-      (c.is_autocommit.ensures.value ∙ ap not c.self.invariant.0))
+      (c.is_autocommit-at_rest.ensures.settled
+      (c.is_autocommit-at_rest.ensures.value ∙ ap not c.self.invariant.0))
       c.owners_of.ensures.was_open c.owners_of.ensures.kept,
   c.self.invariant.2,
 )
