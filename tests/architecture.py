@@ -18,7 +18,9 @@ SQL_LIBRARIES = {
     "sqlite_sql", "sqlite_items", "sqlite_rules", "sqlite_catalog", "sqlite_resolve", "sqlite_tied",
 }
 # Who may name a connection, a store, a database and its values besides.
-SQLITE_NAMERS = SQL_CRATES | {"office_records", "office_store", "office_program", "worked_offices"}
+SQLITE_NAMERS = SQL_CRATES | {
+    "office_records", "office_store", "office_desk", "office_program", "worked_offices",
+}
 
 # Each page, and whether it has to have every crate of the libraries and the program, or of all.
 PAGES = [("MAP.md", "all"), ("PROVED.md", "libraries"), ("CONTRACTS.md", ""), ("WRONG_BODIES.md", "")]

@@ -12,3 +12,4 @@ pub mod EditCallLemmas
 pub mod StepLemmas
 pub mod CommandLemmas
 pub mod OpenLemmas
+pub mod JudgeLemmas

@@ -8,6 +8,7 @@ ghost use Rattle.office_model.specs.Office.{IsOffice, OfficeState};
 ghost use Rattle.office_records.specs.Memory.{memory_of};
 ghost use Rattle.office_model.specs.Commands.{draft_in, draft_shown, session_shown};
 ghost use Rattle.office_records.specs.Stands.{IsKept, slot_rows};
+ghost use Rattle.office_store.specs.Judging.{draft_judged, listed};
 ghost use Rattle.office_store.specs.Reading.{AreRowsOf, shown};
 ghost use Rattle.office_store.specs.Running.{Does, IsAwake, IsStill, Now, Runs};
 
@@ -15,6 +16,7 @@ use crate::drafting::draft_row;
 use crate::fault::Failed;
 use crate::office::Office;
 use exam_model::{Enrolments, Instance, Timetable};
+use exam_rules::{Breach, breaches};
 use exam_score::{Parts, score};
 use office_model::StoreFault;
 use office_records::timetable_of;
@@ -61,6 +63,19 @@ impl<S: Alter> Office<S> {
             return Err(StoreFault::NotLoaded);
         };
         draft_of(alloc, instance, enrolments, number, &found)
+    }
+
+    /// All breaches of a draft, in their order. `NotLoaded`, then `NoDraft`: there is none of this
+    /// number.
+    pub fn breaches(&mut self, alloc: Global, number: u32) -> Result<Vec<Breach>, StoreFault>
+        ensures runs { Runs S.Store (draft_judged number) self.old self.new (listed result) }
+        ensures clean { HasCleanDisk (state S.Store self.new) → HasCleanDisk (state S.Store self.old) }
+    {
+        let rows = self.draft_rows(alloc, number)?;
+        let Some((instance, enrolments)) = &self.kept else {
+            return Err(StoreFault::NotLoaded);
+        };
+        breaches_in(alloc, instance, enrolments, number, &rows)
     }
 
     // The rows of a draft and of its places.
@@ -124,4 +139,23 @@ pub(crate) fn draft_of(
         return Err(StoreFault::BadSchema);
     }
     Ok((timetable, parts))
+}
+
+// All breaches of the draft of the session at hand that these rows tell.
+fn breaches_in(
+    alloc: Global,
+    instance: &Instance,
+    enrolments: &Enrolments,
+    number: u32,
+    found: &DraftRows,
+) -> Result<Vec<Breach>, StoreFault>
+    requires exams { length enrolments.now ≡ length instance.now.exams }
+    ensures judged { (office : OfficeState) → IsOffice office
+        → memory_of office ≡ Some (instance.now, enrolments.now)
+        → AreRowsOf office number found.now.rows.items found.now.slots.items
+        → Does (draft_judged number office) office (λ new. new ≡ office) (listed result) }
+{
+    let (timetable, _) = draft_of(alloc, instance, enrolments, number, found)?;
+    let breaches = breaches(alloc, instance, enrolments, &timetable)?;
+    Ok(breaches)
 }

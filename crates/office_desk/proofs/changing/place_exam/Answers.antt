@@ -1,0 +1,4 @@
+use Rattle.office_desk.proofs.changing.place_exam.Goals as goal
+
+pub returns-clause-performs : goal.returns-clause-performs
+returns-clause-performs g c caller = rw c.in_ok-place.ensures c.edit.ensures.edits

@@ -1,0 +1,12 @@
+use Rattle.sqlite.specs.Held.{state}
+use Rattle.office_model.specs.Answers.{now_owned}
+use Rattle.office_model.specs.Commands.{owned}
+use Rattle.office_store.specs.Running.{Now}
+use Rattle.office_desk.proofs.TellingLemmas.{err_told, fault_told}
+use Rattle.office_desk.proofs.changing.set_owner.Goals as goal
+
+pub returns-in_err-set_owner-clause-performs : goal.returns-in_err-set_owner-clause-performs
+returns-in_err-set_owner-clause-performs g c caller clean office now =
+    rw c.in_ok-dept.ensures (fault_told (λ done. now_owned c.args.exam c.in_ok-dept.dept) office (owned c.args.exam c.in_ok-dept.dept office)
+    (Now (state g.S.Store c.set_owner.new.self)) _ _ (c.in_err-set_owner.ensures.runs clean office now)
+    (err_told _ _ c.from_residual-in_err-set_owner.ensures.1))

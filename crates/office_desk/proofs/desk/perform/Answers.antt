@@ -1,0 +1,37 @@
+use Rattle.office_desk.proofs.desk.perform.Goals as goal
+
+pub returns-in-Load-clause-performs : goal.returns-in-Load-clause-performs
+returns-in-Load-clause-performs g c = rw c.in-Load.is c.load.ensures.performs
+
+pub returns-in-Instance-clause-performs : goal.returns-in-Instance-clause-performs
+returns-in-Instance-clause-performs g c = rw c.in-Instance.is c.instance.ensures.performs
+
+pub returns-in-SetOwner-clause-performs : goal.returns-in-SetOwner-clause-performs
+returns-in-SetOwner-clause-performs g c = rw c.in-SetOwner.is c.set_owner.ensures.performs
+
+pub returns-in-NewDraft-clause-performs : goal.returns-in-NewDraft-clause-performs
+returns-in-NewDraft-clause-performs g c = rw c.in-NewDraft.is c.new_draft.ensures.performs
+
+pub returns-in-Draft-clause-performs : goal.returns-in-Draft-clause-performs
+returns-in-Draft-clause-performs g c = rw c.in-Draft.is c.draft.ensures.performs
+
+pub returns-in-DraftPenalty-clause-performs : goal.returns-in-DraftPenalty-clause-performs
+returns-in-DraftPenalty-clause-performs g c = rw c.in-DraftPenalty.is c.penalty.ensures.performs
+
+pub returns-in-DraftViolations-clause-performs : goal.returns-in-DraftViolations-clause-performs
+returns-in-DraftViolations-clause-performs g c = rw c.in-DraftViolations.is c.violations.ensures.performs
+
+pub returns-in-DropDraft-clause-performs : goal.returns-in-DropDraft-clause-performs
+returns-in-DropDraft-clause-performs g c = rw c.in-DropDraft.is c.drop_draft.ensures.performs
+
+pub returns-in-Place-clause-performs : goal.returns-in-Place-clause-performs
+returns-in-Place-clause-performs g c = rw c.in-Place.is c.place_exam.ensures.performs
+
+pub returns-in-Move-clause-performs : goal.returns-in-Move-clause-performs
+returns-in-Move-clause-performs g c = rw c.in-Move.is c.move_exam.ensures.performs
+
+pub returns-in-Clear-clause-performs : goal.returns-in-Clear-clause-performs
+returns-in-Clear-clause-performs g c = rw c.in-Clear.is c.clear_exam.ensures.performs
+
+pub returns-in-Swap-clause-performs : goal.returns-in-Swap-clause-performs
+returns-in-Swap-clause-performs g c = rw c.in-Swap.is c.swap_exams.ensures.performs

@@ -1,0 +1,29 @@
+-- The answers that the program holds, without where their texts lie in memory.
+use Rattle.office_model.specs.Answers.{PlainAnswer, now_loaded, text, now_owned, now_drafted}
+use Rattle.office_model.specs.Answers.{now_edited, now_dropped, shown_draft, denied, bad_body}
+use Rattle.office_model.specs.Answers.{long_body, refused, unavailable}
+use Rattle.office_model.specs.declared.fault.StoreFault.{StoreFault}
+use Rattle.office_model.specs.declared.fault.StoreFault.TheVariants.{Store, BadSchema}
+use Rattle.office_desk.specs.declared.answer.Answer.{Answer}
+use Rattle.office_desk.specs.declared.answer.Answer.TheVariants as answer
+
+-- the answer that the program holds
+abbrev pub plain_answer : Answer → PlainAnswer
+plain_answer (answer.Loaded counts) = now_loaded counts
+plain_answer (answer.Text bytes) = text bytes.items
+plain_answer (answer.Owner exam dept) = now_owned exam dept
+plain_answer (answer.NewDraft d penalty) = now_drafted d penalty
+plain_answer (answer.Edited d penalty) = now_edited d penalty
+plain_answer (answer.Dropped d) = now_dropped d
+plain_answer (answer.Draft d timetable penalty) = shown_draft d timetable penalty
+plain_answer (answer.Denied denial) = denied denial
+plain_answer answer.BadBody = bad_body
+plain_answer answer.LongBody = long_body
+plain_answer (answer.Refused fault) = refused fault
+plain_answer answer.Unavailable = unavailable
+
+-- the answer to a refusal: of what failed below nothing is told
+abbrev pub refusal : StoreFault → PlainAnswer
+refusal Store = unavailable
+refusal BadSchema = unavailable
+refusal fault = refused fault

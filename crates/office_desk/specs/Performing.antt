@@ -1,0 +1,45 @@
+-- What the desk makes of a command, over the office that its file stands for.
+use Rattle.std.specs.Prelude.{◌≡◌, ◌⊎◌, Result, Ok, Err}
+use Rattle.sqlite.specs.Held.{Held, state}
+use Rattle.sqlite.specs.State.{HasCleanDisk}
+use Rattle.sqlite.specs.Store.{Ghosts}
+use Rattle.office_policy.specs.Commands.{PlainCommand}
+use Rattle.office_policy.specs.declared.callers.Caller.{Caller}
+use Rattle.office_policy.specs.declared.command.Body.{Body}
+use Rattle.office_policy.specs.declared.command.Body.TheVariants.{Given, Bad, Long}
+use Rattle.office_model.specs.Answers.{PlainAnswer, bad_body, long_body, unavailable}
+use Rattle.office_model.specs.Office.{OfficeState}
+use Rattle.office_model.specs.Step.{Outcome, permitted}
+use Rattle.office_store.specs.Running.{Now}
+use Rattle.office_desk.specs.Answers.{plain_answer}
+use Rattle.office_desk.specs.declared.answer.Answer.{Answer}
+
+-- what is told, whether something was done or not
+abbrev pub told_of : Result Answer Answer → PlainAnswer
+told_of (Ok answer) = plain_answer answer
+told_of (Err answer) = plain_answer answer
+
+-- the outcome stands and is told; or the office stands as it was, and nothing is told
+abbrev pub Tells : Outcome → OfficeState → (OfficeState → Type 0) → PlainAnswer → Type 0
+Tells outcome old Stays answer =
+    ((answer ≡ outcome.1) × Stays outcome.0) ⊎ ((answer ≡ unavailable) × Stays old)
+
+-- the same, over a disk that returns what was written
+abbrev pub Gives : {S : Type 0} → Ghosts S → (OfficeState → Outcome) → Held S → Held S
+    → Result Answer Answer → Type 0
+Gives store command old new result =
+    HasCleanDisk (state store new) → (office : OfficeState) → Now (state store old) office
+    → Tells (command office) office (Now (state store new)) (told_of result)
+
+-- a command that is permitted, whoever asks
+abbrev pub Performs : {S : Type 0} → Ghosts S → PlainCommand → Held S → Held S
+    → Result Answer Answer → Type 0
+Performs store command old new result =
+    (caller : Caller) → Gives store (λ office. permitted office caller command) old new result
+
+-- a body is given, or else that is answered
+abbrev pub IsGiven : {A : Type 0} → Body A → Result A Answer → Type 0
+IsGiven body (Ok x) = body ≡ Given x
+IsGiven body (Err answer) =
+    ((body ≡ Bad) × (plain_answer answer ≡ bad_body))
+    ⊎ ((body ≡ Long) × (plain_answer answer ≡ long_body))

@@ -1,0 +1,61 @@
+// What is answered.
+use exam_model::Timetable;
+use exam_terms::ExamNo;
+use office_model::{Loaded, StoreFault};
+use office_policy::{Body, Denial};
+use std::alloc::AllocError;
+
+/// What the office answers to a command.
+#[derive(Drop)]
+pub enum Answer {
+    /// How much was loaded.
+    Loaded(Loaded),
+    /// An instance file or a report.
+    Text(Vec<u8>),
+    /// An exam and the department that owns it now, at most 999, where 0 is none.
+    Owner(ExamNo, u32),
+    /// A draft that is new, and its penalty, below 2^62.
+    NewDraft(u32, u64),
+    /// A draft that was edited, and its penalty, below 2^62.
+    Edited(u32, u64),
+    /// A draft that is gone.
+    Dropped(u32),
+    /// A draft, its timetable and its penalty, below 2^62.
+    Draft(u32, Timetable, u64),
+    /// The policy denies the command.
+    Denied(Denial),
+    /// The body is no JSON of the form that is asked for.
+    BadBody,
+    /// The body is too long.
+    LongBody,
+    /// The state of the office refuses the command; never `Store` or `BadSchema`.
+    Refused(StoreFault),
+    /// A statement failed, memory ran out, or the command isn't carried out yet: nothing is done.
+    Unavailable,
+}
+
+impl From<StoreFault> for Answer {
+    ghost use Rattle.std.specs.Prelude.{◌≡◌};
+    ghost use Rattle.office_desk.specs.Answers.{plain_answer, refusal};
+
+    ghost from_gives = { λ fault answer. plain_answer answer ≡ refusal fault };
+
+    fn from(fault: StoreFault) -> Answer {
+        match fault {
+            StoreFault::Store | StoreFault::BadSchema => Answer::Unavailable,
+            _ => Answer::Refused(fault),
+        }
+    }
+}
+
+impl From<AllocError> for Answer {
+    ghost use Rattle.std.specs.Prelude.{◌≡◌};
+    ghost use Rattle.office_model.specs.Answers.{unavailable};
+    ghost use Rattle.office_desk.specs.Answers.{plain_answer};
+
+    ghost from_gives = { λ _ answer. plain_answer answer ≡ unavailable };
+
+    fn from(_error: AllocError) -> Answer {
+        Answer::Unavailable
+    }
+}

@@ -1,0 +1,155 @@
+// Commands that change the office.
+ghost use Rattle.std.specs.Prelude.{◌≤◌};
+ghost use Rattle.sqlite.specs.Held.{state};
+ghost use Rattle.sqlite.specs.State.{HasCleanDisk};
+ghost use Rattle.office_policy.specs.Commands.{IfGiven, clear, drop_draft, load, move, new_draft, place, plain_text, set_owner, swap};
+ghost use Rattle.office_model.specs.Step.{edit_outcome};
+ghost use Rattle.office_desk.specs.Performing.{Gives, IsGiven, Performs};
+
+use crate::answer::Answer;
+use office_store::Office;
+use exam_draft::Edit;
+use exam_terms::{ExamNo, Place};
+use office_policy::Body;
+use sqlite::Alter;
+use std::alloc::Global;
+
+pub(crate) fn load<S: Alter>(
+    office: &mut Office<S>,
+    alloc: Global,
+    body: Body<&[u8]>,
+) -> Result<Answer, Answer>
+    ensures performs { Performs S.Store (load (plain_text body.entry)) office.old office.new result }
+    ensures clean { HasCleanDisk (state S.Store office.new)
+        → HasCleanDisk (state S.Store office.old) }
+{
+    let text = given(body)?;
+    let loaded = office.load(alloc, text)?;
+    Ok(Answer::Loaded(loaded))
+}
+
+pub(crate) fn set_owner<S: Alter>(
+    office: &mut Office<S>,
+    exam: ExamNo,
+    body: Body<u32>,
+) -> Result<Answer, Answer>
+    requires { IfGiven body (λ dept. dept ≤ 999) }
+    ensures performs { Performs S.Store (set_owner exam body) office.old office.new result }
+    ensures clean { HasCleanDisk (state S.Store office.new)
+        → HasCleanDisk (state S.Store office.old) }
+{
+    let dept = given(body)?;
+    office.set_owner(exam, dept)?;
+    Ok(Answer::Owner(exam, dept))
+}
+
+pub(crate) fn new_draft<S: Alter>(
+    office: &mut Office<S>,
+    alloc: Global,
+    number: u32,
+    body: Body<&[u8]>,
+) -> Result<Answer, Answer>
+    ensures performs { Performs S.Store (new_draft number (plain_text body.entry))
+        office.old office.new result }
+    ensures clean { HasCleanDisk (state S.Store office.new)
+        → HasCleanDisk (state S.Store office.old) }
+{
+    let text = given(body)?;
+    let penalty = office.new_draft(alloc, number, text)?;
+    Ok(Answer::NewDraft(number, penalty))
+}
+
+pub(crate) fn drop_draft<S: Alter>(
+    office: &mut Office<S>,
+    alloc: Global,
+    number: u32,
+) -> Result<Answer, Answer>
+    ensures performs { Performs S.Store (drop_draft number) office.old office.new result }
+    ensures clean { HasCleanDisk (state S.Store office.new)
+        → HasCleanDisk (state S.Store office.old) }
+{
+    office.drop_draft(alloc, number)?;
+    Ok(Answer::Dropped(number))
+}
+
+pub(crate) fn place_exam<S: Alter>(
+    office: &mut Office<S>,
+    alloc: Global,
+    number: u32,
+    exam: ExamNo,
+    body: Body<Place>,
+) -> Result<Answer, Answer>
+    ensures performs { Performs S.Store (place number exam body) office.old office.new result }
+    ensures clean { HasCleanDisk (state S.Store office.new)
+        → HasCleanDisk (state S.Store office.old) }
+{
+    let place = given(body)?;
+    edit(office, alloc, number, Edit::Place(exam, place))
+}
+
+pub(crate) fn move_exam<S: Alter>(
+    office: &mut Office<S>,
+    alloc: Global,
+    number: u32,
+    exam: ExamNo,
+    body: Body<Place>,
+) -> Result<Answer, Answer>
+    ensures performs { Performs S.Store (move number exam body) office.old office.new result }
+    ensures clean { HasCleanDisk (state S.Store office.new)
+        → HasCleanDisk (state S.Store office.old) }
+{
+    let place = given(body)?;
+    edit(office, alloc, number, Edit::Move(exam, place))
+}
+
+pub(crate) fn clear_exam<S: Alter>(
+    office: &mut Office<S>,
+    alloc: Global,
+    number: u32,
+    exam: ExamNo,
+) -> Result<Answer, Answer>
+    ensures performs { Performs S.Store (clear number exam) office.old office.new result }
+    ensures clean { HasCleanDisk (state S.Store office.new)
+        → HasCleanDisk (state S.Store office.old) }
+{
+    edit(office, alloc, number, Edit::Clear(exam))
+}
+
+pub(crate) fn swap_exams<S: Alter>(
+    office: &mut Office<S>,
+    alloc: Global,
+    number: u32,
+    a: ExamNo,
+    b: ExamNo,
+) -> Result<Answer, Answer>
+    ensures performs { Performs S.Store (swap number a b) office.old office.new result }
+    ensures clean { HasCleanDisk (state S.Store office.new)
+        → HasCleanDisk (state S.Store office.old) }
+{
+    edit(office, alloc, number, Edit::Swap(a, b))
+}
+
+fn edit<S: Alter>(
+    office: &mut Office<S>,
+    alloc: Global,
+    number: u32,
+    change: Edit,
+) -> Result<Answer, Answer>
+    ensures edits { Gives S.Store (edit_outcome number change) office.old office.new result }
+    ensures clean { HasCleanDisk (state S.Store office.new)
+        → HasCleanDisk (state S.Store office.old) }
+{
+    let penalty = office.edit(alloc, number, change)?;
+    Ok(Answer::Edited(number, penalty))
+}
+
+// What a body says.
+fn given<T: Drop>(body: Body<T>) -> Result<T, Answer>
+    ensures { IsGiven body result }
+{
+    match body {
+        Body::Given(value) => Ok(value),
+        Body::Bad => Err(Answer::BadBody),
+        Body::Long => Err(Answer::LongBody),
+    }
+}

@@ -1,0 +1,110 @@
+// The desk, where every command of the office is asked.
+ghost use Rattle.std.specs.Prelude.{◌≡◌};
+ghost use Rattle.sqlite.specs.Held.{state};
+ghost use Rattle.sqlite.specs.State.{HasCleanDisk};
+ghost use Rattle.office_policy.specs.Commands.{HasSmallNumbers, plain_command};
+ghost use Rattle.office_model.specs.Office.{OfficeState};
+ghost use Rattle.office_model.specs.Step.{Steps};
+ghost use Rattle.office_store.specs.Running.{Now};
+ghost use Rattle.office_desk.specs.Answers.{plain_answer};
+ghost use Rattle.office_desk.specs.Performing.{Performs, told_of};
+
+use crate::answer::Answer;
+use crate::changing::{clear_exam, drop_draft, load, move_exam, new_draft, place_exam};
+use crate::changing::{set_owner, swap_exams};
+use crate::judging::judged;
+use crate::showing::{draft, instance, penalty, violations};
+use office_store::Office;
+use office_policy::{Caller, Command};
+use sqlite::Alter;
+use std::alloc::Global;
+use std::marker::Model;
+
+/// The desk of an office. Contracts see the office.
+#[derive(Drop)]
+pub struct Desk<S: Alter> {
+    office: Office<S>,
+}
+
+impl<S: Alter> Model for Desk<S> {
+    ghost use Rattle.sqlite.specs.Held.{Held, held_code};
+
+    ghost Value = { Held S };
+
+    ghost coded = { held_code S.code };
+
+    ghost view = { λ desk. desk.office };
+}
+
+impl<S: Alter> Desk<S> {
+    /// The desk of this office.
+    pub fn new(office: Office<S>) -> Desk<S>
+        ensures { result ≡ office }
+    {
+        Desk { office }
+    }
+
+    /// Gives the office back.
+    pub fn into_office(self) -> Office<S>
+        ensures { result ≡ self }
+    {
+        self.office
+    }
+
+    /// Carries out a command, and answers it: the policy is judged first, then the body, then the
+    /// state. What is refused changes nothing.
+    pub fn run(&mut self, alloc: Global, caller: Caller, command: &Command<'_>) -> Answer
+        requires { HasSmallNumbers (plain_command command.now) }
+        // Over a disk that returns what was written it is one step of the office.
+        ensures runs { HasCleanDisk (state S.Store self.new) → (office : OfficeState)
+            → Now (state S.Store self.old) office
+            → (new : OfficeState)
+            × Steps office caller (plain_command command.now) (plain_answer result) new
+            × Now (state S.Store self.new) new }
+        ensures clean { HasCleanDisk (state S.Store self.new)
+            → HasCleanDisk (state S.Store self.old) }
+    {
+        match judged(&mut self.office, alloc, caller, command) {
+            Ok(Ok(())) => told(perform(&mut self.office, alloc, command)),
+            Ok(Err(denial)) => Answer::Denied(denial),
+            Err(fault) => Answer::from(fault),
+        }
+    }
+}
+
+// What is told, whether something was done or not.
+fn told(performed: Result<Answer, Answer>) -> Answer
+    ensures { plain_answer result ≡ told_of performed }
+{
+    match performed {
+        Ok(answer) | Err(answer) => answer,
+    }
+}
+
+// Carries out a command that is permitted. `Err`: nothing is done.
+fn perform<S: Alter>(
+    office: &mut Office<S>,
+    alloc: Global,
+    command: &Command<'_>,
+) -> Result<Answer, Answer>
+    requires { HasSmallNumbers (plain_command command.now) }
+    ensures performs { Performs S.Store (plain_command command.now) office.old office.new result }
+    ensures clean { HasCleanDisk (state S.Store office.new)
+        → HasCleanDisk (state S.Store office.old) }
+{
+    match *command {
+        Command::Load(body) => load(office, alloc, body),
+        Command::Instance => instance(office, alloc),
+        Command::SetOwner(exam, body) => set_owner(office, exam, body),
+        Command::NewDraft(number, body) => new_draft(office, alloc, number, body),
+        Command::Draft(number) => draft(office, alloc, number),
+        Command::DraftPenalty(number) => penalty(office, alloc, number),
+        Command::DraftViolations(number) => violations(office, alloc, number),
+        Command::DropDraft(number) => drop_draft(office, alloc, number),
+        Command::Place(number, exam, body) => place_exam(office, alloc, number, exam, body),
+        Command::Move(number, exam, body) => move_exam(office, alloc, number, exam, body),
+        Command::Clear(number, exam) => clear_exam(office, alloc, number, exam),
+        Command::Swap(number, a, b) => swap_exams(office, alloc, number, a, b),
+        _ => Err(Answer::Unavailable),
+    }
+}

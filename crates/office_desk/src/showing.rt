@@ -1,0 +1,67 @@
+// Commands that show the office, and change nothing.
+ghost use Rattle.sqlite.specs.Held.{state};
+ghost use Rattle.sqlite.specs.State.{HasCleanDisk};
+ghost use Rattle.office_policy.specs.Commands.{draft, draft_penalty, draft_violations, instance};
+ghost use Rattle.office_desk.specs.Performing.{Performs};
+
+use crate::answer::Answer;
+use office_store::Office;
+use office_files::write_instance;
+use office_reports::{penalty_report, violation_report};
+use sqlite::Alter;
+use std::alloc::Global;
+
+// The session with its live enrolments, as an instance file.
+pub(crate) fn instance<S: Alter>(office: &mut Office<S>, alloc: Global) -> Result<Answer, Answer>
+    ensures performs { Performs S.Store instance office.old office.new result }
+    ensures clean { HasCleanDisk (state S.Store office.new)
+        → HasCleanDisk (state S.Store office.old) }
+{
+    office.look()?;
+    let (session, enrolments) = office.session()?;
+    match write_instance(alloc, session, enrolments) {
+        Ok(text) => Ok(Answer::Text(text)),
+        Err(_) => Err(Answer::Unavailable),
+    }
+}
+
+pub(crate) fn draft<S: Alter>(
+    office: &mut Office<S>,
+    alloc: Global,
+    number: u32,
+) -> Result<Answer, Answer>
+    ensures performs { Performs S.Store (draft number) office.old office.new result }
+    ensures clean { HasCleanDisk (state S.Store office.new)
+        → HasCleanDisk (state S.Store office.old) }
+{
+    let (timetable, parts) = office.draft(alloc, number)?;
+    Ok(Answer::Draft(number, timetable, parts.total()))
+}
+
+pub(crate) fn penalty<S: Alter>(
+    office: &mut Office<S>,
+    alloc: Global,
+    number: u32,
+) -> Result<Answer, Answer>
+    ensures performs { Performs S.Store (draft_penalty number) office.old office.new result }
+    ensures clean { HasCleanDisk (state S.Store office.new)
+        → HasCleanDisk (state S.Store office.old) }
+{
+    let (_, parts) = office.draft(alloc, number)?;
+    let report = penalty_report(alloc, parts)?;
+    Ok(Answer::Text(report.into_bytes()))
+}
+
+pub(crate) fn violations<S: Alter>(
+    office: &mut Office<S>,
+    alloc: Global,
+    number: u32,
+) -> Result<Answer, Answer>
+    ensures performs { Performs S.Store (draft_violations number) office.old office.new result }
+    ensures clean { HasCleanDisk (state S.Store office.new)
+        → HasCleanDisk (state S.Store office.old) }
+{
+    let breaches = office.breaches(alloc, number)?;
+    let report = violation_report(alloc, &breaches)?;
+    Ok(Answer::Text(report.into_bytes()))
+}
