@@ -1,8 +1,14 @@
 // One request.
+ghost use Rattle.std.specs.Prelude.{Ok};
 ghost use Rattle.sqlite.specs.Held.{state};
+ghost use Rattle.sqlite.specs.State.{HasCleanDisk};
+ghost use Rattle.office_policy.specs.Commands.{HasSmallNumbers, plain_command};
+ghost use Rattle.office_requests.specs.Requests.{plain_asked};
+ghost use Rattle.office_model.specs.Office.{OfficeState};
+ghost use Rattle.office_store.specs.Running.{Now};
 ghost use Rattle.office_messages.specs.Heads.{plain_request};
 ghost use Rattle.office_messages.specs.Reply.{plain_reply};
-ghost use Rattle.office_http.specs.Replying.{Answered};
+ghost use Rattle.office_http.specs.Replying.{Answered, RepliesTo};
 
 use crate::answers::answer_reply;
 use office_desk::Desk;
@@ -31,6 +37,13 @@ pub fn reply<S: Alter>(
 
 // The reply to what is asked for. The room for it is there before anything is done.
 fn asked_reply<S: Alter>(alloc: Global, desk: &mut Desk<S>, asked: &Asked<'_>) -> Reply
+    requires { HasSmallNumbers (plain_command asked.now.command) }
+    ensures step { HasCleanDisk (state S.Store desk.new) → (office : OfficeState)
+        → Now (state S.Store desk.old) office
+        → (next : OfficeState) × RepliesTo (Ok (plain_asked asked.now)) office (plain_reply result) next
+        × Now (state S.Store desk.new) next }
+    ensures clean { HasCleanDisk (state S.Store desk.new)
+        → HasCleanDisk (state S.Store desk.old) }
 {
     let Ok(room) = reply_room(alloc) else {
         return unavailable();

@@ -1,0 +1,38 @@
+-- From what the desk answers to what is replied.
+use Rattle.std.proofs.Common.{◌≡◌, ◌⊎◌, true, Result, Ok, Err, refl, sym, subst, inl, inr}
+use Rattle.office_messages.specs.Reply.{PlainReply, unavailable}
+use Rattle.office_requests.specs.Requests.{PlainAsked, GivesAsked, refusal_reply}
+use Rattle.office_requests.specs.declared.requests.Refusal.{Refusal}
+use Rattle.office_requests.specs.declared.requests.Refusal.TheVariants as refusal
+use Rattle.office_model.specs.Answers as answers
+use Rattle.office_model.specs.Answers.{PlainAnswer, shows}
+use Rattle.office_model.specs.Office.{OfficeState}
+use Rattle.office_model.specs.Step.{Steps}
+use Rattle.office_model.proofs.ToldLemmas.{shown_stays}
+use Rattle.office_replies.specs.Replies.{reply_to}
+use Rattle.office_http.specs.Replying.{IsReplyOf, RepliesTo}
+
+-- a step whose answer is put into words, or of which nothing is told after all
+pub replied : (asked : PlainAsked) (old new : OfficeState) (answer : PlainAnswer) (reply : PlainReply)
+    → Steps old asked.caller asked.command answer new → IsReplyOf answer reply
+    → RepliesTo (Ok asked) old reply new
+replied asked old new answer reply step (inl is) = (answer, step, is)
+replied asked old new answer reply step (inr k) =
+    (answers.unavailable,
+    inr (shown_stays old new asked.caller asked.command answer step k.0, refl), k.1)
+
+same : (said : Result PlainAsked Refusal) (why : Refusal) (office : OfficeState)
+    → said ≡ Err why → RepliesTo said office (refusal_reply why) office
+same said why office is =
+    subst (λ (s : Result PlainAsked Refusal). RepliesTo s office (refusal_reply why) office) (sym is)
+    (refl, refl)
+
+-- what is refused unread changes nothing
+pub refused : (said : Result PlainAsked Refusal) (why : Refusal) (office : OfficeState)
+    → GivesAsked said (Err why) → RepliesTo said office (refusal_reply why) office
+refused said refusal.Caller office h = same said refusal.Caller office h
+refused said refusal.Candidate office h = same said refusal.Candidate office h
+refused said refusal.Path office h = same said refusal.Path office h
+refused said (refusal.Method page) office h = same said (refusal.Method page) office h
+refused (Ok asked) refusal.NoMemory office h = (answers.unavailable, inr (refl, refl), refl)
+refused (Err why) refusal.NoMemory office h = absurd h
