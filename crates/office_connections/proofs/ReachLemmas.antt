@@ -90,3 +90,38 @@ module _ {F S : Type 0} (name : F → ℕ) (now : F → S)
       reached refl in
       subst (λ (s : S). Reaches Answers (now old) s) (sym (given named))
       (reaches_along now Lends Answers (λ o r reply n y. y.1) old new reached)
+
+-- ---- a machine that stands for another, while it is sound
+
+module _ {S T : Type 0} (Answers : S → PlainRequest → PlainReply → S → Type 0)
+    (Others : T → PlainRequest → PlainReply → T → Type 0) (Sound : S → Type 0)
+    (Stands : S → T → Type 0)
+    (sound : (old : S) (r : PlainRequest) (reply : PlainReply) (new : S)
+    → Answers old r reply new → Sound new → Sound old)
+    (leads : (old : S) (r : PlainRequest) (reply : PlainReply) (new : S)
+    → Answers old r reply new → Sound new → (t : T) → Stands old t
+    → (u : T) × Others t r reply u × Stands new u) where
+  exchanges_sound : (es : List Exchange) (old new : S) → Exchanges Answers es old new
+      → Sound new → Sound old
+  exchanges_sound [] old new t s = subst Sound t s
+  exchanges_sound (e ∷ es) old new (mid, step, t) s =
+      sound old e.request e.reply mid step (exchanges_sound es mid new t s)
+
+  -- a machine that is sound at the end was so at the beginning
+  pub reaches_sound : (old new : S) → Reaches Answers old new → Sound new → Sound old
+  reaches_sound old new (es, t) s = exchanges_sound es old new t s
+
+  exchanges_lead : (es : List Exchange) (old new : S) → Exchanges Answers es old new
+      → Sound new → (t : T) → Stands old t
+      → (u : T) × Exchanges Others es t u × Stands new u
+  exchanges_lead [] old new is s t h = (t, refl, subst (λ (m : S). Stands m t) (sym is) h)
+  exchanges_lead (e ∷ es) old new (mid, step, more) s t h =
+      let next = leads old e.request e.reply mid step (exchanges_sound es mid new more s) t h in
+      let last = exchanges_lead es mid new more s next.0 next.2 in
+      (last.0, (next.0, next.1, last.1), last.2)
+
+  -- what it stands for comes to what it then stands for
+  pub reaches_leads : (old new : S) → Reaches Answers old new → Sound new → (t : T)
+      → Stands old t → (u : T) × Reaches Others t u × Stands new u
+  reaches_leads old new (es, run) s t h =
+      let last = exchanges_lead es old new run s t h in (last.0, (es, last.1), last.2)

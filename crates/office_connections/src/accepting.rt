@@ -23,7 +23,7 @@ pub struct Plan {
 }
 
 /// What was served.
-#[derive(Clone, Copy, Debug, PartialEq, Eq)]
+#[derive(Clone, Copy)]
 pub struct Service {
     /// How many connections were accepted: fewer than were to be, where the last accept failed.
     pub accepted: u32,

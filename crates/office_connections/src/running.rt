@@ -14,7 +14,7 @@ use std::net::TcpListener;
 use std::time::Clock;
 
 /// Why not all connections were served.
-#[derive(Clone, Copy, Debug, PartialEq, Eq)]
+#[derive(Clone, Copy)]
 pub enum RunFault {
     /// The listener has no address, or an accept failed.
     Listen,

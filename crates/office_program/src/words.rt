@@ -13,7 +13,8 @@ ghost use Rattle.clap.specs.Words.{first_of};
 ghost use Rattle.office_program.specs.Program.{AddsShape, HasCheckValues, HasLoadValues};
 ghost use Rattle.office_program.specs.Program.{HasNumber, HasServeValues, HasTerms, IsTask};
 ghost use Rattle.office_program.specs.Program.{check_app, connections_rule, load_app, named_rule};
-ghost use Rattle.office_program.specs.Program.{patience_rule, port_rule, program, required_rule, serve_app};
+ghost use Rattle.office_program.specs.Program.{patience_rule, port_rule, program, required_rule};
+ghost use Rattle.office_program.specs.Program.{serve_app};
 
 use clap::{Arg, ArgMatches, Command, Error, value_parser};
 use std::alloc::{AllocError, Global};
