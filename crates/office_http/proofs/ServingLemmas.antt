@@ -14,7 +14,7 @@ use Rattle.office_store.specs.Running.{Now}
 use Rattle.office_http.specs.Replying.{Answered, Replies}
 use Rattle.office_http.specs.Serving.{AnswersFront, Leads}
 
-is_write : ServeFault → Bool
+abbrev is_write : ServeFault → Bool
 is_write Write = true
 is_write _ = false
 
@@ -107,3 +107,11 @@ module _ {S : Type 0} (store : Ghosts S) where
         → IfErr result (λ fault. Leads store (AnswersFront input before after fault) old new)
     serves_front_leads (Ok served) x = tt
     serves_front_leads (Err fault) x = front_leads fault x
+
+    -- a disk that is clean at the end was clean before
+    pub serves_clean : (result : Result Served ServeFault)
+        → IfOk result (λ served. Serves (Answered store) input before after old new served)
+        → IfErr result (λ fault. ServesFront (Answered store) input before after old new fault)
+        → HasCleanDisk (state store new) → HasCleanDisk (state store old)
+    serves_clean (Ok served) x y = told_clean x.items old x.output new x.told
+    serves_clean (Err fault) x y = told_clean y.items old y.output new y.told

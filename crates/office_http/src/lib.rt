@@ -5,7 +5,8 @@ mod answers;
 mod replying;
 mod serving;
 
-pub use office_desk::{Desk, Office, Refusal, StoreFault};
+pub use office_desk::{Desk, Refusal, StoreFault};
 pub use office_requests::{End, Request, Reply, Routes, ServeFault, Served};
+pub use office_store::Office;
 pub use replying::reply;
 pub use serving::{AnsweringDesk, serve};

@@ -10,4 +10,5 @@ mod words;
 
 pub use loading::{LoadFault, load_run};
 pub use program::{refuse_arguments, run_program};
+pub use serving::serve_desk;
 pub use words::{Task, Terms, read_words, words_of};

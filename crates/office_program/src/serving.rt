@@ -1,16 +1,20 @@
 // `serve`: the office of a database's file, over sockets.
 ghost use Rattle.std.specs.Prelude.{◌≡◌, IfErr, IfOk};
+ghost use Rattle.sqlite.specs.Held.{state};
+ghost use Rattle.sqlite.specs.State.{HasCleanDisk};
 ghost use Rattle.office_connections.specs.Lines.{PrintsPort};
 ghost use Rattle.office_connections.specs.Reaches.{Reaches};
+ghost use Rattle.office_http.specs.Replying.{Replies};
+ghost use Rattle.office_http.specs.Serving.{Leads};
 ghost use Rattle.office_program.specs.FaultLines.{IsOfServe};
 
 use crate::faults::{ProgramFault, fault_of_open, fault_of_run};
-use crate::loading::office_in;
 use crate::words::Terms;
 use office_connections::{Plan, listen, serve_run};
-use office_messages::{Machine, Reply, Request, unavailable};
+use office_http::{AnsweringDesk, Desk, Routes};
+use office_messages::Machine;
+use office_store::Office;
 use sqlite::{Alter, Connection};
-use std::alloc::Global;
 use std::io::Write;
 use std::time::Duration;
 
@@ -48,28 +52,36 @@ fn serve_and_keep<'a, S: Alter, O: Write, E: Write>(
     ensures port { IfOk result.1 (λ _. PrintsPort (O.contents out.old) (O.contents out.new)) }
     ensures fault { IfErr result.1 IsOfServe }
 {
-    let office = match office_in(rt.alloc(), conn) {
+    let office = match Office::open(rt.alloc(), conn) {
         Ok(office) => office,
         Err((fault, conn)) => return (conn, Err(ProgramFault::Store(fault))),
     };
-    // Until there is a desk, every request is answered as unavailable.
-    let mut machine = Closed;
-    let done = serve_on(rt, terms, &mut machine, out, err);
-    (office.release(), done)
+    let mut desk = Desk::new(office);
+    let done = serve_desk(rt, terms, &mut desk, out, err);
+    (desk.into_office().release(), done)
 }
 
-// A machine that answers nothing.
-#[derive(Drop)]
-struct Closed;
-
-impl Machine for Closed {
-    ghost use Rattle.std.specs.Prelude.{⊤};
-
-    ghost Answers = { λ old request reply new. ⊤ };
-
-    fn answer(&mut self, _alloc: Global, _request: &Request<'_>) -> Reply {
-        unavailable()
-    }
+/// Serves connections to an office at its desk, as the terms say: one after another, over sockets.
+/// However it ends, the office is one that it comes to by replying to some requests.
+pub fn serve_desk<'a, S: Alter, O: Write, E: Write>(
+    rt: &HostRuntime,
+    terms: Terms,
+    desk: &mut Desk<S>,
+    out: &mut O,
+    err: &mut E,
+) -> Result<u8, ProgramFault<'a>>
+    // Over a disk that returns what was written, whatever office stood there before.
+    ensures reached { Leads S.Store (Reaches Replies) desk.old desk.new }
+    ensures clean { HasCleanDisk (state S.Store desk.new) → HasCleanDisk (state S.Store desk.old) }
+    ensures status { IfOk result (λ status. status ≡ 0) }
+    ensures port { IfOk result (λ _. PrintsPort (O.contents out.old) (O.contents out.new)) }
+    ensures fault { IfErr result IsOfServe }
+{
+    let Ok(routes) = Routes::new(rt.alloc()) else {
+        return Err(ProgramFault::NoMemory);
+    };
+    let mut machine = AnsweringDesk { desk, routes };
+    serve_on(rt, terms, &mut machine, out, err)
 }
 
 // Listens on the port of the terms, and serves their connections with the machine.

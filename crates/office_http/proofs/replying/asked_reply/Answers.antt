@@ -1,0 +1,20 @@
+use Rattle.std.proofs.Common.{refl, inr, subst, sym}
+use Rattle.office_messages.specs.Reply.{PlainReply, plain_reply}
+use Rattle.office_requests.specs.Requests.{plain_asked}
+use Rattle.office_desk.specs.Answers.{plain_answer}
+use Rattle.office_model.specs.Answers.{unavailable}
+use Rattle.office_http.proofs.AnswerLemmas.{replied}
+use Rattle.office_http.proofs.replying.asked_reply.Goals as goal
+
+pub returns-in_default-clause-step : goal.returns-in_default-clause-step
+returns-in_default-clause-step g c =
+    λ clean office now. (office, (unavailable, inr (refl, refl), c.unavailable.ensures), now)
+
+pub returns-clause-step : goal.returns-clause-step
+returns-clause-step g c =
+    λ clean office now.
+    let ran = c.run-answer.ensures.runs clean office now in
+    (ran.0,
+    replied (plain_asked c.args.asked.now) office ran.0 (plain_answer c.run-answer.result)
+    (plain_reply c.answer_reply.result) ran.1 c.answer_reply.ensures,
+    ran.2)
