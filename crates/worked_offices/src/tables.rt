@@ -2,9 +2,8 @@
 use crate::given::assert_same;
 use office_tables::{
     DraftRow, EnrolRow, OwnerRow, SlotRow, adopt_tables, create_tables, delete_draft, delete_meta,
-    delete_owner, delete_slot, delete_slots, drafts_of, insert_draft, insert_enrol,
-    insert_enrols, insert_owner, insert_slot, insert_slots, is_bare, look, owners_of,
-    put_meta, slots_of,
+    delete_owner, delete_slot, delete_slots, drafts_of, insert_draft, insert_enrol, insert_enrols,
+    insert_owner, insert_slot, insert_slots, is_bare, look, owners_of, put_meta, slots_of,
 };
 use sqlite::{Connection, Error, MemStore, Transaction};
 use std::alloc::Global;
