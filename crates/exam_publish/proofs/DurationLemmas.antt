@@ -3,27 +3,23 @@ use Rattle.std.specs.List.{list_any, dedup}
 use Rattle.std.specs.List.Sorted.{IsStrictlySortedBy}
 use Rattle.std.specs.Ordering.{nat_cmp, ordering_then, eq_by_cmp}
 use Rattle.std.specs.Cmp.{then_total, on_total, nat_cmp_total, IsTotalOrder, IsEquivalence}
-use Rattle.std.specs.Prelude.{slice_get, slice_index, nat_lt, ◌==◌, ◌&&◌}
-use Rattle.std.proofs.Common.{◌≡◌, ℕ, ◌+◌, ◌-◌, ◌*◌, ◌<◌, ◌≤◌, ◌⊎◌, inl, inr, Bool, true, false, cond, ◌||◌, eqb, ltb, List, [], ◌∷◌, ◌++◌, length, get_or, Some, count_by, All, Contains, IsPermutation, IsSorted, Ordering, Less, refl, sym, ◌∙◌, ap, ap₂, subst, arith, eqb-true, lt-ltb, length-append, one-mul}
+use Rattle.std.specs.Prelude.{slice_index, nat_lt, ◌==◌, ◌&&◌}
+use Rattle.std.proofs.Common.{◌≡◌, ℕ, ◌+◌, ◌-◌, ◌*◌, ◌<◌, ◌≤◌, ◌⊎◌, inl, inr, Bool, true, false, cond, ◌||◌, eqb, ltb, List, [], ◌∷◌, length, count_by, All, Contains, IsPermutation, IsSorted, Ordering, Less, refl, sym, ◌∙◌, ap, ap₂, subst, arith, eqb-true, lt-ltb, one-mul}
 use Rattle.std.proofs.lemmas.Bool.{cases_eq, cases_lt, cond-true, ne_eqb, and_parts, and_from, eq-eqb, false_from_ne_true}
 use Rattle.std.proofs.lemmas.Bool.Decides.{nat_tests}
 use Rattle.std.proofs.lemmas.Nat.{same_from_place}
-use Rattle.std.proofs.lemmas.Option.{get_or_from_slice_get}
 use Rattle.std.proofs.lemmas.List.{get_or_past}
-use Rattle.std.proofs.lemmas.List.Elements.{All-push, recursion_from_All}
+use Rattle.std.proofs.lemmas.List.Elements.{recursion_from_All}
 use Rattle.std.proofs.lemmas.List.Filters.{All-dedup}
 use Rattle.std.proofs.lemmas.List.Folds.{Any-from_list_any, list_any_at}
 use Rattle.std.proofs.lemmas.List.Kept.{Contains-dedup, Contains-from_dedup, IsStrictlySortedBy-dedup}
 use Rattle.std.proofs.lemmas.List.Sorted.{list_any-IsPermutation, All-permutation}
-use Rattle.std.proofs.lemmas.List.Sums.{sum_by_push, sum_by-cons, count_by-le-length}
-use Rattle.exam_model.specs.Fits.{PlaceExists}
-use Rattle.exam_model.specs.Instance.{Session, IsInstance}
+use Rattle.std.proofs.lemmas.List.Sums.{sum_by-cons, count_by-le-length}
+use Rattle.exam_model.specs.Instance.{Session}
 use Rattle.exam_model.specs.Sums.{sum_below}
-use Rattle.exam_model.specs.Timetable.{Placing, place_of}
-use Rattle.exam_model.specs.declared.parts.Exam.{Exam}
-use Rattle.exam_terms.specs.declared.place.Place.{Place}
-use Rattle.exam_model.proofs.SumLemmas.{IsChain, chain_weaker, each_weaker, sum_by-agree, sum_by-once, sum_below-same, sum_below-within, sum_below-turned, sum_below-at, sum_below_more}
-use Rattle.exam_score.specs.Track.{duration_count, minutes_of, is_at, lasts, lasting, durations, room_mixed}
+use Rattle.exam_model.specs.Timetable.{Placing}
+use Rattle.exam_model.proofs.SumLemmas.{IsChain, chain_weaker, each_weaker, sum_by-agree, sum_by-once, sum_below-same, sum_below-within, sum_below-turned, sum_below-at}
+use Rattle.exam_score.specs.Track.{duration_count, lasting, durations, room_mixed}
 use Rattle.exam_score.specs.Stays.{is_stay, StayExists, AreStays}
 use Rattle.exam_score.specs.declared.mixed.Stay.{Stay}
 use Rattle.exam_publish.specs.Durations.{is_in_slot, AreDurations}

@@ -1,31 +1,27 @@
 -- What is judged and performed is a step of the office.
-use Rattle.std.proofs.Common.{◌≡◌, ◌⊎◌, ◌∙◌, Result, Ok, Err, ap, inl, inr, refl}
+use Rattle.std.proofs.Common.{◌≡◌, ◌∙◌, Ok, ap, inl, inr, refl}
 use Rattle.office_policy.specs.Commands.{PlainCommand}
 use Rattle.office_policy.specs.declared.callers.Caller.{Caller}
-use Rattle.office_policy.specs.declared.policy.Denial.{Denial}
-use Rattle.office_model.specs.Answers.{PlainAnswer, denied, unavailable}
+use Rattle.office_model.specs.Answers.{PlainAnswer}
 use Rattle.office_model.specs.Office.{OfficeState}
 use Rattle.office_model.specs.Step.{Steps, allowed_in, if_allowed, permitted}
 use Rattle.office_desk.specs.Performing.{Tells}
 
 -- a step after which that office stands
-abbrev pub StepsTo : OfficeState → Caller → PlainCommand → (OfficeState → Type 0) → PlainAnswer → Type 0
+abbrev pub StepsTo : OfficeState → Caller → PlainCommand → (OfficeState → Type 0) → PlainAnswer
+    → Type 0
 StepsTo old caller command Stays told =
     (new : OfficeState) × Steps old caller command told new × Stays new
 
+-- a command that is permitted and performed
 pub permitted_step : (old : OfficeState) (caller : Caller) (command : PlainCommand)
     (Stays : OfficeState → Type 0) (told : PlainAnswer) → Ok tt ≡ allowed_in old caller command
     → Tells (permitted old caller command) old Stays told → StepsTo old caller command Stays told
 permitted_step old caller command Stays told allowed (inl (same, stays)) =
-    let outcome = permitted old caller command in
-    (outcome.0,
+    let outcome = permitted old caller command in (
+      outcome.0,
       inl (ap (λ t. (outcome.0, t)) same ∙ ap (λ a. if_allowed a old caller command) allowed),
-      stays)
+      stays,
+    )
 permitted_step old caller command Stays told allowed (inr (same, stays)) =
     (old, inr (refl, same), stays)
-
-pub denied_step : (old : OfficeState) (caller : Caller) (command : PlainCommand)
-    (Stays : OfficeState → Type 0) (denial : Denial) → Err denial ≡ allowed_in old caller command
-    → Stays old → StepsTo old caller command Stays (denied denial)
-denied_step old caller command Stays denial allowed stays =
-    (old, inl (ap (λ a. if_allowed a old caller command) allowed), stays)

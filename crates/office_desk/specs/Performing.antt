@@ -25,9 +25,9 @@ Tells outcome old Stays answer =
     ((answer ≡ outcome.1) × Stays outcome.0) ⊎ ((answer ≡ unavailable) × Stays old)
 
 -- the same, over a disk that returns what was written
-abbrev pub Gives : {S : Type 0} → Ghosts S → (OfficeState → Outcome) → Held S → Held S
+abbrev pub Yields : {S : Type 0} → Ghosts S → (OfficeState → Outcome) → Held S → Held S
     → Result Answer Answer → Type 0
-Gives store command old new result =
+Yields store command old new result =
     HasCleanDisk (state store new) → (office : OfficeState) → Now (state store old) office
     → Tells (command office) office (Now (state store new)) (told_of result)
 
@@ -35,7 +35,7 @@ Gives store command old new result =
 abbrev pub Performs : {S : Type 0} → Ghosts S → PlainCommand → Held S → Held S
     → Result Answer Answer → Type 0
 Performs store command old new result =
-    (caller : Caller) → Gives store (λ office. permitted office caller command) old new result
+    (caller : Caller) → Yields store (λ office. permitted office caller command) old new result
 
 -- a body is given, or else that is answered
 abbrev pub IsGiven : {A : Type 0} → Body A → Result A Answer → Type 0

@@ -1,16 +1,17 @@
-// Commands that change the office.
+// Commands that change the office. An `Err` says that nothing is done.
 ghost use Rattle.std.specs.Prelude.{◌≤◌};
 ghost use Rattle.sqlite.specs.Held.{state};
 ghost use Rattle.sqlite.specs.State.{HasCleanDisk};
-ghost use Rattle.office_policy.specs.Commands.{IfGiven, clear, drop_draft, load, move, new_draft, place, plain_text, set_owner, swap};
+ghost use Rattle.office_policy.specs.Commands.{IfGiven, clear, drop_draft, load, move, new_draft};
+ghost use Rattle.office_policy.specs.Commands.{place, plain_text, set_owner, swap};
 ghost use Rattle.office_model.specs.Step.{edit_outcome};
-ghost use Rattle.office_desk.specs.Performing.{Gives, IsGiven, Performs};
+ghost use Rattle.office_desk.specs.Performing.{IsGiven, Performs, Yields};
 
 use crate::answer::Answer;
-use office_store::Office;
 use exam_draft::Edit;
 use exam_terms::{ExamNo, Place};
 use office_policy::Body;
+use office_store::Office;
 use sqlite::Alter;
 use std::alloc::Global;
 
@@ -135,7 +136,7 @@ fn edit<S: Alter>(
     number: u32,
     change: Edit,
 ) -> Result<Answer, Answer>
-    ensures edits { Gives S.Store (edit_outcome number change) office.old office.new result }
+    ensures edits { Yields S.Store (edit_outcome number change) office.old office.new result }
     ensures clean { HasCleanDisk (state S.Store office.new)
         → HasCleanDisk (state S.Store office.old) }
 {
@@ -143,7 +144,7 @@ fn edit<S: Alter>(
     Ok(Answer::Edited(number, penalty))
 }
 
-// What a body says.
+// What a body says, or what is answered to one that says nothing.
 fn given<T: Drop>(body: Body<T>) -> Result<T, Answer>
     ensures { IsGiven body result }
 {

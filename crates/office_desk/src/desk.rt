@@ -10,12 +10,13 @@ ghost use Rattle.office_desk.specs.Answers.{plain_answer};
 ghost use Rattle.office_desk.specs.Performing.{Performs, told_of};
 
 use crate::answer::Answer;
-use crate::changing::{clear_exam, drop_draft, load, move_exam, new_draft, place_exam};
-use crate::changing::{set_owner, swap_exams};
+use crate::changing::{
+    clear_exam, drop_draft, load, move_exam, new_draft, place_exam, set_owner, swap_exams,
+};
 use crate::judging::judged;
 use crate::showing::{draft, instance, penalty, violations};
-use office_store::Office;
 use office_policy::{Caller, Command};
+use office_store::Office;
 use sqlite::Alter;
 use std::alloc::Global;
 use std::marker::Model;

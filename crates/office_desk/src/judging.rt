@@ -2,12 +2,12 @@
 ghost use Rattle.sqlite.specs.Held.{state};
 ghost use Rattle.sqlite.specs.State.{HasCleanDisk};
 ghost use Rattle.office_policy.specs.Commands.{plain_command};
-ghost use Rattle.office_model.specs.Step.{allowed_in, owners_in};
+ghost use Rattle.office_model.specs.Step.{allowed_in};
 ghost use Rattle.office_store.specs.Running.{Reads};
 
-use office_store::Office;
-use office_model::StoreFault;
+use exam_terms::DeptNo;
 use office_policy::{Caller, Command, Denial, allowed};
+use office_store::{Office, StoreFault};
 use sqlite::Alter;
 use std::alloc::Global;
 
@@ -25,35 +25,37 @@ pub(crate) fn judged<S: Alter>(
         → HasCleanDisk (state S.Store office.old) }
 {
     match caller {
-        Caller::Dept(_) => {
-            let (first, second) = owners(office, alloc, command)?;
-            Ok(allowed(caller, command, first, second))
-        }
+        Caller::Dept(dept) => judged_by_owners(office, alloc, dept, command),
         _ => Ok(allowed(caller, command, 0, 0)),
     }
 }
 
-// The departments that own the exams that a command edits, 0 where there is none.
-fn owners<S: Alter>(
+// Whether a department may. Of a swap the second owner is read where the first is the department.
+fn judged_by_owners<S: Alter>(
     office: &mut Office<S>,
     alloc: Global,
+    dept: DeptNo,
     command: &Command<'_>,
-) -> Result<(u32, u32), StoreFault>
-    ensures reads { Reads S.Store (λ o. owners_in o (plain_command command.now))
+) -> Result<Result<(), Denial>, StoreFault>
+    ensures reads { Reads S.Store (λ o. allowed_in o (Caller.Dept dept) (plain_command command.now))
         office.old office.new result }
     ensures clean { HasCleanDisk (state S.Store office.new)
         → HasCleanDisk (state S.Store office.old) }
 {
+    let caller = Caller::Dept(dept);
     match *command {
         Command::Place(_, exam, _) | Command::Move(_, exam, _) | Command::Clear(_, exam) => {
             let owner = office.owner(alloc, exam)?;
-            Ok((owner, 0))
+            Ok(allowed(caller, command, owner, 0))
         }
         Command::Swap(_, a, b) => {
             let first = office.owner(alloc, a)?;
+            if first != dept.get() {
+                return Ok(allowed(caller, command, first, 0));
+            }
             let second = office.owner(alloc, b)?;
-            Ok((first, second))
+            Ok(allowed(caller, command, first, second))
         }
-        _ => Ok((0, 0)),
+        _ => Ok(allowed(caller, command, 0, 0)),
     }
 }

@@ -9,5 +9,8 @@ mod showing;
 
 pub use answer::Answer;
 pub use desk::Desk;
-pub use exam_draft::Edit;
-pub use office_model::{Refusal, StoreFault};
+pub use office_model::{
+    quiet_run, quiet_step, same_changes_same_view, same_view_same_answer, shown_changes_nothing,
+    told_by_view,
+};
+pub use office_store::{Edit, Office, Refusal, StoreFault};

@@ -1,13 +1,13 @@
-// Commands that show the office, and change nothing.
+// Commands that show the office, and change nothing. An `Err` says that nothing is told.
 ghost use Rattle.sqlite.specs.Held.{state};
 ghost use Rattle.sqlite.specs.State.{HasCleanDisk};
 ghost use Rattle.office_policy.specs.Commands.{draft, draft_penalty, draft_violations, instance};
 ghost use Rattle.office_desk.specs.Performing.{Performs};
 
 use crate::answer::Answer;
-use office_store::Office;
 use office_files::write_instance;
 use office_reports::{penalty_report, violation_report};
+use office_store::Office;
 use sqlite::Alter;
 use std::alloc::Global;
 

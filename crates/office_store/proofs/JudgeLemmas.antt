@@ -36,8 +36,8 @@ pub judged : (d : ℕ) (o : OfficeState) (I : Session) (E : Enrolled) (T : Placi
     → Does (draft_shown d o) o (λ new. new ≡ o) (Ok (T, P))
     → Does (draft_judged d o) o (λ new. new ≡ o) (Ok found)
 judged d o I E T P found is same shown = (
-    shown.0,
-    judges d o (I, E) is ∙ ap (judgement (I, E)) shown.1
-    ∙ ap (λ found. Ok (found, shown.0)) (sym same),
-    shown.2,
+  shown.0,
+  judges d o (I, E) is ∙ ap (judgement (I, E)) shown.1
+      ∙ ap (λ found. Ok (found, shown.0)) (sym same),
+  shown.2,
 )

@@ -7,8 +7,6 @@ use sqlite::Error;
 pub struct Failed;
 
 impl From<Error> for Failed {
-    ghost use Rattle.std.specs.Prelude.{◌≡◌};
-
     ghost from_gives = { λ _ _. Unit {0} };
 
     fn from(_error: Error) -> Failed {

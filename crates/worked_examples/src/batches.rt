@@ -108,7 +108,7 @@ fn the_first_fault_of_a_batch_is_answered(rt: HostRuntime) -> Result<(), Fail> {
 fn batch_of(alloc: Global, bytes: usize) -> Result<Vec<u8>, Fail> {
     let mut text = Vec::new(alloc);
     text.extend_from_slice(b"student,exam,action")?;
-    while text.len() < bytes {
+    for _ in text.len()..bytes {
         text.push(b'\n')?;
     }
     Ok(text)

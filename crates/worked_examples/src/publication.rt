@@ -1,5 +1,5 @@
 // Seats, shares and publications of the small session.
-ghost use Rattle.std.specs.Prelude.{All, IfOk};
+ghost use Rattle.std.specs.Prelude.{IfOk};
 ghost use Rattle.exam_publish.specs.Rows.{ArePublishedRows, RowsInOrder};
 ghost use Rattle.exam_publish.specs.Seats.{AreSeated};
 
@@ -130,8 +130,9 @@ fn total(
 
 // The rows of the small session published with exams 2 and 3 in one room, then with exam 2 moved
 // out of it, and then with exam 2 back.
-fn moved_out_and_back(alloc: Global) -> Result<[Vec<SeatRow>; 3], Fail>
-    ensures { IfOk result (λ rows. All (λ own. RowsInOrder own.items) rows) }
+fn moved_out_and_back(alloc: Global) -> Result<(Vec<SeatRow>, Vec<SeatRow>, Vec<SeatRow>), Fail>
+    ensures first { IfOk result (λ rows. RowsInOrder rows.0.items) }
+    ensures out { IfOk result (λ rows. RowsInOrder rows.1.items) }
 {
     let (instance, enrolments) = session(alloc)?;
     let together = placed(alloc, &ONE_ROOM)?;
@@ -139,13 +140,13 @@ fn moved_out_and_back(alloc: Global) -> Result<[Vec<SeatRow>; 3], Fail>
     let apart = placed(alloc, &MOVED_OUT)?;
     let out = published(alloc, &instance, &enrolments, &apart, &first)?;
     let back = published(alloc, &instance, &enrolments, &together, &out)?;
-    Ok([first, out, back])
+    Ok((first, out, back))
 }
 
 #[test]
 fn seats_kept(rt: HostRuntime) -> Result<(), Fail> {
     let alloc = rt.alloc();
-    let [first, out, back] = moved_out_and_back(alloc)?;
+    let (first, out, back) = moved_out_and_back(alloc)?;
     let kept = [
         (0, 1, 0, 0, 1),
         (0, 2, 0, 0, 2),
