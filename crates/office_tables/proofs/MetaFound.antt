@@ -1,18 +1,17 @@
 -- What the rows of the table meta tell of it.
-use Rattle.std.proofs.Common.{◌≡◌, ◌≢◌, ◌↔◌, ℕ, pos, Bool, true, false, List, [], ◌∷◌, map, length, get_or, Option, Some, None, option_map, refl, sym, ap, ap₂, subst, ◌∙◌, IsTrue, IsPermutation, arith}
+use Rattle.std.proofs.Common.{◌≡◌, ◌≢◌, List, [], ◌∷◌, map, length, get_or, Option, Some, None, refl, sym, ap, subst, ◌∙◌, IsTrue, IsPermutation, arith}
 use Rattle.std.specs.List.{AllByRecursion}
 use Rattle.std.proofs.lemmas.List.Sorted.{IsPermutation-sym, IsPermutation-trans, length_permutation}
 use Rattle.sqlite_trees.specs.Tree.{rowid}
 use Rattle.sqlite_trees.specs.View.{is_int}
 use Rattle.sqlite_trees.proofs.ListLemmas.{all_from_map, all-map, all_of, all-permutation}
-use Rattle.sqlite_value.specs.declared.value.Value.TheVariants.{Int, Blob}
-use Rattle.sqlite_value.specs.Order.{Row, column}
+use Rattle.sqlite_value.specs.Order.{Row}
 use Rattle.sqlite.specs.Effect.{Database, IsDatabase}
 use Rattle.office_tables.specs.declared.rows.MetaRow.{MetaRow}
 use Rattle.office_tables.specs.Readings.{IsReadMeta, IsFoundMeta, listed}
 use Rattle.office_tables.specs.Records.{meta_from}
 use Rattle.office_schema.specs.Schema.{office_schema}
-use Rattle.office_tables.specs.Tables.{Meta, HasRowids, Holds, flag, keyed, meta_row}
+use Rattle.office_tables.specs.Tables.{Meta, HasRowids, Holds, keyed, meta_row}
 use Rattle.office_tables.proofs.ListedTables.{same_map}
 use Rattle.office_tables.proofs.ListTexts.{meta_terms, meta_whole}
 use Rattle.office_tables.proofs.WholeRows.{dropped}
@@ -77,44 +76,3 @@ module _ (db : Database) (is : db.schema ≡ office_schema) (sound : IsDatabase 
       (IsPermutation-sym _ _ (subst (IsPermutation (map keyed (db.trees 0))) one shown))
       holds.same) in
       none (omega (arith, long)) m (sym (dropped 0 4 row long) ∙ same)
-
--- ---- and of the tables
-
-flag_once : (a b : Bool) → Int (pos (flag a)) ≡ Int (pos (flag b)) → a ≡ b
-flag_once true true h = refl
-flag_once false false h = refl
-flag_once true false h = absurd (cc)
-flag_once false true h = absurd (cc)
-
-bytes_once : (a b : List ℕ) → Blob a ≡ Blob b → a ≡ b
-bytes_once a b h = cc
-
-row_once : (a b : Meta) → meta_row a ≡ meta_row b → a ≡ b
-row_once a b h =
-    ap₂ (λ p i. record { published = p; instance = i })
-    (flag_once a.published b.published (ap (λ r. column r 2) h))
-    (bytes_once a.instance b.instance (ap (λ r. column r 3) h))
-
-unmapped_one : (ms : List Meta) (m : Meta) → map meta_row ms ≡ meta_row m ∷ [] → ms ≡ m ∷ []
-unmapped_one [] m h = absurd (omega (arith, ap length h))
-unmapped_one (x ∷ []) m h = ap (λ v. v ∷ []) (row_once x m (ap (λ rs. get_or rs 0 []) h))
-unmapped_one (x ∷ y ∷ ms) m h = absurd (omega (arith, ap length h))
-
-some_same : (a b : Meta) → Some a ≡ Some b → a ≡ b
-some_same a b h = cc
-
--- the row that was found is the one that the table holds
-pub found_alone : (stored : List Row) (ms : List Meta) → Holds keyed (map meta_row ms) stored
-    → (found : Option MetaRow)
-    → IsFoundMeta stored found → (m : Meta) → (ms ≡ m ∷ []) ↔ (option_map meta_from found ≡ Some m)
-found_alone stored ms holds (Some r) is m =
-    let list = unmapped_one ms (meta_from r)
-    (one_list (map meta_row ms) _
-    (IsPermutation-trans _ _ _ (IsPermutation-sym _ _ holds.same) is.same)) in (
-      λ one. ap Some (ap (λ l. get_or l 0 (meta_from r)) (sym list ∙ one)),
-      λ same. list ∙ ap (λ v. v ∷ []) (some_same (meta_from r) m same),
-    )
-found_alone stored ms holds None none m = (
-  λ one. absurd (none m (subst (λ l. Holds keyed (map meta_row l) stored) one holds)),
-  λ same. absurd (cc),
-)

@@ -23,10 +23,10 @@ mod vacant_tables;
 pub use adopting::adopt_tables;
 pub use creation::{create_tables, is_bare};
 pub use drafts::{delete_draft, drafts_of, insert_draft};
-pub use enrolments::{enrols, insert_enrol, insert_enrols};
+pub use enrolments::{insert_enrol, insert_enrols};
 pub use found::Found;
 pub use looking::look;
-pub use meta::{delete_meta, meta_of, put_meta};
+pub use meta::{delete_meta, put_meta};
 pub use owners::{delete_owner, insert_owner, owners_of};
 pub use rows::{
     DraftRow, EnrolRow, MetaRow, OwnerRow, PartShareRow, PlacedRow, SeatRow, SlotRow,

@@ -1,12 +1,10 @@
 // The office's one row.
-ghost use Rattle.std.specs.Prelude.{◌≡◌, ◌↔◌, [], ◌∷◌, false, option_map, Some};
+ghost use Rattle.std.specs.Prelude.{◌≡◌};
 ghost use Rattle.sqlite.specs.Held.{state};
-ghost use Rattle.sqlite.specs.State.{Survives};
 ghost use Rattle.office_tables.specs.Changes.{with_meta, no_meta};
 ghost use Rattle.office_tables.specs.Readings.{Finds, IsFoundMeta, Leaves, Looks};
-ghost use Rattle.office_tables.specs.Records.{meta_from};
-ghost use Rattle.office_tables.specs.Steps.{Changes, LeavesAll, LeavesCommitted, Nothing, Reads, Within};
-ghost use Rattle.office_tables.specs.Tables.{Meta, flag};
+ghost use Rattle.office_tables.specs.Steps.{Changes, Within};
+ghost use Rattle.office_tables.specs.Tables.{flag};
 
 use crate::listing::list_rows;
 use crate::meta_row::read_meta;
@@ -45,18 +43,6 @@ fn flag_of(is: bool) -> u32
     ensures { result ≡ flag is }
 {
     if is { 1 } else { 0 }
-}
-
-/// The row, where it is the only one.
-pub fn meta_of<S: Alter>(conn: &mut Connection<S>) -> Result<Option<MetaRow>, Error>
-    ensures row { Reads S.Store (λ t found. (m : Meta) → (t.meta ≡ m ∷ []) ↔ (option_map meta_from found ≡ Some m)) conn.old conn.new result }
-    ensures same { LeavesAll S.Store conn.old conn.new result }
-    ensures kept { LeavesCommitted S.Store conn.old conn.new }
-    ensures mode { conn.old.in_transaction ≡ false → conn.new.in_transaction ≡ false }
-    ensures survives { Survives (state S.Store conn.old) (state S.Store conn.new) (Nothing (state S.Store conn.old)) }
-{
-    let _live = conn.schema();
-    adopt_meta(conn)
 }
 
 // The row as it is found when an office is taken over, where the table holds it alone.

@@ -2,9 +2,8 @@
 use crate::given::assert_same;
 use office_tables::{
     DraftRow, EnrolRow, OwnerRow, SlotRow, adopt_tables, create_tables, delete_draft, delete_meta,
-    delete_owner, delete_slot, delete_slots, drafts_of, enrols, insert_draft, insert_enrol,
-    insert_enrols, insert_owner, insert_slot, insert_slots, is_bare, look, meta_of, owners_of,
-    put_meta, slots_of,
+    delete_owner, delete_slot, delete_slots, drafts_of, insert_draft, insert_enrol, insert_enrols,
+    insert_owner, insert_slot, insert_slots, is_bare, look, owners_of, put_meta, slots_of,
 };
 use sqlite::{Connection, Error, MemStore, Transaction};
 use std::alloc::Global;
@@ -116,9 +115,10 @@ fn rows_come_back(rt: HostRuntime) -> Result<(), Fail> {
     )?;
     let others = owners_of(rt.alloc(), &mut conn, 1)?;
     assert_same(&rt, others.len(), 0, "owners of exam 1");
-    let by_exam = [pairs[1], pairs[0], pairs[2]];
-    let found = enrols(rt.alloc(), &mut conn)?;
-    assert_same(&rt, found.as_slice(), by_exam.as_slice(), "enrolments");
+    let Some(found) = adopt_tables(rt.alloc(), &mut conn)? else {
+        return Err("no tables")?;
+    };
+    assert_same(&rt, found.enrols.as_slice(), pairs.as_slice(), "enrolments");
     Ok(())
 }
 
@@ -199,17 +199,15 @@ fn an_office_is_found(rt: HostRuntime) -> Result<(), Fail> {
 fn the_office_has_a_row(rt: HostRuntime) -> Result<(), Fail> {
     let mut conn = filled(rt.alloc(), &[])?;
     look(&mut conn)?;
-    match meta_of(&mut conn)? {
-        Some(row) => {
-            assert_same(&rt, row.published, false, "published");
-            assert_same(
-                &rt,
-                row.instance.as_slice(),
-                b"[Exams:1]".as_slice(),
-                "instance",
-            );
-        }
-        None => return Err("no row")?,
-    }
+    let Some(found) = adopt_tables(rt.alloc(), &mut conn)? else {
+        return Err("no tables")?;
+    };
+    assert_same(&rt, found.meta.published, false, "published");
+    assert_same(
+        &rt,
+        found.meta.instance.as_slice(),
+        b"[Exams:1]".as_slice(),
+        "instance",
+    );
     Ok(())
 }
