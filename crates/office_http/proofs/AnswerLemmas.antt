@@ -17,9 +17,11 @@ pub replied : (asked : PlainAsked) (old new : OfficeState) (answer : PlainAnswer
     → Steps old asked.caller asked.command answer new → IsReplyOf answer reply
     → RepliesTo (Ok asked) old reply new
 replied asked old new answer reply step (inl is) = (answer, step, is)
-replied asked old new answer reply step (inr k) =
-    (answers.unavailable,
-    inr (shown_stays old new asked.caller asked.command answer step k.0, refl), k.1)
+replied asked old new answer reply step (inr k) = (
+  answers.unavailable,
+  inr (shown_stays old new asked.caller asked.command answer step k.0, refl),
+  k.1,
+)
 
 same : (said : Result PlainAsked Refusal) (why : Refusal) (office : OfficeState)
     → said ≡ Err why → RepliesTo said office (refusal_reply why) office

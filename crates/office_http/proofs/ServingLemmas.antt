@@ -51,15 +51,18 @@ module _ {S : Type 0} (store : Ghosts S) where
         (λ office next. Serves Replies input before after office next served) old new)
     serves_leads (Err fault) x = tt
     serves_leads (Ok served) x = λ clean office now.
-        let run = told_leads x.items old x.output new x.told clean office now in
-        (run.0, record {
-          items = x.items;
-          output = x.output;
-          messages = x.messages;
-          told = run.1;
-          count = x.count;
-          written = x.written;
-        }, run.2)
+        let run = told_leads x.items old x.output new x.told clean office now in (
+          run.0,
+          record {
+            items = x.items;
+            output = x.output;
+            messages = x.messages;
+            told = run.1;
+            count = x.count;
+            written = x.written;
+          },
+          run.2,
+        )
 
     -- nothing went wrong while a reply went out
     whole_front : (items : List Item) (output : List ℕ) → IfSome input (Begins items 0)
@@ -77,19 +80,27 @@ module _ {S : Type 0} (store : Ghosts S) where
     broken_front items output begins x = λ clean office now.
         let kept = told_clean (x.last ∷ []) x.mid (x.sent ++ x.unsent) new x.told_last clean in
         let first = told_leads x.whole old x.front x.mid x.told kept office now in
-        let last = told_leads (x.last ∷ []) x.mid (x.sent ++ x.unsent) new x.told_last clean first.0 first.2 in
-        (last.0, (items, output, begins, record {
-          whole = x.whole;
-          front = x.front;
-          mid = first.0;
-          told = first.1;
-          last = x.last;
-          sent = x.sent;
-          unsent = x.unsent;
-          told_last = last.1;
-          next = x.next;
-          written = x.written;
-        }), last.2)
+        let last = told_leads (x.last ∷ []) x.mid (x.sent ++ x.unsent) new x.told_last clean first.0 first.2 in (
+          last.0,
+          (
+            items,
+            output,
+            begins,
+            record {
+              whole = x.whole;
+              front = x.front;
+              mid = first.0;
+              told = first.1;
+              last = x.last;
+              sent = x.sent;
+              unsent = x.unsent;
+              told_last = last.1;
+              next = x.next;
+              written = x.written;
+            },
+          ),
+          last.2,
+        )
 
     front_leads : (fault : ServeFault)
         → ServesFront (Answered store) input before after old new fault

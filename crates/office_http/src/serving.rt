@@ -18,7 +18,7 @@ use std::io::{Read, Write};
 #[derive(Drop)]
 pub struct AnsweringDesk<'a, S: Alter> {
     pub desk: &'a mut Desk<S>,
-    pub routes: Routes,
+    pub routes: &'a Routes,
 }
 
 impl<S: Alter> Machine for AnsweringDesk<'_, S> {
@@ -30,7 +30,7 @@ impl<S: Alter> Machine for AnsweringDesk<'_, S> {
         × Answered S.Store old.desk.now request reply new.desk.now };
 
     fn answer(&mut self, alloc: Global, request: &Request<'_>) -> Reply {
-        reply(alloc, &self.routes, self.desk, request)
+        reply(alloc, self.routes, self.desk, request)
     }
 }
 
@@ -58,6 +58,9 @@ pub fn serve<R: Read, W: Write, S: Alter>(
     let Ok(routes) = Routes::new(alloc) else {
         return Err(ServeFault::NoMemory);
     };
-    let mut machine = AnsweringDesk { desk, routes };
+    let mut machine = AnsweringDesk {
+        desk,
+        routes: &routes,
+    };
     office_messages::serve(alloc, reader, writer, &mut machine, turns)
 }

@@ -1,2 +1,3 @@
 pub mod LoadFacts
 pub mod NumberLemmas
+mod ServeFacts

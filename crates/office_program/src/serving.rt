@@ -80,7 +80,10 @@ pub fn serve_desk<'a, S: Alter, O: Write, E: Write>(
     let Ok(routes) = Routes::new(rt.alloc()) else {
         return Err(ProgramFault::NoMemory);
     };
-    let mut machine = AnsweringDesk { desk, routes };
+    let mut machine = AnsweringDesk {
+        desk,
+        routes: &routes,
+    };
     serve_on(rt, terms, &mut machine, out, err)
 }
 

@@ -13,8 +13,9 @@ returns-in_default-clause-step g c =
 pub returns-clause-step : goal.returns-clause-step
 returns-clause-step g c =
     λ clean office now.
-    let ran = c.run-answer.ensures.runs clean office now in
-    (ran.0,
-    replied (plain_asked c.args.asked.now) office ran.0 (plain_answer c.run-answer.result)
-    (plain_reply c.answer_reply.result) ran.1 c.answer_reply.ensures,
-    ran.2)
+    let ran = c.run-answer.ensures.runs clean office now in (
+      ran.0,
+      replied (plain_asked c.args.asked.now) office ran.0 (plain_answer c.run-answer.result)
+          (plain_reply c.answer_reply.result) ran.1 c.answer_reply.ensures,
+      ran.2,
+    )

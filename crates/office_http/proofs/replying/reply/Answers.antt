@@ -9,13 +9,14 @@ pub returns-in-Err : goal.returns-in-Err
 returns-in-Err g c =
     let request = c.args.request.now in
     let said = reading request.method.now request.target.now (option_copied request.caller)
-        request.body.now in
+    request.body.now in
     record {
       clean = λ h. h;
-      step = λ clean office now.
-          (office,
-          subst (λ (r : PlainReply). RepliesTo said office r office) (sym c.reply.ensures)
-          (refused said c.in-Err.refusal office
-          (subst (λ r. GivesAsked said r) c.in-Err.is c.read_request.ensures.asked)),
-          now);
+      step = λ clean office now. (
+        office,
+        subst (λ (r : PlainReply). RepliesTo said office r office) (sym c.reply.ensures)
+            (refused said c.in-Err.refusal office
+            (subst (λ r. GivesAsked said r) c.in-Err.is c.read_request.ensures.asked)),
+        now,
+      );
     }

@@ -7,18 +7,18 @@ pub returns-clause-ok : goal.returns-clause-ok
 returns-clause-ok g c =
     serves_leads g.S.Store _ _ _ _ _ c.serve.result
     (lent_serves (λ m. m.desk.ghost_name) (λ m. m.desk.now) (Answered g.S.Store) _ _ _ _ _ _
-    c.desk-1.given c.serve.result c.serve.ensures.ok)
+    c.desk-1.given.1 c.serve.result c.serve.ensures.ok)
 
 pub returns-clause-err : goal.returns-clause-err
 returns-clause-err g c =
     serves_front_leads g.S.Store _ _ _ _ _ c.serve.result
     (lent_serves_front (λ m. m.desk.ghost_name) (λ m. m.desk.now) (Answered g.S.Store) _ _ _ _ _ _
-    c.desk-1.given c.serve.result c.serve.ensures.err)
+    c.desk-1.given.1 c.serve.result c.serve.ensures.err)
 
 pub returns-clause-clean : goal.returns-clause-clean
 returns-clause-clean g c =
     serves_clean g.S.Store _ _ _ _ _ c.serve.result
     (lent_serves (λ m. m.desk.ghost_name) (λ m. m.desk.now) (Answered g.S.Store) _ _ _ _ _ _
-    c.desk-1.given c.serve.result c.serve.ensures.ok)
+    c.desk-1.given.1 c.serve.result c.serve.ensures.ok)
     (lent_serves_front (λ m. m.desk.ghost_name) (λ m. m.desk.now) (Answered g.S.Store) _ _ _ _ _ _
-    c.desk-1.given c.serve.result c.serve.ensures.err)
+    c.desk-1.given.1 c.serve.result c.serve.ensures.err)
