@@ -4,9 +4,12 @@
     python3 tests/wrong_bodies.py try [CRATE..]   tries those of these crates, or of all
     python3 tests/wrong_bodies.py current         says which crates have to be tried again
 
-A crate is proved first, without an edit. Then its edits are tried in a copy, where they lie in
-must-fail/, by `rt must-fail`: each must be refused by the prover. Crates are tried side by side.
-Where all of a crate are refused, wrong-bodies/TRIED gets the hash of all that was tried."""
+A crate is proved first, without an edit. Then its edits are tried in a copy; each must be refused
+by the prover. A function is proved from its own body and from the contracts of what it calls, so
+edits of different functions are tried together, in one check: an edit is refused where the function
+that it is in is not proved. What is not refused so, such as the edit of a constant, is tried alone
+by `rt must-fail`. Crates are tried side by side. Where all of a crate are refused,
+wrong-bodies/TRIED gets the hash of all that was tried."""
 import hashlib
 import os
 import re
@@ -70,12 +73,16 @@ def try_all(names, is_whole):
 def is_proved(names, is_whole):
     """Whether the crates are proved as they are: else an edit's refusal would say nothing."""
     if is_whole:
-        return not run(["rt", "all", "check", "--jobs", str(lanes())], ROOT).returncode
-    return all(not run(["rt", "check"], ROOT / "crates" / name).returncode for name in names)
+        ran = [run(["rt", "all", "check", "--jobs", str(lanes())], ROOT)]
+    else:
+        ran = [run(["rt", "check"], ROOT / "crates" / name) for name in names]
+    failed = [it for it in ran if it.returncode]
+    print("".join(it.stdout for it in failed), end="")
+    return not failed
 
 
 def copy_to(copy, names):
-    """The repository with the wrong bodies of these crates in must-fail/, and the built libraries."""
+    """The repository, with the built libraries, and an empty must-fail/ in each of these crates."""
     for name in ("crates.txt", "HANDLES"):
         shutil.copy(ROOT / name, copy / name)
     for crate in ROOT.glob("crates/*"):
@@ -83,29 +90,117 @@ def copy_to(copy, names):
             if (crate / part).is_dir():
                 shutil.copytree(crate / part, copy / "crates" / crate.name / part)
     for name in names:
-        to = copy / "crates" / name / "must-fail"
-        to.mkdir()
-        for edit in edits_of(name):
-            shutil.copy(edit, to)
+        (copy / "crates" / name / "must-fail").mkdir()
 
 
 def try_crate(copy, name):
     """Tries the crate's wrong bodies, and gives how many of them were refused."""
     before, begun = hash_of(name), time.monotonic()
-    said = run(["rt", "must-fail", name], copy).stdout
-    refused = len(re.findall(rf"must-fail {name}/\S+: refused, as it must be", said))
-    print(f"{said}wrong bodies: {name}: {refused} of {len(edits_of(name))} refused, "
+    edits = [Edit(name, at) for at in edits_of(name)]
+    refused = sum((try_together(copy, name, batch) for batch in batches(edits)), [])
+    left = [edit for edit in edits if edit not in refused]
+    said = try_alone(copy, name, left) if left else ""
+    count = len(refused) + len(re.findall(rf"must-fail {name}/\S+: refused, as it must be", said))
+    print(f"{said}wrong bodies: {name}: {count} of {len(edits)} refused, {len(left)} of them alone, "
           f"{time.monotonic() - begun:.0f} s", flush=True)
-    if refused == len(edits_of(name)) and before == hash_of(name):
+    if count == len(edits) and before == hash_of(name):
         mark(name).write_text(before + "\n")
+    return count
+
+
+class Edit:
+    """An edit: where it lies, what it puts for what in which file, and the functions that it is in;
+    none where a place of it is in no function."""
+
+    def __init__(self, crate, at):
+        self.at, self.places, file = at, [], None
+        for line in at.read_text().splitlines():
+            word, _, text = line.partition(": ")
+            if word == "file":
+                file = text
+            elif word == "old":
+                self.places.append([file, text])
+            elif word == "new":
+                self.places[-1].append(text)
+        inside = {(file, function_of(ROOT / "crates" / crate / file, old))
+                  for file, old, _ in self.places}
+        self.functions = inside if all(function for _, function in inside) else set()
+
+    def put_into(self, crate):
+        for file, old, new in self.places:
+            text = (crate / file).read_text()
+            (crate / file).write_text(text.replace(old, new, 1))
+
+    def is_of(self, crate, path):
+        """Whether a function's path, as the prover prints it, may be that of one it is in."""
+        for file, (owner, name) in self.functions:
+            module = re.sub(r"^src/|\.rt$", "", file).replace("/", "::")
+            before = f"{crate}::" if module == "lib" else f"{crate}::{module}::"
+            *owners, last = path[len(before):].split("::")
+            if path.startswith(before) and last == name:
+                if owners[0].startswith(owner) if owner and owners else not (owner or owners):
+                    return True
+        return False
+
+
+def function_of(file, text):
+    """The type, if there is one, and the name of the function in whose body a text stands once."""
+    lines = file.read_text().splitlines()
+    found = [number for number, line in enumerate(lines) if text in line]
+    if len(found) != 1:
+        return None
+    owner = None
+    for number, line in enumerate(lines):
+        if opened := re.match(r"impl\b(?:<[^{]*?>)? (?:.* for )?&?(\w+)", line):
+            owner = opened[1]
+        begun = re.match(r"( *)(?:pub(?:\(crate\))? )?fn (\w+)", line)
+        if not begun:
+            continue
+        end = next((after for after in range(number, len(lines)) if lines[after] == begun[1] + "}"), 0)
+        if number < found[0] < end:
+            return (owner if begun[1] else None), begun[2]
+    return None
+
+
+def batches(edits):
+    """Edits to be tried together: those of each batch are of different functions."""
+    made = []
+    for edit in edits:
+        free = next((batch for batch in made if all(edit.functions.isdisjoint(other.functions)
+                                                    for other in batch)), None)
+        if edit.functions and free is None:
+            made.append(free := [])
+        if edit.functions:
+            free.append(edit)
+    return [batch for batch in made if len(batch) > 1]
+
+
+def try_together(copy, name, edits):
+    """Those of the edits whose functions are not proved when all of them are made."""
+    crate = copy / "crates" / name
+    for edit in edits:
+        edit.put_into(crate)
+    said = run(["rt", "check", "--jobs", "1"], crate).stdout
+    shutil.copytree(ROOT / "crates" / name / "src", crate / "src", dirs_exist_ok=True)
+    if "logic=not-proved" not in said:
+        return []
+    failing = re.findall(r"^fn (\S+): (?!proved)", said, re.MULTILINE)
+    refused = [edit for edit in edits if any(edit.is_of(name, path) for path in failing)]
+    for edit in refused:
+        path = next(path for path in failing if edit.is_of(name, path))
+        print(f"{name}/{edit.at.name}: refused at {path}", flush=True)
     return refused
+
+
+def try_alone(copy, name, edits):
+    for edit in edits:
+        shutil.copy(edit.at, copy / "crates" / name / "must-fail")
+    return run(["rt", "must-fail", name], copy).stdout
 
 
 def run(words, at):
     ran = subprocess.run(words, cwd=at, stdin=subprocess.DEVNULL, stdout=subprocess.PIPE,
                          stderr=subprocess.STDOUT, text=True, errors="replace")
-    if ran.returncode and words[:2] != ["rt", "must-fail"]:
-        print(ran.stdout, end="")
     return ran
 
 

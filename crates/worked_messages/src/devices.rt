@@ -1,9 +1,10 @@
 // A small machine, and readers and writers that work in pieces or fail.
 ghost use Rattle.std.specs.Prelude.{⊤};
 
+use office_policy::{Body, Command, allowed};
 use office_requests::{
-    Allow, Content, Machine, Payload, Reply, Request, ServeFault, Served, Status, serve,
-    unavailable,
+    Asked, Content, FixedError, Machine, Payload, Reply, Request, Routes, ServeFault, Served,
+    Status, fixed_reply, read_request, serve, unavailable,
 };
 use std::alloc::Global;
 use std::io;
@@ -12,31 +13,20 @@ use std::io::{ErrorKind, Read, Write};
 /// What the candidate 99 has: nothing.
 const NO_EXAMS: &[u8] = b"{\"candidate\":99,\"exams\":[],\"penalty\":0}";
 
-/// A machine that counts what it answers.
+/// A machine that reads what is asked, judges who may ask for it, and counts what it answers. It
+/// knows the candidate 99, who has no exams, and gives an instance back as it came.
 #[derive(Drop)]
 pub(crate) struct Board {
+    routes: Option<Routes>,
     pub answered: u32,
 }
 
-fn json(status: Status, allow: Option<Allow>, body: &'static [u8]) -> Reply {
-    Reply {
-        status,
-        allow,
-        content: Content::Json,
-        body: Payload::Fixed(body),
-    }
-}
-
-// The body that came, as a text.
-fn echo(alloc: Global, body: &[u8]) -> Reply {
-    match Vec::from_slice(alloc, body) {
-        Ok(body) => Reply {
-            status: Status::Done,
-            allow: None,
-            content: Content::Text,
-            body: Payload::Made(body),
-        },
-        Err(_) => unavailable(),
+impl Board {
+    pub fn new(alloc: Global) -> Board {
+        Board {
+            routes: Routes::new(alloc).ok(),
+            answered: 0,
+        }
     }
 }
 
@@ -45,17 +35,38 @@ impl Machine for Board {
 
     fn answer(&mut self, alloc: Global, request: &Request<'_>) -> Reply {
         self.answered = self.answered.saturating_add(1);
-        if request.caller.is_none() {
-            return json(Status::BadRequest, None, b"{\"error\":\"caller\"}");
+        let Some(routes) = &self.routes else {
+            return unavailable();
+        };
+        match read_request(alloc, routes, request) {
+            Ok(asked) => told(alloc, &asked),
+            Err(refusal) => refusal.reply(),
         }
-        if request.target == "/echo" {
-            return echo(alloc, request.body);
-        }
-        if request.target == "/me" && request.method == "GET" {
-            return json(Status::Done, None, NO_EXAMS);
-        }
-        let allow = Some(Allow { methods: "GET" });
-        json(Status::MethodNotAllowed, allow, b"{\"error\":\"method\"}")
+    }
+}
+
+// The reply to what is asked, where the policy allows it and nobody owns an exam.
+fn told(alloc: Global, asked: &Asked<'_>) -> Reply {
+    if let Err(denial) = allowed(asked.caller, &asked.command, 0, 0) {
+        return FixedError::Denied(denial).reply();
+    }
+    match asked.command {
+        Command::Me => fixed_reply(Status::Done, NO_EXAMS),
+        Command::Load(Body::Given(text)) => echo(alloc, text),
+        _ => unavailable(),
+    }
+}
+
+// A text, as it came.
+fn echo(alloc: Global, text: &[u8]) -> Reply {
+    match Vec::from_slice(alloc, text) {
+        Ok(text) => Reply {
+            status: Status::Done,
+            allow: None,
+            content: Content::Text,
+            body: Payload::Made(text),
+        },
+        Err(_) => unavailable(),
     }
 }
 
@@ -152,14 +163,14 @@ pub(crate) fn run(
 ) -> (Result<Served, ServeFault>, Vec<u8>) {
     let mut reader = Pieces::of(stream, size);
     reader.interrupts = interrupts;
-    let mut board = Board { answered: 0 };
+    let mut board = Board::new(alloc);
     served(alloc, &mut reader, &mut board, 10_000_000)
 }
 
 // The same on a stream that comes in two pieces.
 fn run_in_two(alloc: Global, stream: &[u8], cut: usize) -> (Result<Served, ServeFault>, Vec<u8>) {
     let (front, rest) = stream.split_at(cut.min(stream.len()));
-    let mut board = Board { answered: 0 };
+    let mut board = Board::new(alloc);
     served(alloc, &mut front.chain(rest), &mut board, 100)
 }
 
@@ -187,11 +198,9 @@ fn agrees(
 }
 
 /// Whether the stream has this outcome, and these bytes are written, in every cutting into two
-/// pieces, and into equal ones of 1 to 79 bytes. Of a stream above 1,000 bytes: at each 199th place,
-/// and of 1 to 3 bytes.
+/// pieces, and into equal ones of 1 to 79 bytes, or of 1 to 3 where the stream is above 1,000 bytes.
 pub(crate) fn is_served_so(alloc: Global, stream: &[u8], served: Served, replies: &[u8]) -> bool {
-    let is_long = stream.len() > 1_000;
-    let (sizes, step): (usize, usize) = if is_long { (4, 199) } else { (80, 1) };
+    let sizes: usize = if stream.len() > 1_000 { 4 } else { 80 };
     for size in 1..sizes {
         for interrupts in [false, true] {
             if !agrees(run(alloc, stream, size, interrupts), served, replies) {
@@ -199,7 +208,7 @@ pub(crate) fn is_served_so(alloc: Global, stream: &[u8], served: Served, replies
             }
         }
     }
-    for cut in (0..stream.len()).step_by(step) {
+    for cut in 0..stream.len() {
         if !agrees(run_in_two(alloc, stream, cut), served, replies) {
             return false;
         }

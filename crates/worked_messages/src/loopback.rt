@@ -18,7 +18,7 @@ Content-Length: 39\r\n\r\n{\"candidate\":99,\"exams\":[],\"penalty\":0}";
 
 // Serves one end of a connection, and drains it; whether it ended as it was asked to.
 fn serves(alloc: Global, stream: TcpStream) -> bool {
-    let mut board = Board { answered: 0 };
+    let mut board = Board::new(alloc);
     let mut turns = 100;
     let served = serve(alloc, &mut &stream, &mut &stream, &mut board, &mut turns);
     let asked = Served {
@@ -95,7 +95,7 @@ fn talk_in_turns(rt: &HostRuntime) -> io::Result<Result<Served, ServeFault>> {
         served: &stream,
         asked: 0,
     };
-    let mut board = Board { answered: 0 };
+    let mut board = Board::new(rt.alloc());
     Ok(serve(rt.alloc(), &mut reader, &mut &stream, &mut board, &mut 4))
 }
 

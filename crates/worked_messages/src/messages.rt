@@ -218,7 +218,7 @@ fn a_faulty_head_is_answered_at_once(rt: HostRuntime) {
     let faulty: &[u8] = b"\r\n\r\nGET /me HTTP/1.1\r\r\n\r\n";
     let mut reader = Pieces::of(faulty, 1);
     reader.endless = true;
-    let mut board = Board { answered: 0 };
+    let mut board = Board::new(rt.alloc());
     let (outcome, written) = served(rt.alloc(), &mut reader, &mut board, 40);
     assert_same(&rt, outcome, Ok(ended(1, End::Refused)), "outcome");
     assert_same(&rt, written.as_slice(), REQUEST_REPLY, "reply");
@@ -228,7 +228,7 @@ fn a_faulty_head_is_answered_at_once(rt: HostRuntime) {
 fn a_reader_that_fails(rt: HostRuntime) {
     let mut reader = Pieces::of(ME, ME.len());
     reader.fails_at = 2;
-    let mut board = Board { answered: 0 };
+    let mut board = Board::new(rt.alloc());
     let (outcome, written) = served(rt.alloc(), &mut reader, &mut board, 9);
     assert_same(&rt, outcome, Err(ServeFault::Read), "a failing reader");
     assert_same(&rt, written.as_slice(), ME_REPLY, "its reply");
@@ -243,13 +243,13 @@ fn a_reader_that_fails(rt: HostRuntime) {
 fn turns_are_used_to_the_last(rt: HostRuntime) {
     let closed = Ok(ended(0, End::Closed));
     for (turns, wanted) in [(0, Err(ServeFault::TooMany)), (1, closed)] {
-        let mut board = Board { answered: 0 };
+        let mut board = Board::new(rt.alloc());
         let (outcome, _) = served(rt.alloc(), &mut Pieces::of(b"", 1), &mut board, turns);
         assert_same(&rt, outcome, wanted, turns);
     }
     let answered = Ok(ended(1, End::Closed));
     for (turns, wanted) in [(1, Err(ServeFault::TooMany)), (2, answered)] {
-        let mut board = Board { answered: 0 };
+        let mut board = Board::new(rt.alloc());
         let (outcome, written) = served(rt.alloc(), &mut Pieces::of(ME, 80), &mut board, turns);
         assert_same(&rt, outcome, wanted, turns);
         assert_same(&rt, written.as_slice(), ME_REPLY, turns);
@@ -275,14 +275,14 @@ fn a_writer_that_breaks_off(rt: HostRuntime) -> Result<(), Fail> {
     ];
     for fault in faults {
         for room in 0..replies.len() {
-            let mut board = Board { answered: 0 };
+            let mut board = Board::new(alloc);
             let (outcome, written) = run_into(alloc, &stream, room, fault, &mut board);
             assert_same(&rt, outcome, Err(ServeFault::Write), room);
             assert_same(&rt, written.as_slice(), &replies[..room], room);
             let wanted = room / ME_REPLY.len() + 1;
             assert_same(&rt, board.answered as usize, wanted, room);
         }
-        let mut board = Board { answered: 0 };
+        let mut board = Board::new(rt.alloc());
         let (outcome, written) = run_into(alloc, &stream, replies.len(), fault, &mut board);
         assert_same(&rt, outcome, Ok(ended(3, End::Closed)), "room for all");
         assert_same(&rt, written.as_slice(), replies.as_slice(), "room for all");
@@ -293,7 +293,7 @@ fn a_writer_that_breaks_off(rt: HostRuntime) -> Result<(), Fail> {
 #[test]
 fn a_long_body_comes_in_small_pieces(rt: HostRuntime) -> Result<(), Fail> {
     let alloc = rt.alloc();
-    let head: &[u8] = b"PUT /echo HTTP/1.1\r\nHost: a\r\nX-Caller: office\r\n\
+    let head: &[u8] = b"PUT /instance HTTP/1.1\r\nHost: a\r\nX-Caller: office\r\n\
         Content-Length: 4194304\r\n\r\n";
     let body = repeated(alloc, b"body", 1_048_576)?;
     let stream = joined(alloc, head, &body)?;

@@ -59,7 +59,7 @@ fn a_reply_goes_out_before_the_next_message_is_waited_for(rt: HostRuntime) {
         asked: 0,
     };
     let mut writer = Hearing { written: &written };
-    let mut board = Board { answered: 0 };
+    let mut board = Board::new(rt.alloc());
     let outcome = serve(rt.alloc(), &mut reader, &mut writer, &mut board, &mut 4);
     let wanted = Served {
         answered: 3,
