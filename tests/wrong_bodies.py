@@ -60,10 +60,8 @@ def try_all(names, is_whole):
         print(f"wrong bodies: 0 refused, {sum(len(edits_of(name)) for name in names)} not refused")
         return 1
     names = sorted(names, key=lambda name: -len(edits_of(name)) * size_of(name))
-    with tempfile.TemporaryDirectory(prefix="wrong-bodies-") as copy:
-        copy_to(Path(copy), names)
-        with ThreadPoolExecutor(lanes()) as pool:
-            refused = sum(pool.map(lambda name: try_crate(Path(copy), name), names))
+    with ThreadPoolExecutor(lanes()) as pool:
+        refused = sum(pool.map(try_in_copy, names))
     wanted = sum(len(edits_of(name)) for name in names)
     print(f"wrong bodies: {(time.monotonic() - begun) / 60:.1f} minutes")
     print(f"{refused} refused, {wanted - refused} not refused")
@@ -81,16 +79,30 @@ def is_proved(names, is_whole):
     return not failed
 
 
-def copy_to(copy, names):
-    """The repository, with the built libraries, and an empty must-fail/ in each of these crates."""
+def try_in_copy(name):
+    """Tries the crate's wrong bodies in a copy of its own: what is edited there is no other's library."""
+    with tempfile.TemporaryDirectory(prefix="wrong-bodies-") as copy:
+        copy_to(Path(copy))
+        (Path(copy) / "crates" / name / "must-fail").mkdir()
+        return try_crate(Path(copy), name)
+
+
+def copy_to(copy):
+    """The repository, with links to the built libraries, whose files are replaced and never changed."""
     for name in ("crates.txt", "HANDLES"):
         shutil.copy(ROOT / name, copy / name)
     for crate in ROOT.glob("crates/*"):
         for part in ("src", "specs", "proofs", "out/rlib"):
             if (crate / part).is_dir():
-                shutil.copytree(crate / part, copy / "crates" / crate.name / part)
-    for name in names:
-        (copy / "crates" / name / "must-fail").mkdir()
+                shutil.copytree(crate / part, copy / "crates" / crate.name / part, symlinks=True,
+                                copy_function=link_or_copy if part == "out/rlib" else shutil.copy2)
+
+
+def link_or_copy(file, to):
+    try:
+        os.link(file, to)
+    except OSError:
+        shutil.copy2(file, to)
 
 
 def try_crate(copy, name):
