@@ -75,6 +75,7 @@ def files():
         "at_limit.sol": solution.ljust(SOLUTION_LIMIT),
         "long.sol": solution.ljust(SOLUTION_LIMIT + 1),
         "empty.db": b"",
+        "bare.db": b"",
     }
 
 
@@ -105,6 +106,10 @@ def unloaded(name, database, instance, text):
 
 def served(database="served.db", port="0", connections="1", *more):
     return ("serve", "--db", database, "--port", port, "--connections", connections, *more)
+
+
+def unexported(name, database, text):
+    return Case(name, ("export", "--db", database), 1, b"", b"examoffice: %s\n" % text)
 
 
 def usage(name, *words):
@@ -177,12 +182,18 @@ CASES = [
          b"examoffice: cannot open database\n"),
     Case("a server that is told to a full device", served(), 1, b"",
          b"examoffice: cannot write\n", "/dev/full"),
+    unexported("an export where nothing is published", "term.db", b"no publication"),
+    unexported("an export of an empty file", "bare.db", b"store fault 9"),
+    unexported("an export, where no office was made", "bare.db", b"store fault 9"),
+    unexported("an export of a database in no folder", "none/none.db", b"cannot open database"),
+    unexported("an export of a file that is no database", "small.sol", b"cannot open database"),
     Case("words that are no texts", (b"check\xff",), 2, b"",
          b"error: the words are not all UTF-8\n"),
     Case("help", ("--help",), 0, Holding(b"check"), b""),
     Case("help names the load", ("--help",), 0, Holding(b"load"), b""),
     Case("help for the load", ("load", "--help"), 0, Holding(b"--db <FILE>"), b""),
     Case("help for the server", ("serve", "--help"), 0, Holding(b"--patience <SECONDS>"), b""),
+    Case("help for the export", ("export", "--help"), 0, Holding(b"--db <FILE>"), b""),
     Case("help for the check", ("check", "--help"), 0, Holding(b"check"), b""),
     usage("no words"),
     usage("an unknown command", "frobnicate"),
@@ -202,6 +213,9 @@ CASES = [
     usage("a server of too many connections", *served(connections="1000001")),
     usage("a server of no patience", *served("served.db", "0", "1", "--patience", "0")),
     usage("a server of too much patience", *served("served.db", "0", "1", "--patience", "86401")),
+    usage("an export of no database", "export"),
+    usage("an export of two databases", "export", "--db", "a.db", "--db", "b.db"),
+    usage("an export of a file that no option names", "export", "term.db"),
     usage("a check with an unknown option", "check", "--frobnicate", "small.exam", "small.sol"),
 ]
 

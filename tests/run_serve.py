@@ -89,6 +89,38 @@ def clear(exam):
     return message("DELETE", f"/drafts/1/exams/{exam}")
 
 
+def publish(draft=1):
+    return message("POST", f"/drafts/{draft}/publish")
+
+
+def published(changed, penalty):
+    return reply(200, '{"changed":%d,"draft":1,"penalty":%d}' % (changed, penalty))
+
+
+def asked_by(candidate, page=""):
+    return message("GET", f"/me{page}", caller=f"cand:{candidate}")
+
+
+def shown_exam(exam, date=None, start=None, period=None, room=None, seat=None, state="seated"):
+    """One of a candidate's exams, as the office writes it."""
+    return json.dumps({"date": date, "exam": exam, "period": period, "room": room, "seat": seat,
+                       "start": start, "state": state}, separators=(",", ":"))
+
+
+def pending(exam):
+    return shown_exam(exam, state="pending")
+
+
+def me(candidate, penalty, *exams):
+    return reply(200, '{"candidate":%d,"exams":[%s],"penalty":%d}'
+                 % (candidate, ",".join(exams), penalty))
+
+
+def cost(row, day, spread):
+    return reply(200, '{"day":%d,"penalty":%d,"row":%d,"spread":%d}'
+                 % (day, row + day + spread, row, spread))
+
+
 def report(*parts):
     names = ("two in a row", "two in a day", "period spread", "mixed durations", "front load",
              "period penalty", "room penalty", "total")
@@ -99,6 +131,63 @@ EMPTY, FROM_SOLUTION = message("PUT", "/drafts/1"), message("PUT", "/drafts/1", 
 PENALTY, VIOLATIONS = message("GET", "/drafts/1/penalty"), message("GET", "/drafts/1/violations")
 PLACES = ('{"draft":1,"exams":[{"exam":0,"period":0,"room":0},{"exam":1,"period":1,"room":0},'
           '{"exam":2,"period":3,"room":1},{"exam":3,"period":2,"room":0}],"penalty":37}')
+
+# The small solution published, and what its candidates see of it.
+PUBLISHED = (FROM_SOLUTION, drafted(201, 37)), (publish(), published(3, 37))
+FRIDAY, MONDAY = "2005-04-15", "2005-04-18"
+FIRST = shown_exam(0, FRIDAY, "09:30:00", 0, 0, 1), shown_exam(3, FRIDAY, "17:00:00", 2, 0, 1)
+SECOND = shown_exam(0, FRIDAY, "09:30:00", 0, 0, 2), shown_exam(1, FRIDAY, "14:00:00", 1, 0, 1)
+THIRD = shown_exam(1, FRIDAY, "14:00:00", 1, 0, 2), shown_exam(2, MONDAY, "09:30:00", 3, 1, 1)
+# Candidate 1 once exam 3 has moved to the place of exam 2.
+FIRST_MOVED = FIRST[0], shown_exam(3, MONDAY, "09:30:00", 3, 1, 2)
+SECOND_PAGE = (b"HTTP/1.1 200 OK\r\nContent-Type: application/json\r\nContent-Length: 229\r\n\r\n"
+               b'{"candidate":2,"exams":[{"date":"2005-04-15","exam":0,"period":0,"room":0,'
+               b'"seat":2,"start":"09:30:00","state":"seated"},{"date":"2005-04-15","exam":1,'
+               b'"period":1,"room":0,"seat":1,"start":"14:00:00","state":"seated"}],"penalty":8}')
+TEXT, MOVED_TEXT = (f"0, 0\r\n1, 0\r\n3, 1\r\n{last}\r\n" for last in ("2, 0", "3, 1"))
+ROOMS = ("per room    used     cap  exams\n  0    0       2       3  0\n"
+         "  1    0       2       3  1\n  2    0       1       3  3\n"
+         "  3    1       1       2  2\n")
+MOVED_ROOMS = ("per room    used     cap  exams\n  0    0       2       3  0\n"
+               "  1    0       2       3  1\n  3    1       2       2  2 3\n")
+# Another office, in which candidate 2 has the same places and seats; all else there differs.
+OTHER = b"""[Exams:5]
+60, 0, 2
+45, 2, 7, 8
+30, 5
+100, 5, 6
+120, 999999999
+[Periods:4]
+15:04:2005, 09:30:00, 120, 0
+15:04:2005, 14:00:00, 120, 0
+15:04:2005, 17:00:00, 90, 10
+18:04:2005, 09:30:00, 120, 5
+[Rooms:3]
+4, 9
+7, 1
+1, 0
+[PeriodHardConstraints]
+0, EXCLUSION, 1
+[RoomHardConstraints]
+4, ROOM_EXCLUSIVE
+[InstitutionalWeightings]
+TWOINAROW,7
+TWOINADAY,5
+PERIODSPREAD,3
+NONMIXEDDURATIONS,10
+FRONTLOAD,1,2,4
+"""
+OTHER_SOLUTION = b"0, 0\n1, 0\n0, 1\n3, 1\n0, 2\n"
+# The publication, its penalty and its rooms.
+SHOWN = [message("GET", f"/publication{page}") for page in ("", "/penalty", "/rooms")]
+
+
+# What candidate 2 asks in either office: exam 2 exists in both, exam 4 in the other alone.
+SECOND_EXAMS = [(asked_by(2, f"/exam/{exam}"), answer) for exam, answer in
+                [*((exam, reply(200, SECOND[exam])) for exam in (0, 1)),
+                 *((exam, error(404, "exam")) for exam in (2, 4, 9))]]
+SECOND_ASKS = ((asked_by(2), SECOND_PAGE), *SECOND_EXAMS, (asked_by(2, "/penalty"), cost(7, 0, 1)),
+               (message("GET", "/publication", caller="cand:2"), forbidden("P1")))
 
 
 def case(name, start, *exchanges):
@@ -176,6 +265,88 @@ CASES = [
          (message("DELETE", "/drafts/1"), reply(200, '{"draft":1}')),
          (message("DELETE", "/drafts/1"), error(404, "draft")),
          (message("GET", "/drafts/1"), error(404, "draft"))),
+    case("what a candidate sees", SMALL,
+         *PUBLISHED,
+         (asked_by(2), SECOND_PAGE),
+         (asked_by(2, "/penalty"), cost(7, 0, 1)),
+         (asked_by(2, "/exam/1"), reply(200, SECOND[1])),
+         (asked_by(2, "/exam/2"), error(404, "exam")),
+         (asked_by(2, "/exam/9"), error(404, "exam")),
+         (asked_by(2, "/exam/x"), forbidden("P1")),
+         (asked_by(1), me(1, 6, *FIRST)),
+         (asked_by(1, "/penalty"), cost(0, 5, 1)),
+         (asked_by(3), me(3, 1, *THIRD)),
+         (asked_by(3, "/penalty"), cost(0, 0, 1)),
+         (asked_by(99), me(99, 0)),
+         (asked_by(99, "/penalty"), cost(0, 0, 0)),
+         (asked_by(99, "/exam/0"), error(404, "exam")),
+         (message("GET", "/drafts/8", caller="cand:2"), forbidden("P1")),
+         (message("GET", "/drafts/1", caller="cand:2"), forbidden("P1")),
+         (message("POST", "/me", caller="cand:2"), forbidden("P1")),
+         (message("GET", "/me"), forbidden("P4")),
+         (message("GET", "/me/penalty", caller="dept:3"), forbidden("P4")),
+         (publish(8), error(404, "draft"))),
+    case("two_offices_one_view, the one", SMALL, *PUBLISHED, *SECOND_ASKS),
+    case("two_offices_one_view, the other", OTHER,
+         (message("PUT", "/drafts/1", OTHER_SOLUTION), drafted(201, 34)),
+         (publish(), published(7, 34)),
+         *SECOND_ASKS,
+         (message("PUT", "/instance", SMALL), error(409, "loaded")),
+         (message("PUT", "/exams/0/owner", b'{"dept":3}'), reply(200, '{"dept":3,"exam":0}')),
+         (clear(1), drafted(200, 17)),
+         (publish(), reply(409, '{"error":"unplaced","exam":1}')),
+         (message("DELETE", "/drafts/1"), reply(200, '{"draft":1}')),
+         (asked_by(7), me(7, 0, shown_exam(1, FRIDAY, "14:00:00", 1, 0, 2))),
+         *SECOND_ASKS),
+    case("what a candidate sees before a publication", SMALL,
+         (asked_by(2), me(2, 0, pending(0), pending(1))),
+         (asked_by(2, "/exam/0"), reply(200, pending(0))),
+         (asked_by(2, "/exam/3"), error(404, "exam")),
+         (asked_by(99), me(99, 0)),
+         *((question, error(404, "publication")) for question in SHOWN)),
+    case("what is there before a load", None,
+         (asked_by(99), me(99, 0)),
+         (asked_by(99, "/penalty"), cost(0, 0, 0)),
+         (asked_by(99, "/exam/0"), error(404, "exam")),
+         (publish(), error(409, "not-loaded")),
+         *((question, error(404, "publication")) for question in SHOWN)),
+    case("a publication, and one in its place", SMALL,
+         (EMPTY, drafted(201, 0)),
+         (place(0, 0, 0), drafted(200, 0)),
+         (place(1, 1, 0), drafted(200, 8)),
+         (place(2, 3, 1), drafted(200, 21)),
+         (publish(), reply(409, '{"error":"unplaced","exam":3}')),
+         (SHOWN[0], error(404, "publication")),
+         (place(3, 2, 0), drafted(200, 37)),
+         (publish(), published(3, 37)),
+         (publish(), published(0, 37)),
+         (SHOWN[0], text(TEXT)),
+         (SHOWN[1], text(report(7, 5, 3, 0, 0, 15, 7, 37))),
+         (SHOWN[2], text(ROOMS)),
+         (move(3, 3, 1), drafted(200, 44)),
+         (SHOWN[0], text(TEXT)),
+         (asked_by(1), me(1, 6, *FIRST)),
+         (publish(), published(1, 44)),
+         (SHOWN[0], text(MOVED_TEXT)),
+         (SHOWN[1], text(report(7, 0, 3, 10, 0, 10, 14, 44))),
+         (SHOWN[2], text(MOVED_ROOMS)),
+         (asked_by(1), me(1, 1, *FIRST_MOVED)),
+         (asked_by(2), SECOND_PAGE),
+         (asked_by(3), me(3, 1, *THIRD)),
+         (message("DELETE", "/drafts/1"), reply(200, '{"draft":1}')),
+         (publish(), error(404, "draft")),
+         (SHOWN[0], text(MOVED_TEXT))),
+    case("a publication that breaks a rule", SMALL,
+         *PUBLISHED,
+         (message("PUT", "/drafts/2", b"3, 0\n1, 0\n3, 1\n2, 0\n"),
+          reply(201, '{"draft":2,"penalty":34}')),
+         (publish(2), broken("After", 1, 0)),
+         (SHOWN[0], text(TEXT)),
+         (asked_by(2), SECOND_PAGE)),
+    case("a candidate's message in chunks", SMALL,
+         (asked_by(99), me(99, 0)),
+         (message("GET", "/me", caller="cand:99", fields=["Transfer-Encoding: chunked"]),
+          error(501, "transfer"))),
     case("a draft with breaches", SMALL,
          (message("PUT", "/drafts/1", b"3, 0\n1, 0\n3, 1\n2, 0\n"), drafted(201, 34)),
          (VIOLATIONS, text("breaches 1\nAfter 1 0\n")),
@@ -328,6 +499,32 @@ def worked_examples(run):
                 got += rest(client)
             name = f"{case.name}, {way.__name__.replace('_', ' ')}"
             run.judge(name, (b"".join(case.replies), (0, b"")), (got, office.ended()))
+
+
+def publication_is_kept(run):
+    """What is published is there when the file is served again, and is exported."""
+    database, came = run.database(SMALL), []
+    first = [*PUBLISHED, (move(3, 3, 1), drafted(200, 44)), (publish(), published(1, 44))]
+    again = [(SHOWN[0], text(MOVED_TEXT)), (SHOWN[1], text(report(7, 0, 3, 10, 0, 10, 14, 44))),
+             (asked_by(1), me(1, 1, *FIRST_MOVED)), (asked_by(2), SECOND_PAGE)]
+    for exchanges in (first, again):
+        office = Office(run.program, database, connections=1)
+        with office.connect() as client:
+            came += [asked(client, *pair) for pair in exchanges]
+        came.append(office.ended())
+    expected = [*(answer for _, answer in first), (0, b""),
+                *(answer for _, answer in again), (0, b"")]
+    run.judge("a publication that is kept", expected, came)
+    done = subprocess.run([run.program, "export", "--db", str(database)], capture_output=True,
+                          stdin=subprocess.DEVNULL, timeout=SECONDS, check=False)
+    run.judge("an export", (0, MOVED_TEXT.encode(), b""),
+              (done.returncode, done.stdout, done.stderr))
+    with open("/dev/full", "wb") as full:
+        done = subprocess.run([run.program, "export", "--db", str(database)], stdout=full,
+                              stdin=subprocess.DEVNULL, stderr=subprocess.PIPE, timeout=SECONDS,
+                              check=False)
+    run.judge("an export to a full device", (1, b"examoffice: cannot write\n"),
+              (done.returncode, done.stderr))
 
 
 def stock_curl(run):
@@ -585,7 +782,7 @@ def main():
         tests = [worked_examples, stock_curl, many_connections, failing_reader_and_writer,
                  port_is_taken]
         if not given.plain:
-            tests += [last_message, long_message, slow_clients, patient_client]
+            tests += [publication_is_kept, last_message, long_message, slow_clients, patient_client]
         for test in tests:
             test(run)
         kills(run, given.kills)

@@ -1,8 +1,9 @@
 #!/usr/bin/env python3
 """run_sqlite3.py PROGRAM: the databases of the program beside the stock command sqlite3.
 
-What was loaded is read by sqlite3, and held against docs/FORMATS.md and the small example; a
-database that sqlite3 made, or changed so that it stands for no office, is refused. A failing case
+What was loaded is read by sqlite3, and held against docs/FORMATS.md and the small example; what
+sqlite3 wrote as drafted and published is found and exported; a database that sqlite3 made, or
+changed so that it stands for no office, is refused. A failing case
 is printed with what was expected and what came, and the last line counts the cases.
 """
 import pathlib
@@ -44,6 +45,39 @@ CHANGES = {
     "DROP TABLE batch": REFUSED,
     "CREATE TABLE more (x INTEGER)": REFUSED,
     "INSERT INTO batch (no, bytes, added, dropped, unchanged) VALUES (1, x'', 0, 0, 0)": REFUSED,
+}
+# What a publication stores: the small solution, its seats, and the shares of its penalty.
+PUBLISHED = ("UPDATE meta SET published = 1",
+             "INSERT INTO placed (exam, period, room)"
+             " VALUES (0, 0, 0), (1, 1, 0), (2, 3, 1), (3, 2, 0)",
+             "INSERT INTO seat (exam, student, period, room, seat) VALUES (0, 1, 0, 0, 1),"
+             " (0, 2, 0, 0, 2), (1, 2, 1, 0, 1), (1, 3, 1, 0, 2), (2, 3, 3, 1, 1), (3, 1, 2, 0, 1)",
+             "INSERT INTO share_student (student, in_row, in_day, spread)"
+             " VALUES (1, 0, 5, 1), (2, 7, 0, 1), (3, 0, 0, 1)",
+             "INSERT INTO share_part (kind, no, penalty, mixed) VALUES (0, 0, 0, 0), (0, 1, 0, 0),"
+             " (0, 2, 0, 0), (0, 3, 0, 0), (1, 0, 0, 0), (1, 1, 0, 0), (1, 2, 10, 0), (1, 3, 5, 0),"
+             " (2, 0, 0, 0), (2, 1, 7, 0)")
+EXPORTED = (0, b"0, 0\r\n1, 0\r\n3, 1\r\n2, 0\r\n", b"")
+# What a statement makes of that office.
+PUBLISHED_CHANGES = {
+    "UPDATE seat SET seat = 3 WHERE exam = 3": FOUND,
+    "DELETE FROM enrol WHERE exam = 3": FOUND,
+    "UPDATE meta SET published = 0": REFUSED,
+    "UPDATE placed SET room = 1 WHERE exam = 3": REFUSED,
+    "DELETE FROM placed WHERE exam = 3": REFUSED,
+    "UPDATE seat SET seat = 4 WHERE exam = 3": REFUSED,
+    "UPDATE seat SET seat = 0 WHERE exam = 3": REFUSED,
+    "UPDATE seat SET period = 3 WHERE exam = 3": REFUSED,
+    "DELETE FROM seat WHERE exam = 3": REFUSED,
+    "UPDATE share_student SET spread = spread + 1 WHERE student = 3": REFUSED,
+    "UPDATE share_student SET in_day = in_day - 1 WHERE student = 1": REFUSED,
+    "DELETE FROM share_student WHERE student = 2": REFUSED,
+    "INSERT INTO share_student (student, in_row, in_day, spread) VALUES (9, 0, 0, 0)": REFUSED,
+    "UPDATE share_part SET penalty = penalty + 1 WHERE kind = 0 AND no = 2": REFUSED,
+    "UPDATE share_part SET penalty = penalty - 1 WHERE kind = 1 AND no = 2": REFUSED,
+    "UPDATE share_part SET mixed = 1 WHERE kind = 2 AND no = 0": REFUSED,
+    "DELETE FROM share_part WHERE kind = 0 AND no = 3": REFUSED,
+    "INSERT INTO share_part (kind, no, penalty, mixed) VALUES (3, 0, 0, 0)": REFUSED,
 }
 EMPTY = ("owner", "draft", "slot", "placed", "seat", "share_student", "share_part", "batch")
 
@@ -114,13 +148,32 @@ def changed(program, folder):
         yield f"in one file, then: {text}", expected, ended(*load, str(SMALL))
 
 
+def published(program, folder):
+    """Each change of a published office's database by sqlite3, likewise."""
+    office = folder / "published.db"
+    load, export = ((program, *words) for words in (("load", "--db", str(office), str(SMALL)),
+                                                    ("export", "--db", str(office))))
+    ended(*load)
+    yield "no publication", (1, b"", b"examoffice: no publication\n"), ended(*export)
+    yield "a publication", lines(), ended("sqlite3", str(office), ";".join(PUBLISHED))
+    yield "an office with it", FOUND, ended(*load)
+    yield "an export", EXPORTED, ended(*export)
+    stored = office.read_bytes()
+    for text, expected in PUBLISHED_CHANGES.items():
+        office.write_bytes(stored)
+        yield f"a change: {text}", lines(), ended("sqlite3", str(office), text)
+        yield text, expected, ended(*load)
+        yield f"an export after: {text}", EXPORTED if expected == FOUND else REFUSED, ended(*export)
+
+
 def main():
     if len(sys.argv) != 2:
         sys.exit("usage: run_sqlite3.py PROGRAM")
     program, count, failed = str(pathlib.Path(sys.argv[1]).resolve()), 0, 0
     with tempfile.TemporaryDirectory() as folder:
         folder = pathlib.Path(folder)
-        for name, expected, got in (*cases(program, folder), *changed(program, folder)):
+        made = (*cases(program, folder), *changed(program, folder), *published(program, folder))
+        for name, expected, got in made:
             count += 1
             if expected != got:
                 failed += 1

@@ -39,8 +39,8 @@ impl Model for Shares {
 }
 
 impl Shares {
-    // The shares of these lists.
-    pub(crate) fn of(
+    /// The shares of these lists.
+    pub fn of(
         students: Vec<(StudentNo, PersonalParts)>,
         exams: Vec<u64>,
         periods: Vec<u64>,

@@ -1,15 +1,26 @@
 -- What a call of the office gives is what is told of a command.
 use Rattle.std.specs.Result.{IsErrAnd}
-use Rattle.std.proofs.Common.{◌≡◌, ◌∙◌, Result, Ok, Err, ap, inl, inr, subst, sym}
-use Rattle.office_model.specs.Answers.{PlainAnswer, refused}
-use Rattle.office_model.specs.Commands.{Gives}
-use Rattle.office_model.specs.Office.{OfficeState}
-use Rattle.office_model.specs.Step.{outcome}
+use Rattle.std.proofs.Common.{◌≡◌, ◌∙◌, ℕ, List, Option, Some, Result, Ok, Err, ap, inl, inr, subst, sym, refl}
+use Rattle.exam_model.specs.Instance.{Session}
+use Rattle.office_policy.specs.declared.callers.Caller.{Caller}
+use Rattle.office_policy.specs.declared.callers.Caller.TheVariants.{Cand, Dept}
+use Rattle.office_policy.specs.declared.callers.Caller.TheVariants as caller
+use Rattle.office_model.specs.Answers.{PlainAnswer, refused, text}
+use Rattle.office_model.specs.Candidates as candidates
+use Rattle.office_model.specs.Candidates.{Asked}
+use Rattle.office_model.specs.Commands.{Gives, draft_shown}
+use Rattle.office_model.specs.Office.{OfficeState, Publication}
+use Rattle.office_model.specs.Step.{of_published, outcome, told_to}
+use Rattle.office_model.specs.Views.{ShownView, shown_to, view_of}
 use Rattle.office_model.specs.declared.fault.StoreFault.{StoreFault}
 use Rattle.office_model.specs.declared.fault.StoreFault.TheVariants.{BadSchema, Store}
+use Rattle.exam_model.specs.Timetable.{Placing}
+use Rattle.exam_score.specs.Penalty.{Penalty}
+use Rattle.exam_terms.specs.Refusing.{◌>>=◌}
+use Rattle.office_store.specs.Pricing.{draft_priced}
 use Rattle.office_store.specs.Running.{Does}
 use Rattle.office_desk.specs.Answers.{refusal}
-use Rattle.office_desk.specs.Performing.{Tells, told_of}
+use Rattle.office_desk.specs.Performing.{Tells, TellsView, told_of}
 use Rattle.office_desk.specs.Answers.{plain_answer}
 use Rattle.office_desk.specs.declared.answer.Answer.{Answer}
 
@@ -43,8 +54,49 @@ fault_told says old gives Stays BadSchema told does same = absurd does.0
 fault_told says old gives Stays f told does same =
     refusal_told says old gives Stays f told does.0 does.1 same
 
+-- what is told of a draft's penalty alone is what is told of the draft that is shown
+priced_as_shown : (says : Penalty → PlainAnswer) (d : ℕ) (office : OfficeState)
+    → outcome says office (draft_priced d office)
+    ≡ outcome (λ found. says found.1) office (draft_shown d office)
+priced_as_shown says d office = go (draft_shown d office)
+  where
+    go : (shown : Gives (Placing × Penalty))
+        → outcome says office (shown >>= (λ found. Ok (found.0.1, found.1)))
+        ≡ outcome (λ found. says found.1) office shown
+    go (Ok given) = refl
+    go (Err fault) = refl
+
+pub priced_told : (says : Penalty → PlainAnswer) (d : ℕ) (office : OfficeState)
+    (Stays : OfficeState → Type 0) (penalty : Penalty) (told : PlainAnswer)
+    → Does (draft_priced d office) office Stays (Ok penalty) → told ≡ says penalty
+    → Tells (outcome (λ found. says found.1) office (draft_shown d office)) office Stays told
+priced_told says d office Stays penalty told does same =
+    subst (λ outcome. Tells outcome office Stays told) (priced_as_shown says d office)
+    (given_told says office (draft_priced d office) Stays penalty told does same)
+
 -- the answer that `?` makes of a fault
 pub err_told : (r : Result Answer Answer) (f : StoreFault)
     → IsErrAnd r (λ answer. plain_answer answer ≡ refusal f) → told_of r ≡ refusal f
 err_told (Ok answer) f is = absurd is
 err_told (Err answer) f is = is
+
+-- ---- candidates
+
+-- what her view makes is what a candidate is told
+pub view_told : (who : Caller) (asked : Asked) (says : ShownView → PlainAnswer) (old : OfficeState)
+    (Stays : OfficeState → Type 0) (view : ShownView) (told : PlainAnswer)
+    → ((s : ℕ) → says (shown_to s (view_of s old)) ≡ candidates.told s asked (view_of s old))
+    → TellsView who old Stays (Ok view) → told ≡ says view
+    → Tells (told_to who asked old) old Stays told
+view_told caller.Office asked says old Stays view told same shows is = absurd shows
+view_told (Dept d) asked says old Stays view told same shows is = absurd shows
+view_told (Cand s) asked says old Stays view told same shows is =
+    inl (is ∙ ap says shows.0 ∙ same s, shows.1)
+
+-- ---- what is published
+
+-- a text of it is told
+pub text_told : (says : Session → Publication → List ℕ) (found : Option (Session × Publication))
+    (p : Session × Publication) (told : List ℕ) → found ≡ Some p → told ≡ says p.0 p.1
+    → text told ≡ of_published says found
+text_told says found p told is same = ap text same ∙ sym (ap (of_published says) is)

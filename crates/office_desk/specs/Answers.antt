@@ -1,7 +1,8 @@
 -- The answers that the program holds, without where their texts lie in memory.
-use Rattle.office_model.specs.Answers.{PlainAnswer, now_loaded, text, now_owned, now_drafted}
-use Rattle.office_model.specs.Answers.{now_edited, now_dropped, shown_draft, denied, bad_body}
-use Rattle.office_model.specs.Answers.{long_body, refused, unavailable}
+use Rattle.office_model.specs.Answers.{PlainAnswer, my_exams, my_one, my_cost, not_mine}
+use Rattle.office_model.specs.Answers.{now_loaded, text, now_owned, now_drafted, now_edited}
+use Rattle.office_model.specs.Answers.{now_dropped, shown_draft, now_published, unpublished}
+use Rattle.office_model.specs.Answers.{denied, bad_body, long_body, refused, unavailable}
 use Rattle.office_model.specs.declared.fault.StoreFault.{StoreFault}
 use Rattle.office_model.specs.declared.fault.StoreFault.TheVariants.{Store, BadSchema}
 use Rattle.office_desk.specs.declared.answer.Answer.{Answer}
@@ -9,6 +10,10 @@ use Rattle.office_desk.specs.declared.answer.Answer.TheVariants as answer
 
 -- the answer that the program holds
 abbrev pub plain_answer : Answer → PlainAnswer
+plain_answer (answer.Me view) = my_exams view.student view.exams view.personal
+plain_answer (answer.MyExam row) = my_one row
+plain_answer (answer.MyPenalty penalty) = my_cost penalty
+plain_answer answer.NotMine = not_mine
 plain_answer (answer.Loaded counts) = now_loaded counts
 plain_answer (answer.Text bytes) = text bytes.items
 plain_answer (answer.Owner exam dept) = now_owned exam dept
@@ -16,6 +21,8 @@ plain_answer (answer.NewDraft d penalty) = now_drafted d penalty
 plain_answer (answer.Edited d penalty) = now_edited d penalty
 plain_answer (answer.Dropped d) = now_dropped d
 plain_answer (answer.Draft d timetable penalty) = shown_draft d timetable penalty
+plain_answer (answer.Published d counts) = now_published d counts
+plain_answer answer.Unpublished = unpublished
 plain_answer (answer.Denied denial) = denied denial
 plain_answer answer.BadBody = bad_body
 plain_answer answer.LongBody = long_body

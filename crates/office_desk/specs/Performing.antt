@@ -5,11 +5,13 @@ use Rattle.sqlite.specs.State.{HasCleanDisk}
 use Rattle.sqlite.specs.Store.{Ghosts}
 use Rattle.office_policy.specs.Commands.{PlainCommand}
 use Rattle.office_policy.specs.declared.callers.Caller.{Caller}
+use Rattle.office_policy.specs.declared.callers.Caller.TheVariants.{Cand}
 use Rattle.office_policy.specs.declared.command.Body.{Body}
 use Rattle.office_policy.specs.declared.command.Body.TheVariants.{Given, Bad, Long}
 use Rattle.office_model.specs.Answers.{PlainAnswer, bad_body, long_body, unavailable}
 use Rattle.office_model.specs.Office.{OfficeState}
 use Rattle.office_model.specs.Step.{Outcome, permitted}
+use Rattle.office_model.specs.Views.{ShownView, shown_to, view_of}
 use Rattle.office_store.specs.Running.{Now}
 use Rattle.office_desk.specs.Answers.{plain_answer}
 use Rattle.office_desk.specs.declared.answer.Answer.{Answer}
@@ -36,6 +38,26 @@ abbrev pub Performs : {S : Type 0} → Ghosts S → PlainCommand → Held S → 
     → Result Answer Answer → Type 0
 Performs store command old new result =
     (caller : Caller) → Yields store (λ office. permitted office caller command) old new result
+
+-- a permitted command of this caller
+abbrev pub PerformsFor : {S : Type 0} → Ghosts S → Caller → PlainCommand → Held S → Held S
+    → Result Answer Answer → Type 0
+PerformsFor store caller command old new result =
+    Yields store (λ office. permitted office caller command) old new result
+
+-- a candidate is shown her view; of what fails, and to whoever is no candidate, nothing is told
+abbrev pub TellsView : Caller → OfficeState → (OfficeState → Type 0) → Result ShownView Answer
+    → Type 0
+TellsView (Cand s) old Stays (Ok view) = (view ≡ shown_to s (view_of s old)) × Stays old
+TellsView caller old Stays (Ok view) = ⊥
+TellsView caller old Stays (Err answer) = (plain_answer answer ≡ unavailable) × Stays old
+
+-- the same, over a disk that returns what was written
+abbrev pub ShowsView : {S : Type 0} → Ghosts S → Caller → Held S → Held S
+    → Result ShownView Answer → Type 0
+ShowsView store caller old new result =
+    HasCleanDisk (state store new) → (office : OfficeState) → Now (state store old) office
+    → TellsView caller office (Now (state store new)) result
 
 -- a body is given, or else that is answered
 abbrev pub IsGiven : {A : Type 0} → Body A → Result A Answer → Type 0

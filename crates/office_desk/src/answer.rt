@@ -1,16 +1,25 @@
 // What is answered.
 use exam_model::Timetable;
+use exam_score::PersonalParts;
 use exam_terms::ExamNo;
-use office_model::{Loaded, StoreFault};
+use office_model::{CandidateView, Loaded, Published, StoreFault, ViewRow};
 use office_policy::{Body, Denial};
 use std::alloc::AllocError;
 
 /// What the office answers to a command.
 #[derive(Drop)]
 pub enum Answer {
+    /// What a candidate is shown: her exams, and what they cost her.
+    Me(CandidateView),
+    /// One of a candidate's exams.
+    MyExam(ViewRow),
+    /// What a candidate's exams cost her.
+    MyPenalty(PersonalParts),
+    /// The exam is none of hers; nothing tells whether there is one.
+    NotMine,
     /// How much was loaded.
     Loaded(Loaded),
-    /// An instance file or a report.
+    /// An instance file, a solution file or a report.
     Text(Vec<u8>),
     /// An exam and the department that owns it now, at most 999, where 0 is none.
     Owner(ExamNo, u32),
@@ -22,6 +31,10 @@ pub enum Answer {
     Dropped(u32),
     /// A draft, its timetable and its penalty, below 2^62.
     Draft(u32, Timetable, u64),
+    /// A draft that is published now, and what that changed.
+    Published(u32, Published),
+    /// Nothing is published.
+    Unpublished,
     /// The policy denies the command.
     Denied(Denial),
     /// The body is no JSON of the form that is asked for.

@@ -3,7 +3,7 @@ ghost use Rattle.std.specs.Prelude.{◌≤◌};
 ghost use Rattle.sqlite.specs.Held.{state};
 ghost use Rattle.sqlite.specs.State.{HasCleanDisk};
 ghost use Rattle.office_policy.specs.Commands.{IfGiven, clear, drop_draft, load, move, new_draft};
-ghost use Rattle.office_policy.specs.Commands.{place, plain_text, set_owner, swap};
+ghost use Rattle.office_policy.specs.Commands.{place, plain_text, publish, set_owner, swap};
 ghost use Rattle.office_model.specs.Step.{edit_outcome};
 ghost use Rattle.office_desk.specs.Performing.{IsGiven, Performs, Yields};
 
@@ -128,6 +128,19 @@ pub(crate) fn swap_exams<S: Alter>(
         → HasCleanDisk (state S.Store office.old) }
 {
     edit(office, alloc, number, Edit::Swap(a, b))
+}
+
+pub(crate) fn publish<S: Alter>(
+    office: &mut Office<S>,
+    alloc: Global,
+    number: u32,
+) -> Result<Answer, Answer>
+    ensures performs { Performs S.Store (publish number) office.old office.new result }
+    ensures clean { HasCleanDisk (state S.Store office.new)
+        → HasCleanDisk (state S.Store office.old) }
+{
+    let published = office.publish(alloc, number)?;
+    Ok(Answer::Published(number, published))
 }
 
 fn edit<S: Alter>(

@@ -7,13 +7,15 @@ ghost use Rattle.office_model.specs.Office.{OfficeState};
 ghost use Rattle.office_model.specs.Step.{Steps};
 ghost use Rattle.office_store.specs.Running.{Now};
 ghost use Rattle.office_desk.specs.Answers.{plain_answer};
-ghost use Rattle.office_desk.specs.Performing.{Performs, told_of};
+ghost use Rattle.office_desk.specs.Performing.{PerformsFor, told_of};
 
 use crate::answer::Answer;
+use crate::candidates::{me, my_exam, my_penalty};
 use crate::changing::{
-    clear_exam, drop_draft, load, move_exam, new_draft, place_exam, set_owner, swap_exams,
+    clear_exam, drop_draft, load, move_exam, new_draft, place_exam, publish, set_owner, swap_exams,
 };
 use crate::judging::judged;
+use crate::publications::{publication, publication_penalty, publication_rooms};
 use crate::showing::{draft, instance, penalty, violations};
 use office_policy::{Caller, Command};
 use office_store::Office;
@@ -65,8 +67,9 @@ impl<S: Alter> Desk<S> {
         ensures clean { HasCleanDisk (state S.Store self.new)
             → HasCleanDisk (state S.Store self.old) }
     {
-        match judged(&mut self.office, alloc, caller, command) {
-            Ok(Ok(())) => told(perform(&mut self.office, alloc, command)),
+        let asking = caller;
+        match judged(&mut self.office, alloc, asking, command) {
+            Ok(Ok(())) => told(perform(&mut self.office, alloc, caller, command)),
             Ok(Err(denial)) => Answer::Denied(denial),
             Err(fault) => Answer::from(fault),
         }
@@ -86,14 +89,19 @@ fn told(performed: Result<Answer, Answer>) -> Answer
 fn perform<S: Alter>(
     office: &mut Office<S>,
     alloc: Global,
+    caller: Caller,
     command: &Command<'_>,
 ) -> Result<Answer, Answer>
     requires { HasSmallNumbers (plain_command command.now) }
-    ensures performs { Performs S.Store (plain_command command.now) office.old office.new result }
+    ensures performs { PerformsFor S.Store caller (plain_command command.now)
+        office.old office.new result }
     ensures clean { HasCleanDisk (state S.Store office.new)
         → HasCleanDisk (state S.Store office.old) }
 {
     match *command {
+        Command::Me => me(office, alloc, caller),
+        Command::MyExam(exam) => my_exam(office, alloc, caller, exam),
+        Command::MyPenalty => my_penalty(office, alloc, caller),
         Command::Load(body) => load(office, alloc, body),
         Command::Instance => instance(office, alloc),
         Command::SetOwner(exam, body) => set_owner(office, exam, body),
@@ -106,6 +114,10 @@ fn perform<S: Alter>(
         Command::Move(number, exam, body) => move_exam(office, alloc, number, exam, body),
         Command::Clear(number, exam) => clear_exam(office, alloc, number, exam),
         Command::Swap(number, a, b) => swap_exams(office, alloc, number, a, b),
-        _ => Err(Answer::Unavailable),
+        Command::Publish(number) => publish(office, alloc, number),
+        Command::Publication => publication(office, alloc),
+        Command::PublicationPenalty => publication_penalty(office, alloc),
+        Command::PublicationRooms => publication_rooms(office, alloc),
+        Command::Batch(..) => Err(Answer::Unavailable),
     }
 }

@@ -2,9 +2,11 @@
 #![tactic(auto)]
 
 mod answer;
+mod candidates;
 mod changing;
 mod desk;
 mod judging;
+mod publications;
 mod showing;
 
 pub use answer::Answer;

@@ -1,6 +1,6 @@
 -- From what the desk answers to what is replied.
-use Rattle.std.proofs.Common.{◌≡◌, ◌⊎◌, true, Result, Ok, Err, refl, sym, subst, inl, inr}
-use Rattle.office_messages.specs.Reply.{PlainReply, unavailable}
+use Rattle.std.proofs.Common.{◌≡◌, Result, Ok, Err, refl, sym, subst, inl, inr}
+use Rattle.office_messages.specs.Reply.{PlainReply}
 use Rattle.office_requests.specs.Requests.{PlainAsked, GivesAsked, refusal_reply}
 use Rattle.office_requests.specs.declared.requests.Refusal.{Refusal}
 use Rattle.office_requests.specs.declared.requests.Refusal.TheVariants as refusal
@@ -9,7 +9,6 @@ use Rattle.office_model.specs.Answers.{PlainAnswer, shows}
 use Rattle.office_model.specs.Office.{OfficeState}
 use Rattle.office_model.specs.Step.{Steps}
 use Rattle.office_model.proofs.ToldLemmas.{shown_stays}
-use Rattle.office_replies.specs.Replies.{reply_to}
 use Rattle.office_http.specs.Replying.{IsReplyOf, RepliesTo}
 
 -- a step whose answer is put into words, or of which nothing is told after all

@@ -1,2 +1,4 @@
 mod AnswerLemmas
+mod CandidateLemmas
 mod ServingLemmas
+mod IsolationLemmas

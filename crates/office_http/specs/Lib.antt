@@ -1,2 +1,3 @@
 pub mod Replying
 pub mod Serving
+pub mod Isolation

@@ -1,16 +1,23 @@
 -- What the office replies to a request.
-use Rattle.std.specs.Prelude.{◌≡◌, ◌⊎◌, true, Result, Ok, Err}
+use Rattle.std.specs.Prelude.{◌≡◌, ◌⊎◌, ℕ, true, Option, Some, None, Result, Ok, Err}
 use Rattle.sqlite.specs.Held.{Held, state}
 use Rattle.sqlite.specs.State.{HasCleanDisk}
 use Rattle.sqlite.specs.Store.{Ghosts}
 use Rattle.office_messages.specs.Reply.{PlainReply, unavailable}
 use Rattle.office_messages.specs.Stream.{PlainRequest}
-use Rattle.office_requests.specs.Requests.{PlainAsked, reading, refusal_reply}
+use Rattle.office_policy.specs.Commands.{PlainCommand}
+use Rattle.office_policy.specs.declared.callers.Caller.TheVariants.{Cand}
+use Rattle.office_policy.specs.declared.policy.Denial.TheVariants.{P1}
+use Rattle.office_requests.specs.Methods.{verb_of}
+use Rattle.office_requests.specs.Requests.{PlainAsked, caller_in, her_command, reading, refusal_reply}
+use Rattle.office_requests.specs.Texts.{error_reply}
+use Rattle.office_requests.specs.declared.texts.FixedError.TheVariants.{Denied}
 use Rattle.office_requests.specs.declared.requests.Refusal.{Refusal}
 use Rattle.office_model.specs.Answers.{PlainAnswer, shows}
 use Rattle.office_model.specs.Office.{OfficeState}
 use Rattle.office_model.specs.Step.{Steps}
-use Rattle.office_replies.specs.Replies.{reply_to}
+use Rattle.office_model.specs.Views.{View, view_of}
+use Rattle.office_replies.specs.Replies.{reply_to, view_text}
 use Rattle.office_store.specs.Running.{Now}
 
 -- what a message asks for is one step of the office, whose answer is the reply; what asks for
@@ -36,3 +43,18 @@ pub record Answered {S : Type 0} (store : Ghosts S) (old : Held S) (request : Pl
   pub clean : HasCleanDisk (state store new) → HasCleanDisk (state store old)
   pub step : HasCleanDisk (state store new) → (office : OfficeState) → Now (state store old) office
       → (next : OfficeState) × Replies office request reply next × Now (state store new) next
+
+-- ---- candidates
+
+-- the text of her view that a command asks for; where her message asks for none of her pages, the
+-- denial
+abbrev pub her_text : ℕ → Option PlainCommand → View → PlainReply
+her_text s (Some command) view = view_text s command view
+her_text s None view = error_reply (Denied P1)
+
+-- a candidate's message is replied the text of her view in the office, or that it is unavailable
+abbrev pub TellsCandidate : OfficeState → PlainRequest → PlainReply → Type 0
+TellsCandidate office request reply =
+    (s : ℕ) → caller_in request.caller ≡ Some (Cand s)
+    → (reply ≡ her_text s (her_command (verb_of request.method) request.target) (view_of s office))
+    ⊎ (reply ≡ unavailable)

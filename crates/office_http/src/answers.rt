@@ -1,35 +1,42 @@
 // Answers of the desk as replies.
-ghost use Rattle.std.specs.Prelude.{◌≡◌, ◌≤◌, vec_capacity};
+ghost use Rattle.std.specs.Prelude.{◌≡◌, ◌≤◌, IfOk, true, vec_capacity};
 ghost use Rattle.office_messages.specs.Reply.{plain_reply};
-ghost use Rattle.office_model.specs.Answers.{shown_draft};
+ghost use Rattle.office_model.specs.Answers.{PlainAnswer, shows};
+ghost use Rattle.office_replies.specs.Replies.{reply_to};
 ghost use Rattle.office_desk.specs.Answers.{plain_answer};
 ghost use Rattle.office_http.specs.Replying.{IsReplyOf};
 
-use exam_model::Timetable;
 use office_desk::Answer;
 use office_messages::{Fault, Reply, fault_reply, unavailable};
 use office_replies::{
-    REPLY_ROOM, draft_reply, dropped_reply, edited_reply, loaded_reply, new_draft_reply,
-    owner_reply, refusal_reply, text_reply,
+    REPLY_ROOM, candidate_reply, cost_reply, draft_reply, dropped_reply, edited_reply, exam_reply,
+    loaded_reply, new_draft_reply, owner_reply, published_reply, refusal_reply, text_reply,
 };
 use office_requests::FixedError;
-use std::alloc::Global;
+use std::alloc::{AllocError, Global};
 
 /// The reply of an answer. What a change says goes into the room, so that no memory is asked for
-/// after it; where memory for a draft that is shown is refused, the reply says that it is
-/// unavailable.
+/// after it; where memory for what is shown is refused, the reply says that it is unavailable.
 pub(crate) fn answer_reply(alloc: Global, room: Vec<u8>, answer: Answer) -> Reply
     requires { REPLY_ROOM ≤ vec_capacity room }
     ensures { IsReplyOf (plain_answer answer) (plain_reply result) }
 {
     match answer {
+        Answer::Me(view) => shown(candidate_reply(alloc, &view)),
+        Answer::MyExam(row) => shown(exam_reply(alloc, row)),
+        Answer::MyPenalty(personal) => shown(cost_reply(alloc, personal)),
+        Answer::NotMine => FixedError::Exam.reply(),
         Answer::Loaded(loaded) => loaded_reply(room, loaded),
         Answer::Text(text) => text_reply(text),
         Answer::Owner(exam, dept) => owner_reply(room, exam, dept),
         Answer::NewDraft(draft, penalty) => new_draft_reply(room, draft, penalty),
         Answer::Edited(draft, penalty) => edited_reply(room, draft, penalty),
         Answer::Dropped(draft) => dropped_reply(room, draft),
-        Answer::Draft(draft, timetable, penalty) => shown_draft(alloc, draft, timetable, penalty),
+        Answer::Draft(draft, timetable, penalty) => {
+            shown(draft_reply(alloc, draft, &timetable, penalty))
+        }
+        Answer::Published(draft, published) => published_reply(room, draft, published),
+        Answer::Unpublished => FixedError::Publication.reply(),
         Answer::Denied(denial) => FixedError::Denied(denial).reply(),
         Answer::BadBody => FixedError::Body.reply(),
         Answer::LongBody => fault_reply(Fault::TooLong),
@@ -38,10 +45,13 @@ pub(crate) fn answer_reply(alloc: Global, room: Vec<u8>, answer: Answer) -> Repl
     }
 }
 
-fn shown_draft(alloc: Global, draft: u32, timetable: Timetable, penalty: u64) -> Reply
-    ensures { IsReplyOf (shown_draft draft timetable penalty) (plain_reply result) }
+// The reply that shows something, or the one that says that it is unavailable.
+fn shown(made: Result<Reply, AllocError>) -> Reply
+    ensures { (answer : PlainAnswer) → shows answer ≡ true
+        → IfOk made (λ reply. plain_reply reply ≡ reply_to answer)
+        → IsReplyOf answer (plain_reply result) }
 {
-    match draft_reply(alloc, draft, &timetable, penalty) {
+    match made {
         Ok(reply) => reply,
         Err(_) => unavailable(),
     }

@@ -8,7 +8,7 @@ ghost use Rattle.office_model.specs.Office.{OfficeState};
 ghost use Rattle.office_store.specs.Running.{Now};
 ghost use Rattle.office_messages.specs.Heads.{plain_request};
 ghost use Rattle.office_messages.specs.Reply.{plain_reply};
-ghost use Rattle.office_http.specs.Replying.{Answered, RepliesTo};
+ghost use Rattle.office_http.specs.Replying.{Answered, RepliesTo, TellsCandidate};
 
 use crate::answers::answer_reply;
 use office_desk::Desk;
@@ -27,7 +27,12 @@ pub fn reply<S: Alter>(
     desk: &mut Desk<S>,
     request: &Request<'_>,
 ) -> Reply
-    ensures { Answered S.Store desk.old (plain_request request.now) (plain_reply result) desk.new }
+    ensures answered { Answered S.Store desk.old (plain_request request.now) (plain_reply result)
+        desk.new }
+    // A candidate is replied the text of her view, and nothing else that is stored.
+    ensures told { HasCleanDisk (state S.Store desk.new) → (office : OfficeState)
+        → Now (state S.Store desk.old) office
+        → TellsCandidate office (plain_request request.now) (plain_reply result) }
 {
     match read_request(alloc, routes, request) {
         Ok(asked) => asked_reply(alloc, desk, &asked),

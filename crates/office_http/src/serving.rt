@@ -3,6 +3,7 @@ ghost use Rattle.std.specs.Prelude.{◌≡◌, ◌≤◌, IfErr, IfOk};
 ghost use Rattle.sqlite.specs.Held.{state};
 ghost use Rattle.sqlite.specs.State.{HasCleanDisk};
 ghost use Rattle.office_messages.specs.Serve.{Serves};
+ghost use Rattle.office_http.specs.Isolation.{ServesByView};
 ghost use Rattle.office_http.specs.Replying.{Replies};
 ghost use Rattle.office_http.specs.Serving.{AnswersFront, Leads};
 
@@ -47,6 +48,11 @@ pub fn serve<R: Read, W: Write, S: Alter>(
     // came, and the file stands for the office after them.
     ensures ok { IfOk result (λ served. Leads S.Store
         (λ office next. Serves Replies (R.remaining reader.old) (W.contents writer.old)
+        (W.contents writer.new) office next served) desk.old desk.new) }
+    // In it each candidate is told the text of her view in the office that her message came to, and
+    // nothing else that is stored.
+    ensures told { IfOk result (λ served. Leads S.Store
+        (λ office next. ServesByView (R.remaining reader.old) (W.contents writer.old)
         (W.contents writer.new) office next served) desk.old desk.new) }
     ensures err { IfErr result (λ fault. Leads S.Store
         (AnswersFront (R.remaining reader.old) (W.contents writer.old) (W.contents writer.new) fault)

@@ -6,3 +6,4 @@ pub mod SameLemmas
 pub mod FollowLemmas
 pub mod ChangeLemmas
 pub mod ToldLemmas
+mod ViewLemmas

@@ -3,16 +3,16 @@ use Rattle.std.specs.Prelude.{ℕ, Bool, true, false, List}
 use Rattle.exam_model.specs.Timetable.{Placing}
 use Rattle.exam_score.specs.Penalty.{PersonalPenalty}
 use Rattle.office_policy.specs.declared.policy.Denial.{Denial}
-use Rattle.office_model.specs.Views.{ShownExam}
 use Rattle.office_model.specs.declared.counts.Counts.{Counts}
 use Rattle.office_model.specs.declared.counts.Loaded.{Loaded}
 use Rattle.office_model.specs.declared.counts.Published.{Published}
 use Rattle.office_model.specs.declared.fault.StoreFault.{StoreFault}
+use Rattle.office_model.specs.declared.views.ViewRow.{ViewRow}
 
 pub data PlainAnswer : Type 0 where
   -- a candidate, her exams and what they cost her; one of them; the cost alone; no exam of hers
-  my_exams : ℕ → List ShownExam → PersonalPenalty → PlainAnswer
-  my_one : ShownExam → PlainAnswer
+  my_exams : ℕ → List ViewRow → PersonalPenalty → PlainAnswer
+  my_one : ViewRow → PlainAnswer
   my_cost : PersonalPenalty → PlainAnswer
   not_mine : PlainAnswer
   -- how much was loaded

@@ -4,6 +4,7 @@ pub mod Commands
 pub mod Batches
 pub mod Publishing
 pub mod Views
+pub mod ViewRows
 pub mod Answers
 pub mod Candidates
 pub mod Step

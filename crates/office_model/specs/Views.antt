@@ -1,7 +1,6 @@
 -- What of the office is a candidate's, and what she is shown of it.
-use Rattle.std.specs.Prelude.{ℕ, Bool, ◌==◌, List, [], ◌∷◌, ◌++◌, map, Option, Some, None, option_map, option_and_then, slice_get}
+use Rattle.std.specs.Prelude.{ℕ, ◌==◌, List, [], ◌∷◌, ◌++◌, map, Option, Some, None, option_map, option_and_then, slice_get}
 use Rattle.std.specs.List.{find, list_any}
-use Rattle.exam_calendar.specs.declared.date.Date.{Date}
 use Rattle.exam_terms.specs.declared.place.Place.{Place}
 use Rattle.exam_model.specs.Changes.{exams_sat}
 use Rattle.exam_model.specs.Instance.{Session}
@@ -14,6 +13,8 @@ use Rattle.exam_publish.specs.declared.seat_row.SeatRow.{SeatRow}
 use Rattle.exam_score.specs.Penalty.{PersonalPenalty}
 use Rattle.office_model.specs.Office.{OfficeState, Publication}
 use Rattle.office_model.specs.Publishing.{rows_now}
+use Rattle.office_model.specs.declared.views.ShownPlace.{ShownPlace}
+use Rattle.office_model.specs.declared.views.ViewRow.{ViewRow}
 
 -- her live enrolments, the published places of her exams, her seat rows; the periods and the weights
 pub record View : Type 0 where
@@ -62,22 +63,7 @@ view_of c (Some r) =
 
 -- ---- what she is shown of it
 
--- a place with its day and time
-pub record ShownPlace : Type 0 where
-  pub period : ℕ
-  pub date : Date
-  pub hour : ℕ
-  pub minute : ℕ
-  pub second : ℕ
-  pub room : ℕ
-
--- one of her exams: whether she is enrolled, where it is published, and her seat
-pub record ShownExam : Type 0 where
-  pub exam : ℕ
-  pub enrolled : Bool
-  pub at : Option ShownPlace
-  pub seat : Option ℕ
-
+-- a place with the day and the time of its period
 abbrev pub shown_at : Place → Period → ShownPlace
 shown_at at p = record {
   period = at.period;
@@ -91,7 +77,8 @@ shown_at at p = record {
 abbrev pub shown_place : List Period → Place → Option ShownPlace
 shown_place periods at = option_map (shown_at at) (slice_get periods at.period)
 
-abbrev pub shown_exam : View → ℕ → Option Place → ShownExam
+-- one of her exams: whether she is enrolled, where it is published, and her seat
+abbrev pub shown_exam : View → ℕ → Option Place → ViewRow
 shown_exam view exam place = record {
   exam = exam;
   enrolled = list_any (λ e. e == exam) view.enrolled;
@@ -99,15 +86,28 @@ shown_exam view exam place = record {
   seat = option_map (λ row. row.seat) (find (λ row. row.exam == exam) view.seats);
 }
 
-abbrev pub shown_from : View → List ℕ → List (Option Place) → List ShownExam
+abbrev pub shown_from : View → List ℕ → List (Option Place) → List ViewRow
 shown_from view [] places = []
 shown_from view (e ∷ exams) [] = []
 shown_from view (e ∷ exams) (place ∷ places) = shown_exam view e place ∷ shown_from view exams places
 
 -- her exams, ascending
-abbrev pub shown_exams : View → List ShownExam
+abbrev pub shown_exams : View → List ViewRow
 shown_exams view = shown_from view (her_exams view.enrolled view.seats) view.places
 
 -- what the periods of her seat rows cost
 abbrev pub shown_penalty : View → PersonalPenalty
 shown_penalty view = share_of view.periods view.weights view.seats
+
+-- all that she is shown: her number, her exams, and what they cost her
+pub record ShownView : Type 0 where
+  pub student : ℕ
+  pub exams : List ViewRow
+  pub personal : PersonalPenalty
+
+abbrev pub shown_to : ℕ → View → ShownView
+shown_to s view = record {
+  student = s;
+  exams = shown_exams view;
+  personal = shown_penalty view;
+}

@@ -5,6 +5,7 @@
 mod counts;
 mod fault;
 mod laws;
+mod views;
 
 pub use counts::{Counts, Loaded, Published};
 pub use fault::{Refusal, StoreFault, kind_number};
@@ -12,3 +13,4 @@ pub use laws::{
     quiet_run, quiet_step, same_changes_same_view, same_view_same_answer, shown_changes_nothing,
     told_by_view,
 };
+pub use views::{CandidateView, ShownPlace, ViewRow, view_rows};

@@ -10,6 +10,8 @@ use Rattle.sqlite.specs.declared.error.Error.TheVariants.{SqliteFailure}
 use Rattle.sqlite.specs.declared.error.ErrorCode.TheVariants.{OutOfMemory}
 use Rattle.office_check.specs.declared.checking.CheckFault.{CheckFault}
 use Rattle.office_check.specs.declared.checking.CheckFault.TheVariants as check
+use Rattle.office_program.specs.declared.exporting.ExportFault.{ExportFault}
+use Rattle.office_program.specs.declared.exporting.ExportFault.TheVariants as export
 use Rattle.office_program.specs.declared.loading.LoadFault.{LoadFault}
 use Rattle.office_program.specs.declared.loading.LoadFault.TheVariants as load
 use Rattle.office_connections.specs.declared.running.RunFault.{RunFault}
@@ -57,6 +59,7 @@ fault_line (fault.Solution f) = codes "examoffice: solution line " ++ decimal f.
     ++ codes ": fault " ++ decimal (number_of f.what)
 fault_line fault.CannotOpen = codes "examoffice: cannot open database"
 fault_line (fault.Store f) = codes "examoffice: store fault " ++ decimal (store_number_of f)
+fault_line fault.NoPublication = codes "examoffice: no publication"
 fault_line fault.CannotListen = codes "examoffice: cannot listen"
 fault_line fault.CannotWrite = codes "examoffice: cannot write"
 fault_line fault.NoMemory = codes "examoffice: no memory"
@@ -120,6 +123,19 @@ IsOfServe shown =
     ((of : Error) × (fault_line shown ≡ open_line of))
     ⊎ (((of : StoreFault) × (fault_line shown ≡ fault_line (fault.Store of)))
     ⊎ ((of : RunFault) × (fault_line shown ≡ run_line of)))
+
+-- the line of a fault of `export`, without its end
+abbrev pub export_line : ExportFault → List ℕ
+export_line (export.Store f) = fault_line (fault.Store f)
+export_line export.NoPublication = fault_line fault.NoPublication
+export_line export.NoMemory = fault_line fault.NoMemory
+export_line export.Write = fault_line fault.CannotWrite
+
+-- the fault shows as one of a database, or of writing what is published in its office
+abbrev pub IsOfExport : ProgramFault → Type 0
+IsOfExport shown =
+    ((of : Error) × (fault_line shown ≡ open_line of))
+    ⊎ ((of : ExportFault) × (fault_line shown ≡ export_line of))
 
 -- the line for words that are no texts, without its end
 abbrev pub not_text_line : List ℕ

@@ -1,4 +1,5 @@
 pub mod Program
 pub mod Load
+pub mod Export
 pub mod FaultLines
 pub mod Tasks

@@ -10,7 +10,7 @@ use Rattle.clap.specs.declared.builder.value_parser.ValueParser.TheVariants.{Sig
 use Rattle.clap.specs.declared.error.kind.ErrorKind.{ErrorKind}
 use Rattle.clap.specs.declared.error.kind.ErrorKind.TheVariants as kind
 use Rattle.office_program.specs.declared.words.Task.{Task}
-use Rattle.office_program.specs.declared.words.Task.TheVariants.{Check, Load, Serve}
+use Rattle.office_program.specs.declared.words.Task.TheVariants.{Check, Export, Load, Serve}
 use Rattle.office_program.specs.declared.words.Terms.{Terms}
 
 -- an argument that has to be there, and has one value
@@ -56,6 +56,10 @@ abbrev pub serve_app : App
 serve_app = with_rule (with_rule (with_rule (with_rule (new_app (codes "serve"))
     (named_rule (codes "db"))) port_rule) connections_rule) patience_rule
 
+-- the command `export --db FILE`
+abbrev pub export_app : App
+export_app = with_rule (new_app (codes "export")) (named_rule (codes "db"))
+
 -- whoever adds the command as a subcommand adds this shape
 abbrev pub AddsShape : Command → Shape → Type 0
 AddsShape command shape = (old new : Command) → AddsSubcommand old command new
@@ -67,8 +71,9 @@ wants_subcommand a = record a { top = record a.top { subcommand_required = true 
 
 -- the program, with its commands
 abbrev pub program : App
-program = with_subcommand (with_subcommand (with_subcommand
-    (wants_subcommand (new_app (codes "examoffice"))) check_app.top) load_app.top) serve_app.top
+program = with_subcommand (with_subcommand (with_subcommand (with_subcommand
+    (wants_subcommand (new_app (codes "examoffice"))) check_app.top) load_app.top) serve_app.top)
+    export_app.top
 
 -- the values found for `check` are those of the task
 abbrev pub HasCheckValues : List Row → Task → Type 0
@@ -77,6 +82,7 @@ HasCheckValues rows (Check instance solution) =
     × (first_of (codes "solution") rows ≡ Some (string_bytes solution))
 HasCheckValues rows (Load database instance) = ⊥
 HasCheckValues rows (Serve database terms) = ⊥
+HasCheckValues rows (Export database) = ⊥
 
 -- the values found for `load` are those of the task
 abbrev pub HasLoadValues : List Row → Task → Type 0
@@ -85,6 +91,7 @@ HasLoadValues rows (Load database instance) =
     (first_of (codes "db") rows ≡ Some (string_bytes database))
     × (first_of (codes "instance") rows ≡ Some (string_bytes instance))
 HasLoadValues rows (Serve database terms) = ⊥
+HasLoadValues rows (Export database) = ⊥
 
 -- the value found under this name spells the number in decimal digits, behind a plus or none
 abbrev pub HasNumber : Text → List Row → ℕ → Type 0
@@ -107,6 +114,15 @@ HasServeValues rows (Check instance solution) = ⊥
 HasServeValues rows (Load database instance) = ⊥
 HasServeValues rows (Serve database terms) =
     (first_of (codes "db") rows ≡ Some (string_bytes database)) × HasTerms rows terms
+HasServeValues rows (Export database) = ⊥
+
+-- the values found for `export` are those of the task
+abbrev pub HasExportValues : List Row → Task → Type 0
+HasExportValues rows (Check instance solution) = ⊥
+HasExportValues rows (Load database instance) = ⊥
+HasExportValues rows (Serve database terms) = ⊥
+HasExportValues rows (Export database) =
+    first_of (codes "db") rows ≡ Some (string_bytes database)
 
 -- the task is the command that clap's matches of the words give, with its values
 abbrev pub IsTask : List Text → Task → Type 0
@@ -119,6 +135,9 @@ IsTask words (Load database instance) =
 IsTask words (Serve database terms) =
     (rows : List Row) × (subcommand_of program words ≡ Some (codes "serve", rows))
     × HasServeValues rows (Serve database terms)
+IsTask words (Export database) =
+    (rows : List Row) × (subcommand_of program words ≡ Some (codes "export", rows))
+    × HasExportValues rows (Export database)
 
 -- an error of clap is a mistake in the words: neither a call for help nor out of memory
 abbrev pub IsMistake : ErrorKind → Type 0

@@ -1,22 +1,25 @@
 -- What a task that is done prints.
 use Rattle.std.specs.Prelude.{ℕ, List, Option, string_bytes}
 use Rattle.office_check.specs.Check.{WritesReport}
+use Rattle.office_program.specs.Export.{PrintsSolution}
 use Rattle.office_program.specs.Load.{PrintsCounts}
 use Rattle.office_connections.specs.Lines.{PrintsPort}
-use Rattle.office_program.specs.FaultLines.{IsOfCheck, IsOfLoad, IsOfServe}
+use Rattle.office_program.specs.FaultLines.{IsOfCheck, IsOfExport, IsOfLoad, IsOfServe}
 use Rattle.office_program.specs.declared.faults.ProgramFault.{ProgramFault}
 use Rattle.office_program.specs.declared.words.Task.{Task}
-use Rattle.office_program.specs.declared.words.Task.TheVariants.{Check, Load, Serve}
+use Rattle.office_program.specs.declared.words.Task.TheVariants.{Check, Export, Load, Serve}
 
--- a report on a solution that breaks no hard rule, the line of what some text spells, or the line
--- of some port
+-- a report on a solution that breaks no hard rule, the line of what some text spells, the line of
+-- some port, or some timetable's solution
 abbrev pub Prints : Task → Option (List ℕ) → Option (List ℕ) → Type 0
 Prints (Check instance solution) old new = WritesReport old new 0
 Prints (Load database instance) old new = (text : List ℕ) × PrintsCounts text old new
 Prints (Serve database terms) old new = PrintsPort old new
+Prints (Export database) old new = PrintsSolution old new
 
 -- the fault shows as one of the files that the task names
 abbrev pub IsOfTask : Task → ProgramFault → Type 0
 IsOfTask (Check instance solution) shown = IsOfCheck (string_bytes instance) (string_bytes solution) shown
 IsOfTask (Load database instance) shown = IsOfLoad (string_bytes instance) shown
 IsOfTask (Serve database terms) shown = IsOfServe shown
+IsOfTask (Export database) shown = IsOfExport shown

@@ -1,9 +1,10 @@
 // What ends the program with status 1, and the line that it is printed as.
 ghost use Rattle.std.specs.Prelude.{◌≡◌};
-ghost use Rattle.office_program.specs.FaultLines.{check_line, fault_line, input_line, load_line};
-ghost use Rattle.office_program.specs.FaultLines.{number_of, open_line, run_line};
+ghost use Rattle.office_program.specs.FaultLines.{check_line, export_line, fault_line, input_line};
+ghost use Rattle.office_program.specs.FaultLines.{load_line, number_of, open_line, run_line};
 ghost use Rattle.office_program.specs.FaultLines.{store_number_of};
 
+use crate::exporting::ExportFault;
 use crate::loading::LoadFault;
 use office_check::{CheckFault, InputFault};
 use office_connections::RunFault;
@@ -20,6 +21,7 @@ pub enum ProgramFault<'a> {
     Solution(FileFault),
     CannotOpen,
     Store(StoreFault),
+    NoPublication,
     CannotListen,
     CannotWrite,
     NoMemory,
@@ -71,6 +73,7 @@ impl fmt::Display for ProgramFault<'_> {
                 let number = store_number_of(*fault);
                 write!(f, "examoffice: store fault {number}")
             }
+            ProgramFault::NoPublication => write!(f, "examoffice: no publication"),
             ProgramFault::CannotListen => write!(f, "examoffice: cannot listen"),
             ProgramFault::CannotWrite => write!(f, "examoffice: cannot write"),
             ProgramFault::NoMemory => write!(f, "examoffice: no memory"),
@@ -113,6 +116,18 @@ pub fn fault_of_load<'a>(fault: LoadFault) -> ProgramFault<'a>
         ),
         LoadFault::Store(fault) => ProgramFault::Store(fault),
         LoadFault::Write => ProgramFault::CannotWrite,
+    }
+}
+
+// What a fault of `export` is to the program.
+pub fn fault_of_export<'a>(fault: ExportFault) -> ProgramFault<'a>
+    ensures { fault_line result ≡ export_line fault }
+{
+    match fault {
+        ExportFault::Store(fault) => ProgramFault::Store(fault),
+        ExportFault::NoPublication => ProgramFault::NoPublication,
+        ExportFault::NoMemory => ProgramFault::NoMemory,
+        ExportFault::Write => ProgramFault::CannotWrite,
     }
 }
 

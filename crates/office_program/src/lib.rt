@@ -1,13 +1,15 @@
-//! What the program does: it judges a solution, or loads or serves an office, as the words of its
-//! command line say.
+//! What the program does: it judges a solution, or loads or serves an office or exports what it has
+//! published, as the words of its command line say.
 #![tactic(auto)]
 
+mod exporting;
 mod faults;
 mod loading;
 mod program;
 mod serving;
 mod words;
 
+pub use exporting::{ExportFault, export_run};
 pub use loading::{LoadFault, load_run};
 pub use program::{refuse_arguments, run_program};
 pub use serving::serve_desk;

@@ -14,6 +14,7 @@ ghost use Rattle.office_program.specs.Program.{AreAnswered, IsMistake, IsTask, p
 ghost use Rattle.office_program.specs.Tasks.{IsOfTask, Prints};
 ghost use Rattle.office_program.specs.declared.words.Task.{Task};
 
+use crate::exporting::export;
 use crate::faults::{ProgramFault, fault_of_input, fault_of_load, fault_of_open, fault_on};
 use crate::loading::load_run;
 use crate::serving::serve;
@@ -142,6 +143,7 @@ fn run_task<'a, W: Write, E: Write>(
         Task::Check(instance, solution) => check(rt, instance, solution, out),
         Task::Load(database, instance) => load(rt, database, instance, out),
         Task::Serve(database, terms) => serve(rt, database, *terms, out, err),
+        Task::Export(database) => export(rt, database, out),
     }
 }
 

@@ -10,9 +10,10 @@ ghost use Rattle.clap.specs.Faults.{fault_of};
 ghost use Rattle.clap.specs.declared.builder.texts.Texts.TheVariants.{One};
 ghost use Rattle.clap.specs.declared.error.kind.ErrorKind.TheVariants.{OutOfMemory};
 ghost use Rattle.clap.specs.Words.{first_of};
-ghost use Rattle.office_program.specs.Program.{AddsShape, HasCheckValues, HasLoadValues};
-ghost use Rattle.office_program.specs.Program.{HasNumber, HasServeValues, HasTerms, IsTask};
-ghost use Rattle.office_program.specs.Program.{check_app, connections_rule, load_app, named_rule};
+ghost use Rattle.office_program.specs.Program.{AddsShape, HasCheckValues, HasExportValues};
+ghost use Rattle.office_program.specs.Program.{HasLoadValues, HasNumber, HasServeValues, HasTerms};
+ghost use Rattle.office_program.specs.Program.{IsTask, check_app, connections_rule, export_app};
+ghost use Rattle.office_program.specs.Program.{load_app, named_rule};
 ghost use Rattle.office_program.specs.Program.{patience_rule, port_rule, program, required_rule};
 ghost use Rattle.office_program.specs.Program.{serve_app};
 
@@ -30,6 +31,8 @@ pub enum Task {
     Load(String, String),
     /// Serves an office: its database's file, and on which terms.
     Serve(String, Terms),
+    /// Prints what an office has published: its database's file.
+    Export(String),
 }
 
 /// On which terms an office is served.
@@ -157,6 +160,16 @@ fn serve_command<'a>(alloc: Global) -> Result<Command<'a>, AllocError>
         .arg(patience_option(alloc))
 }
 
+// The command `export`.
+fn export_command<'a>(alloc: Global) -> Result<Command<'a>, AllocError>
+    ensures { IfOk result (λ c. AddsShape c export_app.top) }
+{
+    let database = named(alloc, "db", "FILE", "The file of the office's database");
+    Command::new(alloc, "export")
+        .about("Prints the solution that an office has published")
+        .arg(database)
+}
+
 // What clap finds in the words.
 fn matches(alloc: Global, words: &[String]) -> Result<ArgMatches<'_>, Error>
     ensures found { IfOk result (λ m.
@@ -166,12 +179,14 @@ fn matches(alloc: Global, words: &[String]) -> Result<ArgMatches<'_>, Error>
     let check = check_command(alloc)?;
     let load = load_command(alloc)?;
     let serve = serve_command(alloc)?;
+    let export = export_command(alloc)?;
     let whole = Command::new(alloc, "examoffice")
         .about("The office of an examination session, by the rules of ITC 2007")
         .subcommand_required(true)
         .subcommand(check)?
         .subcommand(load)?
-        .subcommand(serve)?;
+        .subcommand(serve)?
+        .subcommand(export)?;
     whole.try_get_matches_from(words)
 }
 
@@ -245,6 +260,15 @@ fn serve_task(alloc: Global, values: &ArgMatches<'_>) -> Result<Task, Error>
     Ok(Task::Serve(database, terms_of(values)?))
 }
 
+// The task of `export` with these values.
+fn export_task(alloc: Global, values: &ArgMatches<'_>) -> Result<Task, Error>
+    ensures ok { IfOk result (HasExportValues (rows_of (found_of values.now))) }
+    ensures err { IfErr result (λ e. kind_of e ≡ OutOfMemory) }
+{
+    let database = value_of(alloc, values, "db")?;
+    Ok(Task::Export(database))
+}
+
 /// The command that the words give, of which the first is the program's name. An error shows as
 /// the text for the user: a mistake in the words, a call for help, or out of memory.
 pub fn read_words(alloc: Global, words: &[String]) -> Result<Task, Error>
@@ -258,8 +282,11 @@ pub fn read_words(alloc: Global, words: &[String]) -> Result<Task, Error>
     if let Some(values) = found.subcommand_matches("load") {
         return load_task(alloc, values);
     }
-    match found.subcommand_matches("serve") {
-        Some(values) => serve_task(alloc, values),
+    if let Some(values) = found.subcommand_matches("serve") {
+        return serve_task(alloc, values);
+    }
+    match found.subcommand_matches("export") {
+        Some(values) => export_task(alloc, values),
         None => Err(Error::from(AllocError)),
     }
 }

@@ -10,4 +10,15 @@ pub mod ResultLemmas
 pub mod RecordLemmas
 pub mod SameTables
 pub mod SessionLemmas
-pub mod UnpublishedLemmas
+pub mod UnbatchedLemmas
+pub mod RepublicationLemmas
+pub mod OrderLemmas
+pub mod SeatRowLemmas
+pub mod PlacedRowLemmas
+pub mod PlacedSeatLemmas
+pub mod ShareRowLemmas
+pub mod PartRowLemmas
+pub mod PublicationLemmas
+pub mod FoundLemmas
+pub mod SharesLemmas
+pub mod SameRowLemmas

@@ -1,7 +1,7 @@
 -- A database stands for one session, with one set of enrolments.
 use mathlib.Core.Bool.{true≢false}
 use Rattle.std.proofs.Common.{◌≡◌, ℕ, zero, suc, ◌≤◌, pos, Bool, true, false, List, [], ◌∷◌, map, length, Some, None, Ok, Result, refl, sym, ◌∙◌, ap, arith, subst, All}
-use Rattle.std.specs.Prelude.{IsPermutation}
+use Rattle.std.specs.Prelude.{IsPermutation, is_some}
 use Rattle.std.proofs.lemmas.List.{length-replicate}
 use Rattle.std.proofs.lemmas.List.Folds.{sum_by-replicate}
 use Rattle.std.proofs.lemmas.List.Sorted.{IsPermutation-sym, IsPermutation-trans, IsPermutation-map, All-permutation, list_any-IsPermutation}
@@ -147,7 +147,8 @@ module _ (db : Database) (p q : Tables) (held : Held db p) (held2 : Held db q) w
 
   nothing_loaded : (r : Records) → Stands p None → StandsLoaded q r → ⊥
   nothing_loaded r none some =
-      let is : IsPermutation (record { published = false; instance = [] } ∷ []) (session_row r.session ∷ [])
+      let is : IsPermutation (record { published = false; instance = [] } ∷ [])
+      (session_row (is_some r.published) r.session ∷ [])
       = subst (λ l. IsPermutation (record { published = false; instance = [] } ∷ []) l) some.meta
       (subst (λ (t : Tables). IsPermutation t.meta q.meta) none metas) in
       let same = ap (λ (m : Meta). m.instance) (same_one _ _ is) in
@@ -156,8 +157,9 @@ module _ (db : Database) (p q : Tables) (held : Held db p) (held2 : Held db q) w
   loaded_same : (r s : Records) → StandsLoaded p r → StandsLoaded q s → AreRecords r → AreRecords s
       → memory_of (Some r) ≡ memory_of (Some s)
   loaded_same r s a b first second =
-      let one : IsPermutation (session_row r.session ∷ []) (session_row s.session ∷ [])
-      = subst (λ l. IsPermutation l (session_row s.session ∷ [])) a.meta
+      let one : IsPermutation (session_row (is_some r.published) r.session ∷ [])
+      (session_row (is_some s.published) s.session ∷ [])
+      = subst (λ l. IsPermutation l (session_row (is_some s.published) s.session ∷ [])) a.meta
       (subst (λ l. IsPermutation p.meta l) b.meta metas) in
       let texts = ap (λ (m : Meta). m.instance) (sym (same_one _ _ one)) in
       let sessions = same_session r.session s.session first.session second.session texts in

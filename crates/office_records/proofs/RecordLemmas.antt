@@ -1,18 +1,21 @@
 -- The rows of each table make an office's records, and an office's records the rows of each table.
 use Rattle.std.proofs.Common.{◌≡◌, ℕ, List, [], ◌∷◌, Some, None, Option, refl, ap, arith, subst}
+use Rattle.std.specs.Prelude.{is_some}
 use Rattle.std.proofs.lemmas.List.Sorted.{IsPermutation-sym, IsPermutation-trans}
+use Rattle.std.proofs.lemmas.Option.{none-some}
 use Rattle.exam_model.specs.Enrolments.{Enrolled}
 use Rattle.exam_model.specs.Instance.{Session}
 use Rattle.exam_model.specs.Timetable.{Placing}
 use Rattle.office_tables.specs.Adopting.{tables_of}
 use Rattle.office_tables.specs.Records.{meta_from}
-use Rattle.office_tables.specs.Tables.{Tables}
+use Rattle.office_tables.specs.Tables.{Tables, Meta}
 use Rattle.office_tables.specs.declared.found.Found.{Found}
 use Rattle.office_tables.specs.declared.rows.EnrolRow.{EnrolRow}
-use Rattle.office_records.specs.Found.{IsSessionRow, AreOwners, AreEnrolRows, AreDrafts}
-use Rattle.office_model.specs.Office.{OfficeState, Records, AreKept, AreRecords, IsOffice}
+use Rattle.office_records.specs.Found.{IsSessionRow, AreOwners, AreEnrolRows, AreDrafts, ArePublication}
+use Rattle.office_model.specs.Office.{OfficeState, Publication, Records, AreKept, AreRecords, IsOffice, IsPublication}
+use Rattle.office_records.specs.Publications.{ArePublished}
 use Rattle.office_records.specs.Memory.{memory_of}
-use Rattle.office_records.specs.Stands.{IsSound, Stands, StandsLoaded}
+use Rattle.office_records.specs.Stands.{IsSound, Stands, StandsLoaded, meta_row}
 use Rattle.office_records.proofs.MemoryLemmas.{same_enrolments}
 use Rattle.office_records.proofs.SessionLemmas.{one_session}
 
@@ -31,41 +34,69 @@ no_batch_kept = record {
   numbers = λ j k b before no. absurd (omega (arith, no));
 }
 
+some_is : {X : Type 0} {x y : X} → Some x ≡ Some y → x ≡ y
+some_is e = cc
+
 head_is : {X : Type 0} {x y : X} {xs ys : List X} → x ∷ xs ≡ y ∷ ys → x ≡ y
 head_is e = cc
+
+-- what is published is a publication, if there is one
+is_published : (I : Session) (published : Option Publication) → ArePublished I published
+    → (p : Publication) → published ≡ Some p → IsPublication I p
+is_published I None is p same = absurd (none-some p same)
+is_published I (Some q) is p same = subst (IsPublication I) (some_is same) is
+
+are_published : (I : Session) (published : Option Publication)
+    → ((p : Publication) → published ≡ Some p → IsPublication I p) → ArePublished I published
+are_published I None each = tt
+are_published I (Some p) each = each p refl
 
 module _ (found : Found) where
   abbrev pub t : Tables
   t = tables_of found
 
+  -- the rows of a publication and its shares, with the mark
+  abbrev pub IsPublished : Session → Option Publication → Type 0
+  IsPublished I published =
+      ArePublication I found.meta.published found.placements.items found.seats.items
+      found.student_shares.items found.part_shares.items published
+
   -- ---- from the rows to the office
+
+  row_is : (I : Session) → IsSessionRow (meta_from found.meta) I → (published : Option Publication)
+      → found.meta.published ≡ is_some published
+      → meta_from found.meta ≡ meta_row (is_some published) I
+  row_is I session published marked = λ i. record {
+    published = marked i;
+    instance = session.text i;
+  }
 
   pub office_of : (I : Session) (E : Enrolled) → IsSessionRow (meta_from found.meta) I
       → (owner_of : ℕ → ℕ) × AreOwners I found.owners.items owner_of
       → AreEnrolRows I found.enrols.items E
       → (draft : ℕ → Option Placing) × AreDrafts I E found.drafts.items found.slots.items draft
+      → (published : Option Publication) × IsPublished I published
       → (office : OfficeState) × Stands t office × IsSound t office × IsOffice office
       × (memory_of office ≡ Some (I, E))
-  office_of I E session owners enrols drafts = (
+  office_of I E session owners enrols drafts published = (
     Some (record {
       session = I;
       owner_of = owners.0;
       enrolments = E;
       draft = drafts.0;
-      published = None;
+      published = published.0;
       batches = [];
     }),
     record {
-      meta = ap (λ m. m ∷ []) session.row;
+      meta = ap (λ m. m ∷ []) (row_is I session published.0 published.1.rows.marked);
       owner = owners.1.rows;
       enrol = enrols.rows;
       draft = drafts.1.rows;
       slot = drafts.1.slots;
-      published = record { none = refl; no_place = refl; no_seat = refl };
-      shares = record { of_students = refl; of_parts = refl };
+      published = published.1.rows.stands;
       batches = record { none = refl; no_row = refl };
     },
-    drafts.1.scored,
+    record { scored = drafts.1.scored; shared = published.1.shared },
     record {
       session = session.session;
       enrolled = enrols.enrolled;
@@ -73,7 +104,7 @@ module _ (found : Found) where
       owned = owners.1.owned;
       numbered = drafts.1.numbered;
       drafts = drafts.1.fits;
-      publication = λ p no. absurd cc;
+      publication = is_published I published.0 published.1.is;
       batches = no_batch_kept;
     },
     refl,
@@ -84,7 +115,10 @@ module _ (found : Found) where
   module _ (r : Records) (stands : StandsLoaded t r) (sound : IsSound t (Some r))
       (is : AreRecords r) where
     pub session_row : IsSessionRow (meta_from found.meta) r.session
-    session_row = record { session = is.session; row = head_is stands.meta }
+    session_row = record {
+      session = is.session;
+      text = ap (λ (m : Meta). m.instance) (head_is stands.meta);
+    }
 
     module _ (I : Session) (read : IsSessionRow (meta_from found.meta) I) where
       same : r.session ≡ I
@@ -112,9 +146,19 @@ module _ (found : Found) where
             fits = is.drafts;
             rows = stands.draft;
             slots = stands.slot;
-            scored = sound;
+            scored = sound.scored;
           } in
           subst (λ F. AreDrafts I F found.drafts.items found.slots.items r.draft)
           (one_set I found.enrols.items r.enrolments E enrol_rows rows)
           (subst (λ J. AreDrafts J r.enrolments found.drafts.items found.slots.items r.draft) same
           whose)
+
+      pub published_rows : IsPublished I r.published
+      published_rows = subst (λ J. IsPublished J r.published) same (record {
+        rows = record {
+          marked = ap (λ (m : Meta). m.published) (head_is stands.meta);
+          stands = stands.published;
+        };
+        is = are_published r.session r.published is.publication;
+        shared = sound.shared;
+      })

@@ -8,7 +8,8 @@ use Rattle.std.proofs.lemmas.List.Sorted.{length_permutation}
 use Rattle.sqlite_value.specs.Order.{Row}
 use Rattle.sqlite.specs.Effect.{Database}
 use Rattle.sqlite_trees.proofs.ListLemmas.{IsPermutation-filter, all-permutation}
-use Rattle.office_tables.specs.Records.{owner_of, enrol_of, draft_of, slot_of}
+use Rattle.office_tables.specs.Records.{owner_of, enrol_of, draft_of, slot_of, placement_of}
+use Rattle.office_tables.specs.Records.{seat_of, student_share_of, part_share_of}
 use Rattle.office_tables.specs.Tables.{Tables, Meta, Holds, Stands as Held, keyed, keyless}
 use Rattle.office_tables.specs.Tables.{empty_tables}
 use Rattle.office_tables.specs.Tables.{owner_row, enrol_row as enrol_columns, draft_row, slot_row}
@@ -95,6 +96,21 @@ module _ (db : Database) (t u : Tables) (p : Held db t) (q : Held db u) where
   slots : IsPermutation t.slot u.slot
   slots = same_rows keyless slot_row slot_of (λ r. refl) _ _ _ p.slot q.slot
 
+  placements : IsPermutation t.placed u.placed
+  placements = same_rows keyed placed_row placement_of (λ r. refl) _ _ _ p.placed q.placed
+
+  seats : IsPermutation t.seat u.seat
+  seats = same_rows keyless seat_row seat_of (λ r. refl) _ _ _ p.seat q.seat
+
+  student_shares : IsPermutation t.share_student u.share_student
+  student_shares =
+      same_rows keyed share_student_row student_share_of (λ r. refl) _ _ _ p.share_student
+      q.share_student
+
+  part_shares : IsPermutation t.share_part u.share_part
+  part_shares =
+      same_rows keyless share_part_row part_share_of (λ r. refl) _ _ _ p.share_part q.share_part
+
   one_meta : (m : Meta) → t.meta ≡ m ∷ [] → u.meta ≡ m ∷ []
   one_meta m is =
       same_few (m ∷ []) u.meta (omega arith) (subst (λ l. IsPermutation l u.meta) is metas)
@@ -143,13 +159,8 @@ module _ (db : Database) (t u : Tables) (p : Held db t) (q : Held db u) where
         (IsPermutation-filter (λ (x : SlotRow). eqb x.draft d) _ _ (IsPermutation-sym _ _ slots))
         (h.slot d);
     published = record {
-      none = h.published.none;
-      no_place = no_placed h.published.no_place;
-      no_seat = no_seat h.published.no_seat;
-    };
-    shares = record {
-      of_students = no_share_student h.shares.of_students;
-      of_parts = no_share_part h.shares.of_parts;
+      placed = IsPermutation-trans _ _ _ (IsPermutation-sym _ _ placements) h.published.placed;
+      seat = IsPermutation-trans _ _ _ (IsPermutation-sym _ _ seats) h.published.seat;
     };
     batches = record { none = h.batches.none; no_row = no_batch h.batches.no_row };
   }
@@ -162,4 +173,11 @@ module _ (db : Database) (t u : Tables) (p : Held db t) (q : Held db u) where
   -- and are as sound
   pub same_sound : (o : OfficeState) → IsSound t o → IsSound u o
   same_sound None h = tt
-  same_sound (Some r) h = all-permutation (IsScoredRow r) _ _ drafts h
+  same_sound (Some r) h = record {
+    scored = all-permutation (IsScoredRow r) _ _ drafts h.scored;
+    shared = record {
+      of_students = IsPermutation-trans _ _ _ (IsPermutation-sym _ _ student_shares)
+          h.shared.of_students;
+      of_parts = IsPermutation-trans _ _ _ (IsPermutation-sym _ _ part_shares) h.shared.of_parts;
+    };
+  }

@@ -11,7 +11,7 @@ use Rattle.office_records.proofs.MemoryLemmas.{read_back}
 pub row_read : (m : Meta) (I : Session) → IsSessionRow m I
     → instance_in m.instance ≡ Ok (I, no_pairs (length I.exams))
 row_read m I is =
-    ap (λ (r : Meta). instance_in r.instance) is.row ∙ read_back I is.session
+    ap instance_in is.text ∙ read_back I is.session
 
 -- a text that spells nothing is in no session's row
 pub no_row : (m : Meta) (I : Session) (fault : FileFault) → instance_in m.instance ≡ Err fault

@@ -1,5 +1,5 @@
 -- When rows that were found are those of an office's records, table by table.
-use Rattle.std.specs.Prelude.{◌≡◌, ◌≢◌, ℕ, ◌<◌, ◌≤◌, List, map, length, All, Option, Some, None, IsSome, is_some, slice_set, IsPermutation}
+use Rattle.std.specs.Prelude.{◌≡◌, ◌≢◌, ℕ, ◌<◌, ◌≤◌, Bool, List, [], map, length, All, Option, Some, None, IsSome, is_some, slice_set, IsPermutation}
 use Rattle.std.specs.List.{AllByRecursion}
 use Rattle.exam_model.specs.Enrolments.{Enrolled}
 use Rattle.exam_model.specs.Fits.{Fits, PlaceExists}
@@ -8,17 +8,24 @@ use Rattle.exam_model.specs.Pairs.{pairs_of}
 use Rattle.exam_model.specs.Timetable.{Placing, place_of}
 use Rattle.exam_score.specs.Track.{track}
 use Rattle.office_tables.specs.Tables.{Meta}
+use Rattle.office_tables.specs.declared.found.Found.{Found}
 use Rattle.office_tables.specs.declared.rows.OwnerRow.{OwnerRow}
 use Rattle.office_tables.specs.declared.rows.EnrolRow.{EnrolRow}
 use Rattle.office_tables.specs.declared.rows.DraftRow.{DraftRow}
 use Rattle.office_tables.specs.declared.rows.SlotRow.{SlotRow}
-use Rattle.office_model.specs.Office.{AreEnrolled}
-use Rattle.office_records.specs.Stands.{meta_row, enrol_row, slots_from, slot_rows, once, some_dept, owners_at, drafts_at, slots_at, parts_of}
+use Rattle.office_tables.specs.declared.rows.PartShareRow.{PartShareRow}
+use Rattle.office_tables.specs.declared.rows.PlacedRow.{PlacedRow}
+use Rattle.office_tables.specs.declared.rows.SeatRow.{SeatRow}
+use Rattle.office_tables.specs.declared.rows.StudentShareRow.{StudentShareRow}
+use Rattle.office_model.specs.Office.{AreEnrolled, Publication}
+use Rattle.office_records.specs.Publications.{AreRowsOf, ArePublished}
+use Rattle.office_records.specs.SharesStored.{AreShared}
+use Rattle.office_records.specs.Stands.{session_text, enrol_row, slots_from, slot_rows, once, some_dept, owners_at, drafts_at, slots_at, parts_of}
 
--- the row of this session, which nobody has published
+-- the row of this session, whether something is published of it or not
 pub record IsSessionRow (found : Meta) (I : Session) : Type 0 where
   pub session : IsInstance I
-  pub row : found ≡ meta_row I
+  pub text : found.instance ≡ session_text I
 
 -- these rows name the owners of this session's exams
 pub record AreOwners (I : Session) (found : List OwnerRow) (owner_of : ℕ → ℕ) : Type 0 where
@@ -46,6 +53,21 @@ pub record AreDrafts (I : Session) (E : Enrolled) (found : List DraftRow) (place
   pub slots : (d : ℕ) → IsPermutation (slots_at d places) (slot_rows d (draft d))
   pub scored : AllByRecursion
       (λ row. (T : Placing) → draft row.no ≡ Some T → parts_of row ≡ track I E T) found
+
+-- these rows, with their mark, are what is published of this session, and its shares
+pub record ArePublication (I : Session) (mark : Bool) (places : List PlacedRow)
+    (seats : List SeatRow) (students : List StudentShareRow) (parts : List PartShareRow)
+    (published : Option Publication) : Type 0 where
+  pub rows : AreRowsOf mark places seats published
+  pub is : ArePublished I published
+  pub shared : AreShared I published students parts
+
+-- no row is one of a publication or its shares
+pub record HasNoPublication (found : Found) : Type 0 where
+  pub placements : found.placements.items ≡ []
+  pub seats : found.seats.items ≡ []
+  pub student_shares : found.student_shares.items ≡ []
+  pub part_shares : found.part_shares.items ≡ []
 
 -- ---- one row more
 

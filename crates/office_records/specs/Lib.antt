@@ -3,3 +3,5 @@ pub mod Stands
 pub mod Found
 pub mod NextRow
 pub mod Faults
+pub mod Publications
+pub mod SharesStored

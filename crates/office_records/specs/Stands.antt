@@ -16,20 +16,19 @@ use Rattle.office_tables.specs.declared.rows.OwnerRow.{OwnerRow}
 use Rattle.office_tables.specs.declared.rows.EnrolRow.{EnrolRow}
 use Rattle.office_tables.specs.declared.rows.DraftRow.{DraftRow}
 use Rattle.office_tables.specs.declared.rows.SlotRow.{SlotRow}
-use Rattle.office_tables.specs.declared.rows.PartShareRow.{PartShareRow}
-use Rattle.office_tables.specs.declared.rows.PlacedRow.{PlacedRow}
-use Rattle.office_tables.specs.declared.rows.SeatRow.{SeatRow}
-use Rattle.office_tables.specs.declared.rows.StudentShareRow.{StudentShareRow}
-use Rattle.office_model.specs.Office.{OfficeState, Records, Publication, KeptBatch, IsOffice}
+use Rattle.office_model.specs.Office.{OfficeState, Records, KeptBatch, IsOffice}
+use Rattle.office_records.specs.Publications.{StandsPublished}
+use Rattle.office_records.specs.SharesStored.{AreShared}
 
 -- ---- the rows of an office
 
--- the session without its enrolments, and no publication
-abbrev pub meta_row : Session → Meta
-meta_row I = record {
-  published = false;
-  instance = canonical_instance I (no_pairs (length I.exams));
-}
+-- the canonical text of a session, which names no student
+abbrev pub session_text : Session → List ℕ
+session_text I = canonical_instance I (no_pairs (length I.exams))
+
+-- the session without its enrolments, and whether something is published
+abbrev pub meta_row : Bool → Session → Meta
+meta_row published I = record { published = published; instance = session_text I }
 
 abbrev pub enrol_row : Pair → EnrolRow
 enrol_row p = record { student = p.student; exam = p.exam }
@@ -67,32 +66,19 @@ drafts_at d rows = filter (λ r. r.no == d) rows
 abbrev pub slots_at : ℕ → List SlotRow → List SlotRow
 slots_at d rows = filter (λ r. r.draft == d) rows
 
--- nothing is published: no publication is stored yet
-pub record StandsPublished (places : List PlacedRow) (seats : List SeatRow)
-    (published : Option Publication) : Type 0 where
-  pub none : published ≡ None
-  pub no_place : places ≡ []
-  pub no_seat : seats ≡ []
-
--- there are no shares of a publication
-pub record HasNoShares (students : List StudentShareRow) (parts : List PartShareRow) : Type 0 where
-  pub of_students : students ≡ []
-  pub of_parts : parts ≡ []
-
 -- no batch is kept: none is stored yet
 pub record StandsBatches (rows : List Batch) (kept : List KeptBatch) : Type 0 where
   pub none : kept ≡ []
   pub no_row : rows ≡ []
 
--- each table holds just the office's part; the parts of penalties aren't looked at
+-- each table holds just the office's part; penalties and shares aren't looked at
 pub record StandsLoaded (t : Tables) (r : Records) : Type 0 where
-  pub meta : t.meta ≡ meta_row r.session ∷ []
+  pub meta : t.meta ≡ meta_row (is_some r.published) r.session ∷ []
   pub owner : (e : ℕ) → map (λ o. o.dept) (owners_at e t.owner) ≡ some_dept (r.owner_of e)
   pub enrol : IsPermutation t.enrol (map enrol_row (pairs_of r.enrolments))
   pub draft : (d : ℕ) → map (λ row. row.no) (drafts_at d t.draft) ≡ once (is_some (r.draft d)) d
   pub slot : (d : ℕ) → IsPermutation (slots_at d t.slot) (slot_rows d (r.draft d))
   pub published : StandsPublished t.placed t.seat r.published
-  pub shares : HasNoShares t.share_student t.share_part
   pub batches : StandsBatches t.batch r.batches
 
 -- the tables stand for the office: before a load they are empty
@@ -118,9 +104,14 @@ abbrev pub IsScoredRow : Records → DraftRow → Type 0
 IsScoredRow r row =
     (T : Placing) → r.draft row.no ≡ Some T → parts_of row ≡ track r.session r.enrolments T
 
+-- each draft's row has its penalty, and the rows of shares are those of the publication
+pub record AreSound (t : Tables) (r : Records) : Type 0 where
+  pub scored : AllByRecursion (IsScoredRow r) t.draft
+  pub shared : AreShared r.session r.published t.share_student t.share_part
+
 abbrev pub IsSound : Tables → OfficeState → Type 0
 IsSound t None = Unit {0}
-IsSound t (Some r) = AllByRecursion (IsScoredRow r) t.draft
+IsSound t (Some r) = AreSound t r
 
 -- ---- a database
 

@@ -3,6 +3,7 @@ ghost use Rattle.std.specs.Prelude.{◌≡◌, ◌↔◌, IfErr, IfOk, IsTrue};
 ghost use Rattle.office_tables.specs.Adopting.{tables_of};
 ghost use Rattle.office_tables.specs.Tables.{empty_tables};
 ghost use Rattle.office_model.specs.Office.{IsOffice, OfficeState};
+ghost use Rattle.office_records.specs.Found.{HasNoPublication};
 ghost use Rattle.office_records.specs.Memory.{memory_of};
 ghost use Rattle.office_records.specs.Stands.{IsSound, Stands};
 
@@ -10,6 +11,7 @@ use crate::drafts::check_drafts;
 use crate::enrolments::enrolments_of;
 use crate::fault::RecordFault;
 use crate::owners::check_owners;
+use crate::published::check_published;
 use crate::session::session_of;
 use exam_model::{Enrolments, Instance};
 use office_tables::Found;
@@ -31,6 +33,7 @@ pub fn kept_of(alloc: Global, found: &Found) -> Result<Option<(Instance, Enrolme
     check_owners(alloc, &instance, &found.owners)?;
     let enrolments = enrolments_of(alloc, &instance, &found.enrols)?;
     check_drafts(alloc, &instance, &enrolments, &found.drafts, &found.slots)?;
+    check_published(alloc, &instance, found)?;
     Ok(Some((instance, enrolments)))
 }
 
@@ -44,4 +47,15 @@ fn is_unloaded(found: &Found) -> bool
         && found.enrols.is_empty()
         && found.drafts.is_empty()
         && found.slots.is_empty()
+        && has_no_publication(found)
+}
+
+// Whether there is no row of a publication or its shares.
+fn has_no_publication(found: &Found) -> bool
+    ensures { IsTrue result ↔ HasNoPublication found.now }
+{
+    found.placements.is_empty()
+        && found.seats.is_empty()
+        && found.student_shares.is_empty()
+        && found.part_shares.is_empty()
 }

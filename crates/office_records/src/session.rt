@@ -3,7 +3,7 @@ ghost use Rattle.std.specs.Prelude.{◌≡◌, IfErr, IfOk};
 ghost use Rattle.exam_model.specs.Instance.{IsInstance, Session};
 ghost use Rattle.office_tables.specs.Records.{meta_from};
 ghost use Rattle.office_records.specs.Found.{IsSessionRow};
-ghost use Rattle.office_records.specs.Stands.{meta_row};
+ghost use Rattle.office_records.specs.Stands.{session_text};
 
 use crate::fault::RecordFault;
 use exam_model::{Enrolments, Instance};
@@ -13,7 +13,7 @@ use std::alloc::Global;
 
 /// The text that is kept of a session: its canonical text, which names no student.
 pub fn text_of(alloc: Global, instance: &Instance) -> Result<Vec<u8>, RecordFault>
-    ensures text { IfOk result (λ text. text.items ≡ (meta_row instance.now).instance) }
+    ensures text { IfOk result (λ text. text.items ≡ session_text instance.now) }
     ensures memory { IfErr result (λ e. e ≡ RecordFault.NoMemory) }
     ensures instance { IsInstance instance.now }
 {
@@ -27,15 +27,13 @@ pub fn text_of(alloc: Global, instance: &Instance) -> Result<Vec<u8>, RecordFaul
     }
 }
 
-/// The session whose row this is. `BadRows`: it is the row of none.
+/// The session whose row this is, whether something is published of it or not. `BadRows`: it is
+/// the row of none.
 pub fn session_of(alloc: Global, row: &MetaRow) -> Result<Instance, RecordFault>
     ensures is { IfOk result (IsSessionRow (meta_from row.now)) }
     ensures none { IfErr result (λ e. e ≡ RecordFault.BadRows
         → (I : Session) → IsSessionRow (meta_from row.now) I → ⊥) }
 {
-    if row.published {
-        return Err(RecordFault::BadRows);
-    }
     let (instance, _students) = read_instance(alloc, &row.instance)?;
     let text = text_of(alloc, &instance)?;
     if text.as_slice() != row.instance.as_slice() {

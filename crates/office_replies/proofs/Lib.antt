@@ -1,2 +1,3 @@
 mod LengthLemmas
 mod FloatLemmas
+mod PaddingLemmas

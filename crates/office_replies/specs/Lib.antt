@@ -1,3 +1,4 @@
 pub mod Objects
 pub mod Views
+pub mod CandidateViews
 pub mod Replies

@@ -1,5 +1,5 @@
 -- Small objects of JSON as texts.
-use Rattle.std.specs.Prelude.{ℕ, ◌≤◌, ◌++◌, ◌∷◌, [], List, length, codes, decimal}
+use Rattle.std.specs.Prelude.{ℕ, ◌≤◌, ◌++◌, List, length, codes, decimal}
 use Rattle.std.specs.List.{flat_map}
 use Rattle.office_replies.specs.declared.objects.Member.{Member}
 use Rattle.office_replies.specs.declared.objects.Says.{Says}

@@ -1,5 +1,5 @@
 -- What each answer of the office is as a reply: a status and a body.
-use Rattle.std.specs.Prelude.{ℕ, ◌+◌, Bool, true, false, List, [], ◌∷◌, map, codes, Option, Some, None, option_map}
+use Rattle.std.specs.Prelude.{ℕ, List, [], ◌∷◌, codes, None}
 use Rattle.exam_rules.specs.declared.breach.Breach.{Breach}
 use Rattle.exam_draft.specs.declared.fault.EditFault.{EditFault}
 use Rattle.exam_draft.specs.declared.fault.EditFault.TheVariants as edit
@@ -11,11 +11,14 @@ use Rattle.office_messages.specs.Reply.{PlainReply, json_reply, fault_reply, una
 use Rattle.office_messages.specs.declared.framing.Fault.TheVariants.{TooLong}
 use Rattle.office_messages.specs.declared.replies.Content.TheVariants.{Text}
 use Rattle.office_messages.specs.declared.statuses.Status.TheVariants.{Done, Created, BadRequest, Conflict}
+use Rattle.office_policy.specs.Commands.{PlainCommand}
 use Rattle.office_requests.specs.Texts.{error_reply}
 use Rattle.office_requests.specs.declared.texts.FixedError.TheVariants as error
 use Rattle.office_model.specs.Answers as answer
 use Rattle.office_model.specs.Answers.{PlainAnswer}
+use Rattle.office_model.specs.Candidates.{answer_to}
 use Rattle.office_model.specs.Numbers.{kind_number}
+use Rattle.office_model.specs.Views.{View}
 use Rattle.office_model.specs.declared.counts.Counts.{Counts}
 use Rattle.office_model.specs.declared.counts.Loaded as counts
 use Rattle.office_model.specs.declared.counts.Published.{Published}
@@ -23,6 +26,7 @@ use Rattle.office_model.specs.declared.fault.Refusal.{Refusal}
 use Rattle.office_model.specs.declared.fault.Refusal.TheVariants as refusal
 use Rattle.office_model.specs.declared.fault.StoreFault.{StoreFault}
 use Rattle.office_model.specs.declared.fault.StoreFault.TheVariants as fault
+use Rattle.office_replies.specs.CandidateViews.{candidate_text, cost_text, exam_text}
 use Rattle.office_replies.specs.Objects.{number, word, object_text}
 use Rattle.office_replies.specs.Views.{draft_text}
 
@@ -91,14 +95,28 @@ penalty_text d penalty =
 abbrev pub dropped_text : ℕ → List ℕ
 dropped_text d = object_text (number (codes "draft") d) []
 
+-- a draft that is published; a batch
+abbrev pub published_text : ℕ → Published → List ℕ
+published_text d p = object_text (number (codes "changed") p.changed)
+    (number (codes "draft") d ∷ number (codes "penalty") p.penalty ∷ [])
+
+abbrev pub enrolled_text : ℕ → Counts → List ℕ
+enrolled_text batch c = object_text (number (codes "added") c.added)
+    (number (codes "batch") batch ∷ number (codes "dropped") c.dropped
+    ∷ number (codes "unchanged") c.unchanged ∷ [])
+
 -- ---- answers
 
 -- a text as it is
 abbrev pub text_reply : List ℕ → PlainReply
 text_reply text = record { status = Done; allow = None; content = Text; body = text }
 
--- what each answer is as a reply; those of candidates, publications and batches come with their commands
+-- what each answer is as a reply
 abbrev pub reply_to : PlainAnswer → PlainReply
+reply_to (answer.my_exams s exams penalty) = json_reply Done (candidate_text s exams penalty)
+reply_to (answer.my_one exam) = json_reply Done (exam_text exam)
+reply_to (answer.my_cost penalty) = json_reply Done (cost_text penalty)
+reply_to answer.not_mine = error_reply error.Exam
 reply_to (answer.now_loaded l) = json_reply Created (loaded_text l)
 reply_to (answer.text text) = text_reply text
 reply_to (answer.now_owned e dept) = json_reply Done (owner_text e dept)
@@ -106,11 +124,15 @@ reply_to (answer.now_drafted d penalty) = json_reply Created (penalty_text d pen
 reply_to (answer.now_edited d penalty) = json_reply Done (penalty_text d penalty)
 reply_to (answer.now_dropped d) = json_reply Done (dropped_text d)
 reply_to (answer.shown_draft d T penalty) = json_reply Done (draft_text d T penalty)
+reply_to (answer.now_published d counts) = json_reply Done (published_text d counts)
 reply_to answer.unpublished = error_reply error.Publication
-reply_to answer.not_mine = error_reply error.Exam
+reply_to (answer.now_enrolled batch counts) = json_reply Done (enrolled_text batch counts)
 reply_to (answer.denied rule) = error_reply (error.Denied rule)
 reply_to answer.bad_body = error_reply error.Body
 reply_to answer.long_body = fault_reply TooLong
 reply_to (answer.refused why) = fault_reply_of why
 reply_to answer.unavailable = unavailable
-reply_to _ = unavailable
+
+-- what a candidate is replied, by her view alone
+abbrev pub view_text : ℕ → PlainCommand → View → PlainReply
+view_text s command view = reply_to (answer_to s command view)

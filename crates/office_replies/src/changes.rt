@@ -1,12 +1,13 @@
 // Replies to changes that were made: they take no memory but the room that was made before.
 ghost use Rattle.std.specs.Prelude.{◌≡◌, ◌≤◌, vec_capacity};
 ghost use Rattle.office_messages.specs.Reply.{plain_reply, json_reply};
-ghost use Rattle.office_replies.specs.Replies.{dropped_text, loaded_text, owner_text, penalty_text};
+ghost use Rattle.office_replies.specs.Replies.{dropped_text, enrolled_text, loaded_text, owner_text};
+ghost use Rattle.office_replies.specs.Replies.{penalty_text, published_text};
 
 use crate::objects::{REPLY_ROOM, number, object_reply};
 use exam_terms::ExamNo;
 use office_messages::{Reply, Status};
-use office_model::Loaded;
+use office_model::{Counts, Loaded, Published};
 
 /// The reply to a load: how much was loaded.
 pub fn loaded_reply(room: Vec<u8>, loaded: Loaded) -> Reply
@@ -59,4 +60,27 @@ pub fn dropped_reply(room: Vec<u8>, draft: u32) -> Reply
 {
     let first = number(b"draft", u64::from(draft));
     object_reply(room, Status::Done, first, &[])
+}
+
+/// The reply where a draft is published: the candidates whose seats changed, and its penalty.
+pub fn published_reply(room: Vec<u8>, draft: u32, published: Published) -> Reply
+    requires { REPLY_ROOM ≤ vec_capacity room }
+    ensures { plain_reply result ≡ json_reply Status.Done (published_text draft published) }
+{
+    let first = number(b"changed", u64::from(published.changed));
+    let draft = number(b"draft", u64::from(draft));
+    let penalty = number(b"penalty", published.penalty);
+    object_reply(room, Status::Done, first, &[draft, penalty])
+}
+
+/// The reply to a batch: what its lines did.
+pub fn enrolled_reply(room: Vec<u8>, batch: u32, counts: Counts) -> Reply
+    requires { REPLY_ROOM ≤ vec_capacity room }
+    ensures { plain_reply result ≡ json_reply Status.Done (enrolled_text batch counts) }
+{
+    let first = number(b"added", u64::from(counts.added));
+    let batch = number(b"batch", u64::from(batch));
+    let dropped = number(b"dropped", u64::from(counts.dropped));
+    let unchanged = number(b"unchanged", u64::from(counts.unchanged));
+    object_reply(room, Status::Done, first, &[batch, dropped, unchanged])
 }

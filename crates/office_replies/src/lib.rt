@@ -1,12 +1,17 @@
 //! What the office's answers are as replies: statuses, and bodies byte for byte.
 #![tactic(auto)]
 
+mod candidates;
 mod changes;
 mod objects;
 mod refusals;
 mod views;
 
-pub use changes::{dropped_reply, edited_reply, loaded_reply, new_draft_reply, owner_reply};
+pub use candidates::{candidate_reply, cost_reply, exam_reply};
+pub use changes::{
+    dropped_reply, edited_reply, enrolled_reply, loaded_reply, new_draft_reply, owner_reply,
+    published_reply,
+};
 pub use objects::{REPLY_ROOM, reply_room};
 pub use refusals::refusal_reply;
 pub use views::{draft_reply, text_reply};

@@ -33,13 +33,19 @@ pub fn draft_reply(
     ensures { IfOk result (λ reply.
         plain_reply reply ≡ json_reply Status.Done (draft_text draft timetable.now penalty)) }
 {
-    let text = draft_text(alloc, draft, timetable, penalty)?;
-    Ok(Reply {
+    Ok(shown_reply(draft_text(alloc, draft, timetable, penalty)?))
+}
+
+// The reply with a text of JSON.
+pub(crate) fn shown_reply(text: String) -> Reply
+    ensures { plain_reply result ≡ json_reply Status.Done (string_bytes text) }
+{
+    Reply {
         status: Status::Done,
         allow: None,
         content: Content::Json,
         body: Payload::Made(text.into_bytes()),
-    })
+    }
 }
 
 fn draft_text(
@@ -86,7 +92,8 @@ fn exam_value(alloc: Global, exam: ExamNo, at: Option<Place>) -> Result<Value, A
     json!(in alloc; {"exam": exam.get(), "period": or_null(period), "room": or_null(room)})
 }
 
-fn or_null(number: Option<u32>) -> Value
+// A number, or null where there is none.
+pub(crate) fn or_null(number: Option<u32>) -> Value
     ensures { view result ≡ or_null number }
 {
     match number {

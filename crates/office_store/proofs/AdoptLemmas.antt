@@ -7,7 +7,7 @@ use Rattle.office_tables.specs.Steps.{Keeps}
 use Rattle.office_model.specs.Office.{OfficeState, IsOffice}
 use Rattle.office_records.specs.Memory.{Memory, AreTogether, memory_of}
 use Rattle.office_records.specs.Stands.{IsKept}
-use Rattle.office_store.specs.Turning.{Undone}
+use Rattle.office_tables.specs.Alterations.{Undone}
 
 pub are_together : (o : OfficeState) (m : Memory) → IsOffice o → memory_of o ≡ m → AreTogether m
 are_together None m is same = subst AreTogether same tt

@@ -8,7 +8,7 @@ use Rattle.office_model.specs.Office.{OfficeState}
 use Rattle.office_records.specs.Memory.{Memory, memory_of}
 use Rattle.office_records.specs.Stands.{IsKept}
 use Rattle.office_model.specs.Commands.{Gives}
-use Rattle.office_store.specs.Running.{Does, IsAtRest, IsAwake, IsFault, IsStill, Now, Runs}
+use Rattle.office_store.specs.Running.{Does, IsAtRest, IsAwake, IsFault, IsStill, Now, Reads, Runs, Shows, Tells}
 use Rattle.office_model.specs.declared.fault.StoreFault.{StoreFault}
 use Rattle.office_model.specs.declared.fault.StoreFault.TheVariants.{NotLoaded}
 use Rattle.office_store.proofs.ReadLemmas.{does_now}
@@ -25,21 +25,45 @@ abbrev pub Denies : {A : Type 0} → (OfficeState → Gives A) → StoreFault �
 Denies command fault a m = (o : OfficeState) → IsKept a o → memory_of o ≡ m
     → IsFault (command o) fault
 
+-- what is told of an office that stays is shown
+shown : {A : Type 0} (says : A) (o : OfficeState) (Stays : OfficeState → Type 0)
+    (result : Result A StoreFault) → Tells says result → Stays o → Shows says o Stays result
+shown says o Stays (Ok x) is here = (is, here)
+shown says o Stays (Err fault) is here = (is, here)
+
 -- from the connection before a look at the file to the one behind it, which is at hand
-module _ {S A : Type 0} (g : Ghosts S) (command : OfficeState → Gives A) (before mid inside : Held S)
+module _ {S : Type 0} (g : Ghosts S) (before mid inside : Held S)
     (m : Memory) (view : inside ≡ mid) (rest : IsAtRest (state g inside) m)
     (awake : HasCleanDisk (state g mid) → IsAwake (state g mid))
     (stays : HasCleanDisk (state g mid) → (o : OfficeState) → Now (state g before) o
     → Now (state g mid) o) where
   -- the office that stood there does, and its session is in memory
-  found : HasCleanDisk (state g mid) → (o : OfficeState) → Now (state g before) o
+  there : HasCleanDisk (state g mid) → (o : OfficeState) → Now (state g before) o
       → IsKept (state g mid).now o × (memory_of o ≡ m)
-  found clean o now =
+  there clean o now =
       let here = stays clean o now (awake clean).0 in (
         here,
         at_hand (state g mid) m o (subst (λ h. IsAtRest (state g h) m) view rest) clean
             (awake clean).0 here,
       )
+
+  -- what is answered is what the office says
+  pub tells : {A : Type 0} (says : OfficeState → A) (result : Result A StoreFault)
+      → (HasCleanDisk (state g mid) → (o : OfficeState) → IsKept (state g mid).now o
+      → memory_of o ≡ m → Tells (says o) result)
+      → Reads g says before mid result
+  tells says result told clean o now =
+      let here = there clean o now in
+      shown (says o) o (Now (state g mid)) result (told clean o here.0 here.1) (λ _. here.0)
+
+module _ {S A : Type 0} (g : Ghosts S) (command : OfficeState → Gives A) (before mid inside : Held S)
+    (m : Memory) (view : inside ≡ mid) (rest : IsAtRest (state g inside) m)
+    (awake : HasCleanDisk (state g mid) → IsAwake (state g mid))
+    (stays : HasCleanDisk (state g mid) → (o : OfficeState) → Now (state g before) o
+    → Now (state g mid) o) where
+  found : HasCleanDisk (state g mid) → (o : OfficeState) → Now (state g before) o
+      → IsKept (state g mid).now o × (memory_of o ≡ m)
+  found = there g before mid inside m view rest awake stays
 
   pub refuses : (fault : StoreFault)
       → (HasCleanDisk (state g mid) → Denies command fault (state g mid).now m)

@@ -130,7 +130,6 @@ module _ (t : Tables) (r : Records) (d : ℕ) (T : Placing) (row : DraftRow) (sl
     draft = λ n. made_draft n (eqb n d) refl;
     slot = λ n. made_slot n (eqb n d) refl;
     published = h.published;
-    shares = h.shares;
     batches = h.batches;
   }
 
@@ -139,12 +138,15 @@ module _ (t : Tables) (r : Records) (d : ℕ) (T : Placing) (row : DraftRow) (sl
 
   made_sound : parts_of row ≡ track r.session r.enrolments T → IsSound t (Some r)
       → IsSound (draft_put row slots t) (Some (record r { draft = set_at d (Some T) r.draft }))
-  made_sound scored sound = (
-    own,
-    none_pass (λ (x : DraftRow). eqb x.no d) (IsScoredRow r)
-        (IsScoredRow (record r { draft = set_at d (Some T) r.draft })) other t.draft none_there
-        sound,
-  )
+  made_sound scored sound = record {
+    scored = (
+      own,
+      none_pass (λ (x : DraftRow). eqb x.no d) (IsScoredRow r)
+          (IsScoredRow (record r { draft = set_at d (Some T) r.draft })) other t.draft none_there
+          sound.scored,
+    );
+    shared = sound.shared;
+  }
     where
       own : (S : Placing) → cond (eqb row.no d) (Some T) (r.draft row.no) ≡ Some S
           → parts_of row ≡ track r.session r.enrolments S
@@ -226,15 +228,16 @@ module _ (t : Tables) (r : Records) (d : ℕ) (h : StandsLoaded t r) where
     draft = λ n. left_draft n (eqb n d) refl;
     slot = λ n. left_slot n (eqb n d) refl;
     published = h.published;
-    shares = h.shares;
     batches = h.batches;
   }
 
 left_sound : (t : Tables) (r : Records) (d : ℕ) → IsSound t (Some r)
     → IsSound (draft_removed d t) (Some (record r { draft = set_at d None r.draft }))
-left_sound t r d sound =
-    each_left (λ (x : DraftRow). x.no) d (IsScoredRow r)
-    (IsScoredRow (record r { draft = set_at d None r.draft })) other t.draft sound
+left_sound t r d sound = record {
+  scored = each_left (λ (x : DraftRow). x.no) d (IsScoredRow r)
+      (IsScoredRow (record r { draft = set_at d None r.draft })) other t.draft sound.scored;
+  shared = sound.shared;
+}
   where
     other : (x : DraftRow) → IsScoredRow r x → eqb x.no d ≡ false
         → IsScoredRow (record r { draft = set_at d None r.draft }) x

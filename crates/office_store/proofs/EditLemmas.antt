@@ -151,18 +151,20 @@ module _ (t : Tables) (r : Records) (T new : Placing) (row : DraftRow) (exams : 
           draft = λ n. edit_draft n (eqb n row.no) refl;
           slot = λ n. edit_slot n (eqb n row.no) refl;
           published = h.published;
-          shares = h.shares;
           batches = h.batches;
         })
 
   edit_sound : parts_of row ≡ track r.session r.enrolments new → IsSound t (Some r)
       → IsSound (edit_put row new exams t) (Some after)
   edit_sound scored sound =
-      subst (λ u. IsSound u (Some after)) (sym only) (
-        own,
-        each_left (λ (x : DraftRow). x.no) row.no
-            (IsScoredRow r) (IsScoredRow after) other t.draft sound,
-      )
+      subst (λ u. IsSound u (Some after)) (sym only) (record {
+        scored = (
+          own,
+          each_left (λ (x : DraftRow). x.no) row.no
+              (IsScoredRow r) (IsScoredRow after) other t.draft sound.scored,
+        );
+        shared = sound.shared;
+      })
     where
       own : (S : Placing) → cond (eqb row.no row.no) (Some new) (r.draft row.no) ≡ Some S
           → parts_of row ≡ track r.session r.enrolments S

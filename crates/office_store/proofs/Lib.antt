@@ -13,3 +13,8 @@ pub mod StepLemmas
 pub mod CommandLemmas
 pub mod OpenLemmas
 pub mod JudgeLemmas
+pub mod PublishedReadLemmas
+pub mod NewPublicationLemmas
+pub mod PublishLemmas
+pub mod ViewLemmas
+pub mod PriceLemmas

@@ -75,8 +75,7 @@ module _ (I : Session) (E : Enrolled) (text : List ℕ) (rows : List EnrolRow)
         (IsPermutation-sym _ _ (IsPermutation-reverse rows)));
     draft = λ d. refl;
     slot = λ d. IsPermutation-refl [];
-    published = record { none = refl; no_place = refl; no_seat = refl };
-    shares = record { of_students = refl; of_parts = refl };
+    published = record { placed = IsPermutation-refl []; seat = IsPermutation-refl [] };
     batches = record { none = refl; no_row = refl };
   }
 
@@ -87,7 +86,10 @@ module _ (I : Session) (E : Enrolled) (text : List ℕ) (rows : List EnrolRow)
     held = session_put text rows empty_tables;
     tables = makes empty_tables (subst (Held a) kept.stands kept.tables);
     stands = session_stands;
-    sound = tt;
+    sound = record {
+      scored = tt;
+      shared = record { of_students = IsPermutation-refl []; of_parts = IsPermutation-refl [] };
+    };
     office = record {
       session = is;
       enrolled = are;

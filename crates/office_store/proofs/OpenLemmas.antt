@@ -1,5 +1,5 @@
 -- The office that a database stands for when it is opened, by whether it has a table.
-use Rattle.std.proofs.Common.{◌≡◌, ◌∙◌, ◌⊎◌, None, inl, inr, sym, subst, Bool, true, false}
+use Rattle.std.proofs.Common.{◌≡◌, ◌∙◌, ◌⊎◌, None, inl, inr, sym, Bool, true, false}
 use Rattle.std.proofs.Common.{Err, IfErr, IfOk, Ok, Result}
 use Rattle.std.specs.Prelude.{IsTrue}
 use Rattle.sqlite.specs.Effect.{Database}

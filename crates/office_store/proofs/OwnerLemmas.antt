@@ -69,7 +69,6 @@ module _ (t : Tables) (r : Records) (e d : ℕ) (h : StandsLoaded t r) where
     draft = h.draft;
     slot = h.slot;
     published = h.published;
-    shares = h.shares;
     batches = h.batches;
   }
   owner_stands false is = record {
@@ -79,7 +78,6 @@ module _ (t : Tables) (r : Records) (e d : ℕ) (h : StandsLoaded t r) where
     draft = h.draft;
     slot = h.slot;
     published = h.published;
-    shares = h.shares;
     batches = h.batches;
   }
 
@@ -126,8 +124,8 @@ owner_sound : (t : Tables) (r : Records) (e d : ℕ) (b : Bool) → IsSound t (S
     → IsSound (cond b (without_owner e t)
     (with_owner (record { exam = e; dept = d }) (without_owner e t)))
     (Some (record r { owner_of = set_at e d r.owner_of }))
-owner_sound t r e d true h = h
-owner_sound t r e d false h = h
+owner_sound t r e d true h = record { scored = h.scored; shared = h.shared }
+owner_sound t r e d false h = record { scored = h.scored; shared = h.shared }
 
 -- the database stands for the office with that owner
 pub owner_kept : (a b : Database) (r : Records) (e d : ℕ) → IsKept a (Some r)

@@ -31,7 +31,7 @@ pub scored_read : (t : Tables) (o : OfficeState) (d : ℕ) (rows : List DraftRow
 scored_read t None d rows sound p = tt
 scored_read t (Some r) d rows sound p =
     all-permutation (IsScoredRow r) _ _ p
-    (all-filter (IsScoredRow r) (λ (x : DraftRow). eqb x.no d) t.draft sound)
+    (all-filter (IsScoredRow r) (λ (x : DraftRow). eqb x.no d) t.draft sound.scored)
 
 -- the rows of its places that are read are those of its timetable
 pub places_read : (t : Tables) (o : OfficeState) (d : ℕ) (rows : List SlotRow) → Stands t o

@@ -7,9 +7,9 @@ use Rattle.office_tables.specs.Steps.{Keeps}
 use Rattle.office_tables.specs.Tables.{Tables, Stands as Held}
 use Rattle.office_model.specs.Office.{OfficeState, Records}
 use Rattle.office_records.specs.Memory.{Memory, memory_of}
-use Rattle.office_store.specs.Running.{Now, IsAtRest, IsAwake, IsStill}
+use Rattle.office_store.specs.Running.{Now, IsAtRest, IsStill}
 use Rattle.office_records.specs.Stands.{IsKept}
-use Rattle.office_store.specs.Turning.{Undone}
+use Rattle.office_tables.specs.Alterations.{Undone}
 use Rattle.office_records.proofs.MemoryLemmas.{same_memory}
 
 -- ---- nothing has changed

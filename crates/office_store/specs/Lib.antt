@@ -6,3 +6,7 @@ pub mod Reading
 pub mod Judging
 pub mod Beginning
 pub mod Opening
+pub mod Publications
+pub mod NewPublications
+pub mod Viewing
+pub mod Pricing

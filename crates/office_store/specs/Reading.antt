@@ -1,10 +1,13 @@
 -- What the rows that are read say of an office.
-use Rattle.std.specs.Prelude.{◌≡◌, ℕ, List, map, Some, None, is_some, Result, Ok, Err, IsPermutation}
+use Rattle.std.specs.Prelude.{◌≡◌, ℕ, List, [], map, Option, Some, None, is_some, Result, Ok, Err, IsPermutation}
 use Rattle.std.specs.Borrow.{Bor}
 use Rattle.std.specs.List.{AllByRecursion}
 use Rattle.office_tables.specs.declared.rows.DraftRow.{DraftRow}
 use Rattle.office_tables.specs.declared.rows.SlotRow.{SlotRow}
-use Rattle.office_model.specs.Office.{OfficeState}
+use Rattle.office_tables.specs.declared.rows.PartShareRow.{PartShareRow}
+use Rattle.office_tables.specs.declared.rows.StudentShareRow.{StudentShareRow}
+use Rattle.office_model.specs.Office.{OfficeState, Publication}
+use Rattle.office_records.specs.SharesStored.{part_share_rows, student_share_rows}
 use Rattle.office_records.specs.Stands.{IsScoredRow, once, slot_rows}
 use Rattle.office_model.specs.Commands.{draft_in}
 
@@ -19,6 +22,28 @@ pub record AreRowsOf (office : OfficeState) (d : ℕ) (rows : List DraftRow) (sl
   pub numbers : map (λ row. row.no) rows ≡ once (is_some (draft_in d office)) d
   pub scored : AreScored rows office
   pub places : IsPermutation slots (slot_rows d (draft_in d office))
+
+-- ---- what is published
+
+-- what an office has published, if it has
+abbrev pub published_in : OfficeState → Option Publication
+published_in None = None
+published_in (Some r) = r.published
+
+-- the rows of the shares of what it has published
+abbrev pub student_rows_in : OfficeState → List StudentShareRow
+student_rows_in None = []
+student_rows_in (Some r) = student_share_rows r.session r.published
+
+abbrev pub part_rows_in : OfficeState → List PartShareRow
+part_rows_in None = []
+part_rows_in (Some r) = part_share_rows r.session r.published
+
+-- the rows that an office has of those shares
+pub record AreShareRowsOf (office : OfficeState) (students : List StudentShareRow)
+    (parts : List PartShareRow) : Type 0 where
+  pub of_students : IsPermutation students (student_rows_in office)
+  pub of_parts : IsPermutation parts (part_rows_in office)
 
 -- the values behind two references
 abbrev pub shown : {X Y F : Type 0} → Result (Bor X × Bor Y) F → Result (X × Y) F

@@ -36,6 +36,11 @@ Runs store command old new result =
     HasCleanDisk (state store new) → (office : OfficeState) → Now (state store old) office
     → Does (command office) office (Now (state store new)) result
 
+-- the answer is what the office says, or a statement failed
+abbrev pub Tells : {A : Type 0} → A → Result A StoreFault → Type 0
+Tells says (Ok x) = x ≡ says
+Tells says (Err fault) = fault ≡ Store
+
 -- a call that only reads answers what the office says, or a statement failed; the office stays
 abbrev pub Shows : {A : Type 0} → A → OfficeState → (OfficeState → Type 0) → Result A StoreFault → Type 0
 Shows says office Stays (Ok x) = (x ≡ says) × Stays office

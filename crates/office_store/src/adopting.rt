@@ -7,7 +7,7 @@ ghost use Rattle.office_model.specs.Office.{OfficeState};
 ghost use Rattle.office_records.specs.Memory.{AreTogether, memory_of};
 ghost use Rattle.office_records.specs.Stands.{IsKept};
 ghost use Rattle.office_store.specs.Faults.{IsOfDatabase};
-ghost use Rattle.office_store.specs.Turning.{Undone};
+ghost use Rattle.office_tables.specs.Alterations.{Undone};
 
 use crate::office::Office;
 use exam_model::{Enrolments, Instance};

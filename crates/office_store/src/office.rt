@@ -5,7 +5,7 @@ ghost use Rattle.sqlite.specs.State.{HasCleanDisk};
 ghost use Rattle.office_tables.specs.Schema.{no_schema};
 ghost use Rattle.office_store.specs.Faults.{IsOfDatabase};
 ghost use Rattle.office_store.specs.Running.{IsAwake, IsStill};
-ghost use Rattle.office_store.specs.Turning.{Undone};
+ghost use Rattle.office_tables.specs.Alterations.{Undone};
 ghost use Rattle.office_records.specs.Stands.{IsKept};
 
 use crate::transactions::make_tables;

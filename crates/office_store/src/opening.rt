@@ -6,7 +6,7 @@ ghost use Rattle.office_model.specs.Office.{OfficeState};
 ghost use Rattle.office_store.specs.Faults.{IsOfDatabase};
 ghost use Rattle.office_store.specs.Opening.{IsOfficeOf};
 ghost use Rattle.office_store.specs.Running.{Now};
-ghost use Rattle.office_store.specs.Turning.{Undone};
+ghost use Rattle.office_tables.specs.Alterations.{Undone};
 
 use crate::office::Office;
 use office_model::StoreFault;

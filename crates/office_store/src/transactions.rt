@@ -2,12 +2,13 @@
 ghost use Rattle.std.specs.Prelude.{◌≡◌, ◌<◌, ◌≤◌, ◌^◌, false, length, All, OnOk, OnErr};
 ghost use Rattle.sqlite.specs.Held.{state};
 ghost use Rattle.sqlite.specs.State.{HasCleanDisk};
+ghost use Rattle.office_tables.specs.Alterations.{Changed, Undone};
 ghost use Rattle.office_tables.specs.Amounts.{AreAmounts};
 ghost use Rattle.office_tables.specs.Schema.{no_schema, IsBlank};
 ghost use Rattle.office_tables.specs.Steps.{Changes, Within};
 ghost use Rattle.office_tables.specs.Tables.{Stands, empty_tables};
 ghost use Rattle.office_store.specs.Changes.{draft_put, draft_removed, edit_put, owner_put, session_put, slot_put, slots_put};
-ghost use Rattle.office_store.specs.Turning.{Changed, Turned, Undone};
+ghost use Rattle.office_store.specs.Turning.{Turned};
 
 use crate::fault::Failed;
 use exam_model::{ExamNo, Place, Timetable};

@@ -1,25 +1,29 @@
 -- What the parts that are found tell of the tables, and what readers in a row leave.
-use Rattle.std.proofs.Common.{◌≡◌, ◌↔◌, ◌&&◌, inl, inr, Bool, List, [], length, map, Option, Some, None, sym, ap, subst, ◌∙◌, IsTrue, arith}
+use Rattle.std.proofs.Common.{◌≡◌, ◌↔◌, inl, inr, Bool, List, [], length, map, Option, Some, None, sym, ap, subst, ◌∙◌, IsTrue, arith}
 use Rattle.std.specs.Prelude.{Vec}
 use Rattle.std.specs.declared.alloc.Global.{Global}
-use Rattle.std.proofs.lemmas.Bool.{and_parts}
 use Rattle.std.proofs.lemmas.List.{nil_from_length, length-map}
 use Rattle.std.proofs.lemmas.List.Sorted.{length_permutation}
 use Rattle.sqlite_value.specs.Order.{Row}
 use Rattle.sqlite.specs.Effect.{Database, IsDatabase}
 use Rattle.sqlite.specs.State.{State, HasCleanDisk, IsUnchanged}
 use Rattle.sqlite.proofs.StateLemmas.{survives_then}
-use Rattle.office_tables.specs.Adopting.{IsUnpublished, HoldsNoPublication, IsFoundSession, IsFoundDrafts, IsAdopted, IsSession, IsDrafts, IsWhole}
+use Rattle.office_tables.specs.Adopting.{IsUnbatched, IsFoundSession, IsFoundDrafts, IsFoundPublication, IsAdopted, IsSession, IsDrafts, IsPublication, IsWhole}
 use Rattle.office_tables.specs.declared.found.Found.{Found}
 use Rattle.office_tables.specs.declared.found.FoundDrafts.{FoundDrafts}
+use Rattle.office_tables.specs.declared.found.FoundPublication.{FoundPublication}
 use Rattle.office_tables.specs.declared.found.FoundSession.{FoundSession}
 use Rattle.office_tables.specs.declared.rows.MetaRow.{MetaRow}
 use Rattle.office_tables.specs.declared.rows.OwnerRow.{OwnerRow}
 use Rattle.office_tables.specs.declared.rows.EnrolRow.{EnrolRow}
 use Rattle.office_tables.specs.declared.rows.DraftRow.{DraftRow}
 use Rattle.office_tables.specs.declared.rows.SlotRow.{SlotRow}
+use Rattle.office_tables.specs.declared.rows.PlacedRow.{PlacedRow}
+use Rattle.office_tables.specs.declared.rows.SeatRow.{SeatRow}
+use Rattle.office_tables.specs.declared.rows.StudentShareRow.{StudentShareRow}
+use Rattle.office_tables.specs.declared.rows.PartShareRow.{PartShareRow}
 use Rattle.office_tables.specs.Readings.{IsFound, IsFoundMeta, HasTables, Looks}
-use Rattle.office_tables.specs.Records.{FitsOwner, FitsEnrol, FitsDraft, FitsSlot}
+use Rattle.office_tables.specs.Records.{FitsOwner, FitsEnrol, FitsDraft, FitsSlot, FitsPlacement, FitsSeat, FitsStudentShare, FitsPartShare}
 use Rattle.office_schema.specs.Schema.{office_schema}
 use Rattle.office_tables.specs.Tables.{Tables, Stands, Holds, keyed, keyless, meta_row, owner_row, enrol_row, draft_row, slot_row, placed_row, seat_row, share_student_row, share_part_row, batch_row}
 use Rattle.office_tables.proofs.Frames.{holds_none}
@@ -116,6 +120,35 @@ drafts_found db drafts slots d s None (inl none) = λ t plain stands.
 drafts_found db drafts slots d s None (inr none) = λ t plain stands.
     subst (IsFound FitsSlot slot_row keyless (db.trees 5)) none s t.slot plain.slot stands.slot
 
+pub publication_found : (db : Database) (placements : Option (Vec PlacedRow Global))
+    (seats : Option (Vec SeatRow Global)) (students : Option (Vec StudentShareRow Global))
+    (parts : Option (Vec PartShareRow Global))
+    → IsFound FitsPlacement placed_row keyed (db.trees 7) placements
+    → IsFound FitsSeat seat_row keyless (db.trees 8) seats
+    → IsFound FitsStudentShare share_student_row keyed (db.trees 11) students
+    → IsFound FitsPartShare share_part_row keyless (db.trees 12) parts
+    → (found : Option FoundPublication) → IsPublication placements seats students parts found
+    → IsFoundPublication db found
+publication_found db placements seats students parts p s n k (Some found) is = record {
+  placed = subst (IsFound FitsPlacement placed_row keyed (db.trees 7)) is.0 p;
+  seat = subst (IsFound FitsSeat seat_row keyless (db.trees 8)) is.1 s;
+  share_student = subst (IsFound FitsStudentShare share_student_row keyed (db.trees 11)) is.2 n;
+  share_part = subst (IsFound FitsPartShare share_part_row keyless (db.trees 12)) is.3 k;
+}
+publication_found db placements seats students parts p s n k None (inl none) = λ t plain stands.
+    subst (IsFound FitsPlacement placed_row keyed (db.trees 7)) none p t.placed plain.placed
+    stands.placed
+publication_found db placements seats students parts p s n k None (inr (inl none)) =
+    λ t plain stands. subst (IsFound FitsSeat seat_row keyless (db.trees 8)) none s
+    t.seat plain.seat
+    stands.seat
+publication_found db placements seats students parts p s n k None (inr (inr (inl none))) =
+    λ t plain stands. subst (IsFound FitsStudentShare share_student_row keyed (db.trees 11)) none n
+    t.share_student plain.share_student stands.share_student
+publication_found db placements seats students parts p s n k None (inr (inr (inr none))) =
+    λ t plain stands. subst (IsFound FitsPartShare share_part_row keyless (db.trees 12)) none k
+    t.share_part plain.share_part stands.share_part
+
 -- a table that holds no typed row has none
 none_stored : {X : Type 0} (show : Row → Row) (row_of : X → Row) (xs : List X) (stored : List Row)
     → xs ≡ [] → Holds show (map row_of xs) stored → stored ≡ []
@@ -124,31 +157,20 @@ none_stored show row_of xs stored none holds =
     nil_from_length stored
     (omega (arith, long, length-map stored show, ap (λ l. length (map row_of l)) none))
 
-module _ (db : Database) (t : Tables) (plain : IsUnpublished t) (stands : Stands db t) where
-  unpublished : HoldsNoPublication db
-  unpublished = record {
-    placed = none_stored keyed placed_row t.placed _ plain.placed stands.placed;
-    seat = none_stored keyless seat_row t.seat _ plain.seat stands.seat;
-    share_student = none_stored keyed share_student_row t.share_student _ plain.share_student
-        stands.share_student;
-    share_part = none_stored keyless share_part_row t.share_part _ plain.share_part
-        stands.share_part;
-  }
-
-  unbatched : db.trees 14 ≡ []
-  unbatched = none_stored keyed batch_row t.batch _ plain.batch stands.batch
+unbatched : (db : Database) (t : Tables) → IsUnbatched t → Stands db t → db.trees 14 ≡ []
+unbatched db t plain stands = none_stored keyed batch_row t.batch _ plain.batch stands.batch
 
 pub rows_found : (db : Database) → db.schema ≡ office_schema
-    → (session : Option FoundSession) (drafts : Option FoundDrafts) (publication batches : Bool)
-    → IsFoundSession db session → IsFoundDrafts db drafts
-    → IsTrue publication ↔ HoldsNoPublication db → IsTrue batches ↔ (db.trees 14 ≡ [])
-    → (found : Option Found) → IsWhole session drafts (publication && batches) found
+    → (session : Option FoundSession) (drafts : Option FoundDrafts)
+    (publication : Option FoundPublication) (batches : Bool)
+    → IsFoundSession db session → IsFoundDrafts db drafts → IsFoundPublication db publication
+    → IsTrue batches ↔ (db.trees 14 ≡ [])
+    → (found : Option Found) → IsWhole session drafts publication batches found
     → IsAdopted db found
 rows_found db schema session drafts publication batches s d p b (Some found) is =
     let here = subst (IsFoundSession db) is.0 s in
     let plan = subst (IsFoundDrafts db) is.1 d in
-    let both = and_parts publication batches is.2 in
-    let none = p.0 both.0 in
+    let public = subst (IsFoundPublication db) is.2 p in
     record {
       schema = schema;
       meta = here.meta;
@@ -156,36 +178,19 @@ rows_found db schema session drafts publication batches s d p b (Some found) is 
       enrol = here.enrol;
       draft = plan.draft;
       slot = plan.slot;
-      placed = holds_none keyed _ none.placed;
-      seat = holds_none keyless _ none.seat;
-      share_student = holds_none keyed _ none.share_student;
-      share_part = holds_none keyless _ none.share_part;
-      batch = holds_none keyed _ (b.0 both.1);
+      placed = public.placed;
+      seat = public.seat;
+      share_student = public.share_student;
+      share_part = public.share_part;
+      batch = holds_none keyed _ (b.0 is.3);
     }
 rows_found db schema session drafts publication batches s d p b None (inl none) =
     subst (IsFoundSession db) none s
 rows_found db schema session drafts publication batches s d p b None (inr (inl none)) =
     subst (IsFoundDrafts db) none d
-rows_found db schema session drafts publication batches s d p b None (inr (inr none)) =
+rows_found db schema session drafts publication batches s d p b None (inr (inr (inl none))) =
+    subst (IsFoundPublication db) none p
+rows_found db schema session drafts publication batches s d p b None (inr (inr (inr none))) =
     λ t plain stands.
-    let yes_p = p.1 (unpublished db t plain stands) in
-    let yes_b = b.1 (unbatched db t plain stands) in
+    let yes = b.1 (unbatched db t plain stands) in
     absurd (cc)
-
--- four tests at once
-pub four_tests : (a b c d : Bool) (db : Database) → IsTrue a ↔ (db.trees 7 ≡ [])
-    → IsTrue b ↔ (db.trees 8 ≡ [])
-    → IsTrue c ↔ (db.trees 11 ≡ []) → IsTrue d ↔ (db.trees 12 ≡ [])
-    → IsTrue (a && (b && (c && d))) ↔ HoldsNoPublication db
-four_tests a b c d db p s n k = (
-  λ h. let one = and_parts a (b && (c && d)) h in let two = and_parts b (c && d) one.1 in
-      let three = and_parts c d two.1 in
-      record {
-        placed = p.0 one.0;
-        seat = s.0 two.0;
-        share_student = n.0 three.0;
-        share_part = k.0 three.1;
-      },
-  λ h. let one = p.1 h.placed in let two = s.1 h.seat in let three = n.1 h.share_student in
-      let four = k.1 h.share_part in cc,
-)

@@ -1,30 +1,24 @@
 -- What each statement on the table draft means, and what it makes of the tables.
-use Rattle.std.proofs.Common.{◌≡◌, ℕ, pos, List, [], ◌∷◌, map, filter, not, ◌==◌, codes, true, false, Ok, refl, sym, ap, subst, ◌∙◌, IsPermutation}
-use Rattle.std.proofs.lemmas.List.Sorted.{IsPermutation-trans, IsPermutation-sym, IsPermutation-map}
+use Rattle.std.proofs.Common.{◌≡◌, ℕ, pos, List, [], ◌∷◌, map, filter, not, ◌==◌, codes, true, Ok, refl, ap, ◌∙◌}
 use Rattle.sqlite_trees.specs.Tree.{put_row}
-use Rattle.sqlite_trees.proofs.ListLemmas.{map-map}
-use Rattle.sqlite_value.specs.declared.keys.Collation.TheVariants.{Binary}
-use Rattle.sqlite_value.specs.declared.keys.Key.{Key}
 use Rattle.sqlite_value.specs.declared.value.Value.TheVariants.{Null, Int}
-use Rattle.sqlite_value.specs.Keys.{ascending}
 use Rattle.sqlite_value.specs.Order.{Row}
-use Rattle.sqlite.specs.Command.TheVariants.{Insert, Select, Delete}
+use Rattle.sqlite.specs.Command.TheVariants.{Insert, Delete}
 use Rattle.sqlite.specs.Edit.{are_fresh}
-use Rattle.sqlite.specs.Listing.{understood, reads_listing}
+use Rattle.sqlite.specs.Listing.{understood}
 use Rattle.sqlite.specs.Source.TheVariants.{Values}
-use Rattle.sqlite.specs.State.{State, Executes, Shown}
+use Rattle.sqlite.specs.State.{State, Executes}
 use Rattle.sqlite.specs.Term.{Term, lit, col}
 use Rattle.sqlite.proofs.Callers.{IsPlain, command_of}
 use Rattle.sqlite_tied.specs.Compute.{everything}
 use Rattle.office_tables.specs.declared.rows.DraftRow.{DraftRow}
 use Rattle.office_schema.specs.Schema.{office_schema, draft_table}
 use Rattle.office_tables.specs.Tables.{Tables, Stands, keyed, draft_row}
-use Rattle.office_tables.specs.Records.{draft_of}
 use Rattle.office_tables.proofs.Casts.{cast_int, cast_null}
 use Rattle.office_tables.proofs.Frames.{draft_changed}
-use Rattle.office_tables.proofs.Statements.{inserts, deletes, selects}
+use Rattle.office_tables.proofs.Statements.{inserts, deletes}
 use Rattle.office_tables.proofs.TableLemmas.{holds_more, rowids_filter}
-use Rattle.office_tables.proofs.Queries.{answered, passes, shown_of, shown_filter, left_of, equal_numbers, one_table, equals, rowids, column_later, map_agree, id_map}
+use Rattle.office_tables.proofs.Queries.{answered, passes, shown_filter, left_of, equal_numbers, one_table, equals, rowids}
 
 -- ---- INSERT
 
@@ -87,57 +81,3 @@ deleted old new number count t stands h =
     (λ r. refl) (λ x. ap not (equal_numbers x.no number)) stored t.draft stands.draft.same in
     draft_changed old.now new.now t stands done.1 (filter (λ r. not (r.no == number)) t.draft) is.tables
     (rw rows (record { rowids = rowids_filter (λ r. not (test r)) stored stands.draft.rowids; same = same }))
-
--- ---- SELECT no, in_row, in_day, spread, mixed, front, period, room FROM draft WHERE no = ?1 ORDER BY no
-
-abbrev pub drafts_of_text : List ℕ
-drafts_of_text = codes "SELECT no, in_row, in_day, spread, mixed, front, period, room FROM draft WHERE no = ?1 ORDER BY no"
-
-abbrev pub draft_columns : List Term
-draft_columns = col 1 0 ∷ col 1 2 ∷ col 1 3 ∷ col 1 4 ∷ col 1 5 ∷ col 1 6 ∷ col 1 7 ∷ col 1 8 ∷ []
-
-abbrev drafts_of_names : List (List ℕ)
-drafts_of_names = codes "no" ∷ codes "in_row" ∷ codes "in_day" ∷ codes "spread" ∷ codes "mixed" ∷ codes "front" ∷ codes "period" ∷ codes "room" ∷ []
-
-abbrev drafts_of_order : List (Term × Key)
-drafts_of_order = (col 1 0, ascending Binary) ∷ []
-
-pub drafts_of_is : (command_of (understood office_schema drafts_of_text)
-    ≡ Select (record { lets = []; body = one_table 4 (equals 0 0 ∷ []) draft_columns drafts_of_order }) drafts_of_names)
-    × (reads_listing office_schema drafts_of_text ≡ false)
-unfolding understood everything
-drafts_of_is = (refl, refl)
-
-pub drafts_of_plain : IsPlain (understood office_schema drafts_of_text)
-unfolding understood everything
-drafts_of_plain = (refl, refl)
-
-pub drafts_of_plain_in : (old : State) (t : Tables) → Stands old.now t
-    → IsPlain (understood old.now.schema drafts_of_text)
-drafts_of_plain_in old t stands =
-    subst (λ s. IsPlain (understood s drafts_of_text)) (sym stands.schema) drafts_of_plain
-
-pub drafts_of_read : (old new : State) (number : ℕ) (t : Tables) → Stands old.now t → (rows : List Row)
-    → Shown drafts_of_text (Int (pos number) ∷ []) old new rows
-    → IsPermutation (filter (λ r. r.no == number) t.draft) (map draft_of rows)
-drafts_of_read old new number t stands rows h =
-    let params : Row = Int (pos number) ∷ [] in
-    let test = passes params (equals 0 0 ∷ []) in
-    let shown_test = λ (row : Row). passes params (equals 0 0 ∷ []) row in
-    let stored = old.now.trees 4 in
-    let selected = selects drafts_of_text params old new office_schema stands.schema drafts_of_plain _
-    drafts_of_names drafts_of_is.0 drafts_of_is.1 rows h in
-    let a = answered 4 (equals 0 0 ∷ []) draft_columns drafts_of_order old.now.trees params rows selected in
-    let kept = shown_filter keyed draft_row test shown_test (λ r. r.no == number)
-    (λ r. refl) (λ x. equal_numbers x.no number) stored t.draft stands.draft.same in
-    let typed = IsPermutation-map draft_of _ _ a in
-    let same : map draft_of (map (shown_of params draft_columns) (filter test stored))
-    ≡ map draft_of (map keyed (filter test stored)) =
-    map-map draft_of (shown_of params draft_columns) (filter test stored)
-    ∙ map_agree _ (λ r. draft_of (keyed r)) (λ r. rw (column_later r 0, column_later r 1, column_later r 2, column_later r 3, column_later r 4, column_later r 5, column_later r 6) refl) (filter test stored)
-    ∙ sym (map-map draft_of keyed (filter test stored)) in
-    let back : map draft_of (map draft_row (filter (λ r. r.no == number) t.draft)) ≡ filter (λ r. r.no == number) t.draft =
-    map-map draft_of draft_row _ ∙ id_map (λ s. draft_of (draft_row s)) (λ s. refl) _ in
-    IsPermutation-trans _ _ _
-    (IsPermutation-sym _ _ (subst (IsPermutation _) back (IsPermutation-map draft_of _ _ kept)))
-    (subst (λ l. IsPermutation l (map draft_of rows)) same typed)

@@ -7,11 +7,15 @@ use Rattle.sqlite_trees.specs.Tree.{Trees}
 use Rattle.sqlite_schema.specs.declared.schema.Table.{Table}
 use Rattle.sqlite.specs.Effect.{Database}
 use Rattle.office_schema.specs.Schema.{office_schema}
-use Rattle.office_tables.specs.Tables.{Tables, Stands, Holds, Meta, keyless, keyed, meta_row, owner_row, enrol_row, draft_row, slot_row}
+use Rattle.office_tables.specs.Tables.{Tables, Stands, Holds, Meta, keyless, keyed, meta_row, owner_row, enrol_row, draft_row, slot_row, placed_row, seat_row, share_student_row, share_part_row}
 use Rattle.office_tables.specs.declared.rows.OwnerRow.{OwnerRow}
 use Rattle.office_tables.specs.declared.rows.EnrolRow.{EnrolRow}
 use Rattle.office_tables.specs.declared.rows.DraftRow.{DraftRow}
 use Rattle.office_tables.specs.declared.rows.SlotRow.{SlotRow}
+use Rattle.office_tables.specs.declared.rows.PlacedRow.{PlacedRow}
+use Rattle.office_tables.specs.declared.rows.SeatRow.{SeatRow}
+use Rattle.office_tables.specs.declared.rows.StudentShareRow.{StudentShareRow}
+use Rattle.office_tables.specs.declared.rows.PartShareRow.{PartShareRow}
 
 -- the trees of all tables but one stay
 abbrev pub Others : ℕ → Trees → Trees → Type 0
@@ -104,5 +108,69 @@ module _ (old new : Database) (t : Tables) (stands : Stands old t) (schema : new
     seat = still keyless _ _ _ (others.1.1.1.1.1.1.0 (omega arith)) stands.seat;
     share_student = still keyed _ _ _ (others.1.1.1.1.1.1.1.0 (omega arith)) stands.share_student;
     share_part = still keyless _ _ _ (others.1.1.1.1.1.1.1.1.0 (omega arith)) stands.share_part;
+    batch = still keyed _ _ _ (others.1.1.1.1.1.1.1.1.1.0 (omega arith)) stands.batch;
+  }
+
+  pub placed_changed : (rows : List PlacedRow) → Others 7 old.trees new.trees
+      → Holds keyed (map placed_row rows) (new.trees 7) → Stands new (record t { placed = rows })
+  placed_changed rows others held = record {
+    schema = schema;
+    meta = still keyed _ _ _ (others.0 (omega arith)) stands.meta;
+    owner = still keyed _ _ _ (others.1.0 (omega arith)) stands.owner;
+    enrol = still keyless _ _ _ (others.1.1.0 (omega arith)) stands.enrol;
+    draft = still keyed _ _ _ (others.1.1.1.0 (omega arith)) stands.draft;
+    slot = still keyless _ _ _ (others.1.1.1.1.0 (omega arith)) stands.slot;
+    placed = held;
+    seat = still keyless _ _ _ (others.1.1.1.1.1.1.0 (omega arith)) stands.seat;
+    share_student = still keyed _ _ _ (others.1.1.1.1.1.1.1.0 (omega arith)) stands.share_student;
+    share_part = still keyless _ _ _ (others.1.1.1.1.1.1.1.1.0 (omega arith)) stands.share_part;
+    batch = still keyed _ _ _ (others.1.1.1.1.1.1.1.1.1.0 (omega arith)) stands.batch;
+  }
+
+  pub seat_changed : (rows : List SeatRow) → Others 8 old.trees new.trees
+      → Holds keyless (map seat_row rows) (new.trees 8) → Stands new (record t { seat = rows })
+  seat_changed rows others held = record {
+    schema = schema;
+    meta = still keyed _ _ _ (others.0 (omega arith)) stands.meta;
+    owner = still keyed _ _ _ (others.1.0 (omega arith)) stands.owner;
+    enrol = still keyless _ _ _ (others.1.1.0 (omega arith)) stands.enrol;
+    draft = still keyed _ _ _ (others.1.1.1.0 (omega arith)) stands.draft;
+    slot = still keyless _ _ _ (others.1.1.1.1.0 (omega arith)) stands.slot;
+    placed = still keyed _ _ _ (others.1.1.1.1.1.0 (omega arith)) stands.placed;
+    seat = held;
+    share_student = still keyed _ _ _ (others.1.1.1.1.1.1.1.0 (omega arith)) stands.share_student;
+    share_part = still keyless _ _ _ (others.1.1.1.1.1.1.1.1.0 (omega arith)) stands.share_part;
+    batch = still keyed _ _ _ (others.1.1.1.1.1.1.1.1.1.0 (omega arith)) stands.batch;
+  }
+
+  pub share_student_changed : (rows : List StudentShareRow) → Others 11 old.trees new.trees
+      → Holds keyed (map share_student_row rows) (new.trees 11) → Stands new (record t { share_student = rows })
+  share_student_changed rows others held = record {
+    schema = schema;
+    meta = still keyed _ _ _ (others.0 (omega arith)) stands.meta;
+    owner = still keyed _ _ _ (others.1.0 (omega arith)) stands.owner;
+    enrol = still keyless _ _ _ (others.1.1.0 (omega arith)) stands.enrol;
+    draft = still keyed _ _ _ (others.1.1.1.0 (omega arith)) stands.draft;
+    slot = still keyless _ _ _ (others.1.1.1.1.0 (omega arith)) stands.slot;
+    placed = still keyed _ _ _ (others.1.1.1.1.1.0 (omega arith)) stands.placed;
+    seat = still keyless _ _ _ (others.1.1.1.1.1.1.0 (omega arith)) stands.seat;
+    share_student = held;
+    share_part = still keyless _ _ _ (others.1.1.1.1.1.1.1.1.0 (omega arith)) stands.share_part;
+    batch = still keyed _ _ _ (others.1.1.1.1.1.1.1.1.1.0 (omega arith)) stands.batch;
+  }
+
+  pub share_part_changed : (rows : List PartShareRow) → Others 12 old.trees new.trees
+      → Holds keyless (map share_part_row rows) (new.trees 12) → Stands new (record t { share_part = rows })
+  share_part_changed rows others held = record {
+    schema = schema;
+    meta = still keyed _ _ _ (others.0 (omega arith)) stands.meta;
+    owner = still keyed _ _ _ (others.1.0 (omega arith)) stands.owner;
+    enrol = still keyless _ _ _ (others.1.1.0 (omega arith)) stands.enrol;
+    draft = still keyed _ _ _ (others.1.1.1.0 (omega arith)) stands.draft;
+    slot = still keyless _ _ _ (others.1.1.1.1.0 (omega arith)) stands.slot;
+    placed = still keyed _ _ _ (others.1.1.1.1.1.0 (omega arith)) stands.placed;
+    seat = still keyless _ _ _ (others.1.1.1.1.1.1.0 (omega arith)) stands.seat;
+    share_student = still keyed _ _ _ (others.1.1.1.1.1.1.1.0 (omega arith)) stands.share_student;
+    share_part = held;
     batch = still keyed _ _ _ (others.1.1.1.1.1.1.1.1.1.0 (omega arith)) stands.batch;
   }

@@ -1,11 +1,12 @@
 -- What a statement inside a transaction leaves of it.
-use Rattle.std.proofs.Common.{◌+◌, ◌<◌, ◌++◌, ◌∷◌, [], reverse, take, get_or, length, ◌≡◌, inl, inr, ℕ, List, Bool, true, false, Ok, Err, Result, refl, ap, ◌∙◌, IsTrue, arith, OnOk}
+use Rattle.std.proofs.Common.{◌+◌, ◌<◌, ◌++◌, ◌∷◌, [], reverse, take, get_or, length, ◌≡◌, inl, inr, ℕ, List, Bool, true, false, Ok, Err, Result, refl, sym, ap, ◌∙◌, IsTrue, arith, OnOk}
 use Rattle.std.proofs.lemmas.List.{take_more, reverse-append}
 use Rattle.sqlite_value.specs.Order.{Row}
 use Rattle.sqlite.specs.declared.error.Error.{Error}
-use Rattle.sqlite.specs.State.{State, HasCleanDisk, Survives, Executes, ExecutesInside, KeepsCommit}
+use Rattle.sqlite.specs.State.{State, HasCleanDisk, Executes, ExecutesInside, KeepsCommit}
 use Rattle.std.proofs.lemmas.Result.{on_ok_weaker}
 use Rattle.sqlite.proofs.StateLemmas.{survives_then}
+use Rattle.office_tables.specs.Alterations.{after_all}
 use Rattle.office_tables.specs.Tables.{Tables, Stands}
 use Rattle.office_tables.specs.Steps.{Within, HasRun, Makes}
 
@@ -58,3 +59,18 @@ pub one_more : {X : Type 0} (xs ys : List X) (i : ℕ) (d : X) → i < length xs
 one_more xs ys i d h =
     ap (λ l. reverse l ++ ys) (take_more xs i d h)
     ∙ ap (λ l. l ++ ys) (reverse-append (take i xs) (get_or xs i d ∷ []))
+
+-- ---- alterations, one after the other
+
+after_push : {A : Type 0} (f : A → Tables → Tables) (xs : List A) (x : A) (t : Tables)
+    → after_all f (xs ++ x ∷ []) t ≡ f x (after_all f xs t)
+after_push f [] x t = refl
+after_push f (y ∷ xs) x t = after_push f xs x (f y t)
+
+pub after_more : {A : Type 0} (f : A → Tables → Tables) (xs : List A) (i : ℕ) (x : A) (t : Tables)
+    → i < length xs → x ≡ get_or xs i x
+    → after_all f (take (i + 1) xs) t ≡ f x (after_all f (take i xs) t)
+after_more f xs i x t lt is =
+    ap (λ l. after_all f l t) (take_more xs i x lt)
+    ∙ ap (λ y. after_all f (take i xs ++ y ∷ []) t) (sym is)
+    ∙ after_push f (take i xs) x t

@@ -10,7 +10,7 @@ use Rattle.sqlite.specs.Listing.{understood}
 use Rattle.sqlite.specs.Term.{Term, col}
 use Rattle.sqlite_tied.specs.Compute.{everything}
 use Rattle.office_tables.specs.Readings.{Lists, ListsTable, IsListed, listed}
-use Rattle.office_schema.specs.Schema.{office_schema, int, blob, meta_table, owner_table, enrol_table, draft_table, slot_table}
+use Rattle.office_schema.specs.Schema.{office_schema, int, blob, meta_table, owner_table, enrol_table, draft_table, slot_table, placed_table, seat_table, share_student_table, share_part_table}
 use Rattle.office_tables.specs.Tables.{keyed, keyless}
 use Rattle.office_tables.proofs.WholeRows.{dropped, rows_long, typed_rows, present_rows}
 
@@ -146,38 +146,138 @@ slot_lists = record { terms = slot_terms; lists = slot_is; whole = slot_whole }
 -- ---- placed
 
 abbrev pub placed_text : List ℕ
-placed_text = codes "SELECT rowid FROM placed"
+placed_text = codes "SELECT exam, period, room, rowid FROM placed ORDER BY rowid"
 
-pub placed_is : Lists 7 (col 1 0 ∷ []) placed_text
+abbrev placed_terms : List Term
+placed_terms = col 1 0 ∷ col 1 2 ∷ col 1 3 ∷ col 1 0 ∷ []
+
+placed_is : Lists 7 placed_terms placed_text
 unfolding understood everything
-placed_is = record { order = []; names = codes "exam" ∷ []; selects = refl; unlisted = refl; plain = (refl, refl) }
+placed_is = record {
+  order = (col 1 0, ascending Binary) ∷ [];
+  names = codes "exam" ∷ codes "period" ∷ codes "room" ∷ codes "exam" ∷ [];
+  selects = refl;
+  unlisted = refl;
+  plain = (refl, refl);
+}
+
+placed_whole : (db : Database) → db.schema ≡ office_schema → IsDatabase db
+    → AllByRecursion (λ r. IsListed 3 keyed r (listed placed_terms r)) (db.trees 7)
+placed_whole db is sound =
+    all_weaker _ (λ r. IsListed 3 keyed r (listed placed_terms r))
+    (λ r long. record {
+      columns = ap (λ l. column r 0 ∷ l) (sym (dropped 2 2 r long));
+      number = refl;
+      wide = omega arith;
+    })
+    (db.trees 7)
+    (rows_long placed_table (take 2 placed_table.columns) (int (codes "room")) refl refl refl db.trees (db.trees 7)
+    (typed_rows db is sound).1.1.1.1.1.0 (present_rows db is sound).1.1.1.1.1.0)
+
+pub placed_lists : ListsTable 3 7 keyed placed_text
+placed_lists = record { terms = placed_terms; lists = placed_is; whole = placed_whole }
 
 -- ---- seat
 
 abbrev pub seat_text : List ℕ
-seat_text = codes "SELECT rowid FROM seat"
+seat_text = codes "SELECT student, exam, period, room, seat, rowid FROM seat ORDER BY rowid"
 
-pub seat_is : Lists 8 (col 1 0 ∷ []) seat_text
+abbrev seat_terms : List Term
+seat_terms = col 1 1 ∷ col 1 2 ∷ col 1 3 ∷ col 1 4 ∷ col 1 5 ∷ col 1 0 ∷ []
+
+seat_is : Lists 8 seat_terms seat_text
 unfolding understood everything
-seat_is = record { order = []; names = codes "rowid" ∷ []; selects = refl; unlisted = refl; plain = (refl, refl) }
+seat_is = record {
+  order = (col 1 0, ascending Binary) ∷ [];
+  names = codes "student" ∷ codes "exam" ∷ codes "period" ∷ codes "room" ∷ codes "seat" ∷ codes "rowid" ∷ [];
+  selects = refl;
+  unlisted = refl;
+  plain = (refl, refl);
+}
+
+seat_whole : (db : Database) → db.schema ≡ office_schema → IsDatabase db
+    → AllByRecursion (λ r. IsListed 5 keyless r (listed seat_terms r)) (db.trees 8)
+seat_whole db is sound =
+    all_weaker _ (λ r. IsListed 5 keyless r (listed seat_terms r))
+    (λ r long. record {
+      columns = sym (dropped 1 5 r long);
+      number = refl;
+      wide = omega arith;
+    })
+    (db.trees 8)
+    (rows_long seat_table (take 4 seat_table.columns) (int (codes "seat")) refl refl refl db.trees (db.trees 8)
+    (typed_rows db is sound).1.1.1.1.1.1.0 (present_rows db is sound).1.1.1.1.1.1.0)
+
+pub seat_lists : ListsTable 5 8 keyless seat_text
+seat_lists = record { terms = seat_terms; lists = seat_is; whole = seat_whole }
 
 -- ---- share_student
 
 abbrev pub share_student_text : List ℕ
-share_student_text = codes "SELECT rowid FROM share_student"
+share_student_text = codes "SELECT student, in_row, in_day, spread, rowid FROM share_student ORDER BY rowid"
 
-pub share_student_is : Lists 11 (col 1 0 ∷ []) share_student_text
+abbrev share_student_terms : List Term
+share_student_terms = col 1 0 ∷ col 1 2 ∷ col 1 3 ∷ col 1 4 ∷ col 1 0 ∷ []
+
+share_student_is : Lists 11 share_student_terms share_student_text
 unfolding understood everything
-share_student_is = record { order = []; names = codes "student" ∷ []; selects = refl; unlisted = refl; plain = (refl, refl) }
+share_student_is = record {
+  order = (col 1 0, ascending Binary) ∷ [];
+  names = codes "student" ∷ codes "in_row" ∷ codes "in_day" ∷ codes "spread" ∷ codes "student" ∷ [];
+  selects = refl;
+  unlisted = refl;
+  plain = (refl, refl);
+}
+
+share_student_whole : (db : Database) → db.schema ≡ office_schema → IsDatabase db
+    → AllByRecursion (λ r. IsListed 4 keyed r (listed share_student_terms r)) (db.trees 11)
+share_student_whole db is sound =
+    all_weaker _ (λ r. IsListed 4 keyed r (listed share_student_terms r))
+    (λ r long. record {
+      columns = ap (λ l. column r 0 ∷ l) (sym (dropped 2 3 r long));
+      number = refl;
+      wide = omega arith;
+    })
+    (db.trees 11)
+    (rows_long share_student_table (take 3 share_student_table.columns) (int (codes "spread")) refl refl refl db.trees (db.trees 11)
+    (typed_rows db is sound).1.1.1.1.1.1.1.0 (present_rows db is sound).1.1.1.1.1.1.1.0)
+
+pub share_student_lists : ListsTable 4 11 keyed share_student_text
+share_student_lists = record { terms = share_student_terms; lists = share_student_is; whole = share_student_whole }
 
 -- ---- share_part
 
 abbrev pub share_part_text : List ℕ
-share_part_text = codes "SELECT rowid FROM share_part"
+share_part_text = codes "SELECT kind, no, penalty, mixed, rowid FROM share_part ORDER BY rowid"
 
-pub share_part_is : Lists 12 (col 1 0 ∷ []) share_part_text
+abbrev share_part_terms : List Term
+share_part_terms = col 1 1 ∷ col 1 2 ∷ col 1 3 ∷ col 1 4 ∷ col 1 0 ∷ []
+
+share_part_is : Lists 12 share_part_terms share_part_text
 unfolding understood everything
-share_part_is = record { order = []; names = codes "rowid" ∷ []; selects = refl; unlisted = refl; plain = (refl, refl) }
+share_part_is = record {
+  order = (col 1 0, ascending Binary) ∷ [];
+  names = codes "kind" ∷ codes "no" ∷ codes "penalty" ∷ codes "mixed" ∷ codes "rowid" ∷ [];
+  selects = refl;
+  unlisted = refl;
+  plain = (refl, refl);
+}
+
+share_part_whole : (db : Database) → db.schema ≡ office_schema → IsDatabase db
+    → AllByRecursion (λ r. IsListed 4 keyless r (listed share_part_terms r)) (db.trees 12)
+share_part_whole db is sound =
+    all_weaker _ (λ r. IsListed 4 keyless r (listed share_part_terms r))
+    (λ r long. record {
+      columns = sym (dropped 1 4 r long);
+      number = refl;
+      wide = omega arith;
+    })
+    (db.trees 12)
+    (rows_long share_part_table (take 3 share_part_table.columns) (int (codes "mixed")) refl refl refl db.trees (db.trees 12)
+    (typed_rows db is sound).1.1.1.1.1.1.1.1.0 (present_rows db is sound).1.1.1.1.1.1.1.1.0)
+
+pub share_part_lists : ListsTable 4 12 keyless share_part_text
+share_part_lists = record { terms = share_part_terms; lists = share_part_is; whole = share_part_whole }
 
 -- ---- batch
 

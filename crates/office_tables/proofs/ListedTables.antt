@@ -21,7 +21,8 @@ use Rattle.sqlite.specs.State.{State, Survives, IsUnchanged, FailsToQuery, Shown
 use Rattle.sqlite.specs.Term.{Term}
 use Rattle.sqlite.proofs.Callers.{IsPlain, command_of, never_commits}
 use Rattle.sqlite.proofs.StateLemmas.{survives_weaker}
-use Rattle.office_tables.specs.Readings.{IsRead, IsFound, one_table, Selects, Lists, listed, columns_from, only_column, IsListed, HasTables}
+use Rattle.office_tables.specs.Asking.{Selects}
+use Rattle.office_tables.specs.Readings.{IsRead, IsFound, one_table, Lists, listed, columns_from, only_column, IsListed, HasTables}
 use Rattle.office_schema.specs.Schema.{office_schema}
 use Rattle.office_tables.specs.Steps.{Keeps}
 use Rattle.office_tables.specs.Tables.{HasRowids}

@@ -47,7 +47,7 @@ both_alike : {X : Type 0} (b : Bool) (x : X) → cond b x x ≡ x
 both_alike true x = refl
 both_alike false x = refl
 
-matched : (params : Row) (where_ : List Term) (rows : List Row)
+pub matched : (params : Row) (where_ : List Term) (rows : List Row)
     → flat_map (λ r. cond (passes params where_ r) ((params ∷ r ∷ []) ∷ []) []) rows ≡ map (λ r. params ∷ r ∷ []) (filter (passes params where_) rows)
 matched params where_ [] = refl
 matched params where_ (r ∷ rows) =

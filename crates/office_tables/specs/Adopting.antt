@@ -1,36 +1,41 @@
--- What is found in the tables when an office is taken over that has no publication and no batch.
+-- What is found in the tables when an office is taken over that has no batch.
 use Rattle.std.specs.Prelude.{◌≡◌, ◌⊎◌, Bool, false, [], ◌∷◌, map, Option, Some, None, Vec, IsTrue}
 use Rattle.std.specs.List.{AllByRecursion}
 use Rattle.std.specs.declared.alloc.Global.{Global}
 use Rattle.sqlite.specs.Effect.{Database}
 use Rattle.office_tables.specs.declared.found.Found.{Found}
 use Rattle.office_tables.specs.declared.found.FoundDrafts.{FoundDrafts}
+use Rattle.office_tables.specs.declared.found.FoundPublication.{FoundPublication}
 use Rattle.office_tables.specs.declared.found.FoundSession.{FoundSession}
+use Rattle.office_tables.specs.declared.rows.PlacedRow.{PlacedRow}
+use Rattle.office_tables.specs.declared.rows.SeatRow.{SeatRow}
+use Rattle.office_tables.specs.declared.rows.StudentShareRow.{StudentShareRow}
+use Rattle.office_tables.specs.declared.rows.PartShareRow.{PartShareRow}
 use Rattle.office_tables.specs.declared.rows.OwnerRow.{OwnerRow}
 use Rattle.office_tables.specs.declared.rows.EnrolRow.{EnrolRow}
 use Rattle.office_tables.specs.declared.rows.DraftRow.{DraftRow}
 use Rattle.office_tables.specs.declared.rows.SlotRow.{SlotRow}
 use Rattle.office_tables.specs.declared.rows.MetaRow.{MetaRow}
-use Rattle.office_tables.specs.Records.{meta_from, FitsOwner, FitsEnrol, FitsDraft, FitsSlot}
-use Rattle.office_tables.specs.Tables.{Tables, Meta, Stands, Holds, keyed, keyless, meta_row, owner_row, enrol_row, draft_row, slot_row}
+use Rattle.office_tables.specs.Records.{meta_from, FitsOwner, FitsEnrol, FitsDraft, FitsSlot, FitsPlacement, FitsSeat, FitsStudentShare, FitsPartShare}
+use Rattle.office_tables.specs.Tables.{Tables, Meta, Stands, Holds, keyed, keyless, meta_row, owner_row, enrol_row, draft_row, slot_row, placed_row, seat_row, share_student_row, share_part_row}
 
--- the tables of an office without publication and batch, whose numbers the program's types hold
-pub record IsUnpublished (t : Tables) : Type 0 where
+-- the tables of an office without batch, whose numbers the program's types hold
+pub record IsUnbatched (t : Tables) : Type 0 where
   pub row : Meta
   pub meta : t.meta ≡ row ∷ []
   pub owner : AllByRecursion FitsOwner t.owner
   pub enrol : AllByRecursion FitsEnrol t.enrol
   pub draft : AllByRecursion FitsDraft t.draft
   pub slot : AllByRecursion FitsSlot t.slot
-  pub placed : t.placed ≡ []
-  pub seat : t.seat ≡ []
-  pub share_student : t.share_student ≡ []
-  pub share_part : t.share_part ≡ []
+  pub placed : AllByRecursion FitsPlacement t.placed
+  pub seat : AllByRecursion FitsSeat t.seat
+  pub share_student : AllByRecursion FitsStudentShare t.share_student
+  pub share_part : AllByRecursion FitsPartShare t.share_part
   pub batch : t.batch ≡ []
 
 -- the database stands for no such tables
 abbrev pub IsForeign : Database → Type 0
-IsForeign db = (t : Tables) → IsUnpublished t → Stands db t → ⊥
+IsForeign db = (t : Tables) → IsUnbatched t → Stands db t → ⊥
 
 pub record HoldsSession (db : Database) (found : FoundSession) : Type 0 where
   pub meta : Holds keyed (meta_row (meta_from found.meta) ∷ []) (db.trees 0)
@@ -41,11 +46,12 @@ pub record HoldsDrafts (db : Database) (found : FoundDrafts) : Type 0 where
   pub draft : Holds keyed (map draft_row found.drafts.items) (db.trees 4)
   pub slot : Holds keyless (map slot_row found.slots.items) (db.trees 5)
 
-pub record HoldsNoPublication (db : Database) : Type 0 where
-  pub placed : db.trees 7 ≡ []
-  pub seat : db.trees 8 ≡ []
-  pub share_student : db.trees 11 ≡ []
-  pub share_part : db.trees 12 ≡ []
+-- the four tables of a publication hold what was found
+pub record HoldsPublication (db : Database) (found : FoundPublication) : Type 0 where
+  pub placed : Holds keyed (map placed_row found.placements.items) (db.trees 7)
+  pub seat : Holds keyless (map seat_row found.seats.items) (db.trees 8)
+  pub share_student : Holds keyed (map share_student_row found.student_shares.items) (db.trees 11)
+  pub share_part : Holds keyless (map share_part_row found.part_shares.items) (db.trees 12)
 
 abbrev pub IsFoundSession : Database → Option FoundSession → Type 0
 IsFoundSession db (Some found) = HoldsSession db found
@@ -55,6 +61,11 @@ abbrev pub IsFoundDrafts : Database → Option FoundDrafts → Type 0
 IsFoundDrafts db (Some found) = HoldsDrafts db found
 IsFoundDrafts db None = IsForeign db
 
+-- they hold what was found; or the database stands for no such tables
+abbrev pub IsFoundPublication : Database → Option FoundPublication → Type 0
+IsFoundPublication db (Some found) = HoldsPublication db found
+IsFoundPublication db None = IsForeign db
+
 abbrev pub tables_of : Found → Tables
 tables_of found = record {
   meta = meta_from found.meta ∷ [];
@@ -62,10 +73,10 @@ tables_of found = record {
   enrol = found.enrols.items;
   draft = found.drafts.items;
   slot = found.slots.items;
-  placed = [];
-  seat = [];
-  share_student = [];
-  share_part = [];
+  placed = found.placements.items;
+  seat = found.seats.items;
+  share_student = found.student_shares.items;
+  share_part = found.part_shares.items;
   batch = [];
 }
 
@@ -87,10 +98,27 @@ abbrev pub IsDrafts : Option (Vec DraftRow Global) → Option (Vec SlotRow Globa
 IsDrafts drafts slots (Some found) = (drafts ≡ Some found.drafts) × (slots ≡ Some found.slots)
 IsDrafts drafts slots None = (drafts ≡ None) ⊎ (slots ≡ None)
 
-abbrev pub IsWhole : Option FoundSession → Option FoundDrafts → Bool → Option Found → Type 0
-IsWhole session drafts unpublished (Some found) =
+-- what is found of a publication is found in all four tables
+abbrev pub IsPublication : Option (Vec PlacedRow Global) → Option (Vec SeatRow Global)
+    → Option (Vec StudentShareRow Global) → Option (Vec PartShareRow Global)
+    → Option FoundPublication → Type 0
+IsPublication placements seats students parts (Some found) =
+    (placements ≡ Some found.placements) × (seats ≡ Some found.seats)
+    × (students ≡ Some found.student_shares) × (parts ≡ Some found.part_shares)
+IsPublication placements seats students parts None =
+    (placements ≡ None) ⊎ ((seats ≡ None) ⊎ ((students ≡ None) ⊎ (parts ≡ None)))
+
+abbrev pub IsWhole : Option FoundSession → Option FoundDrafts → Option FoundPublication → Bool
+    → Option Found → Type 0
+IsWhole session drafts publication unbatched (Some found) =
     (session ≡ Some (record { meta = found.meta; owners = found.owners; enrols = found.enrols }))
     × (drafts ≡ Some (record { drafts = found.drafts; slots = found.slots }))
-    × IsTrue unpublished
-IsWhole session drafts unpublished None =
-    (session ≡ None) ⊎ ((drafts ≡ None) ⊎ (unpublished ≡ false))
+    × (publication ≡ Some (record {
+      placements = found.placements;
+      seats = found.seats;
+      student_shares = found.student_shares;
+      part_shares = found.part_shares;
+    }))
+    × IsTrue unbatched
+IsWhole session drafts publication unbatched None =
+    (session ≡ None) ⊎ ((drafts ≡ None) ⊎ ((publication ≡ None) ⊎ (unbatched ≡ false)))

@@ -3,7 +3,11 @@ use Rattle.std.specs.Prelude.{ℕ, Bool, List, [], ◌∷◌, ◌++◌, reverse,
 use Rattle.office_tables.specs.declared.rows.DraftRow.{DraftRow}
 use Rattle.office_tables.specs.declared.rows.EnrolRow.{EnrolRow}
 use Rattle.office_tables.specs.declared.rows.OwnerRow.{OwnerRow}
+use Rattle.office_tables.specs.declared.rows.PartShareRow.{PartShareRow}
+use Rattle.office_tables.specs.declared.rows.PlacedRow.{PlacedRow}
+use Rattle.office_tables.specs.declared.rows.SeatRow.{SeatRow}
 use Rattle.office_tables.specs.declared.rows.SlotRow.{SlotRow}
+use Rattle.office_tables.specs.declared.rows.StudentShareRow.{StudentShareRow}
 use Rattle.office_tables.specs.Tables.{Tables}
 
 abbrev pub with_meta : Bool → List ℕ → Tables → Tables
@@ -43,3 +47,28 @@ with_enrols rows t = record t { enrol = reverse rows ++ t.enrol }
 
 abbrev pub with_slots : List SlotRow → Tables → Tables
 with_slots rows t = record t { slot = reverse rows ++ t.slot }
+
+abbrev pub with_placement : PlacedRow → Tables → Tables
+with_placement row t = record t { placed = row ∷ t.placed }
+
+abbrev pub no_placements : Tables → Tables
+no_placements t = record t { placed = [] }
+
+abbrev pub with_seat : SeatRow → Tables → Tables
+with_seat row t = record t { seat = row ∷ t.seat }
+
+abbrev pub no_seats : Tables → Tables
+no_seats t = record t { seat = [] }
+
+abbrev pub with_student_share : StudentShareRow → Tables → Tables
+with_student_share row t = record t { share_student = row ∷ t.share_student }
+
+abbrev pub without_student_share : ℕ → Tables → Tables
+without_student_share student t =
+    record t { share_student = filter (λ r. not (r.student == student)) t.share_student }
+
+abbrev pub with_part_share : PartShareRow → Tables → Tables
+with_part_share row t = record t { share_part = row ∷ t.share_part }
+
+abbrev pub no_part_shares : Tables → Tables
+no_part_shares t = record t { share_part = [] }

@@ -1,8 +1,11 @@
 pub mod Adopting
+pub mod Alterations
 pub mod Amounts
+pub mod Asking
 pub mod Changes
 pub mod Readings
 pub mod Records
 pub mod Schema
+pub mod Selections
 pub mod Steps
 pub mod Tables

@@ -1,16 +1,12 @@
 -- What is read of a database of which no more is known than its schema.
-use Rattle.std.specs.Prelude.{◌≡◌, ◌≢◌, ◌<◌, ℕ, zero, suc, ◌≤◌, false, List, [], ◌∷◌, map, length, negsuc, pos, None, Some, Option, Ok, Err, Result, Vec, IfOk, OnOk, IsPermutation}
+use Rattle.std.specs.Prelude.{◌≡◌, ◌≢◌, ◌<◌, ℕ, zero, suc, ◌≤◌, false, List, [], ◌∷◌, map, length, None, Some, Option, Result, Vec, IfOk, OnOk, IsPermutation}
 use Rattle.std.specs.List.{AllByRecursion}
 use Rattle.std.specs.declared.alloc.Global.{Global}
-use Rattle.sqlite_resolve.specs.declared.compiled.Compiled.{Compiled}
-use Rattle.sqlite_resolve.specs.declared.error.CompileError.{CompileError}
 use Rattle.sqlite_trees.specs.Tree.{rowid}
 use Rattle.sqlite_value.specs.declared.keys.Key.{Key}
 use Rattle.sqlite_value.specs.declared.value.Value.{Value}
-use Rattle.sqlite_value.specs.declared.value.Value.TheVariants.{Int}
 use Rattle.sqlite_value.specs.Order.{Row, column}
 use Rattle.sqlite.specs.declared.error.Error.{Error}
-use Rattle.sqlite.specs.Command.TheVariants.{Select}
 use Rattle.sqlite.specs.Effect.{Database, IsDatabase}
 use Rattle.sqlite.specs.Given.{IsPlain}
 use Rattle.sqlite.specs.Held.{Held, state}
@@ -18,8 +14,9 @@ use Rattle.sqlite.specs.Listing.{understood, reads_listing}
 use Rattle.sqlite.specs.Query.{Query, inner, end}
 use Rattle.sqlite.specs.State.{State, HasCleanDisk, IsLive, IsUnchanged, Survives}
 use Rattle.sqlite.specs.Store.{Ghosts}
-use Rattle.sqlite.specs.Term.{Term, lit, eval_all}
+use Rattle.sqlite.specs.Term.{Term, eval_all}
 use Rattle.office_schema.specs.Schema.{office_schema}
+use Rattle.office_tables.specs.Asking.{asks, Selects}
 use Rattle.office_tables.specs.Steps.{Keeps}
 use Rattle.office_tables.specs.Tables.{Meta, Holds, keyed, meta_row}
 use Rattle.office_tables.specs.Records.{meta_from}
@@ -29,21 +26,7 @@ use Rattle.office_tables.specs.declared.rows.MetaRow.{MetaRow}
 
 -- SELECT .. FROM a table WHERE .. ORDER BY ..
 abbrev pub one_table : ℕ → List Term → List Term → List (Term × Key) → Query
-one_table tree where_ shown order = record {
-  from = inner tree end;
-  filter = where_;
-  group = None;
-  project = shown;
-  distinct = false;
-  collations = [];
-  order = order;
-  limit = lit (Int (negsuc 0));
-  offset = lit (Int (pos 0));
-}
-
-abbrev pub Selects : Query → List (List ℕ) → Result Compiled CompileError → Type 0
-Selects q names (Ok c) = c.command ≡ Select (record { lets = []; body = q }) names
-Selects q names (Err e) = ⊥
+one_table tree where_ shown order = asks (inner tree end) where_ shown order
 
 -- under the office's schema the text lists all rows of a tree, each shown by these terms
 pub record Lists (tree : ℕ) (shown : List Term) (sql : List ℕ) : Type 0 where

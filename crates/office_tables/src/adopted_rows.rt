@@ -1,11 +1,13 @@
 // The tables of an office as they are found when it is taken over.
 ghost use Rattle.sqlite.specs.Held.{state};
 ghost use Rattle.office_tables.specs.Readings.{Finds, IsFound, Leaves, Looks};
-ghost use Rattle.office_tables.specs.Records.{FitsOwner, FitsEnrol, FitsDraft, FitsSlot};
-ghost use Rattle.office_tables.specs.Tables.{owner_row, enrol_row, draft_row, slot_row, keyed, keyless};
+ghost use Rattle.office_tables.specs.Records.{FitsOwner, FitsEnrol, FitsDraft, FitsSlot, FitsPlacement, FitsSeat, FitsStudentShare, FitsPartShare};
+ghost use Rattle.office_tables.specs.Tables.{owner_row, enrol_row, draft_row, slot_row, placed_row, seat_row, share_student_row, share_part_row, keyed, keyless};
 
 use crate::listing::read_table;
-use crate::rows::{DraftRow, EnrolRow, OwnerRow, SlotRow};
+use crate::rows::{
+    DraftRow, EnrolRow, OwnerRow, PartShareRow, PlacedRow, SeatRow, SlotRow, StudentShareRow,
+};
 use sqlite::{Alter, Connection, Error};
 use std::alloc::Global;
 
@@ -70,5 +72,73 @@ pub fn adopt_slots<S: Alter>(
         alloc,
         conn,
         "SELECT draft, exam, period, room, rowid FROM slot ORDER BY rowid",
+    )
+}
+
+// All published placements, or that a row is of none.
+pub fn adopt_placements<S: Alter>(
+    alloc: Global,
+    conn: &mut Connection<S>,
+) -> Result<Option<Vec<PlacedRow>>, Error>
+    ensures found { Finds S.Store (λ db. IsFound FitsPlacement placed_row keyed (db.trees 7))
+        conn.old conn.new result }
+    ensures same { Leaves S.Store conn.old conn.new result }
+    ensures looks { Looks (state S.Store conn.old) (state S.Store conn.new) }
+{
+    read_table(
+        alloc,
+        conn,
+        "SELECT exam, period, room, rowid FROM placed ORDER BY rowid",
+    )
+}
+
+// All seats, or that a row is of none.
+pub fn adopt_seats<S: Alter>(
+    alloc: Global,
+    conn: &mut Connection<S>,
+) -> Result<Option<Vec<SeatRow>>, Error>
+    ensures found { Finds S.Store (λ db. IsFound FitsSeat seat_row keyless (db.trees 8))
+        conn.old conn.new result }
+    ensures same { Leaves S.Store conn.old conn.new result }
+    ensures looks { Looks (state S.Store conn.old) (state S.Store conn.new) }
+{
+    read_table(
+        alloc,
+        conn,
+        "SELECT student, exam, period, room, seat, rowid FROM seat ORDER BY rowid",
+    )
+}
+
+// All shares of students, or that a row is of none.
+pub fn adopt_student_shares<S: Alter>(
+    alloc: Global,
+    conn: &mut Connection<S>,
+) -> Result<Option<Vec<StudentShareRow>>, Error>
+    ensures found { Finds S.Store
+        (λ db. IsFound FitsStudentShare share_student_row keyed (db.trees 11)) conn.old conn.new result }
+    ensures same { Leaves S.Store conn.old conn.new result }
+    ensures looks { Looks (state S.Store conn.old) (state S.Store conn.new) }
+{
+    read_table(
+        alloc,
+        conn,
+        "SELECT student, in_row, in_day, spread, rowid FROM share_student ORDER BY rowid",
+    )
+}
+
+// All shares of exams, periods and rooms, or that a row is of none.
+pub fn adopt_part_shares<S: Alter>(
+    alloc: Global,
+    conn: &mut Connection<S>,
+) -> Result<Option<Vec<PartShareRow>>, Error>
+    ensures found { Finds S.Store (λ db. IsFound FitsPartShare share_part_row keyless (db.trees 12))
+        conn.old conn.new result }
+    ensures same { Leaves S.Store conn.old conn.new result }
+    ensures looks { Looks (state S.Store conn.old) (state S.Store conn.new) }
+{
+    read_table(
+        alloc,
+        conn,
+        "SELECT kind, no, penalty, mixed, rowid FROM share_part ORDER BY rowid",
     )
 }

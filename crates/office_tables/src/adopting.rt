@@ -1,24 +1,29 @@
 // An office's tables, taken over from a database that may be any.
-ghost use Rattle.std.specs.Prelude.{◌≡◌, ◌⊎◌, ◌↔◌, ◌&&◌, false, [], None, Some, Option, Vec, IfOk, IsTrue, OnOk};
+ghost use Rattle.std.specs.Prelude.{◌≡◌, ◌⊎◌, false, IfOk, OnOk};
 ghost use Rattle.sqlite.specs.Held.{state};
 ghost use Rattle.sqlite.specs.State.{HasCleanDisk, IsUnchanged, Survives};
-ghost use Rattle.office_tables.specs.Adopting.{HoldsNoPublication, IsAdopted, IsDrafts, IsFoundDrafts, IsFoundSession, IsSession, IsWhole};
+ghost use Rattle.office_tables.specs.Adopting.{IsAdopted, IsDrafts, IsFoundDrafts, IsFoundPublication, IsFoundSession, IsPublication, IsSession, IsWhole};
 ghost use Rattle.office_tables.specs.Readings.{Finds, Leaves, Looks};
 ghost use Rattle.office_tables.specs.Steps.{Keeps};
 
-use crate::adopted_rows::{adopt_drafts, adopt_enrols, adopt_owners, adopt_slots};
-use crate::found::{Found, FoundDrafts, FoundSession};
-use crate::meta::adopt_meta;
-use crate::rows::{DraftRow, EnrolRow, MetaRow, OwnerRow, SlotRow};
-use crate::vacant_tables::{
-    lacks_batches, lacks_part_shares, lacks_placements, lacks_seats, lacks_student_shares,
+use crate::adopted_rows::{
+    adopt_drafts, adopt_enrols, adopt_owners, adopt_part_shares, adopt_placements, adopt_seats,
+    adopt_slots, adopt_student_shares,
 };
+use crate::found::{Found, FoundDrafts, FoundPublication, FoundSession};
+use crate::meta::adopt_meta;
+use crate::rows::{
+    DraftRow, EnrolRow, MetaRow, OwnerRow, PartShareRow, PlacedRow, SeatRow, SlotRow,
+    StudentShareRow,
+};
+use crate::vacant_tables::lacks_batches;
 use office_schema::is_office_schema;
 use sqlite::{Alter, Connection, Error};
 use std::alloc::Global;
 
-/// The rows of an office without publication and batch. `None` says that the database stands for no
-/// such office; an error, that a statement failed, memory was refused, or two rows of a table have one number.
+/// The rows of an office without batch. `None` says that the database stands for no
+/// such office; an error, that a statement failed, memory was refused, or two rows of a table have
+/// one number.
 pub fn adopt_tables<S: Alter>(
     alloc: Global,
     conn: &mut Connection<S>,
@@ -43,9 +48,9 @@ fn adopt_rows<S: Alter>(alloc: Global, conn: &mut Connection<S>) -> Result<Optio
 {
     let session = find_session(alloc, conn)?;
     let drafts = find_drafts(alloc, conn)?;
-    let unpublished = lacks_publication(conn)?;
+    let publication = find_publication(alloc, conn)?;
     let unbatched = lacks_batches(conn)?;
-    Ok(whole_of(session, drafts, unpublished, unbatched))
+    Ok(whole_of(session, drafts, publication, unbatched))
 }
 
 // The session's part.
@@ -77,23 +82,20 @@ fn find_drafts<S: Alter>(
     Ok(drafts_of(drafts, slots))
 }
 
-// Whether the four tables of a publication have no row.
-fn lacks_publication<S: Alter>(conn: &mut Connection<S>) -> Result<bool, Error>
-    ensures found { Finds S.Store (λ db is. IsTrue is ↔ HoldsNoPublication db) conn.old conn.new result }
+// The publication's part.
+fn find_publication<S: Alter>(
+    alloc: Global,
+    conn: &mut Connection<S>,
+) -> Result<Option<FoundPublication>, Error>
+    ensures found { Finds S.Store IsFoundPublication conn.old conn.new result }
     ensures same { Leaves S.Store conn.old conn.new result }
     ensures looks { Looks (state S.Store conn.old) (state S.Store conn.new) }
 {
-    let unplaced = lacks_placements(conn)?;
-    let unseated = lacks_seats(conn)?;
-    let no_student_share = lacks_student_shares(conn)?;
-    let no_part_share = lacks_part_shares(conn)?;
-    Ok(are_all(unplaced, unseated, no_student_share, no_part_share))
-}
-
-fn are_all(first: bool, second: bool, third: bool, fourth: bool) -> bool
-    ensures { result ≡ (first && (second && (third && fourth))) }
-{
-    first && second && third && fourth
+    let placements = adopt_placements(alloc, conn)?;
+    let seats = adopt_seats(alloc, conn)?;
+    let students = adopt_student_shares(alloc, conn)?;
+    let parts = adopt_part_shares(alloc, conn)?;
+    Ok(publication_of(placements, seats, students, parts))
 }
 
 fn session_of(
@@ -119,24 +121,45 @@ fn drafts_of(drafts: Option<Vec<DraftRow>>, slots: Option<Vec<SlotRow>>) -> Opti
     })
 }
 
+fn publication_of(
+    placements: Option<Vec<PlacedRow>>,
+    seats: Option<Vec<SeatRow>>,
+    students: Option<Vec<StudentShareRow>>,
+    parts: Option<Vec<PartShareRow>>,
+) -> Option<FoundPublication>
+    ensures { IsPublication placements seats students parts result }
+{
+    Some(FoundPublication {
+        placements: placements?,
+        seats: seats?,
+        student_shares: students?,
+        part_shares: parts?,
+    })
+}
+
 fn whole_of(
     session: Option<FoundSession>,
     drafts: Option<FoundDrafts>,
-    unpublished: bool,
+    publication: Option<FoundPublication>,
     unbatched: bool,
 ) -> Option<Found>
-    ensures { IsWhole session drafts (unpublished && unbatched) result }
+    ensures { IsWhole session drafts publication unbatched result }
 {
-    if !unpublished || !unbatched {
+    if !unbatched {
         return None;
     }
     let session = session?;
     let drafts = drafts?;
+    let publication = publication?;
     Some(Found {
         meta: session.meta,
         owners: session.owners,
         enrols: session.enrols,
         drafts: drafts.drafts,
         slots: drafts.slots,
+        placements: publication.placements,
+        seats: publication.seats,
+        student_shares: publication.student_shares,
+        part_shares: publication.part_shares,
     })
 }

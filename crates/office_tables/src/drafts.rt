@@ -8,10 +8,11 @@ ghost use Rattle.sqlite.specs.Values.{bound};
 ghost use Rattle.office_tables.specs.Steps.{AnswersOpen, Changes, LeavesAll, LeavesCommitted, Nothing, OpensNone, Reads, Within};
 ghost use Rattle.office_tables.specs.Amounts.{AreAmounts};
 
+use crate::altering::Alteration;
 use crate::amounts::signed;
-use crate::records::read_all;
 use crate::rows::DraftRow;
 use crate::running::run;
+use crate::streaming::stream;
 use sqlite::types::ValueRef;
 use sqlite::{Alter, Connection, Error, Transaction, params};
 use std::alloc::Global;
@@ -57,6 +58,38 @@ pub fn delete_draft<S: Alter>(tx: &mut Transaction<'_, S>, no: u32) -> Result<()
     run(tx, "DELETE FROM draft WHERE no = ?1", params![no])
 }
 
+/// Adds a draft, as a part of a transaction.
+#[derive(Clone, Copy)]
+pub struct InsertDraft {
+    pub row: DraftRow,
+}
+
+impl Alteration for InsertDraft {
+    ghost alteration = { λ it t. with_draft it.row t };
+
+    ghost fits = { λ it. AreAmounts it.row };
+
+    fn apply<S: Alter>(&self, tx: &mut Transaction<'_, S>) -> Result<(), Error> {
+        insert_draft(tx, self.row)
+    }
+}
+
+/// Takes a draft out, as a part of a transaction.
+#[derive(Clone, Copy)]
+pub struct DeleteDraft {
+    pub no: u32,
+}
+
+impl Alteration for DeleteDraft {
+    ghost alteration = { λ it t. without_draft it.no t };
+
+    ghost fits = { λ _. Unit {0} };
+
+    fn apply<S: Alter>(&self, tx: &mut Transaction<'_, S>) -> Result<(), Error> {
+        delete_draft(tx, self.no)
+    }
+}
+
 /// A draft: one row, or none.
 pub fn drafts_of<S: Alter>(
     alloc: Global,
@@ -71,10 +104,11 @@ pub fn drafts_of<S: Alter>(
     ensures mode { conn.old.in_transaction ≡ false → conn.new.in_transaction ≡ false }
     ensures survives { Survives (state S.Store conn.old) (state S.Store conn.new) (Nothing (state S.Store conn.old)) }
 {
-    let rows = conn.query_all(
+    stream(
+        alloc,
+        conn,
         "SELECT no, in_row, in_day, spread, mixed, front, period, room FROM draft WHERE no = ?1 \
          ORDER BY no",
         params![no],
-    )?;
-    read_all(alloc, &rows)
+    )
 }

@@ -1,12 +1,17 @@
 // Who sits which exam.
-ghost use Rattle.std.specs.Prelude.{◌≡◌};
+ghost use Rattle.std.specs.Prelude.{◌≡◌, ◌==◌, false, filter, IsPermutation};
 ghost use Rattle.sqlite.specs.Held.{state};
+ghost use Rattle.sqlite.specs.State.{Survives};
 ghost use Rattle.office_tables.specs.Changes.{with_enrol, with_enrols};
-ghost use Rattle.office_tables.specs.Steps.{Changes, Within};
+ghost use Rattle.office_tables.specs.Selections.{HerEnrolsRise, IsInOrder};
+ghost use Rattle.office_tables.specs.Steps.{AnswersOpen, Changes, LeavesAll, LeavesCommitted, Nothing, OpensNone, Reads, Within};
 
+use crate::altering::Alteration;
 use crate::rows::EnrolRow;
 use crate::running::run;
-use sqlite::{Alter, Error, Transaction, params};
+use crate::streaming::stream;
+use sqlite::{Alter, Connection, Error, Transaction, params};
+use std::alloc::Global;
 
 /// Adds a pair of a student and an exam.
 pub fn insert_enrol<S: Alter>(tx: &mut Transaction<'_, S>, row: EnrolRow) -> Result<(), Error>
@@ -31,4 +36,48 @@ pub fn insert_enrols<S: Alter>(tx: &mut Transaction<'_, S>, rows: &[EnrolRow]) -
         insert_enrol(tx, *row)?;
     }
     Ok(())
+}
+
+/// Adds a pair, as a part of a transaction.
+#[derive(Clone, Copy)]
+pub struct InsertEnrol {
+    pub row: EnrolRow,
+}
+
+impl Alteration for InsertEnrol {
+    ghost alteration = { λ it t. with_enrol it.row t };
+
+    ghost fits = { λ _. Unit {0} };
+
+    fn apply<S: Alter>(&self, tx: &mut Transaction<'_, S>) -> Result<(), Error> {
+        insert_enrol(tx, self.row)
+    }
+}
+
+/// The exams that a student is enrolled in, by exam.
+pub fn enrols_of<S: Alter>(
+    alloc: Global,
+    conn: &mut Connection<S>,
+    student: u32,
+) -> Result<Vec<EnrolRow>, Error>
+    ensures rows { Reads S.Store
+        (λ t found. IsPermutation (filter (λ r. r.student == student) t.enrol) found.items)
+        conn.old conn.new result }
+    ensures in_order { Reads S.Store
+        (λ t found. IsInOrder HerEnrolsRise (filter (λ r. r.student == student) t.enrol)
+        found.items) conn.old conn.new result }
+    ensures open { AnswersOpen S.Store conn.old conn.new result }
+    ensures was_open { OpensNone S.Store conn.old conn.new }
+    ensures same { LeavesAll S.Store conn.old conn.new result }
+    ensures kept { LeavesCommitted S.Store conn.old conn.new }
+    ensures mode { conn.old.in_transaction ≡ false → conn.new.in_transaction ≡ false }
+    ensures survives { Survives (state S.Store conn.old) (state S.Store conn.new)
+        (Nothing (state S.Store conn.old)) }
+{
+    stream(
+        alloc,
+        conn,
+        "SELECT student, exam FROM enrol WHERE student = ?1 ORDER BY exam",
+        params![student],
+    )
 }

@@ -1,5 +1,8 @@
 // What is found in the tables when an office is taken over.
-use crate::rows::{DraftRow, EnrolRow, MetaRow, OwnerRow, SlotRow};
+use crate::rows::{
+    DraftRow, EnrolRow, MetaRow, OwnerRow, PartShareRow, PlacedRow, SeatRow, SlotRow,
+    StudentShareRow,
+};
 
 /// All rows of the tables, in no order that counts.
 #[derive(Drop)]
@@ -9,6 +12,10 @@ pub struct Found {
     pub enrols: Vec<EnrolRow>,
     pub drafts: Vec<DraftRow>,
     pub slots: Vec<SlotRow>,
+    pub placements: Vec<PlacedRow>,
+    pub seats: Vec<SeatRow>,
+    pub student_shares: Vec<StudentShareRow>,
+    pub part_shares: Vec<PartShareRow>,
 }
 
 // The part that the session has of them.
@@ -24,4 +31,13 @@ pub struct FoundSession {
 pub struct FoundDrafts {
     pub drafts: Vec<DraftRow>,
     pub slots: Vec<SlotRow>,
+}
+
+// The part that the publication has.
+#[derive(Drop)]
+pub struct FoundPublication {
+    pub placements: Vec<PlacedRow>,
+    pub seats: Vec<SeatRow>,
+    pub student_shares: Vec<StudentShareRow>,
+    pub part_shares: Vec<PartShareRow>,
 }

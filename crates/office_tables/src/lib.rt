@@ -3,6 +3,7 @@
 
 mod adopted_rows;
 mod adopting;
+mod altering;
 mod amounts;
 mod creation;
 mod drafts;
@@ -13,23 +14,37 @@ mod looking;
 mod meta;
 mod meta_row;
 mod owners;
+mod placing;
 mod records;
 mod rows;
 mod running;
 mod schema;
+mod seating;
+mod sharing;
 mod slots;
+mod streaming;
 mod vacant_tables;
 
 pub use adopting::adopt_tables;
+pub use altering::{Alteration, Both, Each, transact};
 pub use creation::{create_tables, is_bare};
-pub use drafts::{delete_draft, drafts_of, insert_draft};
-pub use enrolments::{insert_enrol, insert_enrols};
+pub use drafts::{DeleteDraft, InsertDraft, delete_draft, drafts_of, insert_draft};
+pub use enrolments::{InsertEnrol, enrols_of, insert_enrol, insert_enrols};
 pub use found::Found;
 pub use looking::look;
-pub use meta::{delete_meta, put_meta};
-pub use owners::{delete_owner, insert_owner, owners_of};
+pub use meta::{DeleteMeta, InsertMeta, delete_meta, is_published, put_meta};
+pub use owners::{DeleteOwner, InsertOwner, delete_owner, insert_owner, owners_of};
+pub use placing::{DeletePlacements, InsertPlacement, placements, placements_of};
 pub use rows::{
     DraftRow, EnrolRow, MetaRow, OwnerRow, PartShareRow, PlacedRow, SeatRow, SlotRow,
     StudentShareRow,
 };
-pub use slots::{delete_slot, delete_slots, insert_slot, insert_slots, slots_of};
+pub use seating::{DeleteSeats, InsertSeat, seats, seats_of};
+pub use sharing::{
+    DeletePartShares, DeleteStudentShare, InsertPartShare, InsertStudentShare, part_shares,
+    student_shares, student_shares_of,
+};
+pub use slots::{
+    DeleteSlot, DeleteSlots, InsertSlot, delete_slot, delete_slots, insert_slot, insert_slots,
+    slots_of,
+};

@@ -5,9 +5,10 @@ ghost use Rattle.sqlite.specs.State.{Survives};
 ghost use Rattle.office_tables.specs.Changes.{with_owner, without_owner};
 ghost use Rattle.office_tables.specs.Steps.{AnswersOpen, Changes, LeavesAll, LeavesCommitted, Nothing, OpensNone, Reads, Within};
 
-use crate::records::read_all;
+use crate::altering::Alteration;
 use crate::rows::OwnerRow;
 use crate::running::run;
+use crate::streaming::stream;
 use sqlite::{Alter, Connection, Error, Transaction, params};
 use std::alloc::Global;
 
@@ -33,6 +34,38 @@ pub fn delete_owner<S: Alter>(tx: &mut Transaction<'_, S>, exam: u32) -> Result<
     run(tx, "DELETE FROM owner WHERE exam = ?1", params![exam])
 }
 
+/// Adds an owner, as a part of a transaction.
+#[derive(Clone, Copy)]
+pub struct InsertOwner {
+    pub row: OwnerRow,
+}
+
+impl Alteration for InsertOwner {
+    ghost alteration = { λ it t. with_owner it.row t };
+
+    ghost fits = { λ _. Unit {0} };
+
+    fn apply<S: Alter>(&self, tx: &mut Transaction<'_, S>) -> Result<(), Error> {
+        insert_owner(tx, self.row)
+    }
+}
+
+/// Takes an exam's owner away, as a part of a transaction.
+#[derive(Clone, Copy)]
+pub struct DeleteOwner {
+    pub exam: u32,
+}
+
+impl Alteration for DeleteOwner {
+    ghost alteration = { λ it t. without_owner it.exam t };
+
+    ghost fits = { λ _. Unit {0} };
+
+    fn apply<S: Alter>(&self, tx: &mut Transaction<'_, S>) -> Result<(), Error> {
+        delete_owner(tx, self.exam)
+    }
+}
+
 /// An exam's owner: one row, or none.
 pub fn owners_of<S: Alter>(
     alloc: Global,
@@ -47,9 +80,10 @@ pub fn owners_of<S: Alter>(
     ensures mode { conn.old.in_transaction ≡ false → conn.new.in_transaction ≡ false }
     ensures survives { Survives (state S.Store conn.old) (state S.Store conn.new) (Nothing (state S.Store conn.old)) }
 {
-    let rows = conn.query_all(
+    stream(
+        alloc,
+        conn,
         "SELECT exam, dept FROM owner WHERE exam = ?1 ORDER BY exam",
         params![exam],
-    )?;
-    read_all(alloc, &rows)
+    )
 }

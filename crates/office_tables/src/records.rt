@@ -1,13 +1,15 @@
 // Rows read as records.
-ghost use Rattle.std.specs.Prelude.{◌≡◌, ◌≢◌, ◌≤◌, ℕ, length, map, IfErr, IfOk};
+ghost use Rattle.std.specs.Prelude.{◌≡◌, ◌≢◌, ◌≤◌, ℕ, length, IfErr, IfOk};
 ghost use Rattle.sqlite_value.specs.Order.{Row as Columns};
 ghost use Rattle.office_tables.specs.Readings.{columns_from};
-ghost use Rattle.office_tables.specs.Records.{owner_of, enrol_of, draft_of, slot_of, FitsOwner, FitsEnrol, FitsDraft, FitsSlot};
-ghost use Rattle.office_tables.specs.Tables.{owner_row, enrol_row, draft_row, slot_row};
+ghost use Rattle.office_tables.specs.Records.{mark_of, mark_row, owner_of, enrol_of, draft_of, slot_of, placement_of, seat_of, student_share_of, part_share_of, FitsMark, FitsOwner, FitsEnrol, FitsDraft, FitsSlot, FitsPlacement, FitsSeat, FitsStudentShare, FitsPartShare};
+ghost use Rattle.office_tables.specs.Tables.{owner_row, enrol_row, draft_row, slot_row, placed_row, seat_row, share_student_row, share_part_row};
 
-use crate::rows::{DraftRow, EnrolRow, OwnerRow, SlotRow};
+use crate::rows::{
+    DraftRow, EnrolRow, MarkRow, OwnerRow, PartShareRow, PlacedRow, SeatRow, SlotRow,
+    StudentShareRow,
+};
 use sqlite::{Error, ErrorCode, Row};
-use std::alloc::Global;
 
 // A record that a row is read as.
 pub trait Record: Sized {
@@ -28,6 +30,24 @@ pub trait Record: Sized {
         ensures columns { IfOk result (λ made. columns_of made ≡ columns_from 0 WIDTH row.now) }
         ensures refused { IfErr result (λ e. e ≢ Error.SqliteFailure ErrorCode.OutOfMemory → WIDTH ≤ length row.now
             → (made : Self) → fits made → columns_of made ≢ columns_from 0 WIDTH row.now) };
+}
+
+impl Record for MarkRow {
+    ghost WIDTH = { 1 };
+
+    ghost record_of = { mark_of };
+
+    ghost columns_of = { mark_row };
+
+    ghost fits = { FitsMark };
+
+    const WIDTH: usize = 1;
+
+    fn read(row: &Row) -> Result<MarkRow, Error> {
+        Ok(MarkRow {
+            published: row.get(0)?,
+        })
+    }
 }
 
 impl Record for OwnerRow {
@@ -114,13 +134,86 @@ impl Record for SlotRow {
     }
 }
 
-// Every row.
-pub fn read_all<R: Record + Copy>(alloc: Global, rows: &[Row]) -> Result<Vec<R>, Error>
-    ensures { IfOk result (λ records. records.items ≡ map R.Record.record_of rows.now) }
-{
-    let mut records = Vec::new(alloc);
-    for row in rows {
-        records.push(R::read(row)?)?;
+impl Record for PlacedRow {
+    ghost WIDTH = { 3 };
+
+    ghost record_of = { placement_of };
+
+    ghost columns_of = { placed_row };
+
+    ghost fits = { FitsPlacement };
+
+    const WIDTH: usize = 3;
+
+    fn read(row: &Row) -> Result<PlacedRow, Error> {
+        Ok(PlacedRow {
+            exam: row.get(0)?,
+            period: row.get(1)?,
+            room: row.get(2)?,
+        })
     }
-    Ok(records)
+}
+
+impl Record for SeatRow {
+    ghost WIDTH = { 5 };
+
+    ghost record_of = { seat_of };
+
+    ghost columns_of = { seat_row };
+
+    ghost fits = { FitsSeat };
+
+    const WIDTH: usize = 5;
+
+    fn read(row: &Row) -> Result<SeatRow, Error> {
+        Ok(SeatRow {
+            student: row.get(0)?,
+            exam: row.get(1)?,
+            period: row.get(2)?,
+            room: row.get(3)?,
+            seat: row.get(4)?,
+        })
+    }
+}
+
+impl Record for StudentShareRow {
+    ghost WIDTH = { 4 };
+
+    ghost record_of = { student_share_of };
+
+    ghost columns_of = { share_student_row };
+
+    ghost fits = { FitsStudentShare };
+
+    const WIDTH: usize = 4;
+
+    fn read(row: &Row) -> Result<StudentShareRow, Error> {
+        Ok(StudentShareRow {
+            student: row.get(0)?,
+            in_row: row.get(1)?,
+            in_day: row.get(2)?,
+            spread: row.get(3)?,
+        })
+    }
+}
+
+impl Record for PartShareRow {
+    ghost WIDTH = { 4 };
+
+    ghost record_of = { part_share_of };
+
+    ghost columns_of = { share_part_row };
+
+    ghost fits = { FitsPartShare };
+
+    const WIDTH: usize = 4;
+
+    fn read(row: &Row) -> Result<PartShareRow, Error> {
+        Ok(PartShareRow {
+            kind: row.get(0)?,
+            no: row.get(1)?,
+            penalty: row.get(2)?,
+            mixed: row.get(3)?,
+        })
+    }
 }

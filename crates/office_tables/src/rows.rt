@@ -8,6 +8,12 @@ pub struct MetaRow {
     pub instance: Vec<u8>,
 }
 
+// What the row about the office says of a publication: 1 that there is one, 0 that there is none.
+#[derive(Clone, Copy, Debug, PartialEq, Eq)]
+pub struct MarkRow {
+    pub published: u32,
+}
+
 /// Who owns an exam: a department, 1 to 999.
 #[derive(Clone, Copy, Debug, PartialEq, Eq)]
 pub struct OwnerRow {
@@ -45,7 +51,7 @@ pub struct SlotRow {
 }
 
 /// Where an exam stands in the publication.
-#[derive(Clone, Copy)]
+#[derive(Clone, Copy, Debug, PartialEq, Eq)]
 pub struct PlacedRow {
     pub exam: u32,
     pub period: u32,
@@ -53,7 +59,7 @@ pub struct PlacedRow {
 }
 
 /// A published seat; seats count from 1 in each room and period.
-#[derive(Clone, Copy)]
+#[derive(Clone, Copy, Debug, PartialEq, Eq)]
 pub struct SeatRow {
     pub student: u32,
     pub exam: u32,
@@ -63,7 +69,7 @@ pub struct SeatRow {
 }
 
 /// What a candidate's seats cost her.
-#[derive(Clone, Copy)]
+#[derive(Clone, Copy, Debug, PartialEq, Eq)]
 pub struct StudentShareRow {
     pub student: u32,
     pub in_row: u64,
@@ -72,7 +78,7 @@ pub struct StudentShareRow {
 }
 
 /// The share of an exam (kind 0), a period (1) or a room (2); only a room has a mixed part.
-#[derive(Clone, Copy)]
+#[derive(Clone, Copy, Debug, PartialEq, Eq)]
 pub struct PartShareRow {
     pub kind: u32,
     pub no: u32,

@@ -5,9 +5,10 @@ ghost use Rattle.sqlite.specs.State.{Survives};
 ghost use Rattle.office_tables.specs.Changes.{with_slot, with_slots, without_slot, without_slots};
 ghost use Rattle.office_tables.specs.Steps.{AnswersOpen, Changes, LeavesAll, LeavesCommitted, Nothing, OpensNone, Reads, Within};
 
-use crate::records::read_all;
+use crate::altering::Alteration;
 use crate::rows::SlotRow;
 use crate::running::run;
+use crate::streaming::stream;
 use sqlite::{Alter, Connection, Error, Transaction, params};
 use std::alloc::Global;
 
@@ -62,6 +63,55 @@ pub fn delete_slot<S: Alter>(
     )
 }
 
+/// Adds a placement, as a part of a transaction.
+#[derive(Clone, Copy)]
+pub struct InsertSlot {
+    pub row: SlotRow,
+}
+
+impl Alteration for InsertSlot {
+    ghost alteration = { λ it t. with_slot it.row t };
+
+    ghost fits = { λ _. Unit {0} };
+
+    fn apply<S: Alter>(&self, tx: &mut Transaction<'_, S>) -> Result<(), Error> {
+        insert_slot(tx, self.row)
+    }
+}
+
+/// Takes all placements of a draft out, as a part of a transaction.
+#[derive(Clone, Copy)]
+pub struct DeleteSlots {
+    pub draft: u32,
+}
+
+impl Alteration for DeleteSlots {
+    ghost alteration = { λ it t. without_slots it.draft t };
+
+    ghost fits = { λ _. Unit {0} };
+
+    fn apply<S: Alter>(&self, tx: &mut Transaction<'_, S>) -> Result<(), Error> {
+        delete_slots(tx, self.draft)
+    }
+}
+
+/// Takes an exam's placement in a draft out, as a part of a transaction.
+#[derive(Clone, Copy)]
+pub struct DeleteSlot {
+    pub draft: u32,
+    pub exam: u32,
+}
+
+impl Alteration for DeleteSlot {
+    ghost alteration = { λ it t. without_slot it.draft it.exam t };
+
+    ghost fits = { λ _. Unit {0} };
+
+    fn apply<S: Alter>(&self, tx: &mut Transaction<'_, S>) -> Result<(), Error> {
+        delete_slot(tx, self.draft, self.exam)
+    }
+}
+
 /// A draft's placements, by exam.
 pub fn slots_of<S: Alter>(
     alloc: Global,
@@ -76,9 +126,10 @@ pub fn slots_of<S: Alter>(
     ensures mode { conn.old.in_transaction ≡ false → conn.new.in_transaction ≡ false }
     ensures survives { Survives (state S.Store conn.old) (state S.Store conn.new) (Nothing (state S.Store conn.old)) }
 {
-    let rows = conn.query_all(
+    stream(
+        alloc,
+        conn,
         "SELECT draft, exam, period, room FROM slot WHERE draft = ?1 ORDER BY exam",
         params![draft],
-    )?;
-    read_all(alloc, &rows)
+    )
 }

@@ -6,42 +6,6 @@ ghost use Rattle.office_tables.specs.Readings.{Finds, Leaves, Looks};
 use crate::listing::is_vacant;
 use sqlite::{Alter, Connection, Error};
 
-// Whether there are no published placements.
-pub fn lacks_placements<S: Alter>(conn: &mut Connection<S>) -> Result<bool, Error>
-    ensures found { Finds S.Store (λ db is. IsTrue is ↔ (db.trees 7 ≡ [])) conn.old conn.new result }
-    ensures same { Leaves S.Store conn.old conn.new result }
-    ensures looks { Looks (state S.Store conn.old) (state S.Store conn.new) }
-{
-    is_vacant(conn, "SELECT rowid FROM placed")
-}
-
-// Whether there are no seats.
-pub fn lacks_seats<S: Alter>(conn: &mut Connection<S>) -> Result<bool, Error>
-    ensures found { Finds S.Store (λ db is. IsTrue is ↔ (db.trees 8 ≡ [])) conn.old conn.new result }
-    ensures same { Leaves S.Store conn.old conn.new result }
-    ensures looks { Looks (state S.Store conn.old) (state S.Store conn.new) }
-{
-    is_vacant(conn, "SELECT rowid FROM seat")
-}
-
-// Whether there are no students' shares.
-pub fn lacks_student_shares<S: Alter>(conn: &mut Connection<S>) -> Result<bool, Error>
-    ensures found { Finds S.Store (λ db is. IsTrue is ↔ (db.trees 11 ≡ [])) conn.old conn.new result }
-    ensures same { Leaves S.Store conn.old conn.new result }
-    ensures looks { Looks (state S.Store conn.old) (state S.Store conn.new) }
-{
-    is_vacant(conn, "SELECT rowid FROM share_student")
-}
-
-// Whether there are no shares of exams, periods and rooms.
-pub fn lacks_part_shares<S: Alter>(conn: &mut Connection<S>) -> Result<bool, Error>
-    ensures found { Finds S.Store (λ db is. IsTrue is ↔ (db.trees 12 ≡ [])) conn.old conn.new result }
-    ensures same { Leaves S.Store conn.old conn.new result }
-    ensures looks { Looks (state S.Store conn.old) (state S.Store conn.new) }
-{
-    is_vacant(conn, "SELECT rowid FROM share_part")
-}
-
 // Whether there are no batches.
 pub fn lacks_batches<S: Alter>(conn: &mut Connection<S>) -> Result<bool, Error>
     ensures found { Finds S.Store (λ db is. IsTrue is ↔ (db.trees 14 ≡ [])) conn.old conn.new result }

@@ -14,6 +14,8 @@ mod given;
 #[cfg(test)]
 mod offices;
 #[cfg(test)]
+mod published_tables;
+#[cfg(test)]
 mod reading;
 #[cfg(test)]
 mod tables;

@@ -42,7 +42,7 @@ fn slots_of_the_first() -> [SlotRow; 2] {
 }
 
 // A database with the tables, and nothing in them.
-fn created(alloc: Global) -> Result<Connection<MemStore>, Fail> {
+pub(crate) fn created(alloc: Global) -> Result<Connection<MemStore>, Fail> {
     let mut conn = Connection::open_in_memory(alloc)?;
     if !is_bare(&conn) || !conn.is_autocommit() {
         return Err("a new database isn't bare")?;
@@ -179,11 +179,12 @@ fn an_office_is_found(rt: HostRuntime) -> Result<(), Fail> {
             "INSERT INTO slot (rowid, draft, exam, period, room) VALUES (-5, 3, 1, 1, 1)",
             true,
         ),
-        (
-            "INSERT INTO placed (exam, period, room) VALUES (0, 0, 0)",
-            false,
-        ),
-        ("DELETE FROM placed", true),
+        ("INSERT INTO seat VALUES (1, 0, 0, 0, -1)", false),
+        ("DELETE FROM seat", true),
+        ("INSERT INTO share_student VALUES (-1, 0, 0, 0)", false),
+        ("DELETE FROM share_student", true),
+        ("INSERT INTO batch VALUES (1, x'', 0, 0, 0)", false),
+        ("DELETE FROM batch", true),
         ("UPDATE meta SET published = 2", false),
         ("UPDATE meta SET published = 1", true),
         ("INSERT INTO enrol (student, exam) VALUES (-1, 0)", false),

@@ -1,5 +1,5 @@
-use Rattle.std.proofs.Common.{refl, inr, subst, sym}
-use Rattle.office_messages.specs.Reply.{PlainReply, plain_reply}
+use Rattle.std.proofs.Common.{refl, inr}
+use Rattle.office_messages.specs.Reply.{plain_reply}
 use Rattle.office_requests.specs.Requests.{plain_asked}
 use Rattle.office_desk.specs.Answers.{plain_answer}
 use Rattle.office_model.specs.Answers.{unavailable}

@@ -1,12 +1,15 @@
 use Rattle.std.proofs.Common.{option_copied, subst, sym}
-use Rattle.office_messages.specs.Reply.{PlainReply}
+use Rattle.office_messages.specs.Heads.{plain_request}
+use Rattle.office_messages.specs.Reply.{PlainReply, plain_reply}
 use Rattle.office_requests.specs.Requests.{GivesAsked, reading}
 use Rattle.office_http.specs.Replying.{RepliesTo}
 use Rattle.office_http.proofs.AnswerLemmas.{refused}
+use Rattle.office_http.proofs.CandidateLemmas.{tells}
 use Rattle.office_http.proofs.replying.reply.Goals as goal
 
-pub returns-in-Err : goal.returns-in-Err
-returns-in-Err g c =
+-- what is refused unread changes nothing
+pub returns-in-Err-clause-answered : goal.returns-in-Err-clause-answered
+returns-in-Err-clause-answered g c =
     let request = c.args.request.now in
     let said = reading request.method.now request.target.now (option_copied request.caller)
     request.body.now in
@@ -20,3 +23,23 @@ returns-in-Err g c =
         now,
       );
     }
+
+pub returns-in-Err-clause-told : goal.returns-in-Err-clause-told
+returns-in-Err-clause-told g c = λ clean office now.
+    let request = c.args.request.now in
+    let said = reading request.method.now request.target.now (option_copied request.caller)
+    request.body.now in
+    tells office office (plain_request request) (plain_reply c.reply.result)
+    (subst (λ (r : PlainReply). RepliesTo said office r office) (sym c.reply.ensures)
+    (refused said c.in-Err.refusal office
+    (subst (λ r. GivesAsked said r) c.in-Err.is c.read_request.ensures.asked)))
+
+pub returns-in-Ok-clause-told : goal.returns-in-Ok-clause-told
+returns-in-Ok-clause-told g c = λ clean office now.
+    let step = c.asked_reply.ensures.step clean office now in
+    let request = c.args.request.now in
+    tells office step.0 (plain_request request) (plain_reply c.asked_reply.result)
+    (subst (λ asked. RepliesTo asked office (plain_reply c.asked_reply.result) step.0)
+    (sym (subst (λ r. GivesAsked (reading request.method.now request.target.now
+    (option_copied request.caller) request.body.now) r) c.in-Ok.is c.read_request.ensures.asked))
+    step.1)

@@ -1,11 +1,18 @@
 use Rattle.office_messages.proofs.RunLemmas.{lent_serves, lent_serves_front}
 use Rattle.office_http.specs.Replying.{Answered}
+use Rattle.office_http.proofs.IsolationLemmas.{serves_by_view}
 use Rattle.office_http.proofs.ServingLemmas.{serves_leads, serves_front_leads, serves_clean}
 use Rattle.office_http.proofs.serving.serve.Goals as goal
 
 pub returns-clause-ok : goal.returns-clause-ok
 returns-clause-ok g c =
     serves_leads g.S.Store _ _ _ _ _ c.serve.result
+    (lent_serves (λ m. m.desk.ghost_name) (λ m. m.desk.now) (Answered g.S.Store) _ _ _ _ _ _
+    c.desk-1.given.1 c.serve.result c.serve.ensures.ok)
+
+pub returns-clause-told : goal.returns-clause-told
+returns-clause-told g c =
+    serves_by_view g.S.Store _ _ _ _ _ c.serve.result
     (lent_serves (λ m. m.desk.ghost_name) (λ m. m.desk.now) (Answered g.S.Store) _ _ _ _ _ _
     c.desk-1.given.1 c.serve.result c.serve.ensures.ok)
 

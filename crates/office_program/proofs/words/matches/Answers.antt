@@ -3,7 +3,8 @@ use Rattle.std.proofs.lemmas.Result.{IfOk-weaker}
 use Rattle.clap.specs.Words.{FailsBy, app_of, is_simple, new_app, subcommand_of, with_subcommand}
 use Rattle.clap.specs.Faults.{fault_of, is_simple_and_free}
 use Rattle.clap.specs.Simple.{app_of_fields}
-use Rattle.office_program.specs.Program.{check_app, load_app, program, serve_app, wants_subcommand}
+use Rattle.office_program.specs.Program.{check_app, export_app, load_app, program, serve_app}
+use Rattle.office_program.specs.Program.{wants_subcommand}
 use Rattle.office_program.proofs.words.matches.Goals as goal
 
 -- the command that is built is the program
@@ -21,8 +22,13 @@ whole_is c =
     (wants_subcommand (new_app (codes "examoffice"))) check_app.top) load_app.top =
     c.in_ok-load.ensures _ _ c.in_ok-subcommand-2.ensures
     ∙ ap (λ a. with_subcommand a load_app.top) judges in
-    c.in_ok-serve.ensures _ _ c.in_ok-whole.ensures
-    ∙ ap (λ a. with_subcommand a serve_app.top) loads
+    let serves : app_of c.in_ok-subcommand-3.field-0 ≡ with_subcommand (with_subcommand
+    (with_subcommand (wants_subcommand (new_app (codes "examoffice"))) check_app.top) load_app.top)
+    serve_app.top =
+    c.in_ok-serve.ensures _ _ c.in_ok-subcommand-3.ensures
+    ∙ ap (λ a. with_subcommand a serve_app.top) loads in
+    c.in_ok-export.ensures _ _ c.in_ok-whole.ensures
+    ∙ ap (λ a. with_subcommand a export_app.top) serves
 
 pub returns-clause-found : goal.returns-clause-found
 returns-clause-found c =

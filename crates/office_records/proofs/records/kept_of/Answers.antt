@@ -10,7 +10,7 @@ use Rattle.office_model.specs.Office.{OfficeState, Records, AreRecords, IsOffice
 use Rattle.office_records.specs.Stands.{IsSound, Stands, StandsLoaded}
 use Rattle.office_records.specs.declared.fault.RecordFault.{RecordFault}
 use Rattle.office_records.specs.declared.fault.RecordFault.TheVariants.{BadRows}
-use Rattle.office_records.proofs.RecordLemmas.{office_of, owner_rows, enrol_rows, draft_rows}
+use Rattle.office_records.proofs.RecordLemmas.{office_of, owner_rows, enrol_rows, draft_rows, published_rows}
 use Rattle.office_records.proofs.records.kept_of.Goals as goal
 
 abbrev StandsForNone : Tables → Type 0
@@ -68,6 +68,16 @@ returns-in_err-check_drafts-clause-none c =
     (subst (λ rows. AreDrafts I E found.drafts.items rows r.draft) (sym c.deref-4.ensures.value)
     (draft_rows found r stands sound is I c.in_ok-instance.ensures.is E enrolled))))
 
+pub returns-in_err-check_published-clause-none : goal.returns-in_err-check_published-clause-none
+returns-in_err-check_published-clause-none c =
+    let found = c.args.found.now in
+    let none = c.in_err-check_published.ensures.none in
+    refused (tables_of found) c.is_unloaded.result c.in_err-check_published.field-0.0
+    c.from_residual-in_err-check_published.result c.is_unloaded.ensures c.if-is_unloaded.false
+    c.from_residual-in_err-check_published.ensures.1
+    (λ bad r stands sound is. none bad r.published
+    (published_rows found r stands sound is c.in_ok-instance.instance c.in_ok-instance.ensures.is))
+
 pub returns-clause-are : goal.returns-clause-are
 returns-clause-are c =
     let found = c.args.found.now in
@@ -81,3 +91,4 @@ returns-clause-are c =
     c.deref-4.ensures.value
     (subst (λ rows. (draft : ℕ → Option Placing) × AreDrafts I E rows c.deref-4.result.now draft)
     c.deref-3.ensures.value c.in_ok-check_drafts.ensures.are))
+    c.in_ok-check_published.ensures.are

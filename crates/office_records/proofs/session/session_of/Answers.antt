@@ -11,7 +11,7 @@ use Rattle.office_files.specs.InstanceText.{instance_in}
 use Rattle.office_tables.specs.Records.{meta_from}
 use Rattle.office_tables.specs.Tables.{Meta}
 use Rattle.office_records.specs.Found.{IsSessionRow}
-use Rattle.office_records.specs.Stands.{meta_row}
+use Rattle.office_records.specs.Stands.{session_text}
 use Rattle.office_records.specs.declared.fault.RecordFault.{RecordFault}
 use Rattle.office_records.specs.declared.fault.RecordFault.TheVariants.{BadRows}
 use Rattle.office_records.proofs.SessionLemmas.{no_row, row_of}
@@ -53,7 +53,6 @@ returns-then-ne-clause-none c bad I is =
     let read = subst (λ b. instance_in b ≡ Ok (J, c.in_ok-instance._students)) c.deref.ensures.value
     c.in_ok-instance.ensures.exact in
     let same : J ≡ I = row_of m J I _ read is in
-    let row : (meta_row J).instance ≡ m.instance
-    = ap (λ s. (meta_row s).instance) same ∙ sym (ap (λ (r : Meta). r.instance) is.row) in
+    let row : session_text J ≡ m.instance = ap session_text same ∙ sym is.text in
     not_other c.as_slice.result.now c.as_slice-2.result.now c.ne.result c.ne.ensures c.if-ne.true
     (c.as_slice.ensures.value ∙ c.in_ok-text.ensures.text ∙ row ∙ sym c.as_slice-2.ensures.value)

@@ -10,7 +10,7 @@ use Rattle.office_records.specs.Stands.{IsKept, IsSound, Stands}
 use Rattle.office_records.specs.declared.fault.RecordFault.{RecordFault}
 use Rattle.office_records.specs.declared.fault.RecordFault.TheVariants.{NoMemory, BadRows}
 use Rattle.office_records.proofs.SameTables.{same_stands, same_sound}
-use Rattle.office_records.proofs.UnpublishedLemmas.{not_foreign}
+use Rattle.office_records.proofs.UnbatchedLemmas.{not_foreign}
 use Rattle.office_records.specs.Faults.{store_fault}
 use Rattle.office_store.specs.Faults.{IsOfDatabase}
 use Rattle.office_model.specs.declared.fault.StoreFault.{StoreFault}

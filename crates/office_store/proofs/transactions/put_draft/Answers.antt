@@ -2,7 +2,7 @@ use Rattle.std.proofs.Common.{rules, ◌≡◌, subst}
 use Rattle.sqlite.specs.Held.{state}
 use Rattle.sqlite.specs.State.{HasCleanDisk}
 use Rattle.office_store.specs.Changes.{draft_put}
-use Rattle.office_store.specs.Turning.{Changed}
+use Rattle.office_tables.specs.Alterations.{Changed}
 use Rattle.office_store.proofs.TurnLemmas.{changed}
 use Rattle.office_store.proofs.transactions.put_draft.Goals as goal
 

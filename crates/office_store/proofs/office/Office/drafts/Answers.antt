@@ -1,6 +1,5 @@
 use Rattle.std.proofs.Common.{ap, arith, not, ◌∙◌}
 use Rattle.sqlite.specs.Held.{state}
-use Rattle.sqlite.specs.State.{HasCleanDisk}
 use Rattle.office_store.proofs.DraftLemmas.{draft_read}
 use Rattle.office_store.proofs.ReadLemmas.{scored_read}
 use Rattle.office_store.proofs.RunLemmas.{kept_read, rest_read}

@@ -1,6 +1,5 @@
 use Rattle.std.proofs.Common.{ap, arith, not, ◌∙◌, ◌==◌, filter, subst, sym, IsTrue}
 use Rattle.sqlite.specs.Held.{state}
-use Rattle.sqlite.specs.State.{HasCleanDisk}
 use Rattle.std.specs.Prelude.{IsPermutation}
 use Rattle.office_tables.specs.declared.rows.OwnerRow.{OwnerRow}
 use Rattle.office_records.specs.Stands.{IsKept}

@@ -1,0 +1,76 @@
+// Commands of candidates: each is answered by her view alone. An `Err` says that nothing is told.
+ghost use Rattle.sqlite.specs.Held.{state};
+ghost use Rattle.sqlite.specs.State.{HasCleanDisk};
+ghost use Rattle.office_policy.specs.Commands.{me, my_exam, my_penalty};
+ghost use Rattle.office_desk.specs.Performing.{PerformsFor, ShowsView};
+
+use crate::answer::Answer;
+use exam_terms::ExamNo;
+use office_model::CandidateView;
+use office_policy::Caller;
+use office_store::Office;
+use sqlite::Alter;
+use std::alloc::Global;
+
+// All of her exams, and what they cost her.
+pub(crate) fn me<S: Alter>(
+    office: &mut Office<S>,
+    alloc: Global,
+    caller: Caller,
+) -> Result<Answer, Answer>
+    ensures performs { PerformsFor S.Store caller me office.old office.new result }
+    ensures clean { HasCleanDisk (state S.Store office.new)
+        → HasCleanDisk (state S.Store office.old) }
+{
+    let view = her_view(office, alloc, caller)?;
+    Ok(Answer::Me(view))
+}
+
+// One exam, if it is hers.
+pub(crate) fn my_exam<S: Alter>(
+    office: &mut Office<S>,
+    alloc: Global,
+    caller: Caller,
+    exam: ExamNo,
+) -> Result<Answer, Answer>
+    ensures performs { PerformsFor S.Store caller (my_exam exam) office.old office.new result }
+    ensures clean { HasCleanDisk (state S.Store office.new)
+        → HasCleanDisk (state S.Store office.old) }
+{
+    let view = her_view(office, alloc, caller)?;
+    match view.row(exam) {
+        Some(row) => Ok(Answer::MyExam(row)),
+        None => Ok(Answer::NotMine),
+    }
+}
+
+// What her exams cost her.
+pub(crate) fn my_penalty<S: Alter>(
+    office: &mut Office<S>,
+    alloc: Global,
+    caller: Caller,
+) -> Result<Answer, Answer>
+    ensures performs { PerformsFor S.Store caller my_penalty office.old office.new result }
+    ensures clean { HasCleanDisk (state S.Store office.new)
+        → HasCleanDisk (state S.Store office.old) }
+{
+    let view = her_view(office, alloc, caller)?;
+    Ok(Answer::MyPenalty(view.personal()))
+}
+
+// The view of the candidate who asks. Nobody else is permitted to ask for one.
+fn her_view<S: Alter>(
+    office: &mut Office<S>,
+    alloc: Global,
+    caller: Caller,
+) -> Result<CandidateView, Answer>
+    ensures shows { ShowsView S.Store caller office.old office.new result }
+    ensures clean { HasCleanDisk (state S.Store office.new)
+        → HasCleanDisk (state S.Store office.old) }
+{
+    let Caller::Cand(student) = caller else {
+        return Err(Answer::Unavailable);
+    };
+    let view = office.candidate_view(alloc, student)?;
+    Ok(view)
+}

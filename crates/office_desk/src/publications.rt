@@ -1,0 +1,66 @@
+// Commands that show what is published. An `Err` says that nothing is told.
+ghost use Rattle.sqlite.specs.Held.{state};
+ghost use Rattle.sqlite.specs.State.{HasCleanDisk};
+ghost use Rattle.office_policy.specs.Commands.{publication, publication_penalty, publication_rooms};
+ghost use Rattle.office_desk.specs.Performing.{Performs};
+
+use crate::answer::Answer;
+use office_files::write_solution;
+use office_reports::{penalty_report, rooms_report};
+use office_store::Office;
+use sqlite::Alter;
+use std::alloc::Global;
+
+// The published timetable, as a solution file.
+pub(crate) fn publication<S: Alter>(
+    office: &mut Office<S>,
+    alloc: Global,
+) -> Result<Answer, Answer>
+    ensures performs { Performs S.Store publication office.old office.new result }
+    ensures clean { HasCleanDisk (state S.Store office.new)
+        → HasCleanDisk (state S.Store office.old) }
+{
+    let Some((timetable, _)) = office.publication(alloc)? else {
+        return Ok(Answer::Unpublished);
+    };
+    match write_solution(alloc, &timetable) {
+        Ok(text) => Ok(Answer::Text(text)),
+        Err(_) => Err(Answer::Unavailable),
+    }
+}
+
+// The penalty of the publication, by its shares.
+pub(crate) fn publication_penalty<S: Alter>(
+    office: &mut Office<S>,
+    alloc: Global,
+) -> Result<Answer, Answer>
+    ensures performs { Performs S.Store publication_penalty office.old office.new result }
+    ensures clean { HasCleanDisk (state S.Store office.new)
+        → HasCleanDisk (state S.Store office.old) }
+{
+    let Some(shares) = office.shares(alloc)? else {
+        return Ok(Answer::Unpublished);
+    };
+    let Some(parts) = shares.parts() else {
+        return Err(Answer::Unavailable);
+    };
+    let report = penalty_report(alloc, parts)?;
+    Ok(Answer::Text(report.into_bytes()))
+}
+
+// How the rooms of the publication are used.
+pub(crate) fn publication_rooms<S: Alter>(
+    office: &mut Office<S>,
+    alloc: Global,
+) -> Result<Answer, Answer>
+    ensures performs { Performs S.Store publication_rooms office.old office.new result }
+    ensures clean { HasCleanDisk (state S.Store office.new)
+        → HasCleanDisk (state S.Store office.old) }
+{
+    let Some((timetable, seats)) = office.publication(alloc)? else {
+        return Ok(Answer::Unpublished);
+    };
+    let (session, _) = office.session()?;
+    let report = rooms_report(alloc, session, &timetable, &seats)?;
+    Ok(Answer::Text(report.into_bytes()))
+}

@@ -1,0 +1,53 @@
+-- What a candidate is replied is the text of her view.
+use Rattle.std.proofs.Common.{◌≡◌, ◌⊎◌, ◌∙◌, ℕ, Option, Some, None, Result, Ok, Err, ap, inl, inr, refl, subst}
+use Rattle.exam_terms.specs.Refusing.{◌>>=◌, else_err}
+use Rattle.office_messages.specs.Reply.{PlainReply, unavailable}
+use Rattle.office_messages.specs.Stream.{PlainRequest}
+use Rattle.office_policy.specs.Commands.{PlainCommand}
+use Rattle.office_policy.specs.declared.callers.Caller.TheVariants.{Cand}
+use Rattle.office_requests.specs.Methods.{verb_of}
+use Rattle.office_requests.specs.Requests.{PlainAsked, asked_by, caller_in, her_command, reading}
+use Rattle.office_requests.specs.declared.requests.Refusal.{Refusal}
+use Rattle.office_requests.specs.declared.requests.Refusal.TheVariants as refusal
+use Rattle.office_model.specs.Office.{OfficeState}
+use Rattle.office_model.specs.Step.{Outcome}
+use Rattle.office_model.specs.Views.{view_of}
+use Rattle.office_model.proofs.ToldLemmas.{told}
+use Rattle.office_replies.specs.Replies.{reply_to}
+use Rattle.office_http.specs.Replying.{Replies, RepliesTo, TellsCandidate, her_text}
+
+-- what a candidate's message asks for, if it asks for one of her pages
+abbrev pub said_by : ℕ → Option PlainCommand → Result PlainAsked Refusal
+said_by s (Some command) = Ok (record { caller = Cand s; command = command })
+said_by s None = Err refusal.Candidate
+
+said_is : (s : ℕ) (command : Option PlainCommand)
+    → (else_err refusal.Candidate command >>= (λ asked. Ok (record { caller = Cand s; command = asked })))
+    ≡ said_by s command
+said_is s None = refl
+said_is s (Some command) = refl
+
+pub her_reading : (s : ℕ) (request : PlainRequest) → caller_in request.caller ≡ Some (Cand s)
+    → reading request.method request.target request.caller request.body
+    ≡ said_by s (her_command (verb_of request.method) request.target)
+her_reading s request is =
+    ap (λ found. else_err refusal.Caller found >>= (λ who.
+    asked_by who (verb_of request.method) request.target request.body >>= (λ asked.
+    Ok (record { caller = who; command = asked })))) is
+    ∙ said_is s (her_command (verb_of request.method) request.target)
+
+told_by : (s : ℕ) (command : Option PlainCommand) (old new : OfficeState) (reply : PlainReply)
+    → RepliesTo (said_by s command) old reply new
+    → (reply ≡ her_text s command (view_of s old)) ⊎ (reply ≡ unavailable)
+told_by s None old new reply h = inl h.1
+told_by s (Some command) old new reply (answer, step, is) = elim step [
+  | inl same ↦ inl (is ∙ ap reply_to (ap (λ (o : Outcome). o.1) (same ∙ told s old command)))
+  | inr h ↦ inr (is ∙ ap reply_to h.1)
+]
+
+-- whatever the office goes on to
+pub tells : (old new : OfficeState) (request : PlainRequest) (reply : PlainReply)
+    → Replies old request reply new → TellsCandidate old request reply
+tells old new request reply h = λ s is.
+    told_by s (her_command (verb_of request.method) request.target) old new reply
+    (subst (λ said. RepliesTo said old reply new) (her_reading s request is) h)

@@ -1,0 +1,359 @@
+-- A candidate's replies over whole connections: by her view, which quiet messages leave.
+use Rattle.std.proofs.Common.{◌≡◌, ◌≢◌, ◌⊎◌, ◌∙◌, ℕ, Bool, false, List, [], ◌∷◌, ◌++◌, Option, Some, None, Result, Ok, Err, IfOk, IfSome, All, ap, get_or, inl, inr, refl, subst, sym, true≢false}
+use Rattle.std.specs.Prelude.{◌==◌}
+use Rattle.std.proofs.lemmas.Bool.{cases_eq, eq-eqb, ne_eqb}
+use Rattle.std.proofs.lemmas.List.Elements.{All-cons, All-head, All-nil, All-tail, All-weaker}
+use Rattle.exam_model.specs.declared.change.Change.{Change}
+use Rattle.sqlite.specs.Held.{Held}
+use Rattle.sqlite.specs.Store.{Ghosts}
+use Rattle.office_messages.specs.Form.{form_of}
+use Rattle.office_messages.specs.Reply.{PlainReply, fault_reply, reply_text, unavailable}
+use Rattle.office_messages.specs.Serve.{Item, asks, fails, Serves, Told}
+use Rattle.office_messages.specs.Stream.{PlainRequest}
+use Rattle.office_messages.specs.declared.connection.ServeFault.{ServeFault}
+use Rattle.office_messages.specs.declared.connection.Served.{Served}
+use Rattle.office_policy.specs.Commands.{PlainCommand}
+use Rattle.office_policy.specs.declared.callers.Caller.{Caller}
+use Rattle.office_policy.specs.declared.callers.Caller.TheVariants.{Cand, Dept, Office}
+use Rattle.office_requests.specs.Methods.{verb_of}
+use Rattle.office_requests.specs.Requests.{PlainAsked, caller_in, her_command, reading}
+use Rattle.office_requests.specs.declared.requests.Refusal.{Refusal}
+use Rattle.office_model.specs.Office.{OfficeState}
+use Rattle.office_model.specs.Quiet.{IsQuiet, KeepsPublication}
+use Rattle.office_model.specs.Runs.{Exchange, RunWith}
+use Rattle.office_model.specs.Step.{Outcome}
+use Rattle.office_model.specs.Views.{View, view_of}
+use Rattle.office_model.proofs.ChangeLemmas.{alike}
+use Rattle.office_model.proofs.QuietLemmas.{quiet_one}
+use Rattle.office_model.proofs.ToldLemmas as model
+use Rattle.office_http.specs.Isolation.{AreAlike, AreAvailable, AreFrom, AreToldAlike, AreToldByView, AsksTheSame, Entry, IsFrom, IsHersOrQuiet, IsQuietFor, IsToldAlike, LeavesPublication, ServesByView, TellsHerView, TellsView, asked_in, bytes_of, changes_by, entry, her_changes, her_output, her_reply, transcript}
+use Rattle.office_http.specs.Replying.{Answered, Replies, RepliesTo, her_text}
+use Rattle.office_http.specs.Serving.{Leads}
+use Rattle.office_http.proofs.CandidateLemmas.{her_reading, said_by, tells}
+use Rattle.office_http.proofs.ServingLemmas.{serves_leads}
+
+-- ---- one message
+
+stays_by : (s : ℕ) (command : Option PlainCommand) (old new : OfficeState) (reply : PlainReply)
+    → RepliesTo (said_by s command) old reply new → new ≡ old
+stays_by s None old new reply h = h.0
+stays_by s (Some command) old new reply (answer, step, is) = elim step [
+  | inl same ↦ ap (λ (o : Outcome). o.0) same ∙ ap (λ (o : Outcome). o.0) (model.told s old command)
+  | inr h ↦ h.0
+]
+
+-- her own message changes nothing
+pub stays : (s : ℕ) (old new : OfficeState) (request : PlainRequest) (reply : PlainReply)
+    → Replies old request reply new → IsFrom s request → new ≡ old
+stays s old new request reply h is =
+    stays_by s (her_command (verb_of request.method) request.target) old new reply
+    (subst (λ said. RepliesTo said old reply new) (her_reading s request is) h)
+
+-- two replies by one view, each unless the office is unavailable
+both_by : (said : PlainReply) (one other : PlainRequest) (reply answer : PlainReply)
+    → one.method ≡ other.method → (reply ≡ said) ⊎ (reply ≡ unavailable)
+    → (answer ≡ said) ⊎ (answer ≡ unavailable) → AreAlike (one, reply) (other, answer)
+both_by said one other reply answer method (inl r) (inl a) =
+    inl (ap (λ m. reply_text (form_of m) reply) method
+    ∙ ap (reply_text (form_of other.method)) (r ∙ sym a))
+both_by said one other reply answer method (inr r) a = inr (inl r)
+both_by said one other reply answer method r (inr a) = inr (inr a)
+
+-- two offices that agree on her view
+pub same_bytes : (s : ℕ) (one other next last : OfficeState) (request : PlainRequest)
+    (reply answer : PlainReply) → view_of s one ≡ view_of s other → IsFrom s request
+    → Replies one request reply next → Replies other request answer last
+    → AreAlike (request, reply) (request, answer)
+same_bytes s one other next last request reply answer same is h k =
+    both_by (her_reply s request (view_of s other)) request request reply answer refl
+    (subst (λ view. (reply ≡ her_reply s request view) ⊎ (reply ≡ unavailable)) same
+    (tells one next request reply h s is))
+    (tells other last request answer k s is)
+
+quiet_said : (s : ℕ) (said : Result PlainAsked Refusal) (old new : OfficeState) (reply : PlainReply)
+    → (told : RepliesTo said old reply new)
+    → IfSome (asked_in said old reply new told) (λ x. IsQuiet s old x.command x.answer)
+    → view_of s new ≡ view_of s old
+quiet_said s (Ok asked) old new reply told q =
+    quiet_one s old new asked.caller asked.command told.0 told.1 q
+quiet_said s (Err refusal) old new reply told q = ap (view_of s) told.0
+
+-- a message that is quiet for her
+pub quiet_leaves : (s : ℕ) (old new : OfficeState) (request : PlainRequest) (reply : PlainReply)
+    → (told : Replies old request reply new) → IsQuietFor s (entry old request reply new told)
+    → view_of s new ≡ view_of s old
+quiet_leaves s old new request reply told q =
+    quiet_said s (reading request.method request.target request.caller request.body) old new reply
+    told q
+
+-- ---- whether a message is hers
+
+abbrev is_candidate : ℕ → Option Caller → Bool
+is_candidate s None = false
+is_candidate s (Some Office) = false
+is_candidate s (Some (Dept d)) = false
+is_candidate s (Some (Cand t)) = t == s
+
+not_hers : (s : ℕ) (found : Option Caller) → is_candidate s found ≡ false
+    → ¬ (found ≡ Some (Cand s))
+not_hers s found other is =
+    true≢false (sym (ap (is_candidate s) is ∙ eq-eqb s s refl) ∙ other)
+
+hers_or_not : (s : ℕ) (found : Option Caller)
+    → (found ≡ Some (Cand s)) ⊎ (¬ (found ≡ Some (Cand s)))
+hers_or_not s None = inr (not_hers s None refl)
+hers_or_not s (Some Office) = inr (not_hers s (Some Office) refl)
+hers_or_not s (Some (Dept d)) = inr (not_hers s (Some (Dept d)) refl)
+hers_or_not s (Some (Cand t)) = elim (cases_eq t s) [
+  | inl is ↦ inl (ap (λ n. Some (Cand n)) is)
+  | inr other ↦ inr (not_hers s (Some (Cand t)) (ne_eqb t s other))
+]
+
+-- hers or quiet for her, a message leaves her view
+leaves : (s : ℕ) (old new : OfficeState) (request : PlainRequest) (reply : PlainReply)
+    → (told : Replies old request reply new) → IsHersOrQuiet s (entry old request reply new told)
+    → view_of s new ≡ view_of s old
+leaves s old new request reply told q = elim (hers_or_not s (caller_in request.caller)) [
+  | inl is ↦ ap (view_of s) (stays s old new request reply told is)
+  | inr other ↦ quiet_leaves s old new request reply told (q other)
+]
+
+-- ---- runs
+
+pub each_told : (items : List Item) (old new : OfficeState) (output : List ℕ)
+    (told : Told Replies items old output new)
+    → All TellsHerView (transcript items old output new told)
+each_told [] old new output told = All-nil TellsHerView
+each_told (fails fault form ∷ items) old new output (rest, is, told) =
+    each_told items old new rest told
+each_told (asks request ∷ items) old new output (mid, reply, rest, step, is, told) =
+    All-cons TellsHerView (entry old request reply mid step) (transcript items mid rest new told)
+    (tells old mid request reply step) (each_told items mid new rest told)
+
+pub quiet_end : (s : ℕ) (items : List Item) (old new : OfficeState) (output : List ℕ)
+    (told : Told Replies items old output new)
+    → All (IsHersOrQuiet s) (transcript items old output new told) → view_of s new ≡ view_of s old
+quiet_end s [] old new output told q = ap (view_of s) told.1
+quiet_end s (fails fault form ∷ items) old new output (rest, is, told) q =
+    quiet_end s items old new rest told q
+quiet_end s (asks request ∷ items) old new output (mid, reply, rest, step, is, told) q =
+    let first = entry old request reply mid step in
+    let later = transcript items mid rest new told in
+    quiet_end s items mid new rest told (All-tail (IsHersOrQuiet s) first later q)
+    ∙ leaves s old mid request reply step (All-head (IsHersOrQuiet s) first later q)
+
+abbrev Sees : ℕ → View → Entry → Type 0
+Sees s view e = view_of s e.office ≡ view
+
+pub quiet_each : (s : ℕ) (items : List Item) (old new : OfficeState) (output : List ℕ)
+    (told : Told Replies items old output new)
+    → All (IsHersOrQuiet s) (transcript items old output new told)
+    → All (Sees s (view_of s old)) (transcript items old output new told)
+quiet_each s [] old new output told q = All-nil (Sees s (view_of s old))
+quiet_each s (fails fault form ∷ items) old new output (rest, is, told) q =
+    quiet_each s items old new rest told q
+quiet_each s (asks request ∷ items) old new output (mid, reply, rest, step, is, told) q =
+    let first = entry old request reply mid step in
+    let later = transcript items mid rest new told in
+    All-cons (Sees s (view_of s old)) first later refl
+    (All-weaker (Sees s (view_of s mid)) (Sees s (view_of s old))
+    (λ e h. h ∙ leaves s old mid request reply step (All-head (IsHersOrQuiet s) first later q)) later
+    (quiet_each s items mid new rest told (All-tail (IsHersOrQuiet s) first later q)))
+
+told_one : (s : ℕ) (view : View) (e : Entry) → TellsHerView e → Sees s view e → TellsView s view e
+told_one s view e told same is =
+    subst (λ v. (e.reply ≡ her_reply s e.request v) ⊎ (e.reply ≡ unavailable)) same (told s is)
+
+-- where each message finds this view, she is told its text
+both_all : (s : ℕ) (view : View) (es : List Entry) → All TellsHerView es → All (Sees s view) es
+    → All (TellsView s view) es
+both_all s view es told same = λ k d lt. told_one s view (get_or es k d) (told k d lt) (same k d lt)
+
+pub quiet_told : (s : ℕ) (items : List Item) (old new : OfficeState) (output : List ℕ)
+    (told : Told Replies items old output new)
+    → All (IsHersOrQuiet s) (transcript items old output new told)
+    → All (TellsView s (view_of s old)) (transcript items old output new told)
+quiet_told s items old new output told q =
+    both_all s (view_of s old) (transcript items old output new told)
+    (each_told items old new output told) (quiet_each s items old new output told q)
+
+-- ---- two connections
+
+asks_same : (s : ℕ) (view : View) (one other : PlainRequest) → AsksTheSame one other
+    → her_reply s one view ≡ her_reply s other view
+asks_same s view one other same =
+    λ i. her_text s (her_command (verb_of (same.method i)) (same.target i)) view
+
+-- two of her messages that ask for the same, in offices that agree on her view
+pair_alike : (s : ℕ) (x y : Entry) → TellsHerView x → TellsHerView y
+    → view_of s x.office ≡ view_of s y.office → IsToldAlike s x y
+pair_alike s x y told said view is also same =
+    let replied = subst (λ v. TellsView s v x) view (told s) in
+    both_by (her_reply s y.request (view_of s y.office)) x.request y.request x.reply y.reply
+    same.method
+    (subst (λ r. (x.reply ≡ r) ⊎ (x.reply ≡ unavailable))
+    (asks_same s (view_of s y.office) x.request y.request same) (replied is))
+    (said s also)
+
+pub all_by_view : (s : ℕ) (xs ys : List Entry) → All TellsHerView xs → All TellsHerView ys
+    → AreToldByView s xs ys
+all_by_view s xs ys told said =
+    λ k d lt i e in'. pair_alike s (get_or xs k d) (get_or ys i e) (told k d lt) (said i e in')
+
+pub all_alike : (s : ℕ) (view : View) (xs ys : List Entry) → AreToldByView s xs ys
+    → All (Sees s view) xs → All (Sees s view) ys → AreToldAlike s xs ys
+all_alike s view xs ys alike one other =
+    λ k d lt i e in'. alike k d lt i e in' (one k d lt ∙ sym (other i e in'))
+
+pub both_quiet : (s : ℕ) (items others : List Item) (one next other last : OfficeState)
+    (output text : List ℕ) (first : Told Replies items one output next)
+    (second : Told Replies others other text last) → view_of s one ≡ view_of s other
+    → All (IsHersOrQuiet s) (transcript items one output next first)
+    → All (IsHersOrQuiet s) (transcript others other text last second)
+    → AreToldAlike s (transcript items one output next first)
+    (transcript others other text last second)
+both_quiet s items others one next other last output text first second same q k =
+    let here = transcript items one output next first in
+    let there = transcript others other text last second in
+    all_alike s (view_of s other) here there
+    (all_by_view s here there (each_told items one next output first)
+    (each_told others other last text second))
+    (subst (λ view. All (Sees s view) here) same (quiet_each s items one next output first q))
+    (quiet_each s others other last text second k)
+
+-- ---- connections of her messages alone
+
+pub stays_all : (s : ℕ) (items : List Item) (old new : OfficeState) (output : List ℕ)
+    → Told Replies items old output new → AreFrom s items → new ≡ old
+stays_all s [] old new output told hers = told.1
+stays_all s (fails fault form ∷ items) old new output (rest, is, told) hers =
+    stays_all s items old new rest told hers
+stays_all s (asks request ∷ items) old new output (mid, reply, rest, step, is, told) hers =
+    stays_all s items mid new rest told hers.1 ∙ stays s old mid request reply step hers.0
+
+not_unavailable : (reply said : PlainReply) → (reply ≡ said) ⊎ (reply ≡ unavailable)
+    → reply ≢ unavailable → reply ≡ said
+not_unavailable reply said (inl is) other = is
+not_unavailable reply said (inr none) other = absurd (other none)
+
+pub written : (s : ℕ) (items : List Item) (old new : OfficeState) (output : List ℕ)
+    (told : Told Replies items old output new) → AreFrom s items
+    → AreAvailable (transcript items old output new told)
+    → output ≡ her_output s (view_of s old) items
+written s [] old new output told hers fine = told.0
+written s (fails fault form ∷ items) old new output (rest, is, told) hers fine =
+    is ∙ ap (λ bytes. reply_text form (fault_reply fault) ++ bytes)
+    (written s items old new rest told hers fine)
+written s (asks request ∷ items) old new output (mid, reply, rest, step, is, told) hers fine =
+    let first = entry old request reply mid step in
+    let later = transcript items mid rest new told in
+    let here : reply ≡ her_reply s request (view_of s old) =
+    not_unavailable reply (her_reply s request (view_of s old))
+    (tells old mid request reply step s hers.0)
+    (All-head (λ e. e.reply ≢ unavailable) first later fine) in
+    let there : rest ≡ her_output s (view_of s old) items =
+    written s items mid new rest told hers.1
+    (All-tail (λ e. e.reply ≢ unavailable) first later fine)
+    ∙ ap (λ office. her_output s (view_of s office) items)
+    (stays s old mid request reply step hers.0) in
+    is ∙ (λ i. bytes_of (request, here i) ++ there i)
+
+-- two of them with the same messages, to offices that agree on her view
+pub same_output : (s : ℕ) (items others : List Item) (one next other last : OfficeState)
+    (output text : List ℕ) (first : Told Replies items one output next)
+    (second : Told Replies others other text last) → view_of s one ≡ view_of s other
+    → items ≡ others → AreFrom s items → AreAvailable (transcript items one output next first)
+    → AreAvailable (transcript others other text last second) → output ≡ text
+same_output s items others one next other last output text first second same is hers fine fit =
+    written s items one next output first hers fine ∙ (λ i. her_output s (same i) (is i))
+    ∙ sym (written s others other last text second (subst (AreFrom s) is hers) fit)
+
+-- ---- the same changes
+
+-- one exchange more, where a command was asked for
+abbrev with_asked : Option Exchange → List Exchange → List Exchange
+with_asked None xs = xs
+with_asked (Some x) xs = x ∷ xs
+
+abbrev exchanges : List Entry → List Exchange
+exchanges [] = []
+exchanges (e ∷ es) = with_asked e.asked (exchanges es)
+
+one_more : (s : ℕ) (said : Result PlainAsked Refusal) (old mid new : OfficeState)
+    (reply : PlainReply) (told : RepliesTo said old reply mid) (later : List Change)
+    (xs : List Exchange) → IfSome (asked_in said old reply mid told) (λ x. KeepsPublication x.answer)
+    → RunWith s later mid xs new
+    → RunWith s (changes_by s old (asked_in said old reply mid told) ++ later) old
+    (with_asked (asked_in said old reply mid told) xs) new
+one_more s (Ok asked) old mid new reply told later xs keeps run =
+    (mid, later, told.1, keeps, refl, run)
+one_more s (Err refusal) old mid new reply told later xs keeps run =
+    subst (λ office. RunWith s later office xs new) told.0 run
+
+-- a run over messages is one over what they ask for
+runs : (s : ℕ) (items : List Item) (old new : OfficeState) (output : List ℕ)
+    (told : Told Replies items old output new)
+    → All LeavesPublication (transcript items old output new told)
+    → RunWith s (her_changes s (transcript items old output new told)) old
+    (exchanges (transcript items old output new told)) new
+runs s [] old new output told keeps = (refl, told.1)
+runs s (fails fault form ∷ items) old new output (rest, is, told) keeps =
+    runs s items old new rest told keeps
+runs s (asks request ∷ items) old new output (mid, reply, rest, step, is, told) keeps =
+    let first = entry old request reply mid step in
+    let later = transcript items mid rest new told in
+    one_more s (reading request.method request.target request.caller request.body) old mid new reply
+    step (her_changes s later) (exchanges later) (All-head LeavesPublication first later keeps)
+    (runs s items mid new rest told (All-tail LeavesPublication first later keeps))
+
+pub same_changes : (s : ℕ) (old one other : OfficeState) (items others : List Item)
+    (output text : List ℕ) (first : Told Replies items old output one)
+    (second : Told Replies others old text other)
+    → All LeavesPublication (transcript items old output one first)
+    → All LeavesPublication (transcript others old text other second)
+    → her_changes s (transcript items old output one first)
+    ≡ her_changes s (transcript others old text other second) → view_of s one ≡ view_of s other
+same_changes s old one other items others output text first second keeps too same =
+    let here = transcript items old output one first in
+    let there = transcript others old text other second in
+    alike s (her_changes s here) old one other (exchanges here) (exchanges there)
+    (runs s items old one output first keeps)
+    (subst (λ changes. RunWith s changes old (exchanges there) other) (sym same)
+    (runs s others old other text second too))
+
+pub same_changes_bytes : (s : ℕ) (old one other next last : OfficeState) (items others : List Item)
+    (output text : List ℕ) (request : PlainRequest) (reply answer : PlainReply)
+    (first : Told Replies items old output one) (second : Told Replies others old text other)
+    → All LeavesPublication (transcript items old output one first)
+    → All LeavesPublication (transcript others old text other second)
+    → her_changes s (transcript items old output one first)
+    ≡ her_changes s (transcript others old text other second)
+    → IsFrom s request → Replies one request reply next → Replies other request answer last
+    → AreAlike (request, reply) (request, answer)
+same_changes_bytes s old one other next last items others output text request reply answer first
+    second keeps too same is h k =
+    same_bytes s one other next last request reply answer
+    (same_changes s old one other items others output text first second keeps too same) is h k
+
+-- ---- what a connection tells, whatever office the file stands for
+
+by_view : {S : Type 0} (store : Ghosts S) (input before after : Option (List ℕ))
+    (old new : Held S) (result : Result Served ServeFault)
+    → IfOk result (λ served. Leads store
+    (λ office next. Serves Replies input before after office next served) old new)
+    → IfOk result (λ served. Leads store
+    (λ office next. ServesByView input before after office next served) old new)
+by_view store input before after old new (Err fault) h = tt
+by_view store input before after old new (Ok served) h = λ clean office now.
+    let run = h clean office now in
+    let told = each_told (run.1).items office run.0 (run.1).output (run.1).told in
+    (run.0, (run.1, told), run.2)
+
+pub serves_by_view : {S : Type 0} (store : Ghosts S) (input before after : Option (List ℕ))
+    (old new : Held S) (result : Result Served ServeFault)
+    → IfOk result (λ served. Serves (Answered store) input before after old new served)
+    → IfOk result (λ served. Leads store
+    (λ office next. ServesByView input before after office next served) old new)
+serves_by_view store input before after old new result x =
+    by_view store input before after old new result
+    (serves_leads store input before after old new result x)

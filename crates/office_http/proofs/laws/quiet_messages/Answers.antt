@@ -1,0 +1,11 @@
+use Rattle.office_http.proofs.IsolationLemmas.{quiet_each, quiet_end, quiet_told}
+use Rattle.office_http.proofs.laws.quiet_messages.Goals as goal
+
+pub returns-clause-end : goal.returns-clause-end
+returns-clause-end c = quiet_end
+
+pub returns-clause-each : goal.returns-clause-each
+returns-clause-each c = quiet_each
+
+pub returns-clause-told : goal.returns-clause-told
+returns-clause-told c = quiet_told

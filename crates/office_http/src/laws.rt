@@ -1,0 +1,154 @@
+//! Laws of the office's connections: functions with no code, whose contracts are the laws.
+ghost use Rattle.std.specs.Prelude.{◌≡◌, ℕ, List, All, Option};
+ghost use Rattle.office_messages.specs.Reply.{PlainReply};
+ghost use Rattle.office_messages.specs.Serve.{Item, Serves, Told};
+ghost use Rattle.office_messages.specs.Stream.{PlainRequest};
+ghost use Rattle.office_messages.specs.declared.connection.Served.{Served};
+ghost use Rattle.office_model.specs.Office.{OfficeState};
+ghost use Rattle.office_model.specs.Views.{view_of};
+ghost use Rattle.office_http.specs.Isolation.{
+  AreAlike,
+  AreAvailable,
+  AreFrom,
+  AreToldAlike,
+  AreToldByView,
+  IsFrom,
+  IsHersOrQuiet,
+  IsQuietFor,
+  LeavesPublication,
+  TellsHerView,
+  TellsView,
+  entries,
+  entry,
+  her_changes,
+  her_output,
+  said_in,
+  transcript,
+};
+ghost use Rattle.office_http.specs.Replying.{Replies, TellsCandidate};
+
+/// A candidate's message is replied the text of her view in the office that it comes to, or that
+/// the office is unavailable. It changes nothing.
+///
+/// No page of hers tells of another's enrolments, seats, exams or drafts. That a reply is a 503,
+/// or how long it takes, may depend on anything.
+pub fn told_by_view()
+    ensures told { (office next : OfficeState) (request : PlainRequest) (reply : PlainReply)
+        → Replies office request reply next → TellsCandidate office request reply }
+    ensures stays { (s : ℕ) (office next : OfficeState) (request : PlainRequest)
+        (reply : PlainReply) → Replies office request reply next → IsFrom s request
+        → next ≡ office }
+{}
+
+/// Two offices that agree on a candidate's view give her message the same bytes, unless one of them
+/// is unavailable.
+///
+/// All else may differ: drafts, owners, batches, other candidates, exams that aren't hers.
+pub fn same_view_same_bytes()
+    ensures { (s : ℕ) (one other next last : OfficeState) (request : PlainRequest)
+        (reply answer : PlainReply) → view_of s one ≡ view_of s other → IsFrom s request
+        → Replies one request reply next → Replies other request answer last
+        → AreAlike (request, reply) (request, answer) }
+{}
+
+/// A message that is quiet for a candidate leaves her view as it was: any but an accepted load, an
+/// accepted publication, and a batch that is newly accepted and names her.
+pub fn quiet_message()
+    ensures { (s : ℕ) (old new : OfficeState) (request : PlainRequest) (reply : PlainReply)
+        → (told : Replies old request reply new) → IsQuietFor s (entry old request reply new told)
+        → view_of s new ≡ view_of s old }
+{}
+
+/// Over a whole connection, and over any messages one after another, each candidate is told the
+/// text of her view in the office that her message came to, whatever others ask before and between.
+pub fn each_told_by_view()
+    ensures { (items : List Item) (old new : OfficeState) (output : List ℕ)
+        → (told : Told Replies items old output new)
+        → All TellsHerView (transcript items old output new told) }
+{}
+
+/// Where all others' messages are quiet for a candidate, each message, and what comes after the
+/// last, finds her view as it was before the first, and her own are replied its text.
+pub fn quiet_messages()
+    ensures end { (s : ℕ) (items : List Item) (old new : OfficeState) (output : List ℕ)
+        → (told : Told Replies items old output new)
+        → All (IsHersOrQuiet s) (transcript items old output new told)
+        → view_of s new ≡ view_of s old }
+    ensures each { (s : ℕ) (items : List Item) (old new : OfficeState) (output : List ℕ)
+        → (told : Told Replies items old output new)
+        → All (IsHersOrQuiet s) (transcript items old output new told)
+        → All (λ e. view_of s e.office ≡ view_of s old) (transcript items old output new told) }
+    ensures told { (s : ℕ) (items : List Item) (old new : OfficeState) (output : List ℕ)
+        → (told : Told Replies items old output new)
+        → All (IsHersOrQuiet s) (transcript items old output new told)
+        → All (TellsView s (view_of s old)) (transcript items old output new told) }
+{}
+
+/// Two connections to two offices: where the offices that a candidate's two messages come to agree
+/// on her view, she gets the same bytes for the same question, unless one of the replies is that the
+/// office is unavailable. They do so throughout if they agree at the start, and others' messages are
+/// quiet for her.
+///
+/// It is not promised that a connection stays open, or that two of the same messages are both
+/// answered: another's message may end a connection, and a hundred messages do.
+pub fn same_view_same_replies()
+    ensures agree { (s : ℕ) (input before after : Option (List ℕ)) (one next : OfficeState)
+        (served : Served) (stream written out : Option (List ℕ)) (other last : OfficeState)
+        (ended : Served) → (first : Serves Replies input before after one next served)
+        → (second : Serves Replies stream written out other last ended)
+        → AreToldByView s (entries first) (entries second) }
+    ensures quiet { (s : ℕ) (input before after : Option (List ℕ)) (one next : OfficeState)
+        (served : Served) (stream written out : Option (List ℕ)) (other last : OfficeState)
+        (ended : Served) → (first : Serves Replies input before after one next served)
+        → (second : Serves Replies stream written out other last ended)
+        → view_of s one ≡ view_of s other → All (IsHersOrQuiet s) (entries first)
+        → All (IsHersOrQuiet s) (entries second)
+        → AreToldAlike s (entries first) (entries second) }
+{}
+
+/// A connection of a candidate's messages alone, none of whose replies is that the office is
+/// unavailable: what is written is the text of her view, and the office stays. So two of them, with
+/// the same messages, to two offices that agree on her view, are written the same bytes.
+pub fn same_view_same_output()
+    ensures written { (s : ℕ) (input before after : Option (List ℕ)) (office next : OfficeState)
+        (served : Served) → (run : Serves Replies input before after office next served)
+        → AreFrom s run.items → AreAvailable (entries run)
+        → run.output ≡ her_output s (view_of s office) run.items }
+    ensures stays { (s : ℕ) (input before after : Option (List ℕ)) (office next : OfficeState)
+        (served : Served) → (run : Serves Replies input before after office next served)
+        → AreFrom s run.items → next ≡ office }
+    ensures same { (s : ℕ) (input before after : Option (List ℕ)) (one next : OfficeState)
+        (served : Served) (stream written out : Option (List ℕ)) (other last : OfficeState)
+        (ended : Served) → (first : Serves Replies input before after one next served)
+        → (second : Serves Replies stream written out other last ended)
+        → view_of s one ≡ view_of s other → first.items ≡ second.items → AreFrom s first.items
+        → AreAvailable (entries first) → AreAvailable (entries second)
+        → first.output ≡ second.output }
+{}
+
+/// From one office, after two lists of messages with no accepted load or publication, whose newly
+/// accepted batches make the same changes to a candidate in the same order, her views are equal: so
+/// her messages get the same bytes.
+///
+/// Which batches are newly accepted may depend on others' requests (a number that is taken, too many
+/// pairs), so the law speaks of the changes that were made.
+pub fn same_changes_same_view()
+    ensures view { (s : ℕ) (old one other : OfficeState) (items others : List Item)
+        (output text : List ℕ) → (first : Told Replies items old output one)
+        → (second : Told Replies others old text other)
+        → All LeavesPublication (transcript items old output one first)
+        → All LeavesPublication (transcript others old text other second)
+        → her_changes s (transcript items old output one first)
+        ≡ her_changes s (transcript others old text other second)
+        → view_of s one ≡ view_of s other }
+    ensures same { (s : ℕ) (old one other next last : OfficeState) (items others : List Item)
+        (output text : List ℕ) (request : PlainRequest) (reply answer : PlainReply)
+        → (first : Told Replies items old output one)
+        → (second : Told Replies others old text other)
+        → All LeavesPublication (transcript items old output one first)
+        → All LeavesPublication (transcript others old text other second)
+        → her_changes s (transcript items old output one first)
+        ≡ her_changes s (transcript others old text other second)
+        → IsFrom s request → Replies one request reply next → Replies other request answer last
+        → AreAlike (request, reply) (request, answer) }
+{}

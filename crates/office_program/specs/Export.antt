@@ -1,0 +1,39 @@
+-- What `export` makes of the office that a database stands for.
+use Rattle.std.specs.Prelude.{◌≡◌, List, ℕ, Option, Some, None, option_map}
+use Rattle.std.specs.Io.KnownBytes.{Appends}
+use Rattle.sqlite.specs.State.{State}
+use Rattle.exam_model.specs.Instance.{Session}
+use Rattle.exam_model.specs.Timetable.{Placing}
+use Rattle.office_files.specs.CanonicalText.{canonical_solution}
+use Rattle.office_model.specs.Office.{OfficeState, Publication}
+use Rattle.office_model.specs.Step.{publication_in}
+use Rattle.office_model.specs.declared.fault.StoreFault.TheVariants as store
+use Rattle.office_store.specs.Running.{Now}
+use Rattle.office_program.specs.declared.exporting.ExportFault.{ExportFault}
+use Rattle.office_program.specs.declared.exporting.ExportFault.TheVariants as fault
+
+-- the canonical solution of what is published, if anything is
+abbrev pub published_solution : OfficeState → Option (List ℕ)
+published_solution office =
+    option_map (λ (found : Session × Publication). canonical_solution found.1.timetable)
+    (publication_in office)
+
+-- it is written, and the office stands as it did
+pub record Exports (office : OfficeState) (after : State) (old new : Option (List ℕ))
+    : Type 0 where
+  pub text : List ℕ
+  pub published : published_solution office ≡ Some text
+  pub printed : Appends old new text
+  pub stands : Now after office
+
+-- a statement failed, nothing is published, memory was refused, or the writer failed at what is
+-- published
+abbrev pub RefusesExport : OfficeState → ExportFault → Type 0
+RefusesExport office (fault.Store f) = f ≡ store.Store
+RefusesExport office fault.NoPublication = published_solution office ≡ None
+RefusesExport office fault.NoMemory = Unit {0}
+RefusesExport office fault.Write = (text : List ℕ) × (published_solution office ≡ Some text)
+
+-- the canonical solution of some timetable is printed
+abbrev pub PrintsSolution : Option (List ℕ) → Option (List ℕ) → Type 0
+PrintsSolution old new = (T : Placing) × Appends old new (canonical_solution T)

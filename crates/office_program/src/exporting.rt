@@ -1,0 +1,164 @@
+// `export`: what the office of a database has published.
+ghost use Rattle.std.specs.Prelude.{◌≡◌, ◌≢◌, IfErr, IfOk, Some};
+ghost use Rattle.std.specs.Io.KnownBytes.{Keeps};
+ghost use Rattle.sqlite.specs.Held.{state};
+ghost use Rattle.sqlite.specs.State.{HasCleanDisk};
+ghost use Rattle.exam_model.specs.Timetable.{Placing};
+ghost use Rattle.office_files.specs.CanonicalText.{canonical_solution};
+ghost use Rattle.office_model.specs.Office.{OfficeState};
+ghost use Rattle.office_records.specs.Stands.{IsKept};
+ghost use Rattle.office_store.specs.Running.{Now};
+ghost use Rattle.office_program.specs.Export.{Exports, PrintsSolution, RefusesExport};
+ghost use Rattle.office_program.specs.Export.{published_solution};
+ghost use Rattle.office_program.specs.FaultLines.{IsOfExport};
+
+use crate::faults::{ProgramFault, fault_of_export, fault_of_open};
+use office_files::{FaultKind, write_solution};
+use office_store::{Office, StoreFault};
+use sqlite::{Alter, Connection};
+use std::alloc::Global;
+use std::io::Write;
+
+/// Why what is published is not written, or not said to be.
+#[derive(Clone, Copy, Debug, PartialEq, Eq)]
+pub enum ExportFault {
+    /// The database is no office's, or a statement failed.
+    Store(StoreFault),
+    /// Nothing is published.
+    NoPublication,
+    /// Memory for the text was refused.
+    NoMemory,
+    /// The writer failed; how much of the text went out is not known.
+    Write,
+}
+
+// `export`. The database holds an office: none is made.
+pub fn export<'a, W: Write>(
+    rt: &HostRuntime,
+    database: &str,
+    out: &mut W,
+) -> Result<u8, ProgramFault<'a>>
+    ensures status { IfOk result (λ status. status ≡ 0) }
+    ensures printed { IfOk result (λ _. PrintsSolution (W.contents out.old) (W.contents out.new)) }
+    ensures fault { IfErr result IsOfExport }
+{
+    let conn = match Connection::open(rt, database) {
+        Ok(conn) => conn,
+        Err(error) => return Err(fault_of_open(error)),
+    };
+    let (conn, done) = export_and_keep(rt.alloc(), conn, out);
+    // A log that can't be copied into the file stays beside it, and is read there.
+    let _ = conn.close();
+    done
+}
+
+// Writes what the office of a database has published; the connection comes back.
+fn export_and_keep<'a, S: Alter, W: Write>(
+    alloc: Global,
+    conn: Connection<S>,
+    out: &mut W,
+) -> (Connection<S>, Result<u8, ProgramFault<'a>>)
+    ensures status { IfOk result.1 (λ status. status ≡ 0) }
+    ensures printed { IfOk result.1 (λ _. PrintsSolution (W.contents out.old) (W.contents out.new)) }
+    ensures fault { IfErr result.1 IsOfExport }
+{
+    match export_run(alloc, conn, out) {
+        Ok(conn) => (conn, Ok(0)),
+        Err((fault, conn)) => (conn, Err(fault_of_export(fault))),
+    }
+}
+
+/// Writes the solution that the office of a database has published. The connection comes back.
+pub fn export_run<S: Alter, W: Write>(
+    alloc: Global,
+    conn: Connection<S>,
+    writer: &mut W,
+) -> Result<Connection<S>, (ExportFault, Connection<S>)>
+    // Over a disk that returns what was written: what is written is what the office has published.
+    ensures done { IfOk result (λ after. HasCleanDisk (state S.Store after)
+        → (there : OfficeState) → IsKept (state S.Store conn).now there
+        → Exports there (state S.Store after) (W.contents writer.old) (W.contents writer.new)) }
+    ensures refused { IfErr result (λ e. HasCleanDisk (state S.Store e.1)
+        → (there : OfficeState) → IsKept (state S.Store conn).now there
+        → RefusesExport there e.0) }
+
+    // Over any disk a whole solution is written, or nothing.
+    ensures printed { IfOk result (λ _.
+        PrintsSolution (W.contents writer.old) (W.contents writer.new)) }
+    ensures unwritten { IfErr result (λ e. e.0 ≢ ExportFault.Write
+        → Keeps (W.contents writer.old) (W.contents writer.new)) }
+{
+    let mut office = match Office::adopt(alloc, conn) {
+        Ok(office) => office,
+        Err((fault, conn)) => return Err((ExportFault::Store(fault), conn)),
+    };
+    match export_from(alloc, &mut office, writer) {
+        Ok(()) => Ok(office.release()),
+        Err(fault) => Err((fault, office.release())),
+    }
+}
+
+// Writes the solution that the office has published.
+fn export_from<S: Alter, W: Write>(
+    alloc: Global,
+    office: &mut Office<S>,
+    writer: &mut W,
+) -> Result<(), ExportFault>
+    ensures done { HasCleanDisk (state S.Store office.new) → (there : OfficeState)
+        → Now (state S.Store office.old) there
+        → IfOk result (λ _. Exports there (state S.Store office.new)
+        (W.contents writer.old) (W.contents writer.new)) }
+    ensures refused { HasCleanDisk (state S.Store office.new) → (there : OfficeState)
+        → Now (state S.Store office.old) there → IfErr result (RefusesExport there) }
+    ensures printed { IfOk result (λ _.
+        PrintsSolution (W.contents writer.old) (W.contents writer.new)) }
+    ensures unwritten { IfErr result (λ fault. fault ≢ ExportFault.Write
+        → Keeps (W.contents writer.old) (W.contents writer.new)) }
+    ensures clean { HasCleanDisk (state S.Store office.new)
+        → HasCleanDisk (state S.Store office.old) }
+{
+    let text = published_text(alloc, office)?;
+    match writer.write_all(&text) {
+        Ok(()) => Ok(()),
+        Err(_) => Err(ExportFault::Write),
+    }
+}
+
+// The solution that the office has published.
+fn published_text<S: Alter>(alloc: Global, office: &mut Office<S>) -> Result<Vec<u8>, ExportFault>
+    ensures published { HasCleanDisk (state S.Store office.new) → (there : OfficeState)
+        → Now (state S.Store office.old) there
+        → IfOk result (λ text. published_solution there ≡ Some text.items) }
+    ensures stays { HasCleanDisk (state S.Store office.new) → (there : OfficeState)
+        → Now (state S.Store office.old) there
+        → IfOk result (λ _. Now (state S.Store office.new) there) }
+    ensures refused { HasCleanDisk (state S.Store office.new) → (there : OfficeState)
+        → Now (state S.Store office.old) there → IfErr result (RefusesExport there) }
+    ensures solution { IfOk result (λ text. (T : Placing) × (text.items ≡ canonical_solution T)) }
+    ensures read { IfErr result (λ fault. fault ≢ ExportFault.Write) }
+    ensures clean { HasCleanDisk (state S.Store office.new)
+        → HasCleanDisk (state S.Store office.old) }
+{
+    let found = match office.publication(alloc) {
+        Ok(found) => found,
+        Err(fault) => return Err(ExportFault::Store(fault)),
+    };
+    let Some((timetable, _)) = found else {
+        return Err(ExportFault::NoPublication);
+    };
+    match write_solution(alloc, &timetable) {
+        Ok(text) => Ok(text),
+        Err(fault) => Err(text_fault(fault.what)),
+    }
+}
+
+// Why a published solution has no text. Each exam of a publication has a place.
+fn text_fault(what: FaultKind) -> ExportFault
+    ensures memory { what ≡ FaultKind.NoMemory → result ≡ ExportFault.NoMemory }
+    ensures other { what ≢ FaultKind.NoMemory → result ≡ ExportFault.Store StoreFault.BadSchema }
+{
+    match what {
+        FaultKind::NoMemory => ExportFault::NoMemory,
+        _ => ExportFault::Store(StoreFault::BadSchema),
+    }
+}

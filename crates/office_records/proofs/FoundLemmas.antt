@@ -1,0 +1,127 @@
+-- What was found of a publication is the only publication that its rows have.
+use Rattle.std.proofs.Common.{◌≡◌, Bool, true, false, List, [], length, map, nat_eq, Option, Some, None, Result, Ok, Err, sym, ◌∙◌, ap, subst, true≢false}
+use Rattle.std.specs.Prelude.{◌↔◌, IfErr, IsPermutation, IsTrue, OnErr, Vec}
+use Rattle.std.specs.declared.alloc.Global.{Global}
+use Rattle.std.proofs.lemmas.List.{nil_from_length}
+use Rattle.std.proofs.lemmas.List.Sorted.{length_permutation}
+use Rattle.exam_model.specs.Instance.{Session}
+use Rattle.exam_model.specs.Timetable.{Placing}
+use Rattle.exam_publish.specs.declared.seat_row.SeatRow as publish
+use Rattle.exam_publish.specs.Rows.{AreNumbered, RowsInOrder}
+use Rattle.office_tables.specs.declared.rows.PlacedRow.{PlacedRow}
+use Rattle.office_tables.specs.declared.rows.PartShareRow.{PartShareRow}
+use Rattle.office_tables.specs.declared.rows.SeatRow.{SeatRow}
+use Rattle.office_tables.specs.declared.rows.StudentShareRow.{StudentShareRow}
+use Rattle.office_model.specs.Office.{IsPublication, Publication}
+use Rattle.office_records.specs.Found.{ArePublication}
+use Rattle.office_records.specs.Publications.{ArePlaces, ArePublished, AreRowsOf, HasPlacesAndSeats, publication, stored_seat}
+use Rattle.office_records.specs.SharesStored.{AreShared}
+use Rattle.office_records.specs.declared.fault.RecordFault.{RecordFault}
+use Rattle.office_records.specs.declared.fault.RecordFault.TheVariants.{BadRows}
+use Rattle.office_records.proofs.PlacedRowLemmas.{same_places}
+use Rattle.office_records.proofs.PublicationLemmas.{has_places_and_seats}
+
+-- a timetable and its seats, if there are such
+abbrev Found : Type 0
+Found = Option (Placing × Vec publish.SeatRow Global)
+
+-- an empty list, and one that is none
+pub not_empty : {X : Type 0} (xs : List X) (told : Bool) → told ≡ nat_eq (length xs) 0
+    → told ≡ false → xs ≡ [] → ⊥
+not_empty xs told is untrue none =
+    true≢false (sym (is ∙ ap (λ l. nat_eq (length l) 0) none) ∙ untrue)
+
+pub no_rows : {X : Type 0} (xs : List X) → IsPermutation xs [] → xs ≡ []
+no_rows xs same = nil_from_length xs (sym (length_permutation xs [] same))
+
+module _ (I : Session) (mark : Bool) (places : List PlacedRow) (seats : List SeatRow) where
+  -- no publication of the session has these rows
+  abbrev pub NoneHas : Type 0
+  NoneHas =
+      (published : Option Publication) → AreRowsOf mark places seats published
+      → ArePublished I published → ⊥
+
+  -- no other publication of the session has them
+  abbrev pub HasAlone : Option Publication → Type 0
+  HasAlone own =
+      (published : Option Publication) → AreRowsOf mark places seats published
+      → ArePublished I published → own ≡ published
+
+  -- ---- unmarked
+
+  module _ (unmarked : mark ≡ false) where
+    pub nothing_has_them : (r : Result Found RecordFault) → OnErr r (places ≡ [] → seats ≡ [] → ⊥)
+        → IfErr r (λ e. e ≡ BadRows → NoneHas)
+    nothing_has_them (Ok found) bad = tt
+    nothing_has_them (Err fault) bad = λ _. each bad
+      where
+        each : (places ≡ [] → seats ≡ [] → ⊥) → NoneHas
+        each bad None are is =
+            bad (no_rows places are.stands.placed) (no_rows seats are.stands.seat)
+        each bad (Some p) are is = true≢false (sym are.marked ∙ unmarked)
+
+  -- ---- marked
+
+  module _ (marked : mark ≡ true) where
+    marked_none : AreRowsOf mark places seats None → ⊥
+    marked_none are = true≢false (sym marked ∙ are.marked)
+
+    places_are : (p : Publication) → AreRowsOf mark places seats (Some p) → IsPublication I p
+        → ArePlaces I places p.timetable
+    places_are p are is = record {
+      exams = is.rows.exams;
+      places = is.rows.places;
+      rows = are.stands.placed;
+    }
+
+    -- the seats are those of no rows
+    pub no_seats : ((own : List publish.SeatRow) → RowsInOrder own → AreNumbered own
+        → IsPermutation seats (map stored_seat own) → ⊥) → NoneHas
+    no_seats none None are is = marked_none are
+    no_seats none (Some p) are is =
+        none p.rows is.rows.in_order (has_places_and_seats I p is).numbered are.stands.seat
+
+    module _ (T : Placing) (rows : List publish.SeatRow) (places_is : ArePlaces I places T)
+        (seats_only : (own : List publish.SeatRow) → RowsInOrder own
+        → IsPermutation seats (map stored_seat own) → rows ≡ own) where
+      one : (p : Publication) → AreRowsOf mark places seats (Some p) → IsPublication I p
+          → publication T rows ≡ p
+      one p are is = λ i. record {
+        timetable = same_places I places T p.timetable places_is (places_are p are is) i;
+        rows = seats_only p.rows is.rows.in_order are.stands.seat i;
+      }
+
+      pub alone : HasAlone (Some (publication T rows))
+      alone None are is = absurd (marked_none are)
+      alone (Some p) are is = ap Some (one p are is)
+
+      -- they are refused
+      pub refused_rows : (sound : Bool)
+          → IsTrue sound ↔ HasPlacesAndSeats I (publication T rows) → sound ≡ false → NoneHas
+      refused_rows sound tells untrue None are is = marked_none are
+      refused_rows sound tells untrue (Some p) are is =
+          true≢false
+          (sym (tells.1
+          (subst (HasPlacesAndSeats I) (sym (one p are is)) (has_places_and_seats I p is)))
+          ∙ untrue)
+
+-- ---- with shares
+
+module _ (I : Session) (mark : Bool) (places : List PlacedRow) (seats : List SeatRow)
+    (students : List StudentShareRow) (parts : List PartShareRow) where
+  -- neither a publication nor none has these rows and shares
+  abbrev pub IsNone : Type 0
+  IsNone =
+      (published : Option Publication)
+      → ArePublication I mark places seats students parts published → ⊥
+
+  module _ (own : Option Publication) (alone : HasAlone I mark places seats own) where
+    pub no_such_shares : (AreShared I own students parts → ⊥) → IsNone
+    no_such_shares none published are =
+        none (subst (λ o. AreShared I o students parts) (sym (alone published are.rows are.is))
+        are.shared)
+
+-- where nothing is published, there is no share
+pub no_shares : (I : Session) (students : List StudentShareRow) (parts : List PartShareRow)
+    → AreShared I None students parts → (students ≡ []) × (parts ≡ [])
+no_shares I students parts are = (no_rows students are.of_students, no_rows parts are.of_parts)

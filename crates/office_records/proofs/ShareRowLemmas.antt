@@ -1,0 +1,97 @@
+-- The shares of candidates, row by row.
+use Rattle.std.proofs.Common.{◌≡◌, ℕ, ◌<◌, ◌≤◌, eqb, inl, inr, Result, Ok, Err, List, [], ◌∷◌, length, map, get_or, nat_cmp, All, refl, sym, ◌∙◌, ap, arith}
+use Rattle.std.specs.List.{AllByRecursion}
+use Rattle.std.specs.List.Sorted.{IsBinarySearchResult, IsSortedByKey}
+use Rattle.std.specs.Prelude.{IsPermutation, is_ok}
+use Rattle.std.proofs.lemmas.Bool.{cases_lt, eq-eqb, ne_eqb}
+use Rattle.std.proofs.lemmas.List.{get_or-map, get_or_default, length-map}
+use Rattle.std.proofs.lemmas.List.Folds.{list_any_at, list_any_none}
+use Rattle.std.proofs.lemmas.List.Sorted.{searched}
+use Rattle.sqlite_keyed.proofs.ListLemmas.{ascending-map}
+use Rattle.exam_model.specs.Enrolments.{IsAscending, has_student}
+use Rattle.exam_model.proofs.SumLemmas.{IsChain}
+use Rattle.exam_publish.proofs.ListLemmas.{chain_from_ascending}
+use Rattle.exam_score.specs.Penalty.{PersonalPenalty}
+use Rattle.office_tables.specs.declared.rows.StudentShareRow.{StudentShareRow}
+use Rattle.office_records.specs.SharesStored.{IsShare, student_share_row}
+use Rattle.office_records.proofs.OrderLemmas.{one_order}
+
+abbrev Share : Type 0
+Share = ℕ × PersonalPenalty
+
+abbrev share_back : StudentShareRow → Share
+share_back row = (row.student, record { row = row.in_row; day = row.in_day; spread = row.spread })
+
+back : (shares : List Share) → map share_back (map student_share_row shares) ≡ shares
+back [] = refl
+back (share ∷ shares) = ap (λ l. share ∷ l) (back shares)
+
+-- rows are those of one list of shares
+pub same_shares : (own others : List Share) → map student_share_row own ≡ map student_share_row others
+    → own ≡ others
+same_shares own others same = sym (back own) ∙ ap (map share_back) same ∙ back others
+
+-- a row is that of a share within the limits
+pub share_at : (rows : List StudentShareRow) (shares : List Share) → All IsShare shares
+    → map student_share_row shares ≡ rows → (i : ℕ) (d : StudentShareRow) → i < length rows
+    → (share : Share) × IsShare share × (student_share_row share ≡ get_or rows i d)
+share_at rows shares all same i d within =
+    let long = length-map shares student_share_row in
+    let inside : i < length shares
+    = let size = ap length same in omega (arith, size, long, within) in (
+      get_or shares i (share_back d),
+      all i (share_back d) inside,
+      sym (get_or-map student_share_row shares i (share_back d) d inside)
+          ∙ ap (λ l. get_or l i d) same,
+    )
+
+-- a row that is of no share within the limits
+pub no_share_at : (rows : List StudentShareRow) (shares : List Share) → All IsShare shares
+    → map student_share_row shares ≡ rows → (i : ℕ) (d : StudentShareRow) → i < length rows
+    → ((share : Share) → IsShare share → student_share_row share ≡ get_or rows i d → ⊥) → ⊥
+no_share_at rows shares all same i d within none =
+    let found = share_at rows shares all same i d within in none found.0 found.1 found.2
+
+-- ---- sorted rows
+
+each_unmapped : {X Y : Type 0} (P : Y → Type 0) (f : X → Y) (xs : List X)
+    → AllByRecursion P (map f xs) → AllByRecursion (λ x. P (f x)) xs
+each_unmapped P f [] h = tt
+each_unmapped P f (x ∷ xs) h = (h.0, each_unmapped P f xs h.1)
+
+unmapped : {X Y : Type 0} (R : Y → Y → Type 0) (f : X → Y) (xs : List X) → IsChain R (map f xs)
+    → IsChain (λ x y. R (f x) (f y)) xs
+unmapped R f [] h = tt
+unmapped R f (x ∷ xs) h = (each_unmapped (R (f x)) f xs h.0, unmapped R f xs h.1)
+
+pub sorted_shares : (found sorted : List StudentShareRow) (shares : List Share)
+    → IsAscending (map (λ (share : Share). share.0) shares)
+    → IsPermutation found (map student_share_row shares) → IsPermutation found sorted
+    → IsSortedByKey (λ (row : StudentShareRow). row.student) nat_cmp sorted
+    → sorted ≡ map student_share_row shares
+sorted_shares found sorted shares up same moved order =
+    one_order (λ (row : StudentShareRow). row.student) found (map student_share_row shares) sorted
+    (ascending-map (λ (x : StudentShareRow) y. x.student < y.student) student_share_row shares
+    (unmapped (λ x y. x < y) (λ (share : Share). share.0) shares
+    (chain_from_ascending (map (λ (share : Share). share.0) shares) up)))
+    same moved order
+
+-- ---- a search among candidates
+
+rise : (xs : List ℕ) → IsAscending xs → (i j : ℕ) → i ≤ j → j < length xs
+    → get_or xs i 0 ≤ get_or xs j 0
+rise xs up i j le lt = grind (arith, up i j, λ (same : i ≡ j). ap (λ k. get_or xs k 0) same)
+
+-- a search tells whether a student is there
+pub has_searched : (xs : List ℕ) (x : ℕ) (r : Result ℕ ℕ) → IsAscending xs
+    → IsBinarySearchResult (λ y. nat_cmp y x) xs r → is_ok r ≡ has_student xs x
+has_searched xs x (Ok at) up is =
+    let found = searched xs x (Ok at) is (rise xs up) in
+    sym (list_any_at (λ t. eqb t x) xs at 0 found.0 (eq-eqb _ _ found.1))
+has_searched xs x (Err at) up is =
+    let gap = searched xs x (Err at) is (rise xs up) in
+    sym (list_any_none (λ t. eqb t x) xs (λ k d lt.
+    rw (get_or_default xs k d 0 lt) (elim (cases_lt k at) [
+      | inl below ↦ ne_eqb _ _ (omega (arith, gap.1 k below))
+      | inr above ↦ ne_eqb _ _ (omega (arith, gap.2 k above lt))
+    ])))

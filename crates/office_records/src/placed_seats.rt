@@ -1,0 +1,98 @@
+// Whether seats are those of a timetable.
+ghost use Rattle.std.specs.Prelude.{◌≡◌, ◌↔◌, All, AllPairs, IfOk, IsTrue};
+ghost use Rattle.exam_model.specs.Fits.{Suits};
+ghost use Rattle.exam_publish.specs.Rows.{AreNumbered, RowsInOrder, comes_before, row_pair};
+ghost use Rattle.exam_publish.specs.Seats.{HaveOwnSeats};
+ghost use Rattle.office_records.specs.Publications.{HasPlacesAndSeats, IsSeatedRow, is_same_seat, publication};
+
+use exam_model::{Instance, Timetable};
+use exam_publish::SeatRow;
+use exam_terms::limits::MAX_PAIRS;
+use std::alloc::{AllocError, Global};
+
+/// Whether each exam has a place, and each row is at its exam's place, with a seat of its own in
+/// the room.
+pub fn have_places_and_seats(
+    alloc: Global,
+    instance: &Instance,
+    timetable: &Timetable,
+    rows: &[SeatRow],
+) -> Result<bool, AllocError>
+    requires { Suits instance.now timetable.now }
+    ensures { IfOk result (λ have. IsTrue have
+        ↔ HasPlacesAndSeats instance.now (publication timetable.now rows.now)) }
+{
+    tell_numbers(rows);
+    let complete = timetable.complete().is_none();
+    let few = rows.len() <= MAX_PAIRS as usize;
+    let own = have_own_seats(alloc, rows)?;
+    Ok(complete && few && own && are_in_order(rows) && are_seated(instance, timetable, rows))
+}
+
+/// Reads the students' numbers for their limit, and does nothing.
+pub fn tell_numbers(rows: &[SeatRow])
+    ensures { AreNumbered rows.now }
+{
+    'rows: for row in rows {
+        let _number = row.student.get();
+    }
+}
+
+// Whether no two rows are of one seat in one period.
+fn have_own_seats(alloc: Global, rows: &[SeatRow]) -> Result<bool, AllocError>
+    ensures { IfOk result (λ own. IsTrue own ↔ AllPairs HaveOwnSeats rows.now) }
+{
+    let mut sorted = Vec::from_slice(alloc, rows)?;
+    sorted.sort_by_key(|row| ((row.period, row.room), row.seat))?;
+    Ok(sorted.is_sorted_by(|row, next| !is_same_seat(*row, *next)))
+}
+
+// Whether two rows are of one seat in one period.
+fn is_same_seat(row: SeatRow, other: SeatRow) -> bool
+    ensures { result ≡ is_same_seat row other }
+{
+    row.period == other.period && row.room == other.room && row.seat == other.seat
+}
+
+// Whether each row comes before the next, by exam and then by student.
+fn are_in_order(rows: &[SeatRow]) -> bool
+    ensures { IsTrue result ↔ RowsInOrder rows.now }
+{
+    rows.is_sorted_by(|row, next| comes_before(*row, *next))
+}
+
+// Whether a row's exam is smaller, or the same and its student smaller.
+fn comes_before(row: SeatRow, other: SeatRow) -> bool
+    ensures { result ≡ comes_before (row_pair row) (row_pair other) }
+{
+    row.exam < other.exam || row.exam == other.exam && row.student < other.student
+}
+
+// Whether each row is at its exam's place, with a seat of the room.
+fn are_seated(instance: &Instance, timetable: &Timetable, rows: &[SeatRow]) -> bool
+    requires { Suits instance.now timetable.now }
+    ensures { IsTrue result ↔ All (IsSeatedRow instance.now timetable.now) rows.now }
+{
+    'rows: for row in rows {
+        if !is_seated(instance, timetable, *row) {
+            return false;
+        }
+    }
+    true
+}
+
+// Whether a row is at its exam's place, with a seat of the room.
+fn is_seated(instance: &Instance, timetable: &Timetable, row: SeatRow) -> bool
+    requires { Suits instance.now timetable.now }
+    ensures { IsTrue result ↔ IsSeatedRow instance.now timetable.now row }
+{
+    if row.exam.get() >= timetable.exams() {
+        return false;
+    }
+    let Some(place) = timetable.get(row.exam) else {
+        return false;
+    };
+    let room = instance.room(place.room);
+    let stands = place.period == row.period && place.room == row.room;
+    stands && 1 <= row.seat && row.seat <= room.capacity
+}

@@ -1,0 +1,91 @@
+// Seat rows as the tables have them.
+ghost use Rattle.std.specs.Prelude.{◌≡◌, ◌<◌, List, map, IfErr, IfNone, IfOk, IfSome, IsPermutation};
+ghost use Rattle.exam_terms.specs.declared.limits.TheConstants.{MAX_STUDENT};
+ghost use Rattle.exam_publish.specs.Rows.{AreNumbered, RowsInOrder};
+ghost use Rattle.exam_publish.specs.declared.seat_row.SeatRow as published;
+ghost use Rattle.office_records.specs.Publications.{stored_seat};
+
+use crate::fault::RecordFault;
+use exam_model::{ExamNo, PeriodNo, RoomNo, StudentNo};
+use exam_publish as publish;
+use office_tables::SeatRow;
+use std::alloc::{AllocError, Global};
+
+/// The rows to be stored of a publication's seats, in their order.
+pub fn seat_rows(alloc: Global, rows: &[publish::SeatRow]) -> Result<Vec<SeatRow>, AllocError>
+    ensures { IfOk result (λ stored. stored.items ≡ map stored_seat rows.now) }
+{
+    rows.iter().map(|row| stored_seat(*row)).collect(alloc)
+}
+
+// A seat as the tables have it.
+fn stored_seat(row: publish::SeatRow) -> SeatRow
+    ensures { result ≡ stored_seat row }
+{
+    SeatRow {
+        student: row.student.get(),
+        exam: row.exam.get(),
+        period: row.period.get(),
+        room: row.room.get(),
+        seat: row.seat,
+    }
+}
+
+/// The seats in the order of their exams, and of their students in each. `BadRows`: a student's
+/// number is beyond the limit.
+pub fn seats_in_order(alloc: Global, rows: &[SeatRow]) -> Result<Vec<publish::SeatRow>, RecordFault>
+    ensures same { IfOk result (λ seats. IsPermutation rows.now (map stored_seat seats.items)) }
+    ensures only { IfOk result (λ seats. (own : List published.SeatRow) → RowsInOrder own
+        → IsPermutation rows.now (map stored_seat own) → seats.items ≡ own) }
+    ensures none { IfErr result (λ e. e ≡ RecordFault.BadRows → (own : List published.SeatRow)
+        → RowsInOrder own → AreNumbered own → IsPermutation rows.now (map stored_seat own) → ⊥) }
+{
+    let sorted = by_exam(alloc, rows)?;
+    let seats = own_seats(alloc, &sorted)?;
+    Ok(seats)
+}
+
+// The rows in the order of their exams, and of their students in each.
+fn by_exam(alloc: Global, rows: &[SeatRow]) -> Result<Vec<SeatRow>, AllocError>
+    ensures same { IfOk result (λ sorted. IsPermutation rows.now sorted.items) }
+    ensures only { IfOk result (λ sorted. (own : List published.SeatRow) → RowsInOrder own
+        → IsPermutation rows.now (map stored_seat own) → sorted.items ≡ map stored_seat own) }
+{
+    let mut sorted = Vec::from_slice(alloc, rows)?;
+    sorted.sort_by_key(|row| (row.exam, row.student))?;
+    Ok(sorted)
+}
+
+/// The seats that stored rows are, in their order. `BadRows`: a student's number is beyond the
+/// limit.
+pub fn own_seats(alloc: Global, rows: &[SeatRow]) -> Result<Vec<publish::SeatRow>, RecordFault>
+    ensures are { IfOk result (λ seats. map stored_seat seats.items ≡ rows.now) }
+    ensures only { IfOk result (λ seats. (own : List published.SeatRow)
+        → map stored_seat own ≡ rows.now → seats.items ≡ own) }
+    ensures none { IfErr result (λ e. e ≡ RecordFault.BadRows → (own : List published.SeatRow)
+        → AreNumbered own → map stored_seat own ≡ rows.now → ⊥) }
+{
+    let mut seats = Vec::with_capacity(alloc, rows.len())?;
+    'rows: for row in rows {
+        let Some(seat) = own_seat(*row) else {
+            return Err(RecordFault::BadRows);
+        };
+        seats.push(seat).map_err(|_| RecordFault::NoMemory)?;
+    }
+    Ok(seats)
+}
+
+// The seat that a stored row is, unless its student has no such number.
+fn own_seat(row: SeatRow) -> Option<publish::SeatRow>
+    ensures some { IfSome result (λ seat. stored_seat seat ≡ row) }
+    ensures none { IfNone result (MAX_STUDENT < row.student) }
+{
+    let student = StudentNo::new(row.student)?;
+    Some(publish::SeatRow {
+        student,
+        exam: ExamNo::new(row.exam),
+        period: PeriodNo::new(row.period),
+        room: RoomNo::new(row.room),
+        seat: row.seat,
+    })
+}

@@ -1,0 +1,87 @@
+-- What a candidate is shown, as JSON.
+use Rattle.std.specs.Prelude.{ℕ, ◌-◌, ◌++◌, Bool, true, false, List, map, length, replicate, codes, decimal, Option, Some, None, option_map}
+use Rattle.serde_json.specs.Data.{Data, null, string, array, object, member, no_members}
+use Rattle.serde_json.specs.Written.{compact_text}
+use Rattle.exam_calendar.specs.declared.date.Date.{Date}
+use Rattle.exam_score.specs.Penalty.{PersonalPenalty, personal_total}
+use Rattle.office_model.specs.declared.views.ShownPlace.{ShownPlace}
+use Rattle.office_model.specs.declared.views.ViewRow.{ViewRow}
+use Rattle.serde_json.specs.View.{items_of, view}
+use Rattle.office_replies.specs.Views.{counted, or_null}
+use Rattle.office_replies.specs.declared.candidates.RowMembers.{RowMembers}
+
+-- a number in at least so many digits, with zeros in front
+abbrev pub zero_padded : ℕ → ℕ → List ℕ
+zero_padded width n = replicate (width - length (decimal n)) 48 ++ decimal n
+
+-- YYYY-MM-DD
+abbrev pub date_text : Date → List ℕ
+date_text d =
+    zero_padded 4 d.year ++ codes "-" ++ zero_padded 2 d.month ++ codes "-"
+    ++ zero_padded 2 d.day
+
+-- HH:MM:SS
+abbrev pub start_text : ShownPlace → List ℕ
+start_text at =
+    zero_padded 2 at.hour ++ codes ":" ++ zero_padded 2 at.minute ++ codes ":"
+    ++ zero_padded 2 at.second
+
+-- a text, or null where there is none
+abbrev pub text_or_null : Option (List ℕ) → Data
+text_or_null None = null
+text_or_null (Some text) = string text
+
+-- enrolled with a seat, enrolled without one, or no longer enrolled
+abbrev pub state_text : Bool → Option ℕ → List ℕ
+state_text true (Some seat) = codes "seated"
+state_text true None = codes "pending"
+state_text false seat = codes "withdrawn"
+
+-- one of her exams: the day, the place and the start are null where none is published, and the seat
+-- is where she has none
+abbrev pub exam_data : ViewRow → Data
+exam_data row = object
+    (member (codes "date") (text_or_null (option_map (λ at. date_text at.date) row.at))
+    (member (codes "exam") (counted row.exam)
+    (member (codes "period") (or_null (option_map (λ at. at.period) row.at))
+    (member (codes "room") (or_null (option_map (λ at. at.room) row.at))
+    (member (codes "seat") (or_null row.seat)
+    (member (codes "start") (text_or_null (option_map start_text row.at))
+    (member (codes "state") (string (state_text row.enrolled row.seat)) no_members)))))))
+
+-- a candidate: her number, her exams, and what they cost her
+abbrev pub candidate_data : ℕ → List ViewRow → PersonalPenalty → Data
+candidate_data s rows penalty = object
+    (member (codes "candidate") (counted s)
+    (member (codes "exams") (array (items_of (map exam_data rows)))
+    (member (codes "penalty") (counted (personal_total penalty)) no_members)))
+
+-- what her exams cost her, and all of it together
+abbrev pub cost_data : PersonalPenalty → Data
+cost_data penalty = object
+    (member (codes "day") (counted penalty.day)
+    (member (codes "penalty") (counted (personal_total penalty))
+    (member (codes "row") (counted penalty.row)
+    (member (codes "spread") (counted penalty.spread) no_members))))
+
+abbrev pub exam_text : ViewRow → List ℕ
+exam_text row = compact_text (exam_data row)
+
+abbrev pub candidate_text : ℕ → List ViewRow → PersonalPenalty → List ℕ
+candidate_text s rows penalty = compact_text (candidate_data s rows penalty)
+
+abbrev pub cost_text : PersonalPenalty → List ℕ
+cost_text penalty = compact_text (cost_data penalty)
+
+-- ---- as the program holds them
+
+-- the object of what is said of an exam
+abbrev pub row_data : RowMembers → Data
+row_data m = object
+    (member (codes "date") (view m.date)
+    (member (codes "exam") (counted m.exam)
+    (member (codes "period") (view m.period)
+    (member (codes "room") (view m.room)
+    (member (codes "seat") (view m.seat)
+    (member (codes "start") (view m.start)
+    (member (codes "state") (string m.state.now) no_members)))))))

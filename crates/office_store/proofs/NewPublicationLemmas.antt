@@ -1,0 +1,148 @@
+-- What is put in where a draft is published.
+use Rattle.std.proofs.Common.{◌≡◌, ◌≢◌, ℕ, zero, suc, ◌+◌, ◌-◌, ◌<◌, ◌≤◌, List, length, Option}
+use Rattle.std.proofs.Common.{Some, None, Result, Ok, Err, refl, sym, ◌∙◌, ap, subst, arith}
+use Rattle.std.specs.Prelude.{IfErr, IfOk, slice_get, slice_index}
+use Rattle.std.proofs.lemmas.Option.{get_or_from_slice_get, slice_get_within}
+use Rattle.std.proofs.lemmas.List.FromFn.{length-map-range_with_len}
+use Rattle.exam_model.specs.Enrolments.{Enrolled, IsAscending}
+use Rattle.exam_model.specs.Instance.{IsInstance, Session}
+use Rattle.exam_model.specs.Pairs.{pairs_of}
+use Rattle.exam_model.specs.Timetable.{Placing}
+use Rattle.exam_publish.specs.Permit.{RefusesPublication, publish_refusal}
+use Rattle.exam_publish.specs.Seats.{seat_rows}
+use Rattle.exam_publish.specs.Shares.{enrolled_in, period_share, room_share, shares_of}
+use Rattle.exam_publish.specs.declared.fault.PublishFault.{PublishFault}
+use Rattle.exam_publish.specs.declared.fault.PublishFault.TheVariants.{Broken, NoMemory, Unplaced}
+use Rattle.exam_publish.specs.declared.seat_row.SeatRow.{SeatRow}
+use Rattle.exam_score.specs.Penalty.{total_of}
+use Rattle.exam_score.specs.Track.{exam_front, track}
+use Rattle.office_model.specs.Commands.{draft_shown}
+use Rattle.office_model.specs.Office.{Records}
+use Rattle.office_model.specs.Publishing.{draft_published, rows_now}
+use Rattle.office_model.specs.declared.fault.Refusal.TheVariants as refusal
+use Rattle.office_model.specs.declared.fault.StoreFault.{StoreFault}
+use Rattle.office_model.specs.declared.fault.StoreFault.TheVariants.{BadSchema, Refused, Store}
+use Rattle.office_records.specs.Memory.{memory_of}
+use Rattle.office_records.specs.SharesStored.{HasFewParts}
+use Rattle.office_store.specs.NewPublications.{ArePutIn, Publishes}
+use Rattle.office_store.specs.Running.{IsFault}
+use Rattle.office_store.specs.declared.new_publication.NewPublication.{NewPublication}
+
+-- ---- how many candidates
+
+-- a number in ascending numbers is no smaller than its index
+rises : (xs : List ℕ) → IsAscending xs → (i : ℕ) → i < length xs → i ≤ slice_index xs i
+rises xs h zero within = omega arith
+rises xs h (suc i) within =
+    let before = rises xs h i (omega arith) in
+    let less = h i (suc i) (omega arith) within in
+    omega (arith, before, less)
+
+pub count_within : (xs : List ℕ) (last : ℕ) → IsAscending xs
+    → Some last ≡ slice_get xs (length xs - 1) → length xs ≤ last + 1
+count_within xs last h is =
+    let within = slice_get_within xs (length xs - 1) last (sym is) in
+    let here : slice_index xs (length xs - 1) ≡ last
+    = get_or_from_slice_get xs (length xs - 1) last 0 (sym is) in
+    let least = rises xs h (length xs - 1) within in
+    omega (arith, within, here, least)
+
+-- ---- how many shares
+
+-- no more parts have a share than a session has
+pub few_parts : (I : Session) (rows : List SeatRow) (T : Placing) → IsInstance I
+    → HasFewParts (shares_of I rows T)
+few_parts I rows T known =
+    let exams : length (shares_of I rows T).exams ≡ length I.exams
+    = length-map-range_with_len (exam_front I (enrolled_in (length I.exams) rows) T) 0
+    (length I.exams) in
+    let periods : length (shares_of I rows T).periods ≡ length I.periods
+    = length-map-range_with_len (period_share I T) 0 (length I.periods) in
+    let rooms : length (shares_of I rows T).rooms ≡ length I.rooms
+    = length-map-range_with_len (room_share I T) 0 (length I.rooms) in
+    record {
+      exams = omega (arith, exams, known.limits.counts);
+      periods = omega (arith, periods, known.limits.counts);
+      rooms = omega (arith, rooms, known.limits.counts);
+    }
+
+-- ---- the session
+
+pub same_session : (r : Records) (I : Session) (E : Enrolled)
+    → memory_of (Some r) ≡ Some (I, E) → r.session ≡ I
+same_session r I E memory = ap (λ (p : Session × Enrolled). p.0) both
+  where
+    both : ◌≡◌ {A = Session × Enrolled} (r.session, r.enrolments) (I, E)
+    both = cc
+
+-- ---- refusals
+
+-- a draft that isn't there is not published either
+not_there : (d : ℕ) (r : Records) (e : StoreFault) → draft_shown d (Some r) ≡ Err e
+    → draft_published d (Some r) ≡ Err e
+not_there d r e h = go (r.draft d) refl
+  where
+    go : (o : Option Placing) → r.draft d ≡ o → draft_published d (Some r) ≡ Err e
+    go None is = rw is (let none = rw is at h in cc)
+    go (Some S) is = absurd (let shown = rw is at h in cc)
+
+pub not_shown : (d : ℕ) (r : Records) (e : StoreFault) → IsFault (draft_shown d (Some r)) e
+    → IsFault (draft_published d (Some r)) e
+not_shown d r Store h = tt
+not_shown d r BadSchema h = h
+not_shown d r e h = not_there d r e h
+
+-- a draft that may not be published is refused for that
+refused_so : (d : ℕ) (r : Records) (T : Placing) (fault : PublishFault) → r.draft d ≡ Some T
+    → publish_refusal r.session r.enrolments T ≡ Some fault
+    → draft_published d (Some r) ≡ Err (Refused (refusal.Publish fault))
+refused_so d r T fault there is = rw (there, is) refl
+
+module _ (d : ℕ) (r : Records) (I : Session) (E : Enrolled) (T : Placing)
+    (memory : memory_of (Some r) ≡ Some (I, E)) (there : r.draft d ≡ Some T) where
+  both : ◌≡◌ {A = Session × Enrolled} (r.session, r.enrolments) (I, E)
+  both = cc
+
+  pub permit_refused : (fault : PublishFault) (e : StoreFault) → RefusesPublication I E T fault
+      → (fault ≡ NoMemory → e ≡ Store) → (fault ≢ NoMemory → e ≡ Refused (refusal.Publish fault))
+      → IsFault (draft_published d (Some r)) e
+  permit_refused fault e refuses memory refused =
+      go fault (subst (λ (p : Session × Enrolled). RefusesPublication p.0 p.1 T fault) (sym both)
+      refuses) memory refused
+    where
+      go : (fault : PublishFault) → RefusesPublication r.session r.enrolments T fault
+          → (fault ≡ NoMemory → e ≡ Store)
+          → (fault ≢ NoMemory → e ≡ Refused (refusal.Publish fault))
+          → IsFault (draft_published d (Some r)) e
+      go NoMemory is memory refused =
+          subst (IsFault (draft_published d (Some r))) (sym (memory refl)) tt
+      go (Unplaced n) is memory refused =
+          subst (IsFault (draft_published d (Some r))) (sym (refused (λ e. absurd cc)))
+          (refused_so d r T (Unplaced n) there is)
+      go (Broken b) is memory refused =
+          subst (IsFault (draft_published d (Some r))) (sym (refused (λ e. absurd cc)))
+          (refused_so d r T (Broken b) there is)
+
+  -- ---- what is put in
+
+  pub publishes : (old rows : List SeatRow) (penalty : ℕ)
+      (result : Result NewPublication StoreFault) → publish_refusal I E T ≡ None
+      → old ≡ rows_now r.published → rows ≡ seat_rows (pairs_of E) T old
+      → penalty ≡ total_of (track I E T) → IfOk result (ArePutIn I T old rows penalty)
+      → IfErr result (λ e. e ≡ Store) → Publishes d r result
+  publishes old rows penalty (Ok new) permitted was are costs put err = record {
+    timetable = T;
+    draft = there;
+    permitted = subst (λ (p : Session × Enrolled). publish_refusal p.0 p.1 T ≡ None) (sym both)
+        permitted;
+    put = subst (λ (p : Session × Enrolled). ArePutIn p.0 T (rows_now r.published)
+        (seat_rows (pairs_of p.1) T (rows_now r.published)) (total_of (track p.0 p.1 T)) new)
+        (sym both)
+        (subst (λ n. ArePutIn I T (rows_now r.published)
+        (seat_rows (pairs_of E) T (rows_now r.published)) n new) costs
+        (subst (λ l. ArePutIn I T (rows_now r.published) l penalty new)
+        (are ∙ ap (seat_rows (pairs_of E) T) was)
+        (subst (λ l. ArePutIn I T l rows penalty new) was put)));
+  }
+  publishes old rows penalty (Err e) permitted was are costs put err =
+      subst (IsFault (draft_published d (Some r))) (sym err) tt

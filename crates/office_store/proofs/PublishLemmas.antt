@@ -1,0 +1,364 @@
+-- A publication that is put in.
+use Rattle.std.proofs.Common.{◌≡◌, ℕ, true, not, eqb, List, [], ◌∷◌, ◌++◌}
+use Rattle.std.proofs.Common.{map, filter, reverse, length, Option, Some, None, Result, Ok, Err, refl}
+use Rattle.std.proofs.Common.{sym, ◌∙◌, ap, ap₂, subst, arith}
+use Rattle.std.specs.Prelude.{◌||◌, IsPermutation}
+use Rattle.std.specs.List.{list_any}
+use Rattle.std.proofs.lemmas.Bool.Decides.{nat_tests}
+use Rattle.std.proofs.lemmas.List.{append-nil}
+use Rattle.std.proofs.lemmas.List.Sorted.{IsPermutation-append, IsPermutation-refl}
+use Rattle.std.proofs.lemmas.List.Sorted.{IsPermutation-reverse, IsPermutation-sym, IsPermutation-trans}
+use Rattle.sqlite.specs.Effect.{Database}
+use Rattle.exam_model.specs.Enrolments.{Enrolled, has_student}
+use Rattle.exam_model.specs.Fits.{Fits}
+use Rattle.exam_model.specs.Instance.{Session}
+use Rattle.exam_model.specs.Timetable.{Placing}
+use Rattle.exam_publish.specs.Changed.{changed_students}
+use Rattle.exam_publish.specs.Permit.{first_unplaced, least_breach, publish_refusal}
+use Rattle.exam_publish.specs.Seats.{AreSeated}
+use Rattle.exam_publish.specs.Shares.{enrolled_in}
+use Rattle.exam_publish.proofs.PermitLemmas.{neither}
+use Rattle.exam_publish.proofs.PublishedLemmas.{same_enrolments}
+use Rattle.exam_publish.proofs.SeatLemmas.{AreSeats, are_seats}
+use Rattle.office_tables.specs.Alterations.{after_all}
+use Rattle.office_tables.specs.Changes.{no_meta, no_part_shares, no_placements, no_seats, with_meta}
+use Rattle.office_tables.specs.Changes.{with_part_share, with_placement, with_seat}
+use Rattle.office_tables.specs.Changes.{with_student_share, without_student_share}
+use Rattle.office_tables.specs.Tables.{Tables, Stands as Held}
+use Rattle.office_tables.proofs.AlterationLemmas.{part_shares_put, placements_put, seats_put}
+use Rattle.office_tables.proofs.AlterationLemmas.{student_shares_gone, student_shares_put}
+use Rattle.office_tables.specs.declared.placing.InsertPlacement.{InsertPlacement}
+use Rattle.office_tables.specs.declared.rows.DraftRow.{DraftRow}
+use Rattle.office_tables.specs.declared.rows.PlacedRow.{PlacedRow}
+use Rattle.office_tables.specs.declared.rows.SeatRow.{SeatRow}
+use Rattle.office_tables.specs.declared.rows.SlotRow.{SlotRow}
+use Rattle.office_tables.specs.declared.rows.StudentShareRow.{StudentShareRow}
+use Rattle.office_tables.specs.declared.seating.InsertSeat.{InsertSeat}
+use Rattle.office_tables.specs.declared.sharing.DeleteStudentShare.{DeleteStudentShare}
+use Rattle.office_tables.specs.declared.sharing.InsertPartShare.{InsertPartShare}
+use Rattle.office_tables.specs.declared.sharing.InsertStudentShare.{InsertStudentShare}
+use Rattle.office_model.specs.Office.{AreEnrolled, AreRecords, IsOffice, IsPublication, OfficeState}
+use Rattle.office_model.specs.Office.{Publication, Records}
+use Rattle.office_model.specs.Publishing.{draft_published, publication_counts, published_as, rows_now}
+use Rattle.office_model.specs.declared.fault.StoreFault.{StoreFault}
+use Rattle.office_records.specs.Memory.{Memory, memory_of}
+use Rattle.office_records.specs.Publications.{StandsPublished, placed_from, stored_seat}
+use Rattle.office_records.specs.SharesStored.{part_share_rows, share_rows_of, share_rows_without}
+use Rattle.office_records.specs.SharesStored.{student_share_rows}
+use Rattle.office_records.specs.Stands.{IsKept, IsSound, StandsLoaded}
+use Rattle.office_records.proofs.RepublicationLemmas as republication
+use Rattle.office_store.specs.Changes.{places_put, publication_put, shares_put}
+use Rattle.office_store.specs.NewPublications.{ArePutIn, Publishes}
+use Rattle.office_store.specs.Reading.{AreRowsOf, published_in}
+use Rattle.office_store.specs.Running.{IsFault}
+use Rattle.office_store.specs.declared.new_publication.NewPublication.{NewPublication}
+use Rattle.office_store.proofs.CommandLemmas.{Denies, Moves}
+
+-- ---- what the parts of the transaction make of the tables, one after the other
+
+-- a candidate is among those whose shares go
+among : (row : StudentShareRow) (its : List DeleteStudentShare)
+    → list_any (λ (it : DeleteStudentShare). eqb row.student it.student) its
+    ≡ has_student (map (λ (it : DeleteStudentShare). it.student) its) row.student
+among row [] = refl
+among row (it ∷ its) = ap₂ (λ a b. a || b) (turned row.student it.student) (among row its)
+  where
+    turned : (a b : ℕ) → eqb a b ≡ eqb b a
+    turned a b = grind (arith, nat_tests)
+
+pub gone_after : (its : List DeleteStudentShare) (t : Tables)
+    → after_all (λ (it : DeleteStudentShare). without_student_share it.student) its t
+    ≡ record t {
+      share_student = share_rows_without (map (λ (it : DeleteStudentShare). it.student) its)
+          t.share_student;
+    }
+gone_after its t =
+    student_shares_gone its t
+    ∙ (λ i. record t { share_student = filter (λ row. not (among row its i)) t.share_student })
+
+-- the session's row, the places and the seats
+module _ (text : List ℕ) (ps : List InsertPlacement) (ss : List InsertSeat) where
+  abbrev pub meta_made : Tables → Tables
+  meta_made t = with_meta true text (no_meta t)
+
+  abbrev pub placements_made : Tables → Tables
+  placements_made t =
+      after_all (λ (it : InsertPlacement). with_placement it.row) ps (no_placements t)
+
+  abbrev pub seats_made : Tables → Tables
+  seats_made t = after_all (λ (it : InsertSeat). with_seat it.row) ss (no_seats t)
+
+  placements_are : (t : Tables) → placements_made t
+      ≡ record t { placed = reverse (map (λ (it : InsertPlacement). it.row) ps) }
+  placements_are t =
+      placements_put ps (no_placements t) ∙ ap (λ l. record t { placed = l }) (append-nil _)
+
+  seats_are : (t : Tables) → seats_made t
+      ≡ record t { seat = reverse (map (λ (it : InsertSeat). it.row) ss) }
+  seats_are t = seats_put ss (no_seats t) ∙ ap (λ l. record t { seat = l }) (append-nil _)
+
+  abbrev places_said : Tables → Tables
+  places_said t = record t {
+    meta = record { published = true; instance = text } ∷ [];
+    placed = reverse (map (λ (it : InsertPlacement). it.row) ps);
+    seat = reverse (map (λ (it : InsertSeat). it.row) ss);
+  }
+
+  all_places : (t : Tables) → seats_made (placements_made (meta_made t)) ≡ places_said t
+  all_places t =
+      ap seats_made (placements_are (meta_made t))
+      ∙ seats_are (record (meta_made t) {
+        placed = reverse (map (λ (it : InsertPlacement). it.row) ps);
+      })
+
+-- the shares of candidates, and of exams, periods and rooms
+module _ (gone : List DeleteStudentShare) (students : List InsertStudentShare)
+    (parts : List InsertPartShare) where
+  abbrev pub students_made : Tables → Tables
+  students_made t =
+      after_all (λ (it : InsertStudentShare). with_student_share it.row) students
+      (after_all (λ (it : DeleteStudentShare). without_student_share it.student) gone t)
+
+  abbrev pub parts_made : Tables → Tables
+  parts_made t =
+      after_all (λ (it : InsertPartShare). with_part_share it.row) parts (no_part_shares t)
+
+  abbrev students_said : Tables → Tables
+  students_said t = record t {
+    share_student = reverse (map (λ (it : InsertStudentShare). it.row) students)
+        ++ share_rows_without (map (λ (it : DeleteStudentShare). it.student) gone)
+        t.share_student;
+  }
+
+  students_are : (t : Tables) → students_made t ≡ students_said t
+  students_are t =
+      ap (after_all (λ (it : InsertStudentShare). with_student_share it.row) students)
+      (gone_after gone t)
+      ∙ student_shares_put students _
+
+  parts_are : (t : Tables) → parts_made t
+      ≡ record t { share_part = reverse (map (λ (it : InsertPartShare). it.row) parts) }
+  parts_are t =
+      part_shares_put parts (no_part_shares t)
+      ∙ ap (λ l. record t { share_part = l }) (append-nil _)
+
+  abbrev shares_said : Tables → Tables
+  shares_said t = record (students_said t) {
+    share_part = reverse (map (λ (it : InsertPartShare). it.row) parts);
+  }
+
+  all_shares : (t : Tables) → parts_made (students_made t) ≡ shares_said t
+  all_shares t = ap parts_made (students_are t) ∙ parts_are (students_said t)
+
+-- what is made of lists that are these is made of a new publication
+pub places_made : (new : NewPublication) (text : List ℕ) (ps : List InsertPlacement)
+    (ss : List InsertSeat) → text ≡ new.text.items → ps ≡ new.placements.items
+    → ss ≡ new.seats.items → (t : Tables)
+    → seats_made text ps ss (placements_made text ps ss (meta_made text ps ss t))
+    ≡ places_put new t
+places_made new text ps ss a b c t =
+    all_places text ps ss t ∙ (λ i. places_said (a i) (b i) (c i) t)
+
+pub shares_made : (new : NewPublication) (gone : List DeleteStudentShare)
+    (students : List InsertStudentShare) (parts : List InsertPartShare) → gone ≡ new.gone.items
+    → students ≡ new.students.items → parts ≡ new.parts.items → (t : Tables)
+    → parts_made gone students parts (students_made gone students parts t) ≡ shares_put new t
+shares_made new gone students parts a b c t =
+    all_shares gone students parts t ∙ (λ i. shares_said (a i) (b i) (c i) t)
+
+-- ---- the rows that are put in
+
+backs : {X Y : Type 0} (put : X → Y) (row : Y → X) → ((x : X) → row (put x) ≡ x) → (xs : List X)
+    → map row (map put xs) ≡ xs
+backs put row is [] = refl
+backs put row is (x ∷ xs) =
+    ap (λ y. y ∷ map row (map put xs)) (is x) ∙ ap (λ l. x ∷ l) (backs put row is xs)
+
+-- rows that are put in, one after the other
+put_in : {X : Type 0} (rows xs : List X) → rows ≡ xs → IsPermutation (reverse rows) xs
+put_in rows xs is =
+    subst (IsPermutation (reverse rows)) is (IsPermutation-sym _ _ (IsPermutation-reverse rows))
+
+-- ---- the office
+
+old_seated : (r : Records) → AreRecords r → AreSeated r.session (rows_now r.published)
+old_seated r is = go r.published is.publication
+  where
+    go : (published : Option Publication)
+        → ((p : Publication) → published ≡ Some p → IsPublication r.session p)
+        → AreSeated r.session (rows_now published)
+    go None each = record {
+      in_order = λ i j d before none. absurd (omega (arith, none));
+      within = λ k d none. absurd (omega (arith, none));
+      own = λ i j d before none. absurd (omega (arith, none));
+    }
+    go (Some p) each = (each p refl).seated
+
+module _ (r : Records) (T : Placing) (is : AreRecords r) (fits : Fits r.session r.enrolments T)
+    (permitted : publish_refusal r.session r.enrolments T ≡ None) where
+  abbrev new_one : Publication
+  new_one = published_as r T
+
+  are : AreSeats r.session r.enrolments T (rows_now r.published) new_one.rows
+  are = are_seats r.session r.enrolments T (rows_now r.published) fits is.enrolled.set permitted
+      (old_seated r is)
+
+  same : enrolled_in (length r.session.exams) new_one.rows ≡ r.enrolments
+  same = same_enrolments r.session r.enrolments T (rows_now r.published) is.session is.enrolled.set
+      fits permitted (old_seated r is)
+
+  pub is_publication : IsPublication r.session new_one
+  is_publication = record {
+    rows = are.published;
+    seated = are.seated;
+    enrolled = subst (AreEnrolled r.session) (sym same) is.enrolled;
+    unbroken = subst (λ E. least_breach r.session E T ≡ None) (sym same)
+        (neither (first_unplaced T) (least_breach r.session r.enrolments T) permitted).1;
+  }
+
+  published_records : AreRecords (record r { published = Some new_one })
+  published_records = record {
+    session = is.session;
+    enrolled = is.enrolled;
+    departments = is.departments;
+    owned = is.owned;
+    numbered = is.numbered;
+    drafts = is.drafts;
+    publication = λ p e. subst (IsPublication r.session) (some_is e) is_publication;
+    batches = is.batches;
+  }
+    where
+      some_is : {X : Type 0} {x y : X} → Some x ≡ Some y → x ≡ y
+      some_is e = cc
+
+  module _ (penalty : ℕ) (new : NewPublication) (put : ArePutIn r.session T (rows_now r.published)
+      new_one.rows penalty new) (t : Tables) where
+    published_stands : StandsLoaded t r
+        → StandsLoaded (publication_put new t) (record r { published = Some new_one })
+    published_stands h = record {
+      meta = ap (λ text. record { published = true; instance = text } ∷ []) put.text;
+      owner = h.owner;
+      enrol = h.enrol;
+      draft = h.draft;
+      slot = h.slot;
+      published = record {
+        placed = put_in _ (placed_from 0 T)
+            (ap (map (λ (it : InsertPlacement). it.row)) put.placements
+            ∙ backs _ (λ (it : InsertPlacement). it.row) (λ x. refl) (placed_from 0 T));
+        seat = put_in _ (map stored_seat new_one.rows)
+            (ap (map (λ (it : InsertSeat). it.row)) put.seats
+            ∙ backs _ (λ (it : InsertSeat). it.row) (λ x. refl) (map stored_seat new_one.rows));
+      };
+      batches = h.batches;
+    }
+
+    published_sound : IsSound t (Some r)
+        → IsSound (publication_put new t) (Some (record r { published = Some new_one }))
+    published_sound h =
+        let who = changed_students (rows_now r.published) new_one.rows in
+        let all = student_share_rows r.session (Some new_one) in
+        let gone : map (λ (it : DeleteStudentShare). it.student) new.gone.items ≡ who
+        = ap (map (λ (it : DeleteStudentShare). it.student)) put.gone
+        ∙ backs _ (λ (it : DeleteStudentShare). it.student) (λ x. refl) who in
+        let come : map (λ (it : InsertStudentShare). it.row) new.students.items
+        ≡ share_rows_of who all
+        = ap (map (λ (it : InsertStudentShare). it.row)) put.students
+        ∙ backs _ (λ (it : InsertStudentShare). it.row) (λ x. refl) (share_rows_of who all) in
+        record {
+          scored = h.scored;
+          shared = record {
+            of_students = IsPermutation-trans _ _ _
+                (IsPermutation-append _ _ _ _ (put_in _ (share_rows_of who all) come)
+                (subst (λ l. IsPermutation
+                (share_rows_without (map (λ (it : DeleteStudentShare). it.student) new.gone.items)
+                t.share_student)
+                (share_rows_without l t.share_student)) gone (IsPermutation-refl _)))
+                (republication.shares_put r.session r.published new_one t.share_student h.shared.of_students);
+            of_parts = put_in _ (part_share_rows r.session (Some new_one))
+                (ap (map (λ (it : InsertPartShare). it.row)) put.parts
+                ∙ backs _ (λ (it : InsertPartShare). it.row) (λ x. refl)
+                (part_share_rows r.session (Some new_one)));
+          };
+        }
+
+  -- the database stands for the office with the publication
+  published_kept : (a b : Database) (penalty : ℕ) (new : NewPublication)
+      → ArePutIn r.session T (rows_now r.published) new_one.rows penalty new → IsKept a (Some r)
+      → ((t : Tables) → Held a t → Held b (publication_put new t))
+      → IsKept b (Some (record r { published = Some new_one }))
+  published_kept a b penalty new put kept makes = record {
+    held = publication_put new kept.held;
+    tables = makes kept.held kept.tables;
+    stands = published_stands penalty new put kept.held kept.stands;
+    sound = published_sound penalty new put kept.held kept.sound;
+    office = published_records;
+  }
+
+-- ---- what the command gives
+
+publish_gives : (d : ℕ) (r : Records) (T : Placing) → r.draft d ≡ Some T
+    → publish_refusal r.session r.enrolments T ≡ None
+    → draft_published d (Some r)
+    ≡ Ok (publication_counts r (published_as r T), Some (record r { published = Some (published_as r T) }))
+publish_gives d r T there permitted = rw (there, permitted) refl
+
+-- ---- the command, by what is in memory, the draft's rows and those of what is published
+
+-- the office of what is at hand, and what the command puts in
+record IsPublishedOf (o : OfficeState) (I : Session) (E : Enrolled) (d : ℕ)
+    (result : Result NewPublication StoreFault) : Type 0 where
+  pub records : Records
+  pub is : o ≡ Some records
+  pub both : ◌≡◌ {A = Session × Enrolled} (records.session, records.enrolments) (I, E)
+  pub publishes : Publishes d records result
+
+module _ (I : Session) (E : Enrolled) (d : ℕ) (rows : List DraftRow) (slots : List SlotRow)
+    (places : List PlacedRow) (seats : List SeatRow) where
+  -- what is put in is what the command puts in, whatever the records are that have these rows
+  abbrev pub Comes : Result NewPublication StoreFault → Type 0
+  Comes result = (r : Records) → IsOffice (Some r) → memory_of (Some r) ≡ Some (I, E)
+      → AreRowsOf (Some r) d rows slots → StandsPublished places seats r.published
+      → Publishes d r result
+
+  published_of : (o : OfficeState) (result : Result NewPublication StoreFault) → IsOffice o
+      → memory_of o ≡ Some (I, E) → AreRowsOf o d rows slots
+      → StandsPublished places seats (published_in o) → Comes result
+      → IsPublishedOf o I E d result
+  published_of None result office memory are shown comes = absurd cc
+  published_of (Some r) result office memory are shown comes = record {
+    records = r;
+    is = refl;
+    both = cc;
+    publishes = comes r office memory are shown;
+  }
+
+  module _ (a : Database) (m : Memory) (at_hand : m ≡ Some (I, E))
+      (tells : (o : OfficeState) → IsKept a o → AreRowsOf o d rows slots)
+      (shows : (o : OfficeState) → IsKept a o → StandsPublished places seats (published_in o)) where
+    there : (result : Result NewPublication StoreFault) → Comes result → (o : OfficeState)
+        → IsKept a o → memory_of o ≡ m → IsPublishedOf o I E d result
+    there result comes o kept is =
+        published_of o result kept.office (is ∙ at_hand) (tells o kept) (shows o kept) comes
+
+    pub publish_denied : (e : StoreFault) → Comes (Err e) → Denies (draft_published d) e a m
+    publish_denied e comes o kept is =
+        let of = there (Err e) comes o kept is in
+        subst (λ o. IsFault (draft_published d o) e) (sym of.is) of.publishes
+
+    pub publish_moves : (b : Database) (new : NewPublication) → Comes (Ok new)
+        → ((t : Tables) → Held a t → Held b (publication_put new t))
+        → Moves (draft_published d) new.counts a b m m
+    publish_moves b new comes makes o kept is =
+        let of = there (Ok new) comes o kept is in
+        let r = of.records in
+        let here = subst (IsKept a) of.is kept in
+        let put = of.publishes in
+        let T = put.timetable in
+        let fits = here.office.drafts d T put.draft in (
+          Some (record r { published = Some (published_as r T) }),
+          ap (draft_published d) of.is ∙ publish_gives d r T put.draft put.permitted
+              ∙ ap (λ n. Ok (n, Some (record r { published = Some (published_as r T) })))
+              (sym put.put.counts),
+          published_kept r T here.office fits put.permitted a b _ new put.put here makes,
+          ap Some of.both ∙ sym at_hand,
+        )

@@ -1,0 +1,31 @@
+use Rattle.std.proofs.Common.{List, ℕ, length, map, ap, ap₂, ◌∙◌, subst, sym}
+use Rattle.exam_publish.specs.Shares.{Sharing}
+use Rattle.office_records.specs.SharesStored.{HasFewParts, part_rows, share_rows_of, student_share_row}
+use Rattle.office_store.specs.NewPublications.{part_share_put, share_gone, student_share_put}
+use Rattle.office_store.proofs.NewPublicationLemmas.{few_parts}
+use Rattle.office_store.proofs.new_publication.put_together.Goals as goal
+
+pub part_shares_put-requires : goal.part_shares_put-requires
+part_shares_put-requires c = record {
+  few = subst HasFewParts (sym c.in_ok-shares.ensures.shares)
+      (few_parts c.args.instance.now c.args.rows.now c.args.timetable.now c.in_ok-text.ensures.instance);
+  small = c.in_ok-shares.ensures.small;
+}
+
+pub returns-clause-put : goal.returns-clause-put
+returns-clause-put c =
+    let listed = c.in_ok-candidates.ensures.listed in
+    let shares = c.in_ok-shares.ensures.shares in record {
+      text = c.in_ok-text.ensures.text;
+      placements = c.in_ok-placements.ensures;
+      seats = c.in_ok-seats.ensures;
+      gone = c.in_ok-gone.ensures ∙ ap (map share_gone) (c.deref.ensures.value ∙ listed);
+      students = c.in_ok-students.ensures.put
+          ∙ ap₂ (λ (changed : List ℕ) (all : Sharing). map student_share_put
+          (share_rows_of changed (map student_share_row all.students)))
+          (c.deref-2.ensures.value ∙ listed) shares;
+      parts = c.in_ok-parts.ensures.put
+          ∙ ap (λ (all : Sharing). map part_share_put (part_rows all)) shares;
+      counts = ap (λ n. record { changed = n; penalty = c.args.penalty })
+          (c.count_of.ensures ∙ ap length (c.deref-3.ensures.value ∙ listed));
+    }

@@ -1,0 +1,34 @@
+use Rattle.std.proofs.Common.{◌≡◌, ap, arith, map, not, subst, ◌∙◌}
+use Rattle.sqlite.specs.Held.{state}
+use Rattle.exam_publish.specs.Changed.{rows_of}
+use Rattle.office_model.specs.Publishing.{rows_now}
+use Rattle.office_records.specs.Publications.{stored_seat}
+use Rattle.office_store.specs.Reading.{published_in}
+use Rattle.office_store.proofs.RunLemmas.{kept_read, rest_read}
+use Rattle.office_store.proofs.ViewLemmas.{her_seats_read}
+use Rattle.office_store.proofs.office.Office.her_seats.Goals as goal
+
+pub invariant_of-self : goal.invariant_of-self
+invariant_of-self g c = (
+  c.seats_of.ensures.mode c.self.invariant.0,
+  rest_read (state g.S.Store c.self.inside.conn) (state g.S.Store c.seats_of.new.conn)
+      c.self.inside.kept c.self.invariant.1
+      (λ k. omega (arith, c.seats_of.ensures.survives.clean, k))
+      (c.is_autocommit-at_rest.ensures.settled
+      (c.is_autocommit-at_rest.ensures.value ∙ ap not c.self.invariant.0))
+      c.seats_of.ensures.was_open c.seats_of.ensures.kept,
+  c.self.invariant.2,
+)
+
+pub returns-clause-rows : goal.returns-clause-rows
+returns-clause-rows g c clean office here =
+    let kept = kept_read (state g.S.Store c.self.inside.conn) (state g.S.Store c.seats_of.new.conn)
+    c.self.inside.kept c.self.invariant.1
+    (λ k. omega (arith, c.seats_of.ensures.survives.clean, k))
+    (c.is_autocommit-at_rest.ensures.settled
+    (c.is_autocommit-at_rest.ensures.value ∙ ap not c.self.invariant.0))
+    c.in_ok-rows.ensures.open c.in_ok-rows.ensures.same clean office here in
+    subst (λ n. c.in_ok-rows.rows.items
+    ≡ map stored_seat (rows_of n (rows_now (published_in office)))) c.get.ensures.number
+    (her_seats_read kept.held office c.get.result c.in_ok-rows.rows.items kept.stands kept.office
+    (c.in_ok-rows.ensures.in_order clean kept.held kept.tables))

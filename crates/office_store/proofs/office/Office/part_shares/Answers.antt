@@ -1,0 +1,28 @@
+use Rattle.std.proofs.Common.{ap, arith, not, ◌∙◌}
+use Rattle.sqlite.specs.Held.{state}
+use Rattle.office_store.proofs.PublishedReadLemmas.{part_shares_read}
+use Rattle.office_store.proofs.RunLemmas.{kept_read, rest_read}
+use Rattle.office_store.proofs.office.Office.part_shares.Goals as goal
+
+pub invariant_of-self : goal.invariant_of-self
+invariant_of-self g c = (
+  c.part_shares.ensures.mode c.self.invariant.0,
+  rest_read (state g.S.Store c.self.inside.conn) (state g.S.Store c.part_shares.new.conn)
+      c.self.inside.kept c.self.invariant.1
+      (λ k. omega (arith, c.part_shares.ensures.survives.clean, k))
+      (c.is_autocommit-at_rest.ensures.settled
+      (c.is_autocommit-at_rest.ensures.value ∙ ap not c.self.invariant.0))
+      c.part_shares.ensures.was_open c.part_shares.ensures.kept,
+  c.self.invariant.2,
+)
+
+pub returns-clause-rows : goal.returns-clause-rows
+returns-clause-rows g c clean office here =
+    let kept = kept_read (state g.S.Store c.self.inside.conn) (state g.S.Store c.part_shares.new.conn)
+    c.self.inside.kept c.self.invariant.1
+    (λ k. omega (arith, c.part_shares.ensures.survives.clean, k))
+    (c.is_autocommit-at_rest.ensures.settled
+    (c.is_autocommit-at_rest.ensures.value ∙ ap not c.self.invariant.0))
+    c.in_ok-rows.ensures.open c.in_ok-rows.ensures.same clean office here in
+    part_shares_read kept.held office c.in_ok-rows.rows.items kept.stands kept.sound
+    (c.in_ok-rows.ensures.rows clean kept.held kept.tables)

@@ -1,0 +1,86 @@
+-- What is put in where a draft is published.
+use Rattle.std.specs.Prelude.{◌≡◌, ℕ, List, map, length, All, Some, None, Result, Ok, Err}
+use Rattle.exam_model.specs.Instance.{Session}
+use Rattle.exam_model.specs.Timetable.{Placing}
+use Rattle.exam_publish.specs.Changed.{changed_students}
+use Rattle.exam_publish.specs.Permit.{publish_refusal}
+use Rattle.exam_publish.specs.Shares.{shares_of, student_shares}
+use Rattle.exam_publish.specs.declared.seat_row.SeatRow.{SeatRow}
+use Rattle.exam_score.specs.Penalty.{Penalty}
+use Rattle.office_tables.specs.Amounts.{ArePartAmounts, AreStudentAmounts}
+use Rattle.office_tables.specs.declared.placing.InsertPlacement.{InsertPlacement}
+use Rattle.office_tables.specs.declared.rows.PartShareRow.{PartShareRow}
+use Rattle.office_tables.specs.declared.rows.PlacedRow.{PlacedRow}
+use Rattle.office_tables.specs.declared.rows.SeatRow as stored
+use Rattle.office_tables.specs.declared.rows.StudentShareRow.{StudentShareRow}
+use Rattle.office_tables.specs.declared.seating.InsertSeat.{InsertSeat}
+use Rattle.office_tables.specs.declared.sharing.DeleteStudentShare.{DeleteStudentShare}
+use Rattle.office_tables.specs.declared.sharing.InsertPartShare.{InsertPartShare}
+use Rattle.office_tables.specs.declared.sharing.InsertStudentShare.{InsertStudentShare}
+use Rattle.office_model.specs.Office.{Records}
+use Rattle.office_model.specs.Publishing.{draft_published, published_as, rows_now}
+use Rattle.office_model.specs.Commands.{penalty_now}
+use Rattle.office_model.specs.declared.fault.StoreFault.{StoreFault}
+use Rattle.office_records.specs.Publications.{placed_from, stored_seat}
+use Rattle.office_records.specs.SharesStored.{part_rows, share_rows_of, student_share_row}
+use Rattle.office_records.specs.Stands.{session_text}
+use Rattle.office_store.specs.Running.{IsFault}
+use Rattle.office_store.specs.declared.new_publication.NewPublication.{NewPublication}
+
+-- ---- rows as parts of a transaction
+
+abbrev pub placement_put : PlacedRow → InsertPlacement
+placement_put row = record { row = row }
+
+abbrev pub seat_put : stored.SeatRow → InsertSeat
+seat_put row = record { row = row }
+
+abbrev pub share_gone : ℕ → DeleteStudentShare
+share_gone student = record { student = student }
+
+abbrev pub student_share_put : StudentShareRow → InsertStudentShare
+student_share_put row = record { row = row }
+
+abbrev pub part_share_put : PartShareRow → InsertPartShare
+part_share_put row = record { row = row }
+
+-- ---- a publication that is put in
+
+-- the rows of this timetable and these seats in place of the old ones; of the candidates' shares
+-- those alone whose seats differ, which go and come; and what is answered
+pub record ArePutIn (I : Session) (T : Placing) (old rows : List SeatRow) (penalty : ℕ)
+    (new : NewPublication) : Type 0 where
+  pub text : new.text.items ≡ session_text I
+  pub placements : new.placements.items ≡ map placement_put (placed_from 0 T)
+  pub seats : new.seats.items ≡ map seat_put (map stored_seat rows)
+  pub gone : new.gone.items ≡ map share_gone (changed_students old rows)
+  pub students : new.students.items ≡ map student_share_put
+      (share_rows_of (changed_students old rows) (map student_share_row (student_shares I rows)))
+  pub parts : new.parts.items ≡ map part_share_put (part_rows (shares_of I rows T))
+  pub counts : new.counts
+      ≡ record { changed = length (changed_students old rows); penalty = penalty }
+
+-- amounts that the tables take
+pub record AreSmallShares (new : NewPublication) : Type 0 where
+  pub students : All (λ it. AreStudentAmounts it.row) new.students.items
+  pub parts : All (λ it. ArePartAmounts it.row) new.parts.items
+
+-- ---- by an office's records
+
+-- this is the draft; or the command's own refusal
+abbrev pub Permits : ℕ → Records → Result (Placing × Penalty) StoreFault → Type 0
+Permits d r (Ok draft) = r.draft d ≡ Some draft.0
+Permits d r (Err fault) = IsFault (draft_published d (Some r)) fault
+
+-- what the command puts in, of a draft that fits and may be published
+pub record IsPutInFor (d : ℕ) (r : Records) (new : NewPublication) : Type 0 where
+  pub timetable : Placing
+  pub draft : r.draft d ≡ Some timetable
+  pub permitted : publish_refusal r.session r.enrolments timetable ≡ None
+  pub put : ArePutIn r.session timetable (rows_now r.published) (published_as r timetable).rows
+      (penalty_now r timetable) new
+
+-- that, or the command's own refusal
+abbrev pub Publishes : ℕ → Records → Result NewPublication StoreFault → Type 0
+Publishes d r (Ok new) = IsPutInFor d r new
+Publishes d r (Err fault) = IsFault (draft_published d (Some r)) fault

@@ -1,0 +1,245 @@
+// What is put in where a draft is published.
+ghost use Rattle.std.specs.Prelude.{◌≡◌, ◌⊎◌, ◌≤◌, All, IfErr, IfOk, None, Some, length, map};
+ghost use Rattle.exam_model.specs.Enrolments.{IsAscending};
+ghost use Rattle.exam_model.specs.Fits.{Fits};
+ghost use Rattle.exam_model.specs.Pairs.{pairs_of};
+ghost use Rattle.exam_publish.specs.AddUp.{AreSmall};
+ghost use Rattle.exam_publish.specs.Changed.{changed_students};
+ghost use Rattle.exam_publish.specs.Permit.{publish_refusal};
+ghost use Rattle.exam_publish.specs.Rows.{ArePublishedRows, RowsInOrder};
+ghost use Rattle.exam_publish.specs.Seats.{AreSeated, seat_rows};
+ghost use Rattle.exam_score.specs.Track.{track};
+ghost use Rattle.office_model.specs.Office.{AreRecords, IsOffice, Records};
+ghost use Rattle.office_model.specs.Publishing.{rows_now};
+ghost use Rattle.office_records.specs.Memory.{memory_of};
+ghost use Rattle.office_records.specs.Publications.{StandsPublished, placed_from, stored_seat};
+ghost use Rattle.office_records.specs.SharesStored.{HasFewParts, part_rows, share_rows_of};
+ghost use Rattle.office_records.specs.SharesStored.{student_share_row};
+ghost use Rattle.office_store.specs.Judging.{listed};
+ghost use Rattle.office_store.specs.NewPublications.{ArePutIn, AreSmallShares, Permits, Publishes};
+ghost use Rattle.office_store.specs.NewPublications.{part_share_put, placement_put, seat_put};
+ghost use Rattle.office_store.specs.NewPublications.{share_gone, student_share_put};
+ghost use Rattle.office_store.specs.Reading.{AreRowsOf};
+ghost use Rattle.office_store.specs.Running.{Tells};
+ghost use Rattle.office_tables.specs.Amounts.{ArePartAmounts, AreStudentAmounts};
+
+use crate::publications::published_of;
+use crate::published_rows::PublishedRows;
+use crate::reading::{DraftRows, draft_of};
+use exam_model::{Enrolments, Instance, StudentNo, Timetable};
+use exam_publish::{SeatRow, Shares, changed, permit, seats, shares};
+use exam_score::Parts;
+use office_model::{Published, StoreFault};
+use office_records::{changed_share_rows, part_share_rows, placement_rows, seat_rows, text_of};
+use office_tables::{
+    DeleteStudentShare, InsertPartShare, InsertPlacement, InsertSeat, InsertStudentShare,
+};
+use std::alloc::{AllocError, Global};
+
+// All that a publication puts in, and what is answered.
+#[derive(Drop)]
+pub(crate) struct NewPublication {
+    pub(crate) text: Vec<u8>,
+    pub(crate) placements: Vec<InsertPlacement>,
+    pub(crate) seats: Vec<InsertSeat>,
+    // Shares of candidates whose seat rows differ from those before: the old ones, and the new.
+    pub(crate) gone: Vec<DeleteStudentShare>,
+    pub(crate) students: Vec<InsertStudentShare>,
+    pub(crate) parts: Vec<InsertPartShare>,
+    pub(crate) counts: Published,
+}
+
+// What publishing a draft of the session at hand puts in, by the rows of the draft and of what is
+// published.
+pub(crate) fn new_publication(
+    alloc: Global,
+    instance: &Instance,
+    enrolments: &Enrolments,
+    number: u32,
+    draft: &DraftRows,
+    published: &PublishedRows,
+) -> Result<NewPublication, StoreFault>
+    requires exams { length enrolments.now ≡ length instance.now.exams }
+    ensures publishes { (r : Records) → IsOffice (Some r)
+        → memory_of (Some r) ≡ Some (instance.now, enrolments.now)
+        → AreRowsOf (Some r) number draft.now.rows.items draft.now.slots.items
+        → StandsPublished published.now.placements.items published.now.seats.items r.published
+        → Publishes number r result }
+    ensures small { IfOk result AreSmallShares }
+{
+    let (timetable, parts) = permitted_draft(alloc, instance, enrolments, number, draft)?;
+    let old = old_seats(alloc, instance, published)?;
+    let rows = seats(alloc, instance, enrolments, &timetable, &old)?;
+    put_together(alloc, instance, &timetable, parts.total(), &old, &rows)
+}
+
+// The draft of the session at hand that these rows tell, with its penalty, if it may be published.
+fn permitted_draft(
+    alloc: Global,
+    instance: &Instance,
+    enrolments: &Enrolments,
+    number: u32,
+    found: &DraftRows,
+) -> Result<(Timetable, Parts), StoreFault>
+    requires exams { length enrolments.now ≡ length instance.now.exams }
+    ensures permits { (r : Records) → IsOffice (Some r)
+        → memory_of (Some r) ≡ Some (instance.now, enrolments.now)
+        → AreRowsOf (Some r) number found.now.rows.items found.now.slots.items
+        → Permits number r result }
+    ensures permitted { IfOk result
+        (λ draft. publish_refusal instance.now enrolments.now draft.0 ≡ None) }
+    ensures fits { IfOk result (λ draft. Fits instance.now enrolments.now draft.0) }
+    ensures scored { IfOk result (λ draft. draft.1 ≡ track instance.now enrolments.now draft.0) }
+{
+    let (timetable, parts) = draft_of(alloc, instance, enrolments, number, found)?;
+    match permit(alloc, instance, enrolments, &timetable) {
+        Ok(()) => Ok((timetable, parts)),
+        Err(fault) => Err(StoreFault::of_publication(fault)),
+    }
+}
+
+// The seat rows that were published before; none where nothing was.
+fn old_seats(
+    alloc: Global,
+    instance: &Instance,
+    found: &PublishedRows,
+) -> Result<Vec<SeatRow>, StoreFault>
+    ensures are { (r : Records) → AreRecords r → r.session ≡ instance.now
+        → StandsPublished found.now.placements.items found.now.seats.items r.published
+        → Tells (rows_now r.published) (listed result) }
+    ensures seated { IfOk result (λ rows. AreSeated instance.now rows.items) }
+{
+    match published_of(alloc, instance, found)? {
+        Some((_, rows)) => Ok(rows),
+        None => Ok(Vec::new(alloc)),
+    }
+}
+
+// The rows of a timetable with these seats in place of old ones.
+fn put_together(
+    alloc: Global,
+    instance: &Instance,
+    timetable: &Timetable,
+    penalty: u64,
+    old: &[SeatRow],
+    rows: &[SeatRow],
+) -> Result<NewPublication, StoreFault>
+    requires published { ArePublishedRows instance.now rows.now timetable.now }
+    requires old_in_order { RowsInOrder old.now }
+    ensures put { IfOk result (ArePutIn instance.now timetable.now old.now rows.now penalty) }
+    ensures small { IfOk result AreSmallShares }
+    ensures err { IfErr result (λ e. e ≡ StoreFault.Store) }
+{
+    let candidates = rewritten(alloc, old, rows)?;
+    let shares = shares(alloc, instance, rows, timetable)?;
+    let text = text_of(alloc, instance)?;
+    let placements = placements_put(alloc, timetable)?;
+    let seats = seats_put(alloc, rows)?;
+    let gone = shares_gone(alloc, &candidates)?;
+    let students = student_shares_put(alloc, &shares, &candidates)?;
+    let parts = part_shares_put(alloc, &shares)?;
+    let counts = Published {
+        changed: count_of(&candidates),
+        penalty,
+    };
+    Ok(NewPublication {
+        text,
+        placements,
+        seats,
+        gone,
+        students,
+        parts,
+        counts,
+    })
+}
+
+// The candidates whose shares are written anew: all whose seat rows differ from those before, be it
+// by their places alone.
+fn rewritten(alloc: Global, old: &[SeatRow], rows: &[SeatRow]) -> Result<Vec<StudentNo>, AllocError>
+    requires old_in_order { RowsInOrder old.now }
+    requires new_in_order { RowsInOrder rows.now }
+    ensures listed { IfOk result
+        (λ candidates. candidates.items ≡ changed_students old.now rows.now) }
+    ensures ascending { IfOk result (λ candidates. IsAscending candidates.items) }
+{
+    changed(alloc, old, rows)
+}
+
+// How many candidates these are.
+fn count_of(candidates: &[StudentNo]) -> u32
+    requires { IsAscending candidates.now }
+    ensures { result ≡ length candidates.now }
+{
+    let Some(last) = candidates.last() else {
+        return 0;
+    };
+    let _within = last.get(); // read for its limit
+    candidates.len() as u32
+}
+
+fn placements_put(alloc: Global, timetable: &Timetable) -> Result<Vec<InsertPlacement>, AllocError>
+    ensures { IfOk result
+        (λ put. put.items ≡ map placement_put (placed_from 0 timetable.now)) }
+{
+    let rows = placement_rows(alloc, timetable)?;
+    rows.iter()
+        .map(|row| InsertPlacement { row: *row })
+        .collect(alloc)
+}
+
+fn seats_put(alloc: Global, rows: &[SeatRow]) -> Result<Vec<InsertSeat>, AllocError>
+    ensures { IfOk result (λ put. put.items ≡ map seat_put (map stored_seat rows.now)) }
+{
+    let rows = seat_rows(alloc, rows)?;
+    rows.iter()
+        .map(|row| InsertSeat { row: *row })
+        .collect(alloc)
+}
+
+fn shares_gone(
+    alloc: Global,
+    candidates: &[StudentNo],
+) -> Result<Vec<DeleteStudentShare>, AllocError>
+    ensures { IfOk result (λ put. put.items ≡ map share_gone candidates.now) }
+{
+    candidates
+        .iter()
+        .map(|candidate| share_gone(*candidate))
+        .collect(alloc)
+}
+
+fn share_gone(candidate: StudentNo) -> DeleteStudentShare
+    ensures { result ≡ share_gone candidate }
+{
+    DeleteStudentShare {
+        student: candidate.get(),
+    }
+}
+
+fn student_shares_put(
+    alloc: Global,
+    shares: &Shares,
+    candidates: &[StudentNo],
+) -> Result<Vec<InsertStudentShare>, AllocError>
+    requires { IsAscending candidates.now }
+    ensures put { IfOk result (λ put. put.items ≡ map student_share_put
+        (share_rows_of candidates.now (map student_share_row shares.now.students))) }
+    ensures small { IfOk result (λ put. All (λ it. AreStudentAmounts it.row) put.items) }
+{
+    let rows = changed_share_rows(alloc, shares, candidates)?;
+    rows.iter()
+        .map(|row| InsertStudentShare { row: *row })
+        .collect(alloc)
+}
+
+fn part_shares_put(alloc: Global, shares: &Shares) -> Result<Vec<InsertPartShare>, AllocError>
+    requires few { HasFewParts shares.now }
+    requires small { AreSmall shares.now }
+    ensures put { IfOk result (λ put. put.items ≡ map part_share_put (part_rows shares.now)) }
+    ensures small { IfOk result (λ put. All (λ it. ArePartAmounts it.row) put.items) }
+{
+    let rows = part_share_rows(alloc, shares)?;
+    rows.iter()
+        .map(|row| InsertPartShare { row: *row })
+        .collect(alloc)
+}

@@ -1,0 +1,100 @@
+// What is published, and whose share of the penalty is how much.
+ghost use Rattle.std.specs.Prelude.{◌≡◌, ◌↔◌, ◌≤◌, IfOk, IsTrue, OnOk, Some, length};
+ghost use Rattle.sqlite.specs.Held.{state};
+ghost use Rattle.sqlite.specs.State.{HasCleanDisk};
+ghost use Rattle.office_model.specs.Office.{AreRecords, OfficeState, Records};
+ghost use Rattle.office_records.specs.Publications.{AreFound, StandsPublished, publication_from};
+ghost use Rattle.office_records.specs.SharesStored.{AreShared};
+ghost use Rattle.office_store.specs.Publications.{AddUpIn, plain, publication_shown, shares_in};
+ghost use Rattle.office_store.specs.Running.{IsAwake, Now, Reads, Tells};
+
+use crate::office::Office;
+use crate::published_rows::{PublishedRows, ShareRows};
+use exam_model::{Instance, Timetable};
+use exam_publish::{SeatRow, Shares};
+use office_model::StoreFault;
+use office_records::{publication_of, shares_of};
+use sqlite::Alter;
+use std::alloc::Global;
+
+impl<S: Alter> Office<S> {
+    /// The published timetable with its seat rows, by exam and then by student. `None`: nothing is
+    /// published.
+    pub fn publication(
+        &mut self,
+        alloc: Global,
+    ) -> Result<Option<(Timetable, Vec<SeatRow>)>, StoreFault>
+        ensures reads { Reads S.Store publication_shown self.old self.new (plain result) }
+        // What is at hand is then what the file says.
+        ensures awake { HasCleanDisk (state S.Store self.new)
+            → OnOk result (IsAwake (state S.Store self.new)) }
+        ensures clean { HasCleanDisk (state S.Store self.new)
+            → HasCleanDisk (state S.Store self.old) }
+    {
+        let found = self.published_rows(alloc)?;
+        let Some((instance, _)) = &self.kept else {
+            return Ok(None);
+        };
+        published_of(alloc, instance, &found)
+    }
+
+    /// Whose share of the publication's penalty is how much. `None`: nothing is published.
+    pub fn shares(&mut self, alloc: Global) -> Result<Option<Shares>, StoreFault>
+        ensures reads { Reads S.Store shares_in self.old self.new result }
+        // Together they are the penalty of the publication.
+        ensures add_up { HasCleanDisk (state S.Store self.new) → (office : OfficeState)
+            → Now (state S.Store self.old) office → IfOk result (AddUpIn office) }
+        ensures awake { HasCleanDisk (state S.Store self.new)
+            → OnOk result (IsAwake (state S.Store self.new)) }
+        ensures clean { HasCleanDisk (state S.Store self.new)
+            → HasCleanDisk (state S.Store self.old) }
+    {
+        let found = self.share_rows(alloc)?;
+        let Some((instance, _)) = &self.kept else {
+            return Ok(None);
+        };
+        shared_of(alloc, instance, &found)
+    }
+}
+
+// What is published of the session at hand, by its rows.
+pub(crate) fn published_of(
+    alloc: Global,
+    instance: &Instance,
+    found: &PublishedRows,
+) -> Result<Option<(Timetable, Vec<SeatRow>)>, StoreFault>
+    ensures told { (r : Records) → AreRecords r → r.session ≡ instance.now
+        → StandsPublished found.now.placements.items found.now.seats.items r.published
+        → Tells (publication_shown (Some r)) (plain result) }
+    ensures are { IfOk result
+        (λ published. AreFound instance.now (publication_from published)) }
+{
+    let mark = has_places(found);
+    let published = publication_of(alloc, instance, mark, &found.placements, &found.seats)?;
+    Ok(published)
+}
+
+// Whether there is a place, as a publication has.
+fn has_places(found: &PublishedRows) -> bool
+    ensures { IsTrue result ↔ (1 ≤ length found.now.placements.items) }
+{
+    !found.placements.is_empty()
+}
+
+// The shares of what is published of the session at hand, by their rows.
+fn shared_of(
+    alloc: Global,
+    instance: &Instance,
+    found: &ShareRows,
+) -> Result<Option<Shares>, StoreFault>
+    ensures told { (r : Records) → AreRecords r → r.session ≡ instance.now
+        → AreShared r.session r.published found.now.students.items found.now.parts.items
+        → Tells (shares_in (Some r)) result }
+{
+    // each exam of a publication has a share
+    if found.parts.is_empty() {
+        return Ok(None);
+    }
+    let shares = shares_of(alloc, instance, &found.students, &found.parts)?;
+    Ok(Some(shares))
+}

@@ -1,0 +1,135 @@
+// The rows of what is published, and of its shares.
+ghost use Rattle.std.specs.Prelude.{IfOk, IsPermutation, OnOk, map};
+ghost use Rattle.sqlite.specs.Held.{state};
+ghost use Rattle.sqlite.specs.State.{HasCleanDisk};
+ghost use Rattle.office_model.specs.Office.{OfficeState};
+ghost use Rattle.office_model.specs.Publishing.{rows_now};
+ghost use Rattle.office_records.specs.Publications.{StandsPublished, placed_rows, stored_seat};
+ghost use Rattle.office_records.specs.Stands.{IsKept};
+ghost use Rattle.office_store.specs.Reading.{AreShareRowsOf, part_rows_in, published_in};
+ghost use Rattle.office_store.specs.Reading.{student_rows_in};
+ghost use Rattle.office_store.specs.Running.{IsAwake, IsStill};
+
+use crate::fault::Failed;
+use crate::office::Office;
+use office_tables::{
+    PartShareRow, PlacedRow, SeatRow, StudentShareRow, part_shares, placements, seats,
+    student_shares,
+};
+use sqlite::Alter;
+use std::alloc::Global;
+
+// The rows of the places and of the seats that are published.
+#[derive(Drop)]
+pub(crate) struct PublishedRows {
+    pub(crate) placements: Vec<PlacedRow>,
+    pub(crate) seats: Vec<SeatRow>,
+}
+
+// The rows of the shares of candidates, and of exams, periods and rooms.
+#[derive(Drop)]
+pub(crate) struct ShareRows {
+    pub(crate) students: Vec<StudentShareRow>,
+    pub(crate) parts: Vec<PartShareRow>,
+}
+
+impl<S: Alter> Office<S> {
+    // The rows of what is published.
+    pub(crate) fn published_rows(&mut self, alloc: Global) -> Result<PublishedRows, Failed>
+        ensures rows { HasCleanDisk (state S.Store self.new) → (office : OfficeState)
+            → IsKept (state S.Store self.new).now office
+            → IfOk result (λ found. StandsPublished found.placements.items found.seats.items
+            (published_in office)) }
+        ensures still { HasCleanDisk (state S.Store self.new)
+            → IsStill (state S.Store self.old) (state S.Store self.new) }
+        ensures awake { HasCleanDisk (state S.Store self.new)
+            → OnOk result (IsAwake (state S.Store self.new)) }
+        ensures clean { HasCleanDisk (state S.Store self.new)
+            → HasCleanDisk (state S.Store self.old) }
+    {
+        let placements = self.placements(alloc)?;
+        let seats = self.seats(alloc)?;
+        Ok(PublishedRows { placements, seats })
+    }
+
+    // The rows of its shares.
+    pub(crate) fn share_rows(&mut self, alloc: Global) -> Result<ShareRows, Failed>
+        ensures rows { HasCleanDisk (state S.Store self.new) → (office : OfficeState)
+            → IsKept (state S.Store self.new).now office
+            → IfOk result (λ found. AreShareRowsOf office found.students.items found.parts.items) }
+        ensures still { HasCleanDisk (state S.Store self.new)
+            → IsStill (state S.Store self.old) (state S.Store self.new) }
+        ensures awake { HasCleanDisk (state S.Store self.new)
+            → OnOk result (IsAwake (state S.Store self.new)) }
+        ensures clean { HasCleanDisk (state S.Store self.new)
+            → HasCleanDisk (state S.Store self.old) }
+    {
+        let students = self.student_shares(alloc)?;
+        let parts = self.part_shares(alloc)?;
+        Ok(ShareRows { students, parts })
+    }
+
+    fn placements(&mut self, alloc: Global) -> Result<Vec<PlacedRow>, Failed>
+        ensures rows { HasCleanDisk (state S.Store self.new) → (office : OfficeState)
+            → IsKept (state S.Store self.new).now office
+            → IfOk result (λ rows. IsPermutation rows.items (placed_rows (published_in office))) }
+        ensures still { HasCleanDisk (state S.Store self.new)
+            → IsStill (state S.Store self.old) (state S.Store self.new) }
+        ensures awake { HasCleanDisk (state S.Store self.new)
+            → OnOk result (IsAwake (state S.Store self.new)) }
+        ensures clean { HasCleanDisk (state S.Store self.new)
+            → HasCleanDisk (state S.Store self.old) }
+    {
+        let _at_rest = self.conn.is_autocommit(); // read for what it says of the last commit
+        let rows = placements(alloc, &mut self.conn)?;
+        Ok(rows)
+    }
+
+    fn seats(&mut self, alloc: Global) -> Result<Vec<SeatRow>, Failed>
+        ensures rows { HasCleanDisk (state S.Store self.new) → (office : OfficeState)
+            → IsKept (state S.Store self.new).now office
+            → IfOk result (λ rows. IsPermutation rows.items (map stored_seat (rows_now (published_in office)))) }
+        ensures still { HasCleanDisk (state S.Store self.new)
+            → IsStill (state S.Store self.old) (state S.Store self.new) }
+        ensures awake { HasCleanDisk (state S.Store self.new)
+            → OnOk result (IsAwake (state S.Store self.new)) }
+        ensures clean { HasCleanDisk (state S.Store self.new)
+            → HasCleanDisk (state S.Store self.old) }
+    {
+        let _at_rest = self.conn.is_autocommit(); // read for what it says of the last commit
+        let rows = seats(alloc, &mut self.conn)?;
+        Ok(rows)
+    }
+
+    fn student_shares(&mut self, alloc: Global) -> Result<Vec<StudentShareRow>, Failed>
+        ensures rows { HasCleanDisk (state S.Store self.new) → (office : OfficeState)
+            → IsKept (state S.Store self.new).now office
+            → IfOk result (λ rows. IsPermutation rows.items (student_rows_in office)) }
+        ensures still { HasCleanDisk (state S.Store self.new)
+            → IsStill (state S.Store self.old) (state S.Store self.new) }
+        ensures awake { HasCleanDisk (state S.Store self.new)
+            → OnOk result (IsAwake (state S.Store self.new)) }
+        ensures clean { HasCleanDisk (state S.Store self.new)
+            → HasCleanDisk (state S.Store self.old) }
+    {
+        let _at_rest = self.conn.is_autocommit(); // read for what it says of the last commit
+        let rows = student_shares(alloc, &mut self.conn)?;
+        Ok(rows)
+    }
+
+    fn part_shares(&mut self, alloc: Global) -> Result<Vec<PartShareRow>, Failed>
+        ensures rows { HasCleanDisk (state S.Store self.new) → (office : OfficeState)
+            → IsKept (state S.Store self.new).now office
+            → IfOk result (λ rows. IsPermutation rows.items (part_rows_in office)) }
+        ensures still { HasCleanDisk (state S.Store self.new)
+            → IsStill (state S.Store self.old) (state S.Store self.new) }
+        ensures awake { HasCleanDisk (state S.Store self.new)
+            → OnOk result (IsAwake (state S.Store self.new)) }
+        ensures clean { HasCleanDisk (state S.Store self.new)
+            → HasCleanDisk (state S.Store self.old) }
+    {
+        let _at_rest = self.conn.is_autocommit(); // read for what it says of the last commit
+        let rows = part_shares(alloc, &mut self.conn)?;
+        Ok(rows)
+    }
+}

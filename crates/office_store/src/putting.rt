@@ -1,0 +1,100 @@
+// A publication is put in, all of it or nothing.
+ghost use Rattle.std.specs.Prelude.{◌≡◌, false, OnErr, OnOk};
+ghost use Rattle.sqlite.specs.Held.{state};
+ghost use Rattle.sqlite.specs.State.{HasCleanDisk};
+ghost use Rattle.office_tables.specs.Alterations.{Changed, Undone};
+ghost use Rattle.office_tables.specs.Steps.{Changes, Within};
+ghost use Rattle.office_store.specs.Changes.{places_put, publication_put, shares_put};
+ghost use Rattle.office_store.specs.NewPublications.{AreSmallShares};
+
+use crate::fault::Failed;
+use crate::new_publication::NewPublication;
+use office_tables::{
+    Alteration, Both, DeleteMeta, DeletePartShares, DeletePlacements, DeleteSeats, Each,
+    InsertMeta, transact,
+};
+use sqlite::{Alter, Connection, Error, Transaction};
+
+// Puts a publication in place of another.
+pub fn put_publication<S: Alter>(
+    conn: &mut Connection<S>,
+    new: &NewPublication,
+) -> Result<(), Failed>
+    requires rests { conn.old.in_transaction ≡ false }
+    requires small { AreSmallShares new.now }
+    ensures done { HasCleanDisk (state S.Store conn.new) → OnOk result
+        (Changed (publication_put new.now) (state S.Store conn.old) (state S.Store conn.new)) }
+    ensures undone { HasCleanDisk (state S.Store conn.new)
+        → OnErr result (Undone (state S.Store conn.old) (state S.Store conn.new)) }
+    ensures rests { conn.new.in_transaction ≡ false }
+    ensures clean { HasCleanDisk (state S.Store conn.new) → HasCleanDisk (state S.Store conn.old) }
+{
+    transact(conn, new)?;
+    Ok(())
+}
+
+impl Alteration for NewPublication {
+    ghost alteration = { publication_put };
+
+    ghost fits = { AreSmallShares };
+
+    fn apply<S: Alter>(&self, tx: &mut Transaction<'_, S>) -> Result<(), Error> {
+        put_places(tx, self)?;
+        put_shares(tx, self)
+    }
+}
+
+// The session as one of which something is published, its places and its seats.
+fn put_places<S: Alter>(tx: &mut Transaction<'_, S>, new: &NewPublication) -> Result<(), Error>
+    ensures same_reference { tx.new.conn.ghost_name ≡ tx.old.conn.ghost_name }
+    ensures makes { Changes S.Store (places_put new.now) tx.old.conn.now tx.new.conn.now result }
+    ensures within { Within (state S.Store tx.old.conn.now) (state S.Store tx.new.conn.now) }
+{
+    let meta = Both {
+        first: DeleteMeta,
+        second: InsertMeta {
+            published: true,
+            instance: &new.text,
+        },
+    };
+    let placements = Both {
+        first: DeletePlacements,
+        second: Each {
+            alterations: &new.placements,
+        },
+    };
+    let seats = Both {
+        first: DeleteSeats,
+        second: Each {
+            alterations: &new.seats,
+        },
+    };
+    meta.apply(tx)?;
+    placements.apply(tx)?;
+    seats.apply(tx)
+}
+
+// The shares of candidates that go and those that come, and all others anew.
+fn put_shares<S: Alter>(tx: &mut Transaction<'_, S>, new: &NewPublication) -> Result<(), Error>
+    requires small { AreSmallShares new.now }
+    ensures same_reference { tx.new.conn.ghost_name ≡ tx.old.conn.ghost_name }
+    ensures makes { Changes S.Store (shares_put new.now) tx.old.conn.now tx.new.conn.now result }
+    ensures within { Within (state S.Store tx.old.conn.now) (state S.Store tx.new.conn.now) }
+{
+    let students = Both {
+        first: Each {
+            alterations: &new.gone,
+        },
+        second: Each {
+            alterations: &new.students,
+        },
+    };
+    let parts = Both {
+        first: DeletePartShares,
+        second: Each {
+            alterations: &new.parts,
+        },
+    };
+    students.apply(tx)?;
+    parts.apply(tx)
+}

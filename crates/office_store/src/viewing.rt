@@ -1,0 +1,232 @@
+// A candidate's view of the office.
+ghost use Rattle.std.specs.Prelude.{◌≡◌, ◌==◌, ◌<◌, ◌^◌, [], ◌∷◌, IfOk, IsPermutation, Ok, OnOk, Some};
+ghost use Rattle.std.specs.Prelude.{filter, map};
+ghost use Rattle.sqlite.specs.Held.{state};
+ghost use Rattle.sqlite.specs.State.{HasCleanDisk};
+ghost use Rattle.exam_publish.specs.Changed.{rows_of};
+ghost use Rattle.exam_score.specs.Penalty.{personal_total};
+ghost use Rattle.office_model.specs.Office.{AreRecords, OfficeState, Records};
+ghost use Rattle.office_model.specs.Publishing.{rows_now};
+ghost use Rattle.office_model.specs.ViewRows.{places_in};
+ghost use Rattle.office_model.specs.Views.{no_view, shown_to, view_of};
+ghost use Rattle.office_records.specs.Publications.{stored_seat};
+ghost use Rattle.office_records.specs.Stands.{IsKept};
+ghost use Rattle.office_store.specs.Reading.{published_in, student_rows_in};
+ghost use Rattle.office_store.specs.Running.{IsAwake, IsStill, Reads, Tells};
+ghost use Rattle.office_store.specs.Viewing.{AreHerRows, exams_in, no_share, place_in_row};
+ghost use Rattle.office_store.specs.Viewing.{share_in_row};
+ghost use Rattle.office_tables.specs.declared.rows.StudentShareRow.{StudentShareRow as ShareRow};
+
+use crate::fault::Failed;
+use crate::office::Office;
+use exam_model::{ExamNo, Instance, PeriodNo, Place, RoomNo, StudentNo};
+use exam_score::PersonalParts;
+use office_model::{CandidateView, StoreFault, view_rows};
+use office_records::own_seats;
+use office_tables::{
+    EnrolRow, PlacedRow, SeatRow, StudentShareRow, enrols_of, placements_of, seats_of,
+    student_shares_of,
+};
+use sqlite::Alter;
+use std::alloc::{AllocError, Global};
+
+// The rows of a candidate's enrolments, of the places of these exams, of her seats and her share.
+#[derive(Drop)]
+struct HerRows {
+    enrols: Vec<EnrolRow>,
+    places: Vec<PlacedRow>,
+    seats: Vec<SeatRow>,
+    shares: Vec<StudentShareRow>,
+}
+
+impl<S: Alter> Office<S> {
+    /// What a candidate is shown: the exams where she is enrolled or has a seat, and what her seats
+    /// cost her. Nothing of anybody else's is read. Before a load there is nothing to show.
+    pub fn candidate_view(
+        &mut self,
+        alloc: Global,
+        student: StudentNo,
+    ) -> Result<CandidateView, StoreFault>
+        ensures reads { Reads S.Store (λ o. shown_to student (view_of student o)) self.old self.new
+            result }
+        ensures clean { HasCleanDisk (state S.Store self.new)
+            → HasCleanDisk (state S.Store self.old) }
+    {
+        let found = self.her_rows(alloc, student)?;
+        let Some((instance, _)) = &self.kept else {
+            return empty_view(alloc, student);
+        };
+        view_from(alloc, instance, student, &found)
+    }
+
+    // What the tables hold of a candidate.
+    fn her_rows(&mut self, alloc: Global, student: StudentNo) -> Result<HerRows, Failed>
+        ensures rows { HasCleanDisk (state S.Store self.new) → (office : OfficeState)
+            → IsKept (state S.Store self.new).now office
+            → IfOk result (λ found. AreHerRows office student found.enrols.items
+            found.places.items found.seats.items found.shares.items) }
+        ensures still { HasCleanDisk (state S.Store self.new)
+            → IsStill (state S.Store self.old) (state S.Store self.new) }
+        ensures awake { HasCleanDisk (state S.Store self.new)
+            → OnOk result (IsAwake (state S.Store self.new)) }
+        ensures clean { HasCleanDisk (state S.Store self.new)
+            → HasCleanDisk (state S.Store self.old) }
+    {
+        let enrols = self.her_enrols(alloc, student)?;
+        let places = self.her_places(alloc, student)?;
+        let seats = self.her_seats(alloc, student)?;
+        let shares = self.her_shares(alloc, student)?;
+        Ok(HerRows {
+            enrols,
+            places,
+            seats,
+            shares,
+        })
+    }
+
+    fn her_enrols(&mut self, alloc: Global, student: StudentNo) -> Result<Vec<EnrolRow>, Failed>
+        ensures rows { HasCleanDisk (state S.Store self.new) → (office : OfficeState)
+            → IsKept (state S.Store self.new).now office
+            → IfOk result (λ rows. map (λ row. row.exam) rows.items ≡ exams_in student office) }
+        ensures still { HasCleanDisk (state S.Store self.new)
+            → IsStill (state S.Store self.old) (state S.Store self.new) }
+        ensures awake { HasCleanDisk (state S.Store self.new)
+            → OnOk result (IsAwake (state S.Store self.new)) }
+        ensures clean { HasCleanDisk (state S.Store self.new)
+            → HasCleanDisk (state S.Store self.old) }
+    {
+        let _at_rest = self.conn.is_autocommit(); // read for what it says of the last commit
+        let rows = enrols_of(alloc, &mut self.conn, student.get())?;
+        Ok(rows)
+    }
+
+    fn her_places(&mut self, alloc: Global, student: StudentNo) -> Result<Vec<PlacedRow>, Failed>
+        ensures rows { HasCleanDisk (state S.Store self.new) → (office : OfficeState)
+            → IsKept (state S.Store self.new).now office
+            → IfOk result (λ rows. map place_in_row rows.items
+            ≡ places_in (published_in office) (exams_in student office)) }
+        ensures still { HasCleanDisk (state S.Store self.new)
+            → IsStill (state S.Store self.old) (state S.Store self.new) }
+        ensures awake { HasCleanDisk (state S.Store self.new)
+            → OnOk result (IsAwake (state S.Store self.new)) }
+        ensures clean { HasCleanDisk (state S.Store self.new)
+            → HasCleanDisk (state S.Store self.old) }
+    {
+        let _at_rest = self.conn.is_autocommit(); // read for what it says of the last commit
+        let rows = placements_of(alloc, &mut self.conn, student.get())?;
+        Ok(rows)
+    }
+
+    fn her_seats(&mut self, alloc: Global, student: StudentNo) -> Result<Vec<SeatRow>, Failed>
+        ensures rows { HasCleanDisk (state S.Store self.new) → (office : OfficeState)
+            → IsKept (state S.Store self.new).now office
+            → IfOk result (λ rows. rows.items
+            ≡ map stored_seat (rows_of student (rows_now (published_in office)))) }
+        ensures still { HasCleanDisk (state S.Store self.new)
+            → IsStill (state S.Store self.old) (state S.Store self.new) }
+        ensures awake { HasCleanDisk (state S.Store self.new)
+            → OnOk result (IsAwake (state S.Store self.new)) }
+        ensures clean { HasCleanDisk (state S.Store self.new)
+            → HasCleanDisk (state S.Store self.old) }
+    {
+        let _at_rest = self.conn.is_autocommit(); // read for what it says of the last commit
+        let rows = seats_of(alloc, &mut self.conn, student.get())?;
+        Ok(rows)
+    }
+
+    fn her_shares(
+        &mut self,
+        alloc: Global,
+        student: StudentNo,
+    ) -> Result<Vec<StudentShareRow>, Failed>
+        ensures rows { HasCleanDisk (state S.Store self.new) → (office : OfficeState)
+            → IsKept (state S.Store self.new).now office
+            → IfOk result (λ rows. IsPermutation
+            (filter (λ row. row.student == student) (student_rows_in office)) rows.items) }
+        ensures still { HasCleanDisk (state S.Store self.new)
+            → IsStill (state S.Store self.old) (state S.Store self.new) }
+        ensures awake { HasCleanDisk (state S.Store self.new)
+            → OnOk result (IsAwake (state S.Store self.new)) }
+        ensures clean { HasCleanDisk (state S.Store self.new)
+            → HasCleanDisk (state S.Store self.old) }
+    {
+        let _at_rest = self.conn.is_autocommit(); // read for what it says of the last commit
+        let rows = student_shares_of(alloc, &mut self.conn, student.get())?;
+        Ok(rows)
+    }
+}
+
+// The view where there is no session.
+fn empty_view(alloc: Global, student: StudentNo) -> Result<CandidateView, StoreFault>
+    ensures { Tells (shown_to student no_view) result }
+{
+    let personal = personal_in(&[])?;
+    Ok(CandidateView::new(student, Vec::new(alloc), personal))
+}
+
+// What these rows show of the session at hand.
+fn view_from(
+    alloc: Global,
+    instance: &Instance,
+    student: StudentNo,
+    found: &HerRows,
+) -> Result<CandidateView, StoreFault>
+    ensures told { (r : Records) → AreRecords r → r.session ≡ instance.now
+        → AreHerRows (Some r) student found.now.enrols.items found.now.places.items
+        found.now.seats.items found.now.shares.items
+        → Tells (shown_to student (view_of student (Some r))) result }
+{
+    let enrolled = exams_of(alloc, &found.enrols)?;
+    let places = places_of(alloc, &found.places)?;
+    let seats = own_seats(alloc, &found.seats)?;
+    let rows = view_rows(alloc, instance, &enrolled, &places, &seats)?;
+    let personal = personal_in(&found.shares)?;
+    Ok(CandidateView::new(student, rows, personal))
+}
+
+fn exams_of(alloc: Global, rows: &[EnrolRow]) -> Result<Vec<ExamNo>, AllocError>
+    ensures { IfOk result (λ exams. exams.items ≡ map (λ row. row.exam) rows.now) }
+{
+    rows.iter().map(|row| ExamNo::new(row.exam)).collect(alloc)
+}
+
+fn places_of(alloc: Global, rows: &[PlacedRow]) -> Result<Vec<(ExamNo, Place)>, AllocError>
+    ensures { IfOk result (λ places. places.items ≡ map place_in_row rows.now) }
+{
+    rows.iter().map(|row| place_in(row)).collect(alloc)
+}
+
+fn place_in(row: &PlacedRow) -> (ExamNo, Place)
+    ensures { result ≡ place_in_row row.now }
+{
+    let place = Place {
+        period: PeriodNo::new(row.period),
+        room: RoomNo::new(row.room),
+    };
+    (ExamNo::new(row.exam), place)
+}
+
+// Her share by her row; nothing where she has none. `BadSchema`: there are two rows, or one that
+// no share has.
+fn personal_in(rows: &[StudentShareRow]) -> Result<PersonalParts, StoreFault>
+    ensures none { rows.now ≡ [] → result ≡ Ok no_share }
+    ensures one { (row : ShareRow) → rows.now ≡ row ∷ [] → personal_total (share_in_row row) < 2 ^ 62
+        → result ≡ Ok (share_in_row row) }
+{
+    match share_in(rows) {
+        Some(share) => Ok(share),
+        None => Err(StoreFault::BadSchema),
+    }
+}
+
+fn share_in(rows: &[StudentShareRow]) -> Option<PersonalParts>
+    ensures none { rows.now ≡ [] → result ≡ Some no_share }
+    ensures one { (row : ShareRow) → rows.now ≡ row ∷ [] → personal_total (share_in_row row) < 2 ^ 62
+        → result ≡ Some (share_in_row row) }
+{
+    match rows {
+        [] => PersonalParts::new(0, 0, 0),
+        [row] => PersonalParts::new(row.in_row, row.in_day, row.spread),
+        _ => None,
+    }
+}

@@ -1,0 +1,94 @@
+-- What insertions and deletions make of the tables, one after the other.
+use Rattle.std.proofs.Common.{◌≡◌, List, [], ◌∷◌, ◌++◌, map, reverse, filter, not, Bool, true, false, cond, ◌==◌, ◌||◌, refl, sym, ap, ◌∙◌, append_assoc}
+use Rattle.std.specs.List.{list_any}
+use Rattle.std.proofs.lemmas.List.{reverse-append}
+use Rattle.office_tables.specs.Alterations.{after_all}
+use Rattle.office_tables.specs.Changes.{with_placement, with_seat, with_student_share, without_student_share, with_part_share}
+use Rattle.office_tables.specs.Tables.{Tables}
+use Rattle.office_tables.specs.declared.placing.InsertPlacement.{InsertPlacement}
+use Rattle.office_tables.specs.declared.rows.StudentShareRow.{StudentShareRow}
+use Rattle.office_tables.specs.declared.seating.InsertSeat.{InsertSeat}
+use Rattle.office_tables.specs.declared.sharing.DeleteStudentShare.{DeleteStudentShare}
+use Rattle.office_tables.specs.declared.sharing.InsertPartShare.{InsertPartShare}
+use Rattle.office_tables.specs.declared.sharing.InsertStudentShare.{InsertStudentShare}
+
+-- a row that comes before others comes last of their reverse
+first_last : {X : Type 0} (x : X) (xs ys : List X)
+    → reverse xs ++ (x ∷ ys) ≡ reverse (x ∷ xs) ++ ys
+first_last x xs ys =
+    sym (append_assoc (reverse xs) (x ∷ []) ys)
+    ∙ ap (λ l. l ++ ys) (sym (reverse-append (x ∷ []) xs))
+
+pub placements_put : (its : List InsertPlacement) (t : Tables)
+    → after_all (λ it. with_placement it.row) its t
+    ≡ record t { placed = reverse (map (λ it. it.row) its) ++ t.placed }
+placements_put [] t = refl
+placements_put (it ∷ rest) t =
+    placements_put rest (with_placement it.row t)
+    ∙ ap (λ l. record t { placed = l }) (first_last it.row (map (λ x. x.row) rest) t.placed)
+
+pub seats_put : (its : List InsertSeat) (t : Tables)
+    → after_all (λ it. with_seat it.row) its t
+    ≡ record t { seat = reverse (map (λ it. it.row) its) ++ t.seat }
+seats_put [] t = refl
+seats_put (it ∷ rest) t =
+    seats_put rest (with_seat it.row t)
+    ∙ ap (λ l. record t { seat = l }) (first_last it.row (map (λ x. x.row) rest) t.seat)
+
+pub student_shares_put : (its : List InsertStudentShare) (t : Tables)
+    → after_all (λ it. with_student_share it.row) its t
+    ≡ record t { share_student = reverse (map (λ it. it.row) its) ++ t.share_student }
+student_shares_put [] t = refl
+student_shares_put (it ∷ rest) t =
+    student_shares_put rest (with_student_share it.row t)
+    ∙ ap (λ l. record t { share_student = l })
+    (first_last it.row (map (λ x. x.row) rest) t.share_student)
+
+pub part_shares_put : (its : List InsertPartShare) (t : Tables)
+    → after_all (λ it. with_part_share it.row) its t
+    ≡ record t { share_part = reverse (map (λ it. it.row) its) ++ t.share_part }
+part_shares_put [] t = refl
+part_shares_put (it ∷ rest) t =
+    part_shares_put rest (with_part_share it.row t)
+    ∙ ap (λ l. record t { share_part = l })
+    (first_last it.row (map (λ x. x.row) rest) t.share_part)
+
+-- what two tests leave, one after the other
+twice : {X : Type 0} (p q : X → Bool) (xs : List X)
+    → filter (λ x. not (q x)) (filter (λ x. not (p x)) xs) ≡ filter (λ x. not (p x || q x)) xs
+twice p q [] = refl
+twice {X} p q (x ∷ xs) = go (p x) (twice p q xs)
+  where
+    rest : List X
+    rest = filter (λ y. not (p y || q y)) xs
+
+    inner : (b : Bool) → filter (λ y. not (q y)) (filter (λ y. not (p y)) xs) ≡ rest
+        → cond (not b) (x ∷ filter (λ y. not (q y)) (filter (λ y. not (p y)) xs))
+        (filter (λ y. not (q y)) (filter (λ y. not (p y)) xs)) ≡ cond (not b) (x ∷ rest) rest
+    inner true more = more
+    inner false more = ap (λ l. x ∷ l) more
+
+    go : (b : Bool) → filter (λ y. not (q y)) (filter (λ y. not (p y)) xs) ≡ rest
+        → filter (λ y. not (q y)) (cond (not b) (x ∷ filter (λ y. not (p y)) xs)
+        (filter (λ y. not (p y)) xs))
+        ≡ cond (not (b || q x)) (x ∷ rest) rest
+    go true more = more
+    go false more = inner (q x) more
+
+-- the shares of these students are gone
+pub student_shares_gone : (its : List DeleteStudentShare) (t : Tables)
+    → after_all (λ it. without_student_share it.student) its t
+    ≡ record t {
+      share_student = filter (λ r. not (list_any (λ it. r.student == it.student) its))
+          t.share_student;
+    }
+student_shares_gone [] t = ap (λ l. record t { share_student = l }) (sym (all t.share_student))
+  where
+    all : (xs : List StudentShareRow) → filter (λ _. true) xs ≡ xs
+    all [] = refl
+    all (x ∷ xs) = ap (λ l. x ∷ l) (all xs)
+student_shares_gone (it ∷ rest) t =
+    student_shares_gone rest (without_student_share it.student t)
+    ∙ ap (λ l. record t { share_student = l })
+    (twice (λ r. r.student == it.student) (λ r. list_any (λ x. r.student == x.student) rest)
+    t.share_student)

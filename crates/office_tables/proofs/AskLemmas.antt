@@ -1,0 +1,108 @@
+-- What a reader leaves, and the answers of a query, whatever it asks.
+use Rattle.std.proofs.Common.{◌≡◌, ◌+◌, IsSorted, is_lt, subst₂, inl, inr, ℕ, List, [], ◌∷◌, map, cond, Bool, true, false, None, Ok, Err, Result, arith, subst, refl, sym, ap, ◌∙◌, IsTrue}
+use Rattle.std.specs.Prelude.{IsPermutation, nat_le, unwrap_or, ◌^◌}
+use Rattle.std.proofs.lemmas.List.{get_or-map, length-map}
+use Rattle.sqlite_value.specs.Order.{Row}
+use Rattle.sqlite_value.specs.declared.keys.Key.{Key}
+use Rattle.sqlite_value.specs.declared.value.Value.TheVariants.{Null}
+use Rattle.sqlite_trees.specs.Tree.{Trees}
+use Rattle.sqlite_trees.proofs.ListLemmas.{map-map, pull_back}
+use Rattle.sqlite_resolve.specs.declared.compiled.Compiled.{Compiled}
+use Rattle.sqlite_resolve.specs.declared.error.CompileError.{CompileError}
+use Rattle.sqlite.specs.Command.TheVariants.{Select}
+use Rattle.sqlite.specs.Given.{HasBegun}
+use Rattle.sqlite.specs.Held.{Held, state}
+use Rattle.sqlite.specs.Listing.{understood}
+use Rattle.sqlite.specs.Program.{overlay}
+use Rattle.sqlite.specs.Query.{Query, Join, Output, IsAnswer, output, output_cmp, sort_cmp, matches}
+use Rattle.sqlite.specs.State.{State, Survives, IsUnchanged, Shown, CommitsShowing}
+use Rattle.sqlite.specs.Store.{Ghosts}
+use Rattle.sqlite.specs.Term.{Term, Env, eval_all}
+use Rattle.sqlite.proofs.StateLemmas.{survives_weaker}
+use Rattle.sqlite.proofs.Callers.{IsPlain, never_commits, command_of, reads_as}
+use Rattle.office_schema.specs.Schema.{office_schema}
+use Rattle.office_tables.specs.Asking.{asks, Means, Selects}
+use Rattle.office_tables.specs.Steps.{Nothing}
+use Rattle.office_tables.specs.Tables.{Tables, Stands}
+use Rattle.office_tables.proofs.LookLemmas.{was_open}
+
+-- ---- what a reader leaves
+
+pub silent : (sql : List ℕ) (params : Row) (old new : State)
+    → Survives old new (CommitsShowing sql params old)
+    → Survives old new (λ _. IsPlain (understood old.now.schema sql) → ⊥)
+silent sql params old new =
+    survives_weaker old new _ _ (λ _ db h plain. never_commits sql params old db plain h)
+
+-- a query begins at an open store
+pub begun_open : {S : Type 0} (g : Ghosts S) (sql : List ℕ) (params : Row) (old new : Held S)
+    → HasBegun g sql params old new → IsTrue (state g old).is_open
+begun_open g sql params old new (inl h) = h.1.0.was_open
+begun_open g sql params old new (inr h) = was_open sql params _ _ _ h.1
+
+-- under the office's schema
+module _ (q : Query) (sql : List ℕ) (means : Means office_schema q sql) (old new : State) where
+  pub plain_in : (t : Tables) → Stands old.now t → IsPlain (understood old.now.schema sql)
+  plain_in t stands = subst (λ s. IsPlain (understood s sql)) (sym stands.schema) means.plain
+
+  pub means_in : (t : Tables) → Stands old.now t → Means old.now.schema q sql
+  means_in t stands = subst (λ s. Means s q sql) (sym stands.schema) means
+
+  pub silent_in : Survives old new (λ _. IsPlain (understood old.now.schema sql) → ⊥)
+      → Survives old new (Nothing old)
+  silent_in =
+      survives_weaker old new _ _ (λ _ db h t stands. h (plain_in t stands))
+
+-- what permutes a list's images is the images of a list that permutes it
+pub unmapped : {X Y : Type 0} (f : X → Y) (xs : List X) (ys : List Y) → IsPermutation (map f xs) ys
+    → (zs : List X) × (ys ≡ map f zs) × IsPermutation xs zs
+unmapped f xs ys h = let back = pull_back f _ _ h xs refl in (back.0, back.2, back.1)
+
+-- ---- answers
+
+both_alike : {X : Type 0} (b : Bool) (x : X) → cond b x x ≡ x
+both_alike true x = refl
+both_alike false x = refl
+
+command_is : (q : Query) (names : List (List ℕ)) (r : Result Compiled CompileError)
+    → Selects q names r → command_of r ≡ Select (record { lets = []; body = q }) names
+command_is q names (Ok c) h = h
+command_is q names (Err e) h = absurd h
+
+-- what a text gives is an answer of the query that it means
+pub answers : (q : Query) (sql : List ℕ) (params : Row) (old mid new : State)
+    → Means old.now.schema q sql → IsUnchanged old mid
+    → (rows : List Row) → Shown sql params mid new rows → IsAnswer q old.now.trees params rows
+answers q sql params old mid new means same rows h =
+    let has = ap (λ d. d.schema) same.0.now_is in
+    let command = command_is q means.names _ means.selects in
+    let answer = (reads_as sql params mid new old.now.schema has
+    (Select (record { lets = []; body = q }) means.names) command means.plain means.unlisted rows
+    h).answer Null in
+    let bare : overlay mid.now.trees [] ≡ old.now.trees =
+    (λ i t. ap (λ o. unwrap_or o (mid.now.trees t)) (both_alike (nat_le (2 ^ 31) t) None) i)
+    ∙ ap (λ d. d.trees) same.0.now_is in
+    subst (λ trees. IsAnswer q trees params rows) bare answer
+
+-- an answer shows all matches, in the order that is asked
+pub arranged : (from : Join) (where_ shown : List Term) (order : List (Term × Key)) (trees : Trees)
+    (params : Row) (rows : List Row) → IsAnswer (asks from where_ shown order) trees params rows
+    → (found : List Env) × (rows ≡ map (eval_all shown) found)
+    × IsPermutation (matches trees where_ from (params ∷ [])) found
+    × IsSorted (sort_cmp order) found
+arranged from where_ shown order trees params rows a =
+    let q = asks from where_ shown order in
+    let kept : a.kept ≡ map (output q) (matches trees where_ from (params ∷ [])) =
+    a.distinct ∙ ap (map (output q)) a.grouped in
+    let u = unmapped (output q) (matches trees where_ from (params ∷ [])) a.ordered
+    (subst (λ k. IsPermutation k a.ordered) kept a.same) in
+    let up = subst (IsSorted (output_cmp q)) u.1 a.sorted in
+    let long = length-map u.0 (output q) in (
+      u.0,
+      a.shown ∙ ap (map (λ (o : Output). o.1)) u.1 ∙ map-map (λ (o : Output). o.1) (output q) u.0,
+      u.2,
+      λ k d low within. subst₂ (λ x y. is_lt (output_cmp q x y) ≡ false)
+          (get_or-map (output q) u.0 (k + 1) d (output q d) within)
+          (get_or-map (output q) u.0 k d (output q d) (omega arith))
+          (up k (output q d) low (omega arith)),
+    )

@@ -1,0 +1,196 @@
+-- Rows in the order of ORDER BY, as records in the order of their numbers.
+use Rattle.std.proofs.Common.{◌≡◌, ℕ, zero, suc, ◌+◌, ◌<◌, ◌⊎◌, inl, inr, pos, Bool, List, [], ◌∷◌, map, filter, length, get_or, nat_cmp, int_cmp, Ordering, Less, is_lt, refl, sym, ap, ap₂, subst, ◌∙◌, arith, IsPermutation}
+use Rattle.std.specs.Prelude.{slice_index_or, IsSortedByKey}
+use Rattle.std.specs.Ordering.{ordering_then, on}
+use Rattle.std.specs.Cmp.Lexicographic.{slice_cmp}
+use Rattle.std.proofs.lemmas.Bool.Decides.{nat_tests}
+use Rattle.std.proofs.lemmas.Cmp.{on_total, nat_list_cmp_total}
+use Rattle.std.proofs.lemmas.Int.{ints}
+use Rattle.std.proofs.lemmas.List.{get_or-map, length-map}
+use Rattle.std.proofs.lemmas.List.Sorted.{IsPermutation-map, IsPermutation-trans, IsPermutation-sym}
+use Rattle.sqlite_value.specs.declared.value.Value.{Value}
+use Rattle.sqlite_value.specs.declared.value.Value.TheVariants.{Int, Null}
+use Rattle.sqlite_value.specs.declared.keys.Collation.TheVariants.{Binary}
+use Rattle.sqlite_value.specs.declared.keys.Key.{Key}
+use Rattle.sqlite_value.specs.Keys.{ascending}
+use Rattle.sqlite_value.specs.Order.{Row, column, value_cmp}
+use Rattle.sqlite_value.proofs.OrderLemmas.{value_cmp-Int}
+use Rattle.sqlite_trees.proofs.ListLemmas.{map-map, filter-map, filter_same, IsPermutation-filter, ascending_weaker}
+use Rattle.sqlite_rules.proofs.ListLemmas.{all_from}
+use Rattle.sqlite_keyed.proofs.SortLemmas.{sorted_unique}
+use Rattle.sqlite_sql.proofs.QueryLemmas.{key_cmp_shift}
+use Rattle.sqlite_trees.specs.Tree.{Trees, IsAscending}
+use Rattle.sqlite.specs.Query.{Join, key_cmp, sort_cmp, matches, inner, end}
+use Rattle.sqlite.specs.Term.{Term, Env, lit, eval, eval_all}
+use Rattle.office_tables.specs.Asking.{asks, IsReadOf}
+use Rattle.office_tables.specs.Selections.{IsInOrder}
+use Rattle.office_tables.proofs.AskLemmas.{arranged, unmapped}
+use Rattle.office_tables.proofs.Queries.{matched, passes, map_agree, id_map}
+
+-- ---- an order by numbers
+
+-- by these of the shown columns, rising
+abbrev pub rising : List Term → List ℕ → List (Term × Key)
+rising shown by = map (λ at. (slice_index_or shown at (lit Null), ascending Binary)) by
+
+-- by the first numbers that differ
+abbrev pub numbers_cmp : List ℕ → List ℕ → Ordering
+numbers_cmp = slice_cmp nat_cmp
+
+-- no record has lower numbers than the one that it follows
+abbrev pub Rises : {R : Type 0} → (R → List ℕ) → List R → Type 0
+Rises key = IsSortedByKey key numbers_cmp
+
+-- each record has lower numbers than all that follow
+abbrev pub StrictlyRises : {R : Type 0} → (R → List ℕ) → List R → Type 0
+StrictlyRises key = IsAscending (λ x y. numbers_cmp (key x) (key y) ≡ Less)
+
+abbrev pub int : ℕ → Value
+int n = Int (pos n)
+
+in_order : (m n : ℕ) → value_cmp (int m) (int n) ≡ nat_cmp m n
+in_order m n =
+    let same : int_cmp (pos m) (pos n) ≡ nat_cmp m n = grind (arith, ints) in
+    value_cmp-Int (pos m) (pos n) ∙ same
+
+-- columns of what is shown are the terms that show them
+shown_column : (shown : List Term) (at : ℕ) (env : Env)
+    → column (eval_all shown env) at ≡ eval (slice_index_or shown at (lit Null)) env
+shown_column [] at env = refl
+shown_column (t ∷ shown) zero env = refl
+shown_column (t ∷ shown) (suc at) env = shown_column shown at env
+
+sorted_by : (shown : List Term) (by : List ℕ) (env : Env)
+    → eval_all (map (λ k. k.0) (rising shown by)) env ≡ map (column (eval_all shown env)) by
+sorted_by shown [] env = refl
+sorted_by shown (at ∷ by) env =
+    ap₂ (λ v vs. v ∷ vs) (sym (shown_column shown at env)) (sorted_by shown by env)
+
+by_numbers : (shown : List Term) (by ns ms : List ℕ) → length ns ≡ length by
+    → length ms ≡ length by
+    → key_cmp 0 (map (λ k. k.1) (rising shown by)) (map int ns) (map int ms) ≡ numbers_cmp ns ms
+by_numbers shown [] [] [] p q = refl
+by_numbers shown [] (n ∷ ns) ms p q = absurd (omega arith)
+by_numbers shown [] [] (m ∷ ms) p q = absurd (omega arith)
+by_numbers shown (at ∷ by) [] ms p q = absurd (omega arith)
+by_numbers shown (at ∷ by) (n ∷ ns) [] p q = absurd (omega arith)
+by_numbers shown (at ∷ by) (n ∷ ns) (m ∷ ms) p q =
+    ap₂ ordering_then (in_order n m)
+    (key_cmp_shift (map (λ (k : Term × Key). k.1) (rising shown by)) 0 (int n) (int m) (map int ns)
+    (map int ms) ∙ by_numbers shown by ns ms (omega arith) (omega arith))
+
+as_many : (by : List ℕ) (row : Row) (ns : List ℕ) → map (column row) by ≡ map int ns
+    → length ns ≡ length by
+as_many by row ns is = sym (length-map ns int) ∙ sym (ap length is) ∙ length-map by (column row)
+
+sort_is : (shown : List Term) (by : List ℕ) (x y : Env) (ns ms : List ℕ)
+    → map (column (eval_all shown x)) by ≡ map int ns
+    → map (column (eval_all shown y)) by ≡ map int ms
+    → sort_cmp (rising shown by) x y ≡ numbers_cmp ns ms
+sort_is shown by x y ns ms p q =
+    ap₂ (key_cmp 0 (map (λ (k : Term × Key). k.1) (rising shown by))) (sorted_by shown by x ∙ p)
+    (sorted_by shown by y ∙ q)
+    ∙ by_numbers shown by ns ms (as_many by _ ns p) (as_many by _ ms q)
+
+-- the records that rise strictly have no other order in which they rise
+pub only_order : {R : Type 0} (key : R → List ℕ) (xs ys : List R) → StrictlyRises key xs
+    → IsPermutation xs ys → Rises key ys → ys ≡ xs
+only_order key xs ys strict same up =
+    sorted_unique (on key numbers_cmp) (on_total key nat_list_cmp_total) xs ys strict same up
+
+-- ---- orders in words of numbers
+
+pub one_less : (a b : ℕ) → a < b → numbers_cmp (a ∷ []) (b ∷ []) ≡ Less
+one_less a b low = grind (arith, nat_tests)
+
+pub two_less : (a b c d : ℕ) → (a < b) ⊎ ((a ≡ b) × (c < d))
+    → numbers_cmp (a ∷ c ∷ []) (b ∷ d ∷ []) ≡ Less
+two_less a b c d (inl low) = grind (arith, nat_tests)
+two_less a b c d (inr same) =
+    let here = same.0 in let next = same.1 in grind (arith, nat_tests)
+
+-- what rises is the one list of its rows that does so strictly
+pub in_this_order : {R : Type 0} (Before : R → R → Type 0) (key : R → List ℕ)
+    → ((x y : R) → Before x y → numbers_cmp (key x) (key y) ≡ Less)
+    → (rows found : List R) → IsPermutation rows found × Rises key found
+    → IsInOrder (IsAscending Before) rows found
+in_this_order Before key less rows found is ordered same up =
+    only_order key ordered found
+    (ascending_weaker Before (λ x y. numbers_cmp (key x) (key y) ≡ Less) less ordered up)
+    (IsPermutation-trans _ _ _ (IsPermutation-sym _ _ same) is.0) is.1
+
+-- ---- from matches to records
+
+module _ {R : Type 0} (record_of : Row → R) (row_of : R → Row)
+    (back : (x : R) → record_of (row_of x) ≡ x) (from : Join) (where_ shown : List Term)
+    (by : List ℕ) (key : R → List ℕ)
+    (keyed : (x : R) → map (column (row_of x)) by ≡ map int (key x)) where
+  -- where the matches show these typed rows, the records are those, and they rise
+  pub read : (trees : Trees) (params : Row) (xs records : List R)
+      → IsPermutation (map (eval_all shown) (matches trees where_ from (params ∷ [])))
+      (map row_of xs)
+      → IsReadOf record_of params (asks from where_ shown (rising shown by)) trees records
+      → IsPermutation xs records × Rises key records
+  read trees params xs records shows h =
+      let a = arranged from where_ shown (rising shown by) trees params h.0 h.2 in
+      let found = a.0 in
+      let moved = IsPermutation-trans _ _ _ (IsPermutation-sym _ _ shows)
+      (IsPermutation-map (eval_all shown) _ _ a.2) in
+      let u = unmapped row_of xs (map (eval_all shown) found) moved in
+      let is : records ≡ u.0 =
+      h.1 ∙ ap (map record_of) (a.1 ∙ u.1) ∙ map-map record_of row_of u.0
+      ∙ id_map (λ x. record_of (row_of x)) back u.0 in
+      let long : length found ≡ length u.0 =
+      sym (length-map found (eval_all shown)) ∙ ap length u.1 ∙ length-map u.0 row_of in
+      let at : (k : ℕ) (d : R) → k < length u.0
+      → map (column (eval_all shown (get_or found k []))) by ≡ map int (key (get_or u.0 k d)) =
+      λ k d lt. ap (λ (q : Row). map (column q) by)
+      (sym (get_or-map (eval_all shown) found k [] [] (omega arith))
+      ∙ ap (λ (l : List Row). get_or l k []) u.1 ∙ get_or-map row_of u.0 k d [] lt)
+      ∙ keyed (get_or u.0 k d) in
+      let up : Rises key u.0 = λ k d low within.
+      sym (ap is_lt (sort_is shown by _ _ (key (get_or u.0 (k + 1) d)) (key (get_or u.0 k d))
+      (at (k + 1) d within) (at k d (omega arith))))
+      ∙ a.3 k [] low (omega arith) in
+      (subst (IsPermutation xs) (sym is) u.2, subst (Rises key) (sym is) up)
+
+-- ---- from a table to matches
+
+-- of a table that shows these typed rows, those that pass a test show the typed rows that pass it
+passed : {R : Type 0} (row_of : R → Row) (show : Row → Row) (sees : Row → Row) (pick : Row → Row)
+    (picks : (r : Row) → sees r ≡ pick (show r)) (picked : (x : R) → pick (row_of x) ≡ row_of x)
+    (pass test : Row → Bool) (tests : (r : Row) → pass r ≡ test (show r))
+    (p : R → Bool) (tested : (x : R) → test (row_of x) ≡ p x)
+    (stored : List Row) (xs : List R) → IsPermutation (map show stored) (map row_of xs)
+    → IsPermutation (map sees (filter pass stored)) (map row_of (filter p xs))
+passed row_of show sees pick picks picked pass test tests p tested stored xs h =
+    let left : filter test (map show stored) ≡ map show (filter pass stored) =
+    filter-map test show stored
+    ∙ ap (map show) (sym (filter_same pass (λ r. test (show r)) stored
+    (all_from _ stored (λ r _. tests r)))) in
+    let right : filter test (map row_of xs) ≡ map row_of (filter p xs) =
+    filter-map test row_of xs
+    ∙ ap (map row_of) (filter_same (λ x. test (row_of x)) p xs (all_from _ xs (λ x _. tested x))) in
+    let kept : IsPermutation (map show (filter pass stored)) (map row_of (filter p xs)) =
+    rw (sym left, sym right) (IsPermutation-filter test _ _ h) in
+    let shows : map pick (map show (filter pass stored)) ≡ map sees (filter pass stored) =
+    map-map pick show _ ∙ map_agree _ sees (λ r. sym (picks r)) _ in
+    let rows : map pick (map row_of (filter p xs)) ≡ map row_of (filter p xs) =
+    map-map pick row_of _ ∙ map_agree _ row_of picked _ in
+    rw (sym shows, sym rows) (IsPermutation-map pick _ _ kept)
+
+-- the same of a text about one table
+pub table_shown : {R : Type 0} (row_of : R → Row) (show pick : Row → Row) (params : Row)
+    (tree : ℕ) (where_ shown : List Term)
+    (picks : (r : Row) → eval_all shown (params ∷ r ∷ []) ≡ pick (show r))
+    (picked : (x : R) → pick (row_of x) ≡ row_of x)
+    (test : Row → Bool) (tests : (r : Row) → passes params where_ r ≡ test (show r))
+    (p : R → Bool) (tested : (x : R) → test (row_of x) ≡ p x)
+    (trees : Trees) (xs : List R) → IsPermutation (map show (trees tree)) (map row_of xs)
+    → IsPermutation (map (eval_all shown) (matches trees where_ (inner tree end) (params ∷ [])))
+    (map row_of (filter p xs))
+table_shown row_of show pick params tree where_ shown picks picked test tests p tested trees xs h =
+    let is = ap (map (eval_all shown)) (matched params where_ (trees tree))
+    ∙ map-map (eval_all shown) (λ r. params ∷ r ∷ []) _ in
+    rw is (passed row_of show (λ r. eval_all shown (params ∷ r ∷ [])) pick picks picked
+    (passes params where_) test tests p tested (trees tree) xs h)

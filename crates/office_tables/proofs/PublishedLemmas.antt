@@ -1,0 +1,162 @@
+-- What each statement on the tables of the publication means, and what it makes of the tables.
+use Rattle.std.proofs.Common.{◌≡◌, ℕ, pos, List, [], ◌∷◌, map, filter, not, codes, true, Ok, refl, ◌∙◌}
+use Rattle.sqlite_trees.specs.Tree.{put_row}
+use Rattle.sqlite_value.specs.declared.value.Value.TheVariants.{Null, Int}
+use Rattle.sqlite_value.specs.Order.{Row}
+use Rattle.sqlite.specs.Command.TheVariants.{Insert, Delete}
+use Rattle.sqlite.specs.Edit.{next_rowid, are_fresh}
+use Rattle.sqlite.specs.Listing.{understood}
+use Rattle.sqlite.specs.Source.TheVariants.{Values}
+use Rattle.sqlite.specs.State.{State, Executes}
+use Rattle.sqlite.specs.Term.{Term, lit, col}
+use Rattle.sqlite.proofs.Callers.{IsPlain, command_of}
+use Rattle.sqlite_tied.specs.Compute.{everything}
+use Rattle.office_tables.specs.declared.rows.PlacedRow.{PlacedRow}
+use Rattle.office_tables.specs.declared.rows.SeatRow.{SeatRow}
+use Rattle.office_schema.specs.Schema.{office_schema, placed_table, seat_table}
+use Rattle.office_tables.specs.Tables.{Tables, Stands, keyed, keyless, placed_row, seat_row}
+use Rattle.office_tables.proofs.Casts.{cast_int, cast_null}
+use Rattle.office_tables.proofs.Frames.{holds_none, placed_changed, seat_changed}
+use Rattle.office_tables.proofs.Statements.{inserts, deletes}
+use Rattle.office_tables.proofs.TableLemmas.{holds_more}
+use Rattle.office_tables.proofs.Queries.{answered, left_of, one_table, rowids}
+
+none_left : (xs : List Row) → filter (λ r. not true) xs ≡ []
+none_left [] = refl
+none_left (x ∷ xs) = none_left xs
+
+-- ---- INSERT INTO placed
+
+abbrev pub insert_placement_text : List ℕ
+insert_placement_text = codes "INSERT INTO placed (exam, period, room) VALUES (?1, ?2, ?3)"
+
+abbrev insert_placement_terms : List Term
+insert_placement_terms = col 0 0 ∷ lit Null ∷ col 0 1 ∷ col 0 2 ∷ []
+
+insert_placement_is : command_of (understood office_schema insert_placement_text)
+    ≡ Insert 5 (Values insert_placement_terms 4)
+unfolding understood everything
+insert_placement_is = refl
+
+insert_placement_plain : IsPlain (understood office_schema insert_placement_text)
+unfolding understood everything
+insert_placement_plain = (refl, refl)
+
+pub placement_added : (old new : State) (row : PlacedRow) (count : ℕ) (t : Tables)
+    → Stands old.now t
+    → Executes insert_placement_text (placed_row row) old new (Ok count)
+    → Stands new.now (record t { placed = row ∷ t.placed })
+placement_added old new row count t stands h =
+    let done = inserts insert_placement_text _ old new count office_schema stands.schema
+    insert_placement_plain 5 placed_table refl insert_placement_terms 4 insert_placement_is
+    (λ taken news. refl) h in
+    let is = done.1 in
+    let stored = old.now.trees 7 in
+    let new_row : Row = Int (pos row.exam) ∷ Null ∷ Int (pos row.period) ∷ Int (pos row.room) ∷
+    [] in
+    let rows : new.now.trees 7 ≡ put_row new_row stored =
+    is.rows ∙ rw (cast_null, cast_int row.exam, cast_int row.period, cast_int row.room) refl in
+    let fresh : are_fresh stored (new_row ∷ []) ≡ true = rw (cast_int row.exam) at is.fresh in
+    placed_changed old.now new.now t stands done.0 (row ∷ t.placed) is.tables
+    (rw rows (holds_more keyed (map placed_row t.placed) stored new_row (placed_row row) refl refl
+    fresh
+    stands.placed))
+
+-- ---- DELETE FROM placed
+
+abbrev pub delete_placement_text : List ℕ
+delete_placement_text = codes "DELETE FROM placed"
+
+delete_placement_is : command_of (understood office_schema delete_placement_text)
+    ≡ Delete 5 (record { lets = []; body = one_table 7 [] rowids [] })
+unfolding understood everything
+delete_placement_is = refl
+
+delete_placement_plain : IsPlain (understood office_schema delete_placement_text)
+unfolding understood everything
+delete_placement_plain = (refl, refl)
+
+pub placement_cleared : (old new : State) (count : ℕ) (t : Tables) → Stands old.now t
+    → Executes delete_placement_text [] old new (Ok count)
+    → Stands new.now (record t { placed = [] })
+placement_cleared old new count t stands h =
+    let done = deletes delete_placement_text [] old new count office_schema stands.schema
+    delete_placement_plain 5 placed_table refl _ delete_placement_is (λ taken news. refl) h in
+    let is = done.3 in
+    let stored = old.now.trees 7 in
+    let answer = answered 7 [] _ [] old.now.trees [] done.0 done.2 in
+    let rows : new.now.trees 7 ≡ [] =
+    is.rows ∙ left_of (λ r. true) stored done.0 stands.placed.rowids answer ∙ none_left stored in
+    placed_changed old.now new.now t stands done.1 [] is.tables
+    (holds_none keyed (new.now.trees 7) rows)
+
+-- ---- INSERT INTO seat
+
+abbrev pub insert_seat_text : List ℕ
+insert_seat_text = codes
+    "INSERT INTO seat (student, exam, period, room, seat) VALUES (?1, ?2, ?3, ?4, ?5)"
+
+abbrev insert_seat_terms : List Term
+insert_seat_terms = lit Null ∷ col 0 0 ∷ col 0 1 ∷ col 0 2 ∷ col 0 3 ∷ col 0 4 ∷ []
+
+insert_seat_is : command_of (understood office_schema insert_seat_text)
+    ≡ Insert 6 (Values insert_seat_terms 6)
+unfolding understood everything
+insert_seat_is = refl
+
+insert_seat_plain : IsPlain (understood office_schema insert_seat_text)
+unfolding understood everything
+insert_seat_plain = (refl, refl)
+
+pub seat_added : (old new : State) (row : SeatRow) (count : ℕ) (t : Tables) → Stands old.now t
+    → Executes insert_seat_text (seat_row row) old new (Ok count)
+    → Stands new.now (record t { seat = row ∷ t.seat })
+seat_added old new row count t stands h =
+    let done = inserts insert_seat_text _ old new count office_schema stands.schema
+    insert_seat_plain 6 seat_table refl insert_seat_terms 6 insert_seat_is
+    (λ taken news. refl) h in
+    let is = done.1 in
+    let stored = old.now.trees 8 in
+    let new_row : Row = Int (next_rowid stored) ∷ seat_row row in
+    let rows : new.now.trees 8 ≡ put_row new_row stored =
+    is.rows ∙ rw (
+      cast_null,
+      cast_int row.student,
+      cast_int row.exam,
+      cast_int row.period,
+      cast_int
+          row.room,
+      cast_int row.seat,
+    ) refl in
+    let fresh : are_fresh stored (new_row ∷ []) ≡ true = rw (cast_null) at is.fresh in
+    seat_changed old.now new.now t stands done.0 (row ∷ t.seat) is.tables
+    (rw rows (holds_more keyless (map seat_row t.seat) stored new_row (seat_row row) refl refl fresh
+    stands.seat))
+
+-- ---- DELETE FROM seat
+
+abbrev pub delete_seat_text : List ℕ
+delete_seat_text = codes "DELETE FROM seat"
+
+delete_seat_is : command_of (understood office_schema delete_seat_text)
+    ≡ Delete 6 (record { lets = []; body = one_table 8 [] rowids [] })
+unfolding understood everything
+delete_seat_is = refl
+
+delete_seat_plain : IsPlain (understood office_schema delete_seat_text)
+unfolding understood everything
+delete_seat_plain = (refl, refl)
+
+pub seat_cleared : (old new : State) (count : ℕ) (t : Tables) → Stands old.now t
+    → Executes delete_seat_text [] old new (Ok count)
+    → Stands new.now (record t { seat = [] })
+seat_cleared old new count t stands h =
+    let done = deletes delete_seat_text [] old new count office_schema stands.schema
+    delete_seat_plain 6 seat_table refl _ delete_seat_is (λ taken news. refl) h in
+    let is = done.3 in
+    let stored = old.now.trees 8 in
+    let answer = answered 8 [] _ [] old.now.trees [] done.0 done.2 in
+    let rows : new.now.trees 8 ≡ [] =
+    is.rows ∙ left_of (λ r. true) stored done.0 stands.seat.rowids answer ∙ none_left stored in
+    seat_changed old.now new.now t stands done.1 [] is.tables
+    (holds_none keyless (new.now.trees 8) rows)

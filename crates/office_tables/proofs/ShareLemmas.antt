@@ -1,0 +1,187 @@
+-- What each statement on the tables of shares means, and what it makes of the tables.
+use Rattle.std.proofs.Common.{◌≡◌, ℕ, pos, List, [], ◌∷◌, map, filter, not, ◌==◌, codes, true, Ok, refl, ap, ◌∙◌}
+use Rattle.sqlite_trees.specs.Tree.{put_row}
+use Rattle.sqlite_value.specs.declared.value.Value.TheVariants.{Null, Int}
+use Rattle.sqlite_value.specs.Order.{Row}
+use Rattle.sqlite.specs.Command.TheVariants.{Insert, Delete}
+use Rattle.sqlite.specs.Edit.{next_rowid, are_fresh}
+use Rattle.sqlite.specs.Listing.{understood}
+use Rattle.sqlite.specs.Source.TheVariants.{Values}
+use Rattle.sqlite.specs.State.{State, Executes}
+use Rattle.sqlite.specs.Term.{Term, lit, col}
+use Rattle.sqlite.proofs.Callers.{IsPlain, command_of}
+use Rattle.sqlite_tied.specs.Compute.{everything}
+use Rattle.office_tables.specs.declared.rows.StudentShareRow.{StudentShareRow}
+use Rattle.office_tables.specs.declared.rows.PartShareRow.{PartShareRow}
+use Rattle.office_schema.specs.Schema.{office_schema, share_student_table, share_part_table}
+use Rattle.office_tables.specs.Tables.{Tables, Stands, keyed, keyless, share_student_row, share_part_row}
+use Rattle.office_tables.proofs.Casts.{cast_int, cast_null}
+use Rattle.office_tables.proofs.Frames.{holds_none, share_student_changed, share_part_changed}
+use Rattle.office_tables.proofs.Statements.{inserts, deletes}
+use Rattle.office_tables.proofs.TableLemmas.{holds_more, rowids_filter}
+use Rattle.office_tables.proofs.Queries.{answered, passes, shown_filter, left_of, equal_numbers, one_table, equals, rowids}
+
+none_left : (xs : List Row) → filter (λ r. not true) xs ≡ []
+none_left [] = refl
+none_left (x ∷ xs) = none_left xs
+
+-- ---- INSERT INTO share_student
+
+abbrev pub insert_student_share_text : List ℕ
+insert_student_share_text = codes
+    "INSERT INTO share_student (student, in_row, in_day, spread) VALUES (?1, ?2, ?3, ?4)"
+
+abbrev insert_student_share_terms : List Term
+insert_student_share_terms = col 0 0 ∷ lit Null ∷ col 0 1 ∷ col 0 2 ∷ col 0 3 ∷ []
+
+insert_student_share_is : command_of (understood office_schema insert_student_share_text)
+    ≡ Insert 7 (Values insert_student_share_terms 5)
+unfolding understood everything
+insert_student_share_is = refl
+
+insert_student_share_plain : IsPlain (understood office_schema insert_student_share_text)
+unfolding understood everything
+insert_student_share_plain = (refl, refl)
+
+pub student_share_added : (old new : State) (row : StudentShareRow) (count : ℕ) (t : Tables)
+    → Stands old.now t
+    → Executes insert_student_share_text (share_student_row row) old new (Ok count)
+    → Stands new.now (record t { share_student = row ∷ t.share_student })
+student_share_added old new row count t stands h =
+    let done = inserts insert_student_share_text _ old new count office_schema stands.schema
+    insert_student_share_plain 7 share_student_table refl insert_student_share_terms 5
+    insert_student_share_is
+    (λ taken news. refl) h in
+    let is = done.1 in
+    let stored = old.now.trees 11 in
+    let new_row : Row = Int (pos row.student) ∷ Null ∷ Int (pos row.in_row) ∷ Int (pos row.in_day) ∷
+    Int (pos row.spread) ∷ [] in
+    let rows : new.now.trees 11 ≡ put_row new_row stored =
+    is.rows ∙ rw (
+      cast_null,
+      cast_int row.student,
+      cast_int row.in_row,
+      cast_int row.in_day,
+      cast_int row.spread,
+    ) refl in
+    let fresh : are_fresh stored (new_row ∷ []) ≡ true = rw (cast_int row.student) at is.fresh in
+    share_student_changed old.now new.now t stands done.0 (row ∷ t.share_student) is.tables
+    (rw rows (holds_more keyed (map share_student_row t.share_student) stored new_row
+    (share_student_row row) refl refl fresh
+    stands.share_student))
+
+-- ---- DELETE FROM share_student WHERE student = ?1
+
+abbrev pub delete_student_share_text : List ℕ
+delete_student_share_text = codes "DELETE FROM share_student WHERE student = ?1"
+
+delete_student_share_is : command_of (understood office_schema delete_student_share_text)
+    ≡ Delete 7 (record { lets = []; body = one_table 11 (equals 0 0 ∷ []) rowids [] })
+unfolding understood everything
+delete_student_share_is = refl
+
+delete_student_share_plain : IsPlain (understood office_schema delete_student_share_text)
+unfolding understood everything
+delete_student_share_plain = (refl, refl)
+
+pub student_share_deleted : (old new : State) (number : ℕ) (count : ℕ) (t : Tables)
+    → Stands old.now t
+    → Executes delete_student_share_text (Int (pos number) ∷ []) old new (Ok count)
+    → Stands new.now (record t {
+      share_student = filter (λ r. not (r.student == number))
+          t.share_student;
+    })
+student_share_deleted old new number count t stands h =
+    let params = Int (pos number) ∷ [] in
+    let done = deletes delete_student_share_text params old new count office_schema stands.schema
+    delete_student_share_plain 7 share_student_table refl _ delete_student_share_is
+    (λ taken news. refl) h in
+    let is = done.3 in
+    let stored = old.now.trees 11 in
+    let test = passes params (equals 0 0 ∷ []) in
+    let answer = answered 11 (equals 0 0 ∷ []) _ [] old.now.trees params done.0 done.2 in
+    let rows : new.now.trees 11 ≡ filter (λ r. not (test r)) stored =
+    is.rows ∙ left_of test stored done.0 stands.share_student.rowids answer in
+    let same = shown_filter keyed share_student_row (λ r. not (test r))
+    (λ (row : Row). not (passes params (equals 0 0 ∷ []) row)) (λ r. not (r.student == number))
+    (λ r. refl) (λ x. ap not (equal_numbers x.student number)) stored t.share_student
+    stands.share_student.same in
+    share_student_changed old.now new.now t stands done.1
+    (filter (λ r. not (r.student == number)) t.share_student)
+    is.tables (rw rows (record {
+      rowids = rowids_filter (λ r. not (test r)) stored stands.share_student.rowids;
+      same = same;
+    }))
+
+-- ---- INSERT INTO share_part
+
+abbrev pub insert_part_share_text : List ℕ
+insert_part_share_text = codes
+    "INSERT INTO share_part (kind, no, penalty, mixed) VALUES (?1, ?2, ?3, ?4)"
+
+abbrev insert_part_share_terms : List Term
+insert_part_share_terms = lit Null ∷ col 0 0 ∷ col 0 1 ∷ col 0 2 ∷ col 0 3 ∷ []
+
+insert_part_share_is : command_of (understood office_schema insert_part_share_text)
+    ≡ Insert 8 (Values insert_part_share_terms 5)
+unfolding understood everything
+insert_part_share_is = refl
+
+insert_part_share_plain : IsPlain (understood office_schema insert_part_share_text)
+unfolding understood everything
+insert_part_share_plain = (refl, refl)
+
+pub part_share_added : (old new : State) (row : PartShareRow) (count : ℕ) (t : Tables)
+    → Stands old.now t
+    → Executes insert_part_share_text (share_part_row row) old new (Ok count)
+    → Stands new.now (record t { share_part = row ∷ t.share_part })
+part_share_added old new row count t stands h =
+    let done = inserts insert_part_share_text _ old new count office_schema stands.schema
+    insert_part_share_plain 8 share_part_table refl insert_part_share_terms 5 insert_part_share_is
+    (λ taken news. refl) h in
+    let is = done.1 in
+    let stored = old.now.trees 12 in
+    let new_row : Row = Int (next_rowid stored) ∷ share_part_row row in
+    let rows : new.now.trees 12 ≡ put_row new_row stored =
+    is.rows ∙ rw (
+      cast_null,
+      cast_int row.kind,
+      cast_int row.no,
+      cast_int row.penalty,
+      cast_int
+          row.mixed,
+    ) refl in
+    let fresh : are_fresh stored (new_row ∷ []) ≡ true = rw (cast_null) at is.fresh in
+    share_part_changed old.now new.now t stands done.0 (row ∷ t.share_part) is.tables
+    (rw rows (holds_more keyless (map share_part_row t.share_part) stored new_row
+    (share_part_row row) refl refl fresh
+    stands.share_part))
+
+-- ---- DELETE FROM share_part
+
+abbrev pub delete_part_share_text : List ℕ
+delete_part_share_text = codes "DELETE FROM share_part"
+
+delete_part_share_is : command_of (understood office_schema delete_part_share_text)
+    ≡ Delete 8 (record { lets = []; body = one_table 12 [] rowids [] })
+unfolding understood everything
+delete_part_share_is = refl
+
+delete_part_share_plain : IsPlain (understood office_schema delete_part_share_text)
+unfolding understood everything
+delete_part_share_plain = (refl, refl)
+
+pub part_share_cleared : (old new : State) (count : ℕ) (t : Tables) → Stands old.now t
+    → Executes delete_part_share_text [] old new (Ok count)
+    → Stands new.now (record t { share_part = [] })
+part_share_cleared old new count t stands h =
+    let done = deletes delete_part_share_text [] old new count office_schema stands.schema
+    delete_part_share_plain 8 share_part_table refl _ delete_part_share_is (λ taken news. refl) h in
+    let is = done.3 in
+    let stored = old.now.trees 12 in
+    let answer = answered 12 [] _ [] old.now.trees [] done.0 done.2 in
+    let rows : new.now.trees 12 ≡ [] =
+    is.rows ∙ left_of (λ r. true) stored done.0 stands.share_part.rowids answer
+    ∙ none_left stored in
+    share_part_changed old.now new.now t stands done.1 [] is.tables
+    (holds_none keyless (new.now.trees 12) rows)

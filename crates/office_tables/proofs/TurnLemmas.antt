@@ -1,0 +1,39 @@
+-- A whole transaction, from a connection at rest to its commit.
+use Rattle.std.proofs.Common.{◌≡◌, refl, sym, subst, IsTrue, Result, OnOk, arith, true, false, []}
+use Rattle.std.proofs.lemmas.Result.{on_ok_weaker}
+use Rattle.sqlite.specs.declared.error.Error.{Error}
+use Rattle.sqlite.specs.Held.{Held, state}
+use Rattle.sqlite.specs.State.{HasCleanDisk, Survives, Shows, KeepsCounts}
+use Rattle.sqlite.specs.Store.{Ghosts}
+use Rattle.office_tables.specs.Alterations.{Changed}
+use Rattle.office_tables.specs.Steps.{Within, Makes}
+use Rattle.office_tables.specs.Tables.{Tables, Stands}
+
+module _ {S : Type 0} (g : Ghosts S) (old begun last end : Held S)
+    (begins : begun ≡ record old { in_transaction = true })
+    (within : Within (state g begun) (state g last))
+    (survives : Survives (state g last) (state g end) (λ db. db ≡ (state g last).now.trees)) where
+  last_clean : HasCleanDisk (state g end) → HasCleanDisk (state g last)
+  last_clean clean = omega (arith, survives.clean, clean)
+
+  was_open : HasCleanDisk (state g last) → IsTrue (state g last).is_open
+      → IsTrue (state g old).is_open
+  was_open clean = ((subst (λ h. Within (state g h) (state g last)) begins within).kept
+      clean).was_open
+
+  pub changed : (f : Tables → Tables)
+      → (HasCleanDisk (state g last) → IsTrue begun.in_transaction
+      → Makes f (state g begun) (state g last))
+      → (r : Result (Unit {0}) Error)
+      → (HasCleanDisk (state g end) → OnOk r (IsTrue (state g last).in_transaction
+      × Shows (state g last) (state g end) (state g last).now (state g last).now false
+      × KeepsCounts (state g last) (state g end) × ((state g end).marks ≡ [])))
+      → HasCleanDisk (state g end) → OnOk r (Changed f (state g old) (state g end))
+  changed f makes r ok clean =
+      let before = last_clean clean in
+      let made = subst (λ h. IsTrue h.in_transaction → Makes f (state g h) (state g last)) begins
+      (makes before) refl in
+      on_ok_weaker r (λ done. record {
+        was_open = was_open before done.1.was_open;
+        makes = λ t h. subst (λ db. Stands db (f t)) (sym done.1.now_is) (made.1 t h);
+      }) (ok clean)

@@ -1,0 +1,25 @@
+-- What a transaction makes of the tables.
+use Rattle.std.specs.Prelude.{◌≡◌, IsTrue, List, [], ◌∷◌, Option, None, Some}
+use Rattle.sqlite.specs.State.{State}
+use Rattle.office_tables.specs.Tables.{Tables, Stands}
+
+-- it was open, and the tables have changed so
+pub record Changed (f : Tables → Tables) (old new : State) : Type 0 where
+  pub was_open : IsTrue old.is_open
+  pub makes : (t : Tables) → Stands old.now t → Stands new.now (f t)
+
+-- the database is as the last commit left it
+pub record Undone (old new : State) : Type 0 where
+  pub was_open : IsTrue new.is_open → IsTrue old.is_open
+  pub now : IsTrue new.is_open → new.now ≡ old.committed
+  pub committed : IsTrue new.is_open → new.committed ≡ old.committed
+
+-- the tables after each alteration, one after the other
+abbrev pub after_all : {A : Type 0} → (A → Tables → Tables) → List A → Tables → Tables
+after_all alteration [] t = t
+after_all alteration (a ∷ rest) t = after_all alteration rest (alteration a t)
+
+-- the tables after an alteration, if there is one
+abbrev pub after_some : {A : Type 0} → (A → Tables → Tables) → Option A → Tables → Tables
+after_some alteration None t = t
+after_some alteration (Some a) t = alteration a t

@@ -1,0 +1,50 @@
+// What a query answers, as records.
+ghost use Rattle.std.specs.Prelude.{◌≡◌, false, IfOk, OnOk};
+ghost use Rattle.sqlite.specs.Given.{IsPlain};
+ghost use Rattle.sqlite.specs.Held.{state};
+ghost use Rattle.sqlite.specs.Listing.{understood};
+ghost use Rattle.sqlite.specs.Query.{Query};
+ghost use Rattle.sqlite.specs.State.{HasCleanDisk, IsUnchanged, Survives};
+ghost use Rattle.sqlite.specs.Values.{bound};
+ghost use Rattle.office_tables.specs.Asking.{IsReadOf, Means};
+ghost use Rattle.office_tables.specs.Steps.{AnswersOpen, Keeps, OpensNone};
+
+use crate::records::Record;
+use sqlite::types::ValueRef;
+use sqlite::{Alter, Connection, Error};
+use std::alloc::Global;
+
+// The records of a query's rows, of which it holds one row at a time.
+pub fn stream<S: Alter, R: Record + Copy>(
+    alloc: Global,
+    conn: &mut Connection<S>,
+    sql: &str,
+    params: &[ValueRef<'_>],
+) -> Result<Vec<R>, Error>
+    ensures shown { (q : Query) → Means (state S.Store conn.old).now.schema q sql.now
+        → HasCleanDisk (state S.Store conn.new)
+        → IfOk result (λ records. IsReadOf R.record_of (bound params.now) q
+        (state S.Store conn.old).now.trees records.items) }
+    ensures open { AnswersOpen S.Store conn.old conn.new result }
+    ensures was_open { OpensNone S.Store conn.old conn.new }
+    ensures same { HasCleanDisk (state S.Store conn.new)
+        → IsPlain (understood (state S.Store conn.old).now.schema sql.now)
+        → OnOk result (IsUnchanged (state S.Store conn.old) (state S.Store conn.new)) }
+    ensures kept { HasCleanDisk (state S.Store conn.new)
+        → IsPlain (understood (state S.Store conn.old).now.schema sql.now)
+        → Keeps (state S.Store conn.old) (state S.Store conn.new) }
+    ensures mode { conn.old.in_transaction ≡ false → conn.new.in_transaction ≡ false }
+    ensures survives { Survives (state S.Store conn.old) (state S.Store conn.new)
+        (λ _. IsPlain (understood (state S.Store conn.old).now.schema sql.now) → ⊥) }
+{
+    let mut records = Vec::new(alloc);
+    let mut rows = conn.query(sql, params)?;
+    'rows: for _ in 0..u64::MAX {
+        rows.advance()?;
+        let Some(row) = rows.get() else {
+            return Ok(records);
+        };
+        records.push(R::read(row)?)?;
+    }
+    Err(Error::InvalidQuery)
+}
