@@ -12,10 +12,7 @@ use sqlite::Alter;
 use std::alloc::Global;
 
 // The published timetable, as a solution file.
-pub(crate) fn publication<S: Alter>(
-    office: &mut Office<S>,
-    alloc: Global,
-) -> Result<Answer, Answer>
+pub(crate) fn publication<S: Alter>(office: &mut Office<S>, alloc: Global) -> Result<Answer, Answer>
     ensures performs { Performs S.Store publication office.old office.new result }
     ensures clean { HasCleanDisk (state S.Store office.new)
         → HasCleanDisk (state S.Store office.old) }
