@@ -4,13 +4,14 @@
     python3 tests/wrong_bodies.py try [CRATE..]   tries those of these crates, or of all
     python3 tests/wrong_bodies.py current         says which crates have to be tried again
 
-A crate is proved first, without an edit. Then its edits are tried in a copy; each must be refused
-by the prover. A function is proved from its own body and from the contracts of what it calls, so
-edits of different functions are tried together, in one check: an edit is refused where a goal of
-the function that it is in stays open. That this one calls another that is not proved counts for
-nothing. What is not refused so, such as the edit of a constant, is tried alone by `rt must-fail`.
-Crates are tried side by side. Where all of a crate are refused, wrong-bodies/TRIED gets the hash of
-all that was tried."""
+A crate is proved first, without an edit. Then its edits are tried in a copy, over what that proof
+kept, so that a check proves what an edit touches; each must be refused by the prover. A function is
+proved from its own body and from the contracts of what it calls, so edits of different functions are
+tried together, in one check: an edit is refused where a goal of the function that it is in stays
+open. That this one calls another that is not proved counts for nothing. What is not refused so is
+tried alone, and refused where a goal of any function stays open, that of a caller, say; the rest is
+left to `rt must-fail`. Crates are tried side by side. Where all of a crate are refused,
+wrong-bodies/TRIED gets the hash of all that was tried."""
 import hashlib
 import os
 import re
@@ -23,7 +24,10 @@ from concurrent.futures import ThreadPoolExecutor
 from pathlib import Path
 
 ROOT = Path(__file__).resolve().parent.parent
-PARTS = ("src", "specs", "proofs", "wrong-bodies")
+SOURCES = ("src", "specs", "proofs")
+PARTS = (*SOURCES, "wrong-bodies")
+# what a check keeps for the next one
+KEPT = "out/incremental"
 # what one check may take, in bytes
 MEMORY = 4_000_000_000
 # what a check says of a function that has a goal of its own left
@@ -86,7 +90,9 @@ def try_in_copy(name):
     """Tries the crate's wrong bodies in a copy of its own: what is edited there is no other's library."""
     with tempfile.TemporaryDirectory(prefix="wrong-bodies-") as copy:
         copy_to(Path(copy))
-        (Path(copy) / "crates" / name / "must-fail").mkdir()
+        crate = Path(copy) / "crates" / name
+        shutil.copytree(ROOT / "crates" / name / KEPT, crate / KEPT)
+        (crate / "must-fail").mkdir()
         return try_crate(Path(copy), name)
 
 
@@ -95,7 +101,7 @@ def copy_to(copy):
     for name in ("crates.txt", "HANDLES"):
         shutil.copy(ROOT / name, copy / name)
     for crate in ROOT.glob("crates/*"):
-        for part in ("src", "specs", "proofs", "out/rlib"):
+        for part in (*SOURCES, "out/rlib"):
             if (crate / part).is_dir():
                 shutil.copytree(crate / part, copy / "crates" / crate.name / part, symlinks=True,
                                 copy_function=link_or_copy if part == "out/rlib" else shutil.copy2)
@@ -113,10 +119,11 @@ def try_crate(copy, name):
     before, begun = hash_of(name), time.monotonic()
     edits = [Edit(name, at) for at in edits_of(name)]
     refused = sum((try_together(copy, name, batch) for batch in batches(edits)), [])
-    left = [edit for edit in edits if edit not in refused]
-    said = try_alone(copy, name, left) if left else ""
-    count = len(refused) + len(re.findall(rf"must-fail {name}/\S+: refused, as it must be", said))
-    print(f"{said}wrong bodies: {name}: {count} of {len(edits)} refused, {len(left)} of them alone, "
+    alone = [edit for edit in edits if edit not in refused]
+    left = [edit for edit in alone if not try_together(copy, name, [edit])]
+    said = must_fail(copy, name, left) if left else ""
+    count = len(edits) - len(left) + len(re.findall(rf"must-fail {name}/\S+: refused, as it must be", said))
+    print(f"{said}wrong bodies: {name}: {count} of {len(edits)} refused, {len(alone)} of them alone, "
           f"{time.monotonic() - begun:.0f} s", flush=True)
     if count == len(edits) and before == hash_of(name):
         mark(name).write_text(before + "\n")
@@ -191,23 +198,24 @@ def batches(edits):
 
 
 def try_together(copy, name, edits):
-    """Those of the edits whose functions have open goals when all of them are made."""
+    """Those of the edits whose functions have open goals when all of them are made; of one alone,
+    any function may have one."""
     crate = copy / "crates" / name
     for edit in edits:
         edit.put_into(crate)
     said = run(["rt", "check", "--jobs", "1"], crate).stdout
-    shutil.copytree(ROOT / "crates" / name / "src", crate / "src", dirs_exist_ok=True)
-    if "logic=not-proved" not in said:
-        return []
-    failing = OPEN.findall(said)
-    refused = [edit for edit in edits if any(edit.is_of(name, path) for path in failing)]
-    for edit in refused:
-        path = next(path for path in failing if edit.is_of(name, path))
-        print(f"{name}/{edit.at.name}: refused at {path}", flush=True)
-    return refused
+    for part in SOURCES:
+        if (crate / part).is_dir():
+            shutil.copytree(ROOT / "crates" / name / part, crate / part, dirs_exist_ok=True)
+    failing = OPEN.findall(said) if "logic=not-proved" in said else []
+    at = {edit: [path for path in failing if len(edits) == 1 or edit.is_of(name, path)] for edit in edits}
+    for edit in edits:
+        if at[edit]:
+            print(f"{name}/{edit.at.name}: refused at {at[edit][0]}", flush=True)
+    return [edit for edit in edits if at[edit]]
 
 
-def try_alone(copy, name, edits):
+def must_fail(copy, name, edits):
     for edit in edits:
         shutil.copy(edit.at, copy / "crates" / name / "must-fail")
     return run(["rt", "must-fail", name], copy).stdout
