@@ -59,7 +59,9 @@ fn published(alloc: Global) -> Result<Connection<MemStore>, Fail> {
     if !conn.is_autocommit() {
         return Err("a transaction is open")?;
     }
-    let placed = [place(2, 2, 0), place(0, 0, 0), place(1, 1, 1)].map(|row| InsertPlacement { row });
+    let placed = [place(2, 2, 0), place(0, 0, 0), place(1, 1, 1)].map(|row| InsertPlacement {
+        row,
+    });
     let seated = [seated(2, 0, 2), seated(2, 2, 1), seated(1, 0, 1)].map(|row| InsertSeat { row });
     let mark = Both {
         first: DeleteMeta,
@@ -216,7 +218,12 @@ fn shares_go(rt: HostRuntime) -> Result<(), Fail> {
         },
     )?;
     let students = student_shares(rt.alloc(), &mut conn)?;
-    assert_same(&rt, students.as_slice(), [cost(1, 0)].as_slice(), "students");
+    assert_same(
+        &rt,
+        students.as_slice(),
+        [cost(1, 0)].as_slice(),
+        "students",
+    );
     let parts = part_shares(rt.alloc(), &mut conn)?;
     assert_same(&rt, parts.len(), 0, "parts");
     Ok(())
