@@ -182,6 +182,20 @@ OTHER_SOLUTION = b"0, 0\n1, 0\n0, 1\n3, 1\n0, 2\n"
 SHOWN = [message("GET", f"/publication{page}") for page in ("", "/penalty", "/rooms")]
 
 
+# What publishing stores: the name of the case, the solution, its penalty, what sqlite3 selects.
+SEATS = "SELECT exam, student, period, room, seat FROM seat ORDER BY exam, student"
+SHARES = ("SELECT student, in_row, in_day, spread FROM share_student ORDER BY student; "
+          "SELECT kind, no, penalty, mixed FROM share_part ORDER BY kind, no")
+STORED = (
+    ("worked_seats", SOLUTION, 37, SEATS,
+     b"0|1|0|0|1 0|2|0|0|2 1|2|1|0|1 1|3|1|0|2 2|3|3|1|1 3|1|2|0|1 "),
+    ("worked_shares", SOLUTION, 37, SHARES,
+     b"1|0|5|1 2|7|0|1 3|0|0|1 0|0|0|0 0|1|0|0 0|2|0|0 0|3|0|0 1|0|0|0 1|1|0|0 1|2|10|0 1|3|5|0 "
+     b"2|0|0|0 2|1|7|0 "),
+    ("two_exams_in_one_room", MOVED_TEXT.encode(), 44, SEATS,
+     b"0|1|0|0|1 0|2|0|0|2 1|2|1|0|1 1|3|1|0|2 2|3|3|1|1 3|1|3|1|2 "))
+
+
 # What candidate 2 asks in either office: exam 2 exists in both, exam 4 in the other alone.
 SECOND_EXAMS = [(asked_by(2, f"/exam/{exam}"), answer) for exam, answer in
                 [*((exam, reply(200, SECOND[exam])) for exam in (0, 1)),
@@ -265,7 +279,7 @@ CASES = [
          (message("DELETE", "/drafts/1"), reply(200, '{"draft":1}')),
          (message("DELETE", "/drafts/1"), error(404, "draft")),
          (message("GET", "/drafts/1"), error(404, "draft"))),
-    case("what a candidate sees", SMALL,
+    case("candidate_view", SMALL,
          *PUBLISHED,
          (asked_by(2), SECOND_PAGE),
          (asked_by(2, "/penalty"), cost(7, 0, 1)),
@@ -277,15 +291,21 @@ CASES = [
          (asked_by(1, "/penalty"), cost(0, 5, 1)),
          (asked_by(3), me(3, 1, *THIRD)),
          (asked_by(3, "/penalty"), cost(0, 0, 1)),
-         (asked_by(99), me(99, 0)),
-         (asked_by(99, "/penalty"), cost(0, 0, 0)),
-         (asked_by(99, "/exam/0"), error(404, "exam")),
-         (message("GET", "/drafts/8", caller="cand:2"), forbidden("P1")),
-         (message("GET", "/drafts/1", caller="cand:2"), forbidden("P1")),
-         (message("POST", "/me", caller="cand:2"), forbidden("P1")),
          (message("GET", "/me"), forbidden("P4")),
          (message("GET", "/me/penalty", caller="dept:3"), forbidden("P4")),
          (publish(8), error(404, "draft"))),
+    case("unknown_candidate", SMALL,
+         *PUBLISHED,
+         (asked_by(99), me(99, 0)),
+         (asked_by(99, "/penalty"), cost(0, 0, 0)),
+         (asked_by(99, "/exam/0"), error(404, "exam"))),
+    case("candidate_learns_nothing_of_drafts", SMALL,
+         *PUBLISHED,
+         (message("GET", "/drafts/8", caller="cand:2"), forbidden("P1")),
+         (message("GET", "/drafts/1", caller="cand:2"), forbidden("P1")),
+         (message("POST", "/me", caller="cand:2"), forbidden("P1")),
+         (clear(0), drafted(200, 23)),
+         (asked_by(2), SECOND_PAGE)),
     case("two_offices_one_view, the one", SMALL, *PUBLISHED, *SECOND_ASKS),
     case("two_offices_one_view, the other", OTHER,
          (message("PUT", "/drafts/1", OTHER_SOLUTION), drafted(201, 34)),
@@ -310,7 +330,7 @@ CASES = [
          (asked_by(99, "/exam/0"), error(404, "exam")),
          (publish(), error(409, "not-loaded")),
          *((question, error(404, "publication")) for question in SHOWN)),
-    case("a publication, and one in its place", SMALL,
+    case("publish_twice", SMALL,
          (EMPTY, drafted(201, 0)),
          (place(0, 0, 0), drafted(200, 0)),
          (place(1, 1, 0), drafted(200, 8)),
@@ -499,6 +519,23 @@ def worked_examples(run):
                 got += rest(client)
             name = f"{case.name}, {way.__name__.replace('_', ' ')}"
             run.judge(name, (b"".join(case.replies), (0, b"")), (got, office.ended()))
+
+
+def stored_by_hand(run):
+    """The rows that a publication stores are those worked out by hand."""
+    for name, solution, penalty, select, expected in STORED:
+        database = run.database(SMALL)
+        office = Office(run.program, database, connections=1)
+        said = [(message("PUT", "/drafts/1", solution), drafted(201, penalty)),
+                (publish(), published(3, penalty))]
+        with office.connect() as client:
+            came = [asked(client, *pair) for pair in said]
+        came.append(office.ended())
+        rows = subprocess.run(["sqlite3", "-newline", " ", str(database), select],
+                              capture_output=True, stdin=subprocess.DEVNULL, timeout=SECONDS,
+                              check=False).stdout
+        run.judge(name, ([answer for _, answer in said], (0, b""), expected),
+                  (came[:2], came[2], rows))
 
 
 def publication_is_kept(run):
@@ -782,7 +819,8 @@ def main():
         tests = [worked_examples, stock_curl, many_connections, failing_reader_and_writer,
                  port_is_taken]
         if not given.plain:
-            tests += [publication_is_kept, last_message, long_message, slow_clients, patient_client]
+            tests += [stored_by_hand, publication_is_kept, last_message, long_message,
+                      slow_clients, patient_client]
         for test in tests:
             test(run)
         kills(run, given.kills)

@@ -78,6 +78,7 @@ PUBLISHED_CHANGES = {
     "UPDATE share_part SET mixed = 1 WHERE kind = 2 AND no = 0": REFUSED,
     "DELETE FROM share_part WHERE kind = 0 AND no = 3": REFUSED,
     "INSERT INTO share_part (kind, no, penalty, mixed) VALUES (3, 0, 0, 0)": REFUSED,
+    "DELETE FROM share_student; DELETE FROM share_part": REFUSED,
 }
 EMPTY = ("owner", "draft", "slot", "placed", "seat", "share_student", "share_part", "batch")
 
@@ -158,6 +159,8 @@ def published(program, folder):
     yield "a publication", lines(), ended("sqlite3", str(office), ";".join(PUBLISHED))
     yield "an office with it", FOUND, ended(*load)
     yield "an export", EXPORTED, ended(*export)
+    status, _, _ = ended("sqlite3", str(office), "UPDATE seat SET seat = 1 WHERE student = 2")
+    yield "a seat given twice, which the table refuses", True, status != 0
     stored = office.read_bytes()
     for text, expected in PUBLISHED_CHANGES.items():
         office.write_bytes(stored)
