@@ -1,4 +1,8 @@
-use Rattle.std.proofs.Common.{inl, inr}
+use Rattle.std.proofs.Common.{inl, inr, subst, sym}
+use Rattle.sqlite.specs.Held.{state}
+use Rattle.sqlite.specs.State.{HasCleanDisk}
+use Rattle.office_program.specs.Export.{Exports}
+use Rattle.office_store.proofs.AdoptLemmas.{kept_still}
 use Rattle.office_program.proofs.exporting.export_run.Goals as goal
 
 -- no office was found
@@ -7,3 +11,22 @@ returns-in-Err-clause-refused g c = λ clean there kept. elim c.in-Err.ensures.f
   | inl is ↦ is
   | inr bad ↦ absurd (c.in-Err.ensures.no_office bad clean there kept)
 ]
+
+-- what the office that was found has published is written
+pub returns-in-Ok-export_from-clause-done : goal.returns-in-Ok-export_from-clause-done
+returns-in-Ok-export_from-clause-done g c = λ clean there kept.
+    let now = subst (λ held. HasCleanDisk (state g.S.Store held)) c.release.ensures clean in
+    let found = kept_still g.S.Store _ _ there
+    (c.in-Ok.ensures.same (c.export_from.ensures.clean now)) kept in
+    subst (λ held. Exports there (state g.S.Store held)
+    (g.W.Write.contents c.args.writer.now) (g.W.Write.contents c.export_from.new.writer))
+    (sym c.release.ensures)
+    (c.in-Ok-export_from.ensures.done now there (λ opened. found))
+
+-- the office that was found refuses
+pub returns-in-Err-export_from-clause-refused : goal.returns-in-Err-export_from-clause-refused
+returns-in-Err-export_from-clause-refused g c = λ clean there kept.
+    let now = subst (λ held. HasCleanDisk (state g.S.Store held))
+    c.release-in-Err-export_from.ensures clean in
+    c.in-Err-export_from.ensures.refused now there (λ opened. kept_still g.S.Store _ _ there
+    (c.in-Ok.ensures.same (c.export_from.ensures.clean now)) kept)
