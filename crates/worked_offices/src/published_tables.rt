@@ -1,4 +1,6 @@
 // The tables of a publication, over a database in memory.
+ghost use Rattle.office_tables.specs.Amounts.{ArePartAmounts, AreStudentAmounts};
+
 use crate::given::assert_same;
 use crate::tables::created;
 use office_tables::{
@@ -28,16 +30,20 @@ fn seated(student: u32, exam: u32, seat: u32) -> SeatRow {
     }
 }
 
-fn cost(student: u32, in_row: u64) -> StudentShareRow {
+fn cost(student: u32, in_row: u32) -> StudentShareRow
+    ensures { AreStudentAmounts result }
+{
     StudentShareRow {
         student,
-        in_row,
+        in_row: u64::from(in_row),
         in_day: 5,
         spread: 1,
     }
 }
 
-fn part(kind: u32, no: u32) -> PartShareRow {
+fn part(kind: u32, no: u32) -> PartShareRow
+    ensures { ArePartAmounts result }
+{
     PartShareRow {
         kind,
         no,
