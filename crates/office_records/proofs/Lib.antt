@@ -10,7 +10,9 @@ pub mod ResultLemmas
 pub mod RecordLemmas
 pub mod SameTables
 pub mod SessionLemmas
-pub mod UnbatchedLemmas
+pub mod RegroupLemmas
+pub mod BatchRowLemmas
+pub mod ReadableLemmas
 pub mod RepublicationLemmas
 pub mod OrderLemmas
 pub mod SeatRowLemmas
@@ -22,3 +24,5 @@ pub mod PublicationLemmas
 pub mod FoundLemmas
 pub mod SharesLemmas
 pub mod SameRowLemmas
+pub mod RescoredLemmas
+pub mod BatchPutLemmas

@@ -1,5 +1,5 @@
 -- The rows of each table make an office's records, and an office's records the rows of each table.
-use Rattle.std.proofs.Common.{◌≡◌, ℕ, List, [], ◌∷◌, Some, None, Option, refl, ap, arith, subst}
+use Rattle.std.proofs.Common.{◌≡◌, ℕ, List, [], ◌∷◌, map, Some, None, Option, refl, sym, ◌∙◌, ap, arith, subst}
 use Rattle.std.specs.Prelude.{is_some}
 use Rattle.std.proofs.lemmas.List.Sorted.{IsPermutation-sym, IsPermutation-trans}
 use Rattle.std.proofs.lemmas.Option.{none-some}
@@ -7,15 +7,18 @@ use Rattle.exam_model.specs.Enrolments.{Enrolled}
 use Rattle.exam_model.specs.Instance.{Session}
 use Rattle.exam_model.specs.Timetable.{Placing}
 use Rattle.office_tables.specs.Adopting.{tables_of}
-use Rattle.office_tables.specs.Records.{meta_from}
-use Rattle.office_tables.specs.Tables.{Tables, Meta}
+use Rattle.office_tables.specs.Records.{counts_of, meta_from}
+use Rattle.office_tables.specs.Tables.{Tables, Meta, Batch, empty_tables}
 use Rattle.office_tables.specs.declared.found.Found.{Found}
 use Rattle.office_tables.specs.declared.rows.EnrolRow.{EnrolRow}
-use Rattle.office_records.specs.Found.{IsSessionRow, AreOwners, AreEnrolRows, AreDrafts, ArePublication}
+use Rattle.office_records.specs.Found.{AreBatchRows, AreFoundBatches, AreDrafts, AreEnrolRows}
+use Rattle.office_records.specs.Found.{AreOwners, ArePublication, IsSessionRow, IsUnloaded}
 use Rattle.office_model.specs.Office.{OfficeState, Publication, Records, AreKept, AreRecords, IsOffice, IsPublication}
 use Rattle.office_records.specs.Publications.{ArePublished}
 use Rattle.office_records.specs.Memory.{memory_of}
 use Rattle.office_records.specs.Stands.{IsSound, Stands, StandsLoaded, meta_row}
+use Rattle.office_records.proofs.BatchRowLemmas.{batch_rows, batches_kept, batches_stand}
+use Rattle.office_records.proofs.BatchRowLemmas.{kept_batch, no_batches}
 use Rattle.office_records.proofs.MemoryLemmas.{same_enrolments}
 use Rattle.office_records.proofs.SessionLemmas.{one_session}
 
@@ -51,15 +54,32 @@ are_published : (I : Session) (published : Option Publication)
 are_published I None each = tt
 are_published I (Some p) each = each p refl
 
-module _ (found : Found) where
+module _ (found : Found) (batches : List Batch) where
   abbrev pub t : Tables
-  t = tables_of found
+  t = tables_of found batches
 
   -- the rows of a publication and its shares, with the mark
   abbrev pub IsPublished : Session → Option Publication → Type 0
   IsPublished I published =
       ArePublication I found.meta.published found.placements.items found.seats.items
       found.student_shares.items found.part_shares.items published
+
+  -- ---- before a load
+
+  pub unloaded : map counts_of batches ≡ found.batches.items → t ≡ empty_tables → IsUnloaded found
+  unloaded rows stands =
+      let none : batches ≡ [] = ap (λ (u : Tables). u.batch) stands in
+      record {
+        batches = sym rows ∙ ap (map counts_of) none;
+        tables = subst (λ l. tables_of found l ≡ empty_tables) none stands;
+      }
+
+  pub nothing_loaded : IsUnloaded found → AreFoundBatches found.batches.items batches
+      → (office : OfficeState) × Stands t office × IsSound t office × IsOffice office
+      × (memory_of office ≡ None)
+  nothing_loaded is these =
+      let none = no_batches batches (these.rows ∙ is.batches) in
+      (None, subst (λ l. tables_of found l ≡ empty_tables) (sym none) is.tables, tt, tt, refl)
 
   -- ---- from the rows to the office
 
@@ -76,16 +96,17 @@ module _ (found : Found) where
       → AreEnrolRows I found.enrols.items E
       → (draft : ℕ → Option Placing) × AreDrafts I E found.drafts.items found.slots.items draft
       → (published : Option Publication) × IsPublished I published
+      → AreBatchRows found.batches.items → AreFoundBatches found.batches.items batches
       → (office : OfficeState) × Stands t office × IsSound t office × IsOffice office
       × (memory_of office ≡ Some (I, E))
-  office_of I E session owners enrols drafts published = (
+  office_of I E session owners enrols drafts published kept these = (
     Some (record {
       session = I;
       owner_of = owners.0;
       enrolments = E;
       draft = drafts.0;
       published = published.0;
-      batches = [];
+      batches = map kept_batch batches;
     }),
     record {
       meta = ap (λ m. m ∷ []) (row_is I session published.0 published.1.rows.marked);
@@ -94,7 +115,7 @@ module _ (found : Found) where
       draft = drafts.1.rows;
       slot = drafts.1.slots;
       published = published.1.rows.stands;
-      batches = record { none = refl; no_row = refl };
+      batches = batches_stand found.batches.items batches kept these.rows;
     },
     record { scored = drafts.1.scored; shared = published.1.shared },
     record {
@@ -105,7 +126,7 @@ module _ (found : Found) where
       numbered = drafts.1.numbered;
       drafts = drafts.1.fits;
       publication = is_published I published.0 published.1.is;
-      batches = no_batch_kept;
+      batches = batches_kept found.batches.items batches kept these;
     },
     refl,
   )
@@ -114,6 +135,10 @@ module _ (found : Found) where
 
   module _ (r : Records) (stands : StandsLoaded t r) (sound : IsSound t (Some r))
       (is : AreRecords r) where
+    pub kept_rows : map counts_of batches ≡ found.batches.items → AreBatchRows found.batches.items
+    kept_rows rows =
+        batch_rows found.batches.items batches r.batches rows stands.batches is.batches
+
     pub session_row : IsSessionRow (meta_from found.meta) r.session
     session_row = record {
       session = is.session;

@@ -1,22 +1,27 @@
--- A republication that rewrites the shares of the candidates who changed, and no others, leaves the
--- right shares.
-use Rattle.std.proofs.Common.{◌≡◌, ◌<◌, ℕ, Bool, true, false, cond, not, ◌&&◌, ◌||◌, eqb, List, [], ◌∷◌, ◌++◌, map, filter, Option, Some, None, refl, sym, ◌∙◌, ap, ap₂, subst}
+-- A republication that rewrites the seats and the shares of the candidates who changed, and no
+-- others, leaves the right seats and the right shares.
+use Rattle.std.proofs.Common.{◌≡◌, ◌<◌, ℕ, Bool, true, false, cond, not, ◌&&◌, ◌||◌, eqb, List, [], ◌∷◌, ◌++◌, map, filter, Option, Some, None, refl, sym, ◌∙◌, ap, ap₂, subst, eqb-true}
 use Rattle.std.specs.Prelude.{IsPermutation}
-use Rattle.std.proofs.lemmas.List.Sorted.{IsPermutation-trans, IsPermutation-sym, IsPermutation-append_right, IsPermutation-filter_both}
+use Rattle.std.proofs.lemmas.Bool.{and_parts}
+use Rattle.std.proofs.lemmas.List.Sorted.{IsPermutation-trans, IsPermutation-sym, IsPermutation-append_right, IsPermutation-filter_both, IsPermutation-map}
 use Rattle.sqlite_trees.proofs.ListLemmas.{IsPermutation-filter, filter-map, map-map}
 use Rattle.exam_model.specs.Enrolments.{IsAscending, has_student}
 use Rattle.exam_model.specs.Instance.{Session}
 use Rattle.exam_model.proofs.SameSet.{same_list}
 use Rattle.exam_publish.specs.declared.seat_row.SeatRow.{SeatRow}
-use Rattle.exam_publish.specs.Changed.{changed_students, has_row, is_changed, rows_of, same_rows, students_of}
+use Rattle.exam_publish.specs.Changed.{changed_students, has_row, is_changed, rows_of, same_row, same_rows, students_of}
 use Rattle.exam_publish.specs.Shares.{share_of, student_shares}
 use Rattle.exam_publish.proofs.ChangedLemmas.{changed_has_row}
 use Rattle.exam_publish.proofs.ListLemmas.{any_map, ascending_from_chain, chain_ascending, chain_filter, has_ascending, has_filter}
 use Rattle.exam_publish.proofs.ShareLemmas.{same_share}
+use Rattle.office_tables.specs.declared.rows.SeatRow as tables
 use Rattle.office_tables.specs.declared.rows.StudentShareRow.{StudentShareRow}
 use Rattle.office_model.specs.Office.{Publication}
 use Rattle.office_model.specs.Publishing.{rows_now}
+use Rattle.office_records.specs.Publications.{stored_seat}
+use Rattle.office_records.specs.SeatsStored.{seat_rows_of, seat_rows_without, student_seats_put}
 use Rattle.office_records.specs.SharesStored.{share_rows_of, share_rows_without, student_share_row, student_share_rows, student_shares_put}
+use Rattle.office_records.proofs.RegroupLemmas.{kept_alike}
 
 -- ---- who changed
 
@@ -39,6 +44,33 @@ both_some [] [] h = refl
 both_some [] (q ∷ qs) h = cc
 both_some (r ∷ rs) [] h = cc
 both_some (r ∷ rs) (q ∷ qs) h = refl
+
+-- rows that agree in all that they say are the same
+equal_row : (r q : SeatRow) → same_row r q ≡ true → r ≡ q
+equal_row r q h =
+    let a = and_parts (eqb r.student q.student) _ h in
+    let b = and_parts (eqb r.exam q.exam) _ a.1 in
+    let c = and_parts (eqb r.period q.period) _ b.1 in
+    let d = and_parts (eqb r.room q.room) (eqb r.seat q.seat) c.1 in
+    λ i. record {
+      student = eqb-true r.student q.student a.0 i;
+      exam = eqb-true r.exam q.exam b.0 i;
+      period = eqb-true r.period q.period c.0 i;
+      room = eqb-true r.room q.room d.0 i;
+      seat = eqb-true r.seat q.seat d.1 i;
+    }
+
+equal_rows : (rs qs : List SeatRow) → same_rows rs qs ≡ true → rs ≡ qs
+equal_rows [] [] h = refl
+equal_rows [] (q ∷ qs) h = cc
+equal_rows (r ∷ rs) [] h = cc
+equal_rows (r ∷ rs) (q ∷ qs) h =
+    let parts = and_parts (same_row r q) (same_rows rs qs) h in
+    ap₂ (λ x xs. x ∷ xs) (equal_row r q parts.0) (equal_rows rs qs parts.1)
+
+twice_not : (b : Bool) → not (not b) ≡ true → b ≡ true
+twice_not true h = refl
+twice_not false h = h
 
 is_seated : (rows : List SeatRow) (s : ℕ) → has_student (students_of rows) s ≡ has_row rows s
 is_seated rows s =
@@ -85,6 +117,50 @@ module _ (old new : List SeatRow) where
           ascending_from_chain (others rows)
           (chain_filter (λ x y. x < y) (λ s. not (has_changed s))
           (students_of rows) (chain_ascending (map (λ (row : SeatRow). row.student) rows)))
+
+  -- ---- their seats
+
+  -- who didn't change has the rows as before
+  still_rows : (s : ℕ) → not (has_changed s) ≡ true → rows_of s old ≡ rows_of s new
+  still_rows s still =
+      equal_rows (rows_of s old) (rows_of s new)
+      (twice_not (same_rows (rows_of s old) (rows_of s new)) (ap not (sym (is_listed s)) ∙ still))
+
+  abbrev is_still : tables.SeatRow → Bool
+  is_still row = not (has_changed row.student)
+
+  abbrev still_in : List SeatRow → List SeatRow
+  still_in rows = filter (λ row. not (has_changed row.student)) rows
+
+  seats_of_others : IsPermutation (map stored_seat (still_in old)) (map stored_seat (still_in new))
+  seats_of_others =
+      IsPermutation-map stored_seat (still_in old) (still_in new)
+      (kept_alike (λ (row : SeatRow). row.student) (λ s. not (has_changed s)) old new still_rows)
+
+  -- the rows that are left are those of the others
+  seats_left : (stored : List tables.SeatRow) → IsPermutation stored (map stored_seat old)
+      → IsPermutation (seat_rows_without changed stored)
+      (seat_rows_without changed (map stored_seat new))
+  seats_left stored are =
+      subst (IsPermutation (seat_rows_without changed stored))
+      (sym (filter-map is_still stored_seat new))
+      (IsPermutation-trans _ _ _
+      (subst (IsPermutation (seat_rows_without changed stored))
+      (filter-map is_still stored_seat old)
+      (IsPermutation-filter is_still stored (map stored_seat old) are))
+      seats_of_others)
+
+  pub put_seats : (stored : List tables.SeatRow) → IsPermutation stored (map stored_seat old)
+      → IsPermutation
+      (student_seats_put changed (seat_rows_of changed (map stored_seat new)) stored)
+      (map stored_seat new)
+  put_seats stored are =
+      let all = map stored_seat new in
+      IsPermutation-trans _ _ _
+      (IsPermutation-append_right (seat_rows_of changed all) _ _ (seats_left stored are))
+      (IsPermutation-sym _ _
+      (IsPermutation-filter_both (λ (row : tables.SeatRow). has_changed row.student) is_still
+      (λ row. refl) all))
 
   -- ---- their shares
 
@@ -154,7 +230,16 @@ rows_now_are : (I : Session) (published : Option Publication)
 rows_now_are I None = refl
 rows_now_are I (Some p) = refl
 
--- new rows of the candidates who changed, in place of theirs: the rows of all
+-- new seat rows of the candidates who changed, in place of theirs: the rows of all
+pub seats_put : (old : Option Publication) (new : Publication) (stored : List tables.SeatRow)
+    → IsPermutation stored (map stored_seat (rows_now old))
+    → IsPermutation
+    (student_seats_put (changed_students (rows_now old) new.rows)
+    (seat_rows_of (changed_students (rows_now old) new.rows) (map stored_seat new.rows)) stored)
+    (map stored_seat new.rows)
+seats_put old new stored are = put_seats (rows_now old) new.rows stored are
+
+-- new share rows likewise
 pub shares_put : (I : Session) (old : Option Publication) (new : Publication)
     (stored : List StudentShareRow) → IsPermutation stored (student_share_rows I old)
     → IsPermutation

@@ -8,8 +8,7 @@ use Rattle.std.proofs.lemmas.List.Sorted.{length_permutation}
 use Rattle.sqlite_value.specs.Order.{Row}
 use Rattle.sqlite.specs.Effect.{Database}
 use Rattle.sqlite_trees.proofs.ListLemmas.{IsPermutation-filter, all-permutation}
-use Rattle.office_tables.specs.Records.{owner_of, enrol_of, draft_of, slot_of, placement_of}
-use Rattle.office_tables.specs.Records.{seat_of, student_share_of, part_share_of}
+use Rattle.office_tables.specs.Records.{FitsBatch}
 use Rattle.office_tables.specs.Tables.{Tables, Meta, Holds, Stands as Held, keyed, keyless}
 use Rattle.office_tables.specs.Tables.{empty_tables}
 use Rattle.office_tables.specs.Tables.{owner_row, enrol_row as enrol_columns, draft_row, slot_row}
@@ -19,6 +18,8 @@ use Rattle.office_tables.specs.declared.rows.OwnerRow.{OwnerRow}
 use Rattle.office_tables.specs.declared.rows.DraftRow.{DraftRow}
 use Rattle.office_tables.specs.declared.rows.SlotRow.{SlotRow}
 use Rattle.office_model.specs.Office.{OfficeState, Records}
+use Rattle.office_tables.proofs.RecordsBack.{owner_of, enrol_of, draft_of, slot_of, placement_of}
+use Rattle.office_tables.proofs.RecordsBack.{seat_of, student_share_of, part_share_of, batch_of}
 use Rattle.office_records.specs.Stands.{IsScoredRow, IsSound, Stands, StandsLoaded, some_dept, once}
 use Rattle.office_records.proofs.MemoryLemmas.{same_rows, same_one, meta_back, meta_is}
 
@@ -34,7 +35,7 @@ same_few (x ∷ []) (y ∷ z ∷ ys) few p =
     absurd (let long = length_permutation _ _ p in omega (arith, long))
 
 -- what is read of the rows, where it is at most one thing
-few_read : {X Y : Type 0} (f : X → Y) (xs ys : List X) (zs : List Y) → IsPermutation xs ys
+pub few_read : {X Y : Type 0} (f : X → Y) (xs ys : List X) (zs : List Y) → IsPermutation xs ys
     → map f xs ≡ zs → length zs ≤ 1 → map f ys ≡ zs
 few_read f xs ys zs p is few =
     same_few zs (map f ys) few
@@ -47,7 +48,7 @@ few_depts n = go (eqb n 0)
     go true = omega arith
     go false = omega arith
 
-few_once : (b : Bool) (n : ℕ) → length (once b n) ≤ 1
+pub few_once : (b : Bool) (n : ℕ) → length (once b n) ≤ 1
 few_once true n = omega arith
 few_once false n = omega arith
 
@@ -111,6 +112,9 @@ module _ (db : Database) (t u : Tables) (p : Held db t) (q : Held db u) where
   part_shares =
       same_rows keyless share_part_row part_share_of (λ r. refl) _ _ _ p.share_part q.share_part
 
+  batch_rows : IsPermutation t.batch u.batch
+  batch_rows = same_rows keyed batch_row batch_of (λ r. refl) _ _ _ p.batch q.batch
+
   one_meta : (m : Meta) → t.meta ≡ m ∷ [] → u.meta ≡ m ∷ []
   one_meta m is =
       same_few (m ∷ []) u.meta (omega arith) (subst (λ l. IsPermutation l u.meta) is metas)
@@ -162,7 +166,10 @@ module _ (db : Database) (t u : Tables) (p : Held db t) (q : Held db u) where
       placed = IsPermutation-trans _ _ _ (IsPermutation-sym _ _ placements) h.published.placed;
       seat = IsPermutation-trans _ _ _ (IsPermutation-sym _ _ seats) h.published.seat;
     };
-    batches = record { none = h.batches.none; no_row = no_batch h.batches.no_row };
+    batches = record {
+      same = IsPermutation-trans _ _ _ (IsPermutation-sym _ _ batch_rows) h.batches.same;
+      fit = all-permutation FitsBatch _ _ batch_rows h.batches.fit;
+    };
   }
 
   -- they stand for the same offices

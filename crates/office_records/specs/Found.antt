@@ -1,14 +1,18 @@
 -- When rows that were found are those of an office's records, table by table.
-use Rattle.std.specs.Prelude.{◌≡◌, ◌≢◌, ℕ, ◌<◌, ◌≤◌, Bool, List, [], map, length, All, Option, Some, None, IsSome, is_some, slice_set, IsPermutation}
+use Rattle.std.specs.Prelude.{◌≡◌, ◌≢◌, ℕ, ◌<◌, ◌≤◌, Bool, List, [], map, length, All, AllPairs, Option, Some, None, IsSome, is_some, slice_set, IsPermutation}
 use Rattle.std.specs.List.{AllByRecursion}
+use Rattle.exam_terms.specs.declared.limits.TheConstants.{MAX_BATCH, MAX_BATCHES, TEXT_BYTES}
 use Rattle.exam_model.specs.Enrolments.{Enrolled}
 use Rattle.exam_model.specs.Fits.{Fits, PlaceExists}
 use Rattle.exam_model.specs.Instance.{Session, IsInstance}
 use Rattle.exam_model.specs.Pairs.{pairs_of}
 use Rattle.exam_model.specs.Timetable.{Placing, place_of}
 use Rattle.exam_score.specs.Track.{track}
-use Rattle.office_tables.specs.Tables.{Meta}
+use Rattle.office_tables.specs.Adopting.{tables_of}
+use Rattle.office_tables.specs.Records.{counts_of, FitsCounts}
+use Rattle.office_tables.specs.Tables.{Meta, Batch, empty_tables}
 use Rattle.office_tables.specs.declared.found.Found.{Found}
+use Rattle.office_tables.specs.declared.rows.BatchCountsRow.{BatchCountsRow}
 use Rattle.office_tables.specs.declared.rows.OwnerRow.{OwnerRow}
 use Rattle.office_tables.specs.declared.rows.EnrolRow.{EnrolRow}
 use Rattle.office_tables.specs.declared.rows.DraftRow.{DraftRow}
@@ -68,6 +72,33 @@ pub record HasNoPublication (found : Found) : Type 0 where
   pub seats : found.seats.items ≡ []
   pub student_shares : found.student_shares.items ≡ []
   pub part_shares : found.part_shares.items ≡ []
+
+-- ---- batches, which are found without their bytes
+
+-- the row of a batch whose number is one that it may have
+pub record IsBatchRow (row : BatchCountsRow) : Type 0 where
+  pub number : row.no ≤ MAX_BATCH
+  pub fits : FitsCounts row
+
+-- these rows are of batches that may be kept
+pub record AreBatchRows (rows : List BatchCountsRow) : Type 0 where
+  pub few : length rows ≤ MAX_BATCHES
+  pub each : All IsBatchRow rows
+
+-- a batch with no more bytes than a text may have
+abbrev pub IsShort : Batch → Type 0
+IsShort b = length b.bytes ≤ TEXT_BYTES
+
+-- these batches have the rows that were found, no two have one number, and none is too long
+pub record AreFoundBatches (found : List BatchCountsRow) (batches : List Batch) : Type 0 where
+  pub rows : map counts_of batches ≡ found
+  pub apart : AllPairs (λ b c. b.no ≢ c.no) batches
+  pub short : All IsShort batches
+
+-- what is found before a load
+pub record IsUnloaded (found : Found) : Type 0 where
+  pub batches : found.batches.items ≡ []
+  pub tables : tables_of found [] ≡ empty_tables
 
 -- ---- one row more
 

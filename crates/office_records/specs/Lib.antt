@@ -4,4 +4,6 @@ pub mod Found
 pub mod NextRow
 pub mod Faults
 pub mod Publications
+pub mod SeatsStored
 pub mod SharesStored
+pub mod BatchRows

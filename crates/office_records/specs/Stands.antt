@@ -11,6 +11,7 @@ use Rattle.exam_score.specs.Penalty.{Penalty}
 use Rattle.exam_score.specs.Track.{track}
 use Rattle.office_files.specs.CanonicalText.{canonical_instance}
 use Rattle.office_tables.specs.Tables as tables
+use Rattle.office_tables.specs.Records.{FitsBatch}
 use Rattle.office_tables.specs.Tables.{Tables, Meta, Batch, empty_tables}
 use Rattle.office_tables.specs.declared.rows.OwnerRow.{OwnerRow}
 use Rattle.office_tables.specs.declared.rows.EnrolRow.{EnrolRow}
@@ -46,6 +47,16 @@ abbrev pub slot_rows : ℕ → Option Placing → List SlotRow
 slot_rows d None = []
 slot_rows d (Some T) = slots_from d 0 T
 
+-- a batch as the tables have it
+abbrev pub stored_batch : KeptBatch → Batch
+stored_batch b = record {
+  no = b.no;
+  bytes = b.bytes;
+  added = b.counts.added;
+  dropped = b.counts.dropped;
+  unchanged = b.counts.unchanged;
+}
+
 -- a number once, or not at all
 abbrev pub once : Bool → ℕ → List ℕ
 once true n = n ∷ []
@@ -66,10 +77,10 @@ drafts_at d rows = filter (λ r. r.no == d) rows
 abbrev pub slots_at : ℕ → List SlotRow → List SlotRow
 slots_at d rows = filter (λ r. r.draft == d) rows
 
--- no batch is kept: none is stored yet
+-- these rows are the kept batches, with their bytes and counts, and numbers of 32 bits
 pub record StandsBatches (rows : List Batch) (kept : List KeptBatch) : Type 0 where
-  pub none : kept ≡ []
-  pub no_row : rows ≡ []
+  pub same : IsPermutation rows (map stored_batch kept)
+  pub fit : AllByRecursion FitsBatch rows
 
 -- each table holds just the office's part; penalties and shares aren't looked at
 pub record StandsLoaded (t : Tables) (r : Records) : Type 0 where

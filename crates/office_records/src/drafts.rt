@@ -4,6 +4,7 @@ ghost use Rattle.std.specs.Prelude.{All, IfErr, IsTrue, OnOk, Option};
 ghost use Rattle.std.specs.List.{list_all, list_any};
 ghost use Rattle.exam_model.specs.Timetable.{Placing};
 ghost use Rattle.exam_score.specs.Track.{track};
+ghost use Rattle.office_tables.specs.Amounts.{AreAmounts};
 ghost use Rattle.office_records.specs.Found.{AreDrafts, AreSlots};
 ghost use Rattle.office_records.specs.Stands.{parts_of};
 
@@ -100,4 +101,22 @@ fn are_parts(row: &DraftRow, parts: &Parts) -> bool
         && row.front == parts.front()
         && row.period == parts.period()
         && row.room == parts.room()
+}
+
+/// The row that stores a draft's penalty.
+pub fn draft_row(number: u32, parts: Parts) -> DraftRow
+    ensures number { result.no ≡ number }
+    ensures parts { parts_of result ≡ parts }
+    ensures amounts { AreAmounts result }
+{
+    DraftRow {
+        no: number,
+        in_row: parts.row(),
+        in_day: parts.day(),
+        spread: parts.spread(),
+        mixed: parts.mixed(),
+        front: parts.front(),
+        period: parts.period(),
+        room: parts.room(),
+    }
 }

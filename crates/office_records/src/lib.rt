@@ -1,6 +1,7 @@
 //! The records of an office, and the rows of its tables that stand for them.
 #![tactic(auto)]
 
+mod batches;
 mod drafts;
 mod enrolments;
 mod fault;
@@ -10,17 +11,20 @@ mod placed_seats;
 mod publication;
 mod published;
 mod records;
+mod rescoring;
 mod seats;
 mod session;
 mod shares;
 mod student_shares;
 mod timetable;
 
+pub use drafts::draft_row;
 pub use fault::RecordFault;
 pub use part_shares::part_share_rows;
 pub use publication::{check_publication, placement_rows, publication_of};
 pub use records::kept_of;
-pub use seats::{own_seats, seat_rows};
+pub use rescoring::rescored;
+pub use seats::{changed_seat_rows, own_seats};
 pub use session::text_of;
 pub use shares::{check_shares, shares_of};
 pub use student_shares::{changed_share_rows, student_share_rows};

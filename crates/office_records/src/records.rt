@@ -1,12 +1,14 @@
 // The records that rows stand for.
-ghost use Rattle.std.specs.Prelude.{◌≡◌, ◌↔◌, IfErr, IfOk, IsTrue};
+ghost use Rattle.std.specs.Prelude.{◌≡◌, ◌↔◌, IfErr, IfOk, IsTrue, List, map};
 ghost use Rattle.office_tables.specs.Adopting.{tables_of};
-ghost use Rattle.office_tables.specs.Tables.{empty_tables};
+ghost use Rattle.office_tables.specs.Records.{counts_of};
+ghost use Rattle.office_tables.specs.Tables.{Batch};
 ghost use Rattle.office_model.specs.Office.{IsOffice, OfficeState};
-ghost use Rattle.office_records.specs.Found.{HasNoPublication};
-ghost use Rattle.office_records.specs.Memory.{memory_of};
+ghost use Rattle.office_records.specs.Found.{AreFoundBatches, HasNoPublication, IsUnloaded};
+ghost use Rattle.office_records.specs.Memory.{AreTogether, memory_of};
 ghost use Rattle.office_records.specs.Stands.{IsSound, Stands};
 
+use crate::batches::check_batches;
 use crate::drafts::check_drafts;
 use crate::enrolments::enrolments_of;
 use crate::fault::RecordFault;
@@ -17,14 +19,19 @@ use exam_model::{Enrolments, Instance};
 use office_tables::Found;
 use std::alloc::Global;
 
-/// What an office keeps in memory of the rows that stand for it. `BadRows`: they stand for no
-/// office.
+/// What an office keeps in memory of the rows that stand for it, whose batches are no longer than
+/// texts may be. `BadRows`: they stand for no office, however long the batches are.
 pub fn kept_of(alloc: Global, found: &Found) -> Result<Option<(Instance, Enrolments)>, RecordFault>
-    ensures are { IfOk result (λ kept. (office : OfficeState) × Stands (tables_of found.now) office
-        × IsSound (tables_of found.now) office × IsOffice office × (memory_of office ≡ kept)) }
-    ensures none { IfErr result (λ e. e ≡ RecordFault.BadRows → (office : OfficeState)
-        → Stands (tables_of found.now) office → IsSound (tables_of found.now) office
-        → IsOffice office → ⊥) }
+    ensures are { IfOk result (λ kept. (batches : List Batch)
+        → AreFoundBatches found.now.batches.items batches
+        → (office : OfficeState) × Stands (tables_of found.now batches) office
+        × IsSound (tables_of found.now batches) office × IsOffice office
+        × (memory_of office ≡ kept)) }
+    ensures together { IfOk result AreTogether }
+    ensures none { IfErr result (λ e. e ≡ RecordFault.BadRows → (batches : List Batch)
+        → map counts_of batches ≡ found.now.batches.items → (office : OfficeState)
+        → Stands (tables_of found.now batches) office
+        → IsSound (tables_of found.now batches) office → IsOffice office → ⊥) }
 {
     if is_unloaded(found) {
         return Ok(None);
@@ -34,12 +41,13 @@ pub fn kept_of(alloc: Global, found: &Found) -> Result<Option<(Instance, Enrolme
     let enrolments = enrolments_of(alloc, &instance, &found.enrols)?;
     check_drafts(alloc, &instance, &enrolments, &found.drafts, &found.slots)?;
     check_published(alloc, &instance, found)?;
+    check_batches(&found.batches)?;
     Ok(Some((instance, enrolments)))
 }
 
 // Whether the tables are those before a load.
 fn is_unloaded(found: &Found) -> bool
-    ensures { IsTrue result ↔ (tables_of found.now ≡ empty_tables) }
+    ensures { IsTrue result ↔ IsUnloaded found.now }
 {
     !found.meta.published
         && found.meta.instance.is_empty()
@@ -48,6 +56,7 @@ fn is_unloaded(found: &Found) -> bool
         && found.drafts.is_empty()
         && found.slots.is_empty()
         && has_no_publication(found)
+        && found.batches.is_empty()
 }
 
 // Whether there is no row of a publication or its shares.

@@ -1,21 +1,36 @@
 // Seat rows as the tables have them.
 ghost use Rattle.std.specs.Prelude.{◌≡◌, ◌<◌, List, map, IfErr, IfNone, IfOk, IfSome, IsPermutation};
 ghost use Rattle.exam_terms.specs.declared.limits.TheConstants.{MAX_STUDENT};
+ghost use Rattle.exam_model.specs.Enrolments.{IsAscending};
 ghost use Rattle.exam_publish.specs.Rows.{AreNumbered, RowsInOrder};
 ghost use Rattle.exam_publish.specs.declared.seat_row.SeatRow as published;
 ghost use Rattle.office_records.specs.Publications.{stored_seat};
+ghost use Rattle.office_records.specs.SeatsStored.{seat_rows_of};
 
 use crate::fault::RecordFault;
+use crate::student_shares::is_among;
 use exam_model::{ExamNo, PeriodNo, RoomNo, StudentNo};
 use exam_publish as publish;
 use office_tables::SeatRow;
 use std::alloc::{AllocError, Global};
 
-/// The rows to be stored of a publication's seats, in their order.
-pub fn seat_rows(alloc: Global, rows: &[publish::SeatRow]) -> Result<Vec<SeatRow>, AllocError>
-    ensures { IfOk result (λ stored. stored.items ≡ map stored_seat rows.now) }
+/// The rows to be stored of the seats of these candidates alone, in the order of the seats.
+pub fn changed_seat_rows(
+    alloc: Global,
+    rows: &[publish::SeatRow],
+    changed: &[StudentNo],
+) -> Result<Vec<SeatRow>, AllocError>
+    requires { IsAscending changed.now }
+    ensures { IfOk result (λ stored. stored.items
+        ≡ seat_rows_of changed.now (map stored_seat rows.now)) }
 {
-    rows.iter().map(|row| stored_seat(*row)).collect(alloc)
+    let mut stored = Vec::new(alloc);
+    'rows: for row in rows {
+        if is_among(changed, row.student) {
+            stored.push(stored_seat(*row))?;
+        }
+    }
+    Ok(stored)
 }
 
 // A seat as the tables have it.

@@ -64,7 +64,7 @@ fn share_row(share: (StudentNo, PersonalParts)) -> StudentShareRow
 }
 
 // Whether a student is one of these.
-fn is_among(students: &[StudentNo], student: StudentNo) -> bool
+pub(crate) fn is_among(students: &[StudentNo], student: StudentNo) -> bool
     requires { IsAscending students.now }
     ensures { result ≡ has_student students.now student }
 {

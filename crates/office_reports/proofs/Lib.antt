@@ -1,1 +1,2 @@
 mod RoomLemmas
+mod SlotLemmas

@@ -1,5 +1,5 @@
 -- Numbers in columns, and lists that grow by a number.
-use Rattle.std.proofs.Common.{◌≡◌, ℕ, ◌+◌, ◌-◌, ◌^◌, ◌++◌, ◌∷◌, [], List, length, arith, refl, false, true, ◌∙◌, ap, sym, Bool, zero, suc, add-one, append-nil}
+use Rattle.std.proofs.Common.{◌≡◌, ℕ, ◌+◌, ◌-◌, ◌<◌, ◌^◌, ◌++◌, ◌∷◌, [], List, length, arith, refl, false, true, ◌∙◌, ap, ap₂, sym, Bool, zero, suc, add-one, append-nil}
 use Rattle.std.specs.Prelude.{decimal, replicate, filter}
 use Rattle.std.specs.List.{flat_map, range_with_len, repeat}
 use Rattle.std.specs.Fmt.{padded_integral, format_spec, char_count}
@@ -43,6 +43,14 @@ pub lines_more : (f : ℕ → List ℕ) (before : List ℕ) (n : ℕ)
 lines_more f before n =
     flat_map_more f before (range_with_len 0 n) n
     ∙ ap (λ xs. before ++ flat_map f xs) (sym (counted n))
+
+-- lines that are the same at each number
+pub same_lines : (f g : ℕ → List ℕ) (a n : ℕ) → ((k : ℕ) → k < a + n → f k ≡ g k)
+    → flat_map f (range_with_len a n) ≡ flat_map g (range_with_len a n)
+same_lines f g a zero same = refl
+same_lines f g a (suc n) same =
+    ap₂ (λ x y. x ++ y) (same a (omega arith))
+    (same_lines f g (a + 1) n (λ k lt. same k (omega arith)))
 
 -- one more number that passes a test
 pub passed_more : (test : ℕ → Bool) (n : ℕ) → test n ≡ true

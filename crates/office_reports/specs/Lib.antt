@@ -1,2 +1,3 @@
 pub mod Reports
 pub mod Rooms
+pub mod Slots

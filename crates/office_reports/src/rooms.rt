@@ -1,9 +1,11 @@
 // How the rooms are used: a line for each room and period in which an exam stands.
-ghost use Rattle.std.specs.Prelude.{◌≡◌, ◌<◌, ◌++◌, ℕ, length, IfOk, OnOk, string_bytes};
-ghost use Rattle.exam_rules.specs.Places.{is_one_place, where_placed};
-ghost use Rattle.office_reports.specs.Rooms.{exams_in, line_with, period_lines, place_line};
-ghost use Rattle.office_reports.specs.Rooms.{room_line, rooms_text, seats_in};
+ghost use Rattle.std.specs.Prelude.{◌≡◌, ◌<◌, ◌*◌, ◌++◌, length, Some, IfOk, OnOk, string_bytes};
+ghost use Rattle.exam_model.specs.Fits.{PlaceExists};
+ghost use Rattle.office_reports.specs.Rooms.{room_line, rooms_text};
+ghost use Rattle.office_reports.specs.Slots.{entry_line, entry_lines};
 
+use crate::exam_list::ExamList;
+use crate::slots::{exams_by_slot, seats_by_slot, slot_of};
 use exam_model::{Instance, Timetable};
 use exam_publish::SeatRow;
 use exam_terms::{ExamNo, PeriodNo, Place, RoomNo};
@@ -21,100 +23,57 @@ pub fn rooms_report(
     ensures { IfOk result (λ text.
         string_bytes text ≡ rooms_text instance.now timetable.now seats.now) }
 {
+    let exams = exams_by_slot(alloc, instance, timetable)?;
+    let used = seats_by_slot(alloc, instance, seats)?;
     let mut text = String::from_str(alloc, "per room    used     cap  exams\n")?;
     for period in 0..instance.periods() {
-        add_period(
-            alloc,
-            &mut text,
-            instance,
-            timetable,
-            seats,
-            PeriodNo::new(period),
-        )?;
+        add_period(&mut text, instance, &exams, &used, PeriodNo::new(period))?;
     }
     Ok(text)
 }
 
 // Adds the lines of a period.
 fn add_period(
-    alloc: Global,
     text: &mut String,
     instance: &Instance,
-    timetable: &Timetable,
-    seats: &[SeatRow],
+    exams: &[ExamList],
+    used: &[usize],
     period: PeriodNo,
 ) -> Result<(), AllocError>
+    requires period { period < length instance.now.periods }
+    requires exams { length exams.now ≡ length instance.now.periods * length instance.now.rooms }
+    requires used { length used.now ≡ length instance.now.periods * length instance.now.rooms }
     ensures { OnOk result (string_bytes text.new ≡ string_bytes text.old
-        ++ period_lines instance.now timetable.now seats.now period) }
+        ++ entry_lines instance.now exams.now used.now period) }
 {
     for room in 0..instance.rooms() {
         let room = RoomNo::new(room);
-        add_place(
-            alloc,
-            text,
-            instance,
-            timetable,
-            seats,
-            &Place { period, room },
-        )?;
+        add_place(text, instance, exams, used, &Place { period, room })?;
     }
     Ok(())
 }
 
 // Adds the line of a place, if an exam stands there.
 fn add_place(
-    alloc: Global,
     text: &mut String,
     instance: &Instance,
-    timetable: &Timetable,
-    seats: &[SeatRow],
+    exams: &[ExamList],
+    used: &[usize],
     place: &Place,
 ) -> Result<(), AllocError>
-    requires { place.now.room < length instance.now.rooms }
+    requires place { PlaceExists instance.now (Some place.now) }
+    requires exams { length exams.now ≡ length instance.now.periods * length instance.now.rooms }
+    requires used { length used.now ≡ length instance.now.periods * length instance.now.rooms }
     ensures { OnOk result (string_bytes text.new ≡ string_bytes text.old
-        ++ place_line instance.now timetable.now seats.now place.now) }
+        ++ entry_line instance.now exams.now used.now place.now) }
 {
-    let exams = exams_in(alloc, timetable, place)?;
-    if exams.is_empty() {
+    let slot = slot_of(instance, place);
+    let here = exams[slot].as_slice();
+    if here.is_empty() {
         return Ok(());
     }
-    let used = seats_in(seats, place);
     let room = instance.room(place.room);
-    add_line(text, place, used, room.capacity, &exams)
-}
-
-// The exams that stand in a place, ascending.
-fn exams_in(alloc: Global, timetable: &Timetable, place: &Place) -> Result<Vec<ExamNo>, AllocError>
-    ensures { IfOk result (λ exams. exams.items ≡ exams_in timetable.now place.now) }
-{
-    let mut exams = Vec::new(alloc);
-    'exams: for number in 0..timetable.exams() {
-        let exam = ExamNo::new(number);
-        if is_in(place, timetable.get(exam)) {
-            exams.push(exam)?;
-        }
-    }
-    Ok(exams)
-}
-
-// Whether an exam that stands here stands in the place.
-fn is_in(place: &Place, here: Option<Place>) -> bool
-    ensures { result ≡ where_placed (is_one_place place.now) here }
-{
-    match here {
-        Some(here) => place.period == here.period && place.room == here.room,
-        None => false,
-    }
-}
-
-// How many of the seats are in a place.
-fn seats_in(seats: &[SeatRow], place: &Place) -> usize
-    ensures { result ≡ seats_in seats.now place.now }
-{
-    seats
-        .iter()
-        .filter(|seat| place.period == seat.period && place.room == seat.room)
-        .count()
+    add_line(text, place, used[slot], room.capacity, here)
 }
 
 // Adds a line: the numbers in columns, and then the exams.

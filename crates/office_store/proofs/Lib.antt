@@ -18,3 +18,7 @@ pub mod NewPublicationLemmas
 pub mod PublishLemmas
 pub mod ViewLemmas
 pub mod PriceLemmas
+pub mod AllDraftLemmas
+pub mod KeptBatchLemmas
+pub mod NewBatchLemmas
+pub mod BatchPuttingLemmas

@@ -76,7 +76,7 @@ module _ (I : Session) (E : Enrolled) (text : List ℕ) (rows : List EnrolRow)
     draft = λ d. refl;
     slot = λ d. IsPermutation-refl [];
     published = record { placed = IsPermutation-refl []; seat = IsPermutation-refl [] };
-    batches = record { none = refl; no_row = refl };
+    batches = record { same = IsPermutation-refl []; fit = tt };
   }
 
   -- the database stands for the office with that session alone

@@ -21,18 +21,20 @@ use Rattle.exam_publish.proofs.PermitLemmas.{neither}
 use Rattle.exam_publish.proofs.PublishedLemmas.{same_enrolments}
 use Rattle.exam_publish.proofs.SeatLemmas.{AreSeats, are_seats}
 use Rattle.office_tables.specs.Alterations.{after_all}
-use Rattle.office_tables.specs.Changes.{no_meta, no_part_shares, no_placements, no_seats, with_meta}
+use Rattle.office_tables.specs.Changes.{no_meta, no_part_shares, no_placements, with_meta}
 use Rattle.office_tables.specs.Changes.{with_part_share, with_placement, with_seat}
-use Rattle.office_tables.specs.Changes.{with_student_share, without_student_share}
+use Rattle.office_tables.specs.Changes.{with_student_share, without_student_seats}
+use Rattle.office_tables.specs.Changes.{without_student_share}
 use Rattle.office_tables.specs.Tables.{Tables, Stands as Held}
 use Rattle.office_tables.proofs.AlterationLemmas.{part_shares_put, placements_put, seats_put}
-use Rattle.office_tables.proofs.AlterationLemmas.{student_shares_gone, student_shares_put}
+use Rattle.office_tables.proofs.AlterationLemmas.{student_seats_gone, student_shares_gone}
+use Rattle.office_tables.proofs.AlterationLemmas.{student_shares_put}
 use Rattle.office_tables.specs.declared.placing.InsertPlacement.{InsertPlacement}
 use Rattle.office_tables.specs.declared.rows.DraftRow.{DraftRow}
 use Rattle.office_tables.specs.declared.rows.PlacedRow.{PlacedRow}
 use Rattle.office_tables.specs.declared.rows.SeatRow.{SeatRow}
 use Rattle.office_tables.specs.declared.rows.SlotRow.{SlotRow}
-use Rattle.office_tables.specs.declared.rows.StudentShareRow.{StudentShareRow}
+use Rattle.office_tables.specs.declared.seating.DeleteStudentSeats.{DeleteStudentSeats}
 use Rattle.office_tables.specs.declared.seating.InsertSeat.{InsertSeat}
 use Rattle.office_tables.specs.declared.sharing.DeleteStudentShare.{DeleteStudentShare}
 use Rattle.office_tables.specs.declared.sharing.InsertPartShare.{InsertPartShare}
@@ -43,6 +45,7 @@ use Rattle.office_model.specs.Publishing.{draft_published, publication_counts, p
 use Rattle.office_model.specs.declared.fault.StoreFault.{StoreFault}
 use Rattle.office_records.specs.Memory.{Memory, memory_of}
 use Rattle.office_records.specs.Publications.{StandsPublished, placed_from, stored_seat}
+use Rattle.office_records.specs.SeatsStored.{seat_rows_of, seat_rows_without}
 use Rattle.office_records.specs.SharesStored.{part_share_rows, share_rows_of, share_rows_without}
 use Rattle.office_records.specs.SharesStored.{student_share_rows}
 use Rattle.office_records.specs.Stands.{IsKept, IsSound, StandsLoaded}
@@ -56,28 +59,45 @@ use Rattle.office_store.proofs.CommandLemmas.{Denies, Moves}
 
 -- ---- what the parts of the transaction make of the tables, one after the other
 
--- a candidate is among those whose shares go
-among : (row : StudentShareRow) (its : List DeleteStudentShare)
-    → list_any (λ (it : DeleteStudentShare). eqb row.student it.student) its
-    ≡ has_student (map (λ (it : DeleteStudentShare). it.student) its) row.student
-among row [] = refl
-among row (it ∷ its) = ap₂ (λ a b. a || b) (turned row.student it.student) (among row its)
+-- a candidate is among those whose rows go
+among : {X : Type 0} (student : X → ℕ) (s : ℕ) (its : List X)
+    → list_any (λ it. eqb s (student it)) its ≡ has_student (map student its) s
+among student s [] = refl
+among student s (it ∷ its) =
+    ap₂ (λ a b. a || b) (turned s (student it)) (among student s its)
   where
     turned : (a b : ℕ) → eqb a b ≡ eqb b a
     turned a b = grind (arith, nat_tests)
 
-pub gone_after : (its : List DeleteStudentShare) (t : Tables)
+pub seats_gone_after : (its : List DeleteStudentSeats) (t : Tables)
+    → after_all (λ (it : DeleteStudentSeats). without_student_seats it.student) its t
+    ≡ record t {
+      seat = seat_rows_without (map (λ (it : DeleteStudentSeats). it.student) its) t.seat;
+    }
+seats_gone_after its t =
+    student_seats_gone its t
+    ∙ (λ i. record t {
+      seat = filter (λ row. not (among (λ (it : DeleteStudentSeats). it.student) row.student its i))
+          t.seat;
+    })
+
+pub shares_gone_after : (its : List DeleteStudentShare) (t : Tables)
     → after_all (λ (it : DeleteStudentShare). without_student_share it.student) its t
     ≡ record t {
       share_student = share_rows_without (map (λ (it : DeleteStudentShare). it.student) its)
           t.share_student;
     }
-gone_after its t =
+shares_gone_after its t =
     student_shares_gone its t
-    ∙ (λ i. record t { share_student = filter (λ row. not (among row its i)) t.share_student })
+    ∙ (λ i. record t {
+      share_student = filter
+          (λ row. not (among (λ (it : DeleteStudentShare). it.student) row.student its i))
+          t.share_student;
+    })
 
 -- the session's row, the places and the seats
-module _ (text : List ℕ) (ps : List InsertPlacement) (ss : List InsertSeat) where
+module _ (text : List ℕ) (ps : List InsertPlacement) (gone : List DeleteStudentSeats)
+    (ss : List InsertSeat) where
   abbrev pub meta_made : Tables → Tables
   meta_made t = with_meta true text (no_meta t)
 
@@ -86,7 +106,9 @@ module _ (text : List ℕ) (ps : List InsertPlacement) (ss : List InsertSeat) wh
       after_all (λ (it : InsertPlacement). with_placement it.row) ps (no_placements t)
 
   abbrev pub seats_made : Tables → Tables
-  seats_made t = after_all (λ (it : InsertSeat). with_seat it.row) ss (no_seats t)
+  seats_made t =
+      after_all (λ (it : InsertSeat). with_seat it.row) ss
+      (after_all (λ (it : DeleteStudentSeats). without_student_seats it.student) gone t)
 
   placements_are : (t : Tables) → placements_made t
       ≡ record t { placed = reverse (map (λ (it : InsertPlacement). it.row) ps) }
@@ -94,14 +116,20 @@ module _ (text : List ℕ) (ps : List InsertPlacement) (ss : List InsertSeat) wh
       placements_put ps (no_placements t) ∙ ap (λ l. record t { placed = l }) (append-nil _)
 
   seats_are : (t : Tables) → seats_made t
-      ≡ record t { seat = reverse (map (λ (it : InsertSeat). it.row) ss) }
-  seats_are t = seats_put ss (no_seats t) ∙ ap (λ l. record t { seat = l }) (append-nil _)
+      ≡ record t {
+        seat = reverse (map (λ (it : InsertSeat). it.row) ss)
+            ++ seat_rows_without (map (λ (it : DeleteStudentSeats). it.student) gone) t.seat;
+      }
+  seats_are t =
+      ap (after_all (λ (it : InsertSeat). with_seat it.row) ss) (seats_gone_after gone t)
+      ∙ seats_put ss _
 
   abbrev places_said : Tables → Tables
   places_said t = record t {
     meta = record { published = true; instance = text } ∷ [];
     placed = reverse (map (λ (it : InsertPlacement). it.row) ps);
-    seat = reverse (map (λ (it : InsertSeat). it.row) ss);
+    seat = reverse (map (λ (it : InsertSeat). it.row) ss)
+        ++ seat_rows_without (map (λ (it : DeleteStudentSeats). it.student) gone) t.seat;
   }
 
   all_places : (t : Tables) → seats_made (placements_made (meta_made t)) ≡ places_said t
@@ -133,7 +161,7 @@ module _ (gone : List DeleteStudentShare) (students : List InsertStudentShare)
   students_are : (t : Tables) → students_made t ≡ students_said t
   students_are t =
       ap (after_all (λ (it : InsertStudentShare). with_student_share it.row) students)
-      (gone_after gone t)
+      (shares_gone_after gone t)
       ∙ student_shares_put students _
 
   parts_are : (t : Tables) → parts_made t
@@ -152,16 +180,18 @@ module _ (gone : List DeleteStudentShare) (students : List InsertStudentShare)
 
 -- what is made of lists that are these is made of a new publication
 pub places_made : (new : NewPublication) (text : List ℕ) (ps : List InsertPlacement)
-    (ss : List InsertSeat) → text ≡ new.text.items → ps ≡ new.placements.items
-    → ss ≡ new.seats.items → (t : Tables)
-    → seats_made text ps ss (placements_made text ps ss (meta_made text ps ss t))
+    (gone : List DeleteStudentSeats) (ss : List InsertSeat) → text ≡ new.text.items
+    → ps ≡ new.placements.items → gone ≡ new.seats_gone.items → ss ≡ new.seats.items
+    → (t : Tables)
+    → seats_made text ps gone ss (placements_made text ps gone ss (meta_made text ps gone ss t))
     ≡ places_put new t
-places_made new text ps ss a b c t =
-    all_places text ps ss t ∙ (λ i. places_said (a i) (b i) (c i) t)
+places_made new text ps gone ss a b c d t =
+    all_places text ps gone ss t ∙ (λ i. places_said (a i) (b i) (c i) (d i) t)
 
 pub shares_made : (new : NewPublication) (gone : List DeleteStudentShare)
-    (students : List InsertStudentShare) (parts : List InsertPartShare) → gone ≡ new.gone.items
-    → students ≡ new.students.items → parts ≡ new.parts.items → (t : Tables)
+    (students : List InsertStudentShare) (parts : List InsertPartShare)
+    → gone ≡ new.shares_gone.items → students ≡ new.students.items → parts ≡ new.parts.items
+    → (t : Tables)
     → parts_made gone students parts (students_made gone students parts t) ≡ shares_put new t
 shares_made new gone students parts a b c t =
     all_shares gone students parts t ∙ (λ i. shares_said (a i) (b i) (c i) t)
@@ -178,6 +208,13 @@ backs put row is (x ∷ xs) =
 put_in : {X : Type 0} (rows xs : List X) → rows ≡ xs → IsPermutation (reverse rows) xs
 put_in rows xs is =
     subst (IsPermutation (reverse rows)) is (IsPermutation-sym _ _ (IsPermutation-reverse rows))
+
+-- rows that come in front of those that are left where these candidates' rows are gone
+put_over : {X : Type 0} (left : List ℕ → List X) (gone who : List ℕ) (rows xs : List X)
+    → gone ≡ who → rows ≡ xs → IsPermutation (reverse rows ++ left gone) (xs ++ left who)
+put_over left gone who rows xs same is =
+    IsPermutation-append _ _ _ _ (put_in rows xs is)
+    (subst (λ l. IsPermutation (left gone) (left l)) same (IsPermutation-refl (left gone)))
 
 -- ---- the office
 
@@ -233,6 +270,38 @@ module _ (r : Records) (T : Placing) (is : AreRecords r) (fits : Fits r.session 
 
   module _ (penalty : ℕ) (new : NewPublication) (put : ArePutIn r.session T (rows_now r.published)
       new_one.rows penalty new) (t : Tables) where
+    abbrev who : List ℕ
+    who = changed_students (rows_now r.published) new_one.rows
+
+    seat_in : IsPermutation t.seat (map stored_seat (rows_now r.published))
+        → IsPermutation (publication_put new t).seat (map stored_seat new_one.rows)
+    seat_in stored =
+        let all = map stored_seat new_one.rows in
+        IsPermutation-trans _ _ _
+        (put_over (λ l. seat_rows_without l t.seat)
+        (map (λ (it : DeleteStudentSeats). it.student) new.seats_gone.items) who
+        (map (λ (it : InsertSeat). it.row) new.seats.items) (seat_rows_of who all)
+        (ap (map (λ (it : DeleteStudentSeats). it.student)) put.seats_gone
+        ∙ backs _ (λ (it : DeleteStudentSeats). it.student) (λ x. refl) who)
+        (ap (map (λ (it : InsertSeat). it.row)) put.seats
+        ∙ backs _ (λ (it : InsertSeat). it.row) (λ x. refl) (seat_rows_of who all)))
+        (republication.seats_put r.published new_one t.seat stored)
+
+    share_in : IsPermutation t.share_student (student_share_rows r.session r.published)
+        → IsPermutation (publication_put new t).share_student
+        (student_share_rows r.session (Some new_one))
+    share_in stored =
+        let all = student_share_rows r.session (Some new_one) in
+        IsPermutation-trans _ _ _
+        (put_over (λ l. share_rows_without l t.share_student)
+        (map (λ (it : DeleteStudentShare). it.student) new.shares_gone.items) who
+        (map (λ (it : InsertStudentShare). it.row) new.students.items) (share_rows_of who all)
+        (ap (map (λ (it : DeleteStudentShare). it.student)) put.shares_gone
+        ∙ backs _ (λ (it : DeleteStudentShare). it.student) (λ x. refl) who)
+        (ap (map (λ (it : InsertStudentShare). it.row)) put.students
+        ∙ backs _ (λ (it : InsertStudentShare). it.row) (λ x. refl) (share_rows_of who all)))
+        (republication.shares_put r.session r.published new_one t.share_student stored)
+
     published_stands : StandsLoaded t r
         → StandsLoaded (publication_put new t) (record r { published = Some new_one })
     published_stands h = record {
@@ -245,41 +314,23 @@ module _ (r : Records) (T : Placing) (is : AreRecords r) (fits : Fits r.session 
         placed = put_in _ (placed_from 0 T)
             (ap (map (λ (it : InsertPlacement). it.row)) put.placements
             ∙ backs _ (λ (it : InsertPlacement). it.row) (λ x. refl) (placed_from 0 T));
-        seat = put_in _ (map stored_seat new_one.rows)
-            (ap (map (λ (it : InsertSeat). it.row)) put.seats
-            ∙ backs _ (λ (it : InsertSeat). it.row) (λ x. refl) (map stored_seat new_one.rows));
+        seat = seat_in h.published.seat;
       };
       batches = h.batches;
     }
 
     published_sound : IsSound t (Some r)
         → IsSound (publication_put new t) (Some (record r { published = Some new_one }))
-    published_sound h =
-        let who = changed_students (rows_now r.published) new_one.rows in
-        let all = student_share_rows r.session (Some new_one) in
-        let gone : map (λ (it : DeleteStudentShare). it.student) new.gone.items ≡ who
-        = ap (map (λ (it : DeleteStudentShare). it.student)) put.gone
-        ∙ backs _ (λ (it : DeleteStudentShare). it.student) (λ x. refl) who in
-        let come : map (λ (it : InsertStudentShare). it.row) new.students.items
-        ≡ share_rows_of who all
-        = ap (map (λ (it : InsertStudentShare). it.row)) put.students
-        ∙ backs _ (λ (it : InsertStudentShare). it.row) (λ x. refl) (share_rows_of who all) in
-        record {
-          scored = h.scored;
-          shared = record {
-            of_students = IsPermutation-trans _ _ _
-                (IsPermutation-append _ _ _ _ (put_in _ (share_rows_of who all) come)
-                (subst (λ l. IsPermutation
-                (share_rows_without (map (λ (it : DeleteStudentShare). it.student) new.gone.items)
-                t.share_student)
-                (share_rows_without l t.share_student)) gone (IsPermutation-refl _)))
-                (republication.shares_put r.session r.published new_one t.share_student h.shared.of_students);
-            of_parts = put_in _ (part_share_rows r.session (Some new_one))
-                (ap (map (λ (it : InsertPartShare). it.row)) put.parts
-                ∙ backs _ (λ (it : InsertPartShare). it.row) (λ x. refl)
-                (part_share_rows r.session (Some new_one)));
-          };
-        }
+    published_sound h = record {
+      scored = h.scored;
+      shared = record {
+        of_students = share_in h.shared.of_students;
+        of_parts = put_in _ (part_share_rows r.session (Some new_one))
+            (ap (map (λ (it : InsertPartShare). it.row)) put.parts
+            ∙ backs _ (λ (it : InsertPartShare). it.row) (λ x. refl)
+            (part_share_rows r.session (Some new_one)));
+      };
+    }
 
   -- the database stands for the office with the publication
   published_kept : (a b : Database) (penalty : ℕ) (new : NewPublication)

@@ -29,7 +29,7 @@ use Rattle.office_records.specs.Publications.{publication_from}
 use Rattle.office_records.specs.Publications.{placed_from, placed_rows, stored_seat}
 use Rattle.office_records.specs.SharesStored.{AreShared, part_rows, plain_rows}
 use Rattle.office_records.specs.Stands.{Stands, IsSound}
-use Rattle.office_records.proofs.UnbatchedLemmas.{are_numbered}
+use Rattle.office_records.proofs.ReadableLemmas.{are_numbered}
 use Rattle.office_records.specs.declared.fault.RecordFault.{RecordFault}
 use Rattle.office_records.specs.declared.fault.RecordFault.TheVariants.{BadRows, NoMemory}
 use Rattle.exam_publish.specs.declared.seat_row.SeatRow as publish

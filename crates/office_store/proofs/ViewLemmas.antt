@@ -55,7 +55,7 @@ use Rattle.office_records.specs.Publications.{stored_seat}
 use Rattle.office_records.specs.SharesStored.{student_share_row, student_share_rows}
 use Rattle.office_records.specs.Stands.{IsSound}
 use Rattle.office_records.proofs.SameTables.{same_few}
-use Rattle.office_records.proofs.UnbatchedLemmas.{are_numbered}
+use Rattle.office_records.proofs.ReadableLemmas.{are_numbered}
 use Rattle.office_store.specs.Reading.{student_rows_in}
 use Rattle.office_store.specs.Running.{Tells}
 use Rattle.office_model.specs.declared.fault.StoreFault.{StoreFault}

@@ -7,6 +7,7 @@ use Rattle.office_tables.specs.Tables.{Tables}
 use Rattle.office_tables.specs.declared.rows.DraftRow.{DraftRow}
 use Rattle.office_tables.specs.declared.rows.EnrolRow.{EnrolRow}
 use Rattle.office_tables.specs.declared.rows.SlotRow.{SlotRow}
+use Rattle.office_records.specs.SeatsStored.{seat_rows_without}
 use Rattle.office_records.specs.SharesStored.{share_rows_without}
 use Rattle.office_records.specs.Stands.{slot_row}
 use Rattle.office_store.specs.declared.new_publication.NewPublication.{NewPublication}
@@ -43,19 +44,21 @@ slots_put d T (e ∷ exams) t = slots_put d T exams (slot_put d e (place_of T e)
 abbrev pub edit_put : DraftRow → Placing → List ℕ → Tables → Tables
 edit_put row T exams t = slots_put row.no T exams (with_draft row (without_draft row.no t))
 
--- something is published of the session: these places and these seats, and no others
+-- something is published of the session: these places, and no others; of the candidates' seats some
+-- go and some come
 abbrev pub places_put : NewPublication → Tables → Tables
 places_put new t = record t {
   meta = record { published = true; instance = new.text.items } ∷ [];
   placed = reverse (map (λ it. it.row) new.placements.items);
-  seat = reverse (map (λ it. it.row) new.seats.items);
+  seat = reverse (map (λ it. it.row) new.seats.items)
+      ++ seat_rows_without (map (λ it. it.student) new.seats_gone.items) t.seat;
 }
 
 -- of the candidates' shares some go and some come; those of exams, periods and rooms come anew
 abbrev pub shares_put : NewPublication → Tables → Tables
 shares_put new t = record t {
   share_student = reverse (map (λ it. it.row) new.students.items)
-      ++ share_rows_without (map (λ it. it.student) new.gone.items) t.share_student;
+      ++ share_rows_without (map (λ it. it.student) new.shares_gone.items) t.share_student;
   share_part = reverse (map (λ it. it.row) new.parts.items);
 }
 

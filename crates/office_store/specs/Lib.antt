@@ -10,3 +10,4 @@ pub mod Publications
 pub mod NewPublications
 pub mod Viewing
 pub mod Pricing
+pub mod NewBatches

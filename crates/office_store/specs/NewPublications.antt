@@ -13,6 +13,7 @@ use Rattle.office_tables.specs.declared.rows.PartShareRow.{PartShareRow}
 use Rattle.office_tables.specs.declared.rows.PlacedRow.{PlacedRow}
 use Rattle.office_tables.specs.declared.rows.SeatRow as stored
 use Rattle.office_tables.specs.declared.rows.StudentShareRow.{StudentShareRow}
+use Rattle.office_tables.specs.declared.seating.DeleteStudentSeats.{DeleteStudentSeats}
 use Rattle.office_tables.specs.declared.seating.InsertSeat.{InsertSeat}
 use Rattle.office_tables.specs.declared.sharing.DeleteStudentShare.{DeleteStudentShare}
 use Rattle.office_tables.specs.declared.sharing.InsertPartShare.{InsertPartShare}
@@ -22,6 +23,7 @@ use Rattle.office_model.specs.Publishing.{draft_published, published_as, rows_no
 use Rattle.office_model.specs.Commands.{penalty_now}
 use Rattle.office_model.specs.declared.fault.StoreFault.{StoreFault}
 use Rattle.office_records.specs.Publications.{placed_from, stored_seat}
+use Rattle.office_records.specs.SeatsStored.{seat_rows_of}
 use Rattle.office_records.specs.SharesStored.{part_rows, share_rows_of, student_share_row}
 use Rattle.office_records.specs.Stands.{session_text}
 use Rattle.office_store.specs.Running.{IsFault}
@@ -31,6 +33,9 @@ use Rattle.office_store.specs.declared.new_publication.NewPublication.{NewPublic
 
 abbrev pub placement_put : PlacedRow → InsertPlacement
 placement_put row = record { row = row }
+
+abbrev pub her_seats_gone : ℕ → DeleteStudentSeats
+her_seats_gone student = record { student = student }
 
 abbrev pub seat_put : stored.SeatRow → InsertSeat
 seat_put row = record { row = row }
@@ -46,14 +51,16 @@ part_share_put row = record { row = row }
 
 -- ---- a publication that is put in
 
--- the rows of this timetable and these seats in place of the old ones; of the candidates' shares
--- those alone whose seats differ, which go and come; and what is answered
+-- the rows of this timetable in place of the old ones; of the candidates' seats and shares those
+-- alone whose seats differ, which go and come; and what is answered
 pub record ArePutIn (I : Session) (T : Placing) (old rows : List SeatRow) (penalty : ℕ)
     (new : NewPublication) : Type 0 where
   pub text : new.text.items ≡ session_text I
   pub placements : new.placements.items ≡ map placement_put (placed_from 0 T)
-  pub seats : new.seats.items ≡ map seat_put (map stored_seat rows)
-  pub gone : new.gone.items ≡ map share_gone (changed_students old rows)
+  pub seats_gone : new.seats_gone.items ≡ map her_seats_gone (changed_students old rows)
+  pub seats : new.seats.items
+      ≡ map seat_put (seat_rows_of (changed_students old rows) (map stored_seat rows))
+  pub shares_gone : new.shares_gone.items ≡ map share_gone (changed_students old rows)
   pub students : new.students.items ≡ map student_share_put
       (share_rows_of (changed_students old rows) (map student_share_row (student_shares I rows)))
   pub parts : new.parts.items ≡ map part_share_put (part_rows (shares_of I rows T))

@@ -9,6 +9,7 @@ ghost use Rattle.office_records.specs.Stands.{IsKept};
 ghost use Rattle.office_store.specs.Faults.{IsOfDatabase};
 ghost use Rattle.office_tables.specs.Alterations.{Undone};
 
+use crate::kept_bytes::check_bytes;
 use crate::office::Office;
 use exam_model::{Enrolments, Instance};
 use office_model::StoreFault;
@@ -75,5 +76,6 @@ fn kept_in<S: Alter>(
         Err(_) => return Err(StoreFault::Store),
     };
     let kept = kept_of(alloc, &found)?;
+    check_bytes(alloc, conn, &found.batches)?;
     Ok(kept)
 }

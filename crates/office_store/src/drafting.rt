@@ -18,6 +18,7 @@ use exam_model::{Enrolments, ExamNo, Instance, Timetable};
 use exam_score::{Parts, score};
 use office_files::read_solution;
 use office_model::StoreFault;
+use office_records::draft_row;
 use office_tables::{DraftRow, SlotRow, drafts_of};
 use sqlite::Alter;
 use std::alloc::{AllocError, Global};
@@ -125,23 +126,6 @@ fn first_timetable(alloc: Global, instance: &Instance, text: &[u8]) -> Result<Ti
     match read_solution(alloc, text, instance) {
         Ok(timetable) => Ok(timetable),
         Err(fault) => Err(StoreFault::of_file(fault)),
-    }
-}
-
-pub(crate) fn draft_row(number: u32, parts: Parts) -> DraftRow
-    ensures number { result.no ≡ number }
-    ensures parts { parts_of result ≡ parts }
-    ensures amounts { AreAmounts result }
-{
-    DraftRow {
-        no: number,
-        in_row: parts.row(),
-        in_day: parts.day(),
-        spread: parts.spread(),
-        mixed: parts.mixed(),
-        front: parts.front(),
-        period: parts.period(),
-        room: parts.room(),
     }
 }
 

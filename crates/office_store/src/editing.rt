@@ -11,7 +11,6 @@ ghost use Rattle.office_model.specs.Commands.{draft_edited, named};
 ghost use Rattle.office_store.specs.Reading.{AreRowsOf};
 ghost use Rattle.office_store.specs.Running.{Edits, Runs};
 
-use crate::drafting::draft_row;
 use crate::office::Office;
 use crate::reading::{DraftRows, draft_of};
 use crate::transactions::put_edit;
@@ -19,6 +18,7 @@ use exam_draft::{Draft, Edit};
 use exam_model::{Enrolments, Instance, Timetable};
 use exam_score::Parts;
 use office_model::{Refusal, StoreFault};
+use office_records::draft_row;
 use sqlite::Alter;
 use std::alloc::Global;
 

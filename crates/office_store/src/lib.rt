@@ -2,10 +2,14 @@
 #![tactic(auto)]
 
 mod adopting;
+mod batch_rows;
 mod drafting;
 mod editing;
+mod enrolling;
 mod fault;
+mod kept_bytes;
 mod loading;
+mod new_batch;
 mod new_publication;
 mod office;
 mod opening;
@@ -21,4 +25,4 @@ mod viewing;
 
 pub use exam_draft::Edit;
 pub use office::Office;
-pub use office_model::{CandidateView, Loaded, Published, Refusal, StoreFault};
+pub use office_model::{CandidateView, Counts, Loaded, Published, Refusal, StoreFault};

@@ -13,12 +13,13 @@ ghost use Rattle.office_model.specs.Office.{AreRecords, IsOffice, Records};
 ghost use Rattle.office_model.specs.Publishing.{rows_now};
 ghost use Rattle.office_records.specs.Memory.{memory_of};
 ghost use Rattle.office_records.specs.Publications.{StandsPublished, placed_from, stored_seat};
+ghost use Rattle.office_records.specs.SeatsStored.{seat_rows_of};
 ghost use Rattle.office_records.specs.SharesStored.{HasFewParts, part_rows, share_rows_of};
 ghost use Rattle.office_records.specs.SharesStored.{student_share_row};
 ghost use Rattle.office_store.specs.Judging.{listed};
 ghost use Rattle.office_store.specs.NewPublications.{ArePutIn, AreSmallShares, Permits, Publishes};
-ghost use Rattle.office_store.specs.NewPublications.{part_share_put, placement_put, seat_put};
-ghost use Rattle.office_store.specs.NewPublications.{share_gone, student_share_put};
+ghost use Rattle.office_store.specs.NewPublications.{her_seats_gone, part_share_put, placement_put};
+ghost use Rattle.office_store.specs.NewPublications.{seat_put, share_gone, student_share_put};
 ghost use Rattle.office_store.specs.Reading.{AreRowsOf};
 ghost use Rattle.office_store.specs.Running.{Tells};
 ghost use Rattle.office_tables.specs.Amounts.{ArePartAmounts, AreStudentAmounts};
@@ -30,9 +31,12 @@ use exam_model::{Enrolments, Instance, StudentNo, Timetable};
 use exam_publish::{SeatRow, Shares, changed, permit, seats, shares};
 use exam_score::Parts;
 use office_model::{Published, StoreFault};
-use office_records::{changed_share_rows, part_share_rows, placement_rows, seat_rows, text_of};
+use office_records::{
+    changed_seat_rows, changed_share_rows, part_share_rows, placement_rows, text_of,
+};
 use office_tables::{
-    DeleteStudentShare, InsertPartShare, InsertPlacement, InsertSeat, InsertStudentShare,
+    DeleteStudentSeats, DeleteStudentShare, InsertPartShare, InsertPlacement, InsertSeat,
+    InsertStudentShare,
 };
 use std::alloc::{AllocError, Global};
 
@@ -41,9 +45,11 @@ use std::alloc::{AllocError, Global};
 pub(crate) struct NewPublication {
     pub(crate) text: Vec<u8>,
     pub(crate) placements: Vec<InsertPlacement>,
+    // Seats of candidates whose seat rows differ from those before: the old ones, and the new.
+    pub(crate) seats_gone: Vec<DeleteStudentSeats>,
     pub(crate) seats: Vec<InsertSeat>,
-    // Shares of candidates whose seat rows differ from those before: the old ones, and the new.
-    pub(crate) gone: Vec<DeleteStudentShare>,
+    // Shares of these candidates, likewise.
+    pub(crate) shares_gone: Vec<DeleteStudentShare>,
     pub(crate) students: Vec<InsertStudentShare>,
     pub(crate) parts: Vec<InsertPartShare>,
     pub(crate) counts: Published,
@@ -134,8 +140,9 @@ fn put_together(
     let shares = shares(alloc, instance, rows, timetable)?;
     let text = text_of(alloc, instance)?;
     let placements = placements_put(alloc, timetable)?;
-    let seats = seats_put(alloc, rows)?;
-    let gone = shares_gone(alloc, &candidates)?;
+    let seats_gone = seats_gone(alloc, &candidates)?;
+    let seats = seats_put(alloc, rows, &candidates)?;
+    let shares_gone = shares_gone(alloc, &candidates)?;
     let students = student_shares_put(alloc, &shares, &candidates)?;
     let parts = part_shares_put(alloc, &shares)?;
     let counts = Published {
@@ -145,16 +152,17 @@ fn put_together(
     Ok(NewPublication {
         text,
         placements,
+        seats_gone,
         seats,
-        gone,
+        shares_gone,
         students,
         parts,
         counts,
     })
 }
 
-// The candidates whose shares are written anew: all whose seat rows differ from those before, be it
-// by their places alone.
+// The candidates whose seats and shares are written anew: all whose seat rows differ from those
+// before, be it by their places alone.
 fn rewritten(alloc: Global, old: &[SeatRow], rows: &[SeatRow]) -> Result<Vec<StudentNo>, AllocError>
     requires old_in_order { RowsInOrder old.now }
     requires new_in_order { RowsInOrder rows.now }
@@ -187,10 +195,36 @@ fn placements_put(alloc: Global, timetable: &Timetable) -> Result<Vec<InsertPlac
         .collect(alloc)
 }
 
-fn seats_put(alloc: Global, rows: &[SeatRow]) -> Result<Vec<InsertSeat>, AllocError>
-    ensures { IfOk result (λ put. put.items ≡ map seat_put (map stored_seat rows.now)) }
+fn seats_gone(
+    alloc: Global,
+    candidates: &[StudentNo],
+) -> Result<Vec<DeleteStudentSeats>, AllocError>
+    ensures { IfOk result (λ put. put.items ≡ map her_seats_gone candidates.now) }
 {
-    let rows = seat_rows(alloc, rows)?;
+    candidates
+        .iter()
+        .map(|candidate| her_seats_gone(*candidate))
+        .collect(alloc)
+}
+
+fn her_seats_gone(candidate: StudentNo) -> DeleteStudentSeats
+    ensures { result ≡ her_seats_gone candidate }
+{
+    DeleteStudentSeats {
+        student: candidate.get(),
+    }
+}
+
+fn seats_put(
+    alloc: Global,
+    rows: &[SeatRow],
+    candidates: &[StudentNo],
+) -> Result<Vec<InsertSeat>, AllocError>
+    requires { IsAscending candidates.now }
+    ensures { IfOk result (λ put. put.items
+        ≡ map seat_put (seat_rows_of candidates.now (map stored_seat rows.now))) }
+{
+    let rows = changed_seat_rows(alloc, rows, candidates)?;
     rows.iter()
         .map(|row| InsertSeat { row: *row })
         .collect(alloc)

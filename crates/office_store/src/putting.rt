@@ -10,8 +10,7 @@ ghost use Rattle.office_store.specs.NewPublications.{AreSmallShares};
 use crate::fault::Failed;
 use crate::new_publication::NewPublication;
 use office_tables::{
-    Alteration, Both, DeleteMeta, DeletePartShares, DeletePlacements, DeleteSeats, Each,
-    InsertMeta, transact,
+    Alteration, Both, DeleteMeta, DeletePartShares, DeletePlacements, Each, InsertMeta, transact,
 };
 use sqlite::{Alter, Connection, Error, Transaction};
 
@@ -44,7 +43,8 @@ impl Alteration for NewPublication {
     }
 }
 
-// The session as one of which something is published, its places and its seats.
+// The session as one of which something is published, its places anew, and the seats of candidates
+// that go and those that come: first all that go, so that each seat is free for who comes.
 fn put_places<S: Alter>(tx: &mut Transaction<'_, S>, new: &NewPublication) -> Result<(), Error>
     ensures same_reference { tx.new.conn.ghost_name ≡ tx.old.conn.ghost_name }
     ensures makes { Changes S.Store (places_put new.now) tx.old.conn.now tx.new.conn.now result }
@@ -64,7 +64,9 @@ fn put_places<S: Alter>(tx: &mut Transaction<'_, S>, new: &NewPublication) -> Re
         },
     };
     let seats = Both {
-        first: DeleteSeats,
+        first: Each {
+            alterations: &new.seats_gone,
+        },
         second: Each {
             alterations: &new.seats,
         },
@@ -83,7 +85,7 @@ fn put_shares<S: Alter>(tx: &mut Transaction<'_, S>, new: &NewPublication) -> Re
 {
     let students = Both {
         first: Each {
-            alterations: &new.gone,
+            alterations: &new.shares_gone,
         },
         second: Each {
             alterations: &new.students,

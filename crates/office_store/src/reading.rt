@@ -12,14 +12,13 @@ ghost use Rattle.office_store.specs.Judging.{draft_judged, listed};
 ghost use Rattle.office_store.specs.Reading.{AreRowsOf, shown};
 ghost use Rattle.office_store.specs.Running.{Does, IsAwake, IsStill, Now, Runs};
 
-use crate::drafting::draft_row;
 use crate::fault::Failed;
 use crate::office::Office;
 use exam_model::{Enrolments, Instance, Timetable};
 use exam_rules::{Breach, breaches};
 use exam_score::{Parts, score};
 use office_model::StoreFault;
-use office_records::timetable_of;
+use office_records::{draft_row, timetable_of};
 use office_tables::{DraftRow, SlotRow, slots_of};
 use sqlite::Alter;
 use std::alloc::Global;

@@ -1,18 +1,16 @@
 -- What the parts that are found tell of the tables, and what readers in a row leave.
-use Rattle.std.proofs.Common.{◌≡◌, ◌↔◌, inl, inr, Bool, List, [], length, map, Option, Some, None, sym, ap, subst, ◌∙◌, IsTrue, arith}
+use Rattle.std.proofs.Common.{◌≡◌, inl, inr, map, Option, Some, None, sym, ap, subst, ◌∙◌, arith}
 use Rattle.std.specs.Prelude.{Vec}
 use Rattle.std.specs.declared.alloc.Global.{Global}
-use Rattle.std.proofs.lemmas.List.{nil_from_length, length-map}
-use Rattle.std.proofs.lemmas.List.Sorted.{length_permutation}
-use Rattle.sqlite_value.specs.Order.{Row}
 use Rattle.sqlite.specs.Effect.{Database, IsDatabase}
 use Rattle.sqlite.specs.State.{State, HasCleanDisk, IsUnchanged}
 use Rattle.sqlite.proofs.StateLemmas.{survives_then}
-use Rattle.office_tables.specs.Adopting.{IsUnbatched, IsFoundSession, IsFoundDrafts, IsFoundPublication, IsAdopted, IsSession, IsDrafts, IsPublication, IsWhole}
+use Rattle.office_tables.specs.Adopting.{IsFoundSession, IsFoundDrafts, IsFoundPublication, IsFoundBatches, IsAdopted, IsSession, IsDrafts, IsPublication, IsWhole}
 use Rattle.office_tables.specs.declared.found.Found.{Found}
 use Rattle.office_tables.specs.declared.found.FoundDrafts.{FoundDrafts}
 use Rattle.office_tables.specs.declared.found.FoundPublication.{FoundPublication}
 use Rattle.office_tables.specs.declared.found.FoundSession.{FoundSession}
+use Rattle.office_tables.specs.declared.rows.BatchCountsRow.{BatchCountsRow}
 use Rattle.office_tables.specs.declared.rows.MetaRow.{MetaRow}
 use Rattle.office_tables.specs.declared.rows.OwnerRow.{OwnerRow}
 use Rattle.office_tables.specs.declared.rows.EnrolRow.{EnrolRow}
@@ -25,8 +23,7 @@ use Rattle.office_tables.specs.declared.rows.PartShareRow.{PartShareRow}
 use Rattle.office_tables.specs.Readings.{IsFound, IsFoundMeta, HasTables, Looks}
 use Rattle.office_tables.specs.Records.{FitsOwner, FitsEnrol, FitsDraft, FitsSlot, FitsPlacement, FitsSeat, FitsStudentShare, FitsPartShare}
 use Rattle.office_schema.specs.Schema.{office_schema}
-use Rattle.office_tables.specs.Tables.{Tables, Stands, Holds, keyed, keyless, meta_row, owner_row, enrol_row, draft_row, slot_row, placed_row, seat_row, share_student_row, share_part_row, batch_row}
-use Rattle.office_tables.proofs.Frames.{holds_none}
+use Rattle.office_tables.specs.Tables.{Holds, keyed, keyless, meta_row, owner_row, enrol_row, draft_row, slot_row, placed_row, seat_row, share_student_row, share_part_row}
 use Rattle.office_tables.proofs.Reading.{keeps_after}
 
 -- ---- readers in a row
@@ -149,41 +146,34 @@ publication_found db placements seats students parts p s n k None (inr (inr (inr
     λ t plain stands. subst (IsFound FitsPartShare share_part_row keyless (db.trees 12)) none k
     t.share_part plain.share_part stands.share_part
 
--- a table that holds no typed row has none
-none_stored : {X : Type 0} (show : Row → Row) (row_of : X → Row) (xs : List X) (stored : List Row)
-    → xs ≡ [] → Holds show (map row_of xs) stored → stored ≡ []
-none_stored show row_of xs stored none holds =
-    let long = length_permutation _ _ holds.same in
-    nil_from_length stored
-    (omega (arith, long, length-map stored show, ap (λ l. length (map row_of l)) none))
-
-unbatched : (db : Database) (t : Tables) → IsUnbatched t → Stands db t → db.trees 14 ≡ []
-unbatched db t plain stands = none_stored keyed batch_row t.batch _ plain.batch stands.batch
-
 pub rows_found : (db : Database) → db.schema ≡ office_schema
     → (session : Option FoundSession) (drafts : Option FoundDrafts)
-    (publication : Option FoundPublication) (batches : Bool)
+    (publication : Option FoundPublication) (batches : Option (Vec BatchCountsRow Global))
     → IsFoundSession db session → IsFoundDrafts db drafts → IsFoundPublication db publication
-    → IsTrue batches ↔ (db.trees 14 ≡ [])
+    → IsFoundBatches db batches
     → (found : Option Found) → IsWhole session drafts publication batches found
     → IsAdopted db found
 rows_found db schema session drafts publication batches s d p b (Some found) is =
     let here = subst (IsFoundSession db) is.0 s in
     let plan = subst (IsFoundDrafts db) is.1 d in
     let public = subst (IsFoundPublication db) is.2 p in
-    record {
-      schema = schema;
-      meta = here.meta;
-      owner = here.owner;
-      enrol = here.enrol;
-      draft = plan.draft;
-      slot = plan.slot;
-      placed = public.placed;
-      seat = public.seat;
-      share_student = public.share_student;
-      share_part = public.share_part;
-      batch = holds_none keyed _ (b.0 is.3);
-    }
+    let kept = subst (IsFoundBatches db) is.3 b in (
+      kept.0,
+      kept.1,
+      record {
+        schema = schema;
+        meta = here.meta;
+        owner = here.owner;
+        enrol = here.enrol;
+        draft = plan.draft;
+        slot = plan.slot;
+        placed = public.placed;
+        seat = public.seat;
+        share_student = public.share_student;
+        share_part = public.share_part;
+        batch = kept.2;
+      },
+    )
 rows_found db schema session drafts publication batches s d p b None (inl none) =
     subst (IsFoundSession db) none s
 rows_found db schema session drafts publication batches s d p b None (inr (inl none)) =
@@ -191,6 +181,4 @@ rows_found db schema session drafts publication batches s d p b None (inr (inl n
 rows_found db schema session drafts publication batches s d p b None (inr (inr (inl none))) =
     subst (IsFoundPublication db) none p
 rows_found db schema session drafts publication batches s d p b None (inr (inr (inr none))) =
-    λ t plain stands.
-    let yes = b.1 (unbatched db t plain stands) in
-    absurd (cc)
+    λ t plain stands. subst (IsFoundBatches db) none b t.batch plain.batch stands.batch

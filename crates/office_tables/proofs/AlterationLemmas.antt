@@ -3,10 +3,11 @@ use Rattle.std.proofs.Common.{◌≡◌, List, [], ◌∷◌, ◌++◌, map, rev
 use Rattle.std.specs.List.{list_any}
 use Rattle.std.proofs.lemmas.List.{reverse-append}
 use Rattle.office_tables.specs.Alterations.{after_all}
-use Rattle.office_tables.specs.Changes.{with_placement, with_seat, with_student_share, without_student_share, with_part_share}
+use Rattle.office_tables.specs.Changes.{with_draft, with_placement, with_seat, without_student_seats, with_student_share, without_student_share, with_part_share}
 use Rattle.office_tables.specs.Tables.{Tables}
+use Rattle.office_tables.specs.declared.drafts.InsertDraft.{InsertDraft}
 use Rattle.office_tables.specs.declared.placing.InsertPlacement.{InsertPlacement}
-use Rattle.office_tables.specs.declared.rows.StudentShareRow.{StudentShareRow}
+use Rattle.office_tables.specs.declared.seating.DeleteStudentSeats.{DeleteStudentSeats}
 use Rattle.office_tables.specs.declared.seating.InsertSeat.{InsertSeat}
 use Rattle.office_tables.specs.declared.sharing.DeleteStudentShare.{DeleteStudentShare}
 use Rattle.office_tables.specs.declared.sharing.InsertPartShare.{InsertPartShare}
@@ -18,6 +19,14 @@ first_last : {X : Type 0} (x : X) (xs ys : List X)
 first_last x xs ys =
     sym (append_assoc (reverse xs) (x ∷ []) ys)
     ∙ ap (λ l. l ++ ys) (sym (reverse-append (x ∷ []) xs))
+
+pub drafts_put : (its : List InsertDraft) (t : Tables)
+    → after_all (λ it. with_draft it.row) its t
+    ≡ record t { draft = reverse (map (λ it. it.row) its) ++ t.draft }
+drafts_put [] t = refl
+drafts_put (it ∷ rest) t =
+    drafts_put rest (with_draft it.row t)
+    ∙ ap (λ l. record t { draft = l }) (first_last it.row (map (λ x. x.row) rest) t.draft)
 
 pub placements_put : (its : List InsertPlacement) (t : Tables)
     → after_all (λ it. with_placement it.row) its t
@@ -75,6 +84,21 @@ twice {X} p q (x ∷ xs) = go (p x) (twice p q xs)
     go true more = more
     go false more = inner (q x) more
 
+-- nobody is taken out
+all_left : {X : Type 0} (xs : List X) → filter (λ _. true) xs ≡ xs
+all_left [] = refl
+all_left (x ∷ xs) = ap (λ l. x ∷ l) (all_left xs)
+
+-- the seats of these students are gone
+pub student_seats_gone : (its : List DeleteStudentSeats) (t : Tables)
+    → after_all (λ it. without_student_seats it.student) its t
+    ≡ record t { seat = filter (λ r. not (list_any (λ it. r.student == it.student) its)) t.seat }
+student_seats_gone [] t = ap (λ l. record t { seat = l }) (sym (all_left t.seat))
+student_seats_gone (it ∷ rest) t =
+    student_seats_gone rest (without_student_seats it.student t)
+    ∙ ap (λ l. record t { seat = l })
+    (twice (λ r. r.student == it.student) (λ r. list_any (λ x. r.student == x.student) rest) t.seat)
+
 -- the shares of these students are gone
 pub student_shares_gone : (its : List DeleteStudentShare) (t : Tables)
     → after_all (λ it. without_student_share it.student) its t
@@ -82,11 +106,8 @@ pub student_shares_gone : (its : List DeleteStudentShare) (t : Tables)
       share_student = filter (λ r. not (list_any (λ it. r.student == it.student) its))
           t.share_student;
     }
-student_shares_gone [] t = ap (λ l. record t { share_student = l }) (sym (all t.share_student))
-  where
-    all : (xs : List StudentShareRow) → filter (λ _. true) xs ≡ xs
-    all [] = refl
-    all (x ∷ xs) = ap (λ l. x ∷ l) (all xs)
+student_shares_gone [] t =
+    ap (λ l. record t { share_student = l }) (sym (all_left t.share_student))
 student_shares_gone (it ∷ rest) t =
     student_shares_gone rest (without_student_share it.student t)
     ∙ ap (λ l. record t { share_student = l })

@@ -15,7 +15,7 @@ use Rattle.office_tables.specs.declared.rows.DraftRow.{DraftRow}
 use Rattle.office_schema.specs.Schema.{office_schema, draft_table}
 use Rattle.office_tables.specs.Tables.{Tables, Stands, keyed, draft_row}
 use Rattle.office_tables.proofs.Casts.{cast_int, cast_null}
-use Rattle.office_tables.proofs.Frames.{draft_changed}
+use Rattle.office_tables.proofs.Frames.{draft_changed, holds_none}
 use Rattle.office_tables.proofs.Statements.{inserts, deletes}
 use Rattle.office_tables.proofs.TableLemmas.{holds_more, rowids_filter}
 use Rattle.office_tables.proofs.Queries.{answered, passes, shown_filter, left_of, equal_numbers, one_table, equals, rowids}
@@ -81,3 +81,35 @@ deleted old new number count t stands h =
     (λ r. refl) (λ x. ap not (equal_numbers x.no number)) stored t.draft stands.draft.same in
     draft_changed old.now new.now t stands done.1 (filter (λ r. not (r.no == number)) t.draft) is.tables
     (rw rows (record { rowids = rowids_filter (λ r. not (test r)) stored stands.draft.rowids; same = same }))
+
+-- ---- DELETE
+
+abbrev pub clear_text : List ℕ
+clear_text = codes "DELETE FROM draft"
+
+clear_is : command_of (understood office_schema clear_text)
+    ≡ Delete 3 (record { lets = []; body = one_table 4 [] rowids [] })
+unfolding understood everything
+clear_is = refl
+
+clear_plain : IsPlain (understood office_schema clear_text)
+unfolding understood everything
+clear_plain = (refl, refl)
+
+none_left : (xs : List Row) → filter (λ r. not true) xs ≡ []
+none_left [] = refl
+none_left (x ∷ xs) = none_left xs
+
+pub cleared : (old new : State) (count : ℕ) (t : Tables) → Stands old.now t
+    → Executes clear_text [] old new (Ok count)
+    → Stands new.now (record t { draft = [] })
+cleared old new count t stands h =
+    let done = deletes clear_text [] old new count office_schema stands.schema clear_plain
+    3 draft_table refl _ clear_is (λ taken news. refl) h in
+    let is = done.3 in
+    let stored = old.now.trees 4 in
+    let answer = answered 4 [] _ [] old.now.trees [] done.0 done.2 in
+    let rows : new.now.trees 4 ≡ [] =
+    is.rows ∙ left_of (λ r. true) stored done.0 stands.draft.rowids answer ∙ none_left stored in
+    draft_changed old.now new.now t stands done.1 [] is.tables
+    (holds_none keyed (new.now.trees 4) rows)

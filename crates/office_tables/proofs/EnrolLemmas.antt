@@ -1,9 +1,9 @@
 -- What each statement on the table enrol means, and what it makes of the tables.
-use Rattle.std.proofs.Common.{◌≡◌, ℕ, List, [], ◌∷◌, map, codes, true, Ok, refl, ◌∙◌}
+use Rattle.std.proofs.Common.{◌≡◌, ℕ, pos, List, [], ◌∷◌, map, filter, not, ◌==◌, ◌&&◌, codes, true, Ok, refl, ap, ◌∙◌}
 use Rattle.sqlite_trees.specs.Tree.{put_row}
 use Rattle.sqlite_value.specs.declared.value.Value.TheVariants.{Null, Int}
 use Rattle.sqlite_value.specs.Order.{Row}
-use Rattle.sqlite.specs.Command.TheVariants.{Insert}
+use Rattle.sqlite.specs.Command.TheVariants.{Insert, Delete}
 use Rattle.sqlite.specs.Edit.{next_rowid, are_fresh}
 use Rattle.sqlite.specs.Listing.{understood}
 use Rattle.sqlite.specs.Source.TheVariants.{Values}
@@ -16,8 +16,9 @@ use Rattle.office_schema.specs.Schema.{office_schema, enrol_table}
 use Rattle.office_tables.specs.Tables.{Tables, Stands, keyless, enrol_row}
 use Rattle.office_tables.proofs.Casts.{cast_int, cast_null}
 use Rattle.office_tables.proofs.Frames.{enrol_changed}
-use Rattle.office_tables.proofs.Statements.{inserts}
-use Rattle.office_tables.proofs.TableLemmas.{holds_more}
+use Rattle.office_tables.proofs.Statements.{inserts, deletes}
+use Rattle.office_tables.proofs.TableLemmas.{holds_more, rowids_filter}
+use Rattle.office_tables.proofs.Queries.{answered, passes, shown_filter, left_of, column_less, equal_pairs, one_table, equals, rowids}
 
 -- ---- INSERT
 
@@ -48,3 +49,45 @@ added old new row count t stands h =
     let fresh : are_fresh stored (new_row ∷ []) ≡ true = rw (cast_null) at is.fresh in
     enrol_changed old.now new.now t stands done.0 (row ∷ t.enrol) is.tables
     (rw rows (holds_more keyless (map enrol_row t.enrol) stored new_row (enrol_row row) refl refl fresh stands.enrol))
+
+-- ---- DELETE WHERE student = ?1 AND exam = ?2
+
+abbrev pub delete_text : List ℕ
+delete_text = codes "DELETE FROM enrol WHERE student = ?1 AND exam = ?2"
+
+delete_is : command_of (understood office_schema delete_text)
+    ≡ Delete 2 (record { lets = []; body = one_table 2 (equals 1 0 ∷ equals 2 1 ∷ []) rowids [] })
+unfolding understood everything
+delete_is = refl
+
+delete_plain : IsPlain (understood office_schema delete_text)
+unfolding understood everything
+delete_plain = (refl, refl)
+
+pub deleted : (old new : State) (student exam : ℕ) (count : ℕ) (t : Tables) → Stands old.now t
+    → Executes delete_text (Int (pos student) ∷ Int (pos exam) ∷ []) old new (Ok count)
+    → Stands new.now (record t {
+      enrol = filter (λ r. not ((r.student == student) && (r.exam == exam))) t.enrol;
+    })
+deleted old new student exam count t stands h =
+    let params = Int (pos student) ∷ Int (pos exam) ∷ [] in
+    let done = deletes delete_text params old new count office_schema stands.schema delete_plain
+    2 enrol_table refl _ delete_is (λ taken news. refl) h in
+    let is = done.3 in
+    let stored = old.now.trees 2 in
+    let test = passes params (equals 1 0 ∷ equals 2 1 ∷ []) in
+    let answer = answered 2 (equals 1 0 ∷ equals 2 1 ∷ []) _ [] old.now.trees params done.0
+    done.2 in
+    let rows : new.now.trees 2 ≡ filter (λ r. not (test r)) stored =
+    is.rows ∙ left_of test stored done.0 stands.enrol.rowids answer in
+    let same = shown_filter keyless enrol_row (λ r. not (test r))
+    (λ (row : Row). not (passes params (equals 0 0 ∷ equals 1 1 ∷ []) row))
+    (λ r. not ((r.student == student) && (r.exam == exam)))
+    (λ r. rw (column_less r 0, column_less r 1) refl)
+    (λ x. ap not (equal_pairs x.student student x.exam exam)) stored t.enrol stands.enrol.same in
+    enrol_changed old.now new.now t stands done.1
+    (filter (λ r. not ((r.student == student) && (r.exam == exam))) t.enrol) is.tables
+    (rw rows (record {
+      rowids = rowids_filter (λ r. not (test r)) stored stands.enrol.rowids;
+      same = same;
+    }))

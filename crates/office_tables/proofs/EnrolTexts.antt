@@ -14,10 +14,10 @@ use Rattle.sqlite_tied.specs.Compute.{everything}
 use Rattle.office_schema.specs.Schema.{office_schema}
 use Rattle.office_tables.specs.Asking.{asks, IsReadOf, Means}
 use Rattle.office_tables.specs.declared.rows.EnrolRow.{EnrolRow}
-use Rattle.office_tables.specs.Records.{enrol_of}
 use Rattle.office_tables.specs.Tables.{Tables, Stands, keyless, enrol_row}
 use Rattle.office_tables.proofs.OrderLemmas.{Rises, read, rising, table_shown}
 use Rattle.office_tables.proofs.Queries.{column_less, equal_numbers, equals, passes}
+use Rattle.office_tables.proofs.RecordsBack.{enrol_of}
 
 abbrev pub enrol_columns : List Term
 enrol_columns = col 1 1 ∷ col 1 2 ∷ []
@@ -48,13 +48,13 @@ enrols_of_means = record {
 
 pub enrols_of_read : (db : Database) (number : ℕ) (t : Tables) → Stands db t
     → (found : List EnrolRow)
-    → IsReadOf enrol_of (Int (pos number) ∷ []) enrols_of_query db.trees found
+    → IsReadOf enrol_row 2 (Int (pos number) ∷ []) enrols_of_query db.trees found
     → IsPermutation (filter (λ r. r.student == number) t.enrol) found
     × Rises (λ (x : EnrolRow). x.exam ∷ []) found
 enrols_of_read db number t stands found is =
     let params : Row = Int (pos number) ∷ [] in
-    read enrol_of enrol_row (λ x. refl) (inner 2 end) (equals 1 0 ∷ []) enrol_columns (1 ∷ [])
-    (λ (x : EnrolRow). x.exam ∷ []) (λ x. refl) db.trees params
+    read enrol_of enrol_row 2 (λ x. refl) (λ x. refl) (inner 2 end) (equals 1 0 ∷ []) enrol_columns
+    (1 ∷ []) (λ (x : EnrolRow). x.exam ∷ []) (λ x. refl) db.trees params
     (filter (λ r. r.student == number) t.enrol) found
     (table_shown enrol_row keyless enrol_picked params 2 (equals 1 0 ∷ []) enrol_columns enrol_shown
     (λ x. refl) (passes params (equals 0 0 ∷ [])) (λ r.

@@ -7,7 +7,7 @@ use Rattle.sqlite_trees.specs.Tree.{Trees}
 use Rattle.sqlite_schema.specs.declared.schema.Table.{Table}
 use Rattle.sqlite.specs.Effect.{Database}
 use Rattle.office_schema.specs.Schema.{office_schema}
-use Rattle.office_tables.specs.Tables.{Tables, Stands, Holds, Meta, keyless, keyed, meta_row, owner_row, enrol_row, draft_row, slot_row, placed_row, seat_row, share_student_row, share_part_row}
+use Rattle.office_tables.specs.Tables.{Tables, Stands, Holds, Meta, Batch, keyless, keyed, meta_row, owner_row, enrol_row, draft_row, slot_row, placed_row, seat_row, share_student_row, share_part_row, batch_row}
 use Rattle.office_tables.specs.declared.rows.OwnerRow.{OwnerRow}
 use Rattle.office_tables.specs.declared.rows.EnrolRow.{EnrolRow}
 use Rattle.office_tables.specs.declared.rows.DraftRow.{DraftRow}
@@ -173,4 +173,20 @@ module _ (old new : Database) (t : Tables) (stands : Stands old t) (schema : new
     share_student = still keyed _ _ _ (others.1.1.1.1.1.1.1.0 (omega arith)) stands.share_student;
     share_part = held;
     batch = still keyed _ _ _ (others.1.1.1.1.1.1.1.1.1.0 (omega arith)) stands.batch;
+  }
+
+  pub batch_changed : (rows : List Batch) → Others 14 old.trees new.trees
+      → Holds keyed (map batch_row rows) (new.trees 14) → Stands new (record t { batch = rows })
+  batch_changed rows others held = record {
+    schema = schema;
+    meta = still keyed _ _ _ (others.0 (omega arith)) stands.meta;
+    owner = still keyed _ _ _ (others.1.0 (omega arith)) stands.owner;
+    enrol = still keyless _ _ _ (others.1.1.0 (omega arith)) stands.enrol;
+    draft = still keyed _ _ _ (others.1.1.1.0 (omega arith)) stands.draft;
+    slot = still keyless _ _ _ (others.1.1.1.1.0 (omega arith)) stands.slot;
+    placed = still keyed _ _ _ (others.1.1.1.1.1.0 (omega arith)) stands.placed;
+    seat = still keyless _ _ _ (others.1.1.1.1.1.1.0 (omega arith)) stands.seat;
+    share_student = still keyed _ _ _ (others.1.1.1.1.1.1.1.0 (omega arith)) stands.share_student;
+    share_part = still keyless _ _ _ (others.1.1.1.1.1.1.1.1.0 (omega arith)) stands.share_part;
+    batch = held;
   }

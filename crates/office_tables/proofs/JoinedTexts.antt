@@ -18,11 +18,11 @@ use Rattle.office_schema.specs.Schema.{office_schema}
 use Rattle.office_tables.specs.Asking.{asks, IsReadOf, Means}
 use Rattle.office_tables.specs.declared.rows.EnrolRow.{EnrolRow}
 use Rattle.office_tables.specs.declared.rows.PlacedRow.{PlacedRow}
-use Rattle.office_tables.specs.Records.{placement_of}
 use Rattle.office_tables.specs.Selections.{placed_of}
 use Rattle.office_tables.specs.Tables.{Tables, Stands, keyed, keyless, enrol_row, placed_row}
 use Rattle.office_tables.proofs.OrderLemmas.{Rises, read, rising}
 use Rattle.office_tables.proofs.Queries.{column_less, column_later, equal_pairs, equals, map_agree}
+use Rattle.office_tables.proofs.RecordsBack.{placement_of}
 
 -- ---- the matches in two tables
 
@@ -162,7 +162,7 @@ hers_alone student placed (e ∷ enrols) =
 
 pub placements_of_read : (db : Database) (student : ℕ) (t : Tables) → Stands db t
     → (found : List PlacedRow)
-    → IsReadOf placement_of (Int (pos student) ∷ []) placements_of_query db.trees found
+    → IsReadOf placed_row 3 (Int (pos student) ∷ []) placements_of_query db.trees found
     → IsPermutation (placed_of student t) found × Rises (λ (x : PlacedRow). x.exam ∷ []) found
 placements_of_read db student t stands found is =
     let params : Row = Int (pos student) ∷ [] in
@@ -175,5 +175,5 @@ placements_of_read db student t stands found is =
     rw (all_suited params db.trees, sym (hers_alone student t.placed t.enrol))
     (IsPermutation-trans _ _ _ stored
     (rw (flat_map-map (suited params db.trees) enrol_row t.enrol) typed)) in
-    read placement_of placed_row (λ x. refl) (inner 2 (inner 7 end)) tests columns (0 ∷ [])
-    (λ (x : PlacedRow). x.exam ∷ []) (λ x. refl) db.trees params (placed_of student t) found rows is
+    read placement_of placed_row 3 (λ x. refl) (λ x. refl) (inner 2 (inner 7 end)) tests columns
+    (0 ∷ []) (λ (x : PlacedRow). x.exam ∷ []) (λ x. refl) db.trees params (placed_of student t) found rows is

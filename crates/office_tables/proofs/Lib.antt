@@ -1,6 +1,9 @@
 pub mod AdoptLemmas
 pub mod AlterationLemmas
 pub mod AskLemmas
+pub mod BatchFound
+pub mod BatchLemmas
+pub mod BatchTexts
 pub mod Casts
 pub mod Creates
 pub mod DraftLemmas
@@ -24,6 +27,7 @@ pub mod PublishedTexts
 pub mod Queries
 pub mod Reading
 pub mod RecordLemmas
+pub mod RecordsBack
 pub mod ShareLemmas
 pub mod ShareTexts
 pub mod SlotLemmas

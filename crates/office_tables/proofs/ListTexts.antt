@@ -1,10 +1,10 @@
 -- The texts that list whole tables.
 use Rattle.std.proofs.Common.{◌≡◌, ℕ, List, [], ◌∷◌, codes, take, refl, sym, ap, arith}
 use Rattle.std.specs.List.{AllByRecursion}
-use Rattle.sqlite_trees.proofs.ListLemmas.{all_weaker}
+use Rattle.sqlite_trees.proofs.ListLemmas.{all_of, all_weaker}
 use Rattle.sqlite_value.specs.declared.keys.Collation.TheVariants.{Binary}
 use Rattle.sqlite_value.specs.Keys.{ascending}
-use Rattle.sqlite_value.specs.Order.{column}
+use Rattle.sqlite_value.specs.Order.{Row, column}
 use Rattle.sqlite.specs.Effect.{Database, IsDatabase}
 use Rattle.sqlite.specs.Listing.{understood}
 use Rattle.sqlite.specs.Term.{Term, col}
@@ -282,11 +282,33 @@ share_part_lists = record { terms = share_part_terms; lists = share_part_is; who
 -- ---- batch
 
 abbrev pub batch_text : List ℕ
-batch_text = codes "SELECT rowid FROM batch"
+batch_text = codes "SELECT no, added, dropped, unchanged, rowid FROM batch ORDER BY rowid"
 
-pub batch_is : Lists 14 (col 1 0 ∷ []) batch_text
+abbrev batch_terms : List Term
+batch_terms = col 1 0 ∷ col 1 3 ∷ col 1 4 ∷ col 1 5 ∷ col 1 0 ∷ []
+
+batch_is : Lists 14 batch_terms batch_text
 unfolding understood everything
-batch_is = record { order = []; names = codes "no" ∷ []; selects = refl; unlisted = refl; plain = (refl, refl) }
+batch_is = record {
+  order = (col 1 0, ascending Binary) ∷ [];
+  names = codes "no" ∷ codes "added" ∷ codes "dropped" ∷ codes "unchanged" ∷ codes "no" ∷ [];
+  selects = refl;
+  unlisted = refl;
+  plain = (refl, refl);
+}
+
+-- the numbers of a stored batch
+abbrev pub counts_shown : Row → Row
+counts_shown r = column r 0 ∷ column r 3 ∷ column r 4 ∷ column r 5 ∷ []
+
+batch_whole : (db : Database) → db.schema ≡ office_schema → IsDatabase db
+    → AllByRecursion (λ r. IsListed 4 counts_shown r (listed batch_terms r)) (db.trees 14)
+batch_whole db is sound =
+    all_of (λ r. IsListed 4 counts_shown r (listed batch_terms r))
+    (λ r. record { columns = refl; number = refl; wide = omega arith }) (db.trees 14)
+
+pub batch_lists : ListsTable 4 14 counts_shown batch_text
+batch_lists = record { terms = batch_terms; lists = batch_is; whole = batch_whole }
 
 -- ---- meta
 

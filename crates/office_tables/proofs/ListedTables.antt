@@ -1,11 +1,10 @@
 -- What a text that lists a table tells of it.
-use Rattle.std.proofs.Common.{◌≡◌, ◌≢◌, ◌↔◌, ◌≤◌, ◌<◌, ◌<ℤ◌, ◌⊎◌, inl, inr, ℕ, ℤ, List, [], ◌∷◌, ◌++◌, map, length, get_or, Option, Some, None, Result, Ok, Err, refl, sym, ap, ap₂, subst, ◌∙◌, IsTrue, IsPermutation, arith, IfOk, IfErr, OnOk}
+use Rattle.std.proofs.Common.{◌≡◌, ◌≢◌, ◌≤◌, ◌<◌, ◌<ℤ◌, ◌⊎◌, inl, inr, ℕ, ℤ, List, [], ◌∷◌, ◌++◌, map, length, get_or, Option, Some, None, Result, Ok, Err, refl, sym, ap, ap₂, subst, ◌∙◌, IsTrue, IsPermutation, arith, IfOk, IfErr, OnOk}
 use Rattle.std.specs.List.{AllByRecursion}
 use Rattle.std.specs.Prelude.{IfSome, Vec}
 use Rattle.std.specs.declared.alloc.Global.{Global}
 use Rattle.std.proofs.lemmas.Int.{ints}
-use Rattle.std.proofs.lemmas.List.{nil_from_length, length-map}
-use Rattle.std.proofs.lemmas.List.Sorted.{IsPermutation-sym, IsPermutation-trans, IsPermutation-map, length_permutation}
+use Rattle.std.proofs.lemmas.List.Sorted.{IsPermutation-sym, IsPermutation-trans, IsPermutation-map}
 use Rattle.sqlite_resolve.specs.declared.compiled.Compiled.{Compiled}
 use Rattle.sqlite_resolve.specs.declared.error.CompileError.{CompileError}
 use Rattle.sqlite_trees.specs.Tree.{rowid}
@@ -22,7 +21,8 @@ use Rattle.sqlite.specs.Term.{Term}
 use Rattle.sqlite.proofs.Callers.{IsPlain, command_of, never_commits}
 use Rattle.sqlite.proofs.StateLemmas.{survives_weaker}
 use Rattle.office_tables.specs.Asking.{Selects}
-use Rattle.office_tables.specs.Readings.{IsRead, IsFound, one_table, Lists, listed, columns_from, only_column, IsListed, HasTables}
+use Rattle.office_tables.specs.Readings.{IsRead, IsFound, one_table, Lists, listed, only_column, IsListed, HasTables}
+use Rattle.office_tables.specs.Records.{columns_from}
 use Rattle.office_schema.specs.Schema.{office_schema}
 use Rattle.office_tables.specs.Steps.{Keeps}
 use Rattle.office_tables.specs.Tables.{HasRowids}
@@ -199,14 +199,3 @@ adopted fits row_of width show terms stored rows whole same rise None none = λ 
     none (rows_wide width show terms stored rows whole same) made fit
     (IsPermutation-trans _ _ _
     (IsPermutation-sym _ _ (stored_columns width show terms stored rows whole same)) holds.same)
-
--- no row is listed where there is none
-pub vacant : (shown : List Term) (stored rows : List Row)
-    → IsPermutation (map (listed shown) stored) rows → (rows ≡ []) ↔ (stored ≡ [])
-vacant shown stored rows same =
-    let long = length_permutation _ _ same in
-    let all = length-map stored (listed shown) in (
-      λ none. nil_from_length stored (omega (arith, long, all, ap length none)),
-      λ none.
-          nil_from_length rows (omega (arith, long, all, ap length none)),
-    )

@@ -13,10 +13,11 @@ use Rattle.sqlite_tied.specs.Compute.{everything}
 use Rattle.office_schema.specs.Schema.{office_schema}
 use Rattle.office_tables.specs.Asking.{asks, IsReadOf, Means}
 use Rattle.office_tables.specs.declared.rows.MarkRow.{MarkRow}
-use Rattle.office_tables.specs.Records.{mark_of, mark_row}
+use Rattle.office_tables.specs.Records.{mark_row}
 use Rattle.office_tables.specs.Tables.{Tables, Meta, Stands, flag, keyed, meta_row}
 use Rattle.office_tables.proofs.OrderLemmas.{read, rising}
 use Rattle.office_tables.proofs.Queries.{column_later, every, map_agree, matched, passes}
+use Rattle.office_tables.proofs.RecordsBack.{mark_of}
 
 abbrev pub marks_text : List ℕ
 marks_text = codes "SELECT published FROM meta"
@@ -50,7 +51,7 @@ shown_is rows =
     ∙ sym (map-map (λ (r : Row). column r 2 ∷ []) keyed rows)
 
 marks_read : (db : Database) (t : Tables) → Stands db t → (found : List MarkRow)
-    → IsReadOf mark_of [] marks_query db.trees found → IsPermutation (map mark t.meta) found
+    → IsReadOf mark_row 1 [] marks_query db.trees found → IsPermutation (map mark t.meta) found
 marks_read db t stands found is =
     let rows = IsPermutation-map (λ (r : Row). column r 2 ∷ []) _ _ stands.meta.same in
     let typed : map (λ (r : Row). column r 2 ∷ []) (map meta_row t.meta)
@@ -60,8 +61,8 @@ marks_read db t stands found is =
     (map mark_row (map mark t.meta)) =
     rw (ap (map (eval_all columns)) (matched [] [] (db.trees 0)) ∙ shown_is (db.trees 0))
     (subst (IsPermutation _) typed rows) in
-    (read mark_of mark_row (λ x. refl) (inner 0 end) [] columns [] (λ _. []) (λ x. refl) db.trees []
-    (map mark t.meta) found shows is).0
+    (read mark_of mark_row 1 (λ x. refl) (λ x. refl) (inner 0 end) [] columns [] (λ _. [])
+    (λ x. refl) db.trees [] (map mark t.meta) found shows is).0
 
 is_one : (b : Bool) → list_any (λ (m : MarkRow). m.published == 1)
     (record { published = flag b } ∷ []) ≡ b
@@ -69,7 +70,7 @@ is_one true = refl
 is_one false = refl
 
 pub marked : (db : Database) (t : Tables) → Stands db t → (found : List MarkRow)
-    → IsReadOf mark_of [] marks_query db.trees found → (row : Meta) → t.meta ≡ row ∷ []
+    → IsReadOf mark_row 1 [] marks_query db.trees found → (row : Meta) → t.meta ≡ row ∷ []
     → list_any (λ (m : MarkRow). m.published == 1) found ≡ row.published
 marked db t stands found is row alone =
     let one = subst (λ l. IsPermutation (map mark l) found) alone

@@ -20,9 +20,10 @@ use Rattle.sqlite_rules.proofs.ListLemmas.{all_from}
 use Rattle.sqlite_keyed.proofs.SortLemmas.{sorted_unique}
 use Rattle.sqlite_sql.proofs.QueryLemmas.{key_cmp_shift}
 use Rattle.sqlite_trees.specs.Tree.{Trees, IsAscending}
-use Rattle.sqlite.specs.Query.{Join, key_cmp, sort_cmp, matches, inner, end}
+use Rattle.sqlite.specs.Query.{Query, Join, key_cmp, sort_cmp, matches, inner, end}
 use Rattle.sqlite.specs.Term.{Term, Env, lit, eval, eval_all}
 use Rattle.office_tables.specs.Asking.{asks, IsReadOf}
+use Rattle.office_tables.specs.Records.{columns_from}
 use Rattle.office_tables.specs.Selections.{IsInOrder}
 use Rattle.office_tables.proofs.AskLemmas.{arranged, unmapped}
 use Rattle.office_tables.proofs.Queries.{matched, passes, map_agree, id_map}
@@ -121,15 +122,27 @@ in_this_order Before key less rows found is ordered same up =
 
 -- ---- from matches to records
 
-module _ {R : Type 0} (record_of : Row → R) (row_of : R → Row)
-    (back : (x : R) → record_of (row_of x) ≡ x) (from : Join) (where_ shown : List Term)
-    (by : List ℕ) (key : R → List ℕ)
+-- records that show what their rows show are read where the rows are
+pub typed : {R X : Type 0} (row_of : X → Row) (row : R → X) (width : ℕ) (params : Row) (q : Query)
+    (trees : Trees) (records : List R)
+    → IsReadOf (λ r. row_of (row r)) width params q trees records
+    → IsReadOf row_of width params q trees (map row records)
+typed row_of row width params q trees records h =
+    (h.0, map-map row_of row records ∙ h.1, h.2)
+
+module _ {R : Type 0} (record_of : Row → R) (row_of : R → Row) (width : ℕ)
+    (back : (x : R) → record_of (row_of x) ≡ x)
+    (whole : (x : R) → columns_from 0 width (row_of x) ≡ row_of x) (from : Join)
+    (where_ shown : List Term) (by : List ℕ) (key : R → List ℕ)
     (keyed : (x : R) → map (column (row_of x)) by ≡ map int (key x)) where
+  itself : (xs : List R) → map record_of (map row_of xs) ≡ xs
+  itself xs = map-map record_of row_of xs ∙ id_map (λ x. record_of (row_of x)) back xs
+
   -- where the matches show these typed rows, the records are those, and they rise
   pub read : (trees : Trees) (params : Row) (xs records : List R)
       → IsPermutation (map (eval_all shown) (matches trees where_ from (params ∷ [])))
       (map row_of xs)
-      → IsReadOf record_of params (asks from where_ shown (rising shown by)) trees records
+      → IsReadOf row_of width params (asks from where_ shown (rising shown by)) trees records
       → IsPermutation xs records × Rises key records
   read trees params xs records shows h =
       let a = arranged from where_ shown (rising shown by) trees params h.0 h.2 in
@@ -137,9 +150,12 @@ module _ {R : Type 0} (record_of : Row → R) (row_of : R → Row)
       let moved = IsPermutation-trans _ _ _ (IsPermutation-sym _ _ shows)
       (IsPermutation-map (eval_all shown) _ _ a.2) in
       let u = unmapped row_of xs (map (eval_all shown) found) moved in
+      let columns : map row_of records ≡ map row_of u.0 =
+      h.1 ∙ ap (map (columns_from 0 width)) (a.1 ∙ u.1)
+      ∙ map-map (columns_from 0 width) row_of u.0
+      ∙ map_agree (λ x. columns_from 0 width (row_of x)) row_of whole u.0 in
       let is : records ≡ u.0 =
-      h.1 ∙ ap (map record_of) (a.1 ∙ u.1) ∙ map-map record_of row_of u.0
-      ∙ id_map (λ x. record_of (row_of x)) back u.0 in
+      sym (itself records) ∙ ap (map record_of) columns ∙ itself u.0 in
       let long : length found ≡ length u.0 =
       sym (length-map found (eval_all shown)) ∙ ap length u.1 ∙ length-map u.0 row_of in
       let at : (k : ℕ) (d : R) → k < length u.0

@@ -1,6 +1,10 @@
 -- What each statement on the tables of the publication means, and what it makes of the tables.
-use Rattle.std.proofs.Common.{◌≡◌, ℕ, pos, List, [], ◌∷◌, map, filter, not, codes, true, Ok, refl, ◌∙◌}
+use Rattle.std.proofs.Common.{◌≡◌, ℕ, pos, List, [], ◌∷◌, map, filter, not, ◌==◌, ◌&&◌, codes, true, Ok, refl, ap, ◌∙◌}
+use Rattle.sqlite_sql.specs.Ops.{binary, is_true}
+use Rattle.sqlite_sql.specs.declared.ops.BinaryOp.TheVariants.{Compare}
+use Rattle.sqlite_sql.specs.declared.ops.CompareOp.TheVariants.{Eq}
 use Rattle.sqlite_trees.specs.Tree.{put_row}
+use Rattle.sqlite_value.specs.declared.keys.Collation.TheVariants.{Binary}
 use Rattle.sqlite_value.specs.declared.value.Value.TheVariants.{Null, Int}
 use Rattle.sqlite_value.specs.Order.{Row}
 use Rattle.sqlite.specs.Command.TheVariants.{Insert, Delete}
@@ -18,8 +22,8 @@ use Rattle.office_tables.specs.Tables.{Tables, Stands, keyed, keyless, placed_ro
 use Rattle.office_tables.proofs.Casts.{cast_int, cast_null}
 use Rattle.office_tables.proofs.Frames.{holds_none, placed_changed, seat_changed}
 use Rattle.office_tables.proofs.Statements.{inserts, deletes}
-use Rattle.office_tables.proofs.TableLemmas.{holds_more}
-use Rattle.office_tables.proofs.Queries.{answered, left_of, one_table, rowids}
+use Rattle.office_tables.proofs.TableLemmas.{holds_more, rowids_filter}
+use Rattle.office_tables.proofs.Queries.{answered, passes, shown_filter, left_of, column_less, equal_numbers, one_table, equals, rowids}
 
 none_left : (xs : List Row) → filter (λ r. not true) xs ≡ []
 none_left [] = refl
@@ -133,30 +137,44 @@ seat_added old new row count t stands h =
     (rw rows (holds_more keyless (map seat_row t.seat) stored new_row (seat_row row) refl refl fresh
     stands.seat))
 
--- ---- DELETE FROM seat
+-- ---- DELETE FROM seat WHERE student = ?1
 
-abbrev pub delete_seat_text : List ℕ
-delete_seat_text = codes "DELETE FROM seat"
+abbrev pub delete_student_seats_text : List ℕ
+delete_student_seats_text = codes "DELETE FROM seat WHERE student = ?1"
 
-delete_seat_is : command_of (understood office_schema delete_seat_text)
-    ≡ Delete 6 (record { lets = []; body = one_table 8 [] rowids [] })
+delete_student_seats_is : command_of (understood office_schema delete_student_seats_text)
+    ≡ Delete 6 (record { lets = []; body = one_table 8 (equals 1 0 ∷ []) rowids [] })
 unfolding understood everything
-delete_seat_is = refl
+delete_student_seats_is = refl
 
-delete_seat_plain : IsPlain (understood office_schema delete_seat_text)
+delete_student_seats_plain : IsPlain (understood office_schema delete_student_seats_text)
 unfolding understood everything
-delete_seat_plain = (refl, refl)
+delete_student_seats_plain = (refl, refl)
 
-pub seat_cleared : (old new : State) (count : ℕ) (t : Tables) → Stands old.now t
-    → Executes delete_seat_text [] old new (Ok count)
-    → Stands new.now (record t { seat = [] })
-seat_cleared old new count t stands h =
-    let done = deletes delete_seat_text [] old new count office_schema stands.schema
-    delete_seat_plain 6 seat_table refl _ delete_seat_is (λ taken news. refl) h in
+pub student_seats_deleted : (old new : State) (number : ℕ) (count : ℕ) (t : Tables)
+    → Stands old.now t
+    → Executes delete_student_seats_text (Int (pos number) ∷ []) old new (Ok count)
+    → Stands new.now (record t { seat = filter (λ r. not (r.student == number)) t.seat })
+student_seats_deleted old new number count t stands h =
+    let params = Int (pos number) ∷ [] in
+    let done = deletes delete_student_seats_text params old new count office_schema stands.schema
+    delete_student_seats_plain 6 seat_table refl _ delete_student_seats_is
+    (λ taken news. refl) h in
     let is = done.3 in
     let stored = old.now.trees 8 in
-    let answer = answered 8 [] _ [] old.now.trees [] done.0 done.2 in
-    let rows : new.now.trees 8 ≡ [] =
-    is.rows ∙ left_of (λ r. true) stored done.0 stands.seat.rowids answer ∙ none_left stored in
-    seat_changed old.now new.now t stands done.1 [] is.tables
-    (holds_none keyless (new.now.trees 8) rows)
+    let test = passes params (equals 1 0 ∷ []) in
+    let shown_test = λ (row : Row). passes params (equals 0 0 ∷ []) row in
+    let answer = answered 8 (equals 1 0 ∷ []) _ [] old.now.trees params done.0 done.2 in
+    let rows : new.now.trees 8 ≡ filter (λ r. not (test r)) stored =
+    is.rows ∙ left_of test stored done.0 stands.seat.rowids answer in
+    let same = shown_filter keyless seat_row (λ r. not (test r)) (λ row. not (shown_test row))
+    (λ r. not (r.student == number))
+    (λ r. ap (λ v. not (is_true (binary (Compare Eq Binary) v (Int (pos number))) && true))
+    (column_less r 0))
+    (λ x. ap not (equal_numbers x.student number)) stored t.seat stands.seat.same in
+    seat_changed old.now new.now t stands done.1
+    (filter (λ r. not (r.student == number)) t.seat)
+    is.tables (rw rows (record {
+      rowids = rowids_filter (λ r. not (test r)) stored stands.seat.rowids;
+      same = same;
+    }))

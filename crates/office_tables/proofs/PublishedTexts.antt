@@ -15,10 +15,10 @@ use Rattle.office_schema.specs.Schema.{office_schema}
 use Rattle.office_tables.specs.Asking.{asks, IsReadOf, Means}
 use Rattle.office_tables.specs.declared.rows.PlacedRow.{PlacedRow}
 use Rattle.office_tables.specs.declared.rows.SeatRow.{SeatRow}
-use Rattle.office_tables.specs.Records.{placement_of, seat_of}
 use Rattle.office_tables.specs.Tables.{Tables, Stands, keyed, keyless, placed_row, seat_row}
 use Rattle.office_tables.proofs.OrderLemmas.{Rises, read, rising, table_shown}
 use Rattle.office_tables.proofs.Queries.{column_less, column_later, equal_numbers, equals, every, passes}
+use Rattle.office_tables.proofs.RecordsBack.{placement_of, seat_of}
 
 abbrev pub placed_columns : List Term
 placed_columns = col 1 0 ∷ col 1 2 ∷ col 1 3 ∷ []
@@ -48,10 +48,10 @@ placements_means = record {
 }
 
 pub placements_read : (db : Database) (t : Tables) → Stands db t → (found : List PlacedRow)
-    → IsReadOf placement_of [] placements_query db.trees found
+    → IsReadOf placed_row 3 [] placements_query db.trees found
     → IsPermutation t.placed found × Rises (λ (x : PlacedRow). x.exam ∷ []) found
 placements_read db t stands found is =
-    read placement_of placed_row (λ x. refl) (inner 7 end) [] placed_columns (0 ∷ [])
+    read placement_of placed_row 3 (λ x. refl) (λ x. refl) (inner 7 end) [] placed_columns (0 ∷ [])
     (λ (x : PlacedRow). x.exam ∷ []) (λ x. refl) db.trees [] t.placed found
     (subst (λ l. IsPermutation (map (eval_all placed_columns)
     (matches db.trees [] (inner 7 end) ([] ∷ []))) (map placed_row l))
@@ -95,10 +95,10 @@ seats_means = record {
 }
 
 pub seats_read : (db : Database) (t : Tables) → Stands db t → (found : List SeatRow)
-    → IsReadOf seat_of [] seats_query db.trees found
+    → IsReadOf seat_row 5 [] seats_query db.trees found
     → IsPermutation t.seat found × Rises (λ (x : SeatRow). x.exam ∷ x.student ∷ []) found
 seats_read db t stands found is =
-    read seat_of seat_row (λ x. refl) (inner 8 end) [] seat_columns (1 ∷ 0 ∷ [])
+    read seat_of seat_row 5 (λ x. refl) (λ x. refl) (inner 8 end) [] seat_columns (1 ∷ 0 ∷ [])
     (λ (x : SeatRow). x.exam ∷ x.student ∷ []) (λ x. refl) db.trees [] t.seat found
     (subst (λ l. IsPermutation (map (eval_all seat_columns)
     (matches db.trees [] (inner 8 end) ([] ∷ []))) (map seat_row l))
@@ -126,13 +126,13 @@ seats_of_means = record {
 }
 
 pub seats_of_read : (db : Database) (number : ℕ) (t : Tables) → Stands db t → (found : List SeatRow)
-    → IsReadOf seat_of (Int (pos number) ∷ []) seats_of_query db.trees found
+    → IsReadOf seat_row 5 (Int (pos number) ∷ []) seats_of_query db.trees found
     → IsPermutation (filter (λ r. r.student == number) t.seat) found
     × Rises (λ (x : SeatRow). x.exam ∷ []) found
 seats_of_read db number t stands found is =
     let params : Row = Int (pos number) ∷ [] in
-    read seat_of seat_row (λ x. refl) (inner 8 end) (equals 1 0 ∷ []) seat_columns (1 ∷ [])
-    (λ (x : SeatRow). x.exam ∷ []) (λ x. refl) db.trees params
+    read seat_of seat_row 5 (λ x. refl) (λ x. refl) (inner 8 end) (equals 1 0 ∷ []) seat_columns
+    (1 ∷ []) (λ (x : SeatRow). x.exam ∷ []) (λ x. refl) db.trees params
     (filter (λ r. r.student == number) t.seat) found
     (table_shown seat_row keyless seat_picked params 8 (equals 1 0 ∷ []) seat_columns seat_shown
     (λ x. refl) (passes params (equals 0 0 ∷ [])) (λ r.

@@ -8,7 +8,7 @@ use Rattle.sqlite_value.specs.Order.{Row, column}
 use Rattle.sqlite.specs.declared.error.Error.{Error}
 use Rattle.sqlite.specs.declared.error.Error.TheVariants.{SqliteFailure}
 use Rattle.sqlite.specs.declared.error.ErrorCode.TheVariants.{OutOfMemory}
-use Rattle.office_tables.specs.Readings.{columns_from}
+use Rattle.office_tables.specs.Records.{columns_from}
 
 -- a number, and one of 32 bits
 abbrev pub IsWide : Value → Type 0

@@ -11,10 +11,10 @@ use Rattle.office_schema.specs.Schema.{office_schema}
 use Rattle.office_tables.specs.Asking.{asks, IsReadOf, Means}
 use Rattle.office_tables.specs.declared.rows.StudentShareRow.{StudentShareRow}
 use Rattle.office_tables.specs.declared.rows.PartShareRow.{PartShareRow}
-use Rattle.office_tables.specs.Records.{student_share_of, part_share_of}
 use Rattle.office_tables.specs.Tables.{Tables, Stands, keyed, keyless, share_student_row, share_part_row}
 use Rattle.office_tables.proofs.OrderLemmas.{Rises, read, rising, table_shown}
 use Rattle.office_tables.proofs.Queries.{column_less, column_later, equal_numbers, equals, every, passes}
+use Rattle.office_tables.proofs.RecordsBack.{student_share_of, part_share_of}
 
 abbrev pub share_student_columns : List Term
 share_student_columns = col 1 0 ∷ col 1 2 ∷ col 1 3 ∷ col 1 4 ∷ []
@@ -47,11 +47,11 @@ student_shares_means = record {
 
 pub student_shares_read : (db : Database) (t : Tables) → Stands db t
     → (found : List StudentShareRow)
-    → IsReadOf student_share_of [] student_shares_query db.trees found
+    → IsReadOf share_student_row 4 [] student_shares_query db.trees found
     → IsPermutation t.share_student found × Rises (λ (x : StudentShareRow). x.student ∷ []) found
 student_shares_read db t stands found is =
-    read student_share_of share_student_row (λ x. refl) (inner 11 end) [] share_student_columns
-    (0 ∷ [])
+    read student_share_of share_student_row 4 (λ x. refl) (λ x. refl) (inner 11 end) []
+    share_student_columns (0 ∷ [])
     (λ (x : StudentShareRow). x.student ∷ []) (λ x. refl) db.trees [] t.share_student found
     (subst (λ l. IsPermutation (map (eval_all share_student_columns)
     (matches db.trees [] (inner 11 end) ([] ∷ []))) (map share_student_row l))
@@ -83,13 +83,13 @@ student_shares_of_means = record {
 
 pub student_shares_of_read : (db : Database) (number : ℕ) (t : Tables) → Stands db t
     → (found : List StudentShareRow)
-    → IsReadOf student_share_of (Int (pos number) ∷ []) student_shares_of_query db.trees found
+    → IsReadOf share_student_row 4 (Int (pos number) ∷ []) student_shares_of_query db.trees found
     → IsPermutation (filter (λ r. r.student == number) t.share_student) found
     × Rises (λ (x : StudentShareRow). x.student ∷ []) found
 student_shares_of_read db number t stands found is =
     let params : Row = Int (pos number) ∷ [] in
-    read student_share_of share_student_row (λ x. refl) (inner 11 end) (equals 0 0 ∷ [])
-    share_student_columns (0 ∷ [])
+    read student_share_of share_student_row 4 (λ x. refl) (λ x. refl) (inner 11 end)
+    (equals 0 0 ∷ []) share_student_columns (0 ∷ [])
     (λ (x : StudentShareRow). x.student ∷ []) (λ x. refl) db.trees params
     (filter (λ r. r.student == number) t.share_student) found
     (table_shown share_student_row keyed share_student_picked params 11 (equals 0 0 ∷ [])
@@ -127,11 +127,11 @@ part_shares_means = record {
 }
 
 pub part_shares_read : (db : Database) (t : Tables) → Stands db t → (found : List PartShareRow)
-    → IsReadOf part_share_of [] part_shares_query db.trees found
+    → IsReadOf share_part_row 4 [] part_shares_query db.trees found
     → IsPermutation t.share_part found × Rises (λ (x : PartShareRow). x.kind ∷ x.no ∷ []) found
 part_shares_read db t stands found is =
-    read part_share_of share_part_row (λ x. refl) (inner 12 end) [] share_part_columns (0 ∷ 1 ∷ [])
-    (λ (x : PartShareRow). x.kind ∷ x.no ∷ []) (λ x. refl) db.trees [] t.share_part found
+    read part_share_of share_part_row 4 (λ x. refl) (λ x. refl) (inner 12 end) []
+    share_part_columns (0 ∷ 1 ∷ []) (λ (x : PartShareRow). x.kind ∷ x.no ∷ []) (λ x. refl) db.trees [] t.share_part found
     (subst (λ l. IsPermutation (map (eval_all share_part_columns)
     (matches db.trees [] (inner 12 end) ([] ∷ []))) (map share_part_row l))
     (every (λ _. true) t.share_part (λ x. refl))

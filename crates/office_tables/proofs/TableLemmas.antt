@@ -1,15 +1,16 @@
 -- What the rows of a table show, after rows are put in or taken out.
-use Rattle.std.proofs.Common.{◌≡◌, ◌≢◌, inl, inr, List, [], ◌∷◌, filter, Bool, true, false, ◌||◌, Ordering, Less, Equal, Greater, is_eq, refl, sym, ap, ◌∙◌, IsTrue}
+use Rattle.std.proofs.Common.{◌≡◌, ◌≢◌, inl, inr, ℕ, pos, List, [], ◌∷◌, map, filter, Bool, true, false, ◌||◌, Ordering, Less, Equal, Greater, is_eq, refl, sym, ap, ◌∙◌, IsTrue}
 use Rattle.std.specs.List.{AllByRecursion}
 use Rattle.std.specs.Prelude.{IsPermutation}
 use Rattle.std.specs.Ordering.{match_ordering}
 use Rattle.std.proofs.lemmas.List.Sorted.{IsPermutation-refl, IsPermutation-cons, IsPermutation-trans, IsPermutation-sym, IsPermutation-middle, IsPermutation-map}
-use Rattle.sqlite_value.specs.Order.{Row, value_cmp}
+use Rattle.sqlite_value.specs.declared.value.Value.TheVariants.{Int}
+use Rattle.sqlite_value.specs.Order.{Row, column, value_cmp}
 use Rattle.sqlite_trees.specs.Tree.{IsAscending, rowid, put_row}
 use Rattle.sqlite_trees.specs.View.{is_int}
-use Rattle.sqlite_trees.proofs.ListLemmas.{along_permutation, all-permutation, all-filter, ascending-filter}
+use Rattle.sqlite_trees.proofs.ListLemmas.{along_permutation, all-permutation, all-filter, all-map, all_of, ascending-filter, ascending-map, ascending_from_map, ascending_weaker}
 use Rattle.sqlite_rules.specs.Edit.{is_taken, are_fresh}
-use Rattle.office_tables.specs.Tables.{HasRowids, Holds}
+use Rattle.office_tables.specs.Tables.{HasRowids, Holds, keyed}
 use Rattle.std.proofs.lemmas.Bool.{and_parts, not-true}
 use Rattle.std.proofs.lemmas.Cmp.{tied_itself}
 use Rattle.sqlite_value.specs.declared.value.Value.{Value}
@@ -85,3 +86,35 @@ holds_more show rows stored new row is int fresh h =
       rowids = rowids_put new stored int free h.rowids;
       same = IsPermutation-trans _ _ _ (IsPermutation-map show _ _ (put_free new stored free)) (rw is (IsPermutation-cons row _ _ h.same));
     }
+
+-- the numbers of the rows of a table that are its keys come once
+pub keys_once : {X : Type 0} (row_of : X → Row) (key : X → ℕ)
+    → ((x : X) → column (row_of x) 0 ≡ Int (pos (key x))) → (xs : List X) (stored : List Row)
+    → Holds keyed (map row_of xs) stored → IsAscending (λ a b. key a ≢ key b) xs
+keys_once row_of key first xs stored holds =
+    let shown : HasRowids (map keyed stored) = record {
+      ints = all-map (λ r. IsTrue (is_int (rowid r))) keyed stored holds.rowids.ints;
+      apart = ascending-map (λ a b. rowid a ≢ rowid b) keyed stored holds.rowids.apart;
+    } in
+    let typed = rowids_moved _ _ holds.same shown in
+    ascending_weaker (λ a b. rowid (row_of a) ≢ rowid (row_of b)) (λ a b. key a ≢ key b)
+    (λ a b apart same. apart (first a ∙ ap (λ n. Int (pos n)) same ∙ sym (first b))) xs
+    (ascending_from_map (λ a b. rowid a ≢ rowid b) row_of xs typed.apart)
+
+-- numbers that come once do so in any order
+pub once_moved : (ns ms : List ℕ) → IsPermutation ns ms → IsAscending (λ a b. a ≢ b) ns
+    → IsAscending (λ a b. a ≢ b) ms
+once_moved ns ms same up =
+    let row_of = λ (n : ℕ). Int (pos n) ∷ [] in
+    let rows : HasRowids (map row_of ns) = record {
+      ints = all-map (λ r. IsTrue (is_int (rowid r))) row_of ns (all_of _ (λ n. refl) ns);
+      apart = ascending-map (λ a b. rowid a ≢ rowid b) row_of ns
+          (ascending_weaker (λ a b. a ≢ b) (λ a b. Int (pos a) ≢ Int (pos b)) differ ns up);
+    } in
+    let moved = rowids_moved _ _ (IsPermutation-map row_of ns ms same) rows in
+    ascending_weaker (λ a b. Int (pos a) ≢ Int (pos b)) (λ a b. a ≢ b)
+    (λ a b apart e. apart (ap (λ n. Int (pos n)) e)) ms
+    (ascending_from_map (λ a b. rowid a ≢ rowid b) row_of ms moved.apart)
+  where
+    differ : (a b : ℕ) → a ≢ b → Int (pos a) ≢ Int (pos b)
+    differ a b apart e = apart (cc)

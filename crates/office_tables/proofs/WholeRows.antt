@@ -14,7 +14,7 @@ use Rattle.sqlite_trees.proofs.ListLemmas.{all_both}
 use Rattle.sqlite_value.specs.declared.value.Value.{Value}
 use Rattle.sqlite_value.specs.Order.{Row, column}
 use Rattle.sqlite.specs.Effect.{Database, IsDatabase}
-use Rattle.office_tables.specs.Readings.{columns_from}
+use Rattle.office_tables.specs.Records.{columns_from}
 use Rattle.office_schema.specs.Schema.{office_schema}
 
 -- ---- the columns of a row of known length

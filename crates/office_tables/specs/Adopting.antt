@@ -1,5 +1,5 @@
--- What is found in the tables when an office is taken over that has no batch.
-use Rattle.std.specs.Prelude.{◌≡◌, ◌⊎◌, Bool, false, [], ◌∷◌, map, Option, Some, None, Vec, IsTrue}
+-- What is found in the tables when an office is taken over.
+use Rattle.std.specs.Prelude.{◌≡◌, ◌⊎◌, List, [], ◌∷◌, map, Option, Some, None, Vec}
 use Rattle.std.specs.List.{AllByRecursion}
 use Rattle.std.specs.declared.alloc.Global.{Global}
 use Rattle.sqlite.specs.Effect.{Database}
@@ -7,6 +7,7 @@ use Rattle.office_tables.specs.declared.found.Found.{Found}
 use Rattle.office_tables.specs.declared.found.FoundDrafts.{FoundDrafts}
 use Rattle.office_tables.specs.declared.found.FoundPublication.{FoundPublication}
 use Rattle.office_tables.specs.declared.found.FoundSession.{FoundSession}
+use Rattle.office_tables.specs.declared.rows.BatchCountsRow.{BatchCountsRow}
 use Rattle.office_tables.specs.declared.rows.PlacedRow.{PlacedRow}
 use Rattle.office_tables.specs.declared.rows.SeatRow.{SeatRow}
 use Rattle.office_tables.specs.declared.rows.StudentShareRow.{StudentShareRow}
@@ -16,11 +17,11 @@ use Rattle.office_tables.specs.declared.rows.EnrolRow.{EnrolRow}
 use Rattle.office_tables.specs.declared.rows.DraftRow.{DraftRow}
 use Rattle.office_tables.specs.declared.rows.SlotRow.{SlotRow}
 use Rattle.office_tables.specs.declared.rows.MetaRow.{MetaRow}
-use Rattle.office_tables.specs.Records.{meta_from, FitsOwner, FitsEnrol, FitsDraft, FitsSlot, FitsPlacement, FitsSeat, FitsStudentShare, FitsPartShare}
-use Rattle.office_tables.specs.Tables.{Tables, Meta, Stands, Holds, keyed, keyless, meta_row, owner_row, enrol_row, draft_row, slot_row, placed_row, seat_row, share_student_row, share_part_row}
+use Rattle.office_tables.specs.Records.{counts_of, meta_from, FitsOwner, FitsEnrol, FitsDraft, FitsSlot, FitsPlacement, FitsSeat, FitsStudentShare, FitsPartShare, FitsBatch}
+use Rattle.office_tables.specs.Tables.{Tables, Meta, Batch, Stands, Holds, keyed, keyless, meta_row, owner_row, enrol_row, draft_row, slot_row, placed_row, seat_row, share_student_row, share_part_row, batch_row}
 
--- the tables of an office without batch, whose numbers the program's types hold
-pub record IsUnbatched (t : Tables) : Type 0 where
+-- the tables of an office, whose numbers the program's types hold
+pub record AreReadable (t : Tables) : Type 0 where
   pub row : Meta
   pub meta : t.meta ≡ row ∷ []
   pub owner : AllByRecursion FitsOwner t.owner
@@ -31,11 +32,11 @@ pub record IsUnbatched (t : Tables) : Type 0 where
   pub seat : AllByRecursion FitsSeat t.seat
   pub share_student : AllByRecursion FitsStudentShare t.share_student
   pub share_part : AllByRecursion FitsPartShare t.share_part
-  pub batch : t.batch ≡ []
+  pub batch : AllByRecursion FitsBatch t.batch
 
 -- the database stands for no such tables
 abbrev pub IsForeign : Database → Type 0
-IsForeign db = (t : Tables) → IsUnbatched t → Stands db t → ⊥
+IsForeign db = (t : Tables) → AreReadable t → Stands db t → ⊥
 
 pub record HoldsSession (db : Database) (found : FoundSession) : Type 0 where
   pub meta : Holds keyed (meta_row (meta_from found.meta) ∷ []) (db.trees 0)
@@ -66,8 +67,18 @@ abbrev pub IsFoundPublication : Database → Option FoundPublication → Type 0
 IsFoundPublication db (Some found) = HoldsPublication db found
 IsFoundPublication db None = IsForeign db
 
-abbrev pub tables_of : Found → Tables
-tables_of found = record {
+-- the table holds batches, and this is found of each but its bytes; or it holds none that fit
+abbrev pub IsFoundBatches : Database → Option (Vec BatchCountsRow Global) → Type 0
+IsFoundBatches db (Some found) =
+    (batches : List Batch) × (map counts_of batches ≡ found.items)
+    × Holds keyed (map batch_row batches) (db.trees 14)
+IsFoundBatches db None =
+    (batches : List Batch) → AllByRecursion FitsBatch batches
+    → Holds keyed (map batch_row batches) (db.trees 14) → ⊥
+
+-- what was found, with the bytes of the batches
+abbrev pub tables_of : Found → List Batch → Tables
+tables_of found batches = record {
   meta = meta_from found.meta ∷ [];
   owner = found.owners.items;
   enrol = found.enrols.items;
@@ -77,12 +88,14 @@ tables_of found = record {
   seat = found.seats.items;
   share_student = found.student_shares.items;
   share_part = found.part_shares.items;
-  batch = [];
+  batch = batches;
 }
 
--- the database stands for what was found; or for no such tables
+-- the database stands for what was found, with batches of these numbers; or for no such tables
 abbrev pub IsAdopted : Database → Option Found → Type 0
-IsAdopted db (Some found) = Stands db (tables_of found)
+IsAdopted db (Some found) =
+    (batches : List Batch) × (map counts_of batches ≡ found.batches.items)
+    × Stands db (tables_of found batches)
 IsAdopted db None = IsForeign db
 
 -- ---- parts together
@@ -108,9 +121,9 @@ IsPublication placements seats students parts (Some found) =
 IsPublication placements seats students parts None =
     (placements ≡ None) ⊎ ((seats ≡ None) ⊎ ((students ≡ None) ⊎ (parts ≡ None)))
 
-abbrev pub IsWhole : Option FoundSession → Option FoundDrafts → Option FoundPublication → Bool
-    → Option Found → Type 0
-IsWhole session drafts publication unbatched (Some found) =
+abbrev pub IsWhole : Option FoundSession → Option FoundDrafts → Option FoundPublication
+    → Option (Vec BatchCountsRow Global) → Option Found → Type 0
+IsWhole session drafts publication batches (Some found) =
     (session ≡ Some (record { meta = found.meta; owners = found.owners; enrols = found.enrols }))
     × (drafts ≡ Some (record { drafts = found.drafts; slots = found.slots }))
     × (publication ≡ Some (record {
@@ -119,6 +132,6 @@ IsWhole session drafts publication unbatched (Some found) =
       student_shares = found.student_shares;
       part_shares = found.part_shares;
     }))
-    × IsTrue unbatched
-IsWhole session drafts publication unbatched None =
-    (session ≡ None) ⊎ ((drafts ≡ None) ⊎ ((publication ≡ None) ⊎ (unbatched ≡ false)))
+    × (batches ≡ Some found.batches)
+IsWhole session drafts publication batches None =
+    (session ≡ None) ⊎ ((drafts ≡ None) ⊎ ((publication ≡ None) ⊎ (batches ≡ None)))

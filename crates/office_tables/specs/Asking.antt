@@ -12,6 +12,7 @@ use Rattle.sqlite.specs.Given.{IsPlain}
 use Rattle.sqlite.specs.Listing.{understood, reads_listing}
 use Rattle.sqlite.specs.Query.{Query, Join, IsAnswer}
 use Rattle.sqlite.specs.Term.{Term, lit}
+use Rattle.office_tables.specs.Records.{columns_from}
 
 -- SELECT these FROM there WHERE all this holds ORDER BY those
 abbrev pub asks : Join → List Term → List Term → List (Term × Key) → Query
@@ -39,7 +40,8 @@ pub record Means (schema : Schema) (q : Query) (sql : List ℕ) : Type 0 where
   pub unlisted : reads_listing schema sql ≡ false
   pub plain : IsPlain (understood schema sql)
 
--- the records are the rows of an answer, in its order
-abbrev pub IsReadOf : {R : Type 0} → (Row → R) → Row → Query → Trees → List R → Type 0
-IsReadOf record_of params q trees records =
-    (rows : List Row) × (records ≡ map record_of rows) × IsAnswer q trees params rows
+-- the records show the rows of an answer, in its order: so many columns of each
+abbrev pub IsReadOf : {R : Type 0} → (R → Row) → ℕ → Row → Query → Trees → List R → Type 0
+IsReadOf columns_of width params q trees records =
+    (rows : List Row) × (map columns_of records ≡ map (columns_from 0 width) rows)
+    × IsAnswer q trees params rows

@@ -8,7 +8,7 @@ use Rattle.office_tables.specs.declared.rows.PlacedRow.{PlacedRow}
 use Rattle.office_tables.specs.declared.rows.SeatRow.{SeatRow}
 use Rattle.office_tables.specs.declared.rows.SlotRow.{SlotRow}
 use Rattle.office_tables.specs.declared.rows.StudentShareRow.{StudentShareRow}
-use Rattle.office_tables.specs.Tables.{Tables}
+use Rattle.office_tables.specs.Tables.{Tables, Batch}
 
 abbrev pub with_meta : Bool → List ℕ → Tables → Tables
 with_meta published instance t =
@@ -26,11 +26,18 @@ without_owner exam t = record t { owner = filter (λ r. not (r.exam == exam)) t.
 abbrev pub with_enrol : EnrolRow → Tables → Tables
 with_enrol row t = record t { enrol = row ∷ t.enrol }
 
+abbrev pub without_enrol : ℕ → ℕ → Tables → Tables
+without_enrol student exam t =
+    record t { enrol = filter (λ r. not ((r.student == student) && (r.exam == exam))) t.enrol }
+
 abbrev pub with_draft : DraftRow → Tables → Tables
 with_draft row t = record t { draft = row ∷ t.draft }
 
 abbrev pub without_draft : ℕ → Tables → Tables
 without_draft number t = record t { draft = filter (λ r. not (r.no == number)) t.draft }
+
+abbrev pub no_drafts : Tables → Tables
+no_drafts t = record t { draft = [] }
 
 abbrev pub with_slot : SlotRow → Tables → Tables
 with_slot row t = record t { slot = row ∷ t.slot }
@@ -57,8 +64,9 @@ no_placements t = record t { placed = [] }
 abbrev pub with_seat : SeatRow → Tables → Tables
 with_seat row t = record t { seat = row ∷ t.seat }
 
-abbrev pub no_seats : Tables → Tables
-no_seats t = record t { seat = [] }
+abbrev pub without_student_seats : ℕ → Tables → Tables
+without_student_seats student t =
+    record t { seat = filter (λ r. not (r.student == student)) t.seat }
 
 abbrev pub with_student_share : StudentShareRow → Tables → Tables
 with_student_share row t = record t { share_student = row ∷ t.share_student }
@@ -72,3 +80,6 @@ with_part_share row t = record t { share_part = row ∷ t.share_part }
 
 abbrev pub no_part_shares : Tables → Tables
 no_part_shares t = record t { share_part = [] }
+
+abbrev pub with_batch : Batch → Tables → Tables
+with_batch row t = record t { batch = row ∷ t.batch }

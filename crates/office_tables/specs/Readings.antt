@@ -1,5 +1,5 @@
 -- What is read of a database of which no more is known than its schema.
-use Rattle.std.specs.Prelude.{◌≡◌, ◌≢◌, ◌<◌, ℕ, zero, suc, ◌≤◌, false, List, [], ◌∷◌, map, length, None, Some, Option, Result, Vec, IfOk, OnOk, IsPermutation}
+use Rattle.std.specs.Prelude.{◌≡◌, ◌≢◌, ◌<◌, ℕ, ◌≤◌, false, List, [], ◌∷◌, map, length, None, Some, Option, Result, Vec, IfOk, OnOk, IsPermutation}
 use Rattle.std.specs.List.{AllByRecursion}
 use Rattle.std.specs.declared.alloc.Global.{Global}
 use Rattle.sqlite_trees.specs.Tree.{rowid}
@@ -19,7 +19,7 @@ use Rattle.office_schema.specs.Schema.{office_schema}
 use Rattle.office_tables.specs.Asking.{asks, Selects}
 use Rattle.office_tables.specs.Steps.{Keeps}
 use Rattle.office_tables.specs.Tables.{Meta, Holds, keyed, meta_row}
-use Rattle.office_tables.specs.Records.{meta_from}
+use Rattle.office_tables.specs.Records.{columns_from, meta_from}
 use Rattle.office_tables.specs.declared.rows.MetaRow.{MetaRow}
 
 -- ---- the text of a query
@@ -40,11 +40,6 @@ abbrev pub listed : List Term → Row → Row
 listed shown row = eval_all shown ([] ∷ row ∷ [])
 
 -- ---- what it shows of a table
-
--- so many columns of a row from one place on
-abbrev pub columns_from : ℕ → ℕ → Row → Row
-columns_from at zero row = []
-columns_from at (suc n) row = column row at ∷ columns_from (suc at) n row
 
 -- the first columns are those that the stored row shows, and the next is its number
 pub record IsListed (width : ℕ) (show : Row → Row) (stored shown : Row) : Type 0 where

@@ -1,11 +1,12 @@
--- The records that rows are read as.
-use Rattle.std.specs.Prelude.{ℕ, pos, [], ◌∷◌, ◌<◌, ◌^◌}
-use Rattle.sqlite_value.specs.declared.value.Value.{Value}
+-- The records that rows are read as, and the columns that they show.
+use Rattle.std.specs.Prelude.{ℕ, zero, suc, pos, [], ◌∷◌, ◌<◌, ◌^◌}
 use Rattle.sqlite_value.specs.declared.value.Value.TheVariants.{Int}
 use Rattle.sqlite_value.specs.Order.{Row, column}
+use Rattle.office_tables.specs.declared.rows.BatchRow.{BatchRow}
+use Rattle.office_tables.specs.declared.rows.BatchCountsRow.{BatchCountsRow}
 use Rattle.office_tables.specs.declared.rows.MarkRow.{MarkRow}
 use Rattle.office_tables.specs.declared.rows.MetaRow.{MetaRow}
-use Rattle.office_tables.specs.Tables.{Meta}
+use Rattle.office_tables.specs.Tables.{Meta, Batch}
 use Rattle.office_tables.specs.declared.rows.OwnerRow.{OwnerRow}
 use Rattle.office_tables.specs.declared.rows.EnrolRow.{EnrolRow}
 use Rattle.office_tables.specs.declared.rows.DraftRow.{DraftRow}
@@ -18,80 +19,35 @@ use Rattle.office_tables.specs.declared.rows.PartShareRow.{PartShareRow}
 abbrev pub meta_from : MetaRow → Meta
 meta_from r = record { published = r.published; instance = r.instance.items }
 
--- a number that is read
-abbrev pub number : Value → ℕ
-number (Int (pos n)) = n
-number _ = 0
+abbrev pub batch_from : BatchRow → Batch
+batch_from r = record {
+  no = r.no;
+  bytes = r.bytes.items;
+  added = r.added;
+  dropped = r.dropped;
+  unchanged = r.unchanged;
+}
 
-abbrev pub mark_of : Row → MarkRow
-mark_of row = record { published = number (column row 0) }
+-- a batch without its bytes
+abbrev pub counts_of : Batch → BatchCountsRow
+counts_of r = record { no = r.no; added = r.added; dropped = r.dropped; unchanged = r.unchanged }
+
+-- ---- their columns
 
 abbrev pub mark_row : MarkRow → Row
 mark_row r = Int (pos r.published) ∷ []
 
-abbrev pub owner_of : Row → OwnerRow
-owner_of row = record {
-  exam = number (column row 0);
-  dept = number (column row 1);
-}
+-- a number alone
+abbrev pub number_row : ℕ → Row
+number_row n = Int (pos n) ∷ []
 
-abbrev pub enrol_of : Row → EnrolRow
-enrol_of row = record {
-  student = number (column row 0);
-  exam = number (column row 1);
-}
+abbrev pub counts_row : BatchCountsRow → Row
+counts_row r = Int (pos r.no) ∷ Int (pos r.added) ∷ Int (pos r.dropped) ∷ Int (pos r.unchanged) ∷ []
 
-abbrev pub draft_of : Row → DraftRow
-draft_of row = record {
-  no = number (column row 0);
-  in_row = number (column row 1);
-  in_day = number (column row 2);
-  spread = number (column row 3);
-  mixed = number (column row 4);
-  front = number (column row 5);
-  period = number (column row 6);
-  room = number (column row 7);
-}
-
-abbrev pub slot_of : Row → SlotRow
-slot_of row = record {
-  draft = number (column row 0);
-  exam = number (column row 1);
-  period = number (column row 2);
-  room = number (column row 3);
-}
-
-abbrev pub placement_of : Row → PlacedRow
-placement_of row = record {
-  exam = number (column row 0);
-  period = number (column row 1);
-  room = number (column row 2);
-}
-
-abbrev pub seat_of : Row → SeatRow
-seat_of row = record {
-  student = number (column row 0);
-  exam = number (column row 1);
-  period = number (column row 2);
-  room = number (column row 3);
-  seat = number (column row 4);
-}
-
-abbrev pub student_share_of : Row → StudentShareRow
-student_share_of row = record {
-  student = number (column row 0);
-  in_row = number (column row 1);
-  in_day = number (column row 2);
-  spread = number (column row 3);
-}
-
-abbrev pub part_share_of : Row → PartShareRow
-part_share_of row = record {
-  kind = number (column row 0);
-  no = number (column row 1);
-  penalty = number (column row 2);
-  mixed = number (column row 3);
-}
+-- so many columns of a row from one place on
+abbrev pub columns_from : ℕ → ℕ → Row → Row
+columns_from at zero row = []
+columns_from at (suc n) row = column row at ∷ columns_from (suc at) n row
 
 -- ---- which records the program's types hold: numbers of 32 bits
 
@@ -125,3 +81,9 @@ FitsStudentShare r = IsNarrow r.student
 
 abbrev pub FitsPartShare : PartShareRow → Type 0
 FitsPartShare r = IsNarrow r.kind × IsNarrow r.no
+
+abbrev pub FitsCounts : BatchCountsRow → Type 0
+FitsCounts r = IsNarrow r.no × IsNarrow r.added × IsNarrow r.dropped × IsNarrow r.unchanged
+
+abbrev pub FitsBatch : Batch → Type 0
+FitsBatch r = FitsCounts (counts_of r)

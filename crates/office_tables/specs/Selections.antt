@@ -47,3 +47,7 @@ StudentSharesRise = IsAscending (λ (a b : StudentShareRow). a.student < b.stude
 abbrev pub PartSharesRise : List PartShareRow → Type 0
 PartSharesRise =
     IsAscending (λ (a b : PartShareRow). (a.kind < b.kind) ⊎ ((a.kind ≡ b.kind) × (a.no < b.no)))
+
+-- each below all that follow, so that none comes twice
+abbrev pub NumbersRise : List ℕ → Type 0
+NumbersRise = IsAscending (λ (a b : ℕ). a < b)

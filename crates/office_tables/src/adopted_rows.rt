@@ -1,12 +1,14 @@
 // The tables of an office as they are found when it is taken over.
 ghost use Rattle.sqlite.specs.Held.{state};
+ghost use Rattle.office_tables.specs.Adopting.{IsFoundBatches};
 ghost use Rattle.office_tables.specs.Readings.{Finds, IsFound, Leaves, Looks};
 ghost use Rattle.office_tables.specs.Records.{FitsOwner, FitsEnrol, FitsDraft, FitsSlot, FitsPlacement, FitsSeat, FitsStudentShare, FitsPartShare};
 ghost use Rattle.office_tables.specs.Tables.{owner_row, enrol_row, draft_row, slot_row, placed_row, seat_row, share_student_row, share_part_row, keyed, keyless};
 
 use crate::listing::read_table;
 use crate::rows::{
-    DraftRow, EnrolRow, OwnerRow, PartShareRow, PlacedRow, SeatRow, SlotRow, StudentShareRow,
+    BatchCountsRow, DraftRow, EnrolRow, OwnerRow, PartShareRow, PlacedRow, SeatRow, SlotRow,
+    StudentShareRow,
 };
 use sqlite::{Alter, Connection, Error};
 use std::alloc::Global;
@@ -140,5 +142,21 @@ pub fn adopt_part_shares<S: Alter>(
         alloc,
         conn,
         "SELECT kind, no, penalty, mixed, rowid FROM share_part ORDER BY rowid",
+    )
+}
+
+// All batches but their bytes, or that a row is of none.
+pub fn adopt_batches<S: Alter>(
+    alloc: Global,
+    conn: &mut Connection<S>,
+) -> Result<Option<Vec<BatchCountsRow>>, Error>
+    ensures found { Finds S.Store IsFoundBatches conn.old conn.new result }
+    ensures same { Leaves S.Store conn.old conn.new result }
+    ensures looks { Looks (state S.Store conn.old) (state S.Store conn.new) }
+{
+    read_table(
+        alloc,
+        conn,
+        "SELECT no, added, dropped, unchanged, rowid FROM batch ORDER BY rowid",
     )
 }

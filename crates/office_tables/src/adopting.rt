@@ -7,23 +7,22 @@ ghost use Rattle.office_tables.specs.Readings.{Finds, Leaves, Looks};
 ghost use Rattle.office_tables.specs.Steps.{Keeps};
 
 use crate::adopted_rows::{
-    adopt_drafts, adopt_enrols, adopt_owners, adopt_part_shares, adopt_placements, adopt_seats,
-    adopt_slots, adopt_student_shares,
+    adopt_batches, adopt_drafts, adopt_enrols, adopt_owners, adopt_part_shares, adopt_placements,
+    adopt_seats, adopt_slots, adopt_student_shares,
 };
 use crate::found::{Found, FoundDrafts, FoundPublication, FoundSession};
 use crate::meta::adopt_meta;
 use crate::rows::{
-    DraftRow, EnrolRow, MetaRow, OwnerRow, PartShareRow, PlacedRow, SeatRow, SlotRow,
-    StudentShareRow,
+    BatchCountsRow, DraftRow, EnrolRow, MetaRow, OwnerRow, PartShareRow, PlacedRow, SeatRow,
+    SlotRow, StudentShareRow,
 };
-use crate::vacant_tables::lacks_batches;
 use office_schema::is_office_schema;
 use sqlite::{Alter, Connection, Error};
 use std::alloc::Global;
 
-/// The rows of an office without batch. `None` says that the database stands for no
-/// such office; an error, that a statement failed, memory was refused, or two rows of a table have
-/// one number.
+/// The rows of an office; of each batch all but its bytes, which `batch_of` reads. `None` says that
+/// the database stands for no such office; an error, that a statement failed, memory was refused, or
+/// two rows of a table have one number.
 pub fn adopt_tables<S: Alter>(
     alloc: Global,
     conn: &mut Connection<S>,
@@ -49,8 +48,8 @@ fn adopt_rows<S: Alter>(alloc: Global, conn: &mut Connection<S>) -> Result<Optio
     let session = find_session(alloc, conn)?;
     let drafts = find_drafts(alloc, conn)?;
     let publication = find_publication(alloc, conn)?;
-    let unbatched = lacks_batches(conn)?;
-    Ok(whole_of(session, drafts, publication, unbatched))
+    let batches = adopt_batches(alloc, conn)?;
+    Ok(whole_of(session, drafts, publication, batches))
 }
 
 // The session's part.
@@ -141,13 +140,10 @@ fn whole_of(
     session: Option<FoundSession>,
     drafts: Option<FoundDrafts>,
     publication: Option<FoundPublication>,
-    unbatched: bool,
+    batches: Option<Vec<BatchCountsRow>>,
 ) -> Option<Found>
-    ensures { IsWhole session drafts publication unbatched result }
+    ensures { IsWhole session drafts publication batches result }
 {
-    if !unbatched {
-        return None;
-    }
     let session = session?;
     let drafts = drafts?;
     let publication = publication?;
@@ -161,5 +157,6 @@ fn whole_of(
         seats: publication.seats,
         student_shares: publication.student_shares,
         part_shares: publication.part_shares,
+        batches: batches?,
     })
 }

@@ -2,7 +2,7 @@
 ghost use Rattle.std.specs.Prelude.{◌≡◌, ◌==◌, false, filter, IsPermutation};
 ghost use Rattle.sqlite.specs.Held.{state};
 ghost use Rattle.sqlite.specs.State.{Survives};
-ghost use Rattle.office_tables.specs.Changes.{with_draft, without_draft};
+ghost use Rattle.office_tables.specs.Changes.{with_draft, without_draft, no_drafts};
 ghost use Rattle.office_tables.specs.Tables.{draft_row};
 ghost use Rattle.sqlite.specs.Values.{bound};
 ghost use Rattle.office_tables.specs.Steps.{AnswersOpen, Changes, LeavesAll, LeavesCommitted, Nothing, OpensNone, Reads, Within};
@@ -87,6 +87,20 @@ impl Alteration for DeleteDraft {
 
     fn apply<S: Alter>(&self, tx: &mut Transaction<'_, S>) -> Result<(), Error> {
         delete_draft(tx, self.no)
+    }
+}
+
+/// Takes all drafts out.
+#[derive(Clone, Copy)]
+pub struct DeleteDrafts;
+
+impl Alteration for DeleteDrafts {
+    ghost alteration = { λ _ t. no_drafts t };
+
+    ghost fits = { λ _. Unit {0} };
+
+    fn apply<S: Alter>(&self, tx: &mut Transaction<'_, S>) -> Result<(), Error> {
+        run(tx, "DELETE FROM draft", &[])
     }
 }
 

@@ -2,7 +2,7 @@
 ghost use Rattle.std.specs.Prelude.{◌≡◌, ◌==◌, false, filter, IsPermutation};
 ghost use Rattle.sqlite.specs.Held.{state};
 ghost use Rattle.sqlite.specs.State.{Survives};
-ghost use Rattle.office_tables.specs.Changes.{with_enrol, with_enrols};
+ghost use Rattle.office_tables.specs.Changes.{with_enrol, with_enrols, without_enrol};
 ghost use Rattle.office_tables.specs.Selections.{HerEnrolsRise, IsInOrder};
 ghost use Rattle.office_tables.specs.Steps.{AnswersOpen, Changes, LeavesAll, LeavesCommitted, Nothing, OpensNone, Reads, Within};
 
@@ -51,6 +51,27 @@ impl Alteration for InsertEnrol {
 
     fn apply<S: Alter>(&self, tx: &mut Transaction<'_, S>) -> Result<(), Error> {
         insert_enrol(tx, self.row)
+    }
+}
+
+/// Takes a pair of a student and an exam out.
+#[derive(Clone, Copy)]
+pub struct DeleteEnrol {
+    pub student: u32,
+    pub exam: u32,
+}
+
+impl Alteration for DeleteEnrol {
+    ghost alteration = { λ it t. without_enrol it.student it.exam t };
+
+    ghost fits = { λ _. Unit {0} };
+
+    fn apply<S: Alter>(&self, tx: &mut Transaction<'_, S>) -> Result<(), Error> {
+        run(
+            tx,
+            "DELETE FROM enrol WHERE student = ?1 AND exam = ?2",
+            params![self.student, self.exam],
+        )
     }
 }
 

@@ -1,10 +1,10 @@
 // What is found in the tables when an office is taken over.
 use crate::rows::{
-    DraftRow, EnrolRow, MetaRow, OwnerRow, PartShareRow, PlacedRow, SeatRow, SlotRow,
-    StudentShareRow,
+    BatchCountsRow, DraftRow, EnrolRow, MetaRow, OwnerRow, PartShareRow, PlacedRow, SeatRow,
+    SlotRow, StudentShareRow,
 };
 
-/// All rows of the tables, in no order that counts.
+/// All rows of the tables, in no order that counts; of the batches all but their bytes.
 #[derive(Drop)]
 pub struct Found {
     pub meta: MetaRow,
@@ -16,6 +16,7 @@ pub struct Found {
     pub seats: Vec<SeatRow>,
     pub student_shares: Vec<StudentShareRow>,
     pub part_shares: Vec<PartShareRow>,
+    pub batches: Vec<BatchCountsRow>,
 }
 
 // The part that the session has of them.

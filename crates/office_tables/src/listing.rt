@@ -1,5 +1,5 @@
 // Whole tables, read from a database of which only the schema is known.
-ghost use Rattle.std.specs.Prelude.{◌≡◌, ◌↔◌, ◌<ℤ◌, [], ℕ, List, map, IfOk, IfSome, IsPermutation, IsTrue};
+ghost use Rattle.std.specs.Prelude.{◌≡◌, ◌↔◌, ◌<ℤ◌, ℕ, List, map, IfOk, IfSome, IsPermutation, IsTrue};
 ghost use Rattle.sqlite.specs.Held.{state};
 ghost use Rattle.sqlite.specs.Term.{Term};
 ghost use Rattle.sqlite_value.specs.declared.value.Value.TheVariants.{Int};
@@ -13,7 +13,7 @@ use std::alloc::Global;
 
 // A whole table by a text that lists it, with each row's number behind its columns. None says that
 // a row is of no record, and an error also that two rows have one number or one is no number.
-pub fn read_table<S: Alter, R: Record + Copy>(
+pub fn read_table<S: Alter, R: Record + Drop>(
     alloc: Global,
     conn: &mut Connection<S>,
     sql: &str,
@@ -32,18 +32,6 @@ pub fn read_table<S: Alter, R: Record + Copy>(
     read_each(alloc, &rows)
 }
 
-// Whether a table has no row, by a text that lists it.
-pub fn is_vacant<S: Alter>(conn: &mut Connection<S>, sql: &str) -> Result<bool, Error>
-    ensures found { (tree : ℕ) (shown : List Term) → Lists tree shown sql.now
-        → Finds S.Store (λ db is. IsTrue is ↔ (db.trees tree ≡ [])) conn.old conn.new result }
-    ensures same { (tree : ℕ) (shown : List Term) → Lists tree shown sql.now → Leaves S.Store conn.old conn.new result }
-    ensures looks { (tree : ℕ) (shown : List Term) → Lists tree shown sql.now
-        → Looks (state S.Store conn.old) (state S.Store conn.new) }
-{
-    let rows = list_rows(conn, sql)?;
-    Ok(rows.is_empty())
-}
-
 // The rows that a text lists.
 pub fn list_rows<S: Alter>(conn: &mut Connection<S>, sql: &str) -> Result<Vec<Row>, Error>
     ensures rows { (tree : ℕ) (shown : List Term) → Lists tree shown sql.now
@@ -56,7 +44,7 @@ pub fn list_rows<S: Alter>(conn: &mut Connection<S>, sql: &str) -> Result<Vec<Ro
 }
 
 // Each row as a record.
-fn read_each<R: Record + Copy>(alloc: Global, rows: &[Row]) -> Result<Option<Vec<R>>, Error>
+fn read_each<R: Record + Drop>(alloc: Global, rows: &[Row]) -> Result<Option<Vec<R>>, Error>
     ensures { IfOk result (IsRead R.fits R.columns_of R.WIDTH rows.now) }
 {
     let mut records = Vec::new(alloc);

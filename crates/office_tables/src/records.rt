@@ -1,21 +1,18 @@
 // Rows read as records.
 ghost use Rattle.std.specs.Prelude.{◌≡◌, ◌≢◌, ◌≤◌, ℕ, length, IfErr, IfOk};
 ghost use Rattle.sqlite_value.specs.Order.{Row as Columns};
-ghost use Rattle.office_tables.specs.Readings.{columns_from};
-ghost use Rattle.office_tables.specs.Records.{mark_of, mark_row, owner_of, enrol_of, draft_of, slot_of, placement_of, seat_of, student_share_of, part_share_of, FitsMark, FitsOwner, FitsEnrol, FitsDraft, FitsSlot, FitsPlacement, FitsSeat, FitsStudentShare, FitsPartShare};
-ghost use Rattle.office_tables.specs.Tables.{owner_row, enrol_row, draft_row, slot_row, placed_row, seat_row, share_student_row, share_part_row};
+ghost use Rattle.office_tables.specs.Records.{batch_from, columns_from, counts_row, mark_row, number_row, IsNarrow, FitsMark, FitsOwner, FitsEnrol, FitsDraft, FitsSlot, FitsPlacement, FitsSeat, FitsStudentShare, FitsPartShare, FitsBatch, FitsCounts};
+ghost use Rattle.office_tables.specs.Tables.{owner_row, enrol_row, draft_row, slot_row, placed_row, seat_row, share_student_row, share_part_row, batch_row};
 
 use crate::rows::{
-    DraftRow, EnrolRow, MarkRow, OwnerRow, PartShareRow, PlacedRow, SeatRow, SlotRow,
-    StudentShareRow,
+    BatchCountsRow, BatchRow, DraftRow, EnrolRow, MarkRow, OwnerRow, PartShareRow, PlacedRow,
+    SeatRow, SlotRow, StudentShareRow,
 };
 use sqlite::{Error, ErrorCode, Row};
 
 // A record that a row is read as.
 pub trait Record: Sized {
     ghost WIDTH: { ℕ };
-
-    ghost record_of: { Columns → Self };
 
     ghost columns_of: { Self → Columns };
 
@@ -26,16 +23,28 @@ pub trait Record: Sized {
 
     // An error says that a column holds no such number, or that memory is refused.
     fn read(row: &Row) -> Result<Self, Error>
-        ensures value { IfOk result (λ made. made ≡ record_of row.now) }
         ensures columns { IfOk result (λ made. columns_of made ≡ columns_from 0 WIDTH row.now) }
         ensures refused { IfErr result (λ e. e ≢ Error.SqliteFailure ErrorCode.OutOfMemory → WIDTH ≤ length row.now
             → (made : Self) → fits made → columns_of made ≢ columns_from 0 WIDTH row.now) };
 }
 
-impl Record for MarkRow {
+// A number alone.
+impl Record for u32 {
     ghost WIDTH = { 1 };
 
-    ghost record_of = { mark_of };
+    ghost columns_of = { number_row };
+
+    ghost fits = { IsNarrow };
+
+    const WIDTH: usize = 1;
+
+    fn read(row: &Row) -> Result<u32, Error> {
+        row.get(0)
+    }
+}
+
+impl Record for MarkRow {
+    ghost WIDTH = { 1 };
 
     ghost columns_of = { mark_row };
 
@@ -52,8 +61,6 @@ impl Record for MarkRow {
 
 impl Record for OwnerRow {
     ghost WIDTH = { 2 };
-
-    ghost record_of = { owner_of };
 
     ghost columns_of = { owner_row };
 
@@ -72,8 +79,6 @@ impl Record for OwnerRow {
 impl Record for EnrolRow {
     ghost WIDTH = { 2 };
 
-    ghost record_of = { enrol_of };
-
     ghost columns_of = { enrol_row };
 
     ghost fits = { FitsEnrol };
@@ -90,8 +95,6 @@ impl Record for EnrolRow {
 
 impl Record for DraftRow {
     ghost WIDTH = { 8 };
-
-    ghost record_of = { draft_of };
 
     ghost columns_of = { draft_row };
 
@@ -116,8 +119,6 @@ impl Record for DraftRow {
 impl Record for SlotRow {
     ghost WIDTH = { 4 };
 
-    ghost record_of = { slot_of };
-
     ghost columns_of = { slot_row };
 
     ghost fits = { FitsSlot };
@@ -137,8 +138,6 @@ impl Record for SlotRow {
 impl Record for PlacedRow {
     ghost WIDTH = { 3 };
 
-    ghost record_of = { placement_of };
-
     ghost columns_of = { placed_row };
 
     ghost fits = { FitsPlacement };
@@ -156,8 +155,6 @@ impl Record for PlacedRow {
 
 impl Record for SeatRow {
     ghost WIDTH = { 5 };
-
-    ghost record_of = { seat_of };
 
     ghost columns_of = { seat_row };
 
@@ -179,8 +176,6 @@ impl Record for SeatRow {
 impl Record for StudentShareRow {
     ghost WIDTH = { 4 };
 
-    ghost record_of = { student_share_of };
-
     ghost columns_of = { share_student_row };
 
     ghost fits = { FitsStudentShare };
@@ -200,8 +195,6 @@ impl Record for StudentShareRow {
 impl Record for PartShareRow {
     ghost WIDTH = { 4 };
 
-    ghost record_of = { part_share_of };
-
     ghost columns_of = { share_part_row };
 
     ghost fits = { FitsPartShare };
@@ -214,6 +207,45 @@ impl Record for PartShareRow {
             no: row.get(1)?,
             penalty: row.get(2)?,
             mixed: row.get(3)?,
+        })
+    }
+}
+
+impl Record for BatchRow {
+    ghost WIDTH = { 5 };
+
+    ghost columns_of = { λ made. batch_row (batch_from made) };
+
+    ghost fits = { λ made. FitsBatch (batch_from made) };
+
+    const WIDTH: usize = 5;
+
+    fn read(row: &Row) -> Result<BatchRow, Error> {
+        Ok(BatchRow {
+            no: row.get(0)?,
+            bytes: row.get(1)?,
+            added: row.get(2)?,
+            dropped: row.get(3)?,
+            unchanged: row.get(4)?,
+        })
+    }
+}
+
+impl Record for BatchCountsRow {
+    ghost WIDTH = { 4 };
+
+    ghost columns_of = { counts_row };
+
+    ghost fits = { FitsCounts };
+
+    const WIDTH: usize = 4;
+
+    fn read(row: &Row) -> Result<BatchCountsRow, Error> {
+        Ok(BatchCountsRow {
+            no: row.get(0)?,
+            added: row.get(1)?,
+            dropped: row.get(2)?,
+            unchanged: row.get(3)?,
         })
     }
 }

@@ -85,3 +85,22 @@ pub struct PartShareRow {
     pub penalty: u64,
     pub mixed: u64,
 }
+
+/// A batch of changes of enrolments that was accepted, with what its lines did.
+#[derive(Drop)]
+pub struct BatchRow {
+    pub no: u32,
+    pub bytes: Vec<u8>,
+    pub added: u32,
+    pub dropped: u32,
+    pub unchanged: u32,
+}
+
+/// The same without its bytes.
+#[derive(Clone, Copy, Debug, PartialEq, Eq)]
+pub struct BatchCountsRow {
+    pub no: u32,
+    pub added: u32,
+    pub dropped: u32,
+    pub unchanged: u32,
+}

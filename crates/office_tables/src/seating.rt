@@ -2,7 +2,7 @@
 ghost use Rattle.std.specs.Prelude.{◌≡◌, ◌==◌, false, filter, IsPermutation};
 ghost use Rattle.sqlite.specs.Held.{state};
 ghost use Rattle.sqlite.specs.State.{Survives};
-ghost use Rattle.office_tables.specs.Changes.{with_seat, no_seats};
+ghost use Rattle.office_tables.specs.Changes.{with_seat, without_student_seats};
 ghost use Rattle.office_tables.specs.Selections.{HerSeatsRise, IsInOrder, SeatsRise};
 ghost use Rattle.office_tables.specs.Steps.{AnswersOpen, LeavesAll, LeavesCommitted, Nothing, OpensNone, Reads};
 
@@ -34,17 +34,23 @@ impl Alteration for InsertSeat {
     }
 }
 
-/// Takes all seats out.
+/// Takes a student's seats out.
 #[derive(Clone, Copy)]
-pub struct DeleteSeats;
+pub struct DeleteStudentSeats {
+    pub student: u32,
+}
 
-impl Alteration for DeleteSeats {
-    ghost alteration = { λ _ t. no_seats t };
+impl Alteration for DeleteStudentSeats {
+    ghost alteration = { λ it t. without_student_seats it.student t };
 
     ghost fits = { λ _. Unit {0} };
 
     fn apply<S: Alter>(&self, tx: &mut Transaction<'_, S>) -> Result<(), Error> {
-        run(tx, "DELETE FROM seat", &[])
+        run(
+            tx,
+            "DELETE FROM seat WHERE student = ?1",
+            params![self.student],
+        )
     }
 }
 

@@ -15,7 +15,7 @@ use sqlite::{Alter, Connection, Error};
 use std::alloc::Global;
 
 // The records of a query's rows, of which it holds one row at a time.
-pub fn stream<S: Alter, R: Record + Copy>(
+pub fn stream<S: Alter, R: Record + Drop>(
     alloc: Global,
     conn: &mut Connection<S>,
     sql: &str,
@@ -23,7 +23,7 @@ pub fn stream<S: Alter, R: Record + Copy>(
 ) -> Result<Vec<R>, Error>
     ensures shown { (q : Query) → Means (state S.Store conn.old).now.schema q sql.now
         → HasCleanDisk (state S.Store conn.new)
-        → IfOk result (λ records. IsReadOf R.record_of (bound params.now) q
+        → IfOk result (λ records. IsReadOf R.columns_of R.WIDTH (bound params.now) q
         (state S.Store conn.old).now.trees records.items) }
     ensures open { AnswersOpen S.Store conn.old conn.new result }
     ensures was_open { OpensNone S.Store conn.old conn.new }

@@ -4,8 +4,8 @@ ghost use Rattle.office_tables.specs.Amounts.{ArePartAmounts, AreStudentAmounts}
 use crate::given::assert_same;
 use crate::tables::created;
 use office_tables::{
-    Both, DeleteMeta, DeletePartShares, DeletePlacements, DeleteSeats, DeleteStudentShare, Each,
-    EnrolRow, InsertMeta, InsertPartShare, InsertPlacement, InsertSeat, InsertStudentShare,
+    Both, DeleteMeta, DeletePartShares, DeletePlacements, DeleteStudentSeats, DeleteStudentShare,
+    Each, EnrolRow, InsertMeta, InsertPartShare, InsertPlacement, InsertSeat, InsertStudentShare,
     PartShareRow, PlacedRow, SeatRow, StudentShareRow, adopt_tables, enrols_of, insert_enrols,
     is_published, part_shares, placements, placements_of, seats, seats_of, student_shares,
     student_shares_of, transact,
@@ -140,13 +140,13 @@ fn what_was_published_goes(rt: HostRuntime) -> Result<(), Fail> {
         &mut conn,
         &Both {
             first: DeletePlacements,
-            second: DeleteSeats,
+            second: DeleteStudentSeats { student: 2 },
         },
     )?;
     let places = placements(rt.alloc(), &mut conn)?;
     assert_same(&rt, places.len(), 0, "places");
     let all = seats(rt.alloc(), &mut conn)?;
-    assert_same(&rt, all.len(), 0, "seats");
+    assert_same(&rt, all.as_slice(), [seated(1, 0, 1)].as_slice(), "seats");
     Ok(())
 }
 

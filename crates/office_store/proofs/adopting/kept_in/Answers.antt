@@ -4,17 +4,15 @@ use Rattle.std.specs.Result.{IsErrAnd}
 use Rattle.sqlite.specs.Effect.{Database}
 use Rattle.sqlite.specs.Held.{state}
 use Rattle.office_tables.specs.Adopting.{IsAdopted, tables_of}
-use Rattle.office_tables.specs.Tables.{Tables, Stands as Held}
-use Rattle.office_model.specs.Office.{OfficeState, IsOffice}
-use Rattle.office_records.specs.Stands.{IsKept, IsSound, Stands}
 use Rattle.office_records.specs.declared.fault.RecordFault.{RecordFault}
 use Rattle.office_records.specs.declared.fault.RecordFault.TheVariants.{NoMemory, BadRows}
-use Rattle.office_records.proofs.SameTables.{same_stands, same_sound}
-use Rattle.office_records.proofs.UnbatchedLemmas.{not_foreign}
+use Rattle.office_records.proofs.ReadableLemmas.{not_foreign}
 use Rattle.office_records.specs.Faults.{store_fault}
 use Rattle.office_store.specs.Faults.{IsOfDatabase}
 use Rattle.office_model.specs.declared.fault.StoreFault.{StoreFault}
 use Rattle.office_model.specs.declared.fault.StoreFault.TheVariants.{BadSchema}
+use Rattle.office_store.proofs.AdoptLemmas.{both_same, found_batches, held_still, keeps_still}
+use Rattle.office_store.proofs.AdoptLemmas.{none_long, none_refused}
 use Rattle.office_store.proofs.adopting.kept_in.Goals as goal
 
 -- the tables are foreign
@@ -35,22 +33,105 @@ told : {X Q : Type 0} (r : Result X StoreFault) (fault : RecordFault)
 told (Ok x) fault is h = tt
 told (Err e) fault is h = λ bad. h (named fault (sym is ∙ bad))
 
--- what stands for an office is among the tables that were found
-none_found : (db : Database) (t : Tables) → Held db t
-    → ((o : OfficeState) → Stands t o → IsSound t o → IsOffice o → ⊥)
-    → (o : OfficeState) → IsKept db o → ⊥
-none_found db t held none o kept =
-    none o (same_stands db kept.held t kept.tables held o kept.stands)
-    (same_sound db kept.held t kept.tables held o kept.sound) kept.office
-
 pub returns-in_err-kept-clause-none : goal.returns-in_err-kept-clause-none
 returns-in_err-kept-clause-none g c clean =
     let db = (state g.S.Store c.args.conn.now).now in
-    let some : c.in-Ok-Some.field-0 ≡ Some c.in-Ok-Some.found = search rules in
-    let held : Held db (tables_of c.in-Ok-Some.found)
-    = subst (IsAdopted db) some (c.in-Ok-Some.ensures.found clean) in
-    told c.from_residual.result c.in_err-kept.field-0.0 c.from_residual.ensures.1
-    (λ bad. none_found db (tables_of c.in-Ok-Some.found) held (c.in_err-kept.ensures.none bad))
+    let found = c.in-Ok-Some.found in
+    let some : c.in-Ok-Some.field-0 ≡ Some found = search rules in
+    let adopted = subst (IsAdopted db) some (c.in-Ok-Some.ensures.found clean) in
+    told c.from_residual.result c.in_err-kept.field-0.0
+    c.from_residual.ensures.1
+    (λ bad o kept. none_refused db found adopted.0 adopted.1 adopted.2 o kept
+    (c.in_err-kept.ensures.none bad adopted.0 adopted.1))
+
+-- a batch that is too long is no office's
+pub returns-in_err-check_bytes-clause-none : goal.returns-in_err-check_bytes-clause-none
+returns-in_err-check_bytes-clause-none g c clean =
+    let old = c.args.conn.now in
+    let mid = c.adopt_tables.new.conn in
+    let db = (state g.S.Store old).now in
+    let found = c.in-Ok-Some.found in
+    let some : c.in-Ok-Some.field-0 ≡ Some found = search rules in
+    let clean_mid = c.check_bytes.ensures.clean clean in
+    let adopted = subst (IsAdopted db) some (c.in-Ok-Some.ensures.found clean_mid) in
+    let held = held_still g.S.Store old mid (tables_of found adopted.0)
+    (c.in-Ok-Some.ensures.same clean_mid) adopted.2 in
+    let long = c.in_err-check_bytes.ensures.long clean (tables_of found adopted.0) held in
+    let is : c.from_residual-in_err-check_bytes.result ≡ Err c.in_err-check_bytes.field-0.0
+    = search rules in
+    rw is (λ bad o kept. long bad
+    (none_long db found adopted.0 adopted.1 adopted.2 o kept))
+
+pub returns-in_err-check_bytes-clause-keeps : goal.returns-in_err-check_bytes-clause-keeps
+returns-in_err-check_bytes-clause-keeps g c clean =
+    let old = c.args.conn.now in
+    let mid = c.adopt_tables.new.conn in
+    let found = c.in-Ok-Some.found in
+    let some : c.in-Ok-Some.field-0 ≡ Some found = search rules in
+    let clean_mid = c.check_bytes.ensures.clean clean in
+    let adopted = subst (IsAdopted (state g.S.Store old).now) some
+    (c.in-Ok-Some.ensures.found clean_mid) in
+    let same = c.in-Ok-Some.ensures.same clean_mid in
+    let held = held_still g.S.Store old mid (tables_of found adopted.0) same adopted.2 in
+    keeps_still g.S.Store old mid c.check_bytes.new.conn same
+    (c.check_bytes.ensures.kept clean (tables_of found adopted.0) held)
+
+pub returns-clause-keeps : goal.returns-clause-keeps
+returns-clause-keeps g c clean =
+    let old = c.args.conn.now in
+    let mid = c.adopt_tables.new.conn in
+    let found = c.in-Ok-Some.found in
+    let some : c.in-Ok-Some.field-0 ≡ Some found = search rules in
+    let clean_mid = c.check_bytes.ensures.clean clean in
+    let adopted = subst (IsAdopted (state g.S.Store old).now) some
+    (c.in-Ok-Some.ensures.found clean_mid) in
+    let same = c.in-Ok-Some.ensures.same clean_mid in
+    let held = held_still g.S.Store old mid (tables_of found adopted.0) same adopted.2 in
+    keeps_still g.S.Store old mid c.check_bytes.new.conn same
+    (c.check_bytes.ensures.kept clean (tables_of found adopted.0) held)
+
+pub returns-clause-same : goal.returns-clause-same
+returns-clause-same g c clean =
+    let old = c.args.conn.now in
+    let mid = c.adopt_tables.new.conn in
+    let found = c.in-Ok-Some.found in
+    let some : c.in-Ok-Some.field-0 ≡ Some found = search rules in
+    let clean_mid = c.check_bytes.ensures.clean clean in
+    let adopted = subst (IsAdopted (state g.S.Store old).now) some
+    (c.in-Ok-Some.ensures.found clean_mid) in
+    let same = c.in-Ok-Some.ensures.same clean_mid in
+    let held = held_still g.S.Store old mid (tables_of found adopted.0) same adopted.2 in
+    both_same g.S.Store old mid c.check_bytes.new.conn same
+    (c.in_ok-check_bytes.ensures.same clean (tables_of found adopted.0) held)
+
+pub returns-clause-kept : goal.returns-clause-kept
+returns-clause-kept g c clean =
+    let old = c.args.conn.now in
+    let mid = c.adopt_tables.new.conn in
+    let db = (state g.S.Store old).now in
+    let found = c.in-Ok-Some.found in
+    let some : c.in-Ok-Some.field-0 ≡ Some found = search rules in
+    let clean_mid = c.check_bytes.ensures.clean clean in
+    let adopted = subst (IsAdopted db) some (c.in-Ok-Some.ensures.found clean_mid) in
+    let t = tables_of found adopted.0 in
+    let held = held_still g.S.Store old mid t (c.in-Ok-Some.ensures.same clean_mid) adopted.2 in
+    let short = c.in_ok-check_bytes.ensures.short clean t held
+    (adopted.1 ∙ sym c.deref.ensures.value) in
+    let are = c.in_ok-kept.ensures.are adopted.0
+    (found_batches db found adopted.0 adopted.1 adopted.2 short) in (
+      are.0,
+      record {
+        held = t;
+        tables = adopted.2;
+        stands = are.1;
+        sound = are.2;
+        office = are.3;
+      },
+      are.4,
+    )
+
+pub returns-clause-together : goal.returns-clause-together
+returns-clause-together g c = c.in_ok-kept.ensures.together
 
 of_database : {X : Type 0} (r : Result X StoreFault) (fault : RecordFault)
     → IsErrAnd r (λ e. e ≡ store_fault fault) → IfErr r IsOfDatabase
@@ -60,4 +141,5 @@ of_database (Err e) BadRows is = inr is
 
 pub returns-in_err-kept-clause-fault : goal.returns-in_err-kept-clause-fault
 returns-in_err-kept-clause-fault g c =
-    of_database c.from_residual.result c.in_err-kept.field-0.0 c.from_residual.ensures.1
+    of_database c.from_residual.result c.in_err-kept.field-0.0
+    c.from_residual.ensures.1

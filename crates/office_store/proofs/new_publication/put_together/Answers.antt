@@ -1,7 +1,11 @@
 use Rattle.std.proofs.Common.{List, ℕ, length, map, ap, ap₂, ◌∙◌, subst, sym}
+use Rattle.exam_model.specs.Enrolments.{IsAscending}
 use Rattle.exam_publish.specs.Shares.{Sharing}
+use Rattle.office_records.specs.Publications.{stored_seat}
+use Rattle.office_records.specs.SeatsStored.{seat_rows_of}
 use Rattle.office_records.specs.SharesStored.{HasFewParts, part_rows, share_rows_of, student_share_row}
-use Rattle.office_store.specs.NewPublications.{part_share_put, share_gone, student_share_put}
+use Rattle.office_store.specs.NewPublications.{her_seats_gone, part_share_put, seat_put}
+use Rattle.office_store.specs.NewPublications.{share_gone, student_share_put}
 use Rattle.office_store.proofs.NewPublicationLemmas.{few_parts}
 use Rattle.office_store.proofs.new_publication.put_together.Goals as goal
 
@@ -12,20 +16,30 @@ part_shares_put-requires c = record {
   small = c.in_ok-shares.ensures.small;
 }
 
+pub count_of-requires : goal.count_of-requires
+count_of-requires c =
+    subst IsAscending (sym c.deref-5.ensures.value) c.in_ok-candidates.ensures.ascending
+
 pub returns-clause-put : goal.returns-clause-put
 returns-clause-put c =
     let listed = c.in_ok-candidates.ensures.listed in
     let shares = c.in_ok-shares.ensures.shares in record {
       text = c.in_ok-text.ensures.text;
       placements = c.in_ok-placements.ensures;
-      seats = c.in_ok-seats.ensures;
-      gone = c.in_ok-gone.ensures ∙ ap (map share_gone) (c.deref.ensures.value ∙ listed);
+      seats_gone = c.in_ok-seats_gone.ensures
+          ∙ ap (map her_seats_gone) (c.deref.ensures.value ∙ listed);
+      seats = c.in_ok-seats.ensures
+          ∙ ap (λ (changed : List ℕ). map seat_put
+          (seat_rows_of changed (map stored_seat c.args.rows.now)))
+          (c.deref-2.ensures.value ∙ listed);
+      shares_gone = c.in_ok-shares_gone.ensures
+          ∙ ap (map share_gone) (c.deref-3.ensures.value ∙ listed);
       students = c.in_ok-students.ensures.put
           ∙ ap₂ (λ (changed : List ℕ) (all : Sharing). map student_share_put
           (share_rows_of changed (map student_share_row all.students)))
-          (c.deref-2.ensures.value ∙ listed) shares;
+          (c.deref-4.ensures.value ∙ listed) shares;
       parts = c.in_ok-parts.ensures.put
           ∙ ap (λ (all : Sharing). map part_share_put (part_rows all)) shares;
       counts = ap (λ n. record { changed = n; penalty = c.args.penalty })
-          (c.count_of.ensures ∙ ap length (c.deref-3.ensures.value ∙ listed));
+          (c.count_of.ensures ∙ ap length (c.deref-5.ensures.value ∙ listed));
     }

@@ -11,8 +11,9 @@ returns-clause-makes g c =
     let new = c.args.new.now in
     changes_as g.S.Store _ (places_put new) c.args.tx.now.conn.now c.apply-3.new.tx.conn.now
     c.apply-3.result
-    (λ t. subst (Stands (state g.S.Store c.apply-3.new.tx.conn.now).now) (places_made new _ _ _
-    c.deref.ensures.value c.deref-2.ensures.value c.deref-3.ensures.value t))
+    (λ t. subst (Stands (state g.S.Store c.apply-3.new.tx.conn.now).now) (places_made new _ _ _ _
+    c.deref.ensures.value c.deref-2.ensures.value c.deref-3.ensures.value c.deref-4.ensures.value
+    t))
     (changes_then g.S.Store _ _ c.args.tx.now.conn.now c.apply-2.new.tx.conn.now
     c.apply-3.new.tx.conn.now c.apply-3.result
     (changes_then g.S.Store _ _ c.args.tx.now.conn.now c.apply.new.tx.conn.now

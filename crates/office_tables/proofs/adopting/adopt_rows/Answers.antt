@@ -1,6 +1,5 @@
-use Rattle.std.proofs.Common.{◌≡◌, ◌↔◌, [], IsTrue}
 use Rattle.sqlite.specs.Held.{state}
-use Rattle.office_tables.specs.Adopting.{IsFoundDrafts, IsFoundPublication}
+use Rattle.office_tables.specs.Adopting.{IsFoundBatches, IsFoundDrafts, IsFoundPublication}
 use Rattle.office_tables.proofs.AdoptLemmas.{clean_before, found_after, looks_then, stays_then, rows_found}
 use Rattle.office_tables.proofs.adopting.adopt_rows.Goals as goal
 
@@ -31,13 +30,13 @@ returns-in_err-publication-clause-looks g c =
     c.in_ok-drafts.ensures.same in
     looks_then at_0 at_2 at_3 stays_2 c.find_publication.ensures.looks looks_2
 
-pub returns-in_err-unbatched-clause-looks : goal.returns-in_err-unbatched-clause-looks
-returns-in_err-unbatched-clause-looks g c =
+pub returns-in_err-batches-clause-looks : goal.returns-in_err-batches-clause-looks
+returns-in_err-batches-clause-looks g c =
     let at_0 = state g.S.Store c.args.conn.now in
     let at_1 = state g.S.Store c.find_session.new.conn in
     let at_2 = state g.S.Store c.find_drafts.new.conn in
     let at_3 = state g.S.Store c.find_publication.new.conn in
-    let at_4 = state g.S.Store c.lacks_batches.new.conn in
+    let at_4 = state g.S.Store c.adopt_batches.new.conn in
     let looks_1 = c.find_session.ensures.looks in
     let looks_2 = looks_then at_0 at_1 at_2 c.in_ok-session.ensures.same c.find_drafts.ensures.looks
     looks_1 in
@@ -46,7 +45,7 @@ returns-in_err-unbatched-clause-looks g c =
     let looks_3 = looks_then at_0 at_2 at_3 stays_2 c.find_publication.ensures.looks looks_2 in
     let stays_3 = stays_then at_0 at_2 at_3 stays_2 c.find_publication.ensures.looks
     c.in_ok-publication.ensures.same in
-    looks_then at_0 at_3 at_4 stays_3 c.lacks_batches.ensures.looks looks_3
+    looks_then at_0 at_3 at_4 stays_3 c.adopt_batches.ensures.looks looks_3
 
 pub returns-clause-looks : goal.returns-clause-looks
 returns-clause-looks g c =
@@ -54,7 +53,7 @@ returns-clause-looks g c =
     let at_1 = state g.S.Store c.find_session.new.conn in
     let at_2 = state g.S.Store c.find_drafts.new.conn in
     let at_3 = state g.S.Store c.find_publication.new.conn in
-    let at_4 = state g.S.Store c.lacks_batches.new.conn in
+    let at_4 = state g.S.Store c.adopt_batches.new.conn in
     let looks_1 = c.find_session.ensures.looks in
     let looks_2 = looks_then at_0 at_1 at_2 c.in_ok-session.ensures.same c.find_drafts.ensures.looks
     looks_1 in
@@ -63,7 +62,7 @@ returns-clause-looks g c =
     let looks_3 = looks_then at_0 at_2 at_3 stays_2 c.find_publication.ensures.looks looks_2 in
     let stays_3 = stays_then at_0 at_2 at_3 stays_2 c.find_publication.ensures.looks
     c.in_ok-publication.ensures.same in
-    looks_then at_0 at_3 at_4 stays_3 c.lacks_batches.ensures.looks looks_3
+    looks_then at_0 at_3 at_4 stays_3 c.adopt_batches.ensures.looks looks_3
 
 pub returns-clause-same : goal.returns-clause-same
 returns-clause-same g c =
@@ -71,13 +70,13 @@ returns-clause-same g c =
     let at_1 = state g.S.Store c.find_session.new.conn in
     let at_2 = state g.S.Store c.find_drafts.new.conn in
     let at_3 = state g.S.Store c.find_publication.new.conn in
-    let at_4 = state g.S.Store c.lacks_batches.new.conn in
+    let at_4 = state g.S.Store c.adopt_batches.new.conn in
     let stays_2 = stays_then at_0 at_1 at_2 c.in_ok-session.ensures.same c.find_drafts.ensures.looks
     c.in_ok-drafts.ensures.same in
     let stays_3 = stays_then at_0 at_2 at_3 stays_2 c.find_publication.ensures.looks
     c.in_ok-publication.ensures.same in
-    stays_then at_0 at_3 at_4 stays_3 c.lacks_batches.ensures.looks
-    c.in_ok-unbatched.ensures.same
+    stays_then at_0 at_3 at_4 stays_3 c.adopt_batches.ensures.looks
+    c.in_ok-batches.ensures.same
 
 pub returns-clause-found : goal.returns-clause-found
 returns-clause-found g c clean tables =
@@ -85,12 +84,12 @@ returns-clause-found g c clean tables =
     let at_1 = state g.S.Store c.find_session.new.conn in
     let at_2 = state g.S.Store c.find_drafts.new.conn in
     let at_3 = state g.S.Store c.find_publication.new.conn in
-    let at_4 = state g.S.Store c.lacks_batches.new.conn in
+    let at_4 = state g.S.Store c.adopt_batches.new.conn in
     let stays_2 = stays_then at_0 at_1 at_2 c.in_ok-session.ensures.same c.find_drafts.ensures.looks
     c.in_ok-drafts.ensures.same in
     let stays_3 = stays_then at_0 at_2 at_3 stays_2 c.find_publication.ensures.looks
     c.in_ok-publication.ensures.same in
-    let clean_3 = clean_before at_3 at_4 c.lacks_batches.ensures.looks clean in
+    let clean_3 = clean_before at_3 at_4 c.adopt_batches.ensures.looks clean in
     let clean_2 = clean_before at_2 at_3 c.find_publication.ensures.looks clean_3 in
     let clean_1 = clean_before at_1 at_2 c.find_drafts.ensures.looks clean_2 in
     let found_1 = c.in_ok-session.ensures.found clean_1 tables in
@@ -101,8 +100,8 @@ returns-clause-found g c clean tables =
     let found_3 = found_after at_0 at_2 at_3 stays_2 c.find_publication.ensures.looks
     (λ db. IsFoundPublication db c.in_ok-publication.publication)
     c.in_ok-publication.ensures.found clean_3 tables in
-    let found_4 = found_after at_0 at_3 at_4 stays_3 c.lacks_batches.ensures.looks
-    (λ db. IsTrue c.in_ok-unbatched.unbatched ↔ (db.trees 14 ≡ []))
-    c.in_ok-unbatched.ensures.found clean tables in
+    let found_4 = found_after at_0 at_3 at_4 stays_3 c.adopt_batches.ensures.looks
+    (λ db. IsFoundBatches db c.in_ok-batches.batches)
+    c.in_ok-batches.ensures.found clean tables in
     rows_found at_0.now tables.schema _ _ _ _ found_1 found_2 found_3 found_4 c.whole_of.result
     c.whole_of.ensures

@@ -1,6 +1,6 @@
 use Rattle.std.proofs.Common.{◌≢◌, ◌≤◌, ◌∙◌, ap, length, map, subst}
 use Rattle.std.proofs.lemmas.List.{take_all}
-use Rattle.office_tables.specs.Readings.{columns_from}
+use Rattle.office_tables.specs.Records.{columns_from}
 use Rattle.office_tables.proofs.ListedTables.{unread}
 use Rattle.office_tables.proofs.RecordLemmas.{one_read}
 use Rattle.office_tables.proofs.listing.read_each.Goals as goal

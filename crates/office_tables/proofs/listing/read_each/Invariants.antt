@@ -1,5 +1,5 @@
 use Rattle.std.proofs.Common.{◌≡◌, map, take}
-use Rattle.office_tables.specs.Readings.{columns_from}
+use Rattle.office_tables.specs.Records.{columns_from}
 use Rattle.office_tables.proofs.listing.read_each.Given as goal
 
 abbrev pub invariant-loop-row : goal.invariant-loop-row

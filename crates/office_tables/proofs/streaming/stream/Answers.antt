@@ -8,6 +8,7 @@ use Rattle.sqlite.specs.State.{HasCleanDisk}
 use Rattle.sqlite.specs.Values.{bound}
 use Rattle.sqlite.proofs.Callers.{begun_plain, unchanged_then}
 use Rattle.sqlite.proofs.StateLemmas.{survives_then}
+use Rattle.office_tables.specs.Records.{columns_from}
 use Rattle.office_tables.proofs.AskLemmas.{answers, begun_open, silent}
 use Rattle.office_tables.proofs.Reading.{kept_failed}
 use Rattle.office_tables.proofs.streaming.stream.Goals as goal
@@ -34,7 +35,7 @@ rows-init g c =
       given = λ clean plain.
           let begun = begun_plain g.S.Store c.args.sql.now (bound c.args.params.now) c.args.conn.now
           _ plain (made.begun clean) in
-          ([], begun.0, begun.1, c.new-records.ensures.items);
+          ([], begun.0, begun.1, ap (map g.R.Record.columns_of) c.new-records.ensures.items);
     }
 
 pub rows-preserved : goal.rows-preserved
@@ -42,6 +43,8 @@ rows-preserved g c =
     let old = state g.S.Store c.args.conn.now in
     let mid = c.rows.rows.conn.now in
     let now = c.advance.new.self.conn.now in
+    let columns_of = g.R.Record.columns_of in
+    let shown = columns_from 0 g.R.Record.WIDTH in
     record {
       same = c.advance.ensures.same_reference ∙ c.rows.invariant.same;
       mode = λ m. c.advance.ensures.mode (c.rows.invariant.mode m);
@@ -59,9 +62,11 @@ rows-preserved g c =
             advanced c.args.sql.now (bound c.args.params.now) was.0 was.1,
             unchanged_then old (state g.S.Store mid) (state g.S.Store now) was.2
                 (c.in_ok-advance.ensures.same clean),
-            c.in_ok-push.ensures.items ∙ ap (λ l. l ++ c.in_ok-read.field-0 ∷ []) was.3
-                ∙ ap (λ s. map g.R.Record.record_of was.0 ++ s ∷ []) c.in_ok-read.ensures.value
-                ∙ sym (map-append g.R.Record.record_of was.0 (row ∷ [])),
+            ap (map columns_of) c.in_ok-push.ensures.items
+                ∙ map-append columns_of c.rows.records.items (c.in_ok-read.field-0 ∷ [])
+                ∙ ap (λ l. l ++ columns_of c.in_ok-read.field-0 ∷ []) was.3
+                ∙ ap (λ s. map shown was.0 ++ s ∷ []) c.in_ok-read.ensures.columns
+                ∙ sym (map-append shown was.0 (row ∷ [])),
           );
     }
 

@@ -5,6 +5,7 @@ use Rattle.sqlite.specs.Held.{state}
 use Rattle.sqlite.specs.Given.{HasGiven, IsPlain}
 use Rattle.sqlite.specs.Listing.{understood}
 use Rattle.sqlite.specs.Values.{bound}
+use Rattle.office_tables.specs.Records.{columns_from}
 use Rattle.office_tables.proofs.streaming.stream.Given as goal
 
 abbrev pub invariant-rows : goal.invariant-rows
@@ -20,5 +21,6 @@ invariant-rows g l =
       given : HasCleanDisk now → plain
           → (given : List Row) × HasGiven g.S.Store l.sql (bound l.params) l.rows.conn.now given
           × IsUnchanged old now
-          × (l.records.items ≡ map g.R.Record.record_of given);
+          × (map g.R.Record.columns_of l.records.items
+          ≡ map (columns_from 0 g.R.Record.WIDTH) given);
     }

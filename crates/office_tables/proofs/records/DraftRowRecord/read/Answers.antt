@@ -53,10 +53,6 @@ returns-in_err-get-8-clause-refused c =
     (λ made fits same. (made.room, sym (ap (λ (l : Row). column l 7) same)))
     c.from_residual-in_err-get-8.result _ c.from_residual-in_err-get-8.ensures.1 c.in_err-get-8.ensures.kind
 
-pub returns-clause-value : goal.returns-clause-value
-returns-clause-value c =
-    rw (c.in_ok-get.ensures.ok.1, c.in_ok-get-2.ensures.ok.1, c.in_ok-get-3.ensures.ok.1, c.in_ok-get-4.ensures.ok.1, c.in_ok-get-5.ensures.ok.1, c.in_ok-get-6.ensures.ok.1, c.in_ok-get-7.ensures.ok.1, c.in_ok-get-8.ensures.ok.1) refl
-
 pub returns-clause-columns : goal.returns-clause-columns
 returns-clause-columns c =
     rw (c.in_ok-get.ensures.ok.1, c.in_ok-get-2.ensures.ok.1, c.in_ok-get-3.ensures.ok.1, c.in_ok-get-4.ensures.ok.1, c.in_ok-get-5.ensures.ok.1, c.in_ok-get-6.ensures.ok.1, c.in_ok-get-7.ensures.ok.1, c.in_ok-get-8.ensures.ok.1) refl

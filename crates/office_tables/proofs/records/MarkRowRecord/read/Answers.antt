@@ -10,8 +10,5 @@ returns-in_err-get-clause-refused c =
     (λ made fits same. (made.published, sym (ap (λ (l : Row). column l 0) same), fits))
     c.from_residual.result _ c.from_residual.ensures.1 c.in_err-get.ensures.kind
 
-pub returns-clause-value : goal.returns-clause-value
-returns-clause-value c = rw c.in_ok-get.ensures.ok.1 refl
-
 pub returns-clause-columns : goal.returns-clause-columns
 returns-clause-columns c = rw c.in_ok-get.ensures.ok.1 refl

@@ -29,10 +29,6 @@ returns-in_err-get-4-clause-refused c =
     (λ made fits same. (made.room, sym (ap (λ (l : Row). column l 3) same), fits.3))
     c.from_residual-in_err-get-4.result _ c.from_residual-in_err-get-4.ensures.1 c.in_err-get-4.ensures.kind
 
-pub returns-clause-value : goal.returns-clause-value
-returns-clause-value c =
-    rw (c.in_ok-get.ensures.ok.1, c.in_ok-get-2.ensures.ok.1, c.in_ok-get-3.ensures.ok.1, c.in_ok-get-4.ensures.ok.1) refl
-
 pub returns-clause-columns : goal.returns-clause-columns
 returns-clause-columns c =
     rw (c.in_ok-get.ensures.ok.1, c.in_ok-get-2.ensures.ok.1, c.in_ok-get-3.ensures.ok.1, c.in_ok-get-4.ensures.ok.1) refl

@@ -1,0 +1,16 @@
+use Rattle.std.specs.Prelude.{◌≡◌, ◌++◌, drop, length}
+use Rattle.exam_model.specs.Enrolments.{AreEnrolments}
+use Rattle.office_model.specs.Batches.{enrolled, no_counts}
+use Rattle.office_enrolment.specs.AfterBatch.{acting, lines_in}
+use Rattle.office_enrolment.proofs.batch.after_batch.Given as goal
+
+abbrev pub invariant-lines : goal.invariant-lines
+invariant-lines l = record {
+  lines : enrolled l.changes l.enrolments no_counts
+      ≡ enrolled (drop l.change-index l.changes) l.after l.counts;
+  acting : acting l.changes l.enrolments
+      ≡ l.acting.items ++ acting (drop l.change-index l.changes) l.after;
+  kept : AreEnrolments l.after;
+  exams : length l.after ≡ length l.enrolments;
+  counted : lines_in l.counts ≡ l.change-index;
+}

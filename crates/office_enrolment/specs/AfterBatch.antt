@@ -1,0 +1,45 @@
+-- What a batch makes of enrolments: one line, all lines, and those that act.
+use Rattle.std.specs.Prelude.{◌≡◌, ℕ, ◌+◌, ◌⊎◌, Bool, nat_lt, nat_le, if◌then◌else◌, List, [], ◌∷◌, length, Result, Ok, Err}
+use Rattle.std.specs.List.{list_all}
+use Rattle.exam_terms.specs.Refusing.{◌>>=◌, unless}
+use Rattle.exam_terms.specs.declared.limits.TheConstants.{MAX_PAIRS}
+use Rattle.exam_model.specs.Enrolments.{Enrolled, pair_count}
+use Rattle.exam_model.specs.declared.change.Change.{Change}
+use Rattle.exam_draft.specs.declared.fault.EditFault.TheVariants.{NoSuch}
+use Rattle.office_model.specs.Batches.{acts, after_change, enrolled, no_counts}
+use Rattle.office_model.specs.declared.counts.Counts.{Counts}
+use Rattle.office_model.specs.declared.fault.Refusal.TheVariants as refusal
+use Rattle.office_model.specs.declared.fault.StoreFault.{StoreFault}
+use Rattle.office_model.specs.declared.fault.StoreFault.TheVariants.{Refused, Store, TooMany}
+
+-- whether a line names an exam that is there
+abbrev pub names_exam : Enrolled → Change → Bool
+names_exam E change = nat_lt change.exam (length E)
+
+-- the enrolments after a line, refused where there would be too many pairs
+abbrev pub after_line : Change → Enrolled → Result Enrolled StoreFault
+after_line change E = do
+  _ ← unless (nat_le (pair_count (after_change change E)) MAX_PAIRS) TooMany
+  Ok (after_change change E)
+
+-- what a batch makes of enrolments, with what its lines did: refused where any of them names an
+-- exam that isn't there, before the first acts; then at the first that makes too many pairs
+abbrev pub after_batch : List Change → Enrolled → Result (Counts × Enrolled) StoreFault
+after_batch changes E = do
+  _ ← unless (list_all (names_exam E) changes) (Refused (refusal.Edit NoSuch))
+  enrolled changes E no_counts
+
+-- the lines that change something when they come, in file order
+abbrev pub acting : List Change → Enrolled → List Change
+acting [] E = []
+acting (change ∷ changes) E =
+    if acts change E then change ∷ acting changes (after_change change E)
+    else acting changes (after_change change E)
+
+-- how many lines are counted
+abbrev pub lines_in : Counts → ℕ
+lines_in n = n.added + n.dropped + n.unchanged
+
+-- a call answers this fault for such a judgement: its refusal, or out of memory in its place
+abbrev pub Refuses : {A : Type 0} → Result A StoreFault → StoreFault → Type 0
+Refuses judged fault = (judged ≡ Err fault) ⊎ (fault ≡ Store)

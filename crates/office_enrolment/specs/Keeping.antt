@@ -1,0 +1,30 @@
+-- The office after a batch that is new.
+use Rattle.std.specs.Prelude.{ℕ, nat_lt, List, ◌∷◌, length, Some, Ok}
+use Rattle.exam_terms.specs.Refusing.{◌>>=◌, unless}
+use Rattle.exam_terms.specs.declared.limits.TheConstants.{MAX_BATCHES}
+use Rattle.exam_model.specs.Enrolments.{Enrolled}
+use Rattle.exam_model.specs.declared.change.Change.{Change}
+use Rattle.office_model.specs.Commands.{Gives}
+use Rattle.office_model.specs.Office.{Records}
+use Rattle.office_model.specs.declared.counts.Counts.{Counts}
+use Rattle.office_model.specs.declared.fault.StoreFault.TheVariants.{TooMany}
+use Rattle.office_enrolment.specs.AfterBatch.{after_batch}
+
+-- the records with other enrolments and one batch more, with what it counted
+abbrev pub with_batch : ℕ → List ℕ → Records → Counts × Enrolled → Records
+with_batch number bytes r done = record r {
+  enrolments = done.1;
+  batches = record { no = number; bytes = bytes; counts = done.0 } ∷ r.batches;
+}
+
+-- refused where as many batches are kept as may be
+abbrev pub batch_kept : ℕ → List ℕ → Records → Counts × Enrolled → Gives Counts
+batch_kept number bytes r done = do
+  _ ← unless (nat_lt (length r.batches) MAX_BATCHES) TooMany
+  Ok (done.0, Some (with_batch number bytes r done))
+
+-- a batch that is new is judged by its lines, and then kept
+abbrev pub batch_judged : ℕ → List ℕ → List Change → Records → Gives Counts
+batch_judged number bytes changes r = do
+  done ← after_batch changes r.enrolments
+  batch_kept number bytes r done

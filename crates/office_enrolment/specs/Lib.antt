@@ -1,0 +1,3 @@
+pub mod AfterBatch
+pub mod Keeping
+pub mod Rows

@@ -1,0 +1,111 @@
+// A batch of changes, carried out on enrolments.
+ghost use Rattle.std.specs.Prelude.{◌≡◌, ◌<◌, ◌≤◌, ◌++◌, [], ◌∷◌, length, IfErr, IfOk, OnOk, Ok};
+ghost use Rattle.std.specs.List.{list_all};
+ghost use Rattle.exam_terms.specs.declared.limits.TheConstants.{TEXT_BYTES};
+ghost use Rattle.exam_model.specs.Enrolments.{AreEnrolments, Enrolled};
+ghost use Rattle.office_model.specs.Batches.{acts, counted, no_counts};
+ghost use Rattle.office_enrolment.specs.AfterBatch.{Refuses, acting, after_batch, after_line, lines_in, names_exam};
+
+use exam_draft::EditFault;
+use exam_model::{Change, Enrolments, ModelFault};
+use office_model::{Counts, Refusal, StoreFault};
+use std::alloc::{AllocError, Global};
+
+/// What a batch made of enrolments.
+#[derive(Debug, Drop)]
+pub struct AfterBatch {
+    /// The enrolments after all lines.
+    pub enrolments: Enrolments,
+    /// What the lines did.
+    pub counts: Counts,
+    /// The lines that added a pair or dropped one, in file order.
+    pub acting: Vec<Change>,
+}
+
+/// Carries out a batch on a copy of the enrolments, its lines in file order. `Refused`: a line
+/// names an exam that isn't there; then `TooMany`: at some line there would be more than 200,000
+/// pairs. `Store` comes where memory is refused.
+pub fn after_batch(
+    alloc: Global,
+    enrolments: &Enrolments,
+    changes: &[Change],
+) -> Result<AfterBatch, StoreFault>
+    requires lines { length changes.now ≤ TEXT_BYTES }
+    ensures ok { IfOk result (λ made. after_batch changes.now enrolments.now
+        ≡ Ok (made.counts, made.enrolments)) }
+    ensures acting { IfOk result (λ made. made.acting.items ≡ acting changes.now enrolments.now) }
+    ensures kept { IfOk result (λ made. AreEnrolments made.enrolments) }
+    ensures refused { IfErr result (Refuses (after_batch changes.now enrolments.now)) }
+{
+    if !name_exams(enrolments, changes) {
+        return Err(StoreFault::Refused(Refusal::Edit(EditFault::NoSuch)));
+    }
+    let mut after = enrolments.copy(alloc)?;
+    let mut counts = Counts {
+        added: 0,
+        dropped: 0,
+        unchanged: 0,
+    };
+    let mut acting: Vec<Change> = Vec::new(alloc);
+    'lines: for change in changes {
+        let has_acted = carry_out(&mut after, change)?;
+        count(&mut counts, change, has_acted);
+        if has_acted {
+            add_line(&mut acting, change)?;
+        }
+    }
+    Ok(AfterBatch {
+        enrolments: after,
+        counts,
+        acting,
+    })
+}
+
+// Whether each line names an exam that is there.
+fn name_exams(enrolments: &Enrolments, changes: &[Change]) -> bool
+    ensures { result ≡ list_all (names_exam enrolments.now) changes.now }
+{
+    let exams = enrolments.exams();
+    changes.iter().all(|change| change.exam.get() < exams)
+}
+
+// Carries out one line, and answers whether it acts.
+fn carry_out(enrolments: &mut Enrolments, change: &Change) -> Result<bool, StoreFault>
+    requires exam { change.now.exam < length enrolments.old }
+    ensures acts { IfOk result (λ has_acted. has_acted ≡ acts change.now enrolments.old) }
+    ensures after { OnOk result (after_line change.now enrolments.old ≡ Ok enrolments.new) }
+    ensures kept { AreEnrolments enrolments.new }
+    ensures refused { IfErr result (Refuses (after_line change.now enrolments.old)) }
+{
+    if !change.add {
+        return Ok(enrolments.remove(change.student, change.exam));
+    }
+    match enrolments.add(change.student, change.exam) {
+        Ok(is_new) => Ok(is_new),
+        Err(ModelFault::Range) => Err(StoreFault::TooMany),
+        Err(ModelFault::NoSuch | ModelFault::NoMemory) => Err(StoreFault::Store),
+    }
+}
+
+// Counts one line more: as an add, a drop, or neither where it has not acted.
+fn count(counts: &mut Counts, change: &Change, has_acted: bool)
+    requires { lines_in counts.old < TEXT_BYTES }
+    ensures { (E : Enrolled) → has_acted ≡ acts change.now E
+        → counts.new ≡ counted change.now E counts.old }
+{
+    if !has_acted {
+        counts.unchanged += 1;
+    } else if change.add {
+        counts.added += 1;
+    } else {
+        counts.dropped += 1;
+    }
+}
+
+// Puts a line behind those before it.
+fn add_line(lines: &mut Vec<Change>, change: &Change) -> Result<(), AllocError>
+    ensures { OnOk result (lines.new.items ≡ lines.old.items ++ change.now ∷ []) }
+{
+    lines.push(*change)?;
+    Ok(())
+}

@@ -1,0 +1,60 @@
+// Laws of batches: functions whose contracts are the laws.
+ghost use Rattle.std.specs.Prelude.{◌≡◌, ◌≤◌, ℕ, IsPermutation, List, Ok, length};
+ghost use Rattle.exam_terms.specs.declared.limits.TheConstants.{MAX_BATCH, TEXT_BYTES};
+ghost use Rattle.exam_model.specs.Enrolments.{AreEnrolments, Enrolled};
+ghost use Rattle.exam_model.specs.Instance.{Session};
+ghost use Rattle.exam_model.specs.Pairs.{Pair, pairs_of};
+ghost use Rattle.exam_model.specs.declared.change.Change.{Change};
+ghost use Rattle.office_batches.specs.BatchText.{batch_in};
+ghost use Rattle.office_model.specs.Batches.{batch_enrolled, newly_enrolled};
+ghost use Rattle.office_model.specs.Office.{AreEnrolled, IsOffice, OfficeState, Records};
+ghost use Rattle.office_model.specs.declared.counts.Counts.{Counts};
+ghost use Rattle.office_enrolment.specs.AfterBatch.{acting, after_batch, lines_in};
+ghost use Rattle.office_enrolment.specs.Keeping.{batch_judged};
+ghost use Rattle.office_enrolment.specs.Rows.{after_rows, pair_rows};
+
+use office_batches::batch_readings_agree;
+
+/// A text spells no more changes than a text may have bytes, so that their counts fit in 32 bits;
+/// each line is counted once.
+pub fn lines_are_counted()
+    ensures few { (b : List ℕ) (changes : List Change) → batch_in b ≡ Ok changes
+        → length changes ≤ TEXT_BYTES }
+    ensures counted { (changes : List Change) (E : Enrolled) (done : Counts × Enrolled)
+        → after_batch changes E ≡ Ok done → lines_in done.0 ≡ length changes }
+{
+    batch_readings_agree();
+}
+
+/// The lines that act, taken to the list of pairs one after another, make it the list of the pairs
+/// after the batch, in some order.
+pub fn rows_follow_lines()
+    ensures { (changes : List Change) (E : Enrolled) (done : Counts × Enrolled) (rows : List Pair)
+        → AreEnrolments E → after_batch changes E ≡ Ok done → IsPermutation rows (pairs_of E)
+        → IsPermutation (after_rows pair_rows (acting changes E) rows) (pairs_of done.1) }
+{}
+
+/// The enrolments after a batch are the session's again.
+pub fn enrolled_again()
+    ensures { (I : Session) (b : List ℕ) (changes : List Change) (E : Enrolled)
+        (done : Counts × Enrolled) → AreEnrolled I E → batch_in b ≡ Ok changes
+        → after_batch changes E ≡ Ok done → AreEnrolled I done.1 }
+{
+    batch_readings_agree();
+}
+
+/// A batch whose number isn't kept is judged by its lines, and then kept, where there is room.
+pub fn newly_enrolled_by_lines()
+    ensures { (number : ℕ) (bytes : List ℕ) (changes : List Change) (r : Records)
+        → AreEnrolled r.session r.enrolments → newly_enrolled number bytes changes r
+        ≡ batch_judged number bytes changes r }
+{}
+
+/// What an accepted batch leaves of an office is an office.
+pub fn batch_leaves_an_office()
+    ensures { (number : ℕ) (bytes : List ℕ) (old new : OfficeState) (counts : Counts)
+        → number ≤ MAX_BATCH → IsOffice old → batch_enrolled number bytes old ≡ Ok (counts, new)
+        → IsOffice new }
+{
+    batch_readings_agree();
+}

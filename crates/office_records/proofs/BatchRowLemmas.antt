@@ -1,0 +1,155 @@
+-- Rows of the batches that were accepted.
+use Rattle.std.proofs.Common.{◌≡◌, ◌≢◌, ◌≤◌, ℕ, Bool, true, false, cond, eqb, List, [], ◌∷◌, map}
+use Rattle.std.proofs.Common.{filter, length, get_or, Some, None, refl, sym, ◌∙◌, ap, arith, subst, true≢false}
+use Rattle.std.specs.Prelude.{All, AllPairs, IsPermutation}
+use Rattle.std.specs.List.{AllByRecursion}
+use Rattle.std.proofs.lemmas.Bool.{eq-eqb}
+use Rattle.std.proofs.lemmas.List.{get_or-map, length-map}
+use Rattle.std.proofs.lemmas.List.Elements.{All-from_recursion, recursion_from_All}
+use Rattle.std.proofs.lemmas.List.Sorted.{IsPermutation-refl, IsPermutation-sym, length_permutation}
+use Rattle.sqlite_trees.proofs.ListLemmas.{all-map, all-permutation, all_both, all_from_map, all_weaker}
+use Rattle.office_tables.specs.Records.{counts_of, FitsBatch, FitsCounts}
+use Rattle.office_tables.specs.Tables.{Batch, Tables}
+use Rattle.office_tables.specs.declared.rows.BatchCountsRow.{BatchCountsRow}
+use Rattle.office_model.specs.Office.{AreKept, IsKeptBatch, IsOffice, KeptBatch, OfficeState}
+use Rattle.office_records.specs.Found.{AreBatchRows, AreFoundBatches, IsBatchRow, IsShort}
+use Rattle.office_records.specs.Stands.{Stands, StandsBatches, stored_batch}
+
+-- a stored batch as the office keeps it
+abbrev pub kept_batch : Batch → KeptBatch
+kept_batch b = record {
+  no = b.no;
+  bytes = b.bytes;
+  counts = record { added = b.added; dropped = b.dropped; unchanged = b.unchanged };
+}
+
+stored_again : (batches : List Batch) → map stored_batch (map kept_batch batches) ≡ batches
+stored_again [] = refl
+stored_again (b ∷ bs) = ap (λ (l : List Batch). b ∷ l) (stored_again bs)
+
+-- no row is one of no batch
+pub no_batches : (batches : List Batch) → map counts_of batches ≡ [] → batches ≡ []
+no_batches [] none = refl
+no_batches (b ∷ bs) none = absurd cc
+
+-- the row that stands where there is none
+abbrev pub no_row : BatchCountsRow
+no_row = record { no = 0; added = 0; dropped = 0; unchanged = 0 }
+
+-- ---- from the rows to the batches
+
+module _ (found : List BatchCountsRow) (batches : List Batch) (are : AreBatchRows found)
+    (rows : map counts_of batches ≡ found) where
+  each_row : AllByRecursion (λ (b : Batch). IsBatchRow (counts_of b)) batches
+  each_row =
+      all_from_map IsBatchRow counts_of batches
+      (subst (AllByRecursion IsBatchRow) (sym rows) (recursion_from_All IsBatchRow found are.each))
+
+  pub batches_stand : StandsBatches batches (map kept_batch batches)
+  batches_stand = record {
+    same = subst (IsPermutation batches) (sym (stored_again batches)) (IsPermutation-refl batches);
+    fit = all_weaker (λ (b : Batch). IsBatchRow (counts_of b)) FitsBatch (λ b is. is.fits) batches
+        each_row;
+  }
+
+-- batches that were found may be kept
+pub batches_kept : (found : List BatchCountsRow) (batches : List Batch) → AreBatchRows found
+    → AreFoundBatches found batches → AreKept (map kept_batch batches)
+batches_kept found batches are these = record {
+  few = let kept = length-map batches kept_batch in
+      let rows = length-map batches counts_of in
+      let long = ap (λ (l : List BatchCountsRow). length l) these.rows in
+      let most = are.few in
+      omega (arith, kept, rows, long, most);
+  within = All-from_recursion IsKeptBatch (map kept_batch batches)
+      (all-map IsKeptBatch kept_batch batches
+      (all_both (λ (b : Batch). IsBatchRow (counts_of b)) IsShort (λ b. IsKeptBatch (kept_batch b))
+      (λ b row short. record { number = row.number; size = short }) batches
+      (each_row found batches are these.rows)
+      (recursion_from_All IsShort batches these.short)));
+  numbers = λ i j d before within same.
+      let n = length-map batches kept_batch in
+      let p = stored_batch d in
+      let one = get_or-map kept_batch batches i p d (omega (arith, n, before, within)) in
+      let other = get_or-map kept_batch batches j p d (omega (arith, n, within)) in
+      these.apart i j p before (omega (arith, n, within))
+      (ap (λ (b : KeptBatch). b.no) (sym one) ∙ same ∙ ap (λ (b : KeptBatch). b.no) other);
+}
+
+-- ---- from the batches to their rows
+
+pub batch_rows : (found : List BatchCountsRow) (batches : List Batch) (kept : List KeptBatch)
+    → map counts_of batches ≡ found → StandsBatches batches kept → AreKept kept
+    → AreBatchRows found
+batch_rows found batches kept rows stand are = record {
+  few = let stored = length-map kept stored_batch in
+      let same = length_permutation _ _ stand.same in
+      let counted = length-map batches counts_of in
+      let long = ap (λ (l : List BatchCountsRow). length l) rows in
+      let most = are.few in
+      omega (arith, stored, same, counted, long, most);
+  each = subst (All IsBatchRow) rows
+      (All-from_recursion IsBatchRow (map counts_of batches)
+      (all-map IsBatchRow counts_of batches
+      (all_both (λ (b : Batch). b.no ≤ 999999999) FitsBatch (λ b. IsBatchRow (counts_of b))
+      (λ b number fits. record { number = number; fits = fits }) batches numbers stand.fit)));
+}
+  where
+    numbers : AllByRecursion (λ (b : Batch). b.no ≤ 999999999) batches
+    numbers =
+        all-permutation (λ (b : Batch). b.no ≤ 999999999) (map stored_batch kept) batches
+        (IsPermutation-sym _ _ stand.same)
+        (all-map (λ (b : Batch). b.no ≤ 999999999) stored_batch kept
+        (all_weaker IsKeptBatch (λ (b : KeptBatch). b.no ≤ 999999999) (λ b is. is.number) kept
+        (recursion_from_All IsKeptBatch kept are.within)))
+
+-- ---- each batch by its number
+
+-- what holds of the batches of each number that is there holds of all
+picked_each : {X : Type 0} (P : X → Type 0) (q : X → Bool) (xs : List X)
+    → AllByRecursion P (filter q xs) → AllByRecursion (λ x. q x ≡ true → P x) xs
+picked_each P q [] all = tt
+picked_each {X} P q (x ∷ xs) all = go (q x) refl all (picked_each P q xs)
+  where
+    go : (b : Bool) → q x ≡ b → AllByRecursion P (cond b (x ∷ filter q xs) (filter q xs))
+        → (AllByRecursion P (filter q xs) → AllByRecursion (λ y. q y ≡ true → P y) xs)
+        → (q x ≡ true → P x) × AllByRecursion (λ y. q y ≡ true → P y) xs
+    go true is h more = (λ _. h.0, more h.1)
+    go false is h more = (λ no. absurd (true≢false (sym no ∙ is)), more h)
+
+pub each_by_number : (P : Batch → Type 0) (batches : List Batch)
+    → AllByRecursion (λ (b : Batch). AllByRecursion P (filter (λ c. eqb c.no b.no) batches)) batches
+    → All P batches
+each_by_number P batches all k d within =
+    let Picked : Batch → Type 0
+    = λ b. AllByRecursion P (filter (λ (c : Batch). eqb c.no b.no) batches) in
+    let b = get_or batches k d in
+    let here : Picked b = All-from_recursion Picked batches all k d within in
+    let Same : Batch → Type 0 = λ c. eqb c.no b.no ≡ true → P c in
+    All-from_recursion Same batches (picked_each P (λ c. eqb c.no b.no) batches here) k d within
+    (eq-eqb b.no b.no refl)
+
+pub short_by_rows : (found : List BatchCountsRow) (batches : List Batch)
+    → map counts_of batches ≡ found
+    → All (λ (row : BatchCountsRow).
+    AllByRecursion IsShort (filter (λ (b : Batch). eqb b.no row.no) batches)) found
+    → All IsShort batches
+short_by_rows found batches rows all =
+    let Picked : BatchCountsRow → Type 0
+    = λ row. AllByRecursion IsShort (filter (λ (b : Batch). eqb b.no row.no) batches) in
+    each_by_number IsShort batches
+    (all_from_map Picked counts_of batches
+    (subst (AllByRecursion Picked) (sym rows) (recursion_from_All Picked found all)))
+
+-- an office's batches are not too long
+pub stored_short : (t : Tables) (o : OfficeState) → Stands t o → IsOffice o → All IsShort t.batch
+stored_short t None stands is =
+    subst (λ (u : Tables). All IsShort u.batch) (sym stands)
+    (λ k d none. absurd (omega (arith, none)))
+stored_short t (Some r) stands is =
+    All-from_recursion IsShort t.batch
+    (all-permutation IsShort (map stored_batch r.batches) t.batch
+    (IsPermutation-sym _ _ stands.batches.same)
+    (all-map IsShort stored_batch r.batches
+    (all_weaker IsKeptBatch (λ (b : KeptBatch). length b.bytes ≤ 1048576) (λ b is. is.size)
+    r.batches (recursion_from_All IsKeptBatch r.batches is.batches.within))))

@@ -1,0 +1,37 @@
+-- What an accepted batch makes of the rows of an office.
+use Rattle.std.specs.Prelude.{◌≡◌, ℕ, ◌&&◌, ◌==◌, List, ◌∷◌, refl}
+use Rattle.exam_model.specs.Enrolments.{Enrolled}
+use Rattle.exam_model.specs.Instance.{Session}
+use Rattle.exam_model.specs.Timetable.{Placing}
+use Rattle.exam_model.specs.declared.change.Change.{Change}
+use Rattle.exam_score.specs.Track.{track}
+use Rattle.office_tables.specs.Tables.{Tables, Batch}
+use Rattle.office_tables.specs.declared.rows.DraftRow.{DraftRow}
+use Rattle.office_tables.specs.declared.rows.EnrolRow.{EnrolRow}
+use Rattle.office_tables.specs.declared.rows.SlotRow.{SlotRow}
+use Rattle.office_enrolment.specs.Rows.{RowKind, after_rows}
+use Rattle.office_records.specs.Found.{AreSlots}
+use Rattle.office_records.specs.Stands.{enrol_row, parts_of}
+
+-- the rows of pairs in the table of enrolments
+abbrev pub enrol_rows : RowKind EnrolRow
+enrol_rows = record {
+  row = enrol_row;
+  is_of = λ s e row. (row.student == s) && (row.exam == e);
+  tells = λ s e p. refl;
+}
+
+-- a row of a draft whose places are among these, with its penalty
+pub record IsRescored (I : Session) (E : Enrolled) (places : List SlotRow) (row : DraftRow)
+    : Type 0 where
+  pub timetable : Placing
+  pub slots : AreSlots I row.no places timetable
+  pub parts : parts_of row ≡ track I E timetable
+
+-- the tables after these lines, with these rows of drafts and one batch more
+abbrev pub batch_put : List Change → List DraftRow → Batch → Tables → Tables
+batch_put lines drafts batch t = record t {
+  enrol = after_rows enrol_rows lines t.enrol;
+  draft = drafts;
+  batch = batch ∷ t.batch;
+}

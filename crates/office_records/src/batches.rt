@@ -1,0 +1,41 @@
+// Rows of the batches that were accepted, without their bytes.
+ghost use Rattle.std.specs.Prelude.{◌≡◌, ◌↔◌, All, IfErr, IsTrue, OnErr, OnOk};
+ghost use Rattle.office_records.specs.Found.{AreBatchRows, IsBatchRow};
+
+use crate::fault::RecordFault;
+use exam_terms::limits::{MAX_BATCH, MAX_BATCHES};
+use office_tables::BatchCountsRow;
+
+/// Whether these rows are of batches that an office may keep, whatever their bytes. `BadRows`:
+/// there are too many, or a number is beyond the limit.
+pub fn check_batches(rows: &[BatchCountsRow]) -> Result<(), RecordFault>
+    ensures are { OnOk result (AreBatchRows rows.now) }
+    ensures none { OnErr result (AreBatchRows rows.now → ⊥) }
+    ensures fault { IfErr result (λ e. e ≡ RecordFault.BadRows) }
+{
+    let few = rows.len() <= MAX_BATCHES as usize;
+    if few && are_batches(rows) {
+        Ok(())
+    } else {
+        Err(RecordFault::BadRows)
+    }
+}
+
+// Whether each row has a number that a batch may have.
+fn are_batches(rows: &[BatchCountsRow]) -> bool
+    ensures { IsTrue result ↔ All IsBatchRow rows.now }
+{
+    'rows: for row in rows {
+        if !is_batch(*row) {
+            return false;
+        }
+    }
+    true
+}
+
+// Whether a row has a number that a batch may have.
+fn is_batch(row: BatchCountsRow) -> bool
+    ensures { IsTrue result ↔ IsBatchRow row }
+{
+    row.no <= MAX_BATCH
+}

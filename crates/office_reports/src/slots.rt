@@ -1,0 +1,91 @@
+// What is in each room and period: tables with an entry for each, made in one pass.
+ghost use Rattle.std.specs.Prelude.{◌≡◌, ◌↔◌, ◌<◌, ◌*◌, [], length, IsTrue, Some, IfOk};
+ghost use Rattle.exam_model.specs.Fits.{PlaceExists};
+ghost use Rattle.exam_publish.specs.Rows.{row_place};
+ghost use Rattle.exam_rules.specs.Loads.{slot_of};
+ghost use Rattle.office_reports.specs.Rooms.{exams_in, seats_in};
+ghost use Rattle.office_reports.specs.Slots.{IsTable};
+
+use crate::exam_list::{ExamList, empty_lists};
+use exam_model::{Instance, Timetable};
+use exam_publish::SeatRow;
+use exam_terms::{ExamNo, Place};
+use std::alloc::{AllocError, Global};
+
+/// The exams that stand in each room and period, ascending.
+pub fn exams_by_slot(
+    alloc: Global,
+    instance: &Instance,
+    timetable: &Timetable,
+) -> Result<Vec<ExamList>, AllocError>
+    ensures { IfOk result (λ lists.
+        IsTable instance.now [] (exams_in timetable.now) lists.items) }
+{
+    let mut lists = empty_lists(alloc, slots(instance))?;
+    'exams: for number in 0..timetable.exams() {
+        let exam = ExamNo::new(number);
+        let Some(place) = timetable.get(exam) else {
+            continue;
+        };
+        if has_place(instance, &place) {
+            lists[slot_of(instance, &place)].push(exam)?;
+        }
+    }
+    Ok(lists)
+}
+
+// How many entries a table has.
+fn slots(instance: &Instance) -> usize
+    ensures { result ≡ length instance.now.periods * length instance.now.rooms }
+{
+    instance.periods() as usize * instance.rooms() as usize
+}
+
+// Whether the instance has the place's period and its room.
+fn has_place(instance: &Instance, place: &Place) -> bool
+    ensures { IsTrue result ↔ PlaceExists instance.now (Some place.now) }
+{
+    place.period.get() < instance.periods() && place.room.get() < instance.rooms()
+}
+
+/// A place's entry in the tables.
+pub fn slot_of(instance: &Instance, place: &Place) -> usize
+    requires { PlaceExists instance.now (Some place.now) }
+    ensures slot { result ≡ slot_of (length instance.now.rooms) place.now }
+    ensures within { result < length instance.now.periods * length instance.now.rooms }
+{
+    let _periods = instance.periods(); // read for its limit of periods
+    let period = place.period.get() as usize;
+    let room = place.room.get() as usize;
+    period * instance.rooms() as usize + room
+}
+
+/// How many of the seats are in each room and period.
+pub fn seats_by_slot(
+    alloc: Global,
+    instance: &Instance,
+    seats: &[SeatRow],
+) -> Result<Vec<usize>, AllocError>
+    ensures { IfOk result (λ counts. IsTable instance.now 0 (seats_in seats.now) counts.items) }
+{
+    let mut counts = vec![in alloc; 0usize; slots(instance)]?;
+    'seats: for seat in seats {
+        let place = place_of(seat);
+        if has_place(instance, &place) {
+            let slot = slot_of(instance, &place);
+            let count = counts[slot] + 1;
+            counts[slot] = count;
+        }
+    }
+    Ok(counts)
+}
+
+// Where a seat is.
+fn place_of(seat: &SeatRow) -> Place
+    ensures { result ≡ row_place seat.now }
+{
+    Place {
+        period: seat.period,
+        room: seat.room,
+    }
+}

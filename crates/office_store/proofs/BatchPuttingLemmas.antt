@@ -1,0 +1,232 @@
+-- A batch that is accepted.
+use Rattle.std.proofs.Common.{◌≡◌, ◌≤◌, ◌<◌, ℕ, true, false, List, [], ◌∷◌, map, reverse, length}
+use Rattle.std.proofs.Common.{filter, not, if◌then◌else◌, Some, None, Result, Ok, Err, refl, sym, ◌∙◌, ap, subst, arith}
+use Rattle.std.specs.Prelude.{◌==◌, ◌&&◌, nat_lt, IsPermutation}
+use Rattle.std.proofs.lemmas.Bool.Decides.{nat_tests}
+use Rattle.std.proofs.lemmas.List.{append-nil}
+use Rattle.std.proofs.lemmas.List.Sorted.{IsPermutation-reverse}
+use Rattle.exam_terms.specs.Refusing.{◌>>=◌, unless}
+use Rattle.exam_model.specs.Enrolments.{Enrolled}
+use Rattle.exam_model.specs.Instance.{Session}
+use Rattle.exam_model.specs.declared.change.Change.{Change}
+use Rattle.sqlite.specs.Effect.{Database}
+use Rattle.sqlite.specs.Held.{Held, state}
+use Rattle.sqlite.specs.State.{HasCleanDisk}
+use Rattle.sqlite.specs.Store.{Ghosts}
+use Rattle.office_batches.specs.BatchText.{batch_in}
+use Rattle.office_tables.specs.Alterations.{after_all}
+use Rattle.office_tables.specs.Changes.{no_drafts, with_batch, with_draft, with_enrol, without_enrol}
+use Rattle.office_tables.specs.Tables.{Batch, Tables, Stands as HeldBy}
+use Rattle.office_tables.specs.declared.drafts.InsertDraft.{InsertDraft}
+use Rattle.office_tables.specs.declared.rows.DraftRow.{DraftRow}
+use Rattle.office_tables.specs.declared.rows.EnrolRow.{EnrolRow}
+use Rattle.office_tables.specs.declared.rows.SlotRow.{SlotRow}
+use Rattle.office_tables.proofs.AlterationLemmas.{drafts_put}
+use Rattle.office_enrolment.specs.AfterBatch.{acting, after_batch, lines_in}
+use Rattle.office_enrolment.specs.Keeping as keeping
+use Rattle.office_enrolment.specs.Rows.{after_row, after_rows, pair_of}
+use Rattle.office_enrolment.proofs.OfficeLemmas.{as_office}
+use Rattle.office_model.specs.Batches.{batch_enrolled, kept_in, kept_under, newly_enrolled}
+use Rattle.office_model.specs.Office.{IsOffice, OfficeState, Records}
+use Rattle.office_model.specs.declared.counts.Counts.{Counts}
+use Rattle.office_model.specs.declared.fault.StoreFault.{StoreFault}
+use Rattle.office_model.specs.declared.fault.StoreFault.TheVariants.{TooMany}
+use Rattle.office_records.specs.BatchRows.{batch_put, enrol_rows}
+use Rattle.office_records.specs.Found.{AreDrafts}
+use Rattle.office_records.specs.Memory.{Memory, memory_of}
+use Rattle.office_records.specs.Stands.{IsKept, IsSound, StandsLoaded, enrol_row, stored_batch}
+use Rattle.office_records.proofs.BatchPutLemmas.{batch_sound, batch_stands, drafts_moved}
+use Rattle.office_store.specs.NewBatches.{AreBatchRowsOf, Enrols, IsNewFor, line_put, new_batch_put}
+use Rattle.office_store.specs.Running.{IsAwake, IsFault, IsStill}
+use Rattle.office_store.specs.declared.new_batch.NewBatch.{NewBatch}
+use Rattle.office_store.specs.declared.new_batch.PutLine.{PutLine}
+use Rattle.office_store.proofs.CommandLemmas.{Denies, Moves}
+use Rattle.office_store.proofs.RunLemmas.{kept_of}
+
+-- ---- what the parts of the transaction make of the tables, one after the other
+
+-- one line
+line_is : (change : Change) (t : Tables)
+    → line_put change t ≡ record t { enrol = after_row enrol_rows change t.enrol }
+line_is change t =
+    elim change.add as (λ b. (if b then with_enrol (enrol_row (pair_of change)) t
+    else without_enrol change.student change.exam t)
+    ≡ record t {
+      enrol = if b then enrol_row (pair_of change) ∷ t.enrol
+          else filter (λ (r : EnrolRow).
+          not ((r.student == change.student) && (r.exam == change.exam))) t.enrol;
+    }) [
+      | true ↦ refl
+      | false ↦ refl
+    ]
+
+-- all lines
+lines_made : (its : List PutLine) (t : Tables)
+    → after_all (λ (it : PutLine). line_put it.change) its t
+    ≡ record t { enrol = after_rows enrol_rows (map (λ (it : PutLine). it.change) its) t.enrol }
+lines_made [] t = refl
+lines_made (it ∷ rest) t =
+    ap (after_all (λ (it : PutLine). line_put it.change) rest) (line_is it.change t)
+    ∙ lines_made rest (record t { enrol = after_row enrol_rows it.change t.enrol })
+
+-- and the drafts and the batch
+all_made : (lines : List PutLine) (drafts : List InsertDraft) (row : Batch) (t : Tables)
+    → with_batch row (after_all (λ (it : InsertDraft). with_draft it.row) drafts
+    (no_drafts (after_all (λ (it : PutLine). line_put it.change) lines t)))
+    ≡ batch_put (map (λ (it : PutLine). it.change) lines)
+    (reverse (map (λ (it : InsertDraft). it.row) drafts)) row t
+all_made lines drafts row t =
+    ap (λ (u : Tables). with_batch row (after_all (λ (it : InsertDraft). with_draft it.row) drafts
+    (no_drafts u))) (lines_made lines t)
+    ∙ ap (with_batch row) (drafts_put drafts _)
+    ∙ ap (λ (l : List DraftRow).
+    batch_put (map (λ (it : PutLine). it.change) lines) l row t) (append-nil _)
+
+-- what is made of lists that are these is made of a new batch
+pub batch_made : (number : ℕ) (bytes : List ℕ) (new : NewBatch) (lines : List PutLine)
+    (drafts : List InsertDraft) → lines ≡ new.lines.items → drafts ≡ new.drafts.items
+    → (t : Tables)
+    → with_batch (stored_batch (record { no = number; bytes = bytes; counts = new.counts })) (after_all (λ (it : InsertDraft). with_draft it.row) drafts
+    (no_drafts (after_all (λ (it : PutLine). line_put it.change) lines t)))
+    ≡ new_batch_put number bytes new t
+batch_made number bytes new lines drafts a b t =
+    let row : Batch
+    = stored_batch (record { no = number; bytes = bytes; counts = new.counts }) in
+    all_made lines drafts row t
+    ∙ (λ i. batch_put (map (λ (it : PutLine). it.change) (a i))
+    (reverse (map (λ (it : InsertDraft). it.row) (b i))) row t)
+
+-- what a line puts in
+pub line_comes : (change : Change) (row : EnrolRow) → change.add ≡ true
+    → row ≡ enrol_row (pair_of change) → (t : Tables) → with_enrol row t ≡ line_put change t
+line_comes change row add is t =
+    ap (λ (r : EnrolRow). with_enrol r t) is
+    ∙ sym (ap (λ b. if b then with_enrol (enrol_row (pair_of change)) t
+    else without_enrol change.student change.exam t) add)
+
+pub line_goes : (change : Change) (s e : ℕ) → change.add ≡ false → s ≡ change.student
+    → e ≡ change.exam → (t : Tables) → without_enrol s e t ≡ line_put change t
+line_goes change s e drop who what t =
+    ap (λ n. without_enrol n e t) who ∙ ap (λ n. without_enrol change.student n t) what
+    ∙ sym (ap (λ b. if b then with_enrol (enrol_row (pair_of change)) t
+    else without_enrol change.student change.exam t) drop)
+
+-- ---- what the command gives
+
+module _ (number : ℕ) (bytes : List ℕ) (changes : List Change)
+    (spelled : batch_in bytes ≡ Ok changes) where
+  gives_new : (r : Records) → kept_under number r.batches ≡ None
+      → batch_enrolled number bytes (Some r) ≡ newly_enrolled number bytes changes r
+  gives_new r none = rw (spelled, none) refl
+
+  new_gives : (r : Records) (done : Counts × Enrolled)
+      → length r.enrolments ≡ length r.session.exams → after_batch changes r.enrolments ≡ Ok done
+      → length r.batches < 10000
+      → newly_enrolled number bytes changes r
+      ≡ Ok (done.0, Some (keeping.with_batch number bytes r done))
+  new_gives r done exams after room =
+      let there : nat_lt (length r.batches) 10000 ≡ true = grind (arith, nat_tests, room) in
+      as_office number bytes changes r exams
+      ∙ ap (λ (judged : Result (Counts × Enrolled) StoreFault).
+      judged >>= keeping.batch_kept number bytes r) after
+      ∙ ap (λ b. unless b TooMany >>= λ _.
+      Ok (done.0, Some (keeping.with_batch number bytes r done))) there
+
+  -- ---- the command, by what is in memory and the rows that a batch is judged by
+
+  module _ (I : Session) (E : Enrolled) (numbers : List ℕ) (drafts : List DraftRow)
+      (slots : List SlotRow) where
+    -- what is put in is what the command puts in, whatever the records are that have these rows
+    abbrev pub Comes : Result NewBatch StoreFault → Type 0
+    Comes result = (r : Records) → IsOffice (Some r) → memory_of (Some r) ≡ Some (I, E)
+        → length numbers ≡ length r.batches
+        → AreDrafts r.session r.enrolments drafts slots r.draft → Enrols changes slots r result
+
+    module _ (a : Database) (m : Memory) (at_hand : m ≡ Some (I, E))
+        (is_new : (o : OfficeState) → IsKept a o → kept_in o number ≡ None)
+        (tells : (o : OfficeState) → IsKept a o → AreBatchRowsOf o numbers drafts slots) where
+      pub enrol_denied : (e : StoreFault) → Comes (Err e)
+          → Denies (batch_enrolled number bytes) e a m
+      enrol_denied e comes o kept is =
+          let of = kept_of o I E (is ∙ at_hand) in
+          let r = of.records in
+          let here = subst (IsKept a) of.is kept in
+          let rows = tells (Some r) here in
+          subst (λ gives. IsFault gives e)
+          (sym (ap (batch_enrolled number bytes) of.is ∙ gives_new r (is_new (Some r) here)))
+          (comes r here.office
+          (subst (λ o. memory_of o ≡ Some (I, E)) of.is (is ∙ at_hand)) rows.0 rows.1 number bytes)
+
+      module _ (small : number ≤ 999999999)
+          (counted : (E : Enrolled) (done : Counts × Enrolled) → after_batch changes E ≡ Ok done
+          → lines_in done.0 ≤ 1048576)
+          (leaves : (old new : OfficeState) (counts : Counts) → IsOffice old
+          → batch_enrolled number bytes old ≡ Ok (counts, new) → IsOffice new)
+          (b : Database) (new : NewBatch) where
+        abbrev pub row : Batch
+        row = stored_batch (record { no = number; bytes = bytes; counts = new.counts })
+
+        abbrev done : Counts × Enrolled
+        done = (new.counts, new.enrolments)
+
+        module _ (r : Records) (here : IsKept a (Some r)) (made : IsNewFor changes slots r new)
+          where
+            gives : batch_enrolled number bytes (Some r)
+                ≡ Ok (new.counts, Some (keeping.with_batch number bytes r done))
+            gives =
+                gives_new r (is_new (Some r) here)
+                ∙ new_gives r done here.office.enrolled.exams made.after made.room
+
+            abbrev rows : List DraftRow
+            rows = map (λ (it : InsertDraft). it.row) new.drafts.items
+
+            again : AreDrafts r.session new.enrolments (reverse rows) slots r.draft
+            again = drafts_moved r.session new.enrolments rows (reverse rows) slots r.draft
+                (IsPermutation-reverse rows) made.drafts
+
+            enrolled_kept : ((t : Tables) → HeldBy a t → HeldBy b (new_batch_put number bytes new t))
+                → IsKept b (Some (keeping.with_batch number bytes r done))
+            enrolled_kept makes = record {
+              held = new_batch_put number bytes new here.held;
+              tables = makes here.held here.tables;
+              stands = subst (λ (l : List Change). StandsLoaded
+                  (batch_put l (reverse rows) row here.held) (keeping.with_batch number bytes r done))
+                  (sym made.lines)
+                  (batch_stands number bytes changes r done here.office made.after here.held
+                  (reverse rows) slots again small (counted r.enrolments done made.after)
+                  here.stands);
+              sound = subst (λ (l : List Change). IsSound (batch_put l (reverse rows) row here.held)
+                  (Some (keeping.with_batch number bytes r done))) (sym made.lines)
+                  (batch_sound number bytes changes r done here.office made.after here.held
+                  (reverse rows) slots again here.sound);
+              office = leaves (Some r) (Some (keeping.with_batch number bytes r done)) new.counts
+                  here.office gives;
+            }
+
+        pub enrol_moves : Comes (Ok new)
+            → ((t : Tables) → HeldBy a t → HeldBy b (new_batch_put number bytes new t))
+            → Moves (batch_enrolled number bytes) new.counts a b m (Some (I, new.enrolments))
+        enrol_moves comes makes o kept is =
+            let of = kept_of o I E (is ∙ at_hand) in
+            let r = of.records in
+            let here = subst (IsKept a) of.is kept in
+            let told = tells (Some r) here in
+            let made = comes r here.office
+            (subst (λ o. memory_of o ≡ Some (I, E)) of.is (is ∙ at_hand)) told.0 told.1 in (
+              Some (keeping.with_batch number bytes r done),
+              ap (batch_enrolled number bytes) of.is ∙ gives r here made,
+              enrolled_kept r here made makes,
+              ap (λ (J : Session). Some (J, new.enrolments)) of.session,
+            )
+
+-- a number that was new still is, where nothing has changed
+pub new_still : {S : Type 0} (g : Ghosts S) (old mid : Held S) (number : ℕ)
+    → (HasCleanDisk (state g mid) → IsStill (state g old) (state g mid))
+    → (HasCleanDisk (state g mid) → HasCleanDisk (state g old))
+    → (HasCleanDisk (state g mid) → IsAwake (state g mid))
+    → (HasCleanDisk (state g old) → (o : OfficeState) → IsKept (state g old).now o
+    → kept_in o number ≡ None)
+    → HasCleanDisk (state g mid) → (o : OfficeState) → IsKept (state g mid).now o
+    → kept_in o number ≡ None
+new_still g old mid number still clean awake new k o kept =
+    new (clean k) o (subst (λ db. IsKept db o) (still k (awake k).0).1 kept)

@@ -1,0 +1,174 @@
+-- The batches that an office keeps, by their rows.
+use Rattle.std.proofs.Common.{◌≡◌, ◌≢◌, ℕ, ◌≤◌, Bool, true, false, cond, eqb, List, [], ◌∷◌, map, filter, length}
+use Rattle.std.proofs.Common.{Option, Some, None, Ok, refl, sym, ◌∙◌, ap, subst, arith}
+use Rattle.std.specs.Cmp.Lexicographic.{pointwise}
+use Rattle.std.specs.List.{AllByRecursion}
+use Rattle.std.specs.Prelude.{AllPairs, IsPermutation, ◌&&◌, nat_eq, not, option_to_list}
+use Rattle.std.proofs.lemmas.Bool.Decides.{nat_tests}
+use Rattle.std.proofs.lemmas.List.{length-map}
+use Rattle.std.proofs.lemmas.List.Sorted.{IsPermutation-sym, length_permutation}
+use Rattle.sqlite_trees.proofs.ListLemmas.{IsPermutation-filter, filter-map}
+use Rattle.exam_model.proofs.SumLemmas.{IsChain, chain_from_index}
+use Rattle.office_tables.specs.Records.{batch_from}
+use Rattle.office_tables.specs.Tables.{Batch, Tables}
+use Rattle.office_tables.specs.declared.rows.BatchRow.{BatchRow}
+use Rattle.office_tables.specs.declared.rows.DraftRow.{DraftRow}
+use Rattle.office_tables.specs.declared.rows.SlotRow.{SlotRow}
+use Rattle.exam_terms.specs.Refusing.{◌>>=◌, unless}
+use Rattle.exam_model.specs.declared.change.Change.{Change}
+use Rattle.office_batches.specs.BatchText.{batch_in}
+use Rattle.office_model.specs.Batches.{batch_enrolled, kept_in, kept_under, same_bytes}
+use Rattle.office_model.specs.Commands.{Gives}
+use Rattle.office_model.specs.declared.counts.Counts.{Counts}
+use Rattle.office_model.specs.declared.fault.StoreFault.TheVariants.{BatchDiffers}
+use Rattle.office_model.specs.Office.{AreRecords, IsOffice, KeptBatch, OfficeState, Records}
+use Rattle.office_records.specs.Found.{AreDrafts}
+use Rattle.office_records.specs.Stands.{IsSound, Stands, StandsLoaded, stored_batch}
+use Rattle.office_records.proofs.SameTables.{same_few}
+use Rattle.office_store.specs.NewBatches.{AreBatchRowsOf, IsRowOf, answered_again}
+use Rattle.office_store.specs.Running.{Does}
+
+-- a number that no batch has
+none_under : (number : ℕ) (b : KeptBatch) → b.no ≡ number → (kept : List KeptBatch)
+    → AllByRecursion (λ (c : KeptBatch). b.no ≢ c.no) kept
+    → filter (λ (c : KeptBatch). eqb c.no number) kept ≡ []
+none_under number b is [] apart = refl
+none_under number b is (c ∷ kept) apart =
+    let differs : eqb c.no number ≡ false
+    = grind (arith, nat_tests, is, apart.0) in
+    ap (λ t. cond t (c ∷ filter (λ (c : KeptBatch). eqb c.no number) kept)
+    (filter (λ (c : KeptBatch). eqb c.no number) kept)) differs
+    ∙ none_under number b is kept apart.1
+
+-- the batches of a number are the one that is found under it
+one_under : (number : ℕ) (kept : List KeptBatch)
+    → IsChain (λ (b c : KeptBatch). b.no ≢ c.no) kept
+    → filter (λ (b : KeptBatch). eqb b.no number) kept ≡ option_to_list (kept_under number kept)
+one_under number [] apart = refl
+one_under number (b ∷ kept) apart =
+    elim (eqb b.no number) as (λ t. eqb b.no number ≡ t
+    → cond t (b ∷ filter (λ (b : KeptBatch). eqb b.no number) kept)
+    (filter (λ (b : KeptBatch). eqb b.no number) kept)
+    ≡ option_to_list (cond t (Some b) (kept_under number kept))) [
+      | true ↦ λ e. ap (λ (l : List KeptBatch). b ∷ l)
+          (none_under number b (grind (arith, nat_tests, e)) kept apart.0)
+      | false ↦ λ e. one_under number kept apart.1
+    ] refl
+
+few_under : (o : Option KeptBatch) → length (map stored_batch (option_to_list o)) ≤ 1
+few_under None = omega arith
+few_under (Some b) = omega arith
+
+module _ (t : Tables) (r : Records) (stands : StandsLoaded t r) (is : AreRecords r) where
+  -- the stored batch of a number is the office's
+  stored_under : (number : ℕ) → filter (λ (b : Batch). eqb b.no number) t.batch
+      ≡ map stored_batch (option_to_list (kept_under number r.batches))
+  stored_under number =
+      let here = filter (λ (b : Batch). eqb b.no number) (map stored_batch r.batches) in
+      let same : here ≡ map stored_batch (option_to_list (kept_under number r.batches))
+      = filter-map (λ (b : Batch). eqb b.no number) stored_batch r.batches
+      ∙ ap (map stored_batch) (one_under number r.batches
+      (chain_from_index (λ (b c : KeptBatch). b.no ≢ c.no) r.batches is.batches.numbers)) in
+      same_few _ _ (few_under (kept_under number r.batches))
+      (subst (λ l. IsPermutation l (filter (λ (b : Batch). eqb b.no number) t.batch)) same
+      (IsPermutation-sym _ _
+      (IsPermutation-filter (λ (b : Batch). eqb b.no number) _ _ stands.batches.same)))
+
+pub batch_read : (t : Tables) (o : OfficeState) (number : ℕ) (found : Option BatchRow)
+    → Stands t o → IsOffice o
+    → filter (λ (b : Batch). eqb b.no number) t.batch ≡ map batch_from (option_to_list found)
+    → IsRowOf (kept_in o number) found
+batch_read t None number found stands is row =
+    sym row ∙ ap (λ (u : Tables). filter (λ (b : Batch). eqb b.no number) u.batch) stands
+batch_read t (Some r) number found stands is row = sym row ∙ stored_under t r stands is number
+
+pub rows_read : (t : Tables) (o : OfficeState) (numbers : List ℕ) (drafts : List DraftRow)
+    (slots : List SlotRow) → Stands t o → IsSound t o → IsOffice o
+    → IsPermutation (map (λ (b : Batch). b.no) t.batch) numbers
+    → ((r : Records) → StandsLoaded t r → IsSound t (Some r) → AreRecords r
+    → AreDrafts r.session r.enrolments drafts slots r.draft)
+    → AreBatchRowsOf o numbers drafts slots
+rows_read t None numbers drafts slots stands sound is same are = tt
+rows_read t (Some r) numbers drafts slots stands sound is same are = (
+  let long = length_permutation _ _ same in
+      let stored = length_permutation _ _ stands.batches.same in
+      let counted = length-map t.batch (λ (b : Batch). b.no) in
+      let kept = length-map r.batches stored_batch in
+      omega (arith, long, stored, counted, kept),
+  are r stands sound is,
+)
+
+-- no row is of no batch
+pub no_row_of : (o : OfficeState) (number : ℕ) → IsRowOf (kept_in o number) None
+    → kept_in o number ≡ None
+no_row_of o number is = go (kept_in o number) is
+  where
+    go : (kept : Option KeptBatch) → IsRowOf kept None → kept ≡ None
+    go None none = refl
+    go (Some b) none = absurd cc
+
+-- ---- a number that is kept
+
+again : (k : KeptBatch) (r : Records) (bytes : List ℕ)
+    → Does (unless (same_bytes k.bytes bytes) BatchDiffers >>= λ _. Ok (k.counts, Some r)) (Some r)
+    (λ new. new ≡ Some r) (answered_again (stored_batch k) bytes)
+again k r bytes =
+    elim (same_bytes k.bytes bytes) as (λ b.
+    Does (unless b BatchDiffers >>= λ _. Ok (k.counts, Some r)) (Some r) (λ new. new ≡ Some r)
+    (unless b BatchDiffers >>= λ _. Ok k.counts)) [
+      | true ↦ (Some r, refl, refl)
+      | false ↦ (refl, refl)
+    ]
+
+-- it is answered as at first
+pub again_does : (o : OfficeState) (number : ℕ) (bytes : List ℕ) (changes : List Change)
+    (row : BatchRow) → batch_in bytes ≡ Ok changes → IsRowOf (kept_in o number) (Some row)
+    → Does (batch_enrolled number bytes o) o (λ new. new ≡ o)
+    (answered_again (batch_from row) bytes)
+again_does None number bytes changes row spelled is = absurd cc
+again_does (Some r) number bytes changes row spelled is = go (kept_under number r.batches) refl is
+  where
+    head_is : {X : Type 0} {x y : X} {xs ys : List X} → x ∷ xs ≡ y ∷ ys → x ≡ y
+    head_is e = cc
+
+    go : (kept : Option KeptBatch) → kept_under number r.batches ≡ kept
+        → IsRowOf kept (Some row)
+        → Does (batch_enrolled number bytes (Some r)) (Some r) (λ new. new ≡ Some r)
+        (answered_again (batch_from row) bytes)
+    go None there none = absurd cc
+    go (Some k) there same =
+        let row_is : stored_batch k ≡ batch_from row = sym (head_is same) in
+        let gives : (unless (same_bytes k.bytes bytes) BatchDiffers >>= λ _. Ok (k.counts, Some r))
+        ≡ batch_enrolled number bytes (Some r) = rw (spelled, there) refl in
+        subst (λ b. Does (batch_enrolled number bytes (Some r)) (Some r) (λ new. new ≡ Some r)
+        (answered_again b bytes)) row_is
+        (subst (λ (g : Gives Counts). Does g (Some r) (λ new. new ≡ Some r)
+        (answered_again (stored_batch k) bytes)) gives (again k r bytes))
+
+-- ---- the bytes
+
+bytes_same : (xs ys : List ℕ) → pointwise nat_eq xs ys ≡ same_bytes xs ys
+bytes_same [] [] = refl
+bytes_same [] (y ∷ ys) = refl
+bytes_same (x ∷ xs) [] = refl
+bytes_same (x ∷ xs) (y ∷ ys) = ap (λ b. eqb x y && b) (bytes_same xs ys)
+
+twice : (b : Bool) → not (not b) ≡ b
+twice true = refl
+twice false = refl
+
+-- what a test of two texts tells
+pub told_same : (xs bs ys : List ℕ) (other : Bool) → other ≡ not (pointwise nat_eq xs ys)
+    → xs ≡ bs → same_bytes bs ys ≡ not other
+told_same xs bs ys other tested is =
+    sym (ap (λ l. same_bytes l ys) is) ∙ sym (bytes_same xs ys)
+    ∙ sym (twice (pointwise nat_eq xs ys)) ∙ sym (ap not tested)
+
+pub answer_is : (b : Batch) (bytes : List ℕ) (same : Bool) → same_bytes b.bytes bytes ≡ same
+    → answered_again b bytes
+    ≡ (unless same BatchDiffers >>= λ _.
+    Ok (record { added = b.added; dropped = b.dropped; unchanged = b.unchanged }))
+answer_is b bytes same is =
+    let first : Counts
+    = record { added = b.added; dropped = b.dropped; unchanged = b.unchanged } in
+    ap (λ t. unless t BatchDiffers >>= λ _. Ok first) is

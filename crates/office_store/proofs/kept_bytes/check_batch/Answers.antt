@@ -1,0 +1,31 @@
+use Rattle.std.proofs.Common.{◌≡◌, eqb, sym, subst, Result, Ok, Err}
+use Rattle.std.specs.List.{AllByRecursion}
+use Rattle.std.specs.Prelude.{IfErr, OnErr}
+use Rattle.std.proofs.lemmas.List.Elements.{recursion_from_All}
+use Rattle.std.proofs.lemmas.Result.{on_ok_weaker}
+use Rattle.sqlite_trees.proofs.ListLemmas.{all-filter}
+use Rattle.office_tables.specs.Tables.{Batch}
+use Rattle.office_model.specs.declared.fault.StoreFault.{StoreFault}
+use Rattle.office_model.specs.declared.fault.StoreFault.TheVariants.{BadSchema}
+use Rattle.office_records.specs.Found.{IsShort}
+use Rattle.office_store.proofs.kept_bytes.check_batch.Goals as goal
+
+-- what is refused for what is not so
+refused : {X P Q : Type 0} (r : Result X StoreFault) → (Q → P) → OnErr r (P → ⊥)
+    → IfErr r (λ e. e ≡ BadSchema → Q → ⊥)
+refused (Ok x) f not = tt
+refused (Err e) f not = λ bad q. not (f q)
+
+pub returns-clause-short : goal.returns-clause-short
+returns-clause-short g c clean t held =
+    on_ok_weaker c.check_length.result
+    (subst (AllByRecursion IsShort) (sym (c.in-Ok.ensures.row clean t held)))
+    c.check_length.ensures.short
+
+pub returns-clause-long : goal.returns-clause-long
+returns-clause-long g c clean t held =
+    refused c.check_length.result
+    (λ all. subst (AllByRecursion IsShort) (c.in-Ok.ensures.row clean t held)
+    (all-filter IsShort (λ (b : Batch). eqb b.no c.args.no) t.batch
+    (recursion_from_All IsShort t.batch all)))
+    c.check_length.ensures.long

@@ -1,0 +1,70 @@
+use Rattle.std.proofs.Common.{◌≡◌, inl, All, Err, filter, eqb, refl, rules, subst, arith}
+use Rattle.std.specs.List.{AllByRecursion}
+use Rattle.std.proofs.lemmas.List.{take_all}
+use Rattle.sqlite.specs.Held.{state}
+use Rattle.office_tables.specs.Tables.{Batch}
+use Rattle.office_tables.specs.declared.rows.BatchCountsRow.{BatchCountsRow}
+use Rattle.office_records.specs.Found.{IsShort}
+use Rattle.office_records.proofs.BatchRowLemmas.{no_row, short_by_rows}
+use Rattle.office_records.proofs.PlacedSeatLemmas.{pushed}
+use Rattle.office_store.proofs.AdoptLemmas.{held_still, keeps_still, kept_by, same_then}
+use Rattle.office_store.proofs.kept_bytes.check_bytes.Goals as goal
+
+pub batches-init : goal.batches-init
+batches-init g c = record {
+  clean = λ clean. clean;
+  mode = λ rests. rests;
+  same = λ clean t held. inl refl;
+  short = λ clean t held k d none. absurd (omega (arith, none));
+}
+
+pub batches-preserved : goal.batches-preserved
+batches-preserved g c =
+    let before = c.batches.invariant in
+    let old = c.args.conn.now in
+    let mid = c.batches.conn in
+    let new = c.check_batch.new.conn in
+    record {
+      clean = λ clean. before.clean (c.check_batch.ensures.clean clean);
+      mode = λ rests. c.check_batch.ensures.mode (before.mode rests);
+      same = λ clean t held.
+          let same = before.same (c.check_batch.ensures.clean clean) t held in
+          same_then g.S.Store old mid new same
+          (c.in_ok-check_batch.ensures.same clean t (held_still g.S.Store old mid t same held));
+      short = λ clean t held.
+          let clean_mid = c.check_batch.ensures.clean clean in
+          let same = before.same clean_mid t held in
+          pushed (λ (row : BatchCountsRow).
+          AllByRecursion IsShort (filter (λ (b : Batch). eqb b.no row.no) t.batch))
+          c.args.batches.now c.batches.row-index no_row c.batches-test.true
+          (before.short clean_mid t held)
+          (c.in_ok-check_batch.ensures.short clean t
+          (held_still g.S.Store old mid t same held));
+    }
+
+pub returns-in_err-check_batch-clause-long : goal.returns-in_err-check_batch-clause-long
+returns-in_err-check_batch-clause-long g c clean t held =
+    let same = c.batches.invariant.same (c.check_batch.ensures.clean clean) t held in
+    let is : c.from_residual.result ≡ Err c.in_err-check_batch.field-0.0 = search rules in
+    rw is (c.in_err-check_batch.ensures.long clean t
+    (held_still g.S.Store c.args.conn.now c.batches.conn t same held))
+
+pub returns-in_err-check_batch-clause-kept : goal.returns-in_err-check_batch-clause-kept
+returns-in_err-check_batch-clause-kept g c clean t held =
+    let same = c.batches.invariant.same (c.check_batch.ensures.clean clean) t held in
+    keeps_still g.S.Store c.args.conn.now c.batches.conn c.check_batch.new.conn same
+    (c.check_batch.ensures.kept clean t
+    (held_still g.S.Store c.args.conn.now c.batches.conn t same held))
+
+pub returns-clause-short : goal.returns-clause-short
+returns-clause-short g c clean t held rows =
+    short_by_rows c.args.batches.now t.batch rows
+    (subst (All (λ (row : BatchCountsRow).
+    AllByRecursion IsShort (filter (λ (b : Batch). eqb b.no row.no) t.batch)))
+    (take_all c.batches.row-index c.args.batches.now (omega arith))
+    (c.batches.invariant.short clean t held))
+
+pub returns-clause-kept : goal.returns-clause-kept
+returns-clause-kept g c clean t held =
+    kept_by g.S.Store c.args.conn.now c.batches.conn (c.batches.invariant.same clean t held)
+    c.batches.invariant.mode

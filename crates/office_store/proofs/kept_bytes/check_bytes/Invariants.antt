@@ -1,0 +1,23 @@
+use Rattle.std.specs.Prelude.{◌≡◌, ◌⊎◌, ◌==◌, All, false, filter, take}
+use Rattle.std.specs.List.{AllByRecursion}
+use Rattle.sqlite.specs.Held.{state}
+use Rattle.sqlite.specs.State.{HasCleanDisk, IsUnchanged}
+use Rattle.office_tables.specs.Tables.{Tables, Stands as Held}
+use Rattle.office_tables.specs.declared.rows.BatchCountsRow.{BatchCountsRow}
+use Rattle.office_records.specs.Found.{IsShort}
+use Rattle.office_store.proofs.kept_bytes.check_bytes.Given as goal
+
+abbrev pub invariant-batches : goal.invariant-batches
+invariant-batches g l =
+    let old = state g.S.Store l.fn.conn in
+    let now = state g.S.Store l.conn in
+    record {
+      clean : HasCleanDisk now → HasCleanDisk old;
+      mode : l.fn.conn.in_transaction ≡ false → l.conn.in_transaction ≡ false;
+      same : HasCleanDisk now → (t : Tables) → Held old.now t
+          → (l.conn ≡ l.fn.conn) ⊎ IsUnchanged old now;
+      short : HasCleanDisk now → (t : Tables) → Held old.now t
+          → All (λ (row : BatchCountsRow).
+          AllByRecursion IsShort (filter (λ b. b.no == row.no) t.batch))
+          (take l.row-index l.batches);
+    }

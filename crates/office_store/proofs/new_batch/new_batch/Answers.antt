@@ -1,0 +1,106 @@
+use Rattle.std.proofs.Common.{◌≡◌, ◌≤◌, Err, List, length, map, arith, refl, rules, sym, ◌∙◌, ap, subst}
+use Rattle.std.specs.Prelude.{All}
+use Rattle.exam_model.specs.Enrolments.{Enrolled}
+use Rattle.exam_model.specs.Instance.{Session}
+use Rattle.exam_model.specs.declared.change.Change.{Change}
+use Rattle.office_tables.specs.Amounts.{AreAmounts}
+use Rattle.office_tables.specs.declared.drafts.InsertDraft.{InsertDraft}
+use Rattle.office_tables.specs.declared.rows.DraftRow.{DraftRow}
+use Rattle.office_tables.specs.declared.rows.SlotRow.{SlotRow}
+use Rattle.office_enrolment.specs.AfterBatch.{Refuses, acting, after_batch}
+use Rattle.office_enrolment.proofs.OfficeLemmas.{exams_after}
+use Rattle.office_records.specs.Faults.{store_fault}
+use Rattle.office_records.specs.Found.{AreDrafts}
+use Rattle.office_store.specs.NewBatches.{Enrols, put_draft, put_line}
+use Rattle.office_store.specs.declared.new_batch.PutLine.{PutLine}
+use Rattle.office_store.proofs.NewBatchLemmas.{lines_refuse, no_room, rows_refuse, same_enrolled}
+use Rattle.office_store.proofs.NewBatchLemmas.{small_drafts, taken_back}
+use Rattle.office_store.proofs.new_batch.new_batch.Goals as goal
+
+pub returns-in_err-made-clause-enrols : goal.returns-in_err-made-clause-enrols
+returns-in_err-made-clause-enrols c r office memory numbers drafts =
+    let fault = c.in_err-made.field-0.0 in
+    let is : c.from_residual.result ≡ Err fault = search rules in
+    let same = same_enrolled r c.args.instance.now c.args.enrolments.now memory in
+    let refuses = subst (λ (E : Enrolled). Refuses (after_batch c.args.changes.now E) fault)
+    (sym same.1) c.in_err-made.ensures.refused in
+    subst (Enrols c.args.changes.now c.args.found.now.slots.items r) (sym is)
+    (λ number bytes. lines_refuse number bytes c.args.changes.now r office.enrolled.exams fault
+    refuses)
+
+pub returns-then-len-clause-enrols : goal.returns-then-len-clause-enrols
+returns-then-len-clause-enrols c r office memory numbers drafts number bytes =
+    let same = same_enrolled r c.args.instance.now c.args.enrolments.now memory in
+    let after = ap (after_batch c.args.changes.now) same.1 ∙ c.in_ok-made.ensures.ok in
+    let many : 10000 ≤ length c.args.found.now.numbers.items = search rules in
+    no_room number bytes c.args.changes.now r office.enrolled.exams _ after
+    (omega (arith, many, numbers))
+
+pub rescored-requires : goal.rescored-requires
+rescored-requires c = record {
+  exams = exams_after c.args.changes.now c.args.enrolments.now _ c.in_ok-made.ensures.ok
+      ∙ c.requires.exams;
+}
+
+pub returns-in_err-rows-clause-enrols : goal.returns-in_err-rows-clause-enrols
+returns-in_err-rows-clause-enrols c r office memory numbers drafts =
+    let fault = c.in_err-rows.field-0.0 in
+    let is : c.from_residual-in_err-rows.result ≡ Err (store_fault fault) = search rules in
+    let I = c.args.instance.now in
+    let same = same_enrolled r I c.args.enrolments.now memory in
+    let found = c.args.found.now in
+    let here = subst (λ (J : Session). AreDrafts J r.enrolments found.drafts.items
+    found.slots.items r.draft) same.0 drafts in
+    let read = subst (λ (l : List DraftRow). AreDrafts I r.enrolments l found.slots.items r.draft)
+    (sym c.deref.ensures.value) here in
+    subst (Enrols c.args.changes.now found.slots.items r) (sym is)
+    (λ number bytes. rows_refuse number bytes c.args.changes.now r office.enrolled.exams fault
+    (λ bad. c.in_err-rows.ensures.none bad r.enrolments r.draft
+    (subst (λ (l : List SlotRow). AreDrafts I r.enrolments c.deref.result.now l r.draft)
+    (sym c.deref-2.ensures.value) read)))
+
+pub returns-clause-enrols : goal.returns-clause-enrols
+returns-clause-enrols c r office memory numbers drafts =
+    let I = c.args.instance.now in
+    let same = same_enrolled r I c.args.enrolments.now memory in
+    let changes = c.args.changes.now in
+    let found = c.args.found.now in
+    let F = c.in_ok-made.made.enrolments in
+    let here = subst (λ (J : Session). AreDrafts J r.enrolments found.drafts.items
+    found.slots.items r.draft) same.0 drafts in
+    let read = subst (λ (l : List DraftRow). AreDrafts I r.enrolments l found.slots.items r.draft)
+    (sym c.deref.ensures.value) here in
+    let again = c.in_ok-rows.ensures.are r.enrolments r.draft
+    (subst (λ (l : List SlotRow). AreDrafts I r.enrolments c.deref.result.now l r.draft)
+    (sym c.deref-2.ensures.value) read) in
+    let placed = subst (λ (l : List SlotRow). AreDrafts I F c.in_ok-rows.rows.items l r.draft)
+    c.deref-2.ensures.value again in
+    let back : map (λ (it : InsertDraft). it.row) c.in_ok-drafts.drafts.items
+    ≡ c.in_ok-rows.rows.items
+    = ap (map (λ (it : InsertDraft). it.row)) c.in_ok-drafts.ensures
+    ∙ taken_back put_draft (λ (it : InsertDraft). it.row) (λ x. refl) c.deref-4.result.now
+    ∙ c.deref-4.ensures.value in
+    record {
+      after = ap (after_batch changes) same.1 ∙ c.in_ok-made.ensures.ok;
+      room = search rules;
+      lines = ap (map (λ (it : PutLine). it.change)) c.in_ok-lines.ensures
+          ∙ taken_back put_line (λ (it : PutLine). it.change) (λ x. refl) c.deref-3.result.now
+          ∙ c.deref-3.ensures.value ∙ c.in_ok-made.ensures.acting
+          ∙ ap (acting changes) (sym same.1);
+      drafts = subst (λ (J : Session). AreDrafts J F
+          (map (λ (it : InsertDraft). it.row) c.in_ok-drafts.drafts.items) found.slots.items
+          r.draft) (sym same.0)
+          (subst (λ (l : List DraftRow). AreDrafts I F l found.slots.items r.draft) (sym back)
+          placed);
+    }
+
+pub returns-clause-exams : goal.returns-clause-exams
+returns-clause-exams c =
+    exams_after c.args.changes.now c.args.enrolments.now _ c.in_ok-made.ensures.ok
+    ∙ c.requires.exams
+
+pub returns-clause-small : goal.returns-clause-small
+returns-clause-small c =
+    subst (All (λ (it : InsertDraft). AreAmounts it.row)) (sym c.in_ok-drafts.ensures)
+    (small_drafts c.deref-4.result.now
+    (subst (All AreAmounts) (sym c.deref-4.ensures.value) c.in_ok-rows.ensures.amounts))

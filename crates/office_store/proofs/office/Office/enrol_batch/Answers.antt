@@ -1,0 +1,42 @@
+use Rattle.std.proofs.Common.{◌≡◌, ◌∙◌, Ok, Some, None, ap, rules, sym, subst}
+use Rattle.sqlite.specs.Held.{state}
+use Rattle.office_model.specs.Batches.{batch_enrolled, kept_in}
+use Rattle.office_store.specs.NewBatches.{IsRowOf}
+use Rattle.office_store.specs.Running.{Does, Now}
+use Rattle.office_store.proofs.CommandLemmas.{stays_by}
+use Rattle.office_store.proofs.KeptBatchLemmas.{again_does, no_row_of}
+use Rattle.office_store.proofs.ReadLemmas.{does_now}
+use Rattle.office_store.proofs.office.Office.enrol_batch.Goals as goal
+
+-- a number that is kept
+pub returns-in-Some-clause-runs : goal.returns-in-Some-clause-runs
+returns-in-Some-clause-runs g c clean o now =
+    let mid = c.kept_batch.new.self in
+    let still = stays_by g.S.Store c.args.self.now mid c.in_ok-kept.ensures.still in
+    let opened = (c.in_ok-kept.ensures.awake clean).0 in
+    let here = still clean o now opened in
+    let found : c.in_ok-kept.kept ≡ Some c.in-Some.row = search rules in
+    does_now (batch_enrolled c.args.number c.args.text.now o) o (Now (state g.S.Store mid))
+    c.first_answer.result
+    (subst (Does (batch_enrolled c.args.number c.args.text.now o) o (λ new. new ≡ o))
+    (sym c.first_answer.ensures)
+    (again_does o c.args.number c.args.text.now _ c.in-Some.row c.in-Ok.ensures.exact
+    (subst (IsRowOf (kept_in o c.args.number)) found (c.in_ok-kept.ensures.row clean o here))))
+    (λ _. here)
+
+-- one that isn't
+pub returns-clause-runs : goal.returns-clause-runs
+returns-clause-runs g c clean o now =
+    c.enrol_new.ensures.runs clean o
+    (stays_by g.S.Store c.args.self.now c.kept_batch.new.self c.in_ok-kept.ensures.still
+    (c.enrol_new.ensures.clean clean) o now)
+
+pub enrol_new-requires : goal.enrol_new-requires
+enrol_new-requires g c = record {
+  number = c.requires.number;
+  spelled = c.in-Ok.ensures.exact ∙ ap Ok (sym c.deref.ensures.value);
+  is_new = λ clean o kept.
+      let none : c.in_ok-kept.kept ≡ None = search rules in
+      no_row_of o c.args.number
+      (subst (IsRowOf (kept_in o c.args.number)) none (c.in_ok-kept.ensures.row clean o kept));
+}

@@ -1,0 +1,77 @@
+-- What is put in where a batch is accepted.
+use Rattle.std.specs.Prelude.{◌≡◌, ◌<◌, ℕ, if◌then◌else◌, List, length, map, reverse, Option, Some, None, option_to_list, Result, Ok, Err}
+use Rattle.exam_terms.specs.Refusing.{◌>>=◌, unless}
+use Rattle.exam_terms.specs.declared.limits.TheConstants.{MAX_BATCHES}
+use Rattle.exam_model.specs.declared.change.Change.{Change}
+use Rattle.office_tables.specs.Changes.{with_enrol, without_enrol}
+use Rattle.office_tables.specs.Records.{batch_from}
+use Rattle.office_tables.specs.Tables.{Batch, Tables}
+use Rattle.office_tables.specs.declared.drafts.InsertDraft.{InsertDraft}
+use Rattle.office_tables.specs.declared.rows.BatchRow.{BatchRow}
+use Rattle.office_tables.specs.declared.rows.DraftRow.{DraftRow}
+use Rattle.office_tables.specs.declared.rows.SlotRow.{SlotRow}
+use Rattle.office_enrolment.specs.AfterBatch.{acting, after_batch}
+use Rattle.office_enrolment.specs.Rows.{pair_of}
+use Rattle.office_model.specs.Batches.{newly_enrolled, same_bytes}
+use Rattle.office_model.specs.Office.{KeptBatch, OfficeState, Records}
+use Rattle.office_model.specs.declared.counts.Counts.{Counts}
+use Rattle.office_model.specs.declared.fault.StoreFault.{StoreFault}
+use Rattle.office_model.specs.declared.fault.StoreFault.TheVariants.{BatchDiffers}
+use Rattle.office_records.specs.BatchRows.{batch_put}
+use Rattle.office_records.specs.Found.{AreDrafts}
+use Rattle.office_records.specs.Stands.{enrol_row, stored_batch}
+use Rattle.office_store.specs.Running.{IsFault}
+use Rattle.office_store.specs.declared.new_batch.NewBatch.{NewBatch}
+use Rattle.office_store.specs.declared.new_batch.PutLine.{PutLine}
+
+-- a line's row comes, or goes
+abbrev pub line_put : Change → Tables → Tables
+line_put change t =
+    if change.add then with_enrol (enrol_row (pair_of change)) t
+    else without_enrol change.student change.exam t
+
+-- a line, and the row of a draft, as parts of a transaction
+abbrev pub put_line : Change → PutLine
+put_line change = record { change = change }
+
+abbrev pub put_draft : DraftRow → InsertDraft
+put_draft row = record { row = row }
+
+-- what these lines make of an office's enrolments, with the lines that act, and the rows of all
+-- drafts with the enrolments after them; there is room for one batch more
+pub record IsNewFor (changes : List Change) (slots : List SlotRow) (r : Records) (new : NewBatch)
+    : Type 0 where
+  pub after : after_batch changes r.enrolments ≡ Ok (new.counts, new.enrolments)
+  pub room : length r.batches < MAX_BATCHES
+  pub lines : map (λ it. it.change) new.lines.items ≡ acting changes r.enrolments
+  pub drafts : AreDrafts r.session new.enrolments (map (λ it. it.row) new.drafts.items) slots r.draft
+
+-- that, or the refusal of such a batch, whatever its number and its bytes
+abbrev pub Enrols : List Change → List SlotRow → Records → Result NewBatch StoreFault → Type 0
+Enrols changes slots r (Ok new) = IsNewFor changes slots r new
+Enrols changes slots r (Err fault) =
+    (number : ℕ) (bytes : List ℕ) → IsFault (newly_enrolled number bytes changes r) fault
+
+-- the rows by which a batch is judged: as many numbers as batches, and those of all drafts
+abbrev pub AreBatchRowsOf : OfficeState → List ℕ → List DraftRow → List SlotRow → Type 0
+AreBatchRowsOf None numbers drafts slots = Unit {0}
+AreBatchRowsOf (Some r) numbers drafts slots =
+    (length numbers ≡ length r.batches) × AreDrafts r.session r.enrolments drafts slots r.draft
+
+-- the row of a kept batch, if there is one
+abbrev pub IsRowOf : Option KeptBatch → Option BatchRow → Type 0
+IsRowOf kept found =
+    map batch_from (option_to_list found) ≡ map stored_batch (option_to_list kept)
+
+-- the lines that act, the drafts anew, and the batch
+abbrev pub new_batch_put : ℕ → List ℕ → NewBatch → Tables → Tables
+new_batch_put number bytes new t =
+    batch_put (map (λ it. it.change) new.lines.items)
+    (reverse (map (λ it. it.row) new.drafts.items))
+    (stored_batch (record { no = number; bytes = bytes; counts = new.counts })) t
+
+-- a batch that is kept is answered as at first, if it has these bytes
+abbrev pub answered_again : Batch → List ℕ → Result Counts StoreFault
+answered_again b bytes = do
+  _ ← unless (same_bytes b.bytes bytes) BatchDiffers
+  Ok (record { added = b.added; dropped = b.dropped; unchanged = b.unchanged })

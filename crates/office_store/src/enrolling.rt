@@ -1,0 +1,144 @@
+// Batches of changes of enrolments are carried out.
+ghost use Rattle.std.specs.Prelude.{◌≡◌, ◌≤◌, IfOk, None, Ok, OnOk, Some};
+ghost use Rattle.sqlite.specs.Held.{state};
+ghost use Rattle.sqlite.specs.State.{HasCleanDisk};
+ghost use Rattle.exam_terms.specs.declared.limits.TheConstants.{MAX_BATCH};
+ghost use Rattle.exam_model.specs.Enrolments.{Enrolled};
+ghost use Rattle.exam_model.specs.Instance.{Session};
+ghost use Rattle.office_batches.specs.BatchText.{batch_in};
+ghost use Rattle.office_model.specs.Batches.{batch_enrolled, kept_in};
+ghost use Rattle.office_model.specs.Office.{OfficeState};
+ghost use Rattle.office_records.specs.Stands.{IsKept};
+ghost use Rattle.office_store.specs.NewBatches.{AreBatchRowsOf, IsRowOf, answered_again};
+ghost use Rattle.office_store.specs.Running.{IsAwake, IsStill, Runs};
+ghost use Rattle.office_tables.specs.Records.{batch_from};
+
+use crate::batch_rows::{BatchRows, batch_rows};
+use crate::fault::Failed;
+use crate::new_batch::{new_batch, put_batch};
+use crate::office::Office;
+use exam_model::{Change, Enrolments, Instance};
+use office_batches::read_batch;
+use office_enrolment::{batch_leaves_an_office, lines_are_counted};
+use office_model::{Counts, StoreFault};
+use office_tables::{BatchRow, batch_of};
+use sqlite::Alter;
+use std::alloc::Global;
+
+impl<S: Alter> Office<S> {
+    /// Carries out a batch of changes of enrolments, its lines in file order, and answers what they
+    /// did; all drafts are scored anew, and what is published stays. A batch acts once: the same
+    /// bytes under a number that is kept are answered as at first. `Refused`: the file is faulty;
+    /// then `NotLoaded`; then `BatchDiffers`: other bytes are kept under the number; then `Refused`:
+    /// a line names an exam that isn't there; then `TooMany`: at some line there would be more than
+    /// 200,000 pairs, or there are 10,000 batches.
+    pub fn enrol_batch(
+        &mut self,
+        alloc: Global,
+        number: u32,
+        text: &[u8],
+    ) -> Result<Counts, StoreFault>
+        requires number { number ≤ MAX_BATCH }
+        ensures runs { Runs S.Store (batch_enrolled number text.now) self.old self.new result }
+        ensures clean { HasCleanDisk (state S.Store self.new)
+            → HasCleanDisk (state S.Store self.old) }
+    {
+        let changes = match read_batch(alloc, text) {
+            Ok(changes) => changes,
+            Err(fault) => return Err(StoreFault::of_file(fault)),
+        };
+        let kept = self.kept_batch(alloc, number)?;
+        match kept {
+            Some(row) => first_answer(&row, text),
+            None => self.enrol_new(alloc, number, text, &changes),
+        }
+    }
+
+    // Carries out a batch whose number isn't kept, and keeps it.
+    fn enrol_new(
+        &mut self,
+        alloc: Global,
+        number: u32,
+        text: &[u8],
+        changes: &[Change],
+    ) -> Result<Counts, StoreFault>
+        requires number { number ≤ MAX_BATCH }
+        requires spelled { batch_in text.now ≡ Ok changes.now }
+        requires is_new { HasCleanDisk (state S.Store self.old) → (office : OfficeState)
+            → IsKept (state S.Store self.old).now office → kept_in office number ≡ None }
+        ensures runs { Runs S.Store (batch_enrolled number text.now) self.old self.new result }
+        ensures clean { HasCleanDisk (state S.Store self.new)
+            → HasCleanDisk (state S.Store self.old) }
+    {
+        lines_are_counted();
+        batch_leaves_an_office();
+        let rows = self.judging_rows(alloc)?;
+        let Some((instance, enrolments)) = &self.kept else {
+            return Err(StoreFault::NotLoaded);
+        };
+        let new = new_batch(alloc, instance, enrolments, changes, &rows)?;
+        let counts = new.counts;
+        put_batch(&mut self.conn, &new, number, text)?;
+        renew(&mut self.kept, new.enrolments);
+        Ok(counts)
+    }
+
+    // The batch that is kept under a number, if there is one.
+    fn kept_batch(&mut self, alloc: Global, number: u32) -> Result<Option<BatchRow>, Failed>
+        ensures row { HasCleanDisk (state S.Store self.new) → (office : OfficeState)
+            → IsKept (state S.Store self.new).now office
+            → IfOk result (IsRowOf (kept_in office number)) }
+        ensures still { HasCleanDisk (state S.Store self.new)
+            → IsStill (state S.Store self.old) (state S.Store self.new) }
+        ensures awake { HasCleanDisk (state S.Store self.new)
+            → OnOk result (IsAwake (state S.Store self.new)) }
+        ensures clean { HasCleanDisk (state S.Store self.new)
+            → HasCleanDisk (state S.Store self.old) }
+    {
+        let _at_rest = self.conn.is_autocommit(); // read for what it says of the last commit
+        let row = batch_of(alloc, &mut self.conn, number)?;
+        Ok(row)
+    }
+
+    // The rows that a new batch is judged by.
+    fn judging_rows(&mut self, alloc: Global) -> Result<BatchRows, Failed>
+        ensures rows { HasCleanDisk (state S.Store self.new) → (office : OfficeState)
+            → IsKept (state S.Store self.new).now office
+            → IfOk result (λ found. AreBatchRowsOf office found.numbers.items found.drafts.items
+            found.slots.items) }
+        ensures still { HasCleanDisk (state S.Store self.new)
+            → IsStill (state S.Store self.old) (state S.Store self.new) }
+        ensures awake { HasCleanDisk (state S.Store self.new)
+            → OnOk result (IsAwake (state S.Store self.new)) }
+        ensures clean { HasCleanDisk (state S.Store self.new)
+            → HasCleanDisk (state S.Store self.old) }
+    {
+        let _at_rest = self.conn.is_autocommit(); // read for what it says of the last commit
+        let rows = batch_rows(alloc, &mut self.conn)?;
+        Ok(rows)
+    }
+}
+
+// Other enrolments of the session at hand.
+fn renew(kept: &mut Option<(Instance, Enrolments)>, enrolments: Enrolments)
+    ensures { (I : Session) (E : Enrolled) → kept.old ≡ Some (I, E)
+        → kept.new ≡ Some (I, enrolments) }
+{
+    if let Some((instance, _)) = kept.take() {
+        *kept = Some((instance, enrolments));
+    }
+}
+
+// What a kept batch was answered, if it had these bytes.
+fn first_answer(row: &BatchRow, text: &[u8]) -> Result<Counts, StoreFault>
+    ensures { result ≡ answered_again (batch_from row.now) text.now }
+{
+    if row.bytes.as_slice() != text {
+        return Err(StoreFault::BatchDiffers);
+    }
+    Ok(Counts {
+        added: row.added,
+        dropped: row.dropped,
+        unchanged: row.unchanged,
+    })
+}

@@ -1,0 +1,82 @@
+// The bytes of the kept batches, one batch after the other.
+ghost use Rattle.std.specs.Prelude.{◌≡◌, ◌⊎◌, ◌==◌, All, IfErr, OnErr, OnOk, false, filter, map};
+ghost use Rattle.std.specs.List.{AllByRecursion};
+ghost use Rattle.std.specs.Prelude.{option_to_list};
+ghost use Rattle.sqlite.specs.Held.{state};
+ghost use Rattle.sqlite.specs.State.{HasCleanDisk, IsUnchanged};
+ghost use Rattle.office_tables.specs.Records.{batch_from, counts_of};
+ghost use Rattle.office_tables.specs.Steps.{LeavesCommitted};
+ghost use Rattle.office_tables.specs.Tables.{Stands as Held, Tables};
+ghost use Rattle.office_records.specs.Found.{IsShort};
+ghost use Rattle.office_store.specs.Faults.{IsOfDatabase};
+
+use exam_terms::limits::TEXT_BYTES;
+use office_model::StoreFault;
+use office_tables::{BatchCountsRow, BatchRow, batch_of};
+use sqlite::{Alter, Connection};
+use std::alloc::Global;
+
+// Whether none of the batches, which have these rows, is longer than a text may be. `BadSchema`:
+// one is. The bytes of one batch are in memory at a time.
+pub fn check_bytes<S: Alter>(
+    alloc: Global,
+    conn: &mut Connection<S>,
+    batches: &[BatchCountsRow],
+) -> Result<(), StoreFault>
+    ensures short { HasCleanDisk (state S.Store conn.new) → (t : Tables)
+        → Held (state S.Store conn.old).now t → map counts_of t.batch ≡ batches.now
+        → OnOk result (All IsShort t.batch) }
+    ensures long { HasCleanDisk (state S.Store conn.new) → (t : Tables)
+        → Held (state S.Store conn.old).now t
+        → IfErr result (λ e. e ≡ StoreFault.BadSchema → All IsShort t.batch → ⊥) }
+    ensures fault { IfErr result IsOfDatabase }
+    ensures same { HasCleanDisk (state S.Store conn.new) → (t : Tables)
+        → Held (state S.Store conn.old).now t → OnOk result ((conn.new ≡ conn.old)
+        ⊎ IsUnchanged (state S.Store conn.old) (state S.Store conn.new)) }
+    ensures kept { LeavesCommitted S.Store conn.old conn.new }
+    ensures mode { conn.old.in_transaction ≡ false → conn.new.in_transaction ≡ false }
+    ensures clean { HasCleanDisk (state S.Store conn.new) → HasCleanDisk (state S.Store conn.old) }
+{
+    'batches: for row in batches {
+        check_batch(alloc, conn, row.no)?;
+    }
+    Ok(())
+}
+
+// Whether the batch of a number, if there is one, is no longer than a text may be. `BadSchema`: it
+// is.
+fn check_batch<S: Alter>(alloc: Global, conn: &mut Connection<S>, no: u32) -> Result<(), StoreFault>
+    ensures short { HasCleanDisk (state S.Store conn.new) → (t : Tables)
+        → Held (state S.Store conn.old).now t
+        → OnOk result (AllByRecursion IsShort (filter (λ b. b.no == no) t.batch)) }
+    ensures long { HasCleanDisk (state S.Store conn.new) → (t : Tables)
+        → Held (state S.Store conn.old).now t
+        → IfErr result (λ e. e ≡ StoreFault.BadSchema → All IsShort t.batch → ⊥) }
+    ensures fault { IfErr result IsOfDatabase }
+    ensures same { HasCleanDisk (state S.Store conn.new) → (t : Tables)
+        → Held (state S.Store conn.old).now t
+        → OnOk result (IsUnchanged (state S.Store conn.old) (state S.Store conn.new)) }
+    ensures kept { LeavesCommitted S.Store conn.old conn.new }
+    ensures mode { conn.old.in_transaction ≡ false → conn.new.in_transaction ≡ false }
+    ensures clean { HasCleanDisk (state S.Store conn.new) → HasCleanDisk (state S.Store conn.old) }
+{
+    let found = match batch_of(alloc, conn, no) {
+        Ok(found) => found,
+        Err(_) => return Err(StoreFault::Store),
+    };
+    check_length(&found)
+}
+
+// Whether a batch, if there is one, is no longer than a text may be. `BadSchema`: it is.
+fn check_length(found: &Option<BatchRow>) -> Result<(), StoreFault>
+    ensures short { OnOk result
+        (AllByRecursion IsShort (map batch_from (option_to_list found.now))) }
+    ensures long { OnErr result
+        (AllByRecursion IsShort (map batch_from (option_to_list found.now)) → ⊥) }
+    ensures fault { IfErr result (λ e. e ≡ StoreFault.BadSchema) }
+{
+    match found {
+        Some(batch) if batch.bytes.len() > TEXT_BYTES => Err(StoreFault::BadSchema),
+        _ => Ok(()),
+    }
+}

@@ -1,0 +1,160 @@
+// What is put in where a batch is accepted.
+ghost use Rattle.std.specs.Prelude.{◌≡◌, ◌≤◌, All, IfOk, OnErr, OnOk, Some, false, length, map};
+ghost use Rattle.sqlite.specs.Held.{state};
+ghost use Rattle.sqlite.specs.State.{HasCleanDisk};
+ghost use Rattle.exam_terms.specs.declared.limits.TheConstants.{TEXT_BYTES};
+ghost use Rattle.office_tables.specs.Alterations.{Changed, Undone};
+ghost use Rattle.office_tables.specs.Amounts.{AreAmounts};
+ghost use Rattle.office_model.specs.Office.{IsOffice, Records};
+ghost use Rattle.office_records.specs.Found.{AreDrafts};
+ghost use Rattle.office_records.specs.Memory.{memory_of};
+ghost use Rattle.office_store.specs.NewBatches.{Enrols, new_batch_put, put_draft, put_line};
+
+use crate::batch_rows::BatchRows;
+use crate::fault::Failed;
+use exam_model::{Change, Enrolments, Instance};
+use exam_terms::limits::MAX_BATCHES;
+use office_enrolment::after_batch;
+use office_model::{Counts, StoreFault};
+use office_records::rescored;
+use office_tables::{
+    Alteration, Both, DeleteDrafts, DeleteEnrol, DraftRow, Each, EnrolRow, InsertBatch,
+    InsertDraft, insert_enrol, transact,
+};
+use sqlite::{Alter, Connection, Error, Transaction};
+use std::alloc::{AllocError, Global};
+
+// What a batch makes: the enrolments after it, what its lines did, those that act, and all drafts
+// scored anew.
+#[derive(Drop)]
+pub(crate) struct NewBatch {
+    pub(crate) enrolments: Enrolments,
+    pub(crate) counts: Counts,
+    pub(crate) lines: Vec<PutLine>,
+    pub(crate) drafts: Vec<InsertDraft>,
+}
+
+// What a batch of the session at hand puts in, whose number isn't kept, by the rows that it is
+// judged by.
+pub(crate) fn new_batch(
+    alloc: Global,
+    instance: &Instance,
+    enrolments: &Enrolments,
+    changes: &[Change],
+    found: &BatchRows,
+) -> Result<NewBatch, StoreFault>
+    requires exams { length enrolments.now ≡ length instance.now.exams }
+    requires lines { length changes.now ≤ TEXT_BYTES }
+    ensures enrols { (r : Records) → IsOffice (Some r)
+        → memory_of (Some r) ≡ Some (instance.now, enrolments.now)
+        → length found.now.numbers.items ≡ length r.batches
+        → AreDrafts r.session r.enrolments found.now.drafts.items found.now.slots.items r.draft
+        → Enrols changes.now found.now.slots.items r result }
+    ensures exams { IfOk result (λ new. length new.enrolments ≡ length instance.now.exams) }
+    ensures small { IfOk result (λ new. All (λ it. AreAmounts it.row) new.drafts.items) }
+{
+    let made = after_batch(alloc, enrolments, changes)?;
+    if found.numbers.len() >= MAX_BATCHES as usize {
+        return Err(StoreFault::TooMany);
+    }
+    let rows = rescored(
+        alloc,
+        instance,
+        &made.enrolments,
+        &found.drafts,
+        &found.slots,
+    )?;
+    let lines = lines_put(alloc, &made.acting)?;
+    let drafts = drafts_put(alloc, &rows)?;
+    Ok(NewBatch {
+        enrolments: made.enrolments,
+        counts: made.counts,
+        lines,
+        drafts,
+    })
+}
+
+// Puts in a batch, with the lines that act and all drafts anew.
+pub(crate) fn put_batch<S: Alter>(
+    conn: &mut Connection<S>,
+    new: &NewBatch,
+    number: u32,
+    text: &[u8],
+) -> Result<(), Failed>
+    requires rests { conn.old.in_transaction ≡ false }
+    requires small { All (λ it. AreAmounts it.row) new.now.drafts.items }
+    ensures done { HasCleanDisk (state S.Store conn.new) → OnOk result
+        (Changed (new_batch_put number text.now new.now)
+        (state S.Store conn.old) (state S.Store conn.new)) }
+    ensures undone { HasCleanDisk (state S.Store conn.new)
+        → OnErr result (Undone (state S.Store conn.old) (state S.Store conn.new)) }
+    ensures rests { conn.new.in_transaction ≡ false }
+    ensures clean { HasCleanDisk (state S.Store conn.new) → HasCleanDisk (state S.Store conn.old) }
+{
+    let batch = InsertBatch {
+        no: number,
+        bytes: text,
+        added: new.counts.added,
+        dropped: new.counts.dropped,
+        unchanged: new.counts.unchanged,
+    };
+    let drafts = Both {
+        first: DeleteDrafts,
+        second: Each {
+            alterations: &new.drafts,
+        },
+    };
+    let lines = Each {
+        alterations: &new.lines,
+    };
+    let whole = Both {
+        first: Both {
+            first: lines,
+            second: drafts,
+        },
+        second: batch,
+    };
+    transact(conn, &whole)?;
+    Ok(())
+}
+
+fn lines_put(alloc: Global, changes: &[Change]) -> Result<Vec<PutLine>, AllocError>
+    ensures { IfOk result (λ put. put.items ≡ map put_line changes.now) }
+{
+    changes
+        .iter()
+        .map(|change| PutLine { change: *change })
+        .collect(alloc)
+}
+
+fn drafts_put(alloc: Global, rows: &[DraftRow]) -> Result<Vec<InsertDraft>, AllocError>
+    ensures { IfOk result (λ put. put.items ≡ map put_draft rows.now) }
+{
+    rows.iter()
+        .map(|row| InsertDraft { row: *row })
+        .collect(alloc)
+}
+
+// A line that acts: its pair comes, or goes.
+#[derive(Clone, Copy)]
+pub(crate) struct PutLine {
+    pub(crate) change: Change,
+}
+
+impl Alteration for PutLine {
+    ghost use Rattle.office_store.specs.NewBatches.{line_put};
+
+    ghost alteration = { λ it t. line_put it.change t };
+
+    ghost fits = { λ _. Unit {0} };
+
+    fn apply<S: Alter>(&self, tx: &mut Transaction<'_, S>) -> Result<(), Error> {
+        let student = self.change.student.get();
+        let exam = self.change.exam.get();
+        if self.change.add {
+            insert_enrol(tx, EnrolRow { student, exam })
+        } else {
+            DeleteEnrol { student, exam }.apply(tx)
+        }
+    }
+}

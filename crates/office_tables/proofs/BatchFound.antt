@@ -1,0 +1,137 @@
+-- What the numbers of the stored batches tell of the batches.
+use Rattle.std.proofs.Common.{◌≡◌, ℕ, List, [], ◌∷◌, map, take, drop, length, codes, not, ◌&&◌, Option, Some, None, true, false, Result, Ok, Err, IfOk, OnOk, pos, refl, sym, ap, ap₂, subst, ◌∙◌, arith, IsPermutation}
+use Rattle.std.specs.Prelude.{Vec}
+use Rattle.std.specs.List.{AllByRecursion}
+use Rattle.std.specs.declared.alloc.Global.{Global}
+use Rattle.std.proofs.lemmas.Bool.{and_parts, not-true}
+use Rattle.std.proofs.lemmas.List.Sorted.{IsPermutation-map}
+use Rattle.sqlite_schema.specs.declared.schema.Constraint.TheVariants.{Datatype, NotNull}
+use Rattle.sqlite_schema.specs.Rules.{are_typed, are_present, passes, suits}
+use Rattle.sqlite_sql.specs.Ops.{is_null}
+use Rattle.sqlite_trees.proofs.ListLemmas.{map-map, all_of, all_both, all-map, all_from_map, all-permutation}
+use Rattle.sqlite_value.specs.declared.value.Value.{Value}
+use Rattle.sqlite_value.specs.declared.value.Value.TheVariants.{Null, Int, Real, Text, Blob}
+use Rattle.sqlite_value.specs.Order.{Row, column}
+use Rattle.sqlite.specs.Effect.{Database, IsDatabase}
+use Rattle.office_schema.specs.Schema.{office_schema, int, blob, batch_table}
+use Rattle.office_tables.specs.Adopting.{IsFoundBatches}
+use Rattle.office_tables.specs.Readings.{IsFound}
+use Rattle.office_tables.specs.Records.{counts_of, counts_row, FitsCounts}
+use Rattle.office_tables.specs.Tables.{keyed, batch_row}
+use Rattle.office_tables.specs.declared.rows.BatchCountsRow.{BatchCountsRow}
+use Rattle.office_tables.proofs.AskLemmas.{unmapped}
+use Rattle.office_tables.proofs.ListTexts.{counts_shown}
+use Rattle.office_tables.proofs.Queries.{column_later, id_map, map_agree}
+use Rattle.office_tables.proofs.RecordsBack.{batch_of, counts_in}
+use Rattle.office_tables.proofs.WholeRows.{dropped, rows_long, typed_rows, present_rows}
+
+-- ---- the bytes
+
+-- a row that a batch shows: five columns, and bytes in the second
+record IsWhole (q : Row) : Type 0 where
+  long : length q ≡ 5
+  bytes : List ℕ
+  blob : column q 1 ≡ Blob bytes
+
+bytes_there : (v : Value) → suits (blob (codes "bytes")) v ≡ true → is_null v ≡ false
+    → (bytes : List ℕ) × (v ≡ Blob bytes)
+bytes_there Null suits present = absurd (cc)
+bytes_there (Int n) suits present = absurd (cc)
+bytes_there (Real x) suits present = absurd (cc)
+bytes_there (Text t) suits present = absurd (cc)
+bytes_there (Blob bytes) suits present = (bytes, refl)
+
+whole : (r : Row) → length r ≡ 6 → are_typed batch_table.key 0 batch_table.columns (drop 1 r) ≡ true
+    → are_present batch_table.key 0 batch_table.columns r ≡ true → IsWhole (keyed r)
+whole [] long typed present = absurd (omega (arith, long))
+whole (a ∷ []) long typed present = absurd (omega (arith, long))
+whole (a ∷ b ∷ []) long typed present = absurd (omega (arith, long))
+whole (a ∷ b ∷ v ∷ row) long typed present =
+    let five : length (keyed (a ∷ b ∷ v ∷ row)) ≡ 5 = omega (arith, long) in
+    let suited = (and_parts _ _ (and_parts _ _ typed).1).0 in
+    let given : (not (is_null v) && are_present batch_table.key 2 (drop 2 batch_table.columns)
+    (a ∷ b ∷ v ∷ row)) ≡ true = present in
+    let there = bytes_there v suited (not-true (is_null v) (and_parts _ _ given).0) in
+    record { long = five; bytes = there.0; blob = there.1 }
+
+-- ---- one batch
+
+abbrev picked : Row → Row
+picked q = column q 0 ∷ column q 2 ∷ column q 3 ∷ column q 4 ∷ []
+
+is_batch : (q : Row) → IsWhole q → (found : BatchCountsRow) × (picked q ≡ counts_row found)
+    → q ≡ batch_row (batch_of q)
+is_batch q whole (found, is) =
+    let no : column q 0 ≡ Int (pos found.no) = ap (λ (l : Row). column l 0) is in
+    let added : column q 2 ≡ Int (pos found.added) = ap (λ (l : Row). column l 1) is in
+    let dropped_is : column q 3 ≡ Int (pos found.dropped) = ap (λ (l : Row). column l 2) is in
+    let unchanged : column q 4 ≡ Int (pos found.unchanged) = ap (λ (l : Row). column l 3) is in
+    dropped 0 5 q whole.long ∙ rw (no, whole.blob, added, dropped_is, unchanged) refl
+
+all_same : (f : Row → Row) (rows : List Row) → AllByRecursion (λ q. q ≡ f q) rows → rows ≡ map f rows
+all_same f [] h = refl
+all_same f (q ∷ rows) h = ap₂ (λ x xs. x ∷ xs) h.0 (all_same f rows h.1)
+
+-- ---- the table
+
+module _ (db : Database) (is : db.schema ≡ office_schema) (sound : IsDatabase db) where
+  all_whole : AllByRecursion IsWhole (map keyed (db.trees 14))
+  all_whole =
+      let Typed = λ (r : Row). passes Datatype office_schema db.trees batch_table r ≡ true in
+      let Present = λ (r : Row). passes NotNull office_schema db.trees batch_table r ≡ true in
+      let typed = (typed_rows db is sound).1.1.1.1.1.1.1.1.1.0 in
+      let present = (present_rows db is sound).1.1.1.1.1.1.1.1.1.0 in
+      let long = rows_long batch_table (take 4 batch_table.columns) (int (codes "unchanged")) refl
+      refl refl db.trees (db.trees 14) typed present in
+      all-map IsWhole keyed (db.trees 14)
+      (all_both (λ r. length r ≡ 6) (λ r. Typed r × Present r) (λ r. IsWhole (keyed r))
+      (λ r wide both. whole r wide (and_parts _ _ both.0).0 both.1) (db.trees 14) long
+      (all_both Typed Present (λ r. Typed r × Present r) (λ r t p. (t, p)) (db.trees 14) typed
+      present))
+
+  counts_listed : map picked (map keyed (db.trees 14)) ≡ map counts_shown (db.trees 14)
+  counts_listed =
+      map-map picked keyed (db.trees 14)
+      ∙ map_agree (λ r. picked (keyed r)) counts_shown
+      (λ r. rw (column_later r 1, column_later r 2, column_later r 3) refl) (db.trees 14)
+
+  -- the table's batches have the numbers that were found; or there are none that fit
+  pub batches_found : (found : Option (Vec BatchCountsRow Global))
+      → IsFound FitsCounts counts_row counts_shown (db.trees 14) found → IsFoundBatches db found
+  batches_found (Some found) holds =
+      let shown = map keyed (db.trees 14) in
+      let moved = subst (λ l. IsPermutation l (map counts_row found.items)) (sym counts_listed)
+      holds.same in
+      let u = unmapped picked shown (map counts_row found.items) moved in
+      let here = all-permutation IsWhole shown u.0 u.2 all_whole in
+      let Counted = λ (q : Row). (f : BatchCountsRow) × (q ≡ counts_row f) in
+      let counted : AllByRecursion (λ q. Counted (picked q)) u.0 =
+      all_from_map Counted picked u.0 (subst (AllByRecursion Counted) u.1
+      (all-map Counted counts_row found.items (all_of _ (λ f. (f, refl)) found.items))) in
+      let rows : u.0 ≡ map batch_row (map batch_of u.0) =
+      all_same (λ q. batch_row (batch_of q)) u.0
+      (all_both IsWhole (λ q. Counted (picked q)) (λ q. q ≡ batch_row (batch_of q)) is_batch u.0
+      here counted)
+      ∙ sym (map-map batch_row batch_of u.0) in
+      let numbers : map counts_of (map batch_of u.0) ≡ found.items =
+      map-map counts_of batch_of u.0 ∙ sym (map-map counts_in picked u.0)
+      ∙ ap (map counts_in) (sym u.1) ∙ map-map counts_in counts_row found.items
+      ∙ id_map (λ f. counts_in (counts_row f)) (λ f. refl) found.items in (
+        map batch_of u.0,
+        numbers,
+        record { rowids = holds.rowids; same = subst (IsPermutation shown) rows u.2 },
+      )
+  batches_found None none = λ batches fit holds.
+      let typed : map picked (map batch_row batches) ≡ map counts_row (map counts_of batches) =
+      map-map picked batch_row batches ∙ sym (map-map counts_row counts_of batches) in
+      let same : IsPermutation (map counts_shown (db.trees 14))
+      (map counts_row (map counts_of batches)) =
+      rw (sym counts_listed, sym typed) (IsPermutation-map picked _ _ holds.same) in
+      none (map counts_of batches) (all-map FitsCounts counts_of batches fit)
+      (record { rowids = holds.rowids; same = same })
+
+-- of what is Ok, with what an Ok leaves
+pub ok_both : {T E : Type 0} (r : Result T E) (Q : Type 0) (P R : T → Type 0) → OnOk r Q → IfOk r P
+    → ((x : T) → Q → P x → R x) → IfOk r R
+ok_both (Ok x) Q P R q p f = f x q p
+ok_both (Err e) Q P R q p f = tt
