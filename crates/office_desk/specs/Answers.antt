@@ -2,7 +2,7 @@
 use Rattle.office_model.specs.Answers.{PlainAnswer, my_exams, my_one, my_cost, not_mine}
 use Rattle.office_model.specs.Answers.{now_loaded, text, now_owned, now_drafted, now_edited}
 use Rattle.office_model.specs.Answers.{now_dropped, shown_draft, now_published, unpublished}
-use Rattle.office_model.specs.Answers.{denied, bad_body, long_body, refused, unavailable}
+use Rattle.office_model.specs.Answers.{now_enrolled, denied, bad_body, long_body, refused, unavailable}
 use Rattle.office_model.specs.declared.fault.StoreFault.{StoreFault}
 use Rattle.office_model.specs.declared.fault.StoreFault.TheVariants.{Store, BadSchema}
 use Rattle.office_desk.specs.declared.answer.Answer.{Answer}
@@ -22,6 +22,7 @@ plain_answer (answer.Edited d penalty) = now_edited d penalty
 plain_answer (answer.Dropped d) = now_dropped d
 plain_answer (answer.Draft d timetable penalty) = shown_draft d timetable penalty
 plain_answer (answer.Published d counts) = now_published d counts
+plain_answer (answer.Enrolled n counts) = now_enrolled n counts
 plain_answer answer.Unpublished = unpublished
 plain_answer (answer.Denied denial) = denied denial
 plain_answer answer.BadBody = bad_body

@@ -2,7 +2,7 @@
 use exam_model::Timetable;
 use exam_score::PersonalParts;
 use exam_terms::ExamNo;
-use office_model::{CandidateView, Loaded, Published, StoreFault, ViewRow};
+use office_model::{CandidateView, Counts, Loaded, Published, StoreFault, ViewRow};
 use office_policy::{Body, Denial};
 use std::alloc::AllocError;
 
@@ -33,6 +33,8 @@ pub enum Answer {
     Draft(u32, Timetable, u64),
     /// A draft that is published now, and what that changed.
     Published(u32, Published),
+    /// A batch that is accepted, and what its lines did when it first came.
+    Enrolled(u32, Counts),
     /// Nothing is published.
     Unpublished,
     /// The policy denies the command.
@@ -43,7 +45,7 @@ pub enum Answer {
     LongBody,
     /// The state of the office refuses the command; never `Store` or `BadSchema`.
     Refused(StoreFault),
-    /// A statement failed, memory ran out, or the command isn't carried out yet: nothing is done.
+    /// A statement failed, or memory ran out: nothing is done.
     Unavailable,
 }
 

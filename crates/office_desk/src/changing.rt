@@ -2,8 +2,9 @@
 ghost use Rattle.std.specs.Prelude.{◌≤◌};
 ghost use Rattle.sqlite.specs.Held.{state};
 ghost use Rattle.sqlite.specs.State.{HasCleanDisk};
-ghost use Rattle.office_policy.specs.Commands.{IfGiven, clear, drop_draft, load, move, new_draft};
-ghost use Rattle.office_policy.specs.Commands.{place, plain_text, publish, set_owner, swap};
+ghost use Rattle.office_policy.specs.Commands.{IfGiven, batch, clear, drop_draft, load, move};
+ghost use Rattle.office_policy.specs.Commands.{new_draft, place, plain_text, publish, set_owner, swap};
+ghost use Rattle.exam_terms.specs.declared.limits.TheConstants.{MAX_BATCH};
 ghost use Rattle.office_model.specs.Step.{edit_outcome};
 ghost use Rattle.office_desk.specs.Performing.{IsGiven, Performs, Yields};
 
@@ -141,6 +142,23 @@ pub(crate) fn publish<S: Alter>(
 {
     let published = office.publish(alloc, number)?;
     Ok(Answer::Published(number, published))
+}
+
+pub(crate) fn enrol_batch<S: Alter>(
+    office: &mut Office<S>,
+    alloc: Global,
+    number: u32,
+    body: Body<&[u8]>,
+) -> Result<Answer, Answer>
+    requires { number ≤ MAX_BATCH }
+    ensures performs { Performs S.Store (batch number (plain_text body.entry))
+        office.old office.new result }
+    ensures clean { HasCleanDisk (state S.Store office.new)
+        → HasCleanDisk (state S.Store office.old) }
+{
+    let text = given(body)?;
+    let counts = office.enrol_batch(alloc, number, text)?;
+    Ok(Answer::Enrolled(number, counts))
 }
 
 fn edit<S: Alter>(

@@ -9,8 +9,9 @@ ghost use Rattle.office_http.specs.Replying.{IsReplyOf};
 use office_desk::Answer;
 use office_messages::{Fault, Reply, fault_reply, unavailable};
 use office_replies::{
-    REPLY_ROOM, candidate_reply, cost_reply, draft_reply, dropped_reply, edited_reply, exam_reply,
-    loaded_reply, new_draft_reply, owner_reply, published_reply, refusal_reply, text_reply,
+    REPLY_ROOM, candidate_reply, cost_reply, draft_reply, dropped_reply, edited_reply,
+    enrolled_reply, exam_reply, loaded_reply, new_draft_reply, owner_reply, published_reply,
+    refusal_reply, text_reply,
 };
 use office_requests::FixedError;
 use std::alloc::{AllocError, Global};
@@ -36,6 +37,7 @@ pub(crate) fn answer_reply(alloc: Global, room: Vec<u8>, answer: Answer) -> Repl
             shown(draft_reply(alloc, draft, &timetable, penalty))
         }
         Answer::Published(draft, published) => published_reply(room, draft, published),
+        Answer::Enrolled(batch, counts) => enrolled_reply(room, batch, counts),
         Answer::Unpublished => FixedError::Publication.reply(),
         Answer::Denied(denial) => FixedError::Denied(denial).reply(),
         Answer::BadBody => FixedError::Body.reply(),

@@ -56,3 +56,6 @@ returns-in-PublicationPenalty-clause-performs g c = rw c.in-PublicationPenalty.i
 
 pub returns-in-PublicationRooms-clause-performs : goal.returns-in-PublicationRooms-clause-performs
 returns-in-PublicationRooms-clause-performs g c = rw c.in-PublicationRooms.is (c.publication_rooms.ensures.performs c.args.caller)
+
+pub returns-in-Batch-clause-performs : goal.returns-in-Batch-clause-performs
+returns-in-Batch-clause-performs g c = rw c.in-Batch.is (c.enrol_batch.ensures.performs c.args.caller)
