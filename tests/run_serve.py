@@ -65,6 +65,10 @@ def forbidden(rule):
     return reply(403, '{"error":"forbidden","rule":"%s"}' % rule)
 
 
+def bad_file(fault, line):
+    return reply(400, '{"error":"file","fault":%d,"line":%d}' % (fault, line))
+
+
 def drafted(status, penalty):
     return reply(status, '{"draft":1,"penalty":%d}' % penalty)
 
@@ -95,6 +99,19 @@ def publish(draft=1):
 
 def published(changed, penalty):
     return reply(200, '{"changed":%d,"draft":1,"penalty":%d}' % (changed, penalty))
+
+
+def batch_text(*lines):
+    return "".join(f"{line}\n" for line in ("student,exam,action", *lines)).encode()
+
+
+def batch(number, *lines):
+    return message("PUT", f"/batches/{number}", batch_text(*lines))
+
+
+def enrolled(number, added, dropped, unchanged):
+    return reply(200, '{"added":%d,"batch":%d,"dropped":%d,"unchanged":%d}'
+                 % (added, number, dropped, unchanged))
 
 
 def asked_by(candidate, page=""):
@@ -140,6 +157,11 @@ SECOND = shown_exam(0, FRIDAY, "09:30:00", 0, 0, 2), shown_exam(1, FRIDAY, "14:0
 THIRD = shown_exam(1, FRIDAY, "14:00:00", 1, 0, 2), shown_exam(2, MONDAY, "09:30:00", 3, 1, 1)
 # Candidate 1 once exam 3 has moved to the place of exam 2.
 FIRST_MOVED = FIRST[0], shown_exam(3, MONDAY, "09:30:00", 3, 1, 2)
+# Candidate 3 who takes exam 0 late, and gets the seat of candidate 1 who gave it up; candidate 2
+# who gives it up.
+PENDING, NEWCOMER, WITHDRAWN = (
+    shown_exam(0, FRIDAY, "09:30:00", 0, 0, *rest)
+    for rest in ((None, "pending"), (1,), (2, "withdrawn")))
 SECOND_PAGE = (b"HTTP/1.1 200 OK\r\nContent-Type: application/json\r\nContent-Length: 229\r\n\r\n"
                b'{"candidate":2,"exams":[{"date":"2005-04-15","exam":0,"period":0,"room":0,'
                b'"seat":2,"start":"09:30:00","state":"seated"},{"date":"2005-04-15","exam":1,'
@@ -178,6 +200,10 @@ NONMIXEDDURATIONS,10
 FRONTLOAD,1,2,4
 """
 OTHER_SOLUTION = b"0, 0\n1, 0\n0, 1\n3, 1\n0, 2\n"
+# The small session where exams 0 and 1 go into one period if they have no common candidate.
+COINCIDING = SMALL.replace(b"1, AFTER, 0\n", b"1, AFTER, 0\n0, EXAM_COINCIDENCE, 1\n")
+# The session as the small one was loaded.
+INSTANCE = message("GET", "/instance"), text(SMALL.replace(b"\n", b"\r\n"))
 # The publication, its penalty and its rooms.
 SHOWN = [message("GET", f"/publication{page}") for page in ("", "/penalty", "/rooms")]
 
@@ -261,7 +287,7 @@ CASES = [
     case("smallest_instance", None,
          (message("PUT", "/drafts/9"), error(409, "not-loaded")),
          (message("GET", "/instance"), error(409, "not-loaded")),
-         (message("PUT", "/instance", b""), reply(400, '{"error":"file","fault":2,"line":1}')),
+         (message("PUT", "/instance", b""), bad_file(2, 1)),
          (message("PUT", "/instance", SMALLEST),
           reply(201, '{"exams":1,"pairs":0,"periods":1,"rooms":1}')),
          (message("PUT", "/instance", SMALLEST), error(409, "loaded")),
@@ -375,6 +401,89 @@ CASES = [
          (publish(2), broken("After", 1, 0)),
          (SHOWN[0], text(TEXT)),
          (asked_by(2), SECOND_PAGE)),
+    case("coincidence_by_enrolment", COINCIDING,
+         (FROM_SOLUTION, drafted(201, 37)),
+         (VIOLATIONS, text("breaches 0\n")),
+         (batch(1, "2,1,drop"), enrolled(1, 0, 1, 0)),
+         (VIOLATIONS, text("breaches 1\nCoincidence 0 1\n")),
+         (PENALTY, text(report(0, 5, 2, 0, 0, 15, 7, 29))),
+         (move(3, 3, 1), drafted(200, 36)),
+         (VIOLATIONS, text("breaches 1\nCoincidence 0 1\n"))),
+    case("batch_comes_twice", SMALL,
+         (batch(5, "1,1,add", "1,1,add", "9,2,drop"), enrolled(5, 1, 0, 2)),
+         (batch(5, "1,1,add", "1,1,add", "9,2,drop"), enrolled(5, 1, 0, 2)),
+         (batch(6, "1,1,drop"), enrolled(6, 0, 1, 0)),
+         (batch(5, "1,1,add", "1,1,add", "9,2,drop"), enrolled(5, 1, 0, 2)),
+         INSTANCE,
+         (batch(5, "1,1,add", "1,1,add", "9,2,drop", ""), error(409, "batch-differs")),
+         (batch(6, "1,1,drop"), enrolled(6, 0, 1, 0))),
+    case("pending_after_batch", SMALL,
+         *PUBLISHED,
+         (batch(6, "3,0,add"), enrolled(6, 1, 0, 0)),
+         (asked_by(3), me(3, 1, PENDING, *THIRD)),
+         (asked_by(3, "/exam/0"), reply(200, PENDING)),
+         (asked_by(3, "/penalty"), cost(0, 0, 1)),
+         (asked_by(1), me(1, 6, *FIRST)),
+         (asked_by(2), SECOND_PAGE),
+         (SHOWN[0], text(TEXT)),
+         (SHOWN[1], text(report(7, 5, 3, 0, 0, 15, 7, 37))),
+         (SHOWN[2], text(ROOMS)),
+         (PENALTY, text(report(14, 5, 5, 0, 0, 15, 7, 46)))),
+    case("withdrawn_keeps_seat", SMALL,
+         *PUBLISHED,
+         (batch(7, "2,0,drop"), enrolled(7, 0, 1, 0)),
+         (asked_by(2), me(2, 8, WITHDRAWN, SECOND[1])),
+         (asked_by(2, "/exam/0"), reply(200, WITHDRAWN)),
+         (asked_by(2, "/penalty"), cost(7, 0, 1)),
+         (batch(7, "2,0,drop"), enrolled(7, 0, 1, 0)),
+         (batch(8, "2,0,add"), enrolled(8, 1, 0, 0)),
+         (asked_by(2), SECOND_PAGE)),
+    case("seats_kept", SMALL,
+         *PUBLISHED,
+         (batch(8, "1,0,drop"), enrolled(8, 0, 1, 0)),
+         (PENALTY, text(report(7, 0, 2, 0, 0, 15, 7, 31))),
+         (publish(), published(1, 31)),
+         (asked_by(1), me(1, 0, FIRST[1])),
+         (asked_by(2), SECOND_PAGE),
+         (batch(9, "3,0,add"), enrolled(9, 1, 0, 0)),
+         (PENALTY, text(report(14, 0, 4, 0, 0, 15, 7, 40))),
+         (publish(), published(1, 40)),
+         (SHOWN[1], text(report(14, 0, 4, 0, 0, 15, 7, 40))),
+         (asked_by(2), SECOND_PAGE),
+         (asked_by(3), me(3, 10, NEWCOMER, *THIRD)),
+         (asked_by(3, "/penalty"), cost(7, 0, 3))),
+    case("two_offices_one_view, with a draft, an owner and a batch", SMALL,
+         *PUBLISHED,
+         (message("PUT", "/drafts/2"), reply(201, '{"draft":2,"penalty":0}')),
+         (message("PUT", "/exams/3/owner", b'{"dept":5}'), reply(200, '{"dept":5,"exam":3}')),
+         (batch(9, "1,1,add"), enrolled(9, 1, 0, 0)),
+         *SECOND_ASKS,
+         (SHOWN[1], text(report(7, 5, 3, 0, 0, 15, 7, 37)))),
+    case("batches that are refused", SMALL,
+         (batch(1, "1,1,add", "1,4,drop"), error(404, "number")),
+         (batch(1, "1,1,add", "1,1,ad"), bad_file(7, 3)),
+         (batch(1, "1,1,add", "1,2000,add"), bad_file(8, 3)),
+         (batch(1, "1,1,add", "1000000000,1,add"), bad_file(8, 3)),
+         (batch(1, "1,1,add", ",1,add"), bad_file(4, 3)),
+         (batch(1, "1,1,add", "1,1,add,1"), bad_file(10, 3)),
+         (message("PUT", "/batches/1"), bad_file(11, 1)),
+         (message("PUT", "/batches/1", b"1,1,add\n"), bad_file(11, 1)),
+         INSTANCE,
+         (batch(1, "1,1,add"), enrolled(1, 1, 0, 0)),
+         (batch(1, "1,4,drop"), error(409, "batch-differs")),
+         (batch(1, "1,4,dro"), bad_file(7, 2)),
+         (message("PUT", "/batches/2", batch_text("1,1,drop"), "dept:3"), forbidden("P2")),
+         (message("PUT", "/batches/2", b"", "cand:1"), forbidden("P1")),
+         (message("GET", "/batches/1"), error(405, "method", "PUT")),
+         (message("PUT", "/batches/x", batch_text()), error(404, "path")),
+         (batch(999999999), enrolled(999999999, 0, 0, 0)),
+         (message("PUT", "/batches/1000000000", batch_text()), error(404, "path"))),
+    case("a batch before a load", None,
+         (batch(1, "1,0,add"), error(409, "not-loaded")),
+         (batch(1, "1,0,ad"), bad_file(7, 2)),
+         (message("PUT", "/instance", SMALLEST),
+          reply(201, '{"exams":1,"pairs":0,"periods":1,"rooms":1}')),
+         (batch(1, "1,0,add"), enrolled(1, 1, 0, 0))),
     case("a candidate's message in chunks", SMALL,
          (asked_by(99), me(99, 0)),
          (message("GET", "/me", caller="cand:99", fields=["Transfer-Encoding: chunked"]),
@@ -383,8 +492,7 @@ CASES = [
          (message("PUT", "/drafts/1", b"3, 0\n1, 0\n3, 1\n2, 0\n"), drafted(201, 34)),
          (VIOLATIONS, text("breaches 1\nAfter 1 0\n")),
          (PENALTY, text(report(0, 0, 3, 0, 4, 20, 7, 34))),
-         (message("PUT", "/drafts/2", b"0, 0\n"),
-          reply(400, '{"error":"file","fault":3,"line":2}'))),
+         (message("PUT", "/drafts/2", b"0, 0\n"), bad_file(3, 2))),
     case("a message that asks for the end", SMALL,
          (EMPTY, drafted(201, 0)),
          (message("GET", "/drafts/1/penalty", fields=["Connection: Close"]),
@@ -574,6 +682,56 @@ def publication_is_kept(run):
                               check=False)
     run.judge("an export to a full device", (1, b"examoffice: cannot write\n"),
               (done.returncode, done.stderr))
+
+
+def batches_are_kept(run):
+    """A batch is known when the file is served again; the drafts' penalty with it is stored."""
+    database, came = run.database(SMALL), []
+    first = [*PUBLISHED, (batch(6, "3,0,add"), enrolled(6, 1, 0, 0))]
+    again = [(batch(6, "3,0,add"), enrolled(6, 1, 0, 0)),
+             (batch(6, "3,0,drop"), error(409, "batch-differs")),
+             (PENALTY, text(report(14, 5, 5, 0, 0, 15, 7, 46))),
+             (asked_by(3), me(3, 1, PENDING, *THIRD))]
+    for exchanges in (first, again):
+        office = Office(run.program, database, connections=1)
+        with office.connect() as client:
+            came += [asked(client, *pair) for pair in exchanges]
+        came.append(office.ended())
+    expected = [*(answer for _, answer in first), (0, b""),
+                *(answer for _, answer in again), (0, b"")]
+    run.judge("a batch that is kept", expected, came)
+
+
+def longest_batch(run):
+    """A batch of just 1,048,576 bytes, and one of a byte more."""
+    lines = batch_text(*["1,1,add"] * 131_069)
+    longest = lines.replace(b"action", b"action" + b" " * (1_048_576 - len(lines)), 1)
+    exchanges = [(message("PUT", "/batches/1", longest + b"\n"), error(413, "length")),
+                 (message("PUT", "/batches/1", longest), enrolled(1, 1, 0, 131_068))]
+    office = run.office(connections=1)
+    with office.connect() as client:
+        came = [asked(client, *pair) for pair in exchanges]
+    run.judge("the longest batch", ([answer for _, answer in exchanges], (0, b"")),
+              (came, office.ended()))
+
+
+def most_batches(run):
+    """Ten thousand batches are kept: the next one is refused, and each of them still known."""
+    database = run.database(SMALL)
+    rows = ("WITH RECURSIVE n(no) AS (VALUES (1) UNION ALL SELECT no + 1 FROM n LIMIT 9998)"
+            " INSERT INTO batch SELECT no, CAST('student,exam,action' AS BLOB), 0, 0, 0 FROM n")
+    subprocess.run(["sqlite3", str(database), rows], check=True, timeout=SECONDS)
+    exchanges = [(batch(9_999, "1,1,add"), enrolled(9_999, 1, 0, 0)),
+                 (batch(10_000, "1,2,add"), enrolled(10_000, 1, 0, 0)),
+                 (batch(0, "1,1,drop"), error(409, "too-many")),
+                 (batch(10_001, "1,4,drop"), error(404, "number")),
+                 (batch(9_999, "1,1,add"), enrolled(9_999, 1, 0, 0)),
+                 (message("PUT", "/batches/1", b"student,exam,action"), enrolled(1, 0, 0, 0))]
+    office = Office(run.program, database, connections=1)
+    with office.connect() as client:
+        came = [asked(client, *pair) for pair in exchanges]
+    run.judge("ten thousand batches", ([answer for _, answer in exchanges], (0, b"")),
+              (came, office.ended()))
 
 
 def stock_curl(run):
@@ -794,6 +952,55 @@ def drafts_of(office):
     return found
 
 
+# A hundred exams with a period each, a draft of them, and a batch that enrols a hundred candidates in
+# each: every pair of exams shares all of them.
+HUNDRED = "\n".join(["[Exams:100]", *["60"] * 100, "[Periods:100]",
+                     *["01:01:2000, 09:00:00, 60, 0"] * 100, "[Rooms:1]", "100, 0",
+                     "[PeriodHardConstraints]", "[RoomHardConstraints]",
+                     "[InstitutionalWeightings]", "PERIODSPREAD,1", ""]).encode()
+HUNDRED_PLACED = message("PUT", "/drafts/1", b"".join(b"%d, 0\n" % exam for exam in range(100)))
+LONG_BATCH = [f"{student},{exam},add" for exam in range(100) for student in range(100)]
+LONG_ANSWER = enrolled(1, 10_000, 0, 0)
+
+
+def long_batch(run, kill_after=None):
+    """Carries out the long batch, or kills the office meanwhile: how long it took."""
+    database = run.database(HUNDRED)
+    office = Office(run.program, database)
+    killer = threading.Timer(kill_after or SECONDS, office.process.kill)
+    with contextlib.suppress(OSError), office.connect() as client:
+        asked(client, HUNDRED_PLACED, drafted(201, 0))
+        killer.start()
+        began = time.monotonic()
+        asked(client, batch(1, *LONG_BATCH), LONG_ANSWER)
+        took = time.monotonic() - began
+    if not kill_after:
+        killer.cancel()
+    killer.join()
+    office.killed()
+    return database, took
+
+
+def killed_amid_batch(run, count):
+    """A kill amid a batch of 10,000 lines leaves all of it or nothing; sent again, it acts once."""
+    rng, made = random.Random(29), 0
+    _, took = long_batch(run)
+    answers = [LONG_ANSWER, text(report(0, 0, 9_900, 0, 0, 0, 0, 9_900)),
+               enrolled(2, 0, 1, 9_999)]
+    for number in range(count):
+        database, _ = long_batch(run, kill_after=rng.uniform(0.0, 1.2 * took))
+        counted = subprocess.run(["sqlite3", str(database), "SELECT count(*) FROM enrol"],
+                                 capture_output=True, timeout=SECONDS, check=True).stdout
+        made += counted == b"10000\n"
+        office = Office(run.program, database, connections=1)
+        questions = [batch(1, *LONG_BATCH), PENALTY, batch(2, *LONG_BATCH[1:], "0,0,drop")]
+        with office.connect() as client:
+            came = [asked(client, *pair) for pair in zip(questions, answers)]
+        run.judge(f"kill amid a batch {number}", (True, answers, (0, b"")),
+                  (counted in (b"0\n", b"10000\n") or counted, came, office.ended()))
+    print(f"serve: {made} of {count} batches were done before the kill")
+
+
 def kills(run, count):
     rng, database, drafts, made = random.Random(27), run.database(SMALL), {}, 0
     for number in range(count):
@@ -832,10 +1039,11 @@ def main():
                  port_is_taken]
         if not given.plain:
             tests += [stored_by_hand, publication_is_kept, last_message, long_message,
-                      slow_clients, patient_client]
-        for test in tests:
+                      batches_are_kept, slow_clients, patient_client]
+        for test in [*tests, longest_batch, most_batches]:
             test(run)
         kills(run, given.kills)
+        killed_amid_batch(run, given.kills // 2)
     print(f"serve: {run.count} cases, {run.failed} failed")
     sys.exit(1 if run.failed else 0)
 

@@ -29,6 +29,8 @@ DRAFTED = ("INSERT INTO owner VALUES (2, 999)",
            "INSERT INTO slot VALUES (3, 0, 0, 0), (3, 1, 1, 0), (3, 2, 3, 1), (3, 3, 2, 0)")
 # An office is found, and has a session already; or what is found is no office's.
 FOUND, REFUSED = ((1, b"", b"examoffice: store fault %d\n" % fault) for fault in (1, 9))
+BATCHES = ("WITH RECURSIVE n(no) AS (VALUES (0) UNION ALL SELECT no + 1 FROM n LIMIT %d)"
+           " INSERT INTO batch SELECT no, x'', 0, 0, 0 FROM n")
 # What a statement makes of that office.
 CHANGES = {
     "UPDATE owner SET dept = 4": FOUND,
@@ -44,7 +46,14 @@ CHANGES = {
     "DELETE FROM draft": REFUSED,
     "DROP TABLE batch": REFUSED,
     "CREATE TABLE more (x INTEGER)": REFUSED,
-    "INSERT INTO batch (no, bytes, added, dropped, unchanged) VALUES (1, x'', 0, 0, 0)": REFUSED,
+    "INSERT INTO batch (no, bytes, added, dropped, unchanged) VALUES (1, x'', 0, 0, 0)": FOUND,
+    "INSERT INTO batch VALUES (999999999, zeroblob(1048576), 1, 2, 3), (0, x'00', 0, 0, 0)": FOUND,
+    "INSERT INTO batch VALUES (1000000000, x'', 0, 0, 0)": REFUSED,
+    "INSERT INTO batch VALUES (-1, x'', 0, 0, 0)": REFUSED,
+    "INSERT INTO batch VALUES (1, x'', 4294967296, 0, 0)": REFUSED,
+    "INSERT INTO batch VALUES (1, zeroblob(1048577), 0, 0, 0)": REFUSED,
+    BATCHES % 10_000: FOUND,
+    BATCHES % 10_001: REFUSED,
 }
 # What a publication stores: the small solution, its seats, and the shares of its penalty.
 PUBLISHED = ("UPDATE meta SET published = 1",
