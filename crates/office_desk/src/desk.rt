@@ -12,8 +12,8 @@ ghost use Rattle.office_desk.specs.Performing.{PerformsFor, told_of};
 use crate::answer::Answer;
 use crate::candidates::{me, my_exam, my_penalty};
 use crate::changing::{
-    clear_exam, drop_draft, enrol_batch, load, move_exam, new_draft, place_exam, publish, set_owner,
-    swap_exams,
+    clear_exam, drop_draft, enrol_batch, load, move_exam, new_draft, place_exam, publish,
+    set_owner, swap_exams,
 };
 use crate::judging::judged;
 use crate::publications::{publication, publication_penalty, publication_rooms};

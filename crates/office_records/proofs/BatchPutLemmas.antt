@@ -1,5 +1,5 @@
 -- A batch that is put in.
-use Rattle.std.proofs.Common.{◌≡◌, ◌≤◌, ℕ, eqb, ◌∷◌, List, Option, Some, Ok, arith}
+use Rattle.std.proofs.Common.{◌≡◌, ◌≤◌, ℕ, eqb, List, Option, Some, Ok, arith}
 use Rattle.std.specs.Prelude.{IsPermutation, is_some}
 use Rattle.std.proofs.lemmas.List.Sorted.{IsPermutation-cons}
 use Rattle.sqlite_trees.proofs.ListLemmas.{IsPermutation-filter, all-permutation}

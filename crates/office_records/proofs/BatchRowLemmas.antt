@@ -1,14 +1,14 @@
 -- Rows of the batches that were accepted.
-use Rattle.std.proofs.Common.{◌≡◌, ◌≢◌, ◌≤◌, ℕ, Bool, true, false, cond, eqb, List, [], ◌∷◌, map}
+use Rattle.std.proofs.Common.{◌≡◌, ◌≢◌, ◌≤◌, Bool, true, false, cond, eqb, List, [], ◌∷◌, map}
 use Rattle.std.proofs.Common.{filter, length, get_or, Some, None, refl, sym, ◌∙◌, ap, arith, subst, true≢false}
-use Rattle.std.specs.Prelude.{All, AllPairs, IsPermutation}
+use Rattle.std.specs.Prelude.{All, IsPermutation}
 use Rattle.std.specs.List.{AllByRecursion}
 use Rattle.std.proofs.lemmas.Bool.{eq-eqb}
 use Rattle.std.proofs.lemmas.List.{get_or-map, length-map}
 use Rattle.std.proofs.lemmas.List.Elements.{All-from_recursion, recursion_from_All}
 use Rattle.std.proofs.lemmas.List.Sorted.{IsPermutation-refl, IsPermutation-sym, length_permutation}
 use Rattle.sqlite_trees.proofs.ListLemmas.{all-map, all-permutation, all_both, all_from_map, all_weaker}
-use Rattle.office_tables.specs.Records.{counts_of, FitsBatch, FitsCounts}
+use Rattle.office_tables.specs.Records.{counts_of, FitsBatch}
 use Rattle.office_tables.specs.Tables.{Batch, Tables}
 use Rattle.office_tables.specs.declared.rows.BatchCountsRow.{BatchCountsRow}
 use Rattle.office_model.specs.Office.{AreKept, IsKeptBatch, IsOffice, KeptBatch, OfficeState}

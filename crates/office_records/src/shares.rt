@@ -1,5 +1,5 @@
 // The shares of a publication that rows are.
-ghost use Rattle.std.specs.Prelude.{◌≡◌, ◌↔◌, List, IfErr, IfOk, IsTrue, OnOk, Some};
+ghost use Rattle.std.specs.Prelude.{◌≡◌, ◌↔◌, IfErr, IfOk, IsTrue, OnOk, Some};
 ghost use Rattle.exam_publish.specs.Rows.{ArePublishedRows};
 ghost use Rattle.exam_publish.specs.Shares.{shares_of};
 ghost use Rattle.office_model.specs.Office.{IsPublication, Publication};

@@ -1,5 +1,5 @@
 // Rows of the shares of candidates.
-ghost use Rattle.std.specs.Prelude.{◌≡◌, ◌≤◌, ℕ, List, map, All, IfErr, IfNone, IfOk, IfSome, IsPermutation};
+ghost use Rattle.std.specs.Prelude.{◌≡◌, ℕ, List, map, All, IfErr, IfNone, IfOk, IfSome, IsPermutation};
 ghost use Rattle.exam_model.specs.Enrolments.{IsAscending, has_student};
 ghost use Rattle.exam_score.specs.Penalty.{PersonalPenalty};
 ghost use Rattle.office_tables.specs.Amounts.{AreStudentAmounts};

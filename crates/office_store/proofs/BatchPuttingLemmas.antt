@@ -1,7 +1,7 @@
 -- A batch that is accepted.
 use Rattle.std.proofs.Common.{◌≡◌, ◌≤◌, ◌<◌, ℕ, true, false, List, [], ◌∷◌, map, reverse, length}
 use Rattle.std.proofs.Common.{filter, not, if◌then◌else◌, Some, None, Result, Ok, Err, refl, sym, ◌∙◌, ap, subst, arith}
-use Rattle.std.specs.Prelude.{◌==◌, ◌&&◌, nat_lt, IsPermutation}
+use Rattle.std.specs.Prelude.{◌==◌, ◌&&◌, nat_lt}
 use Rattle.std.proofs.lemmas.Bool.Decides.{nat_tests}
 use Rattle.std.proofs.lemmas.List.{append-nil}
 use Rattle.std.proofs.lemmas.List.Sorted.{IsPermutation-reverse}
@@ -22,7 +22,7 @@ use Rattle.office_tables.specs.declared.rows.DraftRow.{DraftRow}
 use Rattle.office_tables.specs.declared.rows.EnrolRow.{EnrolRow}
 use Rattle.office_tables.specs.declared.rows.SlotRow.{SlotRow}
 use Rattle.office_tables.proofs.AlterationLemmas.{drafts_put}
-use Rattle.office_enrolment.specs.AfterBatch.{acting, after_batch, lines_in}
+use Rattle.office_enrolment.specs.AfterBatch.{after_batch, lines_in}
 use Rattle.office_enrolment.specs.Keeping as keeping
 use Rattle.office_enrolment.specs.Rows.{after_row, after_rows, pair_of}
 use Rattle.office_enrolment.proofs.OfficeLemmas.{as_office}

@@ -12,7 +12,7 @@ use Rattle.sqlite_trees.proofs.ListLemmas.{IsPermutation-filter, IsPermutation-f
 use Rattle.sqlite_trees.proofs.ListLemmas.{IsPermutation-flat_map_each, all_weaker, flat_map-map}
 use Rattle.exam_terms.specs.declared.place.Place.{Place}
 use Rattle.exam_model.specs.Changes.{exams_sat}
-use Rattle.exam_model.specs.Enrolments.{Enrolled, AreEnrolments, has, has_student, students}
+use Rattle.exam_model.specs.Enrolments.{Enrolled, has, has_student, students}
 use Rattle.exam_model.specs.Enrolments as rising
 use Rattle.exam_model.specs.Pairs.{pairs_at, pairs_from}
 use Rattle.exam_model.specs.Timetable.{Placing, place_of}

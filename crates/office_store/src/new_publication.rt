@@ -1,13 +1,12 @@
 // What is put in where a draft is published.
-ghost use Rattle.std.specs.Prelude.{◌≡◌, ◌⊎◌, ◌≤◌, All, IfErr, IfOk, None, Some, length, map};
+ghost use Rattle.std.specs.Prelude.{◌≡◌, All, IfErr, IfOk, None, Some, length, map};
 ghost use Rattle.exam_model.specs.Enrolments.{IsAscending};
 ghost use Rattle.exam_model.specs.Fits.{Fits};
-ghost use Rattle.exam_model.specs.Pairs.{pairs_of};
 ghost use Rattle.exam_publish.specs.AddUp.{AreSmall};
 ghost use Rattle.exam_publish.specs.Changed.{changed_students};
 ghost use Rattle.exam_publish.specs.Permit.{publish_refusal};
 ghost use Rattle.exam_publish.specs.Rows.{ArePublishedRows, RowsInOrder};
-ghost use Rattle.exam_publish.specs.Seats.{AreSeated, seat_rows};
+ghost use Rattle.exam_publish.specs.Seats.{AreSeated};
 ghost use Rattle.exam_score.specs.Track.{track};
 ghost use Rattle.office_model.specs.Office.{AreRecords, IsOffice, Records};
 ghost use Rattle.office_model.specs.Publishing.{rows_now};

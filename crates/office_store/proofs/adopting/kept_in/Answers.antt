@@ -1,7 +1,6 @@
 use Rattle.std.proofs.Common.{rules, ◌≡◌, Some, None, Result, Ok, Err, refl, sym, ◌∙◌, inl, inr, subst}
 use Rattle.std.specs.Prelude.{IfErr}
 use Rattle.std.specs.Result.{IsErrAnd}
-use Rattle.sqlite.specs.Effect.{Database}
 use Rattle.sqlite.specs.Held.{state}
 use Rattle.office_tables.specs.Adopting.{IsAdopted, tables_of}
 use Rattle.office_records.specs.declared.fault.RecordFault.{RecordFault}

@@ -1,4 +1,4 @@
-use Rattle.std.proofs.Common.{◌≡◌, ◌∙◌, ◌++◌, List, ap, arith, eqb, filter, rules, sym, subst}
+use Rattle.std.proofs.Common.{◌≡◌, ◌++◌, List, eqb, filter, rules, sym, subst}
 use Rattle.std.specs.Prelude.{IsPermutation}
 use Rattle.std.proofs.lemmas.List.Sorted.{IsPermutation-append_right}
 use Rattle.office_tables.specs.declared.rows.SlotRow.{SlotRow}

@@ -1,7 +1,6 @@
 use Rattle.std.proofs.Common.{◌≡◌, inl, All, Err, filter, eqb, refl, rules, subst, arith}
 use Rattle.std.specs.List.{AllByRecursion}
 use Rattle.std.proofs.lemmas.List.{take_all}
-use Rattle.sqlite.specs.Held.{state}
 use Rattle.office_tables.specs.Tables.{Batch}
 use Rattle.office_tables.specs.declared.rows.BatchCountsRow.{BatchCountsRow}
 use Rattle.office_records.specs.Found.{IsShort}

@@ -2,7 +2,6 @@ use Rattle.std.proofs.Common.{◌≡◌, ◌≤◌, Err, List, length, map, arit
 use Rattle.std.specs.Prelude.{All}
 use Rattle.exam_model.specs.Enrolments.{Enrolled}
 use Rattle.exam_model.specs.Instance.{Session}
-use Rattle.exam_model.specs.declared.change.Change.{Change}
 use Rattle.office_tables.specs.Amounts.{AreAmounts}
 use Rattle.office_tables.specs.declared.drafts.InsertDraft.{InsertDraft}
 use Rattle.office_tables.specs.declared.rows.DraftRow.{DraftRow}

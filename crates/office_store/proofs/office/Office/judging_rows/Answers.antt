@@ -1,4 +1,4 @@
-use Rattle.std.proofs.Common.{ap, arith, not, ◌∙◌}
+use Rattle.std.proofs.Common.{ap, not, ◌∙◌}
 use Rattle.sqlite.specs.Held.{state}
 use Rattle.office_store.proofs.KeptBatchLemmas.{rows_read}
 use Rattle.office_store.proofs.RunLemmas.{kept_read, rest_read}
