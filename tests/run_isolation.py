@@ -18,7 +18,8 @@ import tempfile
 from collections import namedtuple
 
 import run_serve
-from run_serve import asked_by, at, cost, error, forbidden, me, message, reply, shown_exam
+from serve_cases import (
+    asked_by, at, cost, error, forbidden, me, message, publish, reply, shown_exam)
 
 SECONDS = 60
 # Two days of four periods each, in which every exam fits.
@@ -186,7 +187,7 @@ class Client:
         self.connection, self.left, self.batches = None, 0, 100_000
         self.is_published = (
             self.asks(message("PUT", "/drafts/1", solution(office))).startswith(b"HTTP/1.1 201 ")
-            and self.asks(run_serve.publish()).startswith(b"HTTP/1.1 200 "))
+            and self.asks(publish()).startswith(b"HTTP/1.1 200 "))
 
     def asks(self, question):
         """The whole reply."""
@@ -209,7 +210,7 @@ class Client:
             places[exam] = rng.randrange(len(PERIODS)), rng.randrange(len(self.made.rooms))
         self.asks(message("DELETE", "/drafts/8"))
         self.asks(message("PUT", "/drafts/8", solution(self.made._replace(places=places))))
-        return self.asks(run_serve.publish(8)).startswith(b"HTTP/1.1 200 ")
+        return self.asks(publish(8)).startswith(b"HTTP/1.1 200 ")
 
     def ends(self):
         if self.connection:
