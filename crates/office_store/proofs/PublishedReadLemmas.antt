@@ -13,6 +13,7 @@ use Rattle.exam_model.specs.Timetable.{Placing}
 use Rattle.exam_publish.specs.Permit.{IsComplete}
 use Rattle.exam_publish.specs.Shares.{Sharing, exam_shares, shares_of}
 use Rattle.exam_publish.proofs.AddUpLemmas.{adds_up}
+use Rattle.sqlite.specs.Effect.{Database}
 use Rattle.office_tables.specs.Tables.{Tables}
 use Rattle.office_tables.specs.declared.rows.PartShareRow.{PartShareRow}
 use Rattle.office_tables.specs.declared.rows.PlacedRow.{PlacedRow}
@@ -28,12 +29,13 @@ use Rattle.office_records.specs.Publications.{AreRowsOf, ArePublished, StandsPub
 use Rattle.office_records.specs.Publications.{publication_from}
 use Rattle.office_records.specs.Publications.{placed_from, placed_rows, stored_seat}
 use Rattle.office_records.specs.SharesStored.{AreShared, part_rows, plain_rows}
-use Rattle.office_records.specs.Stands.{Stands, IsSound}
+use Rattle.office_records.specs.Stands.{IsKept, IsSound, Stands}
 use Rattle.office_records.proofs.ReadableLemmas.{are_numbered}
 use Rattle.office_records.specs.declared.fault.RecordFault.{RecordFault}
 use Rattle.office_records.specs.declared.fault.RecordFault.TheVariants.{BadRows, NoMemory}
 use Rattle.exam_publish.specs.declared.seat_row.SeatRow as publish
-use Rattle.office_store.specs.Publications.{AddUpIn, Shown, plain, publication_shown, shares_in}
+use Rattle.office_store.specs.Publications.{AddUpIn, Shown, StoredAddUp, plain}
+use Rattle.office_store.specs.Publications.{publication_shown, shares_in}
 use Rattle.office_store.specs.Reading.{AreShareRowsOf, part_rows_in, published_in}
 use Rattle.office_store.specs.Reading.{student_rows_in}
 use Rattle.office_store.specs.Running.{Shows, Tells}
@@ -278,6 +280,9 @@ add_up (Some r) is shares e = subst (AddUpIn (Some r)) (sym e) (go r.published i
           refl,
           adds_up r.session p.rows p.timetable is.session known.rows (are_numbered r.session p known),
         )
+
+pub stored_add_up : (d : Database) (o : OfficeState) → IsKept d o → StoredAddUp o
+stored_add_up d o kept = add_up o kept.office (shares_in o) refl
 
 -- what is answered adds up
 pub adds_up_in : (o : OfficeState) (Stays : OfficeState → Type 0)

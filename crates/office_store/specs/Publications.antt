@@ -38,3 +38,7 @@ AddUpIn office None = Unit {0}
 AddUpIn office (Some shares) =
     (found : Session × Publication) × (publication_in office ≡ Some found)
     × AddUpTo (track found.0 (published_enrolments found.0 found.1) found.1.timetable) shares
+
+-- the shares that an office stores are
+abbrev pub StoredAddUp : OfficeState → Type 0
+StoredAddUp office = AddUpIn office (shares_in office)

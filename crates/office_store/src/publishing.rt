@@ -6,6 +6,7 @@ ghost use Rattle.office_model.specs.Office.{OfficeState};
 ghost use Rattle.office_model.specs.Publishing.{draft_published};
 ghost use Rattle.office_records.specs.Publications.{StandsPublished};
 ghost use Rattle.office_records.specs.Stands.{IsKept};
+ghost use Rattle.office_store.specs.Publications.{StoredAddUp};
 ghost use Rattle.office_store.specs.Reading.{AreRowsOf, published_in};
 ghost use Rattle.office_store.specs.Running.{IsAwake, Now, Runs};
 
@@ -24,8 +25,12 @@ impl<S: Alter> Office<S> {
     /// published; an old seat stays where its exam stands as before. Answers how many candidates'
     /// seat rows changed, and the penalty. `NotLoaded`; then `NoDraft`: there is none of this
     /// number; then `Refused`: an exam has no place, or a hard rule is broken.
+    #[tactic(auto, using(crate::proofs::PublishedReadLemmas::stored_add_up))]
     pub fn publish(&mut self, alloc: Global, number: u32) -> Result<Published, StoreFault>
         ensures runs { Runs S.Store (draft_published number) self.old self.new result }
+        // The shares that are stored then are the penalty of what is published.
+        ensures add_up { (office : OfficeState) → IsKept (state S.Store self.new).now office
+            → StoredAddUp office }
         ensures clean { HasCleanDisk (state S.Store self.new)
             → HasCleanDisk (state S.Store self.old) }
     {
