@@ -25,7 +25,6 @@ impl<S: Alter> Office<S> {
     /// published; an old seat stays where its exam stands as before. Answers how many candidates'
     /// seat rows changed, and the penalty. `NotLoaded`; then `NoDraft`: there is none of this
     /// number; then `Refused`: an exam has no place, or a hard rule is broken.
-    #[tactic(auto, using(crate::proofs::PublishedReadLemmas::stored_add_up))]
     pub fn publish(&mut self, alloc: Global, number: u32) -> Result<Published, StoreFault>
         ensures runs { Runs S.Store (draft_published number) self.old self.new result }
         // The shares that are stored then are the penalty of what is published.

@@ -5,6 +5,7 @@ use Rattle.office_model.specs.declared.fault.StoreFault.TheVariants.{NotLoaded}
 use Rattle.office_store.specs.Running.{Runs}
 use Rattle.office_store.proofs.CommandLemmas.{not_loaded, refuses, rests, runs, seen}
 use Rattle.office_store.proofs.PublishLemmas.{publish_denied, publish_moves}
+use Rattle.office_store.proofs.PublishedReadLemmas.{stored_add_up}
 use Rattle.office_store.proofs.office.Office.publish.Goals as goal
 
 pub returns-in_default-clause-runs : goal.returns-in_default-clause-runs
@@ -58,3 +59,18 @@ invariant_of-self-2 g c = (
       (c.in_ok-put_publication.ensures.done k).makes),
   c.self.invariant.2,
 )
+
+pub returns-in_err-draft-clause-add_up : goal.returns-in_err-draft-clause-add_up
+returns-in_err-draft-clause-add_up g c office kept = stored_add_up _ office kept
+
+pub returns-in_default-clause-add_up : goal.returns-in_default-clause-add_up
+returns-in_default-clause-add_up g c office kept = stored_add_up _ office kept
+
+pub returns-in_err-new-clause-add_up : goal.returns-in_err-new-clause-add_up
+returns-in_err-new-clause-add_up g c office kept = stored_add_up _ office kept
+
+pub returns-in_err-put_publication-clause-add_up : goal.returns-in_err-put_publication-clause-add_up
+returns-in_err-put_publication-clause-add_up g c office kept = stored_add_up _ office kept
+
+pub returns-clause-add_up : goal.returns-clause-add_up
+returns-clause-add_up g c office kept = stored_add_up _ office kept
