@@ -488,7 +488,7 @@ def long_batch(run, kill_after=None):
         killer.start()
         began = time.monotonic()
         asked(client, batch(1, *LONG_BATCH), LONG_ANSWER)
-        took = time.monotonic() - began
+    took = time.monotonic() - began
     if not kill_after:
         killer.cancel()
     killer.join()
