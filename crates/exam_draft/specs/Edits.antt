@@ -1,12 +1,14 @@
 -- What an edit makes of a timetable, or why it is refused: the first reason that holds.
-use Rattle.std.specs.Prelude.{◌≡◌, ℕ, ◌⊎◌, Bool, not, ◌&&◌, ◌==◌, nat_lt, List, [], ◌∷◌, length, Option, Some, None, is_some, Result, Ok, Err, slice_set}
+use Rattle.std.specs.Prelude.{◌≡◌, ℕ, ◌<◌, ◌⊎◌, Bool, not, ◌&&◌, ◌==◌, nat_lt, List, [], ◌∷◌, length, All, Option, Some, None, is_some, Result, Ok, Err, slice_set}
 use Rattle.exam_terms.specs.Refusing.{◌>>=◌, unless}
 use Rattle.exam_model.specs.Instance.{Session}
 use Rattle.exam_model.specs.Enrolments.{Enrolled}
 use Rattle.exam_model.specs.Timetable.{Placing, place_of}
+use Rattle.exam_model.specs.Fits.{Fits}
 use Rattle.exam_terms.specs.declared.place.Place.{Place}
 use Rattle.exam_rules.specs.declared.breach.Breach.{Breach}
 use Rattle.exam_rules.specs.Breaches.{least_breach_of}
+use Rattle.exam_score.specs.Changes.{DiffersAtMost}
 use Rattle.exam_draft.specs.declared.edit.Edit.{Edit}
 use Rattle.exam_draft.specs.declared.edit.Edit.TheVariants as edit
 use Rattle.exam_draft.specs.declared.fault.EditFault.{EditFault}
@@ -40,11 +42,6 @@ if_unbroken I E edited T = unless_broken (least_breach_of I E T edited) T
 -- an exam stands at this place, wherever it stood
 abbrev pub after_put : Session → Enrolled → Placing → ℕ → Place → Edited
 after_put I E T e at = if_unbroken I E (e ∷ []) (slice_set T e (Some at))
-
--- two exams stand at these places, wherever they stood
-abbrev pub after_put_both : Session → Enrolled → Placing → ℕ → Place → ℕ → Place → Edited
-after_put_both I E T a at b there =
-    if_unbroken I E (a ∷ (b ∷ [])) (slice_set (slice_set T a (Some at)) b (Some there))
 
 -- an exam that stood nowhere gets a place
 abbrev pub after_place : Session → Enrolled → Placing → ℕ → Place → Edited
@@ -88,6 +85,14 @@ edited_exams (edit.Place e at) = e ∷ []
 edited_exams (edit.Move e at) = e ∷ []
 edited_exams (edit.Swap a b) = a ∷ (b ∷ [])
 edited_exams (edit.Clear e) = e ∷ []
+
+-- what an edit of these exams keeps: they exist, all of it fits together, and every other exam
+-- stands where it stood
+pub record IsEditedAt (I : Session) (E : Enrolled) (old : Placing) (exams : List ℕ)
+    (new : Placing) : Type 0 where
+  pub exist : All (λ e. e < length I.exams) exams
+  pub fits : Fits I E new
+  pub others : DiffersAtMost exams old new
 
 -- a call answers this fault for such an edit: its refusal, or out of memory in its place
 abbrev pub Refuses : Edited → EditFault → Type 0

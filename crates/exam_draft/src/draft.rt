@@ -1,14 +1,15 @@
 // A draft: contracts see the instance, the enrolments and the timetable.
-ghost use Rattle.std.specs.Prelude.{◌≡◌, ◌<◌, ◌&&◌, length, All, IfOk, IfErr, OnOk, OnErr};
+ghost use Rattle.std.specs.Prelude.{◌≡◌, ◌<◌, length, All, Ok, IfOk, IfErr, OnOk, OnErr};
 ghost use Rattle.exam_model.specs.Timetable.{unplaced};
 ghost use Rattle.exam_model.specs.Fits.{Fits};
-ghost use Rattle.exam_rules.specs.Breaches.{least_breach_of};
 ghost use Rattle.exam_score.specs.Changes.{DiffersAtMost};
 ghost use Rattle.exam_score.specs.Track.{track};
-ghost use Rattle.exam_draft.specs.Edits.{exam_exists, place_exists, is_placed};
+ghost use Rattle.exam_draft.specs.Edits.{edited, edited_exams, IsEditedAt, Refuses};
 
-use exam_model::{Enrolments, ExamNo, Instance, Place, Timetable};
-use exam_rules::{Breach, first_breach_of};
+use crate::edit::Edit;
+use crate::fault::EditFault;
+use crate::judging::judge;
+use exam_model::{Enrolments, ExamNo, Instance, Timetable};
 use exam_score::{Parts, difference, score};
 use std::alloc::{AllocError, Global};
 use std::marker::Model;
@@ -124,42 +125,16 @@ impl<'a> Draft<'a> {
         }
     }
 
-    pub(crate) fn has_exam(&self, exam: ExamNo) -> bool
-        ensures { result ≡ exam_exists self.now.instance exam }
+    // The edited timetable, or why the edit is refused.
+    pub(crate) fn judged(&self, alloc: Global, edit: Edit) -> Result<Timetable, EditFault>
+        ensures ok { IfOk result (λ next. edited self.now.instance self.now.enrolments
+            self.now.timetable edit ≡ Ok next) }
+        ensures refused { IfErr result (Refuses (edited self.now.instance self.now.enrolments
+            self.now.timetable edit)) }
+        ensures kept { IfOk result (IsEditedAt self.now.instance self.now.enrolments
+            self.now.timetable (edited_exams edit)) }
     {
-        exam.get() < self.instance.exams()
-    }
-
-    // Whether the exam, the period and the room exist.
-    pub(crate) fn knows(&self, exam: ExamNo, place: &Place) -> bool
-        ensures { result
-            ≡ (exam_exists self.now.instance exam && place_exists self.now.instance place.now) }
-    {
-        let period_exists = place.period.get() < self.instance.periods();
-        let room_exists = place.room.get() < self.instance.rooms();
-        self.has_exam(exam) && (period_exists && room_exists)
-    }
-
-    pub(crate) fn is_placed(&self, exam: ExamNo) -> bool
-        requires { exam < length self.now.instance.exams }
-        ensures { result ≡ is_placed self.now.timetable exam }
-    {
-        self.timetable.get(exam).is_some()
-    }
-
-    // The least breach of the timetable that names an edited exam.
-    pub(crate) fn breach_of(
-        &self,
-        alloc: Global,
-        next: &Timetable,
-        edited: &[ExamNo],
-    ) -> Result<Option<Breach>, AllocError>
-        requires fits { Fits self.now.instance self.now.enrolments next.now }
-        requires exist { All (λ e. e < length self.now.instance.exams) edited.now }
-        ensures { IfOk result (λ found. found ≡ least_breach_of self.now.instance
-            self.now.enrolments next.now edited.now) }
-    {
-        first_breach_of(alloc, self.instance, self.enrolments, next, edited)
+        judge(alloc, self.instance, self.enrolments, &self.timetable, edit)
     }
 
     // Takes a timetable on, and its penalty.

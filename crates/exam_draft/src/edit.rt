@@ -44,11 +44,9 @@ impl<'a> Draft<'a> {
         ensures same { self.new ≡ record self.old { timetable = self.new.timetable } }
         ensures err { OnErr result (self.new ≡ self.old) }
     {
-        match edit {
-            Edit::Place(exam, place) => self.place(alloc, exam, place),
-            Edit::Move(exam, place) => self.move_to(alloc, exam, place),
-            Edit::Swap(one, other) => self.swap(alloc, one, other),
-            Edit::Clear(exam) => self.clear(alloc, exam),
-        }
+        let next = self.judged(alloc, edit)?;
+        let exams = edit.exams(alloc)?;
+        self.accept(alloc, next, &exams)?;
+        Ok(())
     }
 }

@@ -5,7 +5,9 @@ mod draft;
 mod edit;
 mod editing;
 mod fault;
+mod judging;
 
 pub use draft::Draft;
 pub use edit::Edit;
 pub use fault::EditFault;
+pub use judging::judge;

@@ -25,6 +25,12 @@ capped_fits n cost is = omega arith
 pub one_fits : (n cost : ℕ) → n ≡ cost → cost ≤ 1 → Fits w32 n
 one_fits n cost is small = omega arith
 
+pub row_uncapped : (s : Session) → IsInstance s → ◌≡◌ {A = ℕ → ℕ → ℕ} (λ p q. min (row_cost s.periods s.weights p q) 100000) (row_cost s.periods s.weights)
+row_uncapped s known = λ i p q. min-small (row_cost s.periods s.weights p q) (row_cost-small s known p q) i
+
+pub day_uncapped : (s : Session) → IsInstance s → ◌≡◌ {A = ℕ → ℕ → ℕ} (λ p q. min (day_cost s.periods s.weights p q) 100000) (day_cost s.periods s.weights)
+day_uncapped s known = λ i p q. min-small (day_cost s.periods s.weights p q) (day_cost-small s known p q) i
+
 pub row_known : (s : Session) → IsInstance s → (xs : List ℕ)
     → candidate_cost (λ p q. min (row_cost s.periods s.weights p q) 100000) xs ≡ candidate_cost (row_cost s.periods s.weights) xs
 row_known s known xs = λ i. candidate_cost (λ p q. min-small (row_cost s.periods s.weights p q) (row_cost-small s known p q) i) xs

@@ -43,7 +43,7 @@ beside_placed cost t s x (q ∷ ps) =
       | Some y ↦ sym (sum_by-cons (row_pair cost (row_at x s)) (row_at y q.student) rows)
     ])
 
-by_placed : (cost : ℕ → ℕ → ℕ) (t : Placing) (ps : List Pair)
+pub by_placed : (cost : ℕ → ℕ → ℕ) (t : Placing) (ps : List Pair)
     → sum_pairs (later_cost (λ e f. cost_between cost (period_of t e) (period_of t f))) ps ≡ cost_with cost (filter_map (row_of t) ps)
 by_placed cost t [] = refl
 by_placed cost t (p ∷ ps) =
@@ -67,7 +67,7 @@ row_pair-turned : (cost : ℕ → ℕ → ℕ) → ((p q : ℕ) → cost p q ≡
 row_pair-turned cost either x y = ap₂ (λ b n. cond b n 0) (eqb-swap y.student x.student) (either x.period y.period)
 
 -- the part of the penalty is the cost over the rows
-part_of_rows : (cost : ℕ → ℕ → ℕ) (E : Enrolled) (t : Placing) → AreEnrolments E → cost_with cost (filter_map (row_of t) (pairs_of E)) ≡ pair_part cost E (period_of t)
+pub part_of_rows : (cost : ℕ → ℕ → ℕ) (E : Enrolled) (t : Placing) → AreEnrolments E → cost_with cost (filter_map (row_of t) (pairs_of E)) ≡ pair_part cost E (period_of t)
 part_of_rows cost E t known = sym (by_placed cost t (pairs_of E)) ∙ sym (part_by_rows cost E (period_of t) (are_pairs E known))
 
 -- ---- by tallies

@@ -15,7 +15,7 @@ pairs_from-push k (ys ∷ E) xs =
     ap (λ ps. pairs_at k ys ++ ps) (pairs_from-push (k + 1) E xs ∙ ap (λ n. pairs_from (k + 1) E ++ pairs_at n xs) (omega arith))
     ∙ sym (append_assoc (pairs_at k ys) (pairs_from (k + 1) E) (pairs_at (k + length (ys ∷ E)) xs))
 
-pairs_more : (E : Enrolled) (e : ℕ) → e < length E → pairs_of (take (e + 1) E) ≡ pairs_of (take e E) ++ pairs_at e (students E e)
+pub pairs_more : (E : Enrolled) (e : ℕ) → e < length E → pairs_of (take (e + 1) E) ≡ pairs_of (take e E) ++ pairs_at e (students E e)
 pairs_more E e lt =
     ap (pairs_from 0) (take_more E e [] lt) ∙ pairs_from-push 0 (take e E) (students E e)
     ∙ ap (λ n. pairs_of (take e E) ++ pairs_at n (students E e)) (let l = length-take e E in omega arith)

@@ -12,3 +12,6 @@ pub mod Front
 pub mod Stays
 pub mod Tallies
 pub mod Changes
+pub mod Folds
+pub mod Exchanges
+pub mod Concerned

@@ -11,6 +11,10 @@ pub record PersonalPenalty : Type 0 where
 abbrev pub personal_total : PersonalPenalty → ℕ
 personal_total p = p.row + p.day + p.spread
 
+-- two of them together, part by part
+abbrev pub plus : PersonalPenalty → PersonalPenalty → PersonalPenalty
+plus a b = record { row = a.row + b.row; day = a.day + b.day; spread = a.spread + b.spread }
+
 -- the seven parts of a timetable's penalty
 pub record Penalty : Type 0 where
   pub row : ℕ

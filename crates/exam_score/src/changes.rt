@@ -1,11 +1,16 @@
 // The penalty after an edit.
-ghost use Rattle.std.specs.Prelude.{◌≡◌, ◌<◌, length, All, IfOk};
+ghost use Rattle.std.specs.Prelude.{◌≡◌, ◌<◌, ◌≤◌, length, map, All, AllPairs, IfOk};
+ghost use Rattle.exam_terms.specs.declared.limits.TheConstants.{MAX_PAIRS};
 ghost use Rattle.exam_model.specs.Fits.{Fits};
 ghost use Rattle.exam_score.specs.Changes.{DiffersAtMost};
+ghost use Rattle.exam_score.specs.Concerned.{IsSooner, pair_of};
+ghost use Rattle.exam_score.specs.Folds.{IsFoldOf, StandsFor};
 ghost use Rattle.exam_score.specs.Track.{track};
 
+use crate::concerned::{Sitter, sitters_of};
+use crate::edit_fold::EditFold;
+use crate::front::sizes_of;
 use crate::parts::Parts;
-use crate::track::score;
 use exam_model::{Enrolments, ExamNo, Instance, Timetable};
 use std::alloc::{AllocError, Global};
 
@@ -27,5 +32,31 @@ pub fn difference(
     requires scored { old_parts ≡ track instance.now enrolments.now old.now }
     ensures { IfOk result (λ parts. parts ≡ track instance.now enrolments.now new.now) }
 {
-    score(alloc, instance, enrolments, new)
+    let _kept = enrolments.pairs(); // read for the order of the pairs
+    let sitters = sitters_of(alloc, enrolments, edited)?;
+    let sizes = sizes_of(alloc, enrolments)?;
+    let fold = folded(alloc, instance, old, new, edited, &sitters)?;
+    let parts = fold.finish(&sizes, old_parts);
+    Ok(parts.unwrap())
+}
+
+// The fold over all of these.
+fn folded<'a>(
+    alloc: Global,
+    instance: &'a Instance,
+    old: &'a Timetable,
+    new: &'a Timetable,
+    edited: &'a [ExamNo],
+    sitters: &[Sitter],
+) -> Result<EditFold<'a>, AllocError>
+    requires few { length sitters.now ≤ MAX_PAIRS }
+    requires in_order { AllPairs IsSooner sitters.now }
+    ensures stands { IfOk result (λ fold. StandsFor fold (map pair_of sitters.now)) }
+    ensures of { IfOk result (λ fold. IsFoldOf fold instance.now old.now new.now edited.now) }
+{
+    let mut fold = EditFold::new(alloc, instance, old, new, edited)?;
+    for sitter in sitters {
+        fold.row(sitter.student, sitter.exam)?;
+    }
+    Ok(fold)
 }

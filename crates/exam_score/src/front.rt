@@ -99,7 +99,7 @@ fn count_larger(sizes: &[u32], size: u32) -> u32
 }
 
 // The number of each exam's students.
-fn sizes_of(alloc: Global, enrolments: &Enrolments) -> Result<Vec<u32>, AllocError>
+pub fn sizes_of(alloc: Global, enrolments: &Enrolments) -> Result<Vec<u32>, AllocError>
     ensures { IfOk result (λ sizes. AreSizes enrolments.now sizes.items) }
 {
     let mut sizes = Vec::with_capacity(alloc, enrolments.exams() as usize)?;

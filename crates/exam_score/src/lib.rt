@@ -3,6 +3,9 @@
 
 mod candidate;
 mod changes;
+mod concerned;
+mod edit_fold;
+mod edited_exams;
 mod front;
 mod laws;
 mod lines;
@@ -13,13 +16,16 @@ mod parts;
 mod personal_parts;
 mod places;
 mod rows;
+mod sat_exams;
 mod sittings;
 mod tallies;
+mod touched;
 mod track;
 mod walk;
 
 pub use candidate::personal;
 pub use changes::difference;
+pub use edit_fold::EditFold;
 pub use front::front_share;
 pub use laws::{penalty_is_small, regrouping};
 pub use mixed::{Stay, stays_of};

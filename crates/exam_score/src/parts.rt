@@ -1,8 +1,10 @@
 // The numbers of a penalty: contracts see them as a record.
 ghost use Rattle.std.specs.Prelude.{◌≡◌, ◌+◌, ◌*◌, ◌^◌, ◌<◌, ◌≤◌, Some, None, IfSome, IfNone};
 ghost use Rattle.exam_terms.specs.declared.limits.TheConstants.{MAX_AMOUNT, MAX_EXAMS, MAX_PAIRS};
+ghost use Rattle.exam_score.specs.Exchanges.{CannotExchange, IsExchanged};
 ghost use Rattle.exam_score.specs.Penalty.{Penalty, total_of};
 
+use crate::personal_parts::PersonalParts;
 use crate::places::PlaceSums;
 use crate::walk::PairSums;
 use std::marker::Model;
@@ -119,6 +121,48 @@ impl Parts {
         }
     }
 
+    // The same, where the total is known to be within the limit.
+    pub(crate) fn within(pairs: PersonalParts, mixed: u64, front: u64, places: PlaceSums) -> Parts
+        requires { pairs.row + pairs.day + pairs.spread + mixed + front + places.periods
+            + places.rooms < 2 ^ 62 }
+        ensures { result ≡ record {
+          row = pairs.row;
+          day = pairs.day;
+          spread = pairs.spread;
+          mixed = mixed;
+          front = front;
+          period = places.periods;
+          room = places.rooms;
+        } }
+    {
+        Parts {
+            row: pairs.row(),
+            day: pairs.day(),
+            spread: pairs.spread(),
+            mixed,
+            front,
+            period: places.periods,
+            room: places.rooms,
+        }
+    }
+
+    // These less what goes and with what comes, unless a part would be negative or the total
+    // reach the limit.
+    pub(crate) fn exchange(self, goes: Parts, comes: Parts) -> Option<Parts>
+        ensures made { IfSome result (IsExchanged self goes comes) }
+        ensures none { IfNone result (CannotExchange self goes comes) }
+    {
+        Parts::new(
+            exchanged(self.row, goes.row, comes.row)?,
+            exchanged(self.day, goes.day, comes.day)?,
+            exchanged(self.spread, goes.spread, comes.spread)?,
+            exchanged(self.mixed, goes.mixed, comes.mixed)?,
+            exchanged(self.front, goes.front, comes.front)?,
+            exchanged(self.period, goes.period, comes.period)?,
+            exchanged(self.room, goes.room, comes.room)?,
+        )
+    }
+
     /// For exams in a row.
     pub fn row(&self) -> u64
         ensures { result ≡ self.now.row }
@@ -177,4 +221,12 @@ impl Parts {
         let exams = self.mixed + self.front;
         pairs + exams + self.period + self.room
     }
+}
+
+fn exchanged(old: u64, goes: u64, comes: u64) -> Option<u64>
+    requires small { old + comes < 2 ^ 63 }
+    ensures some { IfSome result (λ new. new + goes ≡ old + comes) }
+    ensures none { IfNone result (old + comes < goes) }
+{
+    (old + comes).checked_sub(goes)
 }

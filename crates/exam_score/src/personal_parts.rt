@@ -1,6 +1,6 @@
 // The numbers of a personal penalty: contracts see them as a record.
 ghost use Rattle.std.specs.Prelude.{◌≡◌, ◌+◌, ◌^◌, ◌<◌, ◌≤◌, Some, None, IfSome, IfNone};
-ghost use Rattle.exam_score.specs.Penalty.{PersonalPenalty, personal_total};
+ghost use Rattle.exam_score.specs.Penalty.{PersonalPenalty, personal_total, plus};
 
 use crate::parts::TOTAL_LIMIT;
 use std::marker::Model;
@@ -48,6 +48,18 @@ impl PersonalParts {
         ensures { result ≡ record { row = row; day = day; spread = spread } }
     {
         PersonalParts { row, day, spread }
+    }
+
+    // Both together, where that is known to be small.
+    pub(crate) fn plus(self, more: PersonalParts) -> PersonalParts
+        requires { personal_total self + personal_total more < 2 ^ 62 }
+        ensures { result ≡ plus self more }
+    {
+        PersonalParts {
+            row: self.row + more.row,
+            day: self.day + more.day,
+            spread: self.spread + more.spread,
+        }
     }
 
     /// For exams in a row.

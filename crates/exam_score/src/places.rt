@@ -35,7 +35,7 @@ pub fn place_penalties(instance: &Instance, timetable: &Timetable) -> PlaceSums
     sums
 }
 
-fn penalty_of_period(instance: &Instance, period: PeriodNo) -> u64
+pub fn penalty_of_period(instance: &Instance, period: PeriodNo) -> u64
     requires exists { period < length instance.now.periods }
     ensures penalty { result ≡ period_penalty (slice_get instance.now.periods period) }
     ensures small { result ≤ MAX_AMOUNT }
@@ -44,7 +44,7 @@ fn penalty_of_period(instance: &Instance, period: PeriodNo) -> u64
     u64::from(instance.period(period).penalty)
 }
 
-fn penalty_of_room(instance: &Instance, room: RoomNo) -> u64
+pub fn penalty_of_room(instance: &Instance, room: RoomNo) -> u64
     requires exists { room < length instance.now.rooms }
     ensures penalty { result ≡ room_penalty (slice_get instance.now.rooms room) }
     ensures small { result ≤ MAX_AMOUNT }

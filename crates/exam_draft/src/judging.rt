@@ -1,0 +1,219 @@
+// Edits of a timetable, judged and not scored.
+ghost use Rattle.std.specs.Prelude.{◌≡◌, ◌<◌, ◌&&◌, [], ◌∷◌, length, All, Ok, Some, IfErr, IfOk, OnOk};
+ghost use Rattle.exam_model.specs.Fits.{Fits, PlaceExists};
+ghost use Rattle.exam_draft.specs.Edits.{after_place, after_move, after_swap, after_clear};
+ghost use Rattle.exam_draft.specs.Edits.{after_put, edited, edited_exams, if_unbroken, Refuses};
+ghost use Rattle.exam_draft.specs.Edits.{exam_exists, place_exists, is_placed, IsEditedAt};
+
+use crate::edit::Edit;
+use crate::fault::EditFault;
+use exam_model::{Enrolments, ExamNo, Instance, Place, Timetable};
+use exam_rules::first_breach_of;
+use std::alloc::Global;
+
+/// The edited timetable, or why the edit is refused. The timetable's places are gone over, and of
+/// the enrolments those in the edited exams and in exams that stand in their periods.
+pub fn judge(
+    alloc: Global,
+    instance: &Instance,
+    enrolments: &Enrolments,
+    timetable: &Timetable,
+    edit: Edit,
+) -> Result<Timetable, EditFault>
+    requires fits { Fits instance.now enrolments.now timetable.now }
+    ensures ok { IfOk result (λ next. edited instance.now enrolments.now timetable.now edit
+        ≡ Ok next) }
+    // The first refusal that holds, or out of memory in its place.
+    ensures refused { IfErr result (Refuses (edited instance.now enrolments.now timetable.now
+        edit)) }
+    ensures kept { IfOk result (IsEditedAt instance.now enrolments.now timetable.now
+        (edited_exams edit)) }
+{
+    match edit {
+        Edit::Place(exam, at) => judge_place(alloc, instance, enrolments, timetable, exam, at),
+        Edit::Move(exam, to) => judge_move(alloc, instance, enrolments, timetable, exam, to),
+        Edit::Swap(one, other) => judge_swap(alloc, instance, enrolments, timetable, one, other),
+        Edit::Clear(exam) => judge_clear(alloc, instance, enrolments, timetable, exam),
+    }
+}
+
+// An exam that stands nowhere is to be placed.
+fn judge_place(
+    alloc: Global,
+    instance: &Instance,
+    enrolments: &Enrolments,
+    timetable: &Timetable,
+    exam: ExamNo,
+    place: Place,
+) -> Result<Timetable, EditFault>
+    requires fits { Fits instance.now enrolments.now timetable.now }
+    ensures ok { IfOk result (λ next. after_place instance.now enrolments.now timetable.now exam
+        place ≡ Ok next) }
+    ensures refused { IfErr result (Refuses (after_place instance.now enrolments.now timetable.now
+        exam place)) }
+    ensures kept { IfOk result (IsEditedAt instance.now enrolments.now timetable.now
+        (exam ∷ [])) }
+{
+    if !knows(instance, exam, &place) {
+        return Err(EditFault::NoSuch);
+    }
+    if is_placed(timetable, exam) {
+        return Err(EditFault::AlreadyPlaced);
+    }
+    put(alloc, instance, enrolments, timetable, exam, place)
+}
+
+// A placed exam is to stand elsewhere.
+fn judge_move(
+    alloc: Global,
+    instance: &Instance,
+    enrolments: &Enrolments,
+    timetable: &Timetable,
+    exam: ExamNo,
+    to: Place,
+) -> Result<Timetable, EditFault>
+    requires fits { Fits instance.now enrolments.now timetable.now }
+    ensures ok { IfOk result (λ next. after_move instance.now enrolments.now timetable.now exam to
+        ≡ Ok next) }
+    ensures refused { IfErr result (Refuses (after_move instance.now enrolments.now timetable.now
+        exam to)) }
+    ensures kept { IfOk result (IsEditedAt instance.now enrolments.now timetable.now
+        (exam ∷ [])) }
+{
+    if !knows(instance, exam, &to) {
+        return Err(EditFault::NoSuch);
+    }
+    if !is_placed(timetable, exam) {
+        return Err(EditFault::NotPlaced);
+    }
+    put(alloc, instance, enrolments, timetable, exam, to)
+}
+
+// Lets an exam stand at this place, unless a breach names it there.
+fn put(
+    alloc: Global,
+    instance: &Instance,
+    enrolments: &Enrolments,
+    timetable: &Timetable,
+    exam: ExamNo,
+    place: Place,
+) -> Result<Timetable, EditFault>
+    requires fits { Fits instance.now enrolments.now timetable.now }
+    requires exam { exam < length instance.now.exams }
+    requires place { PlaceExists instance.now (Some place) }
+    ensures ok { IfOk result (λ next. after_put instance.now enrolments.now timetable.now exam place
+        ≡ Ok next) }
+    ensures refused { IfErr result (Refuses (after_put instance.now enrolments.now timetable.now
+        exam place)) }
+    ensures kept { IfOk result (IsEditedAt instance.now enrolments.now timetable.now
+        (exam ∷ [])) }
+{
+    let mut next = timetable.copy(alloc)?;
+    next.set(exam, place);
+    refuse_broken(alloc, instance, enrolments, &next, &[exam])?;
+    Ok(next)
+}
+
+// Two placed exams are to exchange their places.
+fn judge_swap(
+    alloc: Global,
+    instance: &Instance,
+    enrolments: &Enrolments,
+    timetable: &Timetable,
+    one: ExamNo,
+    other: ExamNo,
+) -> Result<Timetable, EditFault>
+    requires fits { Fits instance.now enrolments.now timetable.now }
+    ensures ok { IfOk result (λ next. after_swap instance.now enrolments.now timetable.now one other
+        ≡ Ok next) }
+    ensures refused { IfErr result (Refuses (after_swap instance.now enrolments.now timetable.now
+        one other)) }
+    ensures kept { IfOk result (IsEditedAt instance.now enrolments.now timetable.now
+        (one ∷ (other ∷ []))) }
+{
+    if !has_exam(instance, one) || !has_exam(instance, other) {
+        return Err(EditFault::NoSuch);
+    }
+    let Some(first) = timetable.get(one) else {
+        return Err(EditFault::NotPlaced);
+    };
+    let Some(second) = timetable.get(other) else {
+        return Err(EditFault::NotPlaced);
+    };
+    if one == other {
+        return Err(EditFault::SameExam);
+    }
+    let mut next = timetable.copy(alloc)?;
+    next.set(one, second);
+    next.set(other, first);
+    refuse_broken(alloc, instance, enrolments, &next, &[one, other])?;
+    Ok(next)
+}
+
+// A placed exam is to stand nowhere, whatever is broken.
+fn judge_clear(
+    alloc: Global,
+    instance: &Instance,
+    enrolments: &Enrolments,
+    timetable: &Timetable,
+    exam: ExamNo,
+) -> Result<Timetable, EditFault>
+    requires fits { Fits instance.now enrolments.now timetable.now }
+    ensures ok { IfOk result (λ next. after_clear instance.now timetable.now exam ≡ Ok next) }
+    ensures refused { IfErr result (Refuses (after_clear instance.now timetable.now exam)) }
+    ensures kept { IfOk result (IsEditedAt instance.now enrolments.now timetable.now
+        (exam ∷ [])) }
+{
+    if !has_exam(instance, exam) {
+        return Err(EditFault::NoSuch);
+    }
+    if !is_placed(timetable, exam) {
+        return Err(EditFault::NotPlaced);
+    }
+    let mut next = timetable.copy(alloc)?;
+    next.clear(exam);
+    Ok(next)
+}
+
+// Refuses a timetable in which a breach names an edited exam, by the least one that does.
+fn refuse_broken(
+    alloc: Global,
+    instance: &Instance,
+    enrolments: &Enrolments,
+    next: &Timetable,
+    edited: &[ExamNo],
+) -> Result<(), EditFault>
+    requires fits { Fits instance.now enrolments.now next.now }
+    requires exist { All (λ e. e < length instance.now.exams) edited.now }
+    ensures ok { OnOk result (if_unbroken instance.now enrolments.now edited.now next.now
+        ≡ Ok next.now) }
+    ensures refused { IfErr result (Refuses (if_unbroken instance.now enrolments.now edited.now
+        next.now)) }
+{
+    match first_breach_of(alloc, instance, enrolments, next, edited)? {
+        Some(breach) => Err(EditFault::Broken(breach)),
+        None => Ok(()),
+    }
+}
+
+fn has_exam(instance: &Instance, exam: ExamNo) -> bool
+    ensures { result ≡ exam_exists instance.now exam }
+{
+    exam.get() < instance.exams()
+}
+
+// Whether the exam, the period and the room exist.
+fn knows(instance: &Instance, exam: ExamNo, place: &Place) -> bool
+    ensures { result ≡ (exam_exists instance.now exam && place_exists instance.now place.now) }
+{
+    let period_exists = place.period.get() < instance.periods();
+    let room_exists = place.room.get() < instance.rooms();
+    has_exam(instance, exam) && (period_exists && room_exists)
+}
+
+fn is_placed(timetable: &Timetable, exam: ExamNo) -> bool
+    requires { exam < length timetable.now }
+    ensures { result ≡ is_placed timetable.now exam }
+{
+    timetable.get(exam).is_some()
+}

@@ -1,0 +1,281 @@
+-- One pair more in a fold.
+use Rattle.std.specs.List.{AllByRecursion}
+use Rattle.std.proofs.Common.{◌≡◌, ◌≢◌, ℕ, zero, suc, ◌+◌, ◌<◌, inl, inr, cond, List, [], ◌∷◌, ◌++◌, length, map, sum_by, Option, Some, None, All, AllPairs, refl, sym, ◌∙◌, ap, ap₂, subst, arith, ne_eqb, eq-eqb, append_assoc, length-append, zero-add}
+use Rattle.std.proofs.lemmas.List.Elements.{All-from_recursion, recursion_from_All}
+use Rattle.std.proofs.lemmas.List.Sums.{sum_by-append, sum_by-cons}
+use Rattle.exam_model.specs.Fits.{period_of}
+use Rattle.exam_model.specs.Instance.{Session}
+use Rattle.exam_model.specs.PairCost.{cost_between}
+use Rattle.exam_model.specs.Pairs.{Pair}
+use Rattle.exam_model.specs.Sums.{sum_pairs}
+use Rattle.exam_model.specs.Timetable.{Placing}
+use Rattle.exam_model.proofs.SumLemmas.{IsChain, chain_from_index, sum_by-none, each_weaker}
+use Rattle.exam_score.specs.Cost.{row_cost, day_cost, spread_cost}
+use Rattle.exam_score.specs.Folds.{Folded, StandsFor, CanFollow, ComesEarlier, exams_cost, pairs_sat, personal_at, personal_sum, rows_in}
+use Rattle.exam_score.specs.Penalty.{PersonalPenalty, plus}
+use Rattle.exam_score.specs.Walk.{cost_with}
+use Rattle.exam_score.proofs.PairsLemmas.{by_placed}
+use Rattle.exam_score.proofs.RegroupingLemmas.{later_cost}
+
+-- ---- lists
+
+-- a chain, by places
+pub index_from_chain : {X : Type 0} (R : X → X → Type 0) (xs : List X) → IsChain R xs
+    → AllPairs R xs
+index_from_chain R [] h i j d l m = absurd (let k : j < 0 = m in omega arith)
+index_from_chain R (x ∷ xs) h zero zero d l m = absurd (omega (arith, l))
+index_from_chain R (x ∷ xs) h zero (suc j) d l m =
+    All-from_recursion (R x) xs h.0 j d (omega (arith, m))
+index_from_chain R (x ∷ xs) h (suc i) zero d l m = absurd (omega (arith, l))
+index_from_chain R (x ∷ xs) h (suc i) (suc j) d l m =
+    index_from_chain R xs h.1 i j d (omega (arith, l)) (omega (arith, m))
+
+each_push : {X : Type 0} (P : X → Type 0) (xs : List X) (y : X) → AllByRecursion P xs → P y
+    → AllByRecursion P (xs ++ y ∷ [])
+each_push P [] y h k = (k, tt)
+each_push P (x ∷ xs) y h k = (h.0, each_push P xs y h.1 k)
+
+each_append : {X : Type 0} (P : X → Type 0) (xs ys : List X) → AllByRecursion P xs
+    → AllByRecursion P ys → AllByRecursion P (xs ++ ys)
+each_append P [] ys h k = k
+each_append P (x ∷ xs) ys h k = (h.0, each_append P xs ys h.1 k)
+
+chain_push : {X : Type 0} (R : X → X → Type 0) (xs : List X) (y : X) → IsChain R xs
+    → AllByRecursion (λ x. R x y) xs → IsChain R (xs ++ y ∷ [])
+chain_push R [] y h k = (tt, tt)
+chain_push R (x ∷ xs) y h k = (each_push (R x) xs y h.0 k.0, chain_push R xs y h.1 k.1)
+
+pub map_push : {X Y : Type 0} (f : X → Y) (xs : List X) (x : X)
+    → map f (xs ++ x ∷ []) ≡ map f xs ++ f x ∷ []
+map_push f [] x = refl
+map_push f (y ∷ ys) x = ap (λ zs. f y ∷ zs) (map_push f ys x)
+
+-- ---- what pairs cost
+
+-- two parts of pairs that share no student
+apart_cost : (w : ℕ → ℕ → ℕ) (ps qs : List Pair)
+    → AllByRecursion (λ p. AllByRecursion (λ q. p.student < q.student) qs) ps
+    → sum_pairs (later_cost w) (ps ++ qs)
+    ≡ sum_pairs (later_cost w) ps + sum_pairs (later_cost w) qs
+apart_cost w [] qs h = sym (zero-add _)
+apart_cost w (p ∷ ps) qs h =
+    let more = apart_cost w ps qs h.1 in
+    let split = sum_by-append (later_cost w p) ps qs in
+    let none = sum_by-none (later_cost w p) qs
+    (each_weaker (λ q. p.student < q.student) _
+    (λ q l. ap (λ b. cond b (w p.exam q.exam) 0)
+    (ne_eqb q.student p.student (λ e. omega (arith, l, e)))) qs h.0) in
+    omega arith
+
+pub cost_apart : (cost : ℕ → ℕ → ℕ) (t : Placing) (ps qs : List Pair)
+    → AllByRecursion (λ p. AllByRecursion (λ q. p.student < q.student) qs) ps
+    → cost_with cost (rows_in t (ps ++ qs))
+    ≡ cost_with cost (rows_in t ps) + cost_with cost (rows_in t qs)
+cost_apart cost t ps qs h =
+    sym (by_placed cost t (ps ++ qs))
+    ∙ apart_cost (λ e f. cost_between cost (period_of t e) (period_of t f)) ps qs h
+    ∙ ap₂ (λ m n. m + n) (by_placed cost t ps) (by_placed cost t qs)
+
+pub sum_apart : (s : Session) (t : Placing) (ps qs : List Pair)
+    → AllByRecursion (λ p. AllByRecursion (λ q. p.student < q.student) qs) ps
+    → personal_sum s t (ps ++ qs) ≡ plus (personal_sum s t ps) (personal_sum s t qs)
+sum_apart s t ps qs h = λ i. record {
+  row = cost_apart (row_cost s.periods s.weights) t ps qs h i;
+  day = cost_apart (day_cost s.periods s.weights) t ps qs h i;
+  spread = cost_apart (spread_cost s.periods s.weights) t ps qs h i;
+}
+
+-- the pairs of one student
+own_beside : (w : ℕ → ℕ → ℕ) (s e : ℕ) (es : List ℕ)
+    → sum_by (later_cost w (record { exam = e; student = s })) (pairs_sat (Some s) es)
+    ≡ sum_by (w e) es
+own_beside w s e [] = refl
+own_beside w s e (f ∷ fs) =
+    sum_by-cons (later_cost w (record { exam = e; student = s })) (record { exam = f; student = s })
+    (pairs_sat (Some s) fs)
+    ∙ ap₂ (λ m n. m + n) (ap (λ b. cond b (w e f) 0) (eq-eqb s s refl)) (own_beside w s e fs)
+    ∙ sym (sum_by-cons (w e) f fs)
+
+own_cost : (w : ℕ → ℕ → ℕ) (s : ℕ) (es : List ℕ)
+    → sum_pairs (later_cost w) (pairs_sat (Some s) es) ≡ sum_pairs w es
+own_cost w s [] = refl
+own_cost w s (e ∷ es) = ap₂ (λ m n. m + n) (own_beside w s e es) (own_cost w s es)
+
+cost_of_student : (cost : ℕ → ℕ → ℕ) (t : Placing) (student : Option ℕ) (es : List ℕ)
+    → (student ≡ None → es ≡ [])
+    → exams_cost cost t es ≡ cost_with cost (rows_in t (pairs_sat student es))
+cost_of_student cost t None es none = ap (exams_cost cost t) (none refl)
+cost_of_student cost t (Some s) es none =
+    sym (own_cost (λ e f. cost_between cost (period_of t e) (period_of t f)) s es)
+    ∙ by_placed cost t (pairs_sat (Some s) es)
+
+-- what the open student pays
+pub sum_of_student : (s : Session) (t : Placing) (student : Option ℕ) (es : List ℕ)
+    → (student ≡ None → es ≡ [])
+    → personal_at s t es ≡ personal_sum s t (pairs_sat student es)
+sum_of_student s t student es none = λ i. record {
+  row = cost_of_student (row_cost s.periods s.weights) t student es none i;
+  day = cost_of_student (day_cost s.periods s.weights) t student es none i;
+  spread = cost_of_student (spread_cost s.periods s.weights) t student es none i;
+}
+
+-- ---- the student of a pair
+
+own_each : (s : ℕ) (es : List ℕ) → AllByRecursion (λ p. p.student ≡ s) (pairs_sat (Some s) es)
+own_each s [] = tt
+own_each s (e ∷ es) = (refl, own_each s es)
+
+other_each : (student : Option ℕ) (es : List ℕ) (s : ℕ) → (student ≡ Some s → ⊥)
+    → AllByRecursion (λ p. p.student ≢ s) (pairs_sat student es)
+other_each None es s other = tt
+other_each (Some x) [] s other = tt
+other_each (Some x) (e ∷ es) s other = (λ k. other (ap Some k), other_each (Some x) es s other)
+
+-- ---- one pair more
+
+closed_before : (count : ℕ) (closed current : List Pair) (pair : Pair) → (current ≡ [] → count ≡ 0)
+    → count ≡ length (closed ++ current)
+    → AllByRecursion (λ p. ComesEarlier p pair) current
+    → AllByRecursion (λ p. AllByRecursion (λ q. p.student < q.student) current) closed
+    → AllByRecursion (λ p. p.student < pair.student) closed
+closed_before count [] current pair none n follows others = tt
+closed_before count (p ∷ ps) [] pair none n follows others =
+    absurd (let z = none refl in omega (arith, n, z))
+closed_before count (p ∷ ps) (q ∷ qs) pair none n follows others =
+    each_weaker (λ p. AllByRecursion (λ q. p.student < q.student) (q ∷ qs))
+    (λ p. p.student < pair.student) (λ p h. below p h.0 follows.0) (p ∷ ps) others
+  where
+    below : (p : Pair) → p.student < q.student → ComesEarlier q pair → p.student < pair.student
+    below p l later = elim later as (λ _. p.student < pair.student)
+        [ inl m ↦ omega (arith, l, m) | inr same ↦ omega (arith, l, same.0) ]
+
+-- the facts on others, along the lists
+pub others_each : (closed current : List Pair)
+    → All (λ p. All (λ q. p.student < q.student) current) closed
+    → AllByRecursion (λ p. AllByRecursion (λ q. p.student < q.student) current) closed
+others_each closed current h =
+    each_weaker (λ p. All (λ q. p.student < q.student) current)
+    (λ p. AllByRecursion (λ q. p.student < q.student) current)
+    (λ p k. recursion_from_All (λ q. p.student < q.student) current k) closed
+    (recursion_from_All (λ p. All (λ q. p.student < q.student) current) closed h)
+
+each_others : (closed current : List Pair)
+    → AllByRecursion (λ p. AllByRecursion (λ q. p.student < q.student) current) closed
+    → All (λ p. All (λ q. p.student < q.student) current) closed
+each_others closed current h =
+    All-from_recursion (λ p. All (λ q. p.student < q.student) current) closed
+    (each_weaker (λ p. AllByRecursion (λ q. p.student < q.student) current)
+    (λ p. All (λ q. p.student < q.student) current)
+    (λ p k. All-from_recursion (λ q. p.student < q.student) current k) closed h)
+
+in_order_push : (closed current : List Pair) (pairs : List Pair) (pair : Pair)
+    → pairs ≡ closed ++ current → AllPairs ComesEarlier pairs
+    → AllByRecursion (λ p. p.student < pair.student) closed
+    → AllByRecursion (λ p. ComesEarlier p pair) current → AllPairs ComesEarlier (pairs ++ pair ∷ [])
+in_order_push closed current pairs pair parts order below follows =
+    index_from_chain ComesEarlier (pairs ++ pair ∷ [])
+    (chain_push ComesEarlier pairs pair (chain_from_index ComesEarlier pairs order)
+    (subst (AllByRecursion (λ p. ComesEarlier p pair)) (sym parts)
+    (each_append (λ p. ComesEarlier p pair) closed current
+    (each_weaker (λ p. p.student < pair.student) (λ p. ComesEarlier p pair)
+    (λ p l. inl l) closed below) follows)))
+
+-- of the open student
+pub stands_on : (fold : Folded) (pairs : List Pair) (s e : ℕ) (exams : List ℕ)
+    → StandsFor fold pairs → fold.current ≡ pairs_sat (Some s) exams
+    → (fold.current ≡ [] → fold.count ≡ 0) → CanFollow fold (record { exam = e; student = s })
+    → StandsFor
+    (record fold { count = fold.count + 1; current = pairs_sat (Some s) (exams ++ e ∷ []) })
+    (pairs ++ record { exam = e; student = s } ∷ [])
+stands_on fold pairs s e exams h own started follows =
+    let pair : Pair = record { exam = e; student = s } in
+    let after : AllByRecursion (λ p. ComesEarlier p pair) fold.current =
+    recursion_from_All (λ p. ComesEarlier p pair) fold.current follows in
+    let others = others_each h.closed fold.current h.others in
+    let below = closed_before fold.count h.closed fold.current pair started
+    (h.count ∙ ap length h.parts) after others in
+    let longer : pairs_sat (Some s) (exams ++ e ∷ []) ≡ fold.current ++ pair ∷ [] =
+    map_push (λ (x : ℕ). record { exam = x; student = s }) exams e
+    ∙ ap (λ ps. ps ++ pair ∷ []) (sym own) in
+    record {
+      closed = h.closed;
+      parts = ap (λ rs. rs ++ pair ∷ []) h.parts ∙ append_assoc h.closed fold.current (pair ∷ [])
+          ∙ ap (λ ps. h.closed ++ ps) (sym longer);
+      in_order = in_order_push h.closed fold.current pairs pair h.parts h.in_order below after;
+      count = ap (λ n. n + 1) h.count ∙ sym (length-append pairs (pair ∷ []));
+      before = h.before;
+      after = h.after;
+      others = each_others h.closed (pairs_sat (Some s) (exams ++ e ∷ []))
+          (subst (λ ps. AllByRecursion (λ p. AllByRecursion (λ q. p.student < q.student) ps)
+          h.closed) (sym longer) (both h.closed fold.current pair others below));
+    }
+  where
+    both : (ps qs : List Pair) (y : Pair)
+        → AllByRecursion (λ p. AllByRecursion (λ q. p.student < q.student) qs) ps
+        → AllByRecursion (λ p. p.student < y.student) ps
+        → AllByRecursion (λ p. AllByRecursion (λ q. p.student < q.student) (qs ++ y ∷ [])) ps
+    both [] qs y a b = tt
+    both (p ∷ ps) qs y a b =
+        (each_push (λ q. p.student < q.student) qs y a.0 b.0, both ps qs y a.1 b.1)
+
+-- of the next student
+pub stands_turn : (fold : Folded) (pairs : List Pair) (s e : ℕ) (student : Option ℕ)
+    (exams : List ℕ) (b a : PersonalPenalty) → StandsFor fold pairs
+    → fold.current ≡ pairs_sat student exams → (student ≡ Some s → ⊥)
+    → (fold.current ≡ [] → fold.count ≡ 0) → CanFollow fold (record { exam = e; student = s })
+    → b ≡ personal_sum fold.instance fold.earlier fold.current
+    → a ≡ personal_sum fold.instance fold.later fold.current
+    → StandsFor (record fold {
+      count = fold.count + 1;
+      before = plus fold.before b;
+      after = plus fold.after a;
+      current = pairs_sat (Some s) (e ∷ []);
+    })
+    (pairs ++ record { exam = e; student = s } ∷ [])
+stands_turn fold pairs s e student exams b a h own other started follows b_is a_is =
+    let pair : Pair = record { exam = e; student = s } in
+    let after : AllByRecursion (λ p. ComesEarlier p pair) fold.current =
+    recursion_from_All (λ p. ComesEarlier p pair) fold.current follows in
+    let others = others_each h.closed fold.current h.others in
+    let below = closed_before fold.count h.closed fold.current pair started
+    (h.count ∙ ap length h.parts) after others in
+    let different : AllByRecursion (λ p. p.student ≢ s) fold.current =
+    subst (AllByRecursion (λ p. p.student ≢ s)) (sym own) (other_each student exams s other) in
+    let current_below : AllByRecursion (λ p. p.student < s) fold.current =
+    strictly fold.current after different in
+    let all_below = each_append (λ p. p.student < s) h.closed fold.current below current_below in
+    record {
+      closed = h.closed ++ fold.current;
+      parts = ap (λ rs. rs ++ pair ∷ []) h.parts;
+      in_order = in_order_push h.closed fold.current pairs pair h.parts h.in_order below after;
+      count = ap (λ n. n + 1) h.count ∙ sym (length-append pairs (pair ∷ []));
+      before = ap₂ plus h.before b_is
+          ∙ sym (sum_apart fold.instance fold.earlier h.closed fold.current others);
+      after = ap₂ plus h.after a_is
+          ∙ sym (sum_apart fold.instance fold.later h.closed fold.current others);
+      others = each_others (h.closed ++ fold.current) (pair ∷ [])
+          (each_weaker (λ p. p.student < s) (λ p. AllByRecursion (λ q. p.student < q.student)
+          (pair ∷ [])) (λ p l. (l, tt)) (h.closed ++ fold.current) all_below);
+    }
+  where
+    strictly : (ps : List Pair)
+        → AllByRecursion (λ p. ComesEarlier p (record { exam = e; student = s })) ps
+        → AllByRecursion (λ p. p.student ≢ s) ps → AllByRecursion (λ p. p.student < s) ps
+    strictly [] c n = tt
+    strictly (p ∷ ps) c n = (
+      elim c.0 as (λ _. p.student < s)
+          [ inl l ↦ l | inr same ↦ absurd (n.0 same.0) ],
+      strictly ps c.1 n.1,
+    )
+
+-- no pair is open before the first one
+pub none_open : (count : ℕ) (student : Option ℕ) (exams : List ℕ)
+    → (student ≡ None → (count ≡ 0) × (exams ≡ [])) → (exams ≡ [] → count ≡ 0)
+    → pairs_sat student exams ≡ [] → count ≡ 0
+none_open count None exams started goes_on is = (started refl).0
+none_open count (Some s) [] started goes_on is = goes_on refl
+none_open count (Some s) (e ∷ es) started goes_on is =
+    absurd (not_empty (record { exam = e; student = s }) (pairs_sat (Some s) es) is)
+  where
+    not_empty : (p : Pair) (ps : List Pair) → ◌≡◌ {A = List Pair} (p ∷ ps) [] → ⊥
+    not_empty p ps k = cc

@@ -1,0 +1,177 @@
+// The penalty after an edit, by the students whom it concerns: contracts see what is kept.
+ghost use Rattle.std.specs.Prelude.{◌≡◌, ◌<◌, ◌≤◌, ◌*◌, ◌↔◌, IsTrue, [], ◌∷◌, ◌++◌, List, length, Some, IfOk, IfSome, IfNone, OnOk, OnErr};
+ghost use Rattle.exam_terms.specs.declared.limits.TheConstants.{MAX_AMOUNT, MAX_PAIRS};
+ghost use Rattle.exam_model.specs.Enrolments.{Enrolled};
+ghost use Rattle.exam_model.specs.Pairs.{Pair};
+ghost use Rattle.exam_score.specs.Exchanges.{CannotExchange, IsExchanged, IsOfEdit, coming, edit_share, going, is_touched};
+ghost use Rattle.exam_score.specs.Folds.{CanFollow, StandsFor};
+ghost use Rattle.exam_score.specs.Penalty.{personal_total};
+ghost use Rattle.exam_score.specs.Track.{track};
+
+use crate::edited_exams::{edited_front, edited_places};
+use crate::parts::Parts;
+use crate::personal_parts::PersonalParts;
+use crate::sat_exams::personal_at;
+use crate::touched::{Touched, touched_mixed};
+use exam_model::{ExamNo, Instance, StudentNo, Timetable};
+use std::alloc::{AllocError, Global};
+use std::marker::Model;
+
+/// What an edit makes of a penalty, from the pairs of the students who sit an edited exam: they
+/// come one by one, by student and then by exam, and no more than one student's are kept.
+#[derive(Drop)]
+pub struct EditFold<'a> {
+    alloc: Global,
+    instance: &'a Instance,
+    earlier: &'a Timetable,
+    later: &'a Timetable,
+    edited: &'a [ExamNo],
+    count: u32,
+    before: PersonalParts,
+    after: PersonalParts,
+    // The open student, and her exams so far.
+    student: Option<StudentNo>,
+    exams: Vec<ExamNo>,
+}
+
+impl<'a> Model for EditFold<'a> {
+    ghost use Rattle.exam_score.specs.Folds.{Folded, pairs_sat};
+
+    ghost Value = { Folded };
+
+    ghost use Rattle.exam_score.specs.Folds.{IsBounded};
+
+    ghost view = { λ f. record {
+      instance = f.instance.now;
+      earlier = f.earlier.now;
+      later = f.later.now;
+      edited = f.edited.now;
+      count = f.count;
+      before = f.before;
+      after = f.after;
+      current = pairs_sat f.student f.exams.items;
+    } };
+
+    ghost invariant = { λ f. IsBounded f.count f.before f.after f.student f.exams.items };
+}
+
+impl<'a> EditFold<'a> {
+    /// The fold of no pairs, for an edit that makes `new` of `old`.
+    pub fn new(
+        alloc: Global,
+        instance: &'a Instance,
+        old: &'a Timetable,
+        new: &'a Timetable,
+        edited: &'a [ExamNo],
+    ) -> Result<EditFold<'a>, AllocError>
+        ensures made { IfOk result (λ fold. fold ≡ record {
+          instance = instance.now;
+          earlier = old.now;
+          later = new.now;
+          edited = edited.now;
+          count = 0;
+          before = record { row = 0; day = 0; spread = 0 };
+          after = record { row = 0; day = 0; spread = 0 };
+          current = [];
+        }) }
+        ensures stands { IfOk result (λ fold. StandsFor fold []) }
+    {
+        let exams = Vec::with_capacity(alloc, instance.exams() as usize)?;
+        Ok(EditFold {
+            alloc,
+            instance,
+            earlier: old,
+            later: new,
+            edited,
+            count: 0,
+            before: PersonalParts::of(0, 0, 0),
+            after: PersonalParts::of(0, 0, 0),
+            student: None,
+            exams,
+        })
+    }
+
+    /// One pair more. It fails only where memory runs out, and then leaves the fold as it was.
+    pub fn row(&mut self, student: StudentNo, exam: ExamNo) -> Result<(), AllocError>
+        requires few { self.old.count < MAX_PAIRS }
+        requires follows { CanFollow self.old (record { exam = exam; student = student }) }
+        ensures ok { (pairs : List Pair) → StandsFor self.old pairs → OnOk result (StandsFor self.new
+            (pairs ++ record { exam = exam; student = student } ∷ [])) }
+        ensures same { (self.new.instance ≡ self.old.instance) × (self.new.earlier ≡ self.old.earlier)
+            × (self.new.later ≡ self.old.later) × (self.new.edited ≡ self.old.edited) }
+        ensures err { OnErr result (self.new ≡ self.old) }
+    {
+        if is_open(self.student, student) {
+            self.exams.push(exam)?;
+            self.count += 1;
+            return Ok(());
+        }
+        let mut exams = Vec::new(self.alloc);
+        exams.push(exam)?;
+        let before = personal_at(self.instance, self.earlier, &self.exams);
+        let after = personal_at(self.instance, self.later, &self.exams);
+        self.before = self.before.plus(before);
+        self.after = self.after.plus(after);
+        self.student = Some(student);
+        self.exams = exams;
+        self.count += 1;
+        Ok(())
+    }
+
+    /// The new penalty by the old one, where the fold took just the pairs of the students who sit
+    /// an edited exam. `sizes` are the numbers of each exam's students. It takes no memory. None
+    /// comes only where a part would be negative, or the total reach 2^62.
+    pub fn finish(self, sizes: &[u32], old_parts: Parts) -> Option<Parts>
+        requires sizes { length sizes.now ≡ length self.instance.exams }
+        ensures scored { (E : Enrolled) (pairs : List Pair) → StandsFor self.entry pairs
+            → IsOfEdit self.entry E pairs sizes.now old_parts
+            → result ≡ Some (track self.entry.instance E self.entry.later) }
+        ensures made { IfSome result (IsExchanged old_parts
+            (going self.entry sizes.now) (coming self.entry sizes.now)) }
+        ensures none { IfNone result (CannotExchange old_parts
+            (going self.entry sizes.now) (coming self.entry sizes.now)) }
+    {
+        let _known = self.instance.periods(); // read for the limits of its weights
+        let touched = Touched {
+            edited: self.edited,
+            earlier: self.earlier,
+            later: self.later,
+        };
+        let before = personal_at(self.instance, self.earlier, &self.exams);
+        let before = self.before.plus(before);
+        let after = personal_at(self.instance, self.later, &self.exams);
+        let after = self.after.plus(after);
+        let goes = edit_share(self.instance, self.earlier, &touched, sizes, before);
+        let comes = edit_share(self.instance, self.later, &touched, sizes, after);
+        old_parts.exchange(goes, comes)
+    }
+}
+
+// What the students, places and exams of the edit make of the penalty in one timetable.
+fn edit_share(
+    instance: &Instance,
+    timetable: &Timetable,
+    touched: &Touched,
+    sizes: &[u32],
+    students: PersonalParts,
+) -> Parts
+    requires sizes { length sizes.now ≡ length instance.now.exams }
+    requires small { personal_total students ≤ 3 * (MAX_PAIRS * MAX_PAIRS * MAX_AMOUNT) }
+    ensures { result ≡ edit_share instance.now timetable.now touched.now.edited.now
+        (is_touched touched.now.edited.now touched.now.earlier.now touched.now.later.now)
+        sizes.now students }
+{
+    let mixed = touched_mixed(instance, timetable, touched);
+    let front = edited_front(instance, sizes, timetable, touched.edited);
+    let places = edited_places(instance, timetable, touched.edited);
+    Parts::within(students, mixed, front, places)
+}
+
+fn is_open(current: Option<StudentNo>, student: StudentNo) -> bool
+    ensures { IsTrue result ↔ (current ≡ Some student) }
+{
+    match current {
+        Some(own) => own == student,
+        None => false,
+    }
+}

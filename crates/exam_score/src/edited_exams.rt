@@ -1,0 +1,90 @@
+// What the edited exams make of a penalty in one of the timetables, each exam once.
+ghost use Rattle.std.specs.Prelude.{◌≡◌, ◌≤◌, ◌*◌, length};
+ghost use Rattle.exam_terms.specs.declared.limits.TheConstants.{MAX_AMOUNT, MAX_EXAMS};
+ghost use Rattle.exam_model.specs.Timetable.{place_of};
+ghost use Rattle.exam_score.specs.Changes.{is_among};
+ghost use Rattle.exam_score.specs.Exchanges.{sum_among};
+ghost use Rattle.exam_score.specs.Front.{front_by};
+ghost use Rattle.exam_score.specs.Track.{exam_period, exam_room};
+
+use crate::front::front_share;
+use crate::places::{PlaceSums, penalty_of_period, penalty_of_room};
+use crate::sat_exams::place_in;
+use exam_model::{ExamNo, Instance, Place, Timetable};
+
+// The penalties of their periods and rooms.
+#[tactic(auto, using(exam_model::proofs::SumLemmas::sum_below_more))]
+pub fn edited_places(instance: &Instance, timetable: &Timetable, edited: &[ExamNo]) -> PlaceSums
+    ensures periods { result.periods ≡ sum_among instance.now edited.now
+        (λ e. exam_period instance.now (place_of timetable.now e)) }
+    ensures rooms { result.rooms ≡ sum_among instance.now edited.now
+        (λ e. exam_room instance.now (place_of timetable.now e)) }
+    ensures small_periods { result.periods ≤ MAX_EXAMS * MAX_AMOUNT }
+    ensures small_rooms { result.rooms ≤ MAX_EXAMS * MAX_AMOUNT }
+{
+    let mut sums = PlaceSums {
+        periods: 0,
+        rooms: 0,
+    };
+    for exam in 0..instance.exams() {
+        let exam = ExamNo::new(exam);
+        if is_among(edited, exam) {
+            sums.periods += cost_of_period(instance, place_in(timetable, exam));
+            sums.rooms += cost_of_room(instance, place_in(timetable, exam));
+        }
+    }
+    sums
+}
+
+// Their front load, by the number of each exam's students.
+#[tactic(auto, using(exam_model::proofs::SumLemmas::sum_below_more))]
+pub fn edited_front(
+    instance: &Instance,
+    sizes: &[u32],
+    timetable: &Timetable,
+    edited: &[ExamNo],
+) -> u64
+    requires sizes { length sizes.now ≡ length instance.now.exams }
+    ensures front { result ≡ sum_among instance.now edited.now
+        (λ e. front_by instance.now sizes.now (place_of timetable.now e) e) }
+    ensures small { result ≤ MAX_EXAMS * MAX_AMOUNT }
+{
+    let mut total = 0;
+    for exam in 0..instance.exams() {
+        let exam = ExamNo::new(exam);
+        if is_among(edited, exam) {
+            total += front_share(instance, sizes, exam, place_in(timetable, exam));
+        }
+    }
+    total
+}
+
+fn is_among(exams: &[ExamNo], exam: ExamNo) -> bool
+    ensures { result ≡ is_among exams.now exam }
+{
+    exams.iter().any(|other| *other == exam)
+}
+
+// What its period costs an exam at this place; a period that doesn't exist costs nothing.
+fn cost_of_period(instance: &Instance, place: Option<Place>) -> u64
+    ensures cost { result ≡ exam_period instance.now place }
+    ensures small { result ≤ MAX_AMOUNT }
+{
+    match place {
+        Some(place) if place.period.get() < instance.periods() => {
+            penalty_of_period(instance, place.period)
+        }
+        _ => 0,
+    }
+}
+
+// What its room costs it.
+fn cost_of_room(instance: &Instance, place: Option<Place>) -> u64
+    ensures cost { result ≡ exam_room instance.now place }
+    ensures small { result ≤ MAX_AMOUNT }
+{
+    match place {
+        Some(place) if place.room.get() < instance.rooms() => penalty_of_room(instance, place.room),
+        _ => 0,
+    }
+}
