@@ -1,5 +1,12 @@
 // The limits of numbers, counts and texts: each once, for code, contracts and definitions.
 
+/// The most digits of a number that names a caller or stands in a path.
+pub const NUMBER_DIGITS: usize = 9;
+
+/// The greatest number that so many digits write: of an exam, a period, a room or a draft that is
+/// asked for, whether it is there or not.
+pub const MAX_NUMBER: u32 = 999_999_999;
+
 /// The greatest number of a student; the least is 0.
 pub const MAX_STUDENT: u32 = 999_999_999;
 

@@ -6,7 +6,7 @@ use Rattle.exam_terms.specs.declared.limits.TheConstants.{MAX_EXAMS, MAX_STUDENT
 use Rattle.csv.specs.Reading.{default_config, records, strip_bom}
 use Rattle.exam_terms.specs.Refusing.{◌>>=◌, unless}
 use Rattle.exam_model.specs.declared.change.Change.{Change}
-use Rattle.office_files.specs.Fields.{trimmed}
+use Rattle.exam_terms.specs.Texts.{trimmed}
 use Rattle.office_files.specs.Numbers.{number}
 use Rattle.office_files.specs.Reading.{at_line}
 use Rattle.office_files.specs.declared.fault.FaultKind.{FaultKind}

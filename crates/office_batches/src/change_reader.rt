@@ -7,7 +7,8 @@ ghost use Rattle.office_batches.specs.BatchText.{action, change_in, field, has_t
 use csv::ByteRecord;
 use exam_model::{Change, ExamNo, StudentNo};
 use exam_terms::limits::{MAX_EXAMS, MAX_STUDENT};
-use office_files::{FaultKind, number, same_word, trimmed};
+use exam_terms::trimmed;
+use office_files::{FaultKind, number, same_word};
 
 /// Whether a record names the columns.
 pub fn is_header(row: &ByteRecord) -> bool

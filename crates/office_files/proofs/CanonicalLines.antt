@@ -13,14 +13,14 @@ use Rattle.std.proofs.lemmas.List.Elements.{All-head, All-tail}
 use Rattle.std.proofs.lemmas.List.Concat.{flat_map-cons}
 use Rattle.std.proofs.lemmas.List.Folds.{list_all-append}
 use Rattle.office_files.specs.CanonicalText.{line_of, before}
-use Rattle.office_files.specs.Fields.{ended_parts, is_blank, before_end, trim_start, trim_end}
-use Rattle.office_files.specs.Fields.{trimmed, fields_of}
+use Rattle.exam_terms.specs.Texts.{is_blank, before_end, trim_start, trim_end, trimmed}
+use Rattle.office_files.specs.Fields.{ended_parts, fields_of}
 use Rattle.office_files.specs.Lines.{Located, placed, located, unless_blank, without_return}
 use Rattle.office_files.specs.Lines.{lines_from, is_header}
 use Rattle.office_files.specs.Numbers.{read_on, number}
 use Rattle.office_files.specs.Reading.{items_of}
 use Rattle.office_files.specs.declared.fault.FaultKind.{FaultKind}
-use Rattle.office_files.proofs.FieldLemmas.{trim_start-kept}
+use Rattle.exam_terms.proofs.TextLemmas.{trim_start-kept}
 use Rattle.office_files.proofs.LineLemmas.{without_return-cr}
 use Rattle.office_files.proofs.ReadOnLemmas.{fields_behind_space, is_digit}
 

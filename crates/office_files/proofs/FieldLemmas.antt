@@ -6,8 +6,8 @@ use Rattle.std.specs.Prelude.{◌==◌, map}
 use Rattle.std.specs.List.{onto_first}
 use Rattle.std.proofs.lemmas.Bool.{eq-eqb, ne_eqb}
 use mathlib.Core.Bool.{true≢false}
-use Rattle.office_files.specs.Fields.{ended_parts, is_blank, before_end, trim_start, trim_end}
-use Rattle.office_files.specs.Fields.{trimmed, fields_of}
+use Rattle.exam_terms.specs.Texts.{trimmed}
+use Rattle.office_files.specs.Fields.{ended_parts, fields_of}
 
 -- where no byte is the mark, the whole text is one part
 pub parts_none : (c : ℕ) (bs : List ℕ) → 0 < length bs →
@@ -69,34 +69,4 @@ fields_test (x ∷ xs) b e = (
   λ f. let gone = ap length (fields_none (x ∷ xs) f) in absurd (omega arith),
 )
 
-blank_alone : (b : ℕ) → is_blank b ≡ true → before_end b [] ≡ []
-blank_alone b e = rw e refl
-
-kept_alone : (b : ℕ) → is_blank b ≡ false → before_end b [] ≡ b ∷ []
-kept_alone b e = rw e refl
-
-before_some : (b c : ℕ) (cs : List ℕ) → before_end b (cs ++ c ∷ []) ≡ b ∷ (cs ++ c ∷ [])
-before_some b c [] = refl
-before_some b c (d ∷ cs) = refl
-
--- a blank at the end goes
-pub trim_end-blank : (xs : List ℕ) (b : ℕ) → is_blank b ≡ true →
-    trim_end (xs ++ b ∷ []) ≡ trim_end xs
-trim_end-blank [] b e = blank_alone b e
-trim_end-blank (x ∷ xs) b e = ap (before_end x) (trim_end-blank xs b e)
-
--- any other byte stays
-pub trim_end-kept : (xs : List ℕ) (b : ℕ) → is_blank b ≡ false →
-    trim_end (xs ++ b ∷ []) ≡ xs ++ b ∷ []
-trim_end-kept [] b e = kept_alone b e
-trim_end-kept (x ∷ xs) b e = ap (before_end x) (trim_end-kept xs b e) ∙ before_some x b xs
-
-pub trim_start-blank : (b : ℕ) (xs : List ℕ) → is_blank b ≡ true →
-    trim_start (b ∷ xs) ≡ trim_start xs
-trim_start-blank b xs e = rw e refl
-
-pub trim_start-kept : (b : ℕ) (xs : List ℕ) → is_blank b ≡ false → trim_start (b ∷ xs) ≡ b ∷ xs
-trim_start-kept b xs e = rw e refl
-
-pub ruleset part_facts =
-    (parts_none, parts_at, trim_end-blank, trim_end-kept, trim_start-blank, trim_start-kept)
+pub ruleset part_facts = (parts_none, parts_at)

@@ -3,7 +3,8 @@ use Rattle.std.proofs.Common.{◌≡◌, ℕ, zero, suc, ◌+◌, ◌-◌, ◌<�
 use Rattle.std.proofs.Common.{◌∷◌, ◌++◌, length, refl, arith, length-append}
 use Rattle.std.specs.Prelude.{◌==◌, if◌then◌else◌, map}
 use Rattle.std.specs.List.{onto_first, flat_map}
-use Rattle.office_files.specs.Fields.{ended_parts, trim_start, trim_end, trimmed}
+use Rattle.exam_terms.specs.Texts.{trim_start, trim_end, trimmed}
+use Rattle.office_files.specs.Fields.{ended_parts}
 use Rattle.office_files.specs.Lines.{Piece, Located, placed, without_return, inner_start, located}
 use Rattle.office_files.specs.Lines.{lines_from, is_header}
 use Rattle.office_files.specs.Tokens.{tokens_in, tokens_of, Runs}

@@ -15,8 +15,8 @@ use Rattle.std.proofs.lemmas.List.{length-append, append-nil, get_or-take}
 use Rattle.std.proofs.lemmas.Grind.{common_steps}
 use Rattle.std.proofs.lemmas.List.Folds.{list_all_at, list_all_more}
 use Rattle.std.proofs.lemmas.List.FromFn.{get_or-range_with_len, length-range_with_len}
-use Rattle.office_files.specs.Fields.{ended_parts, is_blank, before_end, trim_end}
-use Rattle.office_files.specs.Fields.{trimmed, fields_of, first, rest}
+use Rattle.exam_terms.specs.Texts.{is_blank, before_end, trim_end, trimmed}
+use Rattle.office_files.specs.Fields.{ended_parts, fields_of, first, rest}
 use Rattle.office_files.specs.Numbers.{read_on, is_number, at_most, number}
 use Rattle.office_files.specs.Digits.{Says, NoDigitAt, IsFront, few_digits, without_space}
 use Rattle.office_files.proofs.FieldLemmas.{parts_some}

@@ -6,7 +6,8 @@ use Rattle.std.proofs.lemmas.Bool.{cases_Bool, ltb-true, eqb-true}
 use Rattle.std.proofs.lemmas.List.{take-append-drop, take_at, drop_at}
 use Rattle.std.proofs.lemmas.List.Elements.{All-nil, All-cons, All-head, All-tail}
 use Rattle.exam_terms.specs.Refusing.{unless, else_err}
-use Rattle.office_files.specs.Fields.{split_once, trimmed}
+use Rattle.exam_terms.specs.Texts.{trimmed}
+use Rattle.office_files.specs.Fields.{split_once}
 use Rattle.office_files.specs.Lines.{Located, is_header, section_size}
 use Rattle.office_files.specs.Numbers.{number}
 use Rattle.office_files.specs.Reading.{at_line, items_of}

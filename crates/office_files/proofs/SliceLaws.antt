@@ -5,8 +5,8 @@ use Rattle.std.proofs.Common.{length-append, length-drop, append-nil}
 use Rattle.std.specs.Prelude.{◌==◌, if◌then◌else◌, map}
 use Rattle.std.specs.List.{AllByRecursion, onto_first, flat_map}
 use Rattle.std.proofs.lemmas.List.{take-append-le, take_all}
-use Rattle.office_files.specs.Fields.{ended_parts, is_blank, before_end, trim_start, trim_end}
-use Rattle.office_files.specs.Fields.{trimmed}
+use Rattle.exam_terms.specs.Texts.{is_blank, before_end, trim_start, trim_end, trimmed}
+use Rattle.office_files.specs.Fields.{ended_parts}
 use Rattle.office_files.specs.Lines.{Piece, Located, placed, without_return, inner_start, located}
 use Rattle.office_files.specs.Lines.{lines_from, lines_of, is_header}
 use Rattle.office_files.specs.Tokens.{tokens_in, tokens_of, IsSliceOf}

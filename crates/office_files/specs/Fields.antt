@@ -1,7 +1,8 @@
 -- How a text is cut into parts, and a line into fields.
-use Rattle.std.specs.Prelude.{ℕ, Bool, ◌||◌, ◌==◌, if◌then◌else◌, List, [], ◌∷◌, map}
+use Rattle.std.specs.Prelude.{ℕ, ◌==◌, if◌then◌else◌, List, [], ◌∷◌, map}
 use Rattle.std.specs.Prelude.{Option, Some, None, option_map, Result, Ok, Err}
 use Rattle.std.specs.List.{onto_first}
+use Rattle.exam_terms.specs.Texts.{trimmed}
 use Rattle.office_files.specs.declared.fault.FaultKind.{FaultKind}
 use Rattle.office_files.specs.declared.fault.FaultKind.TheVariants.{StrayText}
 
@@ -15,29 +16,6 @@ abbrev pub split_once : ℕ → List ℕ → Option (List ℕ × List ℕ)
 split_once c [] = None
 split_once c (b ∷ bs) =
     if b == c then Some ([], bs) else option_map (λ p. (b ∷ p.0, p.1)) (split_once c bs)
-
--- a space or a tab
-abbrev pub is_blank : ℕ → Bool
-is_blank b = (b == 32) || (b == 9)
-
--- a text without the blanks at its start
-abbrev pub trim_start : List ℕ → List ℕ
-trim_start [] = []
-trim_start (b ∷ bs) = if is_blank b then trim_start bs else b ∷ bs
-
--- a byte before a text from whose end the blanks are gone
-abbrev pub before_end : ℕ → List ℕ → List ℕ
-before_end b [] = if is_blank b then [] else b ∷ []
-before_end b (c ∷ cs) = b ∷ c ∷ cs
-
--- a text without the blanks at its end
-abbrev pub trim_end : List ℕ → List ℕ
-trim_end [] = []
-trim_end (b ∷ bs) = before_end b (trim_end bs)
-
--- a text without the blanks around it
-abbrev pub trimmed : List ℕ → List ℕ
-trimmed text = trim_end (trim_start text)
 
 -- the fields of a line, trimmed; behind a last comma there is none
 abbrev pub fields_of : List ℕ → List (List ℕ)

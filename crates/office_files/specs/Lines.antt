@@ -2,7 +2,8 @@
 use Rattle.std.specs.Prelude.{ℕ, ◌+◌, ◌-◌, ◌<◌, ◌≤◌, Bool, false, ◌==◌, if◌then◌else◌}
 use Rattle.std.specs.Prelude.{List, [], ◌∷◌, length}
 use Rattle.exam_terms.specs.declared.limits.TheConstants.{INSTANCE_BYTES}
-use Rattle.office_files.specs.Fields.{ended_parts, trim_start, trimmed}
+use Rattle.exam_terms.specs.Texts.{trim_start, trimmed}
+use Rattle.office_files.specs.Fields.{ended_parts}
 
 -- how many lines a text has; behind a last line feed there is none
 abbrev pub line_count : List ℕ → ℕ

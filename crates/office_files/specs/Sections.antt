@@ -2,7 +2,8 @@
 use Rattle.std.specs.Prelude.{◌≡◌, ℕ, true, false, ◌==◌, nat_lt, List, [], ◌∷◌, ◌++◌, length, take, drop, All, Option, None, Some, Result, Ok, Err}
 use Rattle.std.specs.Str.{str_eq_ignore_ascii_case}
 use Rattle.exam_terms.specs.Refusing.{◌>>=◌, unless, else_err}
-use Rattle.office_files.specs.Fields.{split_once, trimmed}
+use Rattle.exam_terms.specs.Texts.{trimmed}
+use Rattle.office_files.specs.Fields.{split_once}
 use Rattle.office_files.specs.Lines.{Located, is_header, section_size}
 use Rattle.office_files.specs.Numbers.{number}
 use Rattle.office_files.specs.Reading.{at_line, items_of, Spell}

@@ -1,12 +1,12 @@
 // Cutting a line into fields, without the blanks around each.
 ghost use Rattle.std.specs.Prelude.{◌≡◌, ◌<◌, ◌≤◌, ◌+◌, ◌∷◌, [], List, ℕ, length, IsTrue, ◌↔◌};
-ghost use Rattle.office_files.specs.Fields.{ended_parts, is_blank, trim_start, trim_end, trimmed};
-ghost use Rattle.office_files.specs.Fields.{fields_of, first, rest, ended};
+ghost use Rattle.office_files.specs.Fields.{ended_parts, fields_of, first, rest, ended};
 ghost use Rattle.office_files.specs.Numbers.{number};
 
 use crate::digits::{behind_space, first_digits};
 use crate::fault::FaultKind;
 use crate::numbers::{number, within};
+use exam_terms::trimmed;
 use std::marker::Model;
 
 /// The bytes before the first mark, and those behind it; without a mark the text is the first part.
@@ -25,55 +25,6 @@ pub fn cut(text: &[u8], mark: u8) -> (&[u8], &[u8])
         }
     }
     (text, &text[text.len()..])
-}
-
-#[inline]
-fn is_blank(byte: u8) -> bool
-    ensures { result ≡ is_blank byte }
-{
-    byte == b' ' || byte == b'\t'
-}
-
-/// The text without the blanks at its start.
-#[inline]
-#[tactic(auto, using(crate::proofs::FieldLemmas::part_facts))]
-pub fn trim_start(text: &[u8]) -> &[u8]
-    ensures trimmed { result.now ≡ trim_start text.now }
-    ensures within { length result.now ≤ length text.now }
-{
-    let mut left = text;
-    while let Some((first, others)) = left.split_first() {
-        if !is_blank(*first) {
-            break;
-        }
-        left = others;
-    }
-    left
-}
-
-/// The text without the blanks at its end.
-#[inline]
-#[tactic(auto, using(crate::proofs::FieldLemmas::part_facts))]
-pub fn trim_end(text: &[u8]) -> &[u8]
-    ensures trimmed { result.now ≡ trim_end text.now }
-    ensures within { length result.now ≤ length text.now }
-{
-    let mut left = text;
-    while let Some((last, others)) = left.split_last() {
-        if !is_blank(*last) {
-            break;
-        }
-        left = others;
-    }
-    left
-}
-
-/// The text without the blanks around it.
-#[inline]
-pub fn trimmed(text: &[u8]) -> &[u8]
-    ensures { result.now ≡ trimmed text.now }
-{
-    trim_end(trim_start(text))
 }
 
 /// The fields of a line that are still to come.

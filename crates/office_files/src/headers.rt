@@ -5,9 +5,9 @@ ghost use Rattle.office_files.specs.Reading.{Reads};
 ghost use Rattle.office_files.specs.Sections.{inside_of, closed, plain_header, counted_header, header_by};
 
 use crate::fault::FaultKind;
-use crate::fields::trimmed;
 use crate::numbers::number;
 use crate::words::{same_word, split_once};
+use exam_terms::trimmed;
 
 fn is_header(text: &[u8]) -> bool
     ensures { result ≡ is_header text.now }

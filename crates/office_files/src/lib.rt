@@ -24,7 +24,6 @@ mod weightings;
 mod words;
 
 pub use fault::{FaultKind, FileFault};
-pub use fields::trimmed;
 pub use instance_reader::read_instance;
 pub use instance_writer::write_instance;
 pub use laws::{

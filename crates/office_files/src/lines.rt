@@ -7,7 +7,7 @@ ghost use Rattle.office_files.specs.Lines.{Located, placed, without_return, loca
 ghost use Rattle.office_files.specs.Lines.{lines_of, line_count, section_size, HasPlaces};
 ghost use Rattle.office_files.specs.Tokens.{token_of};
 
-use crate::fields::{trim_end, trim_start};
+use exam_terms::{trim_end, trim_start};
 use memchr::memchr;
 use std::marker::Model;
 

@@ -1,5 +1,6 @@
 // Reading the sections of an instance file, one after another.
 ghost use Rattle.std.specs.Prelude.{◌≡◌, ◌≢◌, ℕ, ◌+◌, ◌≤◌, List, [], ◌∷◌, length, take, drop, OnOk, IfOk, IfErr};
+ghost use Rattle.exam_terms.specs.declared.limits.TheConstants.{INSTANCE_BYTES};
 ghost use Rattle.office_files.specs.Faults.{IsOfNoLine};
 ghost use Rattle.office_files.specs.Lines.{Located, lines_of, line_count, section_size};
 ghost use Rattle.office_files.specs.Reading.{Gives, items_of};
@@ -81,7 +82,7 @@ pub struct Sections<'a> {
 impl<'a> Sections<'a> {
     /// All sections of this file.
     pub fn new(source: &'a [u8]) -> Sections<'a>
-        requires within { length source.now ≤ 4194304 }
+        requires within { length source.now ≤ INSTANCE_BYTES }
         ensures lines { result.lines ≡ lines_of source.now }
         ensures source { result.source.now ≡ source.now }
     {
@@ -94,7 +95,7 @@ impl<'a> Sections<'a> {
     // Judges the next header, and answers how many lines its section has.
     #[tactic(auto, using(crate::proofs::SectionLemmas::section_facts))]
     pub fn open(&mut self, word: &[u8], limit: Option<u32>) -> Result<usize, FileFault>
-        requires within { length self.old.source.now ≤ 4194304 }
+        requires within { length self.old.source.now ≤ INSTANCE_BYTES }
         ensures opened { OnOk result (opened (record { word = word.now; limit = limit })
             (line_count self.old.source.now + 1) self.old.lines ≡ Ok self.new.lines) }
         ensures size { IfOk result (λ size. size ≡ section_size self.new.lines) }
@@ -125,7 +126,7 @@ impl<'a> Sections<'a> {
         limit: Option<u32>,
         counts: Counts,
     ) -> Result<Vec<T>, FileFault>
-        requires within { length self.old.source.now ≤ 4194304 }
+        requires within { length self.old.source.now ≤ INSTANCE_BYTES }
         ensures found { IfOk result (λ items. section_in (record { word = word.now; limit = limit })
             (T.reading counts) (line_count self.old.source.now + 1) self.old.lines
             ≡ Ok (items.items, self.new.lines)) }

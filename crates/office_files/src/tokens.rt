@@ -2,6 +2,7 @@
 ghost use Rattle.std.specs.Prelude.{◌≡◌, ℕ, ◌<◌, ◌≤◌, ◌+◌, List, length};
 ghost use Rattle.std.specs.Iterator.{YieldsFirstBy, item_count};
 ghost use Rattle.std.specs.List.{AllByRecursion};
+ghost use Rattle.exam_terms.specs.declared.limits.TheConstants.{INSTANCE_BYTES};
 ghost use Rattle.office_files.specs.Lines.{Located};
 ghost use Rattle.office_files.specs.Tokens.{token_of, tokens_of, tokens_left, IsSliceOf, Runs};
 
@@ -27,14 +28,14 @@ impl<'a> Model for Tokens<'a> {
     ghost view = { λ s. tokens_left s.line s.at s.fields.now s.rows };
 
     ghost invariant = { λ s. (s.at ≤ 4194305)
-        × (0 < length s.fields.now → s.at + length s.fields.now ≤ 4194304) };
+        × (0 < length s.fields.now → s.at + length s.fields.now ≤ INSTANCE_BYTES) };
 }
 
 impl<'a> Tokens<'a> {
     /// The fields of this text, from the first on.
     #[tactic(auto, using(crate::proofs::OrderLaws::token_laws))]
     pub fn new(source: &'a [u8]) -> Tokens<'a>
-        requires { length source.now ≤ 4194304 }
+        requires { length source.now ≤ INSTANCE_BYTES }
         ensures tokens { result ≡ tokens_of source.now }
         ensures ordered { Runs 0 result (length source.now + 1) }
         ensures slices { AllByRecursion (IsSliceOf source.now) result }

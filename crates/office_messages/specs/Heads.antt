@@ -14,8 +14,8 @@ use Rattle.office_messages.specs.declared.fields.Seen.TheVariants.{Absent, Once,
 use Rattle.office_messages.specs.declared.framing.FramingFields.{FramingFields}
 use Rattle.office_messages.specs.declared.head.BadHead.{BadHead}
 use Rattle.office_messages.specs.declared.head.Head.{Head}
-use Rattle.office_messages.specs.declared.look.Front.{Front}
-use Rattle.office_messages.specs.declared.look.Front.TheVariants.{Whole, More, Faulty}
+use Rattle.office_messages.specs.declared.look.Beginning.{Beginning}
+use Rattle.office_messages.specs.declared.look.Beginning.TheVariants.{Whole, More, Faulty}
 use Rattle.office_messages.specs.declared.look.Stage.{Stage}
 use Rattle.office_messages.specs.declared.look.Stage.TheVariants.{Searching, Reading}
 use Rattle.office_messages.specs.declared.request.Request.{Request}
@@ -86,7 +86,7 @@ Knows bytes (Searching n) = (n ≤ length bytes) × (n < max_head) × ¬ (HasEnd
 Knows bytes (Reading x) = HeadAt bytes x
 
 -- what a look at the bytes says of them
-abbrev pub Shows : List ℕ → Front → Type 0
+abbrev pub Shows : List ℕ → Beginning → Type 0
 Shows bytes (Whole x) = HeadAt bytes x × (x.body.end ≤ length bytes)
 Shows bytes (More stage) = Unfinished bytes × Knows bytes stage
 Shows bytes (Faulty bad) = FaultAt bad.fault bad.form bytes

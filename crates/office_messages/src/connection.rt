@@ -9,7 +9,7 @@ ghost use Rattle.office_messages.specs.Serve.{Serves, ServesFront, SendsFront};
 ghost use Rattle.office_messages.specs.Stream.{PlainRequest};
 
 use crate::form::Form;
-use crate::look::{Front, Stage, look};
+use crate::look::{Beginning, Stage, look};
 use crate::replies::{Reply, fault_reply};
 use crate::reply_heads::{HEAD_ROOM, put_head};
 use crate::request::Request;
@@ -237,6 +237,8 @@ pub fn serve<R: Read, W: Write, M: Machine>(
         (W.contents writer.old) (W.contents writer.new) machine.old machine.new served) }
     ensures err { IfErr result (λ fault. ServesFront M.Answers (R.remaining reader.old)
         (W.contents writer.old) (W.contents writer.new) machine.old machine.new fault) }
+    ensures taken { (bytes : List ℕ)
+        × Consumes (R.remaining reader.old) (R.remaining reader.new) bytes }
     ensures spent { IfErr result (λ fault. fault ≡ ServeFault.TooMany → turns.new ≡ 0) }
     ensures turns { turns.new ≤ turns.old }
 {
@@ -250,7 +252,7 @@ pub fn serve<R: Read, W: Write, M: Machine>(
     let mut answered = 0;
     while answered < MAX_MESSAGES {
         match look(&buffer, stage) {
-            Front::Whole(head) => {
+            Beginning::Whole(head) => {
                 answer(alloc, writer, &mut room, machine, &head.request(&buffer))?;
                 answered += 1;
                 if head.closes {
@@ -259,11 +261,11 @@ pub fn serve<R: Read, W: Write, M: Machine>(
                 drop_front(&mut buffer, head.body.end);
                 stage = Stage::Searching(0);
             }
-            Front::Faulty(bad) => {
+            Beginning::Faulty(bad) => {
                 send(writer, &mut room, &fault_reply(bad.fault), bad.form)?;
                 return Served::at(answered + 1, End::Refused);
             }
-            Front::More(known) => {
+            Beginning::More(known) => {
                 stage = known;
                 match receive(reader, &mut piece, &mut buffer, turns)? {
                     Received::Bytes | Received::Nothing => {}

@@ -21,7 +21,7 @@ pub(crate) enum Stage {
 
 /// What the bytes begin with.
 #[derive(Clone, Copy)]
-pub(crate) enum Front {
+pub(crate) enum Beginning {
     Whole(Head),
     /// Less than a message.
     More(Stage),
@@ -34,7 +34,7 @@ pub(crate) const MAX_HEAD: usize = 16_384;
 /// The most fields of a head.
 pub(crate) const MAX_HEADERS: usize = 32;
 
-const FAULTY_HEAD: Front = Front::Faulty(BadHead {
+const FAULTY_HEAD: Beginning = Beginning::Faulty(BadHead {
     fault: Fault::Head,
     form: Form::Full,
 });
@@ -48,31 +48,31 @@ fn first(bytes: &[u8], n: usize) -> &[u8]
 }
 
 // No head has come to its end.
-fn without_head(bytes: &[u8]) -> Front
+fn without_head(bytes: &[u8]) -> Beginning
     requires { ¬ (HasEnd bytes.now) }
     ensures { Shows bytes.now result }
 {
     if bytes.len() < MAX_HEAD {
-        Front::More(Stage::Searching(bytes.len()))
+        Beginning::More(Stage::Searching(bytes.len()))
     } else {
         FAULTY_HEAD
     }
 }
 
 // The head was parsed: whether its body has come.
-fn with_head(bytes: &[u8], head: Head) -> Front
+fn with_head(bytes: &[u8], head: Head) -> Beginning
     requires { HeadAt bytes.now head }
     ensures { Shows bytes.now result }
 {
     if head.body.end <= bytes.len() {
-        Front::Whole(head)
+        Beginning::Whole(head)
     } else {
-        Front::More(Stage::Reading(head))
+        Beginning::More(Stage::Reading(head))
     }
 }
 
 // Parses the head that seems to be whole: behind its end httparse waits for no more of it.
-fn parse(bytes: &[u8]) -> Front
+fn parse(bytes: &[u8]) -> Beginning
     requires some { 0 < length bytes.now }
     requires ended { HasEnd bytes.now }
     ensures { Shows bytes.now result }
@@ -82,7 +82,7 @@ fn parse(bytes: &[u8]) -> Front
     match parse_request(front, &mut headers) {
         Ok(Status::Complete(spans)) => match head_of(front, &headers, spans) {
             Ok(head) => with_head(bytes, head),
-            Err(bad) => Front::Faulty(bad),
+            Err(bad) => Beginning::Faulty(bad),
         },
         Ok(Status::Partial) => without_head(bytes),
         Err(_) => FAULTY_HEAD,
@@ -91,7 +91,7 @@ fn parse(bytes: &[u8]) -> Front
 
 /// What the bytes begin with. A head is parsed once it is whole, and each byte of it is looked at
 /// once before that.
-pub(crate) fn look(bytes: &[u8], stage: Stage) -> Front
+pub(crate) fn look(bytes: &[u8], stage: Stage) -> Beginning
     requires { Knows bytes.now stage }
     ensures { Shows bytes.now result }
 {

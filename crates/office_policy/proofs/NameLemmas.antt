@@ -1,41 +1,10 @@
--- Names without the blanks around them, and what stands behind a word.
+-- What stands behind a word.
 use Rattle.std.proofs.Common.{◌≡◌, ◌≢◌, ℕ, Bool, true, false, List, [], ◌∷◌, ◌++◌}
-use Rattle.std.proofs.Common.{Option, Some, None, MatchOption, refl, ap, sym, ◌∙◌}
+use Rattle.std.proofs.Common.{Option, Some, None, MatchOption, refl, sym}
 use Rattle.std.specs.Prelude.{◌==◌, option_copied}
 use Rattle.std.proofs.Common.{Bor}
 use Rattle.std.proofs.lemmas.Bool.{eq-eqb, eqb-true}
-use Rattle.office_policy.specs.Callers.{is_blank, before_end, trim_start, trim_end, behind}
-
-blank_alone : (b : ℕ) → is_blank b ≡ true → before_end b [] ≡ []
-blank_alone b e = rw e refl
-
-kept_alone : (b : ℕ) → is_blank b ≡ false → before_end b [] ≡ b ∷ []
-kept_alone b e = rw e refl
-
-before_some : (b c : ℕ) (cs : List ℕ) → before_end b (cs ++ c ∷ []) ≡ b ∷ (cs ++ c ∷ [])
-before_some b c [] = refl
-before_some b c (d ∷ cs) = refl
-
--- a blank at the end goes
-pub trim_end-blank : (xs : List ℕ) (b : ℕ) → is_blank b ≡ true →
-    trim_end (xs ++ b ∷ []) ≡ trim_end xs
-trim_end-blank [] b e = blank_alone b e
-trim_end-blank (x ∷ xs) b e = ap (before_end x) (trim_end-blank xs b e)
-
--- any other byte stays
-pub trim_end-kept : (xs : List ℕ) (b : ℕ) → is_blank b ≡ false →
-    trim_end (xs ++ b ∷ []) ≡ xs ++ b ∷ []
-trim_end-kept [] b e = kept_alone b e
-trim_end-kept (x ∷ xs) b e = ap (before_end x) (trim_end-kept xs b e) ∙ before_some x b xs
-
-pub trim_start-blank : (b : ℕ) (xs : List ℕ) → is_blank b ≡ true →
-    trim_start (b ∷ xs) ≡ trim_start xs
-trim_start-blank b xs e = rw e refl
-
-pub trim_start-kept : (b : ℕ) (xs : List ℕ) → is_blank b ≡ false → trim_start (b ∷ xs) ≡ b ∷ xs
-trim_start-kept b xs e = rw e refl
-
-pub ruleset trim_facts = (trim_end-blank, trim_end-kept, trim_start-blank, trim_start-kept)
+use Rattle.office_policy.specs.Callers.{behind}
 
 -- behind a word that stands at the front is the rest
 pub behind-append : (word rest : List ℕ) → behind word (word ++ rest) ≡ Some rest

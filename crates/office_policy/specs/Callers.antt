@@ -1,33 +1,11 @@
 -- Whom the value of the header X-Caller names.
-use Rattle.std.specs.Prelude.{ℕ, Bool, ◌==◌, ◌||◌, ◌&&◌, nat_le, bytes_eq, if◌then◌else◌}
+use Rattle.std.specs.Prelude.{ℕ, ◌==◌, ◌&&◌, nat_le, bytes_eq, if◌then◌else◌}
 use Rattle.std.specs.Prelude.{List, [], ◌∷◌, codes, Option, Some, None}
 use Rattle.std.specs.Prelude.{option_map, option_and_then}
+use Rattle.exam_terms.specs.declared.limits.TheConstants.{MAX_DEPARTMENT}
 use Rattle.office_policy.specs.Numbers.{number_of}
 use Rattle.office_policy.specs.declared.callers.Caller.{Caller}
 use Rattle.office_policy.specs.declared.callers.Caller.TheVariants.{Office, Dept, Cand}
-
--- a space or a tab
-abbrev pub is_blank : ℕ → Bool
-is_blank b = (b == 32) || (b == 9)
-
--- a text without the blanks at its start
-abbrev pub trim_start : List ℕ → List ℕ
-trim_start [] = []
-trim_start (b ∷ bs) = if is_blank b then trim_start bs else b ∷ bs
-
--- a byte before a text from whose end the blanks are gone
-abbrev pub before_end : ℕ → List ℕ → List ℕ
-before_end b [] = if is_blank b then [] else b ∷ []
-before_end b (c ∷ cs) = b ∷ c ∷ cs
-
--- a text without the blanks at its end
-abbrev pub trim_end : List ℕ → List ℕ
-trim_end [] = []
-trim_end (b ∷ bs) = before_end b (trim_end bs)
-
--- a text without the blanks around it
-abbrev pub trimmed : List ℕ → List ℕ
-trimmed text = trim_end (trim_start text)
 
 -- what stands behind a word at the front of a text
 abbrev pub behind : List ℕ → List ℕ → Option (List ℕ)
@@ -39,9 +17,9 @@ behind (w ∷ word) (b ∷ text) = if w == b then behind word text else None
 abbrev pub numbered : List ℕ → List ℕ → Option ℕ
 numbered word text = option_and_then number_of (behind word text)
 
--- departments go from 1 to 999
+-- departments go from 1 to the greatest
 abbrev pub as_dept : ℕ → Option Caller
-as_dept n = if nat_le 1 n && nat_le n 999 then Some (Dept n) else None
+as_dept n = if nat_le 1 n && nat_le n MAX_DEPARTMENT then Some (Dept n) else None
 
 -- `dept:` and a department's number
 abbrev pub dept_in : List ℕ → Option Caller

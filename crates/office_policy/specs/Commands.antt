@@ -1,6 +1,7 @@
 -- What is asked, without where its texts lie in memory.
 use Rattle.std.specs.Prelude.{◌≡◌, ℕ, ◌≤◌, List}
 use Rattle.std.specs.Borrow.{Bor}
+use Rattle.exam_terms.specs.declared.limits.TheConstants.{MAX_NUMBER, MAX_DEPARTMENT}
 use Rattle.exam_terms.specs.declared.place.Place.{Place}
 use Rattle.office_policy.specs.declared.command.Body.{Body}
 use Rattle.office_policy.specs.declared.command.Body.TheVariants.{Given, Bad, Long}
@@ -74,20 +75,20 @@ HoldsText text _ = Unit {0}
 
 -- a number of at most nine digits
 abbrev pub IsSmall : ℕ → Type 0
-IsSmall n = n ≤ 999999999
+IsSmall n = n ≤ MAX_NUMBER
 
 -- both numbers of a place are
 abbrev pub IsSmallPlace : Place → Type 0
 IsSmallPlace at = IsSmall at.period × IsSmall at.room
 
--- each number of the command is in its limit: a department is at most 999
+-- each number of the command is in its limit
 abbrev pub HasSmallNumbers : PlainCommand → Type 0
 HasSmallNumbers me = Unit {0}
 HasSmallNumbers (my_exam e) = IsSmall e
 HasSmallNumbers my_penalty = Unit {0}
 HasSmallNumbers (load text) = Unit {0}
 HasSmallNumbers instance = Unit {0}
-HasSmallNumbers (set_owner e dept) = IsSmall e × IfGiven dept (λ d. d ≤ 999)
+HasSmallNumbers (set_owner e dept) = IsSmall e × IfGiven dept (λ d. d ≤ MAX_DEPARTMENT)
 HasSmallNumbers (new_draft d text) = IsSmall d
 HasSmallNumbers (draft d) = IsSmall d
 HasSmallNumbers (draft_penalty d) = IsSmall d

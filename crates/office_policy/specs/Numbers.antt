@@ -4,10 +4,11 @@ use Rattle.std.specs.Prelude.{List, [], ◌∷◌, length, Option, Some, None}
 use Rattle.std.specs.List.{list_all}
 use Rattle.std.specs.Char.{is_ascii_digit}
 use Rattle.std.specs.Str.Parse.{digits_value}
+use Rattle.exam_terms.specs.declared.limits.TheConstants.{NUMBER_DIGITS}
 
 -- the number that a text of one to nine digits writes
 abbrev pub number_of : List ℕ → Option ℕ
 number_of [] = None
 number_of (b ∷ bs) =
-    if nat_le (length (b ∷ bs)) 9 && list_all is_ascii_digit (b ∷ bs)
+    if nat_le (length (b ∷ bs)) NUMBER_DIGITS && list_all is_ascii_digit (b ∷ bs)
     then Some (digits_value 10 (b ∷ bs)) else None

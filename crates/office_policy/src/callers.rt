@@ -1,10 +1,11 @@
 // Who asks.
 ghost use Rattle.std.specs.Prelude.{◌≡◌, ◌≤◌, IfSome, option_copied};
-ghost use Rattle.office_policy.specs.Callers.{is_blank, trim_start, trim_end, trimmed};
+ghost use Rattle.exam_terms.specs.Texts.{trimmed};
+ghost use Rattle.exam_terms.specs.declared.limits.TheConstants.{MAX_NUMBER};
 ghost use Rattle.office_policy.specs.Callers.{behind, numbered, dept_in, candidate_in, caller_of};
 
 use crate::numbers::read_number;
-use exam_terms::{DeptNo, StudentNo};
+use exam_terms::{DeptNo, StudentNo, trimmed};
 
 /// Who asks, by the word of the front that set the header `X-Caller`.
 #[derive(Clone, Copy, Debug, PartialEq, Eq)]
@@ -50,7 +51,7 @@ fn candidate(name: &[u8]) -> Option<Caller>
 // The number behind a word.
 fn numbered(word: &[u8], name: &[u8]) -> Option<u32>
     ensures number { result ≡ numbered word.now name.now }
-    ensures within { IfSome result (λ n. n ≤ 999_999_999) }
+    ensures within { IfSome result (λ n. n ≤ MAX_NUMBER) }
 {
     read_number(behind(word, name)?)
 }
@@ -60,45 +61,4 @@ fn behind<'a>(word: &[u8], name: &'a [u8]) -> Option<&'a [u8]>
     ensures { option_copied result ≡ behind word.now name.now }
 {
     name.strip_prefix(word)
-}
-
-// The value without the blanks around it.
-fn trimmed(value: &[u8]) -> &[u8]
-    ensures { result.now ≡ trimmed value.now }
-{
-    trim_end(trim_start(value))
-}
-
-#[tactic(auto, using(crate::proofs::NameLemmas::trim_facts))]
-fn trim_start(text: &[u8]) -> &[u8]
-    ensures { result.now ≡ trim_start text.now }
-{
-    let mut left = text;
-    while let Some((first, others)) = left.split_first() {
-        if !is_blank(*first) {
-            break;
-        }
-        left = others;
-    }
-    left
-}
-
-#[tactic(auto, using(crate::proofs::NameLemmas::trim_facts))]
-fn trim_end(text: &[u8]) -> &[u8]
-    ensures { result.now ≡ trim_end text.now }
-{
-    let mut left = text;
-    while let Some((last, others)) = left.split_last() {
-        if !is_blank(*last) {
-            break;
-        }
-        left = others;
-    }
-    left
-}
-
-fn is_blank(byte: u8) -> bool
-    ensures { result ≡ is_blank byte }
-{
-    byte == b' ' || byte == b'\t'
 }

@@ -5,6 +5,7 @@ use Rattle.std.specs.Str.{is_utf8}
 use Rattle.serde_json.specs.Data.{Data, Members, no_members, member}
 use Rattle.serde_json.specs.Read.{read}
 use Rattle.serde_json.specs.Find.{get, as_number, as_u64, as_object}
+use Rattle.exam_terms.specs.declared.limits.TheConstants.{MAX_NUMBER, MAX_DEPARTMENT, TEXT_BYTES}
 use Rattle.exam_terms.specs.declared.place.Place.{Place}
 use Rattle.office_policy.specs.declared.command.Body.{Body}
 use Rattle.office_policy.specs.declared.command.Body.TheVariants.{Given, Bad, Long}
@@ -40,20 +41,20 @@ abbrev pub place_in : Data → Option Place
 place_in d =
     of_members 2
     (option_and_then (λ p. option_map (λ r. record { period = p; room = r })
-    (number_at (codes "room") 999999999 d)) (number_at (codes "period") 999999999 d)) d
+    (number_at (codes "room") MAX_NUMBER d)) (number_at (codes "period") MAX_NUMBER d)) d
 
 -- an object with just the member dept
 abbrev pub dept_in : Data → Option ℕ
-dept_in d = of_members 1 (number_at (codes "dept") 999 d) d
+dept_in d = of_members 1 (number_at (codes "dept") MAX_DEPARTMENT d) d
 
 -- what was found is given, and nothing else will do
 abbrev pub given_or_bad : {A : Type 0} → Option A → Body A
 given_or_bad (Some x) = Given x
 given_or_bad None = Bad
 
--- a body of more than 1,048,576 bytes is too long, whatever it says
+-- a body of more bytes than a text may have is too long, whatever it says
 abbrev pub unless_long : {A : Type 0} → List ℕ → Body A → Body A
-unless_long bytes body = if nat_lt 1048576 (length bytes) then Long else body
+unless_long bytes body = if nat_lt TEXT_BYTES (length bytes) then Long else body
 
 -- a body that is taken as it is
 abbrev pub text_body : List ℕ → Body (List ℕ)

@@ -2,7 +2,8 @@
 use Rattle.std.specs.Prelude.{◌≡◌, ℕ, List, Option, Some, None, option_and_then}
 use Rattle.std.specs.Prelude.{Result, Ok, Err, IsOkAnd}
 use Rattle.exam_terms.specs.Refusing.{◌>>=◌, else_err}
-use Rattle.office_policy.specs.Callers.{caller_of, trimmed}
+use Rattle.exam_terms.specs.Texts.{trimmed}
+use Rattle.office_policy.specs.Callers.{caller_of}
 use Rattle.office_policy.specs.declared.callers.Caller.{Caller}
 use Rattle.office_policy.specs.declared.callers.Caller.TheVariants.{Office, Dept, Cand}
 use Rattle.office_policy.specs.Commands.{PlainCommand, me, my_exam, my_penalty, plain_command}

@@ -6,26 +6,18 @@ ghost use Rattle.office_policy.specs.Commands.{plain_text, IfGiven};
 ghost use Rattle.office_requests.specs.Bodies.{json_in, members_count, number_at, place_in, dept_in};
 ghost use Rattle.office_requests.specs.Bodies.{text_body, place_body, dept_body};
 
+use exam_terms::limits::{MAX_DEPARTMENT, MAX_NUMBER, TEXT_BYTES};
 use exam_terms::{PeriodNo, Place, RoomNo};
 use office_policy::Body;
 use serde_json::Value;
 use std::alloc::{AllocError, Global};
-
-/// The longest body in bytes, of any but an instance.
-const MOST_BYTES: usize = 1_048_576;
-
-/// The greatest number of a period or a room.
-const MOST: u32 = 999_999_999;
-
-/// The greatest number of a department.
-const MOST_DEPT: u32 = 999;
 
 /// A body that is taken as it is.
 pub fn text_body(bytes: &[u8]) -> Body<&[u8]>
     ensures says { plain_text result ≡ text_body bytes.now }
     ensures lent { IfGiven result (λ text. text ≡ bytes.entry) }
 {
-    if bytes.len() > MOST_BYTES {
+    if bytes.len() > TEXT_BYTES {
         return Body::Long;
     }
     Body::Given(bytes)
@@ -35,7 +27,7 @@ pub fn text_body(bytes: &[u8]) -> Body<&[u8]>
 pub fn place_body(alloc: Global, bytes: &[u8]) -> Result<Body<Place>, AllocError>
     ensures { IfOk result (λ body. body ≡ place_body bytes.now) }
 {
-    if bytes.len() > MOST_BYTES {
+    if bytes.len() > TEXT_BYTES {
         return Ok(Body::Long);
     }
     let Some(value) = json_in(alloc, bytes)? else {
@@ -51,7 +43,7 @@ pub fn place_body(alloc: Global, bytes: &[u8]) -> Result<Body<Place>, AllocError
 pub fn dept_body(alloc: Global, bytes: &[u8]) -> Result<Body<u32>, AllocError>
     ensures { IfOk result (λ body. body ≡ dept_body bytes.now) }
 {
-    if bytes.len() > MOST_BYTES {
+    if bytes.len() > TEXT_BYTES {
         return Ok(Body::Long);
     }
     let Some(value) = json_in(alloc, bytes)? else {
@@ -70,8 +62,8 @@ fn place_in(value: &Value) -> Option<Place>
     if members_count(value)? != 2 {
         return None;
     }
-    let period = PeriodNo::new(number_at(value, "period", MOST)?);
-    let room = RoomNo::new(number_at(value, "room", MOST)?);
+    let period = PeriodNo::new(number_at(value, "period", MAX_NUMBER)?);
+    let room = RoomNo::new(number_at(value, "room", MAX_NUMBER)?);
     Some(Place { period, room })
 }
 
@@ -82,7 +74,7 @@ fn dept_in(value: &Value) -> Option<u32>
     if members_count(value)? != 1 {
         return None;
     }
-    number_at(value, "dept", MOST_DEPT)
+    number_at(value, "dept", MAX_DEPARTMENT)
 }
 
 // How many members an object has.

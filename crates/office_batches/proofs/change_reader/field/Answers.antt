@@ -1,6 +1,6 @@
 use Rattle.std.proofs.Common.{◌∙◌, ap, sym}
 use Rattle.csv.proofs.RecordFacts.{field-get}
-use Rattle.office_files.specs.Fields.{trimmed}
+use Rattle.exam_terms.specs.Texts.{trimmed}
 use Rattle.office_batches.proofs.RecordLemmas.{absent}
 use Rattle.office_batches.proofs.change_reader.field.Goals as goal
 

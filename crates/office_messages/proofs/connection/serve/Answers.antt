@@ -1,4 +1,5 @@
-use Rattle.std.proofs.Common.{ℕ, Bool, false, List, drop, refl, sym, subst, ◌∙◌, arith}
+use Rattle.std.proofs.Common.{ℕ, Bool, false, List, [], ◌++◌, drop, refl, sym, subst, ◌∙◌, arith}
+use Rattle.std.proofs.KnownBytes.{Consumes-trans, Consumes-nil}
 use Rattle.std.proofs.lemmas.Result.{err_from_is_err_and}
 use Rattle.std.proofs.lemmas.List.{nil_from_length}
 use Rattle.office_messages.specs.Heads.{Knows, plain_request}
@@ -143,3 +144,45 @@ returns-clause-ok g c =
     rw c.at-2.ensures
     (limit g.M.Machine.Answers _ _ _ _ _ _ _ _ c.loop-answered.invariant.progress _
     (omega (arith, c.loop-answered.invariant.progress.small, c.loop-answered-test.false)) refl refl)
+
+-- what was taken of the reader
+pub returns-in_err-answer-in-Whole-clause-taken : goal.returns-in_err-answer-in-Whole-clause-taken
+returns-in_err-answer-in-Whole-clause-taken g c =
+    (c.loop-answered.invariant.progress.taken, c.loop-answered.invariant.progress.consumed)
+
+pub returns-then-head-clause-taken : goal.returns-then-head-clause-taken
+returns-then-head-clause-taken g c =
+    (c.loop-answered.invariant.progress.taken, c.loop-answered.invariant.progress.consumed)
+
+pub returns-in_err-send-in-Faulty-clause-taken : goal.returns-in_err-send-in-Faulty-clause-taken
+returns-in_err-send-in-Faulty-clause-taken g c =
+    (c.loop-answered.invariant.progress.taken, c.loop-answered.invariant.progress.consumed)
+
+pub returns-in-Faulty-clause-taken : goal.returns-in-Faulty-clause-taken
+returns-in-Faulty-clause-taken g c =
+    (c.loop-answered.invariant.progress.taken, c.loop-answered.invariant.progress.consumed)
+
+pub returns-clause-taken : goal.returns-clause-taken
+returns-clause-taken g c =
+    (c.loop-answered.invariant.progress.taken, c.loop-answered.invariant.progress.consumed)
+
+pub returns-in_err-receive-in-More-clause-taken : goal.returns-in_err-receive-in-More-clause-taken
+returns-in_err-receive-in-More-clause-taken g c =
+    let t = c.receive.ensures.taken in
+    let p = c.loop-answered.invariant.progress in
+    (p.taken ++ t.0, Consumes-trans _ _ _ p.taken t.0 p.consumed t.1)
+
+pub returns-then-is_empty-clause-taken : goal.returns-then-is_empty-clause-taken
+returns-then-is_empty-clause-taken g c =
+    let t = c.receive.ensures.taken in
+    let p = c.loop-answered.invariant.progress in
+    (p.taken ++ t.0, Consumes-trans _ _ _ p.taken t.0 p.consumed t.1)
+
+pub returns-in-End-clause-taken : goal.returns-in-End-clause-taken
+returns-in-End-clause-taken g c =
+    let t = c.receive.ensures.taken in
+    let p = c.loop-answered.invariant.progress in
+    (p.taken ++ t.0, Consumes-trans _ _ _ p.taken t.0 p.consumed t.1)
+
+pub returns-in-Err-clause-taken : goal.returns-in-Err-clause-taken
+returns-in-Err-clause-taken g c = ([], Consumes-nil _)

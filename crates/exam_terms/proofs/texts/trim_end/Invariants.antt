@@ -1,6 +1,6 @@
 use Rattle.std.proofs.Common.{◌≡◌, ◌≤◌, length}
-use Rattle.office_files.specs.Fields.{trim_end}
-use Rattle.office_files.proofs.fields.trim_end.Given as goal
+use Rattle.exam_terms.specs.Texts.{trim_end}
+use Rattle.exam_terms.proofs.texts.trim_end.Given as goal
 
 abbrev pub invariant-loop-last : goal.invariant-loop-last
 invariant-loop-last l =

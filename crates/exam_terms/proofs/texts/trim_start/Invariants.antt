@@ -1,6 +1,6 @@
 use Rattle.std.proofs.Common.{◌≡◌, ◌≤◌, length}
-use Rattle.office_files.specs.Fields.{trim_start}
-use Rattle.office_files.proofs.fields.trim_start.Given as goal
+use Rattle.exam_terms.specs.Texts.{trim_start}
+use Rattle.exam_terms.proofs.texts.trim_start.Given as goal
 
 abbrev pub invariant-loop-first : goal.invariant-loop-first
 invariant-loop-first l =

@@ -1,0 +1,61 @@
+// The blanks around a text, and texts of digits: each once, for whoever reads.
+ghost use Rattle.std.specs.Prelude.{◌≡◌, ◌≤◌, length};
+ghost use Rattle.std.specs.List.{list_all};
+ghost use Rattle.std.specs.Char.{is_ascii_digit};
+ghost use Rattle.exam_terms.specs.Texts.{is_blank, trim_start, trim_end, trimmed};
+
+/// The text without the blanks around it: spaces and tabs.
+#[inline]
+pub fn trimmed(text: &[u8]) -> &[u8]
+    ensures { result.now ≡ trimmed text.now }
+{
+    trim_end(trim_start(text))
+}
+
+/// The text without the blanks at its start.
+#[inline]
+#[tactic(auto, using(crate::proofs::TextLemmas::trim_facts))]
+pub fn trim_start(text: &[u8]) -> &[u8]
+    ensures trimmed { result.now ≡ trim_start text.now }
+    ensures within { length result.now ≤ length text.now }
+{
+    let mut left = text;
+    while let Some((first, others)) = left.split_first() {
+        if !is_blank(*first) {
+            break;
+        }
+        left = others;
+    }
+    left
+}
+
+/// The text without the blanks at its end.
+#[inline]
+#[tactic(auto, using(crate::proofs::TextLemmas::trim_facts))]
+pub fn trim_end(text: &[u8]) -> &[u8]
+    ensures trimmed { result.now ≡ trim_end text.now }
+    ensures within { length result.now ≤ length text.now }
+{
+    let mut left = text;
+    while let Some((last, others)) = left.split_last() {
+        if !is_blank(*last) {
+            break;
+        }
+        left = others;
+    }
+    left
+}
+
+#[inline]
+fn is_blank(byte: u8) -> bool
+    ensures { result ≡ is_blank byte }
+{
+    byte == b' ' || byte == b'\t'
+}
+
+/// Whether the text holds nothing but digits, or nothing.
+pub fn are_digits(text: &[u8]) -> bool
+    ensures { result ≡ list_all is_ascii_digit text.now }
+{
+    text.iter().all(|byte| byte.is_ascii_digit())
+}
