@@ -1,13 +1,12 @@
 -- The office after a batch.
-use Rattle.std.proofs.Common.{◌≡◌, ◌≢◌, ◌∙◌, ℕ, ◌<◌, ◌≤◌, Bool, true, false, List, [], ◌∷◌, length, get_or, Option, Some, None, Result, Ok, Err, refl, ap, sym, arith, subst, if◌then◌else◌}
+use Rattle.std.proofs.Common.{◌≡◌, ◌≢◌, ◌∙◌, ℕ, ◌<◌, ◌≤◌, Bool, true, false, List, [], ◌∷◌, length, Option, Some, None, Result, Ok, Err, refl, ap, sym, arith, subst, if◌then◌else◌}
 use Rattle.std.specs.Prelude.{◌==◌, nat_lt}
 use Rattle.std.specs.List.{AllByRecursion, list_all}
-use Rattle.std.proofs.lemmas.Bool.{eq-eqb, eqb-false, ltb-true}
+use Rattle.std.proofs.lemmas.Bool.{eqb-false, ltb-true}
 use Rattle.std.proofs.lemmas.List.Elements.{All-cons, All-from_recursion}
-use Rattle.std.proofs.lemmas.List.Folds.{list_any_at}
 use Rattle.std.proofs.lemmas.List.Kept.{AllPairs-cons}
 use Rattle.exam_terms.specs.Refusing.{◌>>=◌, unless}
-use Rattle.exam_model.specs.Enrolments.{Enrolled, AreEnrolments, students}
+use Rattle.exam_model.specs.Enrolments.{Enrolled}
 use Rattle.exam_model.specs.Fits.{Fits}
 use Rattle.exam_model.specs.Instance.{Session}
 use Rattle.exam_model.specs.Timetable.{Placing}
@@ -21,6 +20,7 @@ use Rattle.office_model.specs.declared.counts.Counts.{Counts}
 use Rattle.office_model.specs.declared.fault.Refusal.TheVariants as refusal
 use Rattle.office_model.specs.declared.fault.StoreFault.{StoreFault}
 use Rattle.office_model.specs.declared.fault.StoreFault.TheVariants.{BatchDiffers, Refused, TooMany}
+use Rattle.office_model.proofs.RecordLemmas.{are_enrolled}
 use Rattle.office_enrolment.specs.AfterBatch.{after_batch}
 use Rattle.office_enrolment.specs.Keeping.{batch_judged, batch_kept, with_batch}
 use Rattle.office_enrolment.proofs.LineLemmas.{HaveNumbers, accepted, all_after, all_exams, all_kept}
@@ -50,17 +50,6 @@ as_office number bytes changes r exams =
 
 -- ---- the enrolments
 
-enrolled_still : (I : Session) (E F : Enrolled) → AreEnrolled I E → AreEnrolments F
-    → length F ≡ length E → AreEnrolled I F
-enrolled_still I E F was set same = record {
-  set = set;
-  exams = same ∙ was.exams;
-  students = λ e exists k d within.
-      let xs : List ℕ = students F e in
-      let s : ℕ = get_or xs k d in
-      set.numbers e s (list_any_at (λ t. t == s) xs k d within (eq-eqb s s refl));
-}
-
 -- as many exams as before
 pub exams_after : (changes : List Change) (E : Enrolled) (done : Counts × Enrolled)
     → after_batch changes E ≡ Ok done → length done.1 ≡ length E
@@ -72,9 +61,9 @@ exams_after changes E done is =
 pub enrolled_after : (I : Session) (changes : List Change) (E : Enrolled) (done : Counts × Enrolled)
     → HaveNumbers changes → AreEnrolled I E → after_batch changes E ≡ Ok done → AreEnrolled I done.1
 enrolled_after I changes E done known was is =
-    enrolled_still I E done.1 was
+    are_enrolled I done.1
     (all_kept changes E no_counts done known (accepted changes E done is).1 was.set)
-    (exams_after changes E done is)
+    (exams_after changes E done is ∙ was.exams)
 
 -- a timetable still fits
 pub fits_after : (I : Session) (changes : List Change) (E : Enrolled) (T : Placing)

@@ -6,8 +6,12 @@ ghost use Rattle.exam_model.specs.Instance.{Session};
 ghost use Rattle.exam_model.specs.Pairs.{Pair, pairs_of};
 ghost use Rattle.exam_model.specs.declared.change.Change.{Change};
 ghost use Rattle.office_batches.specs.BatchText.{batch_in};
+ghost use Rattle.office_policy.specs.Commands.{HasSmallNumbers, PlainCommand};
+ghost use Rattle.office_policy.specs.declared.callers.Caller.{Caller};
+ghost use Rattle.office_model.specs.Answers.{PlainAnswer};
 ghost use Rattle.office_model.specs.Batches.{batch_enrolled, newly_enrolled};
 ghost use Rattle.office_model.specs.Office.{AreEnrolled, IsOffice, OfficeState, Records};
+ghost use Rattle.office_model.specs.Step.{Steps};
 ghost use Rattle.office_model.specs.declared.counts.Counts.{Counts};
 ghost use Rattle.office_enrolment.specs.AfterBatch.{acting, after_batch, lines_in};
 ghost use Rattle.office_enrolment.specs.Keeping.{batch_judged};
@@ -57,4 +61,14 @@ pub fn batch_leaves_an_office()
         → IsOffice new }
 {
     batch_readings_agree();
+}
+
+/// What a step leaves of an office is an office, whatever is asked, whoever asks, and whatever is
+/// answered.
+pub fn step_leaves_an_office()
+    ensures { (old new : OfficeState) (caller : Caller) (command : PlainCommand)
+        (answer : PlainAnswer) → IsOffice old → HasSmallNumbers command
+        → Steps old caller command answer new → IsOffice new }
+{
+    batch_leaves_an_office();
 }

@@ -8,5 +8,5 @@ mod laws;
 pub use batch::{AfterBatch, after_batch};
 pub use laws::{
     batch_leaves_an_office, enrolled_again, lines_are_counted, newly_enrolled_by_lines,
-    rows_follow_lines,
+    rows_follow_lines, step_leaves_an_office,
 };

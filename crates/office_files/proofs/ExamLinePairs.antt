@@ -58,7 +58,7 @@ room_for pairs seen s within =
     ] refl
 
 -- where she has room, the pairs with her stay within their limit
-room_left : (pairs : ℕ) (seen : List ℕ) (s : ℕ) → IsAscending seen →
+pub room_left : (pairs : ℕ) (seen : List ℕ) (s : ℕ) → IsAscending seen →
     pairs + length seen ≤ 200000 → has_room pairs seen s ≡ true →
     pairs + length (with_student s seen) ≤ 200000
 room_left pairs seen s up within =

@@ -207,7 +207,7 @@ module _ {A : Type 0} (heading : Heading) (read : List A → List (List ℕ) →
       items_within read n says s.body items (spelled_items read s.body items s.spelled)
 
 -- what the sections say together is an instance
-sections_are_instance : (said : Spelled) (lines b1 b2 b3 b4 b5 b6 : List Located) →
+pub sections_are_instance : (said : Spelled) (lines b1 b2 b3 b4 b5 b6 : List Located) →
     IsSection exams_heading exam_line lines said.exams b1 →
     ArePeriods said.exams b1 said.periods b2 →
     AreRooms said.exams b2 said.rooms b3 →

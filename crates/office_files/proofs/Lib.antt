@@ -19,6 +19,7 @@ pub mod SolutionLaws
 pub mod InstanceLaws
 pub mod NameLaws
 pub mod ReaderLaws
+pub mod LimitLaws
 mod FaultLemmas
 pub mod FirstFaultLaws
 mod CanonicalLines

@@ -1,6 +1,7 @@
 // Laws of texts: functions with no code, whose contracts are the laws.
 ghost use Rattle.std.specs.Prelude.{◌≡◌, ◌+◌, ◌<◌, ℕ, List, Some, IsSome, Ok, length, slice_get};
 ghost use Rattle.exam_model.specs.Enrolments.{AreEnrolments, Enrolled, has};
+ghost use Rattle.exam_model.specs.Fits.{Suits};
 ghost use Rattle.exam_model.specs.Instance.{IsInstance, Session};
 ghost use Rattle.exam_model.specs.Timetable.{Placing, place_of};
 ghost use Rattle.office_files.specs.CanonicalText.{canonical_instance, canonical_solution};
@@ -24,6 +25,21 @@ pub fn sits_as_named()
     ensures { (b : List ℕ) (I : Session) (E : Enrolled) (s e : ℕ) (line : Located)
         → InstanceText b I E → e < length I.exams → slice_get (lines_of b) (e + 1) ≡ Some line
         → has E s e ≡ name_student (rest (fields_of line.text)) s }
+{}
+
+/// What a text spells is in its limits: an instance, and enrolments of its exams.
+pub fn spelled_in_limits()
+    ensures session { (b : List ℕ) (I : Session) (E : Enrolled) → InstanceText b I E → IsInstance I }
+    ensures enrolments { (b : List ℕ) (I : Session) (E : Enrolled) → InstanceText b I E
+        → AreEnrolments E }
+    ensures exams { (b : List ℕ) (I : Session) (E : Enrolled) → InstanceText b I E
+        → length E ≡ length I.exams }
+{}
+
+/// A timetable that a text spells suits its instance: every place exists.
+pub fn spelled_timetable_suits()
+    ensures { (b : List ℕ) (I : Session) (T : Placing) → IsInstance I → SolutionText b I T
+        → Suits I T }
 {}
 
 /// A text spells at most one timetable for an instance.

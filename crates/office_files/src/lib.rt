@@ -28,7 +28,8 @@ pub use instance_reader::read_instance;
 pub use instance_writer::write_instance;
 pub use laws::{
     canonical_instance_reads_back, canonical_solution_reads_back, instance_readings_agree,
-    one_instance, one_timetable, sits_as_named, solution_readings_agree,
+    one_instance, one_timetable, sits_as_named, solution_readings_agree, spelled_in_limits,
+    spelled_timetable_suits,
 };
 pub use lines::Token;
 pub use numbers::number;

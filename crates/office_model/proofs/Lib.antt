@@ -1,5 +1,7 @@
 pub mod CommandLemmas
 pub mod StepLemmas
+pub mod RecordLemmas
+pub mod OfficeLemmas
 pub mod ShownLemmas
 pub mod QuietLemmas
 pub mod SameLemmas

@@ -36,7 +36,7 @@ outcome_law : {A : Type 0} (P : OfficeState → Type 0) (Q : PlainAnswer → Typ
 outcome_law P Q says old (Ok x) here h q = h q
 outcome_law P Q says old (Err fault) here h q = here
 
-whatever : {A : Type 0} (P : OfficeState → Type 0) (Q : PlainAnswer → Type 0)
+pub whatever : {A : Type 0} (P : OfficeState → Type 0) (Q : PlainAnswer → Type 0)
     (says : A → PlainAnswer) (g : Gives A) → IfOk g (λ x. P x.1)
     → IfOk g (λ x. Q (says x.0) → P x.1)
 whatever P Q says (Ok x) h = λ q. h

@@ -1,14 +1,12 @@
 -- What a publication has, and the enrolments that its rows are.
-use Rattle.std.proofs.Common.{◌≡◌, ◌≤◌, eqb, List, length, map, get_or, None, ◌≢◌, refl, sym, ◌∙◌, ap, ap₂, subst, arith}
+use Rattle.std.proofs.Common.{◌≡◌, ◌≤◌, List, length, map, None, ◌≢◌, refl, sym, ◌∙◌, ap, ap₂, subst, arith}
 use Rattle.std.specs.Prelude.{IsPermutation}
-use Rattle.std.proofs.lemmas.Bool.{eq-eqb}
 use Rattle.std.proofs.lemmas.List.Elements.{All-from_recursion, recursion_from_All}
-use Rattle.std.proofs.lemmas.List.Folds.{list_any_at}
 use Rattle.std.proofs.lemmas.List.FromFn.{length-map-range_with_len}
 use Rattle.std.proofs.lemmas.List.Sorted.{IsPermutation-refl, IsPermutation-sym, IsPermutation-trans}
 use Rattle.std.proofs.lemmas.Option.{none-some}
 use Rattle.sqlite_trees.proofs.ListLemmas.{map-map}
-use Rattle.exam_model.specs.Enrolments.{Enrolled, AreEnrolments, students}
+use Rattle.exam_model.specs.Enrolments.{Enrolled, AreEnrolments}
 use Rattle.exam_model.specs.Instance.{Session}
 use Rattle.exam_model.specs.Pairs.{pairs_of}
 use Rattle.exam_model.specs.Timetable.{Placing}
@@ -25,6 +23,7 @@ use Rattle.exam_publish.proofs.PlaceLemmas.{rows_exist}
 use Rattle.exam_publish.proofs.RowLemmas.{are_enrolments, pairs_in, rows_numbered}
 use Rattle.office_tables.specs.declared.rows.EnrolRow.{EnrolRow}
 use Rattle.office_model.specs.Office.{AreEnrolled, IsPublication, Publication}
+use Rattle.office_model.proofs.RecordLemmas.{are_enrolled as enrolled_of_exams}
 use Rattle.office_records.specs.Found.{AreEnrolRows}
 use Rattle.office_records.specs.Publications.{HasPlacesAndSeats, publication, seat_pair}
 use Rattle.office_records.specs.Stands.{enrol_row}
@@ -48,14 +47,9 @@ module _ (I : Session) (rows : List SeatRow) (T : Placing) (are : ArePublishedRo
 
   -- rows with numbers are enrolments, where there are enrolments of the session's exams
   pub are_enrolled : (E : Enrolled) → AreEnrolled I E → AreNumbered rows → AreEnrolled I enrolled
-  are_enrolled E known numbered = record {
-    set = set;
-    exams = length-map-range_with_len (students_in rows) 0 (length I.exams);
-    students = λ e exists k d within.
-        set.numbers e (get_or (students enrolled e) k d)
-        (list_any_at (λ t. eqb t (get_or (students enrolled e) k d))
-        (students enrolled e) k d within (eq-eqb _ _ refl));
-  }
+  are_enrolled E known numbered =
+      enrolled_of_exams I enrolled set
+      (length-map-range_with_len (students_in rows) 0 (length I.exams))
     where
       set : AreEnrolments enrolled
       set =

@@ -18,6 +18,7 @@ use Rattle.office_tables.specs.declared.rows.SlotRow.{SlotRow}
 use Rattle.office_store.specs.Changes.{draft_put, draft_removed}
 use Rattle.office_model.specs.Commands.{draft_in}
 use Rattle.office_model.specs.Office.{OfficeState, Records, AreRecords, set_at}
+use Rattle.office_model.proofs.RecordLemmas.{left_records, made_records}
 use Rattle.office_records.specs.Stands.{Stands, StandsLoaded, IsSound, IsScoredRow, IsKept, drafts_at, slots_at, slots_from, slot_rows, slot_row, parts_of, once}
 use Rattle.office_records.proofs.KeyLemmas.{none_of, all_of_other, each_left}
 use Rattle.office_records.proofs.MemoryLemmas.{same_one}
@@ -159,29 +160,6 @@ module _ (t : Tables) (r : Records) (d : ℕ) (T : Placing) (row : DraftRow) (sl
           → IsScoredRow (record r { draft = set_at d (Some T) r.draft }) x
       other x k e S f = k S (sym (ap (λ b. cond b (Some T) (r.draft x.no)) e) ∙ f)
 
-pub made_records : (r : Records) (d : ℕ) (T : Placing) → 1 ≤ d → d ≤ 8 → Fits r.session r.enrolments T
-    → AreRecords r → AreRecords (record r { draft = set_at d (Some T) r.draft })
-made_records r d T low high fits h = record {
-  session = h.session;
-  enrolled = h.enrolled;
-  departments = h.departments;
-  owned = h.owned;
-  numbered = λ n. number n (eqb n d) refl;
-  drafts = λ n S. fit n S (eqb n d);
-  publication = h.publication;
-  batches = h.batches;
-}
-  where
-    number : (n : ℕ) (b : Bool) → eqb n d ≡ b → IsSome (cond b (Some T) (r.draft n))
-        → (1 ≤ n) × (n ≤ 8)
-    number n true e some = (grind (arith, nat_tests, e, low), grind (arith, nat_tests, e, high))
-    number n false e some = h.numbered n some
-
-    fit : (n : ℕ) (S : Placing) (b : Bool) → cond b (Some T) (r.draft n) ≡ Some S
-        → Fits r.session r.enrolments S
-    fit n S true e = subst (Fits r.session r.enrolments) (some_is T S e) fits
-    fit n S false e = h.drafts n S e
-
 pub made_kept : (a b : Database) (r : Records) (d : ℕ) (T : Placing) (row : DraftRow)
     (slots : List SlotRow) → row.no ≡ d → slots ≡ slots_from d 0 T
     → parts_of row ≡ track r.session r.enrolments T
@@ -242,28 +220,6 @@ left_sound t r d sound = record {
     other : (x : DraftRow) → IsScoredRow r x → eqb x.no d ≡ false
         → IsScoredRow (record r { draft = set_at d None r.draft }) x
     other x k e S f = k S (sym (ap (λ b. cond b None (r.draft x.no)) e) ∙ f)
-
-left_records : (r : Records) (d : ℕ) → AreRecords r
-    → AreRecords (record r { draft = set_at d None r.draft })
-left_records r d h = record {
-  session = h.session;
-  enrolled = h.enrolled;
-  departments = h.departments;
-  owned = h.owned;
-  numbered = λ n. number n (eqb n d);
-  drafts = λ n S. fit n S (eqb n d);
-  publication = h.publication;
-  batches = h.batches;
-}
-  where
-    number : (n : ℕ) (b : Bool) → IsSome (cond b None (r.draft n)) → (1 ≤ n) × (n ≤ 8)
-    number n true some = absurd cc
-    number n false some = h.numbered n some
-
-    fit : (n : ℕ) (S : Placing) (b : Bool) → cond b None (r.draft n) ≡ Some S
-        → Fits r.session r.enrolments S
-    fit n S true e = absurd cc
-    fit n S false e = h.drafts n S e
 
 pub left_kept : (a b : Database) (r : Records) (d : ℕ) → IsKept a (Some r)
     → ((t : Tables) → Held a t → Held b (draft_removed d t))

@@ -19,7 +19,7 @@ use Rattle.office_model.specs.Office.{OfficeState, AreEnrolled}
 use Rattle.office_records.specs.Memory.{Memory, memory_of}
 use Rattle.office_model.specs.declared.fault.StoreFault.TheVariants.{Loaded}
 use Rattle.office_model.specs.declared.counts.Loaded as loading
-use Rattle.office_records.proofs.RecordLemmas.{no_batch_kept}
+use Rattle.office_model.proofs.RecordLemmas.{fresh_records}
 use Rattle.office_store.proofs.CommandLemmas.{Denies, Moves}
 use Rattle.office_records.specs.Stands.{StandsLoaded, IsKept, enrol_row}
 
@@ -90,16 +90,7 @@ module _ (I : Session) (E : Enrolled) (text : List ℕ) (rows : List EnrolRow)
       scored = tt;
       shared = record { of_students = IsPermutation-refl []; of_parts = IsPermutation-refl [] };
     };
-    office = record {
-      session = is;
-      enrolled = are;
-      departments = λ e. omega arith;
-      owned = λ e no. absurd (no refl);
-      numbered = λ d no. absurd cc;
-      drafts = λ d T no. absurd cc;
-      publication = λ p no. absurd cc;
-      batches = no_batch_kept;
-    };
+    office = fresh_records I E is are;
   }
 
 -- ---- bounds

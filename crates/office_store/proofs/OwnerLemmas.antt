@@ -11,6 +11,7 @@ use Rattle.office_store.specs.Changes.{owner_put}
 use Rattle.exam_model.specs.Enrolments.{Enrolled}
 use Rattle.exam_model.specs.Instance.{Session}
 use Rattle.office_model.specs.Office.{OfficeState, Records, AreRecords, set_at}
+use Rattle.office_model.proofs.RecordLemmas.{owner_records}
 use Rattle.office_records.specs.Memory.{Memory, memory_of}
 use Rattle.office_store.proofs.CommandLemmas.{Denies, Moves}
 use Rattle.office_store.proofs.RunLemmas.{kept_of}
@@ -96,28 +97,6 @@ put_one db e d t is h =
     subst (λ b. Held db (cond b (without_owner e t)
     (with_owner (record { exam = e; dept = d }) (without_owner e t))))
     {x = false} (grind (arith, nat_tests, is)) h
-
--- the records are still those of an office
-pub owner_records : (r : Records) (e d : ℕ) → e < length r.session.exams → d ≤ 999 → AreRecords r
-    → AreRecords (record r { owner_of = set_at e d r.owner_of })
-owner_records r e d exists few h = record {
-  session = h.session;
-  enrolled = h.enrolled;
-  departments = λ x. department x (eqb x e);
-  owned = λ x. exam x (eqb x e) refl;
-  numbered = h.numbered;
-  drafts = h.drafts;
-  publication = h.publication;
-  batches = h.batches;
-}
-  where
-    department : (x : ℕ) (b : Bool) → cond b d (r.owner_of x) ≤ 999
-    department x true = few
-    department x false = h.departments x
-
-    exam : (x : ℕ) (b : Bool) → eqb x e ≡ b → cond b d (r.owner_of x) ≢ 0 → x < length r.session.exams
-    exam x true f has = grind (arith, nat_tests, f, exists)
-    exam x false f has = h.owned x has
 
 -- the parts that are stored for drafts are as before
 owner_sound : (t : Tables) (r : Records) (e d : ℕ) (b : Bool) → IsSound t (Some r)

@@ -14,12 +14,7 @@ use Rattle.exam_model.specs.Fits.{Fits}
 use Rattle.exam_model.specs.Instance.{Session}
 use Rattle.exam_model.specs.Timetable.{Placing}
 use Rattle.exam_publish.specs.Changed.{changed_students}
-use Rattle.exam_publish.specs.Permit.{first_unplaced, least_breach, publish_refusal}
-use Rattle.exam_publish.specs.Seats.{AreSeated}
-use Rattle.exam_publish.specs.Shares.{enrolled_in}
-use Rattle.exam_publish.proofs.PermitLemmas.{neither}
-use Rattle.exam_publish.proofs.PublishedLemmas.{same_enrolments}
-use Rattle.exam_publish.proofs.SeatLemmas.{AreSeats, are_seats}
+use Rattle.exam_publish.specs.Permit.{publish_refusal}
 use Rattle.office_tables.specs.Alterations.{after_all}
 use Rattle.office_tables.specs.Changes.{no_meta, no_part_shares, no_placements, with_meta}
 use Rattle.office_tables.specs.Changes.{with_part_share, with_placement, with_seat}
@@ -39,10 +34,11 @@ use Rattle.office_tables.specs.declared.seating.InsertSeat.{InsertSeat}
 use Rattle.office_tables.specs.declared.sharing.DeleteStudentShare.{DeleteStudentShare}
 use Rattle.office_tables.specs.declared.sharing.InsertPartShare.{InsertPartShare}
 use Rattle.office_tables.specs.declared.sharing.InsertStudentShare.{InsertStudentShare}
-use Rattle.office_model.specs.Office.{AreEnrolled, AreRecords, IsOffice, IsPublication, OfficeState}
+use Rattle.office_model.specs.Office.{AreRecords, IsOffice, OfficeState}
 use Rattle.office_model.specs.Office.{Publication, Records}
 use Rattle.office_model.specs.Publishing.{draft_published, publication_counts, published_as, rows_now}
 use Rattle.office_model.specs.declared.fault.StoreFault.{StoreFault}
+use Rattle.office_model.proofs.RecordLemmas.{published_records}
 use Rattle.office_records.specs.Memory.{Memory, memory_of}
 use Rattle.office_records.specs.Publications.{StandsPublished, placed_from, stored_seat}
 use Rattle.office_records.specs.SeatsStored.{seat_rows_of, seat_rows_without}
@@ -218,55 +214,10 @@ put_over left gone who rows xs same is =
 
 -- ---- the office
 
-old_seated : (r : Records) → AreRecords r → AreSeated r.session (rows_now r.published)
-old_seated r is = go r.published is.publication
-  where
-    go : (published : Option Publication)
-        → ((p : Publication) → published ≡ Some p → IsPublication r.session p)
-        → AreSeated r.session (rows_now published)
-    go None each = record {
-      in_order = λ i j d before none. absurd (omega (arith, none));
-      within = λ k d none. absurd (omega (arith, none));
-      own = λ i j d before none. absurd (omega (arith, none));
-    }
-    go (Some p) each = (each p refl).seated
-
 module _ (r : Records) (T : Placing) (is : AreRecords r) (fits : Fits r.session r.enrolments T)
     (permitted : publish_refusal r.session r.enrolments T ≡ None) where
   abbrev new_one : Publication
   new_one = published_as r T
-
-  are : AreSeats r.session r.enrolments T (rows_now r.published) new_one.rows
-  are = are_seats r.session r.enrolments T (rows_now r.published) fits is.enrolled.set permitted
-      (old_seated r is)
-
-  same : enrolled_in (length r.session.exams) new_one.rows ≡ r.enrolments
-  same = same_enrolments r.session r.enrolments T (rows_now r.published) is.session is.enrolled.set
-      fits permitted (old_seated r is)
-
-  pub is_publication : IsPublication r.session new_one
-  is_publication = record {
-    rows = are.published;
-    seated = are.seated;
-    enrolled = subst (AreEnrolled r.session) (sym same) is.enrolled;
-    unbroken = subst (λ E. least_breach r.session E T ≡ None) (sym same)
-        (neither (first_unplaced T) (least_breach r.session r.enrolments T) permitted).1;
-  }
-
-  published_records : AreRecords (record r { published = Some new_one })
-  published_records = record {
-    session = is.session;
-    enrolled = is.enrolled;
-    departments = is.departments;
-    owned = is.owned;
-    numbered = is.numbered;
-    drafts = is.drafts;
-    publication = λ p e. subst (IsPublication r.session) (some_is e) is_publication;
-    batches = is.batches;
-  }
-    where
-      some_is : {X : Type 0} {x y : X} → Some x ≡ Some y → x ≡ y
-      some_is e = cc
 
   module _ (penalty : ℕ) (new : NewPublication) (put : ArePutIn r.session T (rows_now r.published)
       new_one.rows penalty new) (t : Tables) where
@@ -342,7 +293,7 @@ module _ (r : Records) (T : Placing) (is : AreRecords r) (fits : Fits r.session 
     tables = makes kept.held kept.tables;
     stands = published_stands penalty new put kept.held kept.stands;
     sound = published_sound penalty new put kept.held kept.sound;
-    office = published_records;
+    office = published_records r T is fits permitted;
   }
 
 -- ---- what the command gives
