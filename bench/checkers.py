@@ -54,7 +54,7 @@ def baselines():
 def program(path=None):
     """The program's command. Without a path the launcher builds it first where it has to."""
     if not path:
-        launched = [TOP / "examoffice", "--help"]
+        launched = [TOP / "examoffice", "--build"]
         if subprocess.run(launched, stdout=subprocess.DEVNULL, check=False).returncode:
             sys.exit("the program does not build")
     return [str(pathlib.Path(path).resolve() if path else PROGRAM), "check"]

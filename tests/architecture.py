@@ -20,6 +20,7 @@ SQL_LIBRARIES = {
 # Who may name a connection, a store, a database and its values besides.
 SQLITE_NAMERS = SQL_CRATES | {
     "office_records", "office_store", "office_desk", "office_http", "office_program", "worked_offices",
+    "worked_desks",
 }
 
 # Each page, and whether it has to have every crate of the libraries and the program, or of all.

@@ -1,9 +1,10 @@
 #!/usr/bin/env python3
-"""run_launcher.py LAUNCHER: whether the launcher builds when it must, and hands every word on.
+"""run_launcher.py LAUNCHER: whether the launcher builds when it must, runs the release where it
+may, and hands every word on; and whether `release/check` tells one release from another.
 
-It runs a copy of the launcher in a repository of its own, with a stand-in for `rt` that writes
-a stand-in program, so nothing is proved here. Each failing case is printed with what was
-expected and what came, and the last line counts the cases.
+It runs copies of the launcher and of the scripts of `release/` beside it in a repository of its
+own, with a stand-in for `rt` that writes a stand-in program, so nothing is proved here. Each
+failing case is printed with what was expected and what came, and the last line counts the cases.
 """
 import os
 import pathlib
@@ -38,9 +39,13 @@ class Repository:
         self.caller.mkdir()
         (folder / "bin").mkdir()
         shutil.copy(launcher, self.top / "examoffice")
+        (self.top / "release").mkdir()
+        for script in ("sources", "make", "check"):
+            shutil.copy(pathlib.Path(launcher).parent / "release" / script, self.top / "release")
         self.source = self.crate / "src" / "main.rt"
-        for file in (self.source, self.crate / "specs" / "Lib.antt", self.top / "crates.txt"):
+        for file in (self.source, self.crate / "specs" / "Lib.antt"):
             file.write_text("\n")
+        (self.top / "crates.txt").write_text("# One crate.\nexamoffice:\nworked_office: it\n")
         for file, text in ((self.top / "program", PROGRAM), (folder / "bin" / "rt", RT)):
             file.write_text(text)
             file.chmod(0o755)
@@ -51,6 +56,14 @@ class Repository:
         environment = {**os.environ, "PATH": path or self.path}
         return subprocess.run([start, *words], cwd=self.caller, env=environment, text=True,
                               stdin=subprocess.DEVNULL, capture_output=True, check=False)
+
+    def release(self, script):
+        return self.call(start=self.top / "release" / script)
+
+    def checked(self):
+        """What `release/check` ended with, and said of the release."""
+        done = self.release("check")
+        return done.returncode, done.stdout
 
     def builds(self):
         counted = self.top / "builds"
@@ -118,7 +131,8 @@ def edits(repository):
 
 def refusals(repository, few):
     """Yields the cases in which the program has to be built and is not."""
-    repository.source.write_text("\n\n")
+    (repository.top / "release" / "examoffice").unlink()
+    repository.source.write_text("\n\n\n\n")
     done = repository.call(path=few)
     said = "examoffice: the program has to be built, and there is no rt in PATH\n"
     yield "no rt", (1, "", said), (done.returncode, done.stdout, done.stderr)
@@ -128,10 +142,55 @@ def refusals(repository, few):
            (done.returncode, done.stdout, done.stderr.splitlines()[1:]))
 
 
+def releases(repository):
+    """Yields the cases with a release, which is the stand-in program with a line of its own."""
+    (repository.top / "program").write_text(PROGRAM + "echo released\n")
+    (repository.crate / "out" / "examoffice").unlink()
+    builds = repository.builds() + 1
+    made = repository.release("make")
+    yield "a release is made", (0, builds), (made.returncode, repository.builds())
+    yield ("what was built is the release", (0, "release: it is what its sources are built to, "
+           "byte for byte\n"), repository.checked())
+    (repository.crate / "out" / "examoffice").unlink()
+    (repository.top / "program").write_text(PROGRAM)
+    empty = f"{repository.caller}\n0\n[]\n"
+    older = "examoffice: the release is older than the sources; --build builds these\n"
+    worked = repository.top / "crates" / "worked_office" / "src"
+    worked.mkdir(parents=True)
+    (worked / "lib.rt").write_text("\n")
+    (repository.top / "crates.txt").write_text("# Still one crate.\nexamoffice:\n")
+    for case, text, said in (("no program", None, ""), ("an edit", "\n\n\n", older),
+                             ("an edit that is taken back", "\n\n", "")):
+        if text:
+            repository.source.write_text(text)
+        done = repository.call()
+        yield (f"the release runs: {case}", (0, empty + "released\n", said, builds),
+               (done.returncode, done.stdout, done.stderr, repository.builds()))
+    specs = repository.crate / "specs" / "Lib.antt"
+    specs.write_text("\n")
+    yield "the release is older than a file that is new", older, repository.call().stderr
+    yield ("a release of other sources is none to compare", (0, "release: it is whole, and older "
+           "than the sources\n"), repository.checked())
+    builds += 1
+    yield ("a build is asked for", (0, "", True, builds),
+           told(repository, repository.call("--build")))
+    yield "a program that was built runs", (0, empty, False, builds), told(repository,
+                                                                          repository.call())
+    yield ("a build is asked for again", (0, "", False, builds),
+           told(repository, repository.call("--build")))
+    specs.unlink()
+    yield ("the program is not what its sources are built to", 1, repository.checked()[0])
+    with open(repository.top / "release" / "examoffice", "a", encoding="utf-8") as program:
+        program.write("\n")
+    yield ("a release that was changed", (1, "release: examoffice is not the program of SHA256\n"),
+           repository.checked())
+
+
 def cases(repository, folder):
     few = without_rt(folder)
     yield from calls(repository, few)
     yield from edits(repository)
+    yield from releases(repository)
     yield from refusals(repository, few)
 
 

@@ -1,16 +1,25 @@
 #!/usr/bin/env python3
 """run_program.py PROGRAM: the whole program from outside, called from a folder of its own.
 
-Each case compares standard output, standard error and the exit status byte for byte. A failing
-case is printed with what was expected and what came, and the last line counts the cases.
+Each case compares standard output, standard error and the exit status byte for byte; some have a
+terminal as standard error. What docs/FORMATS.md says of the numbers of faults is asked too: its
+words of the help, its lines of the small instance. A failing case is printed with what was
+expected and what came, and the last line counts the cases.
 """
+import os
 import pathlib
+import re
 import subprocess
 import sys
 import tempfile
+import tty
 from collections import namedtuple
 
-EXAMPLES = pathlib.Path(__file__).resolve().parent.parent / "examples"
+TOP = pathlib.Path(__file__).resolve().parent.parent
+EXAMPLES = TOP / "examples"
+# A row of the page's table of faults: the number, the words of the help, and such a line.
+FAULT_ROW = re.compile(r"(?m)^\| (\d+) \w+ \| (.*?) \| .*? \| (?:line (\d+): `(.*)` )?\|$")
+FAULTS = FAULT_ROW.findall((TOP / "docs" / "FORMATS.md").read_text(encoding="utf-8"))
 INSTANCE_LIMIT, SOLUTION_LIMIT = 4_194_304, 1_048_576
 SECONDS = 60
 PENALTIES = ["two in a row", "two in a day", "period spread", "mixed durations", "front load",
@@ -18,7 +27,9 @@ PENALTIES = ["two in a row", "two in a day", "period spread", "mixed durations",
 GOOD = [7, 5, 3, 0, 0, 15, 7]
 TOGETHER = [7, 0, 3, 10, 0, 10, 14]
 
-Case = namedtuple("Case", "name words status stdout stderr device", defaults=(b"", b"", None))
+# `device`: where standard output goes; `terminal`: whether standard error is one.
+Case = namedtuple("Case", "name words status stdout stderr device terminal",
+                  defaults=(b"", b"", None, False))
 
 
 class Holding:
@@ -67,6 +78,8 @@ def files():
         "empty.exam": b"",
         "five.exam": exam.replace(b"[Exams:4]", b"[Exams:5]"),
         "april.exam": with_line(exam, 8, b"31:04:2005, 14:00:00, 120, 0"),
+        **{f"fault{number}.exam": with_line(exam, int(line), text.encode())
+           for number, _, line, text in FAULTS if line},
         "at_limit.exam": exam.ljust(INSTANCE_LIMIT),
         "long.exam": exam.ljust(INSTANCE_LIMIT + 1),
         "three.sol": b"".join(solution.splitlines(True)[:3]),
@@ -93,6 +106,13 @@ def check(name, instance, solution, penalties, *breaches):
 
 def fault(name, instance, solution, text):
     return Case(name, ("check", instance, solution), 1, b"", b"examoffice: %s\n" % text)
+
+
+def on_terminal(case, *lines):
+    """The case with a terminal as standard error, which shows these lines before the case's."""
+    shown = b"".join(b"examoffice: %s, which takes a while\n" % line for line in lines)
+    return case._replace(name=f"{case.name}, on a terminal", stderr=shown + case.stderr,
+                         terminal=True)
 
 
 def load(name, database, instance, exams, pairs, periods, rooms):
@@ -195,6 +215,31 @@ CASES = [
     Case("help for the server", ("serve", "--help"), 0, Holding(b"--patience <SECONDS>"), b""),
     Case("help for the export", ("export", "--help"), 0, Holding(b"--db <FILE>"), b""),
     Case("help for the check", ("check", "--help"), 0, Holding(b"check"), b""),
+    *(Case(f"help for fault {number}", ("check", "--help"), 0,
+           Holding(f"\n{number:>4}  {words}\n".encode()), b"")
+      for number, words, _, _ in FAULTS),
+    *(fault(f"the page's line of fault {number}", f"fault{number}.exam", "small.sol",
+            f"instance line {line}: fault {number}".encode())
+      for number, _, line, _ in FAULTS if line),
+    *(Case(f"help with an example and statuses: {name}", (name, "--help"), 0,
+           Holding(f"\nExample:\n  examoffice {name} ".encode()), b"")
+      for name in ("check", "load", "serve", "export")),
+    *(Case(f"help with statuses: {name}", (name, "--help"), 0,
+           Holding(b"\nExit status:\n  0  "), b"")
+      for name in ("check", "load", "serve", "export")),
+    Case("help for the store's faults", ("load", "--help"), 0,
+         Holding(b"\n  9  the tables in the database are not those of an office\n"), b""),
+    Case("help for faults of connections", ("serve", "--help"), 0,
+         Holding(b"\n  2  writing failed, or was not in time\n"), b""),
+    on_terminal(load("a small instance", "small.db", "small.exam", 4, 6, 4, 2)),
+    on_terminal(load("a large instance", "large.db", "at_limit.exam", 4, 6, 4, 2),
+                b"loading at_limit.exam"),
+    on_terminal(unexported("an export of a small database", "small.db", b"no publication")),
+    on_terminal(unexported("an export of a large database", "large.db", b"no publication"),
+                b"opening large.db"),
+    on_terminal(Case("a server of a large database", served("large.db"), 1, b"",
+                     b"examoffice: cannot write\n", "/dev/full"), b"opening large.db"),
+    unexported("an export of a large database", "large.db", b"no publication"),
     usage("no words"),
     usage("an unknown command", "frobnicate"),
     usage("an unknown option", "--frobnicate"),
@@ -223,15 +268,31 @@ CASES = [
 def run(program, case, folder):
     """What the program ended with: its status, standard output and standard error."""
     output = open(case.device, "wb") if case.device else subprocess.PIPE
+    screen = os.openpty() if case.terminal else None
+    if screen:
+        tty.setraw(screen[1])
     try:
         done = subprocess.run([program, *case.words], cwd=folder, stdin=subprocess.DEVNULL,
-                              stdout=output, stderr=subprocess.PIPE, timeout=SECONDS, check=False)
+                              stdout=output, stderr=screen[1] if screen else subprocess.PIPE,
+                              timeout=SECONDS, check=False)
+        shown = all_shown(screen) if screen else done.stderr
     except subprocess.TimeoutExpired:
         return f"no end after {SECONDS} seconds", b"", b""
     finally:
         if case.device:
             output.close()
-    return done.returncode, done.stdout or b"", done.stderr
+        for end in screen or ():
+            os.close(end)
+    return done.returncode, done.stdout or b"", shown
+
+
+def all_shown(screen):
+    """What a terminal shows: a NUL is written behind it and read for."""
+    os.write(screen[1], b"\0")
+    shown = b""
+    while not shown.endswith(b"\0"):
+        shown += os.read(screen[0], 65_536)
+    return shown[:-1]
 
 
 def shown(ended):

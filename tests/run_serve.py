@@ -9,6 +9,7 @@ last line counts the cases.
 import argparse
 import contextlib
 import json
+import os
 import pathlib
 import random
 import shutil
@@ -20,6 +21,7 @@ import sys
 import tempfile
 import threading
 import time
+import tty
 from collections import namedtuple
 
 from serve_cases import (
@@ -33,16 +35,17 @@ SECONDS = 60
 class Office:
     """The program while it serves a database; its end is waited for, and judged."""
 
-    def __init__(self, program, database, connections=1_000_000, patience=None):
+    def __init__(self, program, database, connections=1_000_000, patience=None,
+                 stderr=subprocess.PIPE):
         more = ["--patience", str(patience)] if patience else []
         self.process = subprocess.Popen(
             [program, "serve", "--db", str(database), "--port", "0",
              "--connections", str(connections), *more],
-            stdin=subprocess.DEVNULL, stdout=subprocess.PIPE, stderr=subprocess.PIPE)
+            stdin=subprocess.DEVNULL, stdout=subprocess.PIPE, stderr=stderr)
         line = self.process.stdout.readline()
         if not line.startswith(b"listening 127.0.0.1:") or not line.endswith(b"\n"):
             self.process.kill()
-            raise OSError(f"it did not listen: {line!r}, {self.process.stderr.read()!r}")
+            raise OSError(f"it did not listen: {line!r}, {self.process.communicate()[1]!r}")
         self.port = int(line.rpartition(b":")[2])
 
     def connect(self, **more):
@@ -333,6 +336,34 @@ def port_is_taken(run):
               (done.returncode, done.stdout, done.stderr, got, office.ended()))
 
 
+def publication_is_told(run):
+    """A terminal as standard error gets a line before a publication in a large file, and only
+    where the office asks for it; a small file is told of nowhere."""
+    for name, start in ("a small file", SMALL), ("a large file", SMALL.ljust(4_194_304)):
+        reader, screen = os.openpty()
+        tty.setraw(screen)
+        office = run.office(start, stderr=screen, connections=1)
+        with office.connect() as client:
+            came = [asked(client, *pair) for pair in PUBLISHED]
+            client.sendall(message("POST", "/drafts/1/publish", caller="cand:1"))
+            client.shutdown(socket.SHUT_WR)
+            came.append(rest(client)[:12])
+        status, _ = office.ended()
+        os.write(screen, b"\0")
+        lines = b""
+        while not lines.endswith(b"\0"):
+            lines += os.read(reader, 65_536)
+        path = str(run.folder / "term.db").encode()
+        expected = [b"examoffice: opening %s, which takes a while" % path,
+                    b"examoffice: publishing in %s, which takes a while" % path]
+        run.judge(f"a publication on a terminal: {name}",
+                  ([*(answer for _, answer in PUBLISHED), b"HTTP/1.1 403"], 0,
+                   expected if start != SMALL else []),
+                  (came, status, lines[:-1].splitlines()))
+        os.close(reader)
+        os.close(screen)
+
+
 def trickle(act, seconds, times):
     """Acts so often, so many seconds apart, until it fails."""
     with contextlib.suppress(OSError):
@@ -554,7 +585,7 @@ def main():
                  port_is_taken]
         if not given.plain:
             tests += [stored_by_hand, publication_is_kept, last_message, long_message,
-                      batches_are_kept, slow_clients, patient_client]
+                      batches_are_kept, publication_is_told, slow_clients, patient_client]
         for test in [*tests, longest_batch, most_batches]:
             test(run)
         kills(run, given.kills)

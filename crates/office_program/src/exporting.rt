@@ -13,6 +13,7 @@ ghost use Rattle.office_program.specs.Export.{published_solution};
 ghost use Rattle.office_program.specs.FaultLines.{IsOfExport};
 
 use crate::faults::{ProgramFault, fault_of_export, fault_of_open};
+use crate::telling::{LongWork, tell};
 use office_files::{FaultKind, write_solution};
 use office_store::{Office, StoreFault};
 use sqlite::{Alter, Connection};
@@ -42,6 +43,7 @@ pub fn export<'a, W: Write>(
     ensures printed { IfOk result (λ _. PrintsSolution (W.contents out.old) (W.contents out.new)) }
     ensures fault { IfErr result IsOfExport }
 {
+    tell(rt, LongWork::Opening(database));
     let conn = match Connection::open(rt, database) {
         Ok(conn) => conn,
         Err(error) => return Err(fault_of_open(error)),

@@ -18,6 +18,7 @@ use crate::exporting::export;
 use crate::faults::{ProgramFault, fault_of_input, fault_of_load, fault_of_open, fault_on};
 use crate::loading::load_run;
 use crate::serving::serve;
+use crate::telling::{LongWork, tell};
 use crate::words::{Task, read_words};
 use clap::Error;
 use clap::error::ErrorKind;
@@ -117,6 +118,7 @@ fn load<'a, W: Write>(
     // A line that names a file names the instance's.
     ensures fault { IfErr result (IsOfLoad instance.now) }
 {
+    tell(rt, LongWork::Loading(instance));
     match text_at(rt, instance) {
         Ok(text) => load_text(rt, database, &text, out),
         Err(fault) => Err(fault_of_input(fault, instance)),

@@ -6,9 +6,13 @@ ghost use Rattle.office_connections.specs.Lines.{PrintsPort};
 ghost use Rattle.office_connections.specs.Reaches.{Reaches};
 ghost use Rattle.office_http.specs.Replying.{Replies};
 ghost use Rattle.office_http.specs.Serving.{Leads};
+ghost use Rattle.office_model.specs.Office.{OfficeState};
+ghost use Rattle.office_store.specs.Opening.{IsOfficeOf};
 ghost use Rattle.office_program.specs.FaultLines.{IsOfServe};
+ghost use Rattle.office_program.specs.Serve.{ComesTo};
 
 use crate::faults::{ProgramFault, fault_of_open, fault_of_run};
+use crate::telling::{LongWork, TellingMachine, tell};
 use crate::words::Terms;
 use office_connections::{Plan, listen, serve_run};
 use office_http::{AnsweringDesk, Desk, Routes};
@@ -30,24 +34,34 @@ pub fn serve<'a, O: Write, E: Write>(
     ensures port { IfOk result (λ _. PrintsPort (O.contents out.old) (O.contents out.new)) }
     ensures fault { IfErr result IsOfServe }
 {
+    tell(rt, LongWork::Opening(database));
     let conn = match Connection::open(rt, database) {
         Ok(conn) => conn,
         Err(error) => return Err(fault_of_open(error)),
     };
-    let (conn, done) = serve_and_keep(rt, conn, terms, out, err);
+    let (conn, done) = serve_stored(rt, database, conn, terms, out, err);
     // A log that can't be copied into the file stays beside it, and is read there.
     let _ = conn.close();
     done
 }
 
-// Serves the office of a database, whose connection comes back.
-fn serve_and_keep<'a, S: Alter, O: Write, E: Write>(
+/// Serves the office of a database, whose connection comes back. The database is made an office
+/// where it has no table, index or view.
+pub fn serve_stored<'a, S: Alter, O: Write, E: Write>(
     rt: &HostRuntime,
+    database: &str,
     conn: Connection<S>,
     terms: Terms,
     out: &mut O,
     err: &mut E,
 ) -> (Connection<S>, Result<u8, ProgramFault<'a>>)
+    // Over a disk that returns what was written, and that has nothing uncommitted: however it ends,
+    // the database stands for an office that the one which was found comes to by replying to some
+    // requests.
+    ensures reached { HasCleanDisk (state S.Store result.0)
+        → ((state S.Store conn).now ≡ (state S.Store conn).committed)
+        → (there : OfficeState) → IsOfficeOf (state S.Store conn).now there
+        → ComesTo there (state S.Store result.0) }
     ensures status { IfOk result.1 (λ status. status ≡ 0) }
     ensures port { IfOk result.1 (λ _. PrintsPort (O.contents out.old) (O.contents out.new)) }
     ensures fault { IfErr result.1 IsOfServe }
@@ -57,7 +71,7 @@ fn serve_and_keep<'a, S: Alter, O: Write, E: Write>(
         Err((fault, conn)) => return (conn, Err(ProgramFault::Store(fault))),
     };
     let mut desk = Desk::new(office);
-    let done = serve_desk(rt, terms, &mut desk, out, err);
+    let done = serve_desk(rt, database, terms, &mut desk, out, err);
     (desk.into_office().release(), done)
 }
 
@@ -65,6 +79,7 @@ fn serve_and_keep<'a, S: Alter, O: Write, E: Write>(
 /// However it ends, the office is one that it comes to by replying to some requests.
 pub fn serve_desk<'a, S: Alter, O: Write, E: Write>(
     rt: &HostRuntime,
+    database: &str,
     terms: Terms,
     desk: &mut Desk<S>,
     out: &mut O,
@@ -84,7 +99,29 @@ pub fn serve_desk<'a, S: Alter, O: Write, E: Write>(
         desk,
         routes: &routes,
     };
-    serve_on(rt, terms, &mut machine, out, err)
+    serve_and_tell(rt, database, terms, &mut machine, out, err)
+}
+
+// Serves with the machine, and says on a terminal when it is asked to publish.
+fn serve_and_tell<'a, M: Machine, O: Write, E: Write>(
+    rt: &HostRuntime,
+    database: &str,
+    terms: Terms,
+    machine: &mut M,
+    out: &mut O,
+    err: &mut E,
+) -> Result<u8, ProgramFault<'a>>
+    ensures reached { Reaches M.Answers machine.old machine.new }
+    ensures status { IfOk result (λ status. status ≡ 0) }
+    ensures port { IfOk result (λ _. PrintsPort (O.contents out.old) (O.contents out.new)) }
+    ensures fault { IfErr result IsOfServe }
+{
+    let mut telling = TellingMachine {
+        rt,
+        database,
+        machine,
+    };
+    serve_on(rt, terms, &mut telling, out, err)
 }
 
 // Listens on the port of the terms, and serves their connections with the machine.

@@ -17,6 +17,7 @@ ghost use Rattle.office_program.specs.Program.{load_app, named_rule};
 ghost use Rattle.office_program.specs.Program.{patience_rule, port_rule, program, required_rule};
 ghost use Rattle.office_program.specs.Program.{serve_app};
 
+use crate::helps;
 use clap::{Arg, ArgMatches, Command, Error, value_parser};
 use std::alloc::{AllocError, Global};
 use std::env::Args;
@@ -92,6 +93,7 @@ fn check_command<'a>(alloc: Global) -> Result<Command<'a>, AllocError>
     let solution = required(alloc, "solution", "SOLUTION", "The file of the solution");
     Command::new(alloc, "check")
         .about("Judges a solution by the rules of ITC 2007, examination track")
+        .after_help(helps::CHECK)
         .arg(instance)?
         .arg(solution)
 }
@@ -104,6 +106,7 @@ fn load_command<'a>(alloc: Global) -> Result<Command<'a>, AllocError>
     let instance = required(alloc, "instance", "INSTANCE", "The file of the instance");
     Command::new(alloc, "load")
         .about("Loads an instance with its enrolments into an office, once")
+        .after_help(helps::LOAD)
         .arg(database)?
         .arg(instance)
 }
@@ -154,6 +157,7 @@ fn serve_command<'a>(alloc: Global) -> Result<Command<'a>, AllocError>
     let database = named(alloc, "db", "FILE", "The file of the office's database");
     Command::new(alloc, "serve")
         .about("Serves an office over HTTP, one connection after another")
+        .after_help(helps::SERVE)
         .arg(database)?
         .arg(port_option(alloc))?
         .arg(connections_option(alloc))?
@@ -167,6 +171,7 @@ fn export_command<'a>(alloc: Global) -> Result<Command<'a>, AllocError>
     let database = named(alloc, "db", "FILE", "The file of the office's database");
     Command::new(alloc, "export")
         .about("Prints the solution that an office has published")
+        .after_help(helps::EXPORT)
         .arg(database)
 }
 
@@ -182,6 +187,7 @@ fn matches(alloc: Global, words: &[String]) -> Result<ArgMatches<'_>, Error>
     let export = export_command(alloc)?;
     let whole = Command::new(alloc, "examoffice")
         .about("The office of an examination session, by the rules of ITC 2007")
+        .after_help(helps::PROGRAM)
         .subcommand_required(true)
         .subcommand(check)?
         .subcommand(load)?

@@ -8,8 +8,8 @@ use Rattle.office_program.proofs.words.export_command.Goals as goal
 pub returns : goal.returns
 returns c =
     let database = c.named-database.ensures in
-    let named : app_of c.about.result ≡ new_app (codes "export") =
-    ap app_of_fields c.about.ensures ∙ c.new.ensures.app in
+    let named : app_of c.after_help.result ≡ new_app (codes "export") =
+    ap app_of_fields c.after_help.ensures ∙ ap app_of_fields c.about.ensures ∙ c.new.ensures.app in
     IfOk-weaker c.arg.result _ _ (λ w added.
     let one : app_of w ≡ export_app = added.shape database.local ∙ ap₂ with_rule named database.rule in
     λ old new sub. sub.shape (search rules)

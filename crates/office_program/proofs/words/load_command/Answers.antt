@@ -9,8 +9,8 @@ pub returns : goal.returns
 returns c =
     let database = c.named-database.ensures in
     let instance = c.required-instance.ensures in
-    let named : app_of c.about.result ≡ new_app (codes "load") =
-    ap app_of_fields c.about.ensures ∙ c.new.ensures.app in
+    let named : app_of c.after_help.result ≡ new_app (codes "load") =
+    ap app_of_fields c.after_help.ensures ∙ ap app_of_fields c.about.ensures ∙ c.new.ensures.app in
     let one : app_of c.in_ok-arg.field-0
     ≡ with_rule (new_app (codes "load")) (named_rule (codes "db")) =
     c.in_ok-arg.ensures.shape database.local ∙ ap₂ with_rule named database.rule in

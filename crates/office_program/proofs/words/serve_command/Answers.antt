@@ -11,8 +11,8 @@ returns c =
     let port = c.port_option.ensures in
     let connections = c.connections_option.ensures in
     let patience = c.patience_option.ensures in
-    let named : app_of c.about.result ≡ new_app (codes "serve") =
-    ap app_of_fields c.about.ensures ∙ c.new.ensures.app in
+    let named : app_of c.after_help.result ≡ new_app (codes "serve") =
+    ap app_of_fields c.after_help.ensures ∙ ap app_of_fields c.about.ensures ∙ c.new.ensures.app in
     let one : app_of c.in_ok-arg.field-0
     ≡ with_rule (new_app (codes "serve")) (named_rule (codes "db")) =
     c.in_ok-arg.ensures.shape database.local ∙ ap₂ with_rule named database.rule in

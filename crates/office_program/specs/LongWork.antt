@@ -1,0 +1,13 @@
+-- The lines that are printed before work that takes long.
+use Rattle.std.specs.Prelude.{ℕ, ◌++◌, List, codes}
+use Rattle.office_program.specs.declared.telling.LongWork.{LongWork}
+use Rattle.office_program.specs.declared.telling.LongWork.TheVariants as work
+
+-- the line of work that is begun, without its end
+abbrev pub work_line : LongWork → List ℕ
+work_line (work.Loading path) =
+    codes "examoffice: loading " ++ path.now ++ codes ", which takes a while"
+work_line (work.Opening path) =
+    codes "examoffice: opening " ++ path.now ++ codes ", which takes a while"
+work_line (work.Publishing path) =
+    codes "examoffice: publishing in " ++ path.now ++ codes ", which takes a while"

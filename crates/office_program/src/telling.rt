@@ -1,0 +1,94 @@
+// What is said on a terminal before work that takes long.
+ghost use Rattle.std.specs.Prelude.{◌++◌, ◌∷◌, [], OnOk};
+ghost use Rattle.std.specs.Io.KnownBytes.{Appends};
+ghost use Rattle.office_program.specs.LongWork.{work_line};
+
+use office_messages::{Machine, Reply, Request};
+use std::alloc::Global;
+use std::io::{IsTerminal, Write};
+use std::{fs, io};
+
+/// Work on a file, which is told by its path.
+#[derive(Clone, Copy)]
+pub enum LongWork<'a> {
+    /// An instance is read and loaded.
+    Loading(&'a str),
+    /// The office of a database is found.
+    Opening(&'a str),
+    /// A draft is published in the office of a database.
+    Publishing(&'a str),
+}
+
+// A file of so many bytes takes some tenths of a second at least, and at the limits seconds.
+const LARGE: u64 = 2_000_000;
+
+// Says on standard error what is begun, where that is a terminal and the file is large.
+pub fn tell(rt: &HostRuntime, work: LongWork<'_>) {
+    let mut terminal = rt.stderr();
+    if terminal.is_terminal() && is_large(rt, path_of(work)) {
+        // Work that can't be told is done all the same.
+        let _ = print_work(work, &mut terminal);
+    }
+}
+
+// The path of the file that the work is on.
+fn path_of(work: LongWork<'_>) -> &str {
+    match work {
+        LongWork::Loading(path) | LongWork::Opening(path) | LongWork::Publishing(path) => path,
+    }
+}
+
+// Whether a file is there and large.
+fn is_large(rt: &HostRuntime, path: &str) -> bool {
+    match fs::metadata(rt, path) {
+        Ok(found) => found.len() >= LARGE,
+        Err(_) => false,
+    }
+}
+
+// Prints the line of work that is begun.
+fn print_work<W: Write>(work: LongWork<'_>, out: &mut W) -> io::Result<()>
+    ensures { OnOk result
+        (Appends (W.contents out.old) (W.contents out.new) (work_line work ++ 10 ∷ [])) }
+{
+    match work {
+        LongWork::Loading(path) => writeln!(out, "examoffice: loading {path}, which takes a while"),
+        LongWork::Opening(path) => writeln!(out, "examoffice: opening {path}, which takes a while"),
+        LongWork::Publishing(path) => {
+            writeln!(out, "examoffice: publishing in {path}, which takes a while")
+        }
+    }
+}
+
+// A machine of an office in a database, which is told when it is asked to publish.
+#[derive(Drop)]
+pub(crate) struct TellingMachine<'a, 'b, M> {
+    pub(crate) rt: &'b HostRuntime,
+    pub(crate) database: &'b str,
+    pub(crate) machine: &'a mut M,
+}
+
+impl<M: Machine> Machine for TellingMachine<'_, '_, M> {
+    ghost use Rattle.std.specs.Prelude.{◌≡◌};
+
+    ghost Answers = { λ old request reply new.
+        (new.machine.ghost_name ≡ old.machine.ghost_name)
+        × M.Answers old.machine.now request reply new.machine.now };
+
+    fn answer(&mut self, alloc: Global, request: &Request<'_>) -> Reply {
+        if asks_to_publish(request) {
+            tell(self.rt, LongWork::Publishing(self.database));
+        }
+        self.machine.answer(alloc, request)
+    }
+}
+
+// Whether the office asks to publish a draft.
+fn asks_to_publish(request: &Request<'_>) -> bool {
+    let Some(caller) = request.caller else {
+        return false;
+    };
+    caller == "office".as_bytes()
+        && request.method == "POST"
+        && request.target.ends_with("/publish")
+}

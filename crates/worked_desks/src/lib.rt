@@ -1,0 +1,5 @@
+//! An office at its desk, over a database in memory, is served a connection.
+#![tactic(auto)]
+
+#[cfg(test)]
+mod connections;
