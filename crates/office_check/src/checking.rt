@@ -1,6 +1,7 @@
 // One solution judged.
-ghost use Rattle.std.specs.Prelude.{◌≡◌, ◌≢◌, ◌⊎◌, ℕ, List, All, length, string_bytes};
+ghost use Rattle.std.specs.Prelude.{◌≡◌, ◌≢◌, ◌⊎◌, ◌+◌, ℕ, List, All, length, string_bytes};
 ghost use Rattle.std.specs.Prelude.{IfErr, IfOk, IfSome};
+ghost use Rattle.exam_terms.specs.declared.limits.TheConstants.{INSTANCE_BYTES, TEXT_BYTES};
 ghost use Rattle.std.specs.Io.KnownBytes.{Keeps};
 ghost use Rattle.exam_model.specs.Fits.{Fits, PlaceExists};
 ghost use Rattle.office_files.specs.FirstFault.{first_fault, first_solution_fault};
@@ -65,7 +66,7 @@ fn instance_of<R: Read>(alloc: Global, reader: &mut R) -> Result<(Instance, Enro
     ensures refused { IfErr result (λ fault. IfSome (R.remaining reader.old)
         (λ input. RefusesFile (first_fault input) fault)) }
     ensures fits { IfOk result (λ read. length read.1 ≡ length read.0.exams) }
-    ensures taken { TakesAtMost 4194305 (R.remaining reader.old) (R.remaining reader.new) }
+    ensures taken { TakesAtMost (INSTANCE_BYTES + 1) (R.remaining reader.old) (R.remaining reader.new) }
 {
     let text = instance_text(alloc, reader)?;
     Ok(read_instance(alloc, &text)?)
@@ -85,7 +86,7 @@ fn solution_of<R: Read>(
         (λ input. RefusesFile (first_solution_fault instance.now input) fault)) }
     ensures fits { IfOk result (λ timetable. length timetable ≡ length instance.now.exams) }
     ensures exist { IfOk result (λ timetable. All (PlaceExists instance.now) timetable) }
-    ensures taken { TakesAtMost 1048577 (R.remaining reader.old) (R.remaining reader.new) }
+    ensures taken { TakesAtMost (TEXT_BYTES + 1) (R.remaining reader.old) (R.remaining reader.new) }
 {
     let text = whole_text(alloc, reader, TEXT_BYTES)?;
     Ok(read_solution(alloc, &text, instance)?)
@@ -133,9 +134,9 @@ fn judgement_of<R: Read, Q: Read>(
     ensures within { IfOk result (λ judged. (judged.status ≡ 0) ⊎ (judged.status ≡ 3)) }
     ensures refused { IfErr result (λ fault. IfSome (R.remaining instance_reader.old) (λ instance.
         IfSome (Q.remaining solution_reader.old) (λ solution. Refuses instance solution fault))) }
-    ensures instance_taken { TakesAtMost 4194305
+    ensures instance_taken { TakesAtMost (INSTANCE_BYTES + 1)
         (R.remaining instance_reader.old) (R.remaining instance_reader.new) }
-    ensures solution_taken { TakesAtMost 1048577
+    ensures solution_taken { TakesAtMost (TEXT_BYTES + 1)
         (Q.remaining solution_reader.old) (Q.remaining solution_reader.new) }
 {
     let (instance, enrolments) = match instance_of(alloc, instance_reader) {
@@ -177,9 +178,9 @@ pub fn check_run<R: Read, Q: Read, W: Write>(
         → Keeps (W.contents writer.old) (W.contents writer.new)) }
 
     // No reader is read further than one byte past its limit.
-    ensures instance_taken { TakesAtMost 4194305
+    ensures instance_taken { TakesAtMost (INSTANCE_BYTES + 1)
         (R.remaining instance_reader.old) (R.remaining instance_reader.new) }
-    ensures solution_taken { TakesAtMost 1048577
+    ensures solution_taken { TakesAtMost (TEXT_BYTES + 1)
         (Q.remaining solution_reader.old) (Q.remaining solution_reader.new) }
 {
     let judged = judgement_of(alloc, instance_reader, solution_reader)?;

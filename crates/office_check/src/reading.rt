@@ -168,7 +168,7 @@ pub fn instance_text<R: Read>(alloc: Global, reader: &mut R) -> Result<Vec<u8>, 
     ensures refused { IfErr result (λ fault. IfSome (R.remaining reader.old)
         (λ input. RefusesText INSTANCE_BYTES input fault)) }
     // The reader is read no further than one byte past the limit.
-    ensures taken { TakesAtMost 4194305 (R.remaining reader.old) (R.remaining reader.new) }
+    ensures taken { TakesAtMost (INSTANCE_BYTES + 1) (R.remaining reader.old) (R.remaining reader.new) }
 {
     whole_text(alloc, reader, INSTANCE_BYTES)
 }

@@ -1,20 +1,19 @@
 -- Who sits an exam is whom the fields of its line name.
-use Rattle.std.proofs.Common.{◌≡◌, ℕ, suc, ◌+◌, ◌<◌, Bool, true, false, List, [], ◌∷◌, ◌++◌, length, take, map, Some, Result, Ok, Err, get_or, refl, ap, sym, ◌∙◌, add-one, arith}
+use Rattle.std.proofs.Common.{◌≡◌, ℕ, suc, ◌+◌, ◌<◌, Bool, true, false, List, [], ◌∷◌, ◌++◌, length, take, map, Some, Ok, get_or, refl, ap, sym, ◌∙◌, add-one, arith}
 use Rattle.std.specs.Prelude.{◌==◌, ◌||◌, nat_lt, option_map, slice_get, slice_index_or}
-use Rattle.std.proofs.lemmas.List.{get_or_append_left, length-append, length-map}
+use Rattle.std.proofs.lemmas.List.{get_or_append_left, length-map}
 use Rattle.std.proofs.lemmas.Option.{get_or_from_slice_get, slice_get-get_or, slice_get-map}
-use Rattle.exam_terms.specs.Refusing.{◌>>=◌, unless}
+use Rattle.exam_terms.specs.Refusing.{unless}
 use Rattle.exam_model.specs.Changes.{with_student}
 use Rattle.exam_model.specs.Enrolments.{Enrolled, has, has_student}
 use Rattle.exam_model.specs.Instance.{Session}
 use Rattle.exam_model.proofs.StudentLemmas.{has-with}
-use Rattle.office_files.specs.ExamLines.{ExamLine, exam_line, exam_behind, exam_of, pairs_on, students_in}
+use Rattle.office_files.specs.ExamLines.{ExamLine, exam_line, exam_of, pairs_on, students_in}
 use Rattle.office_files.specs.Names.{named_as, name_student}
 use Rattle.office_files.specs.Fields.{fields_of, first, rest}
 use Rattle.office_files.specs.InstanceText.{InstanceText}
 use Rattle.office_files.specs.Lines.{Located, lines_of}
 use Rattle.office_files.specs.Numbers.{number}
-use Rattle.office_files.specs.declared.fault.FaultKind.{FaultKind}
 use Rattle.office_files.specs.declared.fault.FaultKind.TheVariants.{OutOfRange}
 use Rattle.office_files.proofs.ReadingLaws.{bind_ok}
 

@@ -1,6 +1,7 @@
 -- What the answers of the two readers say by the relations of text and item.
 use Rattle.std.proofs.Common.{◌≡◌, ◌≢◌, ℕ, ◌+◌, ◌≤◌, ◌==◌, List, [], length, map, Some}
-use Rattle.std.proofs.Common.{Result, Ok, Err, IfOk, IfErr, sym, ◌∙◌, refl, subst, arith}
+use Rattle.std.proofs.Common.{Result, Ok, Err, IfOk, IfErr, sym, ap, ◌∙◌, refl, subst, arith}
+use Rattle.std.proofs.lemmas.List.{length-map}
 use Rattle.std.proofs.lemmas.List.Elements.{All-map, All-weaker}
 use Rattle.std.specs.Prelude.{All}
 use Rattle.exam_model.specs.Enrolments.{Enrolled}
@@ -8,6 +9,7 @@ use Rattle.exam_model.specs.Fits.{PlaceExists}
 use Rattle.exam_model.specs.Instance.{Session}
 use Rattle.exam_terms.specs.Refusing.{unless}
 use Rattle.exam_model.specs.Timetable.{Placing}
+use Rattle.office_files.specs.ExamLines.{ExamLine, exam_of}
 use Rattle.office_files.specs.InstanceText.{InstanceText, instance_in}
 use Rattle.office_files.specs.Items.{place_line}
 use Rattle.office_files.specs.Lines.{lines_of, line_count}
@@ -37,6 +39,17 @@ module _ {X : Type 0} (view : X → Session × Enrolled) (b : List ℕ) where
   pub instance_one : (r : Result X FileFault) → Gives view r (instance_in b) → IfOk r (λ x. (I : Session) (E : Enrolled) → InstanceText b I E → (I ≡ (view x).0) × (E ≡ (view x).1))
   instance_one (Ok x) is = λ I E text. one_reading b I (view x).0 E (view x).1 text (read_is_text b (view x).0 (view x).1 is)
   instance_one (Err f) is = tt
+
+  -- as many exams as the instance has
+  pub instance_fits : (r : Result X FileFault) → Gives view r (instance_in b)
+      → IfOk r (λ x. length (view x).1 ≡ length (view x).0.exams)
+  instance_fits (Ok x) is =
+      let text = read_is_text b (view x).0 (view x).1 is in
+      ap length text.enrolled
+      ∙ length-map text.said.exams (λ (line : ExamLine). line.students)
+      ∙ sym (length-map text.said.exams exam_of)
+      ∙ sym (ap (λ (I : Session). length I.exams) text.session)
+  instance_fits (Err f) is = tt
 
 module _ {X : Type 0} (view : X → Placing) (I : Session) (b : List ℕ) where
   -- what is answered is spelled so

@@ -72,6 +72,6 @@ section_size (row ∷ rows) = if is_header row.text then 0 else section_size row
 
 -- the place and the line of what is left of a text stay within its limit
 pub record HasPlaces (line at : ℕ) (left : List ℕ) : Type 0 where
-  pub at_most : at ≤ 4194305
+  pub at_most : at ≤ INSTANCE_BYTES + 1
   pub within : 0 < length left → at + length left ≤ INSTANCE_BYTES
-  pub lines : line + length left ≤ 4194305
+  pub lines : line + length left ≤ INSTANCE_BYTES + 1

@@ -160,6 +160,7 @@ pub fn read_instance(alloc: Global, source: &[u8]) -> Result<(Instance, Enrolmen
         → (I : Session) (E : Enrolled) → InstanceText source.now I E → ⊥) }
     ensures one { IfOk result (λ read. (I : Session) (E : Enrolled) → InstanceText source.now I E
         → (I ≡ read.0) × (E ≡ read.1)) }
+    ensures fits { IfOk result (λ read. length read.1 ≡ length read.0.exams) }
 
     // A fault is the first one of the text, and a text that is read has none.
     ensures first { IfErr result (λ fault. fault.what ≢ FaultKind.NoMemory

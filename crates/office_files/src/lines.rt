@@ -71,7 +71,7 @@ fn without_return(line: &[u8]) -> &[u8]
 /// A piece of a line, which starts at that place of the text, without the blanks around it.
 #[inline]
 pub fn located(line: u32, start: usize, text: &[u8]) -> Token<'_>
-    requires { start + length text.now ≤ 4194305 }
+    requires { start + length text.now ≤ INSTANCE_BYTES + 1 }
     ensures token { token_of result ≡ located line (record { start = start; text = text.now }) }
     ensures within { result.end ≤ start + length text.now }
 {

@@ -85,6 +85,7 @@ pub fn read_solution(
     ensures only { IfErr result (λ fault. fault.what ≢ FaultKind.NoMemory
         → (T : Placing) → SolutionText source.now instance.now T → ⊥) }
     ensures one { IfOk result (λ read. (T : Placing) → SolutionText source.now instance.now T → T ≡ read) }
+    ensures fits { IfOk result (λ read. length read ≡ length instance.now.exams) }
     ensures exist { IfOk result (λ read. All (PlaceExists instance.now) read) }
 
     // A fault is the first one of the text, and a text that is read has none.

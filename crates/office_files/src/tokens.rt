@@ -27,7 +27,7 @@ impl<'a> Model for Tokens<'a> {
 
     ghost view = { λ s. tokens_left s.line s.at s.fields.now s.rows };
 
-    ghost invariant = { λ s. (s.at ≤ 4194305)
+    ghost invariant = { λ s. (s.at ≤ INSTANCE_BYTES + 1)
         × (0 < length s.fields.now → s.at + length s.fields.now ≤ INSTANCE_BYTES) };
 }
 

@@ -4,7 +4,7 @@ ghost use Rattle.std.specs.Prelude.{Option, option_copied, IsUtf8, MatchResult};
 ghost use Rattle.httparse.specs.Grammar.{RequestHead};
 ghost use Rattle.httparse.specs.Spans.{IsRequestAt, IsRequestWithin, span_bytes};
 ghost use Rattle.office_messages.specs.Heads.{IsHeadOf, IsBadHead, HeadAt, CallerAt, plain_request};
-ghost use Rattle.office_messages.specs.Stream.{RequestAt};
+ghost use Rattle.office_messages.specs.Stream.{RequestAt, max_head};
 
 use crate::fields::{any_asks_to_close, find, only};
 use crate::form::Form;
@@ -41,7 +41,7 @@ pub(crate) fn head_of(
 ) -> Result<Head, BadHead>
     requires within { IsRequestWithin bytes.now headers.now spans }
     requires at { (h : RequestHead) × IsRequestAt bytes.now headers.now spans h }
-    requires small { length bytes.now ≤ 16384 }
+    requires small { length bytes.now ≤ max_head }
     ensures { (h : RequestHead) → IsRequestAt bytes.now headers.now spans h
         → MatchResult result (λ x. IsHeadOf bytes.now x h) (λ bad. IsBadHead bad h) }
 {

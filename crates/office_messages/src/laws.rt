@@ -1,7 +1,11 @@
-//! Laws of streams.
-ghost use Rattle.std.specs.Prelude.{◌≡◌, ℕ, List, ◌++◌};
-ghost use Rattle.office_messages.specs.Serve.{Item, Messages, Begins, Agree};
+//! Laws of streams, and of runs of machines.
+ghost use Rattle.std.specs.Prelude.{◌≡◌, ℕ, Bool, true, List, ◌++◌};
+ghost use Rattle.office_messages.specs.Reply.{PlainReply};
+ghost use Rattle.office_messages.specs.Serve.{Item, Messages, Begins, Agree, Told};
+ghost use Rattle.office_messages.specs.Stream.{PlainRequest};
 ghost use Rattle.office_messages.specs.declared.connection.End.{End};
+
+use crate::connection::Machine;
 
 /// A stream has one reading, but where the input ends within a faulty head, before an empty line
 /// behind a line that isn't empty: there the head may be refused, or the connection be cut.
@@ -17,4 +21,25 @@ pub fn front_of_messages()
     ensures { (stream : List ℕ) (front items : List Item) (end : End)
         → Begins front 0 stream → Messages items end 0 stream
         → (rest : List Item) × (items ≡ front ++ rest) }
+{}
+
+/// A map of states that carries each answer of one machine into an answer of another carries a run.
+pub fn runs_are_carried<M: Machine, N: Machine>()
+    ensures { (f : M → N) → ((old : M) (r : PlainRequest) (reply : PlainReply) (new : M)
+        → M.Answers old r reply new → N.Answers (f old) r reply (f new))
+        → (items : List Item) (old : M) (output : List ℕ) (new : M)
+        → Told M.Answers items old output new → Told N.Answers items (f old) output (f new) }
+{}
+
+/// What each answer of a machine keeps, a run keeps: what holds before it holds after it, and what
+/// holds after it held before it.
+pub fn runs_keep<M: Machine>()
+    ensures forwards { (holds : M → Bool) → ((old : M) (r : PlainRequest) (reply : PlainReply)
+        (new : M) → M.Answers old r reply new → holds old ≡ true → holds new ≡ true)
+        → (items : List Item) (old : M) (output : List ℕ) (new : M)
+        → Told M.Answers items old output new → holds old ≡ true → holds new ≡ true }
+    ensures backwards { (holds : M → Bool) → ((old : M) (r : PlainRequest) (reply : PlainReply)
+        (new : M) → M.Answers old r reply new → holds new ≡ true → holds old ≡ true)
+        → (items : List Item) (old : M) (output : List ℕ) (new : M)
+        → Told M.Answers items old output new → holds new ≡ true → holds old ≡ true }
 {}

@@ -22,7 +22,7 @@ pub use connection::{End, MAX_MESSAGES, Machine, ServeFault, Served, serve};
 pub use draining::drain;
 pub use form::Form;
 pub use framing::Fault;
-pub use laws::{front_of_messages, one_reading};
+pub use laws::{front_of_messages, one_reading, runs_are_carried, runs_keep};
 pub use replies::{Content, Payload, Reply, fault_reply, fixed_reply, unavailable};
 pub use request::Request;
 pub use statuses::Status;

@@ -1,5 +1,5 @@
 use Rattle.office_files.proofs.FirstFaultLaws.{instance_first, instance_faultless}
-use Rattle.office_files.proofs.ReaderLaws.{instance_reading, instance_only, instance_one}
+use Rattle.office_files.proofs.ReaderLaws.{instance_reading, instance_only, instance_one, instance_fits}
 use Rattle.office_files.proofs.instance_reader.read_instance.Goals as goal
 
 pub returns-clause-reading : goal.returns-clause-reading
@@ -16,3 +16,6 @@ returns-clause-first c = instance_first (λ r. (r.0, r.1)) c.args.source.now c.i
 
 pub returns-clause-faultless : goal.returns-clause-faultless
 returns-clause-faultless c = instance_faultless (λ r. (r.0, r.1)) c.args.source.now c.instance_in.result c.instance_in.ensures.exact
+
+pub returns-clause-fits : goal.returns-clause-fits
+returns-clause-fits c = instance_fits (λ r. (r.0, r.1)) c.args.source.now c.instance_in.result c.instance_in.ensures.exact
