@@ -234,6 +234,8 @@ CASES = [
     on_terminal(load("a small instance", "small.db", "small.exam", 4, 6, 4, 2)),
     on_terminal(load("a large instance", "large.db", "at_limit.exam", 4, 6, 4, 2),
                 b"loading at_limit.exam"),
+    on_terminal(unloaded("a load into a large database", "large.db", "small.exam",
+                         b"store fault 1"), b"opening large.db"),
     on_terminal(unexported("an export of a small database", "small.db", b"no publication")),
     on_terminal(unexported("an export of a large database", "large.db", b"no publication"),
                 b"opening large.db"),

@@ -94,6 +94,7 @@ fn load_text<'a, W: Write>(
         PrintsCounts text.now (W.contents out.old) (W.contents out.new)) }
     ensures fault { IfErr result (IsOfOffice text.now) }
 {
+    tell(rt, LongWork::Opening(database));
     let conn = match Connection::open(rt, database) {
         Ok(conn) => conn,
         Err(error) => return Err(fault_of_open(error)),
