@@ -131,6 +131,7 @@ export async function shown(words, work) {
     byId('status').textContent = '';
     byId('error').replaceChildren(element('p', {}, refusal instanceof Refusal ? refusal.message
       : 'Something went wrong on this page. Please reload it.'), elsewhere(refusal) ?? '');
+    byId('error').scrollIntoView({ block: 'nearest' });
   }
   document.body.removeAttribute('aria-busy');
 }

@@ -76,8 +76,10 @@ async function load() {
   if (again) await open(again);
   byId('detail').hidden = !again;
   const found = office.timetables.filter(({ number }) => number).length;
-  return `${published ? 'One timetable is published' : 'Nothing is published'}; ${
-    found ? count(found, 'draft') : 'there is no draft'}.`;
+  const drafted = found ? count(found, 'draft') : 'no draft';
+  if (!office.mayPublish) return `You see ${drafted}.`;
+  return `${published ? 'One timetable is published' : 'Nothing is published yet'}, and there ${
+    found > 1 ? 'are' : 'is'} ${drafted}.`;
 }
 
 // ---- The overview
@@ -98,13 +100,14 @@ function card(timetable, most) {
   const title = `card-${number ?? 'published'}`;
   const rows = penalty.parts.map(([part, points]) => element('tr', {},
     element('th', { scope: 'row' }, part), element('td', {}, bar(points, most)), element('td', {}, points)));
-  const show = element('button', { type: 'button', 'aria-describedby': title, 'data-of': name }, 'Show rooms');
+  const show = element('button', { type: 'button', 'aria-describedby': title, 'data-of': name }, 'Details');
   show.addEventListener('click', () => shown(`Opening ${name} …`, async () => {
     await open(timetable);
     byId('detail-title').focus();
     return `${name} is shown.`;
   }));
   const publish = element('button', { type: 'button', class: 'main', 'aria-describedby': title }, 'Publish …');
+  publish.disabled = breaches.length > 0;
   publish.addEventListener('click', () => confirmed(timetable));
   return element('article', { class: 'card', 'aria-labelledby': title },
     element('h3', { id: title }, name, element('span', { class: 'total' }, count(penalty.total, 'point'))),
@@ -214,7 +217,8 @@ async function publish(number) {
     throw refusal;
   }
   await load();
-  return `Draft ${told.draft} is published; the seats of ${count(told.changed, 'candidate')} changed.`;
+  byId('status').focus();
+  return `Draft ${told.draft} is published; the seats of ${count(told.changed, 'candidate')} have changed.`;
 }
 
 const refresh = () => shown('Loading the timetables …', load);
