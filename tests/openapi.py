@@ -41,8 +41,7 @@ def block(lines):
     while lines and lines[0][0] == depth and lines[0][1].startswith("- ") == is_list:
         text = lines[0][1]
         if is_list:
-            is_map = not text.startswith("- {")
-            if is_map:
+            if ": " in text and not text.startswith("- {"):
                 item, lines = block([(depth + 2, text[2:]), *lines[1:]])
             else:
                 item, lines = scalar(text[2:]), lines[1:]
