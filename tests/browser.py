@@ -1,6 +1,7 @@
 """Chromium, driven over HTTP by Debian's chromedriver as the WebDriver standard has it."""
 import base64
 import json
+import os
 import pathlib
 import shutil
 import socket
@@ -11,6 +12,8 @@ import urllib.request
 
 SECONDS = 30
 NEEDED = ("chromium", "chromedriver")
+# Where the browsers are: a page that took its days to be of a zone would be hours off.
+ZONE = "America/New_York"
 ELEMENT = "element-6066-11e4-a52e-4f735466cecf"
 
 
@@ -44,7 +47,7 @@ class Driver:
         self.url = f"http://127.0.0.1:{free_port()}"
         self.process = subprocess.Popen(
             ["chromedriver", f"--port={self.url.rpartition(':')[2]}"], stdin=subprocess.DEVNULL,
-            stdout=subprocess.DEVNULL, stderr=subprocess.DEVNULL)
+            stdout=subprocess.DEVNULL, stderr=subprocess.DEVNULL, env={**os.environ, "TZ": ZONE})
         until("chromedriver answers", self.answers)
 
     def answers(self):
@@ -111,7 +114,8 @@ class Browser:
         try:
             return until(script, lambda: self.run(script, *args))
         except TimeoutError as late:
-            raise TimeoutError(f"{late}; the page has {self.run('return document.body.innerText')!r}")
+            page = self.run("return document.body.innerText")
+            raise TimeoutError(f"{late}; the page has {page!r}") from None
 
     def text(self, selector):
         return self.run("return document.querySelector(arguments[0]).innerText", selector)

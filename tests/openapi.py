@@ -1,9 +1,9 @@
 #!/usr/bin/env python3
 """openapi.py: docs/openapi.yaml says what the routes and docs/FORMATS.md say, no more and no less.
 
-Paths, methods, callers, statuses and errors are compared; a difference is printed, and the last line
-counts what was compared. For other tests `Described` judges an exchange by that file: whether it has
-the request, and the reply's status, type and body.
+Paths, methods, callers, statuses and errors are compared; a difference is printed, and the last
+line counts what was compared. For other tests `Described` judges an exchange by that file: whether
+it has the request, and the reply's status, type and body.
 """
 import json
 import pathlib
@@ -134,7 +134,8 @@ class Described:
         return self.unlike_members(value, schema) if isinstance(value, dict) else None
 
     def unlike_members(self, value, schema):
-        missing, more = (set(schema["required"]) - set(value), set(value) - set(schema["properties"]))
+        missing = set(schema["required"]) - set(value)
+        more = set(value) - set(schema["properties"])
         if missing or more:
             return f"without {sorted(missing)}, with {sorted(more)}"
         return next(filter(None, (self.unlike(value[name], schema["properties"][name])
@@ -170,7 +171,7 @@ def formats():
         if len(cells) >= 3 and paths:
             may.update((path, (set(cells[1].split(", ")), cells[2].strip())) for path in paths)
         elif len(cells) == 3 and re.match(r"\d{3}$", cells[1]) and '"error"' in cells[2]:
-            errors = re.findall(r'"error":"([\w-]+)"', cells[2]) + re.findall(r"`([\w-]+)`", cells[2])
+            errors = re.findall(r'(?:"error":"|`)([\w-]+)["`]', cells[2])
             refusals |= {(cells[1], error) for error in errors}
         elif len(cells) == 3 and re.match(r"\d{3}", cells[1]):
             answers |= set(re.findall(r"\d{3}", cells[1]))
@@ -179,14 +180,16 @@ def formats():
     return may, refusals, answers
 
 
-def named_errors(described, schema):
+def named_errors(described, response):
+    schema = described.at(response)["content"]["application/json"]["schema"]
     return described.at(schema)["properties"]["error"]["enum"]
 
 
 def differences(described):
-    """Each thing that is compared: its name, what the page or the routes have, what the file has."""
+    """Each comparison: its name, what the page or the routes have, what the file has."""
     paths = described.whole["paths"]
-    methods = {path: {verb.upper() for verb in page if verb in VERBS} for path, page in paths.items()}
+    methods = {path: {verb.upper() for verb in page if verb in VERBS}
+               for path, page in paths.items()}
     yield "paths and methods of the routes", routes(), methods
     may, refusals, answers = formats()
     yield "paths and methods of FORMATS.md", {path: row[0] for path, row in may.items()}, methods
@@ -204,11 +207,11 @@ def differences(described):
     for operation in operations.values():
         for status, response in operation["responses"].items():
             if status >= "400":
-                errors.setdefault(status, set()).update(response["description"].split(", "))
-                content = described.at(response)["content"]["application/json"]["schema"]
-                for error in response["description"].split(", "):
-                    yield f"{status} {error} is an error", True, error in named_errors(described, content)
-    errors["405"] = set(named_errors(described, shared["NoMethod"]["content"]["application/json"]["schema"]))
+                named = set(response["description"].split(", "))
+                errors.setdefault(status, set()).update(named)
+                unknown = named - set(named_errors(described, response))
+                yield f"errors of {status} that its schema lacks", set(), unknown
+    errors["405"] = set(named_errors(described, shared["NoMethod"]))
     yield "refusals", refusals, {(status, error) for status in errors for error in errors[status]}
 
 

@@ -1,12 +1,12 @@
 #!/usr/bin/env python3
-"""run_using.py PROGRAM [PAGE..]: what USING.md and OPERATING.md tell the reader to type answers what
-they say.
+"""run_using.py PROGRAM [PAGE..]: what USING.md and OPERATING.md tell the reader to type answers
+what they say.
 
-A page's blocks of commands are typed into one shell, in a fresh folder that has the examples and the
-program, and what each prints is held against the block below it, byte for byte; but for the port, which
-is a free one, and for the line end behind a reply that has none. Each request has to stand in
-docs/openapi.yaml, with its status and type. A failing block is printed with what was expected and what
-came, and the last line counts the blocks.
+A page's blocks of commands are typed into one shell, in a fresh folder that has the examples and
+the program, and what each prints is held against the block below it, byte for byte; but for the
+port, which is a free one, and for the line end behind a reply that has none. Each request has to
+stand in docs/openapi.yaml, with its status and type. A failing block is printed with what was
+expected and what came, and the last line counts the blocks.
 """
 import os
 import pathlib
@@ -52,7 +52,8 @@ class Shell:
         came, end = b"", time.monotonic() + SECONDS
         late = expected.encode() if " &\n" in commands else b""
         while END not in came or len(came) <= len(late):
-            ready, _, _ = select.select([self.process.stdout], [], [], max(0, end - time.monotonic()))
+            left = max(0, end - time.monotonic())
+            ready, _, _ = select.select([self.process.stdout], [], [], left)
             part = os.read(self.process.stdout.fileno(), 65_536) if ready else b""
             if not part:
                 break
@@ -96,7 +97,7 @@ def main():
             blocks, wrong = judged(page, shell, str(free_port()))
             described = Described()
             exchanges = list(shell.ended())
-        faults = [fault for fault in (described.fault(*exchange) for exchange in exchanges) if fault]
+        faults = [*filter(None, (described.fault(*exchange) for exchange in exchanges))]
         for fault in faults:
             print(f"using: {page.name}: not in docs/openapi.yaml: {fault}")
         count, failed, asked = count + blocks, failed + wrong + len(faults), asked + len(exchanges)
