@@ -1,5 +1,7 @@
 // What both pages share: asking the office, its refusals in words, dates in the reader's language.
 
+const NO_CONNECTION = 'There is no connection to the office. Please try again in a minute.';
+
 const RULES = {
   Duration: (e) => `Exam ${e} takes more minutes than its period has.`,
   Clash: (e, o) => `Exams ${e} and ${o} are in one period, and a candidate sits both.`,
@@ -30,7 +32,8 @@ const REFUSALS = {
   'not-loaded': 'No session is loaded yet.',
   length: 'This is longer than the office takes.',
   often: 'Too much was asked in a short time. Please wait a moment, and try again.',
-  unavailable: 'The office cannot answer at the moment, and nothing was changed. Please try again in a minute.',
+  unavailable: 'The office cannot answer at the moment, and nothing was changed.'
+    + ' Please try again in a minute.',
 };
 
 export function ruleInWords(rule, exam, other) {
@@ -48,7 +51,7 @@ function inWords(status, told) {
 /** A refusal of the office, or no answer at all (status 0); its message is for the reader. */
 export class Refusal extends Error {
   constructor(status, told) {
-    super(status ? inWords(status, told) : 'There is no connection to the office. Please try again in a minute.');
+    super(status ? inWords(status, told) : NO_CONNECTION);
     this.status = status;
     this.error = told.error;
     this.rule = told.rule;
@@ -84,7 +87,8 @@ const language = navigator.languages?.length ? [...navigator.languages] : undefi
 
 function formatted(options) {
   const format = new Intl.DateTimeFormat(language, options);
-  return Object.assign((moment) => format.format(moment), { language: format.resolvedOptions().locale });
+  const { locale } = format.resolvedOptions();
+  return Object.assign((moment) => format.format(moment), { language: locale });
 }
 
 // A day and a time of the office's have no zone: they are told as they stand.
@@ -102,15 +106,24 @@ export const dayInShort = (date) => timed(shortDay, date, new Date(`${date}T00:0
 export const time = (start) => timed(shortTime, start, new Date(`2000-01-01T${start}Z`));
 export const moment = (date) => timed(now, date.toISOString(), date);
 
-/** An element with attributes and children; a child that is null or false is left out. */
+const isThere = (it) => it !== null && it !== undefined && it !== false;
+
+/** An element; attributes and children that are null or false are left out. */
 export function element(name, attributes = {}, ...children) {
   const made = document.createElement(name);
   for (const [key, value] of Object.entries(attributes)) {
-    if (value !== null && value !== undefined && value !== false) made.setAttribute(key, value);
+    if (isThere(value)) made.setAttribute(key, value);
   }
-  made.append(...children.flat().filter((child) => child !== null && child !== undefined && child !== false));
+  made.append(...children.flat().filter(isThere));
   return made;
 }
+
+export const row = (...cells) => element('tr', {}, ...cells);
+export const cell = (...children) => element('td', {}, ...children);
+export const rowHead = (...children) => element('th', { scope: 'row' }, ...children);
+export const columnHead = (...children) => element('th', { scope: 'col' }, ...children);
+export const small = (...children) => element('span', {}, ...children);
+export const unseen = (name, text) => element(name, { class: 'unseen' }, text);
 
 export const byId = (id) => document.getElementById(id);
 
@@ -129,8 +142,9 @@ export async function shown(words, work) {
   } catch (refusal) {
     if (!(refusal instanceof Refusal)) console.error(refusal);
     byId('status').textContent = '';
-    byId('error').replaceChildren(element('p', {}, refusal instanceof Refusal ? refusal.message
-      : 'Something went wrong on this page. Please reload it.'), elsewhere(refusal) ?? '');
+    const told = refusal instanceof Refusal ? refusal.message
+      : 'Something went wrong on this page. Please reload it.';
+    byId('error').replaceChildren(element('p', {}, told), elsewhere(refusal) ?? '');
     byId('error').scrollIntoView({ block: 'nearest' });
   }
   document.body.removeAttribute('aria-busy');
@@ -138,7 +152,7 @@ export async function shown(words, work) {
 
 // Where the reader has a page of her own.
 function elsewhere({ rule }) {
-  if (rule === 'P1') return element('p', {}, element('a', { href: 'candidate.html' }, 'Your examinations'));
-  if (rule === 'P4') return element('p', {}, element('a', { href: 'registry.html' }, 'The timetables'));
-  return null;
+  const link = (href, words) => element('p', {}, element('a', { href }, words));
+  if (rule === 'P1') return link('candidate.html', 'Your examinations');
+  return rule === 'P4' ? link('registry.html', 'The timetables') : null;
 }

@@ -1,5 +1,9 @@
-// The registry's page: what is published and the drafts, their penalties and violations, rooms by period.
-import { Refusal, ask, askOr, byId, count, dayInShort, element, ruleInWords, shown, time } from './office.js';
+// The registry's page: what is published and the drafts, with their penalties and violations, and
+// rooms by period.
+import {
+  Refusal, ask, askOr, byId, cell, columnHead, count, dayInShort, element, row, rowHead, ruleInWords,
+  shown, small, time, unseen,
+} from './office.js';
 
 // The office lists no drafts, and takes eight at most.
 const DRAFTS = [1, 2, 3, 4, 5, 6, 7, 8];
@@ -12,7 +16,8 @@ const office = { timetables: [], session: null, open: null, mayPublish: true };
 /** The lines of a penalty report: names and numbers. */
 function penaltyIn(report) {
   const lines = report.trimEnd().split('\n').map((line) => line.match(/^(.*) (\d+)$/));
-  const parts = lines.map(([, name, points]) => [name[0].toUpperCase() + name.slice(1), Number(points)]);
+  const capital = (name) => name[0].toUpperCase() + name.slice(1);
+  const parts = lines.map(([, name, points]) => [capital(name), Number(points)]);
   return { parts: parts.slice(0, -1), total: parts.at(-1)[1] };
 }
 
@@ -23,11 +28,11 @@ function breachesIn(report) {
 
 /** Of a session: the candidates of each exam, the periods and the rooms. */
 function sessionIn(text) {
-  const sections = text.split(/^\[.*\]\r\n/m).slice(1).map((section) => section.split('\r\n').slice(0, -1)
-    .map((line) => line.split(',').map((field) => field.trim())));
-  const [exams, periods, rooms] = sections;
+  const fields = (line) => line.split(',').map((field) => field.trim());
+  const lines = (section) => section.split('\r\n').slice(0, -1).map(fields);
+  const [exams, periods, rooms] = text.split(/^\[.*\]\r\n/m).slice(1).map(lines);
   return {
-    sizes: exams.map((fields) => fields.length - 1),
+    sizes: exams.map((exam) => exam.length - 1),
     periods: periods.map(([date, start]) => ({ date: date.split(':').reverse().join('-'), start })),
     capacities: rooms.map(([capacity]) => Number(capacity)),
   };
@@ -69,7 +74,8 @@ async function orNothing(work) {
 
 async function load() {
   office.session = null;
-  const [published, ...drafts] = await Promise.all([orNothing(readPublished), ...DRAFTS.map(readDraft)]);
+  const reading = [orNothing(readPublished), ...DRAFTS.map(readDraft)];
+  const [published, ...drafts] = await Promise.all(reading);
   office.timetables = [published, ...drafts].filter((timetable) => timetable !== null);
   showOverview();
   const again = office.timetables.find(({ name }) => name === office.open) ?? office.timetables[0];
@@ -92,29 +98,39 @@ function bar(points, most) {
 
 function verdict({ breaches, number }) {
   if (!number) return 'What candidates see';
-  return breaches.length ? `Breaks rules: ${count(breaches.length, 'violation')}` : 'Breaks no rule';
+  if (!breaches.length) return 'Breaks no rule';
+  return `Breaks rules: ${count(breaches.length, 'violation')}`;
+}
+
+function button(title, words, more, act) {
+  const made = element('button', { type: 'button', 'aria-describedby': title, ...more }, words);
+  made.addEventListener('click', act);
+  return made;
+}
+
+function bars({ name, penalty }, most) {
+  const rows = penalty.parts.map(([part, points]) => row(
+    rowHead(part), cell(bar(points, most)), cell(points)));
+  return element('table', { class: 'bars' }, unseen('caption', `Penalty of ${name}, by part`),
+    element('tbody', {}, rows));
 }
 
 function card(timetable, most) {
   const { name, penalty, breaches, number } = timetable;
   const title = `card-${number ?? 'published'}`;
-  const rows = penalty.parts.map(([part, points]) => element('tr', {},
-    element('th', { scope: 'row' }, part), element('td', {}, bar(points, most)), element('td', {}, points)));
-  const show = element('button', { type: 'button', 'aria-describedby': title, 'data-of': name }, 'Details');
-  show.addEventListener('click', () => shown(`Opening ${name} …`, async () => {
-    await open(timetable);
-    byId('detail-title').focus();
-    return `${name} is shown.`;
-  }));
-  const publish = element('button', { type: 'button', class: 'main', 'aria-describedby': title }, 'Publish …');
-  publish.disabled = breaches.length > 0;
-  publish.addEventListener('click', () => confirmed(timetable));
+  const show = button(title, 'Details', { 'data-of': name }, () => shown(`Opening ${name} …`,
+    async () => {
+      await open(timetable);
+      byId('detail-title').focus();
+      return `${name} is shown.`;
+    }));
+  const publishing = button(title, 'Publish …', { class: 'main' }, () => confirmed(timetable));
+  publishing.disabled = breaches.length > 0;
   return element('article', { class: 'card', 'aria-labelledby': title },
-    element('h3', { id: title }, name, element('span', { class: 'total' }, count(penalty.total, 'point'))),
-    element('table', { class: 'bars' }, element('caption', { class: 'unseen' }, `Penalty of ${name}, by part`),
-      element('tbody', {}, rows)),
+    element('h3', { id: title }, name, small(count(penalty.total, 'point'))),
+    bars(timetable, most),
     element('p', { class: breaches.length ? 'verdict broken' : 'verdict' }, verdict(timetable)),
-    element('div', { class: 'buttons' }, show, number && office.mayPublish && publish));
+    element('div', { class: 'buttons' }, show, number && office.mayPublish && publishing));
 }
 
 function showOverview() {
@@ -128,10 +144,9 @@ function showOverview() {
 
 async function open(timetable) {
   const { name, number } = timetable;
-  const [places] = await Promise.all([
-    number ? ask(`/drafts/${number}`).then(({ exams }) => exams) : ask('/publication').then(placesIn),
-    office.session ?? orNothing(async () => { office.session = sessionIn(await ask('/instance')); }),
-  ]);
+  const places = number ? (await ask(`/drafts/${number}`)).exams
+    : placesIn(await ask('/publication'));
+  office.session ??= await orNothing(async () => sessionIn(await ask('/instance')));
   office.open = name;
   byId('detail-title').textContent = name;
   showViolations(timetable);
@@ -147,7 +162,8 @@ function showViolations({ breaches, number }) {
   const items = breaches.slice(0, MOST_SHOWN).map(([rule, exam, other]) => element('li', {},
     element('b', {}, rule), ' ', ruleInWords(rule, exam, other)));
   const more = breaches.length - MOST_SHOWN;
-  const title = element('h3', {}, breaches.length ? count(breaches.length, 'violation') : 'No violation');
+  const found = breaches.length ? count(breaches.length, 'violation') : 'No violation';
+  const title = element('h3', {}, found);
   byId('violations').replaceChildren(...(number ? [title] : []),
     ...(items.length ? [element('ul', { class: 'violations' }, items)] : []),
     ...(more > 0 ? [element('p', { class: 'quiet' }, `and ${more} more.`)] : []));
@@ -156,55 +172,69 @@ function showViolations({ breaches, number }) {
 function showUnplaced(exams) {
   const named = exams.slice(0, MOST_SHOWN).map(({ exam }) => exam).join(', ');
   const more = exams.length > MOST_SHOWN ? ' and others' : '';
-  byId('unplaced').textContent = exams.length ? `Without a place: ${count(exams.length, 'exam')} (${named}${more}).` : '';
+  const words = `Without a place: ${count(exams.length, 'exam')} (${named}${more}).`;
+  byId('unplaced').textContent = exams.length ? words : '';
 }
 
-const upTo = (most) => Array.from({ length: most + 1 }, (_, number) => number);
+// Numbers from 0: all of the session's, or those up to the greatest that is used, for whoever may
+// not see the session.
+function numbers(all, used) {
+  const length = all?.length ?? Math.max(-1, ...used) + 1;
+  return Array.from({ length }, (_, number) => number);
+}
 
 function showGrid(places, name) {
+  const { session } = office;
   const at = new Map();
   for (const { exam, period, room } of places) {
     const key = `${period} ${room}`;
     at.set(key, [...(at.get(key) ?? []), exam]);
   }
-  // Whoever may not see the session sees the periods and rooms that are used.
-  const { session } = office;
-  const periods = session ? [...session.periods.keys()] : upTo(Math.max(-1, ...places.map(({ period }) => period)));
-  const rooms = session ? [...session.capacities.keys()] : upTo(Math.max(-1, ...places.map(({ room }) => room)));
-  const head = element('tr', {}, element('th', { scope: 'col' }, 'Period'), rooms.map((room) => element('th',
-    { scope: 'col' }, `Room ${room}`, session && element('span', {}, count(session.capacities[room], 'seat')))));
-  const body = periods.map((period) => element('tr', {}, periodHeading(period, session?.periods[period]),
+  const periods = numbers(session?.periods, places.map(({ period }) => period));
+  const rooms = numbers(session?.capacities, places.map(({ room }) => room));
+  const body = periods.map((period) => row(periodHead(period, session?.periods[period]),
     rooms.map((room) => placed(at.get(`${period} ${room}`), session, room))));
-  byId('grid').replaceChildren(element('caption', { class: 'unseen' }, `Exams of ${name} by period and room`),
-    element('thead', {}, head), element('tbody', {}, body));
+  byId('grid').replaceChildren(unseen('caption', `Exams of ${name} by period and room`),
+    element('thead', {}, row(columnHead('Period'), rooms.map((room) => roomHead(room, session)))),
+    element('tbody', {}, body));
 }
 
-function periodHeading(period, when) {
-  return element('th', { scope: 'row' }, `Period ${period}`,
-    when && element('span', {}, dayInShort(when.date), ', ', time(when.start)));
+function roomHead(room, session) {
+  return columnHead(`Room ${room}`, session && small(count(session.capacities[room], 'seat')));
+}
+
+function periodHead(period, when) {
+  return rowHead(`Period ${period}`,
+    when && small(dayInShort(when.date), ', ', time(when.start)));
 }
 
 function placed(exams, session, room) {
-  if (!exams) return element('td', { class: 'free' }, element('span', { class: 'unseen' }, 'free'));
-  const used = session ? exams.reduce((sum, exam) => sum + session.sizes[exam], 0) : null;
-  const isOver = session && used > session.capacities[room];
-  return element('td', { class: isOver ? 'over' : null }, element('b', {}, `${exams.length > 1 ? 'Exams' : 'Exam'} ${
-    exams.join(', ')}`), session && element('span', {}, `${used} of ${session.capacities[room]}`));
+  if (!exams) return cell(unseen('span', 'free'));
+  const named = element('b', {}, `${exams.length > 1 ? 'Exams' : 'Exam'} ${exams.join(', ')}`);
+  if (!session) return cell(named);
+  const used = exams.reduce((sum, exam) => sum + session.sizes[exam], 0);
+  const capacity = session.capacities[room];
+  return element('td', { class: used > capacity ? 'over' : null }, named,
+    small(`${used} of ${capacity}`));
 }
 
 // ---- Publishing
+
+const FIRST = 'All candidates get seats, and see the timetable at once.';
+const AGAIN = 'It takes the place of what is published, and all candidates see it at once. '
+  + 'Whoever stays in her room and period keeps her seat.';
 
 function confirmed(timetable) {
   const { name, number } = timetable;
   const isFirst = !office.timetables.some((other) => !other.number);
   byId('confirm-title').textContent = `Publish draft ${number}?`;
-  byId('confirm-words').textContent = `${isFirst ? 'All candidates get seats, and see'
-    : 'It takes the place of what is published, and all candidates see'} it at once. ${
-    isFirst ? '' : 'Whoever stays in her room and period keeps her seat. '}This cannot be taken back.`;
+  byId('confirm-words').textContent = `${isFirst ? FIRST : AGAIN} This cannot be taken back.`;
   byId('confirm-yes').textContent = `Publish draft ${number}`;
   const dialog = byId('confirm');
   dialog.returnValue = 'no';
-  dialog.onclose = () => dialog.returnValue === 'yes' && shown(`Publishing ${name} …`, () => publish(number));
+  dialog.onclose = () => {
+    if (dialog.returnValue === 'yes') shown(`Publishing ${name} …`, () => publish(number));
+  };
   dialog.showModal();
 }
 
@@ -213,12 +243,15 @@ async function publish(number) {
   try {
     told = await ask(`/drafts/${number}/publish`, 'POST');
   } catch (refusal) {
-    if (refusal instanceof Refusal) refusal.message = `Draft ${number} was not published. ${refusal.message}`;
+    if (refusal instanceof Refusal) {
+      refusal.message = `Draft ${number} was not published. ${refusal.message}`;
+    }
     throw refusal;
   }
   await load();
   byId('status').focus();
-  return `Draft ${told.draft} is published; the seats of ${count(told.changed, 'candidate')} have changed.`;
+  const candidates = count(told.changed, 'candidate');
+  return `Draft ${told.draft} is published; the seats of ${candidates} have changed.`;
 }
 
 const refresh = () => shown('Loading the timetables …', load);
