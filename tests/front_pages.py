@@ -91,8 +91,8 @@ def registrys_page(run, driver, front):
                   reader.run("return document.activeElement.id"))
         head, *rows = reader.run(CELLS, "#grid tr")
         run.judge("the rooms", ["Period", "Room 0\n3 seats", "Room 1\n2 seats"], head)
-        run.judge("rooms by period", [["free", "free"], ["Exam 1\n2 of 3", "free"],
-                                      ["Exam 3\n1 of 3", "free"],
+        run.judge("rooms by period", [["", ""], ["Exam 1\n2 of 3", ""],
+                                      ["Exam 3\n1 of 3", ""],
                                       ["Exam 0\n2 of 3", "Exam 2\n1 of 2"]],
                   [row[1:] for row in rows])
         run.judge("the periods", [f"Period {number}" for number in range(4)],

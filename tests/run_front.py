@@ -200,6 +200,19 @@ def described_exchanges(run, front):
     run.judge("exchanges that docs/openapi.yaml has", (set(), True), (faults, len(exchanges) > 100))
 
 
+def before_the_office(run, front):
+    """All that is asked over raw sockets."""
+    for question, answer in MADE:
+        run.judge("the start", answer, front.told(question))
+    who_asks_and_what(run, front)
+    what_passes(run, run.folder)
+    waits_for_no_body(run, front)
+    many_at_once(run, front)
+    slow_ones(run, front)
+    too_often(run, front)
+    no_office(run)
+
+
 def main():
     words = argparse.ArgumentParser(description=__doc__.partition("\n")[0])
     words.add_argument("program")
@@ -211,21 +224,16 @@ def main():
     with tempfile.TemporaryDirectory() as folder:
         run = Run(pathlib.Path(given.program).resolve(), folder, "front")
         office = run.office()
-        front = Front(folder, office.port, client_seconds=2)
-        for question, answer in MADE:
-            run.judge("the start", answer, front.told(question))
-        who_asks_and_what(run, front)
-        what_passes(run, run.folder)
-        waits_for_no_body(run, front)
-        many_at_once(run, front)
-        slow_ones(run, front)
-        too_often(run, front)
-        described_exchanges(run, front)
-        no_office(run)
-        front_pages.judge(run, front, office, given.pictures)
-        described_exchanges(run, front)
-        front.stop()
-        office.killed()
+        try:
+            front = Front(folder, office.port, client_seconds=2)
+            try:
+                before_the_office(run, front)
+                front_pages.judge(run, front, office, given.pictures)
+                described_exchanges(run, front)
+            finally:
+                front.stop()
+        finally:
+            office.killed()
     print(f"front: {run.count} cases, {run.failed} failed")
     return 1 if run.failed else 0
 

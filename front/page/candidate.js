@@ -1,5 +1,7 @@
 // A candidate's page: her examinations by date, and what they cost her.
-import { ask, byId, cell, count, day, element, row, rowHead, shown, time } from './office.js';
+import {
+  ask, byId, cell, count, day, element, numeral, row, rowHead, shown, time,
+} from './office.js';
 
 const STATES = { seated: 'Seat assigned', pending: 'Seat to follow', withdrawn: 'Withdrawn' };
 
@@ -67,14 +69,14 @@ function costInWords(cost, isSeated) {
 }
 
 function partOf(cost, [part, name, why]) {
-  return row(rowHead(name, element('span', { class: 'why' }, why)), cell(cost[part]));
+  return row(rowHead(name, element('span', { class: 'why' }, why)), cell(numeral(cost[part])));
 }
 
 function showCost(cost, exams) {
   const isSeated = exams.some((exam) => exam.seat !== null);
   byId('cost-words').textContent = costInWords(cost, isSeated);
   byId('cost-parts').tBodies[0].replaceChildren(...PARTS.map((part) => partOf(cost, part)),
-    element('tr', { class: 'total' }, rowHead('Together'), cell(cost.penalty)));
+    element('tr', { class: 'total' }, rowHead('Together'), cell(numeral(cost.penalty))));
   byId('cost-parts').hidden = !cost.penalty;
   byId('cost').hidden = exams.length === 0;
 }

@@ -127,8 +127,12 @@ export const unseen = (name, text) => element(name, { class: 'unseen' }, text);
 
 export const byId = (id) => document.getElementById(id);
 
+const numerals = new Intl.NumberFormat(language);
+
+export const numeral = (number) => numerals.format(number);
+
 export function count(number, one, many = `${one}s`) {
-  return `${number} ${number === 1 ? one : many}`;
+  return `${numeral(number)} ${number === 1 ? one : many}`;
 }
 
 /** Does the work, and shows what it is about, or why it could not be done. */

@@ -1,8 +1,8 @@
 // The registry's page: what is published and the drafts, with their penalties and violations, and
 // rooms by period.
 import {
-  Refusal, ask, askOr, byId, cell, columnHead, count, dayInShort, element, row, rowHead, ruleInWords,
-  shown, small, time, unseen,
+  Refusal, ask, askOr, byId, cell, columnHead, count, dayInShort, element, numeral, row, rowHead,
+  ruleInWords, shown, small, time, unseen,
 } from './office.js';
 
 // The office lists no drafts, and takes eight at most.
@@ -110,7 +110,7 @@ function button(title, words, more, act) {
 
 function bars({ name, penalty }, most) {
   const rows = penalty.parts.map(([part, points]) => row(
-    rowHead(part), cell(bar(points, most)), cell(points)));
+    rowHead(part), cell(bar(points, most)), cell(numeral(points))));
   return element('table', { class: 'bars' }, unseen('caption', `Penalty of ${name}, by part`),
     element('tbody', {}, rows));
 }
@@ -194,6 +194,7 @@ function showGrid(places, name) {
   const rooms = numbers(session?.capacities, places.map(({ room }) => room));
   const body = periods.map((period) => row(periodHead(period, session?.periods[period]),
     rooms.map((room) => placed(at.get(`${period} ${room}`), session, room))));
+  byId('grid').style.minInlineSize = `${11 + 9 * rooms.length}rem`;
   byId('grid').replaceChildren(unseen('caption', `Exams of ${name} by period and room`),
     element('thead', {}, row(columnHead('Period'), rooms.map((room) => roomHead(room, session)))),
     element('tbody', {}, body));
@@ -209,7 +210,7 @@ function periodHead(period, when) {
 }
 
 function placed(exams, session, room) {
-  if (!exams) return cell(unseen('span', 'free'));
+  if (!exams) return cell();
   const named = element('b', {}, `${exams.length > 1 ? 'Exams' : 'Exam'} ${exams.join(', ')}`);
   if (!session) return cell(named);
   const used = exams.reduce((sum, exam) => sum + session.sizes[exam], 0);
