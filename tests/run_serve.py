@@ -114,8 +114,8 @@ def in_one_piece(client, case):
 class Run:
     """The cases that were run, and how many failed."""
 
-    def __init__(self, program, folder):
-        self.program, self.folder = program, pathlib.Path(folder)
+    def __init__(self, program, folder, about="serve"):
+        self.program, self.folder, self.about = program, pathlib.Path(folder), about
         self.count = self.failed = 0
         self.loaded = {}
 
@@ -141,7 +141,7 @@ class Run:
         self.count += 1
         if expected != got:
             self.failed += 1
-            print(f"serve: {name}", f"  expected {shown(expected)}", f"  got      {shown(got)}",
+            print(f"{self.about}: {name}", f"  expected {shown(expected)}", f"  got      {shown(got)}",
                   sep="\n", flush=True)
 
 

@@ -1,0 +1,147 @@
+"""Chromium, driven over HTTP by Debian's chromedriver as the WebDriver standard has it."""
+import base64
+import json
+import os
+import pathlib
+import shutil
+import socket
+import subprocess
+import time
+import urllib.error
+import urllib.request
+
+SECONDS = 30
+NEEDED = ("chromium", "chromedriver")
+# Where the browsers are: a page that took its days to be of a zone would be hours off.
+ZONE = "America/New_York"
+ELEMENT = "element-6066-11e4-a52e-4f735466cecf"
+
+
+def missing():
+    """Which of the programs aren't installed."""
+    return [name for name in NEEDED if not shutil.which(name)]
+
+
+def free_port():
+    with socket.socket() as one:
+        one.bind(("127.0.0.1", 0))
+        return one.getsockname()[1]
+
+
+def until(what, is_so):
+    """Waits until something is so."""
+    end = time.monotonic() + SECONDS
+    while time.monotonic() < end:
+        found = is_so()
+        if found:
+            return found
+        time.sleep(0.05)
+    raise TimeoutError(f"not within {SECONDS} s: {what}")
+
+
+class Driver:
+    """A running chromedriver."""
+
+    def __init__(self, folder):
+        self.folder, self.sessions = pathlib.Path(folder), 0
+        self.url = f"http://127.0.0.1:{free_port()}"
+        self.process = subprocess.Popen(
+            ["chromedriver", f"--port={self.url.rpartition(':')[2]}"], stdin=subprocess.DEVNULL,
+            stdout=subprocess.DEVNULL, stderr=subprocess.DEVNULL, env={**os.environ, "TZ": ZONE})
+        until("chromedriver answers", self.answers)
+
+    def answers(self):
+        try:
+            return self.ask("GET", "/status")["ready"]
+        except OSError:
+            return False
+
+    def ask(self, method, path, **words):
+        """What the driver answers; its refusals are errors of this program."""
+        body = json.dumps(words).encode() if method == "POST" else None
+        request = urllib.request.Request(self.url + path, body, method=method)
+        try:
+            with urllib.request.urlopen(request, timeout=SECONDS) as reply:
+                return json.load(reply)["value"]
+        except urllib.error.HTTPError as refusal:
+            raise RuntimeError(json.load(refusal)["value"]["message"]) from None
+
+    def ended(self):
+        self.process.terminate()
+        self.process.wait(SECONDS)
+
+
+class Browser:
+    """A browser of its own, with no cookie and no password of another."""
+
+    def __init__(self, driver, width=1200, height=900, language="en-GB", is_dark=False, ratio=1):
+        driver.sessions += 1
+        data = driver.folder / f"browser{driver.sessions}"
+        words = ["--headless=new", "--no-sandbox", "--disable-dev-shm-usage", "--disable-gpu",
+                 "--hide-scrollbars", f"--user-data-dir={data}", f"--lang={language}",
+                 "--host-resolver-rules=MAP * ~NOTFOUND, EXCLUDE 127.0.0.1"]
+        options = {"args": words, "binary": shutil.which("chromium"),
+                   "prefs": {"intl.accept_languages": language}}
+        wanted = {"goog:chromeOptions": options, "goog:loggingPrefs": {"browser": "ALL"}}
+        made = driver.ask("POST", "/session", capabilities={"alwaysMatch": wanted})
+        self.driver, self.path = driver, f"/session/{made['sessionId']}"
+        self.devtools("Emulation.setDeviceMetricsOverride", width=width, height=height,
+                      deviceScaleFactor=ratio, mobile=width < 600)
+        self.devtools("Emulation.setEmulatedMedia", features=[
+            {"name": "prefers-color-scheme", "value": "dark" if is_dark else "light"}])
+
+    def __enter__(self):
+        return self
+
+    def __exit__(self, *_):
+        self.driver.ask("DELETE", self.path)
+
+    def ask(self, method, path, **words):
+        return self.driver.ask(method, self.path + path, **words)
+
+    def devtools(self, command, **words):
+        return self.ask("POST", "/goog/cdp/execute", cmd=command, params=words)
+
+    def go(self, url):
+        self.ask("POST", "/url", url=url)
+
+    def run(self, script, *args):
+        """What the function body returns."""
+        return self.ask("POST", "/execute/sync", script=script, args=args)
+
+    def waits(self, script, *args):
+        """Runs the body again until what it returns is true of something."""
+        try:
+            return until(script, lambda: self.run(script, *args))
+        except TimeoutError as late:
+            page = self.run("return document.body.innerText")
+            raise TimeoutError(f"{late}; the page has {page!r}") from None
+
+    def text(self, selector):
+        return self.run("return document.querySelector(arguments[0]).innerText", selector)
+
+    def texts(self, selector):
+        return self.run("return [...document.querySelectorAll(arguments[0])].map(e => e.innerText)",
+                        selector)
+
+    def click(self, selector):
+        found = self.ask("POST", "/element", using="css selector", value=selector)
+        self.ask("POST", f"/element/{found[ELEMENT]}/click")
+
+    def press(self, *keys):
+        """Presses keys, one after another, wherever the focus is."""
+        pressed = [{"type": kind, "value": key} for key in keys for kind in ("keyDown", "keyUp")]
+        self.ask("POST", "/actions", actions=[{"type": "key", "id": "keys", "actions": pressed}])
+
+    def complaints(self):
+        """What the console was told, but of replies that are refusals."""
+        said = self.ask("POST", "/se/log", type="browser")
+        return [entry["message"] for entry in said if entry["source"] != "network"]
+
+    def picture(self, path):
+        """The whole page."""
+        height = self.run("return document.documentElement.scrollHeight")
+        width = self.run("return document.documentElement.clientWidth")
+        made = self.devtools("Page.captureScreenshot", format="png", captureBeyondViewport=True,
+                             clip={"x": 0, "y": 0, "width": width, "height": height, "scale": 1})
+        pathlib.Path(path).write_bytes(base64.b64decode(made["data"]))

@@ -1,0 +1,107 @@
+"""What users ask through the front, and what is answered: messages to nginx, who asks and what."""
+import base64
+
+from serve_cases import FIRST, SECOND, SOLUTION, cost, me, message, report
+
+BROKEN = b"3, 0\n1, 0\n3, 1\n2, 0\n"
+
+
+def password(user, word=None):
+    token = base64.b64encode(f"{user}:{word or 'try-' + user}".encode()).decode()
+    return f"Authorization: Basic {token}"
+
+
+def ask(user, method, path, body=b"", *fields):
+    """A message of a user, without any X-Caller."""
+    fields = [password(user), *fields] if user else fields
+    return message(method, path, body, None, fields)
+
+
+def parted(answer):
+    """Status and body of a reply of the office."""
+    head, _, body = answer.partition(b"\r\n\r\n")
+    return int(head.split()[1]), body
+
+
+def told_error(status, error, **more):
+    more = "".join(f',"{name}":"{word}"' for name, word in more.items())
+    return status, b'{"error":"%s"%s}' % (error.encode(), more.encode())
+
+
+# The small solution is draft 1 and published; draft 2 breaks a rule.
+MADE = [(ask("registry", "PUT", "/drafts/1", SOLUTION), (201, b'{"draft":1,"penalty":37}')),
+        (ask("registry", "POST", "/drafts/1/publish"),
+         (200, b'{"changed":3,"draft":1,"penalty":37}')),
+        (ask("registry", "PUT", "/drafts/2", BROKEN), (201, b'{"draft":2,"penalty":34}'))]
+FIRST_VIEW, SECOND_VIEW = parted(me(1, 6, *FIRST)), parted(me(2, 8, *SECOND))
+P1, P2, P4 = (told_error(403, "forbidden", rule=rule) for rule in ("P1", "P2", "P4"))
+REQUEST, CALLER, PATH = (told_error(status, error) for status, error in
+                         ((400, "request"), (400, "caller"), (404, "path")))
+CANDIDATE = ask("ada", "GET", "/me")
+
+
+def behind_line(field):
+    """Her message with a line that isn't ended as lines are."""
+    return CANDIDATE.replace(b"Host: office\r\n", b"Host: office\r\n" + field)
+
+
+# Who asks: the message, and what is answered.
+CALLERS = [
+    ("a candidate", CANDIDATE, FIRST_VIEW),
+    ("another one", ask("ben", "GET", "/me"), SECOND_VIEW),
+    ("a candidate's penalty", ask("ada", "GET", "/me/penalty"), parted(cost(0, 5, 1))),
+    ("another's exam", ask("ada", "GET", "/me/exam/1"), told_error(404, "exam")),
+    ("a candidate who asks for a draft", ask("ada", "GET", "/drafts/1"), P1),
+    ("the office", ask("registry", "GET", "/drafts/1/penalty"),
+     (200, report(7, 5, 3, 0, 0, 15, 7, 37).encode())),
+    ("the office asks as a candidate", ask("registry", "GET", "/me"), P4),
+    ("a department", ask("physics", "GET", "/drafts/2/violations"),
+     (200, b"breaches 1\nAfter 1 0\n")),
+    ("a department that publishes", ask("physics", "POST", "/drafts/1/publish"), P2),
+    ("a user who is nobody", ask("nobody", "GET", "/me"), CALLER),
+    ("X-Caller of the office", ask("ada", "GET", "/me", b"", "X-Caller: office"), FIRST_VIEW),
+    ("X-Caller of another", ask("ada", "GET", "/me", b"", "x-caller: cand:2"), FIRST_VIEW),
+    ("X-Caller for a draft", ask("ada", "GET", "/drafts/1", b"", "X-Caller: office"), P1),
+    ("two X-Callers", ask("ada", "GET", "/me", b"", "X-Caller: office", "X-Caller: cand:2"),
+     FIRST_VIEW),
+    ("X_Caller", ask("ada", "GET", "/me", b"", "X_Caller: office"), FIRST_VIEW),
+    ("X-Caller of nobody", ask("nobody", "GET", "/me", b"", "X-Caller: cand:1"), CALLER),
+    ("a bare LF before X-Caller", behind_line(b"A: b\nX-Caller: office\r\n"), FIRST_VIEW),
+    ("a bare LF behind X-Caller", behind_line(b"X-Caller: office\n"), FIRST_VIEW),
+    ("a bare CR before X-Caller", behind_line(b"A: b\rX-Caller: office\r\n"), REQUEST),
+    ("a bare LF in a target", ask("ada", "GET", "/me\nX-Caller: office"), None),
+    ("Connection that names X-Caller", ask("ada", "GET", "/me", b"", "Connection: X-Caller"),
+     FIRST_VIEW),
+]
+# What is asked, and what is answered.
+TARGETS = [
+    ("an absolute target", ask("ada", "GET", "http://office/me"), REQUEST),
+    ("an absolute target of another host", ask("ada", "GET", "http://elsewhere/drafts/1"), REQUEST),
+    ("a target *", ask("ada", "OPTIONS", "*"), REQUEST),
+    ("no path", ask("ada", "GET", "me"), REQUEST),
+    ("a query", ask("registry", "GET", "/publication?x=1"), PATH),
+    ("an encoded letter", ask("registry", "GET", "/%70ublication"), PATH),
+    ("a slash at the end", ask("registry", "GET", "/publication/"), PATH),
+    ("a path with dots", ask("registry", "GET", "/drafts/../publication"), PATH),
+    ("another method", ask("registry", "POST", "/publication"), told_error(405, "method")),
+    ("a page that is none", ask("ada", "GET", "/nothing"), 404),
+    ("the file of passwords", ask("ada", "GET", "/users"), 404),
+    ("the file above", ask("ada", "GET", "/../users"), 400),
+    ("the file beside", ask("ada", "GET", "/page/../users"), 404),
+    ("a page of the front's own", ask("ada", "GET", "/-/unavailable"), 404),
+    ("a long target", ask("ada", "GET", "/me/" + "x" * 9_000), REQUEST),
+    ("a long field", ask("ada", "GET", "/me", b"", "A: " + "x" * 40_000), REQUEST),
+    ("no Host", CANDIDATE.replace(b"Host: office\r\n", b""), REQUEST),
+    ("a body that is too long", ask("registry", "PUT", "/instance", b"", "Content-Length: 4194305"),
+     told_error(413, "length")),
+    ("a body that may be so long", ask("registry", "PUT", "/instance", b"x" * 4_194_304),
+     (400, b'{"error":"file","fault":2,"line":1}')),
+    ("another site's publish", ask("registry", "POST", "/drafts/1/publish", b"",
+                                   "Origin: https://elsewhere.example"),
+     told_error(403, "forbidden", rule="origin")),
+    ("a publish of no site", ask("registry", "POST", "/drafts/1/publish", b"", "Origin: null"),
+     told_error(403, "forbidden", rule="origin")),
+    ("a publish of its own page", ask("registry", "POST", "/drafts/1/publish", b"",
+                                      "Origin: http://office"),
+     (200, b'{"changed":0,"draft":1,"penalty":37}')),
+]

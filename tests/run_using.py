@@ -1,0 +1,109 @@
+#!/usr/bin/env python3
+"""run_using.py PROGRAM [PAGE..]: what USING.md and OPERATING.md tell the reader to type answers
+what they say.
+
+A page's blocks of commands are typed into one shell, in a fresh folder that has the examples and
+the program, and what each prints is held against the block below it, byte for byte; but for the
+port, which is a free one, and for the line end behind a reply that has none. Each request has to
+stand in docs/openapi.yaml, with its status and type. A failing block is printed with what was
+expected and what came, and the last line counts the blocks.
+"""
+import os
+import pathlib
+import re
+import select
+import shutil
+import signal
+import subprocess
+import sys
+import tempfile
+import time
+import urllib.parse
+
+from browser import free_port
+from openapi import Described
+
+TOP = pathlib.Path(__file__).resolve().parent.parent
+PAGES = [TOP / "docs" / name for name in ("USING.md", "OPERATING.md")]
+PORT, SECONDS, END = "8080", 60, b"\1"
+BLOCK = re.compile(r"^```sh\n(.*?)^```\n(?:\n```\n(.*?)^```\n)?", re.M | re.S)
+# What curl says of each exchange, on standard error.
+SAID = 'write-out = "%{stderr}exchange %{method} %{url} %{http_code} %{content_type}\\n"\n'
+
+
+class Shell:
+    """A shell in a folder of its own, as the reader has one."""
+
+    def __init__(self, program, folder):
+        self.errors = folder / "errors"
+        shutil.copytree(TOP / "examples", folder / "examples")
+        (folder / ".curlrc").write_text(SAID)
+        (folder / "examoffice").write_text(f'#!/bin/sh\nexec "{program}" "$@"\n')
+        (folder / "examoffice").chmod(0o755)
+        with self.errors.open("wb") as errors:
+            self.process = subprocess.Popen(
+                ["sh"], cwd=folder, stdin=subprocess.PIPE, stdout=subprocess.PIPE, stderr=errors,
+                env={**os.environ, "CURL_HOME": str(folder)}, start_new_session=True)
+
+    def answer(self, commands, expected):
+        """What the commands print. What runs on behind them may print a moment later."""
+        self.process.stdin.write(commands.encode() + b"printf '\\001'\n")
+        self.process.stdin.flush()
+        came, end = b"", time.monotonic() + SECONDS
+        late = expected.encode() if " &\n" in commands else b""
+        while END not in came or len(came) <= len(late):
+            left = max(0, end - time.monotonic())
+            ready, _, _ = select.select([self.process.stdout], [], [], left)
+            part = os.read(self.process.stdout.fileno(), 65_536) if ready else b""
+            if not part:
+                break
+            came += part
+        return came.replace(END, b"").decode()
+
+    def ended(self):
+        """Ends the shell and what it left running; the exchanges that curl told."""
+        os.killpg(self.process.pid, signal.SIGTERM)
+        self.process.communicate()
+        for line in self.errors.read_text().splitlines():
+            if line.startswith("exchange "):
+                _, method, url, status, kind = line.split(" ", 4)
+                yield method, urllib.parse.urlsplit(url).path, int(status), kind
+
+
+def judged(page, shell, port):
+    """The failures of a page's blocks, and how many there are."""
+    count = failed = 0
+    for commands, expected in BLOCK.findall(page.read_text()):
+        commands, expected = (text.replace(PORT, port) for text in (commands, expected))
+        came = shell.answer(commands, expected)
+        count += 1
+        if expected not in (came, came + "\n"):
+            failed += 1
+            print(f"using: {page.name}: {commands.strip()}", f"  expected {expected!r}",
+                  f"  got      {came!r}", sep="\n", flush=True)
+    return count, failed
+
+
+def main():
+    if len(sys.argv) < 2:
+        print(__doc__.partition(":")[0], file=sys.stderr)
+        return 2
+    program = pathlib.Path(sys.argv[1]).resolve()
+    pages = [pathlib.Path(word) for word in sys.argv[2:]] or PAGES
+    count = failed = asked = 0
+    for page in pages:
+        with tempfile.TemporaryDirectory() as folder:
+            shell = Shell(program, pathlib.Path(folder))
+            blocks, wrong = judged(page, shell, str(free_port()))
+            described = Described()
+            exchanges = list(shell.ended())
+        faults = [*filter(None, (described.fault(*exchange) for exchange in exchanges))]
+        for fault in faults:
+            print(f"using: {page.name}: not in docs/openapi.yaml: {fault}")
+        count, failed, asked = count + blocks, failed + wrong + len(faults), asked + len(exchanges)
+    print(f"using: {count} blocks, {asked} requests, {failed} failed")
+    return 1 if failed or not count or not asked else 0
+
+
+if __name__ == "__main__":
+    sys.exit(main())
