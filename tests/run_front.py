@@ -198,6 +198,12 @@ def described_exchanges(run, front):
     exchanges = list(front.exchanges())
     faults = {described.fault(*exchange) for exchange in exchanges} - {None}
     run.judge("exchanges that docs/openapi.yaml has", (set(), True), (faults, len(exchanges) > 100))
+    for name, question, answer in CALLERS + TARGETS:
+        if isinstance(answer, tuple) and b'"origin"' not in answer[1]:
+            method, path = question.decode().split(" ")[:2]
+            kind = "application/json" if answer[1].startswith(b"{") else "text/plain"
+            run.judge(f"{name}, in docs/openapi.yaml", None,
+                      described.fault(method, path, answer[0], kind, answer[1]))
 
 
 def before_the_office(run, front):
