@@ -150,6 +150,10 @@ def publishing(run, driver, front):
         is_read(reader)
         run.judge("a refusal", "Draft 3 was not published. Exam 0 has no place yet.",
                   reader.text("#error"))
+        front.told(ask("registry", "DELETE", "/drafts/3"))
+        reader.click("#cards article:nth-child(4) button")
+        is_read(reader)
+        run.judge("a draft that is gone", "This draft is no longer there.", reader.text("#error"))
         run.judge("complaints of the browser", [], reader.complaints())
     with reading(driver, front, "ada") as reader:
         run.judge("her exam has moved", exam_rows(
@@ -276,7 +280,6 @@ def judge(run, front, office, folder):
         states_of_exams(run, driver, front)
         pages_for_everybody(run, driver, front)
         if folder:
-            front.told(ask("registry", "DELETE", "/drafts/3"))
             pictures(driver, front, folder)
         pages_in_error(run, driver, front, office)
     finally:
