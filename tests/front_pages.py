@@ -28,6 +28,7 @@ CELLS = ("return [...document.querySelectorAll(arguments[0])]"
          ".map(row => [...row.cells].map(cell => cell.innerText.trim()))")
 DAY = ("return new Intl.DateTimeFormat(arguments[0], {dateStyle: 'full', timeZone: 'UTC'})"
        ".format(new Date(`${arguments[1]}T00:00:00Z`))")
+SHORT_DAY = DAY.replace("dateStyle: 'full'", "weekday: 'short', day: 'numeric', month: 'short'")
 START = ("return new Intl.DateTimeFormat(arguments[0], {timeStyle: 'short', timeZone: 'UTC'})"
          ".format(new Date(`2000-01-01T${arguments[1]}Z`))")
 FRIDAY, MONDAY = "2005-04-15", "2005-04-18"
@@ -95,8 +96,12 @@ def registrys_page(run, driver, front):
                                       ["Exam 3\n1 of 3", ""],
                                       ["Exam 0\n2 of 3", "Exam 2\n1 of 2"]],
                   [row[1:] for row in rows])
-        run.judge("the periods", [f"Period {number}" for number in range(4)],
-                  [row[0].splitlines()[0] for row in rows])
+        when = [*((FRIDAY, start) for start in ("09:30:00", "14:00:00", "17:00:00")),
+                (MONDAY, "09:30:00")]
+        run.judge("the periods", [f"Period {number}\n{reader.run(SHORT_DAY, 'en-GB', date)}, "
+                                  f"{reader.run(START, 'en-GB', start)}"
+                                  for number, (date, start) in enumerate(when)],
+                  [row[0] for row in rows])
         run.judge("complaints of the browser", [], reader.complaints())
     with reading(driver, front, "physics") as reader:
         run.judge("what a department sees",
@@ -145,6 +150,10 @@ def publishing(run, driver, front):
         is_read(reader)
         run.judge("a refusal", "Draft 3 was not published. Exam 0 has no place yet.",
                   reader.text("#error"))
+        front.told(ask("registry", "DELETE", "/drafts/3"))
+        reader.click("#cards article:nth-child(4) button")
+        is_read(reader)
+        run.judge("a draft that is gone", "This draft is no longer there.", reader.text("#error"))
         run.judge("complaints of the browser", [], reader.complaints())
     with reading(driver, front, "ada") as reader:
         run.judge("her exam has moved", exam_rows(
@@ -271,7 +280,6 @@ def judge(run, front, office, folder):
         states_of_exams(run, driver, front)
         pages_for_everybody(run, driver, front)
         if folder:
-            front.told(ask("registry", "DELETE", "/drafts/3"))
             pictures(driver, front, folder)
         pages_in_error(run, driver, front, office)
     finally:

@@ -207,10 +207,13 @@ def differences(described):
     for operation in operations.values():
         for status, response in operation["responses"].items():
             if status >= "400":
-                named = set(response["description"].split(", "))
-                errors.setdefault(status, set()).update(named)
-                unknown = named - set(named_errors(described, response))
-                yield f"errors of {status} that its schema lacks", set(), unknown
+                errors.setdefault(status, set()).update(response["description"].split(", "))
+    for response in shared.values():
+        content = response["content"].get("application/json")
+        schema = described.at(content["schema"]) if content else {"properties": {}}
+        if "error" in schema["properties"]:
+            named = set(named_errors(described, response))
+            yield f"errors of {sorted(named)}", True, named in [*errors.values(), {"method"}]
     errors["405"] = set(named_errors(described, shared["NoMethod"]))
     yield "refusals", refusals, {(status, error) for status in errors for error in errors[status]}
 

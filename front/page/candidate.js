@@ -36,7 +36,7 @@ function labelled(label, value) {
 function rowOf(exam) {
   const state = exam.date ? STATES[exam.state] : NOTES.undated[0];
   return element('tr', { class: exam.state },
-    element('td', { class: 'time' }, exam.start ? time(exam.start) : missing('--:--')),
+    element('td', { class: 'time' }, exam.start ? time(exam.start) : missing('no time yet')),
     rowHead(`Exam ${exam.exam}`),
     labelled('Room', exam.room),
     labelled('Seat', exam.seat),
@@ -62,8 +62,7 @@ function showExams(exams) {
 
 // ---- What they cost her
 
-function costInWords(cost, isSeated) {
-  if (!isSeated) return 'No points yet: they are counted over the exams where you have a seat.';
+function costInWords(cost) {
   if (!cost.penalty) return 'No points: no two of your exams are close together.';
   return `${count(cost.penalty, 'point')}, over the exams where you have a seat. Fewer is better.`;
 }
@@ -73,12 +72,11 @@ function partOf(cost, [part, name, why]) {
 }
 
 function showCost(cost, exams) {
-  const isSeated = exams.some((exam) => exam.seat !== null);
-  byId('cost-words').textContent = costInWords(cost, isSeated);
+  byId('cost-words').textContent = costInWords(cost);
   byId('cost-parts').tBodies[0].replaceChildren(...PARTS.map((part) => partOf(cost, part)),
     element('tr', { class: 'total' }, rowHead('Together'), cell(numeral(cost.penalty))));
   byId('cost-parts').hidden = !cost.penalty;
-  byId('cost').hidden = exams.length === 0;
+  byId('cost').hidden = exams.every((exam) => exam.seat === null);
 }
 
 async function load() {
