@@ -17,6 +17,8 @@ pub mod PublishedReadLemmas
 pub mod NewPublicationLemmas
 pub mod PublishLemmas
 pub mod ViewLemmas
+pub mod ConcernedLemmas
+pub mod FoldingLemmas
 pub mod PriceLemmas
 pub mod AllDraftLemmas
 pub mod KeptBatchLemmas

@@ -55,6 +55,21 @@ pub record IsDraftOf (r : Records) (d : ℕ) (row : DraftRow) (slots : List Slot
   pub places : AreSlots r.session d slots T
   pub parts : parts_of row ≡ track r.session r.enrolments T
 
+-- the rows of its places are those of a timetable of the session
+pub places_told : (r : Records) (d : ℕ) (rows : List DraftRow) (slots : List SlotRow) (T : Placing)
+    → r.draft d ≡ Some T → AreRecords r → AreRowsOf (Some r) d rows slots
+    → AreSlots r.session d slots T
+places_told r d rows slots T is records are =
+    let fits = records.drafts d T is in
+    let places : IsPermutation slots (slots_from d 0 T)
+    = subst (λ o. IsPermutation slots (slot_rows d o)) is are.places in
+    record {
+      exams = fits.timetable;
+      places = fits.places;
+      rows = subst (λ l. IsPermutation (slots_at d slots) l) (own_slots d T)
+          (IsPermutation-filter (λ (s : SlotRow). eqb s.draft d) _ _ places);
+    }
+
 no_row : {X : Type 0} (x : X) (xs : List X) → x ∷ xs ≡ [] → ⊥
 no_row x xs e = absurd cc
 
@@ -67,21 +82,13 @@ draft_told : (r : Records) (d : ℕ) (row : DraftRow) (slots : List SlotRow) (o 
 draft_told r d row slots None is records rows =
     absurd (no_row row.no [] (rows.numbers ∙ ap (λ o. once (is_some o) d) is))
 draft_told r d row slots (Some T) is records rows =
-    let fits = records.drafts d T is in
     let number : row.no ≡ d
-    = same_head row.no d (rows.numbers ∙ ap (λ o. once (is_some o) d) is) in
-    let places : IsPermutation slots (slots_from d 0 T)
-    = subst (λ o. IsPermutation slots (slot_rows d o)) is rows.places in (
+    = same_head row.no d (rows.numbers ∙ ap (λ o. once (is_some o) d) is) in (
       T,
       record {
         is = is;
         number = number;
-        places = record {
-          exams = fits.timetable;
-          places = fits.places;
-          rows = subst (λ l. IsPermutation (slots_at d slots) l) (own_slots d T)
-              (IsPermutation-filter (λ (s : SlotRow). eqb s.draft d) _ _ places);
-        };
+        places = places_told r d (row ∷ []) slots T is records rows;
         parts = rows.scored.0 T (ap r.draft number ∙ is);
       },
     )

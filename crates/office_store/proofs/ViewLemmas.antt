@@ -12,9 +12,9 @@ use Rattle.sqlite_trees.proofs.ListLemmas.{IsPermutation-filter, IsPermutation-f
 use Rattle.sqlite_trees.proofs.ListLemmas.{IsPermutation-flat_map_each, all_weaker, flat_map-map}
 use Rattle.exam_terms.specs.declared.place.Place.{Place}
 use Rattle.exam_model.specs.Changes.{exams_sat}
-use Rattle.exam_model.specs.Enrolments.{Enrolled, has, has_student, students}
+use Rattle.exam_model.specs.Enrolments.{AreEnrolments, Enrolled, has, has_student, students}
 use Rattle.exam_model.specs.Enrolments as rising
-use Rattle.exam_model.specs.Pairs.{pairs_at, pairs_from}
+use Rattle.exam_model.specs.Pairs.{Pair, pairs_at, pairs_from, pairs_of}
 use Rattle.exam_model.specs.Timetable.{Placing, place_of}
 use Rattle.exam_model.proofs.SumLemmas.{IsChain}
 use Rattle.exam_publish.proofs.ListLemmas.{chain_from_ascending}
@@ -28,13 +28,14 @@ use Rattle.office_model.specs.ViewRows.{ArePublished, places_in}
 use Rattle.office_records.specs.Publications.{placed_from, placed_row, placed_rows}
 use Rattle.office_records.specs.Stands.{Stands, enrol_row, once}
 use Rattle.office_store.specs.Reading.{published_in}
-use Rattle.office_store.specs.Viewing.{exams_in, place_in_row}
+use Rattle.office_store.specs.Viewing.{exams_in, her_row, place_in_row}
 use Rattle.std.specs.Prelude.{◌^◌, All}
 use Rattle.std.proofs.Common.{inl, inr}
 use Rattle.std.proofs.lemmas.List.Elements.{All-from_recursion, recursion_from_All}
 use Rattle.sqlite_trees.proofs.ListLemmas.{all-filter, all_from_map, filter-map, map-map}
 use Rattle.exam_model.specs.Instance.{Session}
 use Rattle.exam_model.proofs.SumLemmas.{chain_from_index}
+use Rattle.exam_score.specs.Folds.{pairs_sat}
 use Rattle.exam_score.specs.Penalty.{PersonalPenalty, personal_total}
 use Rattle.exam_publish.specs.AddUp.{AreSmall}
 use Rattle.exam_publish.specs.Changed.{rows_of, students_of}
@@ -157,9 +158,6 @@ sat_rise E c = subst (IsAscending (λ x y. x < y)) (sym (sat_is E c)) (exams_ris
 
 -- ---- the rows of her enrolments
 
-abbrev her_row : ℕ → ℕ → EnrolRow
-her_row c e = record { student = c; exam = e }
-
 one_exam : (c k : ℕ) (ss : List ℕ)
     → filter (λ (r : EnrolRow). eqb r.student c) (map enrol_row (pairs_at k ss))
     ≡ map (λ s. her_row s k) (filter (λ s. eqb s c) ss)
@@ -213,9 +211,13 @@ rows_rise c (e ∷ es) h = (each es h.0, rows_rise c es h.1)
     each [] a = tt
     each (y ∷ es) a = (a.0, each es a.1)
 
-exams_back : (c : ℕ) (es : List ℕ) → map (λ (r : EnrolRow). r.exam) (map (her_row c) es) ≡ es
+pub exams_back : (c : ℕ) (es : List ℕ) → map (λ (r : EnrolRow). r.exam) (map (her_row c) es) ≡ es
 exams_back c [] = refl
 exams_back c (e ∷ es) = ap (λ l. e ∷ l) (exams_back c es)
+
+-- the pair of a row
+abbrev row_pair : EnrolRow → Pair
+row_pair r = record { exam = r.exam; student = r.student }
 
 -- what is stored of her enrolments is that of her exams
 her_enrolments : (t : Tables) (r : Records) (c : ℕ) → Stands t (Some r) → AreRecords r
@@ -227,6 +229,14 @@ her_enrolments t r c stands is =
     ∙ ap (map (her_row c)) (sym (sat_is r.enrolments c)))
     (IsPermutation-filter (λ (x : EnrolRow). eqb x.student c) _ _ stands.enrol)
 
+pub rows_read : (t : Tables) (r : Records) (c : ℕ) (found : List EnrolRow) → Stands t (Some r)
+    → AreRecords r
+    → IsInOrder HerEnrolsRise (filter (λ (x : EnrolRow). eqb x.student c) t.enrol) found
+    → found ≡ map (her_row c) (exams_sat r.enrolments c)
+rows_read t r c found stands is order =
+    order (map (her_row c) (exams_sat r.enrolments c)) (her_enrolments t r c stands is)
+    (rows_rise c (exams_sat r.enrolments c) (sat_rise r.enrolments c))
+
 pub enrols_read : (t : Tables) (o : OfficeState) (c : ℕ) (found : List EnrolRow) → Stands t o
     → IsOffice o
     → IsInOrder HerEnrolsRise (filter (λ (x : EnrolRow). eqb x.student c) t.enrol) found
@@ -237,10 +247,23 @@ enrols_read t None c found stands is order =
     IsPermutation (filter (λ (x : EnrolRow). eqb x.student c) t.enrol) []) (sym stands)
     (IsPermutation-refl [])) tt)
 enrols_read t (Some r) c found stands is order =
-    ap (map (λ (r : EnrolRow). r.exam))
-    (order (map (her_row c) (exams_sat r.enrolments c)) (her_enrolments t r c stands is)
-    (rows_rise c (exams_sat r.enrolments c) (sat_rise r.enrolments c)))
+    ap (map (λ (r : EnrolRow). r.exam)) (rows_read t r c found stands is order)
     ∙ exams_back c (exams_sat r.enrolments c)
+
+-- her pairs are those of her exams
+pairs_back : (ps : List Pair) → map row_pair (map enrol_row ps) ≡ ps
+pairs_back [] = refl
+pairs_back (p ∷ ps) = ap (λ l. p ∷ l) (pairs_back ps)
+
+pub own_pairs : (E : Enrolled) (c : ℕ) → AreEnrolments E
+    → filter (λ (p : Pair). eqb p.student c) (pairs_of E) ≡ pairs_sat (Some c) (exams_sat E c)
+own_pairs E c known =
+    sym (pairs_back (filter (λ (p : Pair). eqb p.student c) (pairs_of E)))
+    ∙ ap (map row_pair)
+    (sym (filter-map (λ (x : EnrolRow). eqb x.student c) enrol_row (pairs_of E))
+    ∙ her_pairs 0 E c (each_chain E known.ascending)
+    ∙ ap (map (her_row c)) (sym (sat_is E c)))
+    ∙ map-map row_pair (her_row c) (exams_sat E c)
 
 -- ---- the rows of the places of exams
 

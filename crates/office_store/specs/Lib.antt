@@ -9,5 +9,7 @@ pub mod Opening
 pub mod Publications
 pub mod NewPublications
 pub mod Viewing
+pub mod Editing
+pub mod Folding
 pub mod Pricing
 pub mod NewBatches

@@ -1,14 +1,10 @@
 -- What a call of the office makes of the office that its file stands for.
-use Rattle.std.specs.Prelude.{◌≡◌, ℕ, IsTrue, Some, Result, Ok, Err}
-use Rattle.exam_model.specs.Timetable.{Placing}
-use Rattle.exam_score.specs.Penalty.{Penalty}
+use Rattle.std.specs.Prelude.{◌≡◌, IsTrue, Result, Ok, Err}
 use Rattle.sqlite.specs.Held.{Held, state}
 use Rattle.sqlite.specs.State.{State, HasCleanDisk}
 use Rattle.sqlite.specs.Store.{Ghosts}
-use Rattle.exam_draft.specs.Edits.{edited}
-use Rattle.office_model.specs.Commands.{Gives, draft_edited}
-use Rattle.exam_draft.specs.declared.edit.Edit.{Edit}
-use Rattle.office_model.specs.Office.{OfficeState, Records}
+use Rattle.office_model.specs.Commands.{Gives}
+use Rattle.office_model.specs.Office.{OfficeState}
 use Rattle.office_records.specs.Memory.{Memory, memory_of}
 use Rattle.office_records.specs.Stands.{IsKept}
 use Rattle.office_model.specs.declared.fault.StoreFault.{StoreFault}
@@ -52,12 +48,6 @@ abbrev pub Reads : {S A : Type 0} → Ghosts S → (OfficeState → A) → Held 
 Reads store says old new result =
     HasCleanDisk (state store new) → (office : OfficeState) → Now (state store old) office
     → Shows (says office) office (Now (state store new)) result
-
--- what an edit makes of a draft's timetable, before it is put in; or the command's own refusal
-abbrev pub Edits : ℕ → Edit → Records → Result (Placing × Penalty) StoreFault → Type 0
-Edits d change r (Ok new) =
-    (T : Placing) × (r.draft d ≡ Some T) × (edited r.session r.enrolments T change ≡ Ok new.0)
-Edits d change r (Err fault) = IsFault (draft_edited d change (Some r)) fault
 
 -- ---- what is kept in memory
 

@@ -19,6 +19,10 @@ abbrev pub exams_in : ℕ → OfficeState → List ℕ
 exams_in c None = []
 exams_in c (Some r) = exams_sat r.enrolments c
 
+-- the row of her enrolment in an exam
+abbrev pub her_row : ℕ → ℕ → EnrolRow
+her_row c e = record { student = c; exam = e }
+
 -- an exam beside its place
 abbrev pub place_in_row : PlacedRow → ℕ × Place
 place_in_row row = (row.exam, record { period = row.period; room = row.room })

@@ -1,26 +1,39 @@
 // Drafts are edited.
-ghost use Rattle.std.specs.Prelude.{◌≡◌, ◌⊎◌, ◌<◌, length, All, Err, IfErr, IfOk, Ok, Some};
+ghost use Rattle.std.specs.Prelude.{◌≡◌, ◌⊎◌, ◌<◌, length, All, Err, IfErr, IfOk, Ok, OnOk, Some};
 ghost use Rattle.sqlite.specs.Held.{state};
 ghost use Rattle.sqlite.specs.State.{HasCleanDisk};
 ghost use Rattle.exam_model.specs.Fits.{Fits};
-ghost use Rattle.exam_score.specs.Track.{track};
-ghost use Rattle.exam_draft.specs.Edits.{edited, edited_exams};
-ghost use Rattle.office_model.specs.Office.{IsOffice, Records};
+ghost use Rattle.exam_draft.specs.Edits.{IsEditedAt, edited, edited_exams};
+ghost use Rattle.office_model.specs.Office.{AreRecords, OfficeState, Records};
 ghost use Rattle.office_records.specs.Memory.{memory_of};
+ghost use Rattle.office_records.specs.Stands.{IsKept};
 ghost use Rattle.office_model.specs.Commands.{draft_edited, named};
+ghost use Rattle.office_store.specs.Editing.{Edits, Judges};
+ghost use Rattle.office_store.specs.Folding.{HasRead, IsSame};
 ghost use Rattle.office_store.specs.Reading.{AreRowsOf};
-ghost use Rattle.office_store.specs.Running.{Edits, Runs};
+ghost use Rattle.office_store.specs.Running.{IsAwake, IsStill, Runs};
 
+use crate::folding::penalty_after;
 use crate::office::Office;
-use crate::reading::{DraftRows, draft_of};
+use crate::pricing::stored_penalty;
+use crate::reading::DraftRows;
 use crate::transactions::put_edit;
-use exam_draft::{Draft, Edit};
-use exam_model::{Enrolments, Instance, Timetable};
+use exam_draft::{Edit, judge};
+use exam_model::{Enrolments, ExamNo, Instance, Timetable};
 use exam_score::Parts;
 use office_model::{Refusal, StoreFault};
-use office_records::draft_row;
-use sqlite::Alter;
+use office_records::{draft_row, timetable_of};
+use sqlite::{Alter, Connection};
 use std::alloc::Global;
+
+// The timetable of a draft before an edit, with its penalty, and after it.
+#[derive(Drop)]
+pub(crate) struct Judged {
+    pub(crate) old: Timetable,
+    pub(crate) parts: Parts,
+    pub(crate) new: Timetable,
+    pub(crate) exams: Vec<ExamNo>,
+}
 
 impl<S: Alter> Office<S> {
     /// Edits a draft, and answers its penalty. `NotLoaded`, `NoDraft`: there is none of this
@@ -31,19 +44,52 @@ impl<S: Alter> Office<S> {
             → HasCleanDisk (state S.Store self.old) }
     {
         let found = self.draft_rows(alloc, number)?;
-        let Some((instance, enrolments)) = &self.kept else {
-            return Err(StoreFault::NotLoaded);
-        };
-        let (timetable, parts) = edited_draft(alloc, instance, enrolments, number, &found, edit)?;
+        let (timetable, parts) = self.edited_draft(alloc, number, &found, edit)?;
         let exams = edit.exams(alloc)?;
         put_edit(&mut self.conn, draft_row(number, parts), &timetable, &exams)?;
         Ok(parts.total())
     }
+
+    // The draft that these rows tell after an edit, with its penalty.
+    fn edited_draft(
+        &mut self,
+        alloc: Global,
+        number: u32,
+        found: &DraftRows,
+        edit: Edit,
+    ) -> Result<(Timetable, Parts), StoreFault>
+        ensures edits { HasCleanDisk (state S.Store self.new) → IsAwake (state S.Store self.old)
+            → (office : OfficeState) → IsKept (state S.Store self.old).now office
+            → AreRowsOf office number found.now.rows.items found.now.slots.items
+            → Edits number edit office result }
+        ensures exist { IfOk result (λ new. All (λ e. e < length new.0) (edited_exams edit)) }
+        ensures still { HasCleanDisk (state S.Store self.new)
+            → IsStill (state S.Store self.old) (state S.Store self.new) }
+        ensures awake { HasCleanDisk (state S.Store self.new) → IsAwake (state S.Store self.old)
+            → OnOk result (IsAwake (state S.Store self.new)) }
+        ensures clean { HasCleanDisk (state S.Store self.new)
+            → HasCleanDisk (state S.Store self.old) }
+    {
+        let _at_rest = self.conn.is_autocommit(); // read for what it says of the last commit
+        let Some((instance, enrolments)) = &self.kept else {
+            return Err(StoreFault::NotLoaded);
+        };
+        edited_in(
+            alloc,
+            &mut self.conn,
+            instance,
+            enrolments,
+            number,
+            found,
+            edit,
+        )
+    }
 }
 
-// The draft that these rows tell after an edit, with its penalty.
-fn edited_draft(
+// The draft of the session at hand that these rows tell, after an edit, with its penalty.
+fn edited_in<S: Alter>(
     alloc: Global,
+    conn: &mut Connection<S>,
     instance: &Instance,
     enrolments: &Enrolments,
     number: u32,
@@ -51,40 +97,68 @@ fn edited_draft(
     edit: Edit,
 ) -> Result<(Timetable, Parts), StoreFault>
     requires exams { length enrolments.now ≡ length instance.now.exams }
-    ensures edits { (r : Records) → IsOffice (Some r)
+    ensures edits { HasCleanDisk (state S.Store conn.new) → IsAwake (state S.Store conn.old)
+        → (r : Records) → IsKept (state S.Store conn.old).now (Some r)
         → memory_of (Some r) ≡ Some (instance.now, enrolments.now)
         → AreRowsOf (Some r) number found.now.rows.items found.now.slots.items
-        → Edits number edit r result }
-    ensures fits { IfOk result (λ new. Fits instance.now enrolments.now new.0) }
-    ensures scored { IfOk result (λ new. new.1 ≡ track instance.now enrolments.now new.0) }
+        → Edits number edit (Some r) result }
     ensures exist { IfOk result (λ new. All (λ e. e < length new.0) (edited_exams edit)) }
+    ensures read { HasRead S.Store conn.old conn.new }
+    ensures same { OnOk result (IsSame S.Store conn.old conn.new) }
 {
-    let (timetable, parts) = draft_of(alloc, instance, enrolments, number, found)?;
-    edited(alloc, instance, enrolments, timetable, parts, edit)
+    let judged = judged_draft(alloc, instance, enrolments, number, found, edit)?;
+    let parts = penalty_after(alloc, conn, instance, enrolments, &judged)?;
+    Ok((judged.new, parts))
 }
 
-// The timetable after an edit, and its penalty.
-fn edited(
+// The draft that these rows tell before an edit and after it, with the stored penalty.
+fn judged_draft(
     alloc: Global,
     instance: &Instance,
     enrolments: &Enrolments,
-    timetable: Timetable,
-    parts: Parts,
+    number: u32,
+    found: &DraftRows,
     edit: Edit,
-) -> Result<(Timetable, Parts), StoreFault>
-    requires fits { Fits instance.now enrolments.now timetable }
-    requires scored { parts ≡ track instance.now enrolments.now timetable }
-    ensures ok { IfOk result (λ new.
-        edited instance.now enrolments.now timetable edit ≡ Ok new.0) }
-    ensures fits { IfOk result (λ new. Fits instance.now enrolments.now new.0) }
-    ensures scored { IfOk result (λ new. new.1 ≡ track instance.now enrolments.now new.0) }
+) -> Result<Judged, StoreFault>
+    requires exams { length enrolments.now ≡ length instance.now.exams }
+    ensures told { (r : Records) → AreRecords r
+        → memory_of (Some r) ≡ Some (instance.now, enrolments.now)
+        → AreRowsOf (Some r) number found.now.rows.items found.now.slots.items
+        → Judges number edit r result }
+    ensures of { IfOk result (λ judged. judged.exams.items ≡ edited_exams edit) }
+    ensures kept { IfOk result (λ judged. IsEditedAt instance.now enrolments.now judged.old
+        (edited_exams edit) judged.new) }
+{
+    let parts = stored_penalty(&found.rows)?;
+    let old = timetable_of(alloc, instance, number, &found.slots)?;
+    let new = new_timetable(alloc, instance, enrolments, &old, edit)?;
+    let exams = edit.exams(alloc)?;
+    Ok(Judged {
+        old,
+        parts,
+        new,
+        exams,
+    })
+}
+
+// The timetable after an edit, or the edit's own refusal.
+fn new_timetable(
+    alloc: Global,
+    instance: &Instance,
+    enrolments: &Enrolments,
+    old: &Timetable,
+    edit: Edit,
+) -> Result<Timetable, StoreFault>
+    requires fits { Fits instance.now enrolments.now old.now }
+    ensures ok { IfOk result (λ new. edited instance.now enrolments.now old.now edit ≡ Ok new) }
     ensures err { IfErr result (λ e. (e ≡ StoreFault.Store)
         ⊎ (named (λ f. StoreFault.Refused (Refusal.Edit f))
-        (edited instance.now enrolments.now timetable edit) ≡ Err e)) }
+        (edited instance.now enrolments.now old.now edit) ≡ Err e)) }
+    ensures kept { IfOk result (IsEditedAt instance.now enrolments.now old.now
+        (edited_exams edit)) }
 {
-    let mut draft = Draft::resume(instance, enrolments, timetable, parts);
-    match draft.apply(alloc, edit) {
-        Ok(()) => Ok(draft.into_parts()),
+    match judge(alloc, instance, enrolments, old, edit) {
+        Ok(new) => Ok(new),
         Err(fault) => Err(StoreFault::of_edit(fault)),
     }
 }

@@ -7,6 +7,7 @@ mod drafting;
 mod editing;
 mod enrolling;
 mod fault;
+mod folding;
 mod kept_bytes;
 mod loading;
 mod new_batch;

@@ -35,7 +35,7 @@ impl<S: Alter> Office<S> {
 }
 
 // The penalty that the one row of a draft stores.
-fn stored_penalty(rows: &[DraftRow]) -> Result<Parts, StoreFault>
+pub(crate) fn stored_penalty(rows: &[DraftRow]) -> Result<Parts, StoreFault>
     ensures priced { (number : ℕ) (office : OfficeState) → IsOffice office
         → (memory_of office ≡ None → ⊥)
         → map (λ row. row.no) rows.now ≡ once (is_some (draft_in number office)) number

@@ -184,7 +184,8 @@ fn view_from(
     Ok(CandidateView::new(student, rows, personal))
 }
 
-fn exams_of(alloc: Global, rows: &[EnrolRow]) -> Result<Vec<ExamNo>, AllocError>
+// The exams of these rows.
+pub(crate) fn exams_of(alloc: Global, rows: &[EnrolRow]) -> Result<Vec<ExamNo>, AllocError>
     ensures { IfOk result (λ exams. exams.items ≡ map (λ row. row.exam) rows.now) }
 {
     rows.iter().map(|row| ExamNo::new(row.exam)).collect(alloc)

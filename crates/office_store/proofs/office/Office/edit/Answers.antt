@@ -1,48 +1,53 @@
-use Rattle.std.proofs.Common.{rules, ◌≡◌, Err, refl, sym, subst}
+use Rattle.std.proofs.Common.{rules, ◌≡◌, Err, subst, sym}
 use Rattle.sqlite.specs.Held.{state}
 use Rattle.exam_draft.specs.Edits.{edited_exams}
 use Rattle.office_model.specs.Commands.{draft_edited}
 use Rattle.office_store.specs.Running.{Runs}
-use Rattle.office_model.specs.declared.fault.StoreFault.TheVariants.{NotLoaded}
-use Rattle.office_store.proofs.CommandLemmas.{not_loaded, refuses, rests, runs, seen}
-use Rattle.office_store.proofs.EditCallLemmas.{edit_denied, edit_moves}
+use Rattle.office_store.proofs.CommandLemmas.{rests, runs}
+use Rattle.office_store.proofs.EditCallLemmas.{edit_moves}
+use Rattle.office_store.proofs.RunLemmas.{now_still}
 use Rattle.office_store.proofs.office.Office.edit.Goals as goal
-
-pub returns-in_default-clause-runs : goal.returns-in_default-clause-runs
-returns-in_default-clause-runs g c =
-    refuses g.S.Store (draft_edited c.args.number c.args.edit) c.args.self.now
-    c.draft_rows.new.self c.self.inside.conn c.self.inside.kept c.self.view_is c.self.invariant.1
-    c.in_ok-found.ensures.awake c.in_ok-found.ensures.still NotLoaded
-    (λ _. not_loaded (draft_edited c.args.number c.args.edit) _ _ c.in_default.is refl)
 
 pub returns-in_err-timetable-clause-runs : goal.returns-in_err-timetable-clause-runs
 returns-in_err-timetable-clause-runs g c =
     let fault = c.in_err-timetable.field-0.0 in
     let is : c.from_residual-in_err-timetable.result ≡ Err fault = search rules in
-    subst (Runs g.S.Store (draft_edited c.args.number c.args.edit) c.args.self.now c.draft_rows.new.self)
-    (sym is)
-    (refuses g.S.Store (draft_edited c.args.number c.args.edit) c.args.self.now
-    c.draft_rows.new.self c.self.inside.conn c.self.inside.kept c.self.view_is c.self.invariant.1
-    c.in_ok-found.ensures.awake c.in_ok-found.ensures.still fault
-    (λ k. edit_denied _ c.self.inside.kept c.in-Some.instance c.in-Some.enrolments c.in-Some.is
-    c.args.number c.args.edit _ _ (c.in_ok-found.ensures.rows k) fault
-    c.in_err-timetable.ensures.edits))
+    subst (Runs g.S.Store (draft_edited c.args.number c.args.edit) c.args.self.now
+    c.edited_draft.new.self) (sym is)
+    (λ clean o now.
+    let before = c.edited_draft.ensures.clean clean in
+    let awake = c.in_ok-found.ensures.awake before in
+    let here = c.in_ok-found.ensures.still before o now in (
+      c.in_err-timetable.ensures.edits clean awake o (here awake.0)
+          (c.in_ok-found.ensures.rows before o (here awake.0)),
+      now_still (state g.S.Store c.draft_rows.new.self) (state g.S.Store c.edited_draft.new.self) o
+          (c.edited_draft.ensures.still clean) here,
+    ))
 
 pub returns-clause-runs : goal.returns-clause-runs
 returns-clause-runs g c =
     let exams : c.deref.result.now ≡ edited_exams c.args.edit = search rules in
-    runs g.S.Store (draft_edited c.args.number c.args.edit) c.args.self.now c.draft_rows.new.self
-    c.self.inside.conn c.self.inside.kept c.self.view_is c.self.invariant.1
-    c.in_ok-found.ensures.awake c.in_ok-found.ensures.still c.put_edit.new.conn
-    c.self.inside.kept c.total.result c.put_edit.ensures.clean
-    (λ k. edit_moves _ c.self.inside.kept c.in-Some.instance c.in-Some.enrolments c.in-Some.is
-    c.args.number c.args.edit _ _
-    (seen g.S.Store c.draft_rows.new.self c.self.inside.conn c.self.view_is _
-    c.in_ok-found.ensures.rows (c.put_edit.ensures.clean k))
-    _ c.in_ok-timetable.timetable c.in_ok-timetable.parts c.draft_row.result c.total.result
-    c.deref.result.now c.in_ok-timetable.ensures.edits c.draft_row.ensures.number
-    c.draft_row.ensures.parts c.in_ok-timetable.ensures.scored c.in_ok-timetable.ensures.fits
-    c.total.ensures.total exams (c.in_ok-put_edit.ensures.done k).makes)
+    runs g.S.Store (draft_edited c.args.number c.args.edit) c.args.self.now
+    c.edited_draft.new.self c.self.inside.conn c.self.inside.kept c.self.view_is c.self.invariant.1
+    (λ k. c.in_ok-timetable.ensures.awake k
+    (c.in_ok-found.ensures.awake (c.edited_draft.ensures.clean k)))
+    (λ k o now. now_still (state g.S.Store c.draft_rows.new.self)
+    (state g.S.Store c.edited_draft.new.self) o (c.edited_draft.ensures.still k)
+    (c.in_ok-found.ensures.still (c.edited_draft.ensures.clean k) o now))
+    c.put_edit.new.conn c.self.inside.kept c.total.result c.put_edit.ensures.clean
+    (λ k. edit_moves g.S.Store c.draft_rows.new.self c.edited_draft.new.self c.self.inside.conn
+    c.self.view_is c.args.number c.args.edit c.put_edit.new.conn c.self.inside.kept
+    (c.in_ok-timetable.timetable, c.in_ok-timetable.parts) c.draft_row.result c.total.result
+    c.deref.result.now
+    (λ k. c.in_ok-found.ensures.awake (c.edited_draft.ensures.clean k))
+    c.edited_draft.ensures.still
+    (λ k. c.in_ok-timetable.ensures.awake k
+    (c.in_ok-found.ensures.awake (c.edited_draft.ensures.clean k)))
+    (λ k o kept. c.in_ok-timetable.ensures.edits k
+    (c.in_ok-found.ensures.awake (c.edited_draft.ensures.clean k)) o kept
+    (c.in_ok-found.ensures.rows (c.edited_draft.ensures.clean k) o kept))
+    c.draft_row.ensures.number c.draft_row.ensures.parts c.total.ensures.total exams
+    (c.put_edit.ensures.clean k) (c.in_ok-put_edit.ensures.done k).makes)
 
 pub invariant_of-self-2 : goal.invariant_of-self-2
 invariant_of-self-2 g c =
@@ -52,13 +57,18 @@ invariant_of-self-2 g c =
           (state g.S.Store c.put_edit.new.conn) c.self.inside.kept c.self.inside.kept
           c.total.result c.self.invariant.1 c.put_edit.ensures.clean
           (λ k. (c.in_ok-put_edit.ensures.done k).was_open)
-          (λ k. edit_moves _ c.self.inside.kept c.in-Some.instance c.in-Some.enrolments
-          c.in-Some.is c.args.number c.args.edit _ _
-          (seen g.S.Store c.draft_rows.new.self c.self.inside.conn c.self.view_is _
-          c.in_ok-found.ensures.rows (c.put_edit.ensures.clean k))
-          _ c.in_ok-timetable.timetable c.in_ok-timetable.parts c.draft_row.result c.total.result
-          c.deref.result.now c.in_ok-timetable.ensures.edits c.draft_row.ensures.number
-          c.draft_row.ensures.parts c.in_ok-timetable.ensures.scored c.in_ok-timetable.ensures.fits
-          c.total.ensures.total exams (c.in_ok-put_edit.ensures.done k).makes),
+          (λ k. edit_moves g.S.Store c.draft_rows.new.self c.edited_draft.new.self c.self.inside.conn
+          c.self.view_is c.args.number c.args.edit c.put_edit.new.conn c.self.inside.kept
+          (c.in_ok-timetable.timetable, c.in_ok-timetable.parts) c.draft_row.result c.total.result
+          c.deref.result.now
+          (λ k. c.in_ok-found.ensures.awake (c.edited_draft.ensures.clean k))
+          c.edited_draft.ensures.still
+          (λ k. c.in_ok-timetable.ensures.awake k
+          (c.in_ok-found.ensures.awake (c.edited_draft.ensures.clean k)))
+          (λ k o kept. c.in_ok-timetable.ensures.edits k
+          (c.in_ok-found.ensures.awake (c.edited_draft.ensures.clean k)) o kept
+          (c.in_ok-found.ensures.rows (c.edited_draft.ensures.clean k) o kept))
+          c.draft_row.ensures.number c.draft_row.ensures.parts c.total.ensures.total exams
+          (c.put_edit.ensures.clean k) (c.in_ok-put_edit.ensures.done k).makes),
       c.self.invariant.2,
     )

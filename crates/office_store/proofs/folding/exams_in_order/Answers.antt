@@ -1,0 +1,13 @@
+use Rattle.std.proofs.Common.{◌≡◌, sym, true≢false}
+use Rattle.office_store.proofs.FoldingLemmas.{are_hers_of, up_of}
+use Rattle.office_store.proofs.folding.exams_in_order.Goals as goal
+
+pub returns-then-not-are_hers-clause-fault : goal.returns-then-not-are_hers-clause-fault
+returns-then-not-are_hers-clause-fault c exams is up =
+    absurd (true≢false (sym (c.if-not-are_hers.ensures.1
+    (are_hers_of c.args.student c.args.rows.now exams is))))
+
+pub returns-then-not-are_in_order-clause-fault : goal.returns-then-not-are_in_order-clause-fault
+returns-then-not-are_in_order-clause-fault c exams is up =
+    absurd (true≢false (sym (c.if-not-are_in_order.ensures.1
+    (up_of c.args.student c.args.rows.now exams is up))))

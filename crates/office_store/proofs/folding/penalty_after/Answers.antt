@@ -1,0 +1,47 @@
+use Rattle.std.proofs.Common.{rules, ◌≡◌, ◌∙◌, Err, ap, refl, subst, sym}
+use Rattle.std.specs.List.{flat_map}
+use Rattle.exam_model.specs.Enrolments.{IsAscending, students}
+use Rattle.exam_publish.proofs.ListLemmas.{ascends}
+use Rattle.exam_score.specs.Folds.{Folded}
+use Rattle.exam_score.specs.Front.{AreSizes}
+use Rattle.exam_score.specs.Track.{track}
+use Rattle.office_store.specs.Folding.{pairs_of_students, students_of_exams}
+use Rattle.office_store.specs.Running.{Tells}
+use Rattle.office_store.proofs.FoldingLemmas.{fold_of, told_after}
+use Rattle.office_store.proofs.folding.penalty_after.Goals as goal
+
+pub fold_students-requires-clause-ascending : goal.fold_students-requires-clause-ascending
+fold_students-requires-clause-ascending g c =
+    subst IsAscending (sym (c.deref-3.ensures.value ∙ c.in_ok-students.ensures))
+    (ascends (flat_map (students c.args.enrolments.now) c.deref.result.now))
+
+pub returns-in_err-fold-clause-told : goal.returns-in_err-fold-clause-told
+returns-in_err-fold-clause-told g c had of =
+    let is : c.from_residual-in_err-fold.result ≡ Err c.in_err-fold.field-0.0 = search rules in
+    subst (Tells (track c.args.instance.now c.args.enrolments.now c.args.judged.now.new)) (sym is)
+    (c.in_err-fold.ensures.fault c.args.enrolments.now had)
+
+pub returns-clause-told : goal.returns-clause-told
+returns-clause-told g c had of =
+    let I = c.args.instance.now in
+    let E = c.args.enrolments.now in
+    let judged = c.args.judged.now in
+    let empty = c.in_ok-empty.empty in
+    let made = c.in_ok-empty.ensures.made in
+    let stands = c.in_ok-fold.ensures.stands in
+    let found = c.deref-3.ensures.value ∙ c.in_ok-students.ensures
+    ∙ ap (students_of_exams E) c.deref.ensures.value in
+    subst (Tells (track I E judged.new)) (sym c.ok_or.ensures.value)
+    (told_after g.S.Store c.args.conn.now c.fold_students.new.conn c.in_ok-fold.fold I E judged
+    empty.edited c.deref-4.result.now c.finish.result stands.0 had of
+    (fold_of c.in_ok-fold.fold empty I judged.old judged.new empty.edited c.in_ok-fold.ensures.of
+    (record {
+      session = ap (λ (f : Folded). f.instance) made;
+      before = ap (λ (f : Folded). f.earlier) made;
+      after = ap (λ (f : Folded). f.later) made;
+      exams = refl;
+    }))
+    (ap (λ (f : Folded). f.edited) made ∙ c.deref-2.ensures.value)
+    (subst (AreSizes E) (sym c.deref-4.ensures.value) c.in_ok-sizes.ensures) stands.1
+    (stands.2 E had ∙ ap (pairs_of_students E) found)
+    (λ is. c.finish.ensures.scored E stands.0 stands.1 is))

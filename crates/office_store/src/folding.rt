@@ -1,0 +1,198 @@
+// The penalty after an edit, by the file's rows of the students who sit an edited exam.
+ghost use Rattle.std.specs.Prelude.{◌≡◌, ℕ, ◌+◌, ◌<◌, ◌≤◌, ◌++◌, ◌↔◌, [], List, All, IfErr, IfOk, IsTrue, OnOk, Some, length, map};
+ghost use Rattle.exam_terms.specs.declared.limits.TheConstants.{MAX_PAIRS};
+ghost use Rattle.exam_model.specs.Changes.{exams_sat};
+ghost use Rattle.exam_model.specs.Enrolments.{Enrolled, IsAscending};
+ghost use Rattle.exam_model.specs.Pairs.{Pair};
+ghost use Rattle.exam_publish.specs.Changed.{ascending};
+ghost use Rattle.exam_score.specs.Folds.{IsFoldOf, StandsFor, pairs_sat};
+ghost use Rattle.exam_score.specs.Front.{AreSizes};
+ghost use Rattle.exam_score.specs.Track.{track};
+ghost use Rattle.office_store.specs.Folding.{CanTake, HadEnrolments, HasRead, IsEditOf, IsSame};
+ghost use Rattle.office_store.specs.Folding.{pairs_of_students, students_of_exams};
+ghost use Rattle.office_store.specs.Running.{Tells};
+ghost use Rattle.office_store.specs.Viewing.{her_row};
+
+use crate::editing::Judged;
+use crate::viewing::exams_of;
+use exam_model::{Enrolments, ExamNo, Instance, StudentNo};
+use exam_score::{EditFold, Parts};
+use exam_terms::limits::MAX_PAIRS;
+use office_model::StoreFault;
+use office_tables::{EnrolRow, enrols_of};
+use sqlite::{Alter, Connection};
+use std::alloc::{AllocError, Global};
+
+// The penalty after an edit. The rows of one student are kept at a time.
+pub(crate) fn penalty_after<S: Alter>(
+    alloc: Global,
+    conn: &mut Connection<S>,
+    instance: &Instance,
+    enrolments: &Enrolments,
+    judged: &Judged,
+) -> Result<Parts, StoreFault>
+    requires exams { length enrolments.now ≡ length instance.now.exams }
+    requires exist { All (λ e. e < length enrolments.now) judged.now.exams.items }
+    ensures told { HadEnrolments S.Store conn.old conn.new enrolments.now
+        → IsEditOf instance.now enrolments.now judged.now
+        → Tells (track instance.now enrolments.now judged.now.new) result }
+    ensures read { HasRead S.Store conn.old conn.new }
+    ensures same { OnOk result (IsSame S.Store conn.old conn.new) }
+{
+    let sizes = sizes_of(alloc, enrolments)?;
+    let students = students_of_exams(alloc, enrolments, &judged.exams)?;
+    let empty = EditFold::new(alloc, instance, &judged.old, &judged.new, &judged.exams)?;
+    let fold = fold_students(alloc, conn, empty, &students)?;
+    fold.finish(&sizes, judged.parts)
+        .ok_or(StoreFault::BadSchema)
+}
+
+// The number of each exam's students.
+fn sizes_of(alloc: Global, enrolments: &Enrolments) -> Result<Vec<u32>, AllocError>
+    ensures { IfOk result (λ sizes. AreSizes enrolments.now sizes.items) }
+{
+    let mut sizes = Vec::with_capacity(alloc, enrolments.exams() as usize)?;
+    for exam in 0..enrolments.exams() {
+        sizes.push(enrolments.size(ExamNo::new(exam)))?;
+    }
+    Ok(sizes)
+}
+
+// The students who sit one of these exams, ascending, each once.
+fn students_of_exams(
+    alloc: Global,
+    enrolments: &Enrolments,
+    exams: &[ExamNo],
+) -> Result<Vec<StudentNo>, AllocError>
+    requires exist { All (λ e. e < length enrolments.now) exams.now }
+    ensures { IfOk result (λ found. found.items ≡ students_of_exams enrolments.now exams.now) }
+{
+    let mut found = Vec::new(alloc);
+    for exam in exams {
+        found.extend_from_slice(enrolments.students(*exam))?;
+    }
+    Ok(in_order(found))
+}
+
+// The students in order, each once.
+fn in_order(mut found: Vec<StudentNo>) -> Vec<StudentNo>
+    ensures { result.items ≡ ascending found.items }
+{
+    found.sort_unstable();
+    found.dedup();
+    found
+}
+
+// Takes in what the file has of these students, one after the other.
+fn fold_students<'a, S: Alter>(
+    alloc: Global,
+    conn: &mut Connection<S>,
+    empty: EditFold<'a>,
+    students: &[StudentNo],
+) -> Result<EditFold<'a>, StoreFault>
+    requires empty { StandsFor empty [] }
+    requires ascending { IsAscending students.now }
+    ensures stands { IfOk result (λ new. (pairs : List Pair) × StandsFor new pairs
+        × ((E : Enrolled) → HadEnrolments S.Store conn.old conn.new E
+        → pairs ≡ pairs_of_students E students.now)) }
+    ensures of { IfOk result (λ new. IsFoldOf new empty.entry.instance empty.entry.earlier
+        empty.entry.later empty.entry.edited) }
+    ensures fault { (E : Enrolled) → HadEnrolments S.Store conn.old conn.new E
+        → IfErr result (λ e. e ≡ StoreFault.Store) }
+    ensures read { HasRead S.Store conn.old conn.new }
+    ensures same { OnOk result (IsSame S.Store conn.old conn.new) }
+{
+    let mut fold = empty;
+    let mut count = 0;
+    let mut rest = students;
+    'each: while let Some((student, others)) = rest.split_first() {
+        let exams = read_exams(alloc, conn, *student)?;
+        count = count_more(count, &exams)?;
+        fold_exams(&mut fold, *student, &exams)?;
+        rest = others;
+    }
+    Ok(fold)
+}
+
+// So many pairs and these. `BadSchema`: there are more than an office has.
+fn count_more(count: usize, exams: &[ExamNo]) -> Result<usize, StoreFault>
+    requires few { count ≤ MAX_PAIRS }
+    ensures ok { IfOk result (λ more. (more ≡ count + length exams.now) × (more ≤ MAX_PAIRS)) }
+    ensures err { IfErr result (λ _. MAX_PAIRS < count + length exams.now) }
+{
+    if exams.len() > MAX_PAIRS as usize - count {
+        return Err(StoreFault::BadSchema);
+    }
+    Ok(count + exams.len())
+}
+
+// Takes in a student's exams.
+fn fold_exams(fold: &mut EditFold, student: StudentNo, exams: &[ExamNo]) -> Result<(), AllocError>
+    requires room { CanTake fold.old student (length exams.now) }
+    requires ascending { IsAscending exams.now }
+    ensures stands { (pairs : List Pair) → StandsFor fold.old pairs → OnOk result
+        (StandsFor fold.new (pairs ++ pairs_sat (Some student) exams.now)) }
+    ensures of { IsFoldOf fold.new fold.old.instance fold.old.earlier fold.old.later
+        fold.old.edited }
+{
+    for exam in exams {
+        fold.row(student, *exam)?;
+    }
+    Ok(())
+}
+
+// The exams that the file has of a student, ascending. `BadSchema`: its rows are out of order.
+fn read_exams<S: Alter>(
+    alloc: Global,
+    conn: &mut Connection<S>,
+    student: StudentNo,
+) -> Result<Vec<ExamNo>, StoreFault>
+    ensures ascending { IfOk result (λ exams. IsAscending exams.items) }
+    ensures hers { (E : Enrolled) → HadEnrolments S.Store conn.old conn.new E
+        → IfOk result (λ exams. exams.items ≡ exams_sat E student) }
+    ensures fault { (E : Enrolled) → HadEnrolments S.Store conn.old conn.new E
+        → IfErr result (λ e. e ≡ StoreFault.Store) }
+    ensures read { HasRead S.Store conn.old conn.new }
+    ensures same { OnOk result (IsSame S.Store conn.old conn.new) }
+{
+    let rows = match enrols_of(alloc, conn, student.get()) {
+        Ok(rows) => rows,
+        Err(_) => return Err(StoreFault::Store),
+    };
+    exams_in_order(alloc, student, &rows)
+}
+
+// The exams of a student's rows. `BadSchema`: one is another student's, or they don't ascend.
+fn exams_in_order(
+    alloc: Global,
+    student: StudentNo,
+    rows: &[EnrolRow],
+) -> Result<Vec<ExamNo>, StoreFault>
+    ensures are { IfOk result (λ exams. exams.items ≡ map (λ row. row.exam) rows.now) }
+    ensures ascending { IfOk result (λ exams. IsAscending exams.items) }
+    ensures fault { (exams : List ℕ) → rows.now ≡ map (her_row student) exams → IsAscending exams
+        → IfErr result (λ e. e ≡ StoreFault.Store) }
+{
+    if !are_hers(student, rows) {
+        return Err(StoreFault::BadSchema);
+    }
+    if !are_in_order(rows) {
+        return Err(StoreFault::BadSchema);
+    }
+    let exams = exams_of(alloc, rows)?;
+    Ok(exams)
+}
+
+// Whether the rows are this student's.
+fn are_hers(student: StudentNo, rows: &[EnrolRow]) -> bool
+    ensures { IsTrue result ↔ All (λ row. row.student ≡ student) rows.now }
+{
+    rows.iter().all(|row| row.student == student.get())
+}
+
+// Whether each row's exam is smaller than the next one's.
+fn are_in_order(rows: &[EnrolRow]) -> bool
+    ensures { IsTrue result ↔ IsAscending (map (λ row. row.exam) rows.now) }
+{
+    rows.is_sorted_by(|row, next| row.exam < next.exam)
+}
