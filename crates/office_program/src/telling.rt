@@ -49,7 +49,7 @@ fn is_large(rt: &HostRuntime, path: &str) -> bool {
 // Prints the line of work that is begun.
 fn print_work<W: Write>(work: LongWork<'_>, out: &mut W) -> io::Result<()>
     ensures { OnOk result
-        (Appends (W.contents out.old) (W.contents out.new) (work_line work ++ 10 ∷ [])) }
+        (Appends (W.contents out.old) (W.contents out.new) (work_line work.entry ++ 10 ∷ [])) }
 {
     match work {
         LongWork::Loading(path) => writeln!(out, "examoffice: loading {path}, which takes a while"),
