@@ -47,7 +47,8 @@ class Driver:
         self.url = f"http://127.0.0.1:{free_port()}"
         self.process = subprocess.Popen(
             ["chromedriver", f"--port={self.url.rpartition(':')[2]}"], stdin=subprocess.DEVNULL,
-            stdout=subprocess.DEVNULL, stderr=subprocess.DEVNULL, env={**os.environ, "TZ": ZONE})
+            stdout=subprocess.DEVNULL, stderr=subprocess.DEVNULL,
+            env={**os.environ, "TZ": ZONE, "TMPDIR": str(self.folder)})
         until("chromedriver answers", self.answers)
 
     def answers(self):
