@@ -18,7 +18,7 @@ use Rattle.exam_draft.specs.declared.edit.Edit.{Edit}
 use Rattle.office_tables.specs.Tables.{Tables, Stands as Held}
 use Rattle.office_tables.specs.declared.rows.DraftRow.{DraftRow}
 use Rattle.office_tables.specs.declared.rows.SlotRow.{SlotRow}
-use Rattle.office_model.specs.Commands.{draft_edited, draft_in, named, penalty_now}
+use Rattle.office_model.specs.Commands.{draft_edited, draft_in, draft_shown, named, penalty_now}
 use Rattle.office_model.specs.Office.{AreRecords, IsOffice, OfficeState, Records, set_at}
 use Rattle.office_model.specs.declared.fault.Refusal.TheVariants as refusal
 use Rattle.office_model.specs.declared.fault.StoreFault.{StoreFault}
@@ -49,6 +49,17 @@ ok_is e = cc
 
 some_is : {X : Type 0} (x y : X) → Some x ≡ Some y → x ≡ y
 some_is x y e = cc
+
+-- a draft that is shown
+pub shown_of : (d : ℕ) (r : Records) (T : Placing) (P : Penalty) (new : OfficeState)
+    → draft_shown d (Some r) ≡ Ok ((T, P), new) → r.draft d ≡ Some T
+shown_of d r T P new h = go (r.draft d) refl
+  where
+    go : (o : Option Placing) → r.draft d ≡ o → r.draft d ≡ Some T
+    go None is = absurd (let e = rw is at h in cc)
+    go (Some S) is =
+        let shown = rw is at h in
+        is ∙ ap (λ (x : (Placing × Penalty) × OfficeState). Some x.0.0) (ok_is shown)
 
 -- a draft whose penalty is told
 pub record IsThere (r : Records) (d : ℕ) (P : Penalty) : Type 0 where

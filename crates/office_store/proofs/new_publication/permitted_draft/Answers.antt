@@ -1,6 +1,6 @@
 use Rattle.std.proofs.Common.{rules, ◌≡◌, Some, Err, sym, subst}
 use Rattle.office_store.specs.NewPublications.{Permits}
-use Rattle.office_store.proofs.EditCallLemmas.{there_of}
+use Rattle.office_store.proofs.EditCallLemmas.{shown_of}
 use Rattle.office_store.proofs.NewPublicationLemmas.{not_shown, permit_refused}
 use Rattle.office_store.proofs.new_publication.permitted_draft.Goals as goal
 
@@ -14,13 +14,13 @@ returns-in_err-timetable-clause-permits c r office memory rows =
 pub returns-in-Ok-clause-permits : goal.returns-in-Ok-clause-permits
 returns-in-Ok-clause-permits c r office memory rows =
     let shown = c.in_ok-timetable.ensures.shown (Some r) office memory rows in
-    there_of c.args.number r c.in_ok-timetable.timetable c.in_ok-timetable.parts shown.0 shown.1
+    shown_of c.args.number r c.in_ok-timetable.timetable c.in_ok-timetable.parts shown.0 shown.1
 
 pub returns-in-Err-clause-permits : goal.returns-in-Err-clause-permits
 returns-in-Err-clause-permits c r office memory rows =
     let shown = c.in_ok-timetable.ensures.shown (Some r) office memory rows in
     permit_refused c.args.number r c.args.instance.now c.args.enrolments.now
     c.in_ok-timetable.timetable memory
-    (there_of c.args.number r c.in_ok-timetable.timetable c.in_ok-timetable.parts shown.0 shown.1)
+    (shown_of c.args.number r c.in_ok-timetable.timetable c.in_ok-timetable.parts shown.0 shown.1)
     c.in-Err.fault c.of_publication.result
     c.in-Err.ensures.refused c.of_publication.ensures.memory c.of_publication.ensures.refused
