@@ -47,6 +47,7 @@ fn is_large(rt: &HostRuntime, path: &str) -> bool {
 }
 
 // Prints the line of work that is begun.
+#[tactic(auto, unfolding(crate::specs::LongWork::work_line))]
 fn print_work<W: Write>(work: LongWork<'_>, out: &mut W) -> io::Result<()>
     ensures { OnOk result
         (Appends (W.contents out.old) (W.contents out.new) (work_line work.entry ++ 10 ∷ [])) }

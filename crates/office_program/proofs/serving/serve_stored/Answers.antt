@@ -20,8 +20,8 @@ returns-in-Err-clause-reached g c = λ clean kept there is. (
 )
 
 -- the office that was found is served
-pub returns-in-Ok-clause-reached : goal.returns-in-Ok-clause-reached
-returns-in-Ok-clause-reached g c = λ clean kept there is.
+pub returns-clause-reached : goal.returns-clause-reached
+returns-clause-reached g c = λ clean kept there is.
     let same = c.release.ensures ∙ c.into_office.ensures in
     let at_end = subst (λ held. HasCleanDisk (state g.S.Store held)) same clean in
     let led = c.serve_desk.ensures.reached at_end there
