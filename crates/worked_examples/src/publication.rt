@@ -7,9 +7,8 @@ use crate::given::{
     APART, ONE_ROOM, PAIRS, Places, WEIGHTS, after, assert_same, enrolled, fits, numbers, placed,
     small, student,
 };
-use exam_model::{Enrolments, ExamNo, Instance, PeriodNo, RoomNo, StudentNo, Timetable, Weights};
+use exam_model::{Enrolments, ExamNo, Instance, PeriodNo, RoomNo, StudentNo, Timetable};
 use exam_publish::{PublishFault, RoomShare, SeatRow, Shares, changed, permit, seats, shares};
-use exam_rules::{Breach, BreachRule};
 use exam_score::score;
 use office_reports::rooms_report;
 use std::alloc::Global;
@@ -205,72 +204,31 @@ per room    used     cap  exams
     Ok(())
 }
 
-// The shares of a timetable of the small session, with these weights.
-fn shares_of(alloc: Global, weights: Weights, places: &Places) -> Result<Shares, Fail> {
-    let instance = small(alloc, &[after()], &[], weights)?;
-    let enrolments = enrolled(alloc, &PAIRS)?;
-    let timetable = placed(alloc, places)?;
+// The shares of the small session's solution.
+fn solution_shares(alloc: Global) -> Result<Shares, Fail> {
+    let (instance, enrolments) = session(alloc)?;
+    let timetable = placed(alloc, &APART)?;
     let rows = published(alloc, &instance, &enrolments, &timetable, &[])?;
     Ok(shares(alloc, &instance, &rows, &timetable)?)
 }
 
-// What shares are to be: of a student row, day and spread, of a room its penalty and its mixed
-// durations; and the parts that they add up to.
-#[derive(Clone, Copy)]
-struct Wanted {
-    students: [(u32, [u64; 3]); 3],
-    exams: [u64; 4],
-    periods: [u64; 4],
-    rooms: [(u64, u64); 2],
-    parts: [u64; 7],
-}
-
-// Ends the test where the shares are others.
-fn has_shares<R: Abort>(rt: &R, shares: &Shares, wanted: &Wanted) -> Result<(), Fail> {
-    assert_same(rt, shares.students().len(), 3, "students");
-    for ((number, parts), (student, share)) in wanted.students.iter().zip(shares.students()) {
-        let found = [share.row(), share.day(), share.spread()];
-        assert_same(rt, (student.get(), found), (*number, *parts), *number);
-    }
-    assert_same(rt, shares.exams(), wanted.exams.as_slice(), "exams");
-    assert_same(rt, shares.periods(), wanted.periods.as_slice(), "periods");
-    let rooms = wanted
-        .rooms
-        .map(|(penalty, mixed)| RoomShare { penalty, mixed });
-    assert_same(rt, shares.rooms(), rooms.as_slice(), "rooms");
-    let parts = shares.parts().ok_or("a penalty of 2^62")?;
-    assert_same(rt, numbers(&parts), wanted.parts, "parts");
-    Ok(())
-}
-
 #[test]
 fn worked_shares(rt: HostRuntime) -> Result<(), Fail> {
-    let shares = shares_of(rt.alloc(), WEIGHTS, &APART)?;
-    let wanted = Wanted {
-        students: [(1, [0, 5, 1]), (2, [7, 0, 1]), (3, [0, 0, 1])],
-        exams: [0; 4],
-        periods: [0, 0, 10, 5],
-        rooms: [(0, 0), (7, 0)],
-        parts: [7, 5, 3, 0, 0, 15, 7],
-    };
-    has_shares(&rt, &shares, &wanted)
-}
-
-#[test]
-fn shares_of_two_exams_in_one_room(rt: HostRuntime) -> Result<(), Fail> {
-    let weights = Weights {
-        front_exams: 3,
-        ..WEIGHTS
-    };
-    let shares = shares_of(rt.alloc(), weights, &ONE_ROOM)?;
-    let wanted = Wanted {
-        students: [(1, [0, 0, 1]), (2, [7, 0, 1]), (3, [0, 0, 1])],
-        exams: [0, 0, 4, 0],
-        periods: [0, 0, 0, 10],
-        rooms: [(0, 0), (14, 10)],
-        parts: [7, 0, 3, 10, 4, 10, 14],
-    };
-    has_shares(&rt, &shares, &wanted)
+    let shares = solution_shares(rt.alloc())?;
+    // a student, and the row, day and spread of her penalty
+    let wanted = [(1, [0, 5, 1]), (2, [7, 0, 1]), (3, [0, 0, 1])];
+    assert_same(&rt, shares.students().len(), wanted.len(), "students");
+    for ((number, parts), (student, share)) in wanted.iter().zip(shares.students()) {
+        let found = [share.row(), share.day(), share.spread()];
+        assert_same(&rt, (student.get(), found), (*number, *parts), *number);
+    }
+    assert_same(&rt, shares.exams(), [0, 0, 0, 0].as_slice(), "exams");
+    assert_same(&rt, shares.periods(), [0, 0, 10, 5].as_slice(), "periods");
+    let rooms = [0, 7].map(|penalty| RoomShare { penalty, mixed: 0 });
+    assert_same(&rt, shares.rooms(), rooms.as_slice(), "rooms");
+    let parts = shares.parts().ok_or("a penalty of 2^62")?;
+    assert_same(&rt, numbers(&parts), [7, 5, 3, 0, 0, 15, 7], "parts");
+    Ok(())
 }
 
 // Whose rows are new in a first publication, and whose change with one in its place.
@@ -286,37 +244,16 @@ fn publications(
     Ok((all, moved))
 }
 
-// An exam without a place comes before a breach.
-#[test]
-fn what_refuses_a_publication(rt: HostRuntime) -> Result<(), Fail> {
-    let clash = Breach {
-        rule: BreachRule::Clash,
-        exam: ExamNo::new(0),
-        other: ExamNo::new(1),
-    };
-    let cases = [
-        (
-            [APART[0], APART[1], APART[2], None],
-            PublishFault::Unplaced(ExamNo::new(3)),
-        ),
-        (
-            [APART[0], APART[0], APART[2], APART[3]],
-            PublishFault::Broken(clash),
-        ),
-        (
-            [APART[0], APART[0], None, None],
-            PublishFault::Unplaced(ExamNo::new(2)),
-        ),
-    ];
-    for (places, wanted) in cases {
-        let refused = refusal(rt.alloc(), &places)?;
-        assert_same(&rt, refused, Some(wanted), "refusal");
-    }
-    Ok(())
-}
-
 #[test]
 fn publish_twice(rt: HostRuntime) -> Result<(), Fail> {
+    let partial = [APART[0], APART[1], APART[2], None];
+    let refused = refusal(rt.alloc(), &partial)?;
+    assert_same(
+        &rt,
+        refused,
+        Some(PublishFault::Unplaced(ExamNo::new(3))),
+        "partial",
+    );
     let (all, moved) = publications(rt.alloc(), &APART, &ONE_ROOM)?;
     assert_same(&rt, all.len(), 3, "first");
     assert_same(&rt, moved.as_slice(), [student(1)?].as_slice(), "second");
