@@ -1,8 +1,8 @@
 #!/usr/bin/env python3
 """gate_times.py COMMAND ..: what a run of the gate takes, crate by crate.
 
-Runs the command, and looks twice a second at the prover's processes; no others should run beside it.
-In the end it prints the rows of the table in docs/WORKING.md: seconds of processor for proofs, for tests
+Runs the command in a session of its own, and looks twice a second at the prover's processes of that
+session. In the end it prints the rows of the table in docs/WORKING.md: seconds of processor for proofs, for tests
 and for the wrong bodies of the gate, and how long a Python loop of 5,000,000 additions took."""
 import subprocess
 import sys
@@ -18,9 +18,9 @@ def main(words):
         sys.exit("usage: gate_times.py COMMAND ..")
     loops, begun = [loop()], time.monotonic()
     seen = {}
-    with subprocess.Popen(words) as run:
+    with subprocess.Popen(words, start_new_session=True) as run:
         while run.poll() is None:
-            seen.update(provers())
+            seen.update(provers(run.pid))
             time.sleep(0.5)
     minutes = (time.monotonic() - begun) / 60
     loops.append(loop())
@@ -36,8 +36,8 @@ def loop():
     return time.perf_counter() - begun
 
 
-def provers():
-    """Each prover that a run of rt began: its crate, its kind and its seconds so far."""
+def provers(session):
+    """Each prover that a run of rt began in a session: its crate, its kind and its seconds so far."""
     found = {}
     for at in Path("/proc").glob("[0-9]*"):
         try:
@@ -45,6 +45,8 @@ def provers():
             if "rattle" not in words[0] or "--crate-name" not in words:
                 continue
             fields = (at / "stat").read_text().rpartition(")")[2].split()
+            if int(fields[3]) != session:
+                continue
             parent = Path("/proc", fields[1], "cmdline").read_bytes()
             if b"rattle\0" in parent or b"/bin/rattle" in parent:
                 continue
