@@ -6,7 +6,7 @@ ghost use Rattle.office_program.specs.LongWork.{work_line};
 use office_messages::{Machine, Reply, Request};
 use std::alloc::Global;
 use std::io::{IsTerminal, Write};
-use std::{fs, io};
+use std::{fmt, fs, io};
 
 /// Work on a file, which is told by its path.
 #[derive(Clone, Copy)]
@@ -17,6 +17,28 @@ pub enum LongWork<'a> {
     Opening(&'a str),
     /// A draft is published in the office of a database.
     Publishing(&'a str),
+}
+
+// It shows as its line.
+impl fmt::Display for LongWork<'_> {
+    ghost use Rattle.std.specs.Prelude.{Some};
+    ghost use Rattle.office_program.specs.LongWork.{work_line};
+
+    ghost output = { λ work. Some (work_line work) };
+
+    fn fmt<W: fmt::Write>(&self, f: &mut fmt::Formatter<W>) -> fmt::Result {
+        match self {
+            LongWork::Loading(path) => {
+                write!(f, "examoffice: loading {path}, which takes a while")
+            }
+            LongWork::Opening(path) => {
+                write!(f, "examoffice: opening {path}, which takes a while")
+            }
+            LongWork::Publishing(path) => {
+                write!(f, "examoffice: publishing in {path}, which takes a while")
+            }
+        }
+    }
 }
 
 // A file of so many bytes takes some tenths of a second at least, and at the limits seconds.
@@ -47,18 +69,11 @@ fn is_large(rt: &HostRuntime, path: &str) -> bool {
 }
 
 // Prints the line of work that is begun.
-#[tactic(auto, unfolding(crate::specs::LongWork::work_line))]
 fn print_work<W: Write>(work: LongWork<'_>, out: &mut W) -> io::Result<()>
     ensures { OnOk result
         (Appends (W.contents out.old) (W.contents out.new) (work_line work.entry ++ 10 ∷ [])) }
 {
-    match work {
-        LongWork::Loading(path) => writeln!(out, "examoffice: loading {path}, which takes a while"),
-        LongWork::Opening(path) => writeln!(out, "examoffice: opening {path}, which takes a while"),
-        LongWork::Publishing(path) => {
-            writeln!(out, "examoffice: publishing in {path}, which takes a while")
-        }
-    }
+    writeln!(out, "{work}")
 }
 
 // A machine of an office in a database, which is told when it is asked to publish.

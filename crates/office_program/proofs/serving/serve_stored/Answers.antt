@@ -4,6 +4,7 @@ use Rattle.sqlite.specs.State.{HasCleanDisk}
 use Rattle.office_connections.proofs.ReachLemmas.{reaches_refl}
 use Rattle.office_http.specs.Replying.{Replies}
 use Rattle.office_store.specs.Opening.{IsOfficeOf}
+use Rattle.office_store.specs.Running.{Now}
 use Rattle.office_program.specs.Serve.{ComesTo}
 use Rattle.office_program.proofs.serving.serve_stored.Goals as goal
 
@@ -23,7 +24,12 @@ returns-in-Err-clause-reached g c = λ clean kept there is. (
 pub returns-clause-reached : goal.returns-clause-reached
 returns-clause-reached g c = λ clean kept there is.
     let same = c.release.ensures ∙ c.into_office.ensures in
+    let made = c.new-desk.ensures in
     let at_end = subst (λ held. HasCleanDisk (state g.S.Store held)) same clean in
-    let led = c.serve_desk.ensures.reached at_end there
-    (c.in-Ok.ensures.found (c.serve_desk.ensures.clean at_end) there is) in
-    (led.0, led.1, λ opened. inr (led.2 (subst (λ held. IsTrue (state g.S.Store held).is_open) same opened)))
+    let begun = subst (λ held. HasCleanDisk (state g.S.Store held)) made
+        (c.serve_desk-done.ensures.clean at_end) in
+    let now = subst (λ held. Now (state g.S.Store held) there) (sym made)
+        (c.in-Ok.ensures.found begun there is) in
+    let led = c.serve_desk-done.ensures.reached at_end there now in
+    let after = subst (λ held. Now (state g.S.Store held) led.0) (sym same) led.2 in
+    (led.0, led.1, λ opened. inr (after opened))
