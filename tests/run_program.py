@@ -15,6 +15,8 @@ import tempfile
 import tty
 from collections import namedtuple
 
+from serve_cases import MANY
+
 TOP = pathlib.Path(__file__).resolve().parent.parent
 EXAMPLES = TOP / "examples"
 # A row of the page's table of faults: the number, the words of the help, and such a line.
@@ -82,6 +84,7 @@ def files():
            for number, _, line, text in FAULTS if line},
         "at_limit.exam": exam.ljust(INSTANCE_LIMIT),
         "long.exam": exam.ljust(INSTANCE_LIMIT + 1),
+        "many.exam": MANY,
         "three.sol": b"".join(solution.splitlines(True)[:3]),
         "five.sol": solution + b"0, 0\n",
         "beyond.sol": with_line(solution, 2, b"4, 0"),
@@ -232,8 +235,9 @@ CASES = [
     Case("help for faults of connections", ("serve", "--help"), 0,
          Holding(b"\n  2  writing failed, or was not in time\n"), b""),
     on_terminal(load("a small instance", "small.db", "small.exam", 4, 6, 4, 2)),
-    on_terminal(load("a large instance", "large.db", "at_limit.exam", 4, 6, 4, 2),
+    on_terminal(load("a large instance", "padded.db", "at_limit.exam", 4, 6, 4, 2),
                 b"loading at_limit.exam"),
+    load("many enrolments", "large.db", "many.exam", 2_000, 200_000, 1, 1),
     on_terminal(unloaded("a load into a large database", "large.db", "small.exam",
                          b"store fault 1"), b"opening large.db"),
     on_terminal(unexported("an export of a small database", "small.db", b"no publication")),

@@ -25,8 +25,8 @@ import tty
 from collections import namedtuple
 
 from serve_cases import (
-    CASES, EMPTY, EXAMPLES, FIRST_MOVED, MOVED_TEXT, PENALTY, PENDING, PUBLISHED, SECOND_PAGE,
-    SHOWN, SMALL, SOLUTION, STORED, THIRD, asked_by, at, batch, batch_text, clear, drafted, enrolled,
+    CASES, EMPTY, EXAMPLES, FIRST_MOVED, MANY, MOVED_TEXT, PENALTY, PENDING, PUBLISHED, SECOND_PAGE,
+    SHOWN, SMALL, SOLUTION, STORED, THIRD, UNPLACED, asked_by, at, batch, batch_text, clear, drafted, enrolled,
     error, me, message, move, place, publish, published, report, text)
 
 SECONDS = 60
@@ -339,12 +339,12 @@ def port_is_taken(run):
 def publication_is_told(run):
     """A terminal as standard error gets a line before a publication in a large file, and only
     where the office asks for it; a small file is told of nowhere."""
-    for name, start in ("a small file", SMALL), ("a large file", SMALL.ljust(4_194_304)):
+    for name, start, exchanges in ("a small file", SMALL, PUBLISHED), ("a large file", MANY, UNPLACED):
         reader, screen = os.openpty()
         tty.setraw(screen)
         office = run.office(start, stderr=screen, connections=1)
         with office.connect() as client:
-            came = [asked(client, *pair) for pair in PUBLISHED]
+            came = [asked(client, *pair) for pair in exchanges]
             client.sendall(message("POST", "/drafts/1/publish", caller="cand:1"))
             client.shutdown(socket.SHUT_WR)
             came.append(rest(client)[:12])
@@ -357,7 +357,7 @@ def publication_is_told(run):
         expected = [b"examoffice: opening %s, which takes a while" % path,
                     b"examoffice: publishing in %s, which takes a while" % path]
         run.judge(f"a publication on a terminal: {name}",
-                  ([*(answer for _, answer in PUBLISHED), b"HTTP/1.1 403"], 0,
+                  ([*(answer for _, answer in exchanges), b"HTTP/1.1 403"], 0,
                    expected if start != SMALL else []),
                   (came, status, lines[:-1].splitlines()))
         os.close(reader)

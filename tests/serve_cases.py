@@ -7,6 +7,10 @@ from collections import namedtuple
 EXAMPLES = pathlib.Path(__file__).resolve().parent.parent / "examples"
 SMALL, SOLUTION, SMALLEST = ((EXAMPLES / name).read_bytes()
                              for name in ("small.exam", "small.sol", "smallest.exam"))
+# One hundred students sit each of 2,000 exams: as many enrolments as there may be.
+MANY = b"[Exams:2000]\n" + b"1, %s\n" % b", ".join(b"%d" % n for n in range(100)) * 2_000 + (
+    b"[Periods:1]\n01:01:2000, 00:00:00, 1, 0\n[Rooms:1]\n1, 0\n"
+    b"[PeriodHardConstraints]\n[RoomHardConstraints]\n[InstitutionalWeightings]\n")
 PHRASES = {200: "OK", 201: "Created", 400: "Bad Request", 403: "Forbidden", 404: "Not Found",
            405: "Method Not Allowed", 409: "Conflict", 413: "Payload Too Large",
            501: "Not Implemented"}
@@ -132,6 +136,7 @@ PLACES = ('{"draft":1,"exams":[{"exam":0,"period":0,"room":0},{"exam":1,"period"
 
 # The small solution published, and what its candidates see of it.
 PUBLISHED = (FROM_SOLUTION, drafted(201, 37)), (publish(), published(3, 37))
+UNPLACED = (EMPTY, drafted(201, 0)), (publish(), reply(409, '{"error":"unplaced","exam":0}'))
 FRIDAY, MONDAY = "2005-04-15", "2005-04-18"
 FIRST = shown_exam(0, FRIDAY, "09:30:00", 0, 0, 1), shown_exam(3, FRIDAY, "17:00:00", 2, 0, 1)
 SECOND = shown_exam(0, FRIDAY, "09:30:00", 0, 0, 2), shown_exam(1, FRIDAY, "14:00:00", 1, 0, 1)
