@@ -4,7 +4,7 @@ ghost use Rattle.std.specs.Prelude.{◌≡◌, IfOk};
 use crate::given::{PAIRS, WEIGHTS, after, assert_same, enrolled, numbers, place, small, student};
 use Step::{Clear, Move, Put, Swap};
 use exam_draft::{Draft, Edit, EditFault, judge};
-use exam_model::{Enrolments, ExamNo, Instance, PeriodRule, Timetable};
+use exam_model::{Enrolments, ExamNo, Instance, PeriodRule};
 use exam_rules::{Breach, BreachRule, first_breach_of};
 use std::alloc::Global;
 use std::process::Abort;
@@ -155,14 +155,6 @@ fn edit_refusals_in_order(rt: HostRuntime) -> Result<(), Fail> {
     edits(&rt, rt.alloc(), &steps)
 }
 
-// Why an edit is refused, if it is.
-fn fault_of(found: Result<Timetable, EditFault>) -> Option<EditFault> {
-    match found {
-        Ok(_) => None,
-        Err(fault) => Some(fault),
-    }
-}
-
 #[test]
 fn judged_without_a_draft(rt: HostRuntime) -> Result<(), Fail> {
     let alloc = rt.alloc();
@@ -173,30 +165,22 @@ fn judged_without_a_draft(rt: HostRuntime) -> Result<(), Fail> {
     }
     let draft = Draft::new(alloc, &instance, &enrolments)?;
     let (zero, one) = (ExamNo::new(0), ExamNo::new(1));
-    let put = Edit::Place(zero, place(0, 0));
-    let Ok(placed) = judge(alloc, &instance, &enrolments, draft.timetable(), put) else {
+    let first = Edit::Place(zero, place(0, 0));
+    let Ok(placed) = judge(alloc, &instance, &enrolments, draft.timetable(), first) else {
         return Err("an exam that can't be placed")?;
     };
     assert_same(&rt, placed.get(zero), Some(place(0, 0)), "judged");
     assert_same(&rt, draft.timetable().get(zero), None, "as it was");
-    let cases = [
-        (put, Some(EditFault::AlreadyPlaced)),
-        (
-            Edit::Place(one, place(0, 0)),
-            Some(broken(BreachRule::Clash, 0, 1)),
-        ),
-        (
-            Edit::Move(zero, place(2, 0)),
-            Some(broken(BreachRule::Duration, 0, 0)),
-        ),
-        (Edit::Swap(zero, zero), Some(EditFault::SameExam)),
-        (Edit::Clear(one), Some(EditFault::NotPlaced)),
-        (Edit::Clear(zero), None),
-    ];
-    for (edit, wanted) in cases {
-        let found = fault_of(judge(alloc, &instance, &enrolments, &placed, edit));
-        assert_same(&rt, found, wanted, edit);
-    }
+    let again = Edit::Place(zero, place(0, 0));
+    let Err(taken) = judge(alloc, &instance, &enrolments, &placed, again) else {
+        return Err("an exam that is placed twice")?;
+    };
+    assert_same(&rt, taken, EditFault::AlreadyPlaced, "placed again");
+    let beside = Edit::Place(one, place(0, 0));
+    let Err(clash) = judge(alloc, &instance, &enrolments, &placed, beside) else {
+        return Err("two exams of a student in one period")?;
+    };
+    assert_same(&rt, clash, broken(BreachRule::Clash, 0, 1), "in one period");
     Ok(())
 }
 
