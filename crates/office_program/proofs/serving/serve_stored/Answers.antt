@@ -27,9 +27,9 @@ returns-clause-reached g c = λ clean kept there is.
     let made = c.new-desk.ensures in
     let at_end = subst (λ held. HasCleanDisk (state g.S.Store held)) same clean in
     let begun = subst (λ held. HasCleanDisk (state g.S.Store held)) made
-        (c.serve_desk-done.ensures.clean at_end) in
+    (c.serve_desk-done.ensures.clean at_end) in
     let now = subst (λ held. Now (state g.S.Store held) there) (sym made)
-        (c.in-Ok.ensures.found begun there is) in
+    (c.in-Ok.ensures.found begun there is) in
     let led = c.serve_desk-done.ensures.reached at_end there now in
     let after = subst (λ held. Now (state g.S.Store held) led.0) (sym same) led.2 in
     (led.0, led.1, λ opened. inr (after opened))
