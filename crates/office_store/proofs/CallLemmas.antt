@@ -10,9 +10,13 @@ use Rattle.exam_model.specs.Timetable.{Placing}
 use Rattle.exam_score.specs.Penalty.{Penalty, total_of}
 use Rattle.office_files.specs.SolutionText.{solution_in}
 use Rattle.office_files.specs.declared.fault.FileFault.{FileFault}
+use Rattle.office_tables.specs.Alterations.{after_all}
+use Rattle.office_tables.specs.Changes.{with_draft, with_slot}
 use Rattle.office_tables.specs.Tables.{Tables, Stands as Held}
 use Rattle.office_tables.specs.declared.rows.DraftRow.{DraftRow}
 use Rattle.office_tables.specs.declared.rows.SlotRow.{SlotRow}
+use Rattle.office_tables.specs.declared.slots.InsertSlot.{InsertSlot}
+use Rattle.office_tables.proofs.AlterationLemmas.{slots_put}
 use Rattle.office_model.specs.Office.{OfficeState, Records, set_at}
 use Rattle.office_records.specs.Memory.{Memory, memory_of}
 use Rattle.office_records.specs.Stands.{IsKept, once, parts_of}
@@ -223,14 +227,20 @@ module _ (d : ℕ) (rows : List DraftRow) (n : ℕ) (long : n ≡ length rows) (
           (ap (first_timetable text) of.session ∙ none)) fault
 
       pub made_moves : (b : Database) (penalty : Penalty) (row : DraftRow)
-          (slots placed : List SlotRow) (total : ℕ) → placed ≡ slots
-          → Begins d text I E penalty slots → row.no ≡ d → parts_of row ≡ penalty
-          → total ≡ total_of penalty → ((t : Tables) → Held a t → Held b (draft_put row placed t))
+          (slots placed : List InsertSlot) (total : ℕ) → placed ≡ slots
+          → Begins d text I E penalty (map (λ (it : InsertSlot). it.row) slots) → row.no ≡ d
+          → parts_of row ≡ penalty → total ≡ total_of penalty
+          → ((t : Tables) → Held a t
+          → Held b (after_all (λ (it : InsertSlot). with_slot it.row) placed (with_draft row t)))
           → Moves (draft_made d text) total a b m m
-      made_moves b penalty row slots placed total same begins number parts is_total makes o kept is =
+      made_moves b penalty row slots put total same begins number parts is_total comes o kept is =
+          let rows : List InsertSlot → List SlotRow = map (λ (it : InsertSlot). it.row) in
+          let placed : List SlotRow = rows put in
+          let makes : (t : Tables) → Held a t → Held b (draft_put row placed t)
+          = λ t h. subst (Held b) (slots_put put (with_draft row t)) (comes t h) in
           let of = kept_of o I E (is ∙ at_hand) in
           let free = none_there empty o kept of.records of.is in
-          let begun = begins_in o I E of d text penalty slots placed same begins in (
+          let begun = begins_in o I E of d text penalty (rows slots) placed (ap rows same) begins in (
             _,
             ap (draft_made d text) of.is
                 ∙ begun_made of.records d text penalty placed begun numbered free total is_total,

@@ -15,9 +15,14 @@ use Rattle.exam_score.specs.Penalty.{Penalty, total_of}
 use Rattle.exam_score.specs.Track.{track}
 use Rattle.exam_draft.specs.Edits.{Edited, IsEditedAt, edited, edited_exams}
 use Rattle.exam_draft.specs.declared.edit.Edit.{Edit}
+use Rattle.office_tables.specs.Alterations.{after_all}
+use Rattle.office_tables.specs.Changes.{with_draft, without_draft}
 use Rattle.office_tables.specs.Tables.{Tables, Stands as Held}
+use Rattle.office_tables.specs.declared.altering.Both.{Both}
 use Rattle.office_tables.specs.declared.rows.DraftRow.{DraftRow}
 use Rattle.office_tables.specs.declared.rows.SlotRow.{SlotRow}
+use Rattle.office_tables.specs.declared.slots.DeleteSlot.{DeleteSlot}
+use Rattle.office_tables.specs.declared.slots.InsertSlot.{InsertSlot}
 use Rattle.office_model.specs.Commands.{draft_edited, draft_in, draft_shown, named, penalty_now}
 use Rattle.office_model.specs.Office.{AreRecords, IsOffice, OfficeState, Records, set_at}
 use Rattle.office_model.specs.declared.fault.Refusal.TheVariants as refusal
@@ -30,7 +35,7 @@ use Rattle.office_records.specs.Stands.{IsKept, once, parts_of}
 use Rattle.office_records.specs.declared.fault.RecordFault.{RecordFault}
 use Rattle.office_records.specs.declared.fault.RecordFault.TheVariants.{BadRows, NoMemory}
 use Rattle.office_records.proofs.SlotLemmas.{same_timetable}
-use Rattle.office_store.specs.Changes.{edit_put}
+use Rattle.office_store.specs.Changes.{edit_put, new_place}
 use Rattle.office_store.specs.Editing.{Edits, IsEdited, IsJudged, Judges}
 use Rattle.office_store.specs.Folding.{IsEditOf}
 use Rattle.office_store.specs.Pricing.{draft_priced}
@@ -41,6 +46,7 @@ use Rattle.office_store.proofs.CommandLemmas.{Moves}
 use Rattle.office_store.proofs.EditLemmas.{edit_kept}
 use Rattle.office_store.proofs.ReadLemmas.{places_told}
 use Rattle.office_store.proofs.RunLemmas.{at_hand, nothing_kept}
+use Rattle.office_store.proofs.SlotLemmas.{all_moved, move_made}
 
 -- ---- a draft that is there
 
@@ -282,17 +288,24 @@ module _ {S : Type 0} (g : Ghosts S) (first mid inside : Conn S) (view : inside 
 
   -- the transaction makes of the office what the command does
   pub edit_moves : (after : Conn S) (m : Memory) (new : Placing × Penalty) (row : DraftRow)
-      (total : ℕ) (exams : List ℕ) → (HasCleanDisk (state g mid) → IsAwake (state g first))
+      (total : ℕ) (exams : List ℕ) (places : List (Both DeleteSlot (Option InsertSlot)))
+      → (HasCleanDisk (state g mid) → IsAwake (state g first))
       → (HasCleanDisk (state g mid) → IsStill (state g first) (state g mid))
       → (HasCleanDisk (state g mid) → IsAwake (state g mid))
       → (HasCleanDisk (state g mid) → (o : OfficeState) → IsKept (state g first).now o
       → IsEdited d change o new)
       → row.no ≡ d → parts_of row ≡ new.1 → total ≡ total_of new.1 → exams ≡ edited_exams change
-      → HasCleanDisk (state g inside)
+      → places ≡ map (new_place row.no new.0) exams → HasCleanDisk (state g inside)
       → ((t : Tables) → Held (state g inside).now t
-      → Held (state g after).now (edit_put row new.0 exams t))
+      → Held (state g after).now
+      (after_all move_made places (with_draft row (without_draft row.no t))))
       → Moves (draft_edited d change) total (state g inside).now (state g after).now m m
-  edit_moves after m new row total exams awake still opened edits number parts is_total are clean makes o kept is =
+  edit_moves after m new row total exams places awake still opened edits number parts is_total are put clean comes o kept is =
+      let makes : (t : Tables) → Held (state g inside).now t
+      → Held (state g after).now (edit_put row new.0 exams t)
+      = λ t h. let u = with_draft row (without_draft row.no t) in
+      subst (Held (state g after).now)
+      (ap (λ l. after_all move_made l u) put ∙ all_moved row.no new.0 exams u) (comes t h) in
       let here = subst (λ h. HasCleanDisk (state g h)) view clean in
       let there = subst (λ h. IsKept (state g h).now o) view kept in
       let was = subst (λ db. IsKept db o) (still here (opened here).0).1 there in

@@ -1,6 +1,5 @@
 pub mod AdoptLemmas
 pub mod OwnerLemmas
-pub mod TurnLemmas
 pub mod RunLemmas
 pub mod LoadLemmas
 pub mod DraftLemmas

@@ -11,8 +11,12 @@ use Rattle.sqlite.specs.Effect.{Database}
 use Rattle.office_files.specs.CanonicalText.{canonical_instance}
 use Rattle.office_files.specs.ExamLines.{ExamLine}
 use Rattle.office_files.specs.InstanceText.{InstanceText, instance_in, session_of}
+use Rattle.office_tables.specs.Alterations.{after_all}
+use Rattle.office_tables.specs.Changes.{no_meta, with_enrol, with_meta}
 use Rattle.office_tables.specs.Tables.{Tables, Stands as Held, empty_tables}
+use Rattle.office_tables.specs.declared.enrolments.InsertEnrol.{InsertEnrol}
 use Rattle.office_tables.specs.declared.rows.EnrolRow.{EnrolRow}
+use Rattle.office_tables.proofs.AlterationLemmas.{enrols_put}
 use Rattle.office_store.specs.Changes.{session_put}
 use Rattle.office_model.specs.Commands.{fresh, counts_of, loaded}
 use Rattle.office_model.specs.Office.{OfficeState, AreEnrolled}
@@ -151,14 +155,19 @@ pub load_denied : (text : List ℕ) (s : Session × Enrolled) (a : Database) (m 
 load_denied text s a m read some o kept is = loaded_again text s o read (some_kept m o is some)
 
 pub load_moves : (text : List ℕ) (I : Session) (E : Enrolled) (counts : loading.Loaded)
-    (stored : List ℕ) (rows : List EnrolRow) (a b : Database) (m : Memory)
+    (stored : List ℕ) (its : List InsertEnrol) (a b : Database) (m : Memory)
     → instance_in text ≡ Ok (I, E) → counts ≡ counts_of (I, E)
     → stored ≡ canonical_instance I (no_pairs (length I.exams))
-    → rows ≡ map enrol_row (pairs_of E) → IsInstance I → AreEnrolled I E → is_some m ≡ false
-    → ((t : Tables) → Held a t → Held b (session_put stored rows t))
+    → map (λ (it : InsertEnrol). it.row) its ≡ map enrol_row (pairs_of E) → IsInstance I
+    → AreEnrolled I E → is_some m ≡ false
+    → ((t : Tables) → Held a t → Held b (after_all (λ (it : InsertEnrol). with_enrol it.row) its
+    (with_meta false stored (no_meta t))))
     → Moves (loaded text) counts a b m (Some (I, E))
-load_moves text I E counts stored rows a b m read counted is_text are_rows is are empty makes o kept held =
-    let none = none_kept m o held empty in (
+load_moves text I E counts stored its a b m read counted is_text are_rows is are empty comes o kept held =
+    let none = none_kept m o held empty in
+    let rows = map (λ (it : InsertEnrol). it.row) its in
+    let makes : (t : Tables) → Held a t → Held b (session_put stored rows t)
+    = λ t h. subst (Held b) (enrols_put its (with_meta false stored (no_meta t))) (comes t h) in (
       Some (fresh (I, E)),
       ap (loaded text) none ∙ loaded_first text (I, E) read
           ∙ ap (λ k. Ok (k, Some (fresh (I, E)))) (sym counted),

@@ -1,13 +1,15 @@
 -- An owner in place of another.
-use Rattle.std.proofs.Common.{◌≡◌, ◌≢◌, ℕ, ◌<◌, ◌≤◌, Bool, true, false, cond, not, eqb, List, [], ◌∷◌, map, filter, refl, sym, ◌∙◌, ap, arith, subst, Ok, Err}
+use Rattle.std.proofs.Common.{◌≡◌, ℕ, ◌<◌, ◌≤◌, Bool, true, false, cond, not, eqb, List, [], ◌∷◌, map, filter, refl, sym, ◌∙◌, ap, arith, subst, Ok, Err}
 use Rattle.std.proofs.lemmas.Bool.Decides.{nat_tests}
-use Rattle.std.specs.Prelude.{Some, None, length, IsPermutation}
+use Rattle.std.specs.Prelude.{Option, Some, None, length, IsPermutation}
 use Rattle.std.proofs.lemmas.List.Sorted.{IsPermutation-map, length_permutation}
 use Rattle.sqlite.specs.Effect.{Database}
+use Rattle.office_tables.specs.Alterations.{after_some}
 use Rattle.office_tables.specs.Tables.{Tables, Stands as Held}
 use Rattle.office_tables.specs.Changes.{without_owner, with_owner}
+use Rattle.office_tables.specs.declared.owners.InsertOwner.{InsertOwner}
 use Rattle.office_tables.specs.declared.rows.OwnerRow.{OwnerRow}
-use Rattle.office_store.specs.Changes.{owner_put}
+use Rattle.office_store.specs.Changes.{new_owner, owner_put}
 use Rattle.exam_model.specs.Enrolments.{Enrolled}
 use Rattle.exam_model.specs.Instance.{Session}
 use Rattle.office_model.specs.Office.{OfficeState, Records, AreRecords, set_at}
@@ -82,21 +84,20 @@ module _ (t : Tables) (r : Records) (e d : ℕ) (h : StandsLoaded t r) where
     batches = h.batches;
   }
 
--- what is put where a department is 0, and where it is not
-pub put_none : (db : Database) (e d : ℕ) (t : Tables) → d ≡ 0 → Held db (without_owner e t)
-    → Held db (owner_put e d t)
-put_none db e d t is h =
-    subst (λ b. Held db (cond b (without_owner e t)
-    (with_owner (record { exam = e; dept = d }) (without_owner e t))))
-    {x = true} (grind (arith, nat_tests, is)) h
+-- what is put in is the owner, or nothing
+abbrev pub comes : Option InsertOwner → Tables → Tables
+comes new t = after_some (λ (it : InsertOwner). with_owner it.row) new t
 
-pub put_one : (db : Database) (e d : ℕ) (t : Tables) → d ≢ 0
-    → Held db (with_owner (record { exam = e; dept = d }) (without_owner e t))
-    → Held db (owner_put e d t)
-put_one db e d t is h =
-    subst (λ b. Held db (cond b (without_owner e t)
-    (with_owner (record { exam = e; dept = d }) (without_owner e t))))
-    {x = false} (grind (arith, nat_tests, is)) h
+owner_made : (e d : ℕ) (t : Tables) → comes (new_owner e d) (without_owner e t) ≡ owner_put e d t
+owner_made e d t = go (eqb d 0)
+  where
+    go : (b : Bool)
+        → comes (cond b None (Some (record { row = record { exam = e; dept = d } })))
+        (without_owner e t)
+        ≡ cond b (without_owner e t)
+        (with_owner (record { exam = e; dept = d }) (without_owner e t))
+    go true = refl
+    go false = refl
 
 -- the parts that are stored for drafts are as before
 owner_sound : (t : Tables) (r : Records) (e d : ℕ) (b : Bool) → IsSound t (Some r)
@@ -135,8 +136,13 @@ owned_nowhere r e d none =
 
 module _ (a : Database) (m : Memory) (I : Session) (E : Enrolled) (at_hand : m ≡ Some (I, E)) (e d : ℕ) where
   pub owner_moves : (b : Database) → e < length I.exams → d ≤ 999 → (n : ℕ) → n ≡ e
-      → ((t : Tables) → Held a t → Held b (owner_put n d t)) → Moves (owned e d) tt a b m m
-  owner_moves b exists few n same makes o kept is =
+      → (new : Option InsertOwner) → new ≡ new_owner n d
+      → ((t : Tables) → Held a t → Held b (comes new (without_owner n t)))
+      → Moves (owned e d) tt a b m m
+  owner_moves b exists few n same new is_new comes_in o kept is =
+      let makes : (t : Tables) → Held a t → Held b (owner_put n d t)
+      = λ t h. subst (Held b)
+      (ap (λ x. comes x (without_owner n t)) is_new ∙ owner_made n d t) (comes_in t h) in
       let of = kept_of o I E (is ∙ at_hand) in
       let there = subst (λ I. e < length I.exams) (sym of.session) exists in (
         _,

@@ -1,22 +1,25 @@
 -- The rows of places that stand elsewhere after an edit.
-use Rattle.std.proofs.Common.{◌≡◌, ◌≢◌, ℕ, zero, suc, ◌+◌, ◌<◌, ◌≤◌, Bool, true, false, cond, not, eqb, ◌&&◌, ◌||◌, List, [], ◌∷◌, ◌++◌, filter, set, Option, Some, None, refl, sym, ◌∙◌, ap, subst, arith, length, take, get_or, inl, inr}
+use Rattle.std.proofs.Common.{◌≡◌, ◌≢◌, ℕ, zero, suc, ◌+◌, ◌<◌, ◌≤◌, Bool, true, false, cond, not, eqb, ◌&&◌, ◌||◌, List, [], ◌∷◌, ◌++◌, filter, map, set, Option, Some, None, refl, sym, ◌∙◌, ap, subst, arith, length, inl, inr}
 use Rattle.std.specs.Prelude.{IsPermutation}
 use Rattle.std.specs.List.{AllByRecursion}
 use Rattle.std.proofs.lemmas.Bool.{cases_Bool}
 use Rattle.std.proofs.lemmas.Bool.Decides.{nat_tests}
 use Rattle.std.proofs.lemmas.Grind.{get_or-set_at}
-use Rattle.std.proofs.lemmas.List.{ext_get_or, get_or-set_other, take_all, take_more}
+use Rattle.std.proofs.lemmas.List.{ext_get_or, get_or-set_other}
 use Rattle.std.proofs.Math.ListN.{length-set}
 use Rattle.std.proofs.lemmas.List.Sorted.{IsPermutation-refl, IsPermutation-sym, IsPermutation-trans, IsPermutation-cons, IsPermutation-middle}
 use Rattle.sqlite_trees.proofs.ListLemmas.{IsPermutation-filter, filter-filter}
-use Rattle.sqlite.specs.Effect.{Database}
 use Rattle.exam_model.specs.Timetable.{Placing, place_of}
 use Rattle.exam_terms.specs.declared.place.Place.{Place}
 use Rattle.exam_score.specs.Changes.{DiffersAtMost, is_among}
 use Rattle.office_tables.specs.Changes.{with_slot, without_slot}
-use Rattle.office_tables.specs.Tables.{Tables, Stands as Held}
+use Rattle.office_tables.specs.Alterations.{after_all, after_some}
+use Rattle.office_tables.specs.Tables.{Tables}
+use Rattle.office_tables.specs.declared.altering.Both.{Both}
 use Rattle.office_tables.specs.declared.rows.SlotRow.{SlotRow}
-use Rattle.office_store.specs.Changes.{slot_put, slots_put}
+use Rattle.office_tables.specs.declared.slots.DeleteSlot.{DeleteSlot}
+use Rattle.office_tables.specs.declared.slots.InsertSlot.{InsertSlot}
+use Rattle.office_store.specs.Changes.{moved, new_place, slot_put, slots_put}
 use Rattle.office_records.specs.Stands.{slots_at, slots_from, slot_row}
 
 -- two filters, in either order
@@ -198,34 +201,23 @@ module _ (d : ℕ) (new : Placing) where
 
 -- ---- what a transaction puts in
 
-pub put_nowhere : (db : Database) (d e n : ℕ) (o : Option Place) (t : Tables) → o ≡ None → n ≡ e
-    → Held db (without_slot d n t) → Held db (slot_put d e o t)
-put_nowhere db d e n o t nowhere exam h = rw (nowhere, ← exam) h
+-- what one exam's part of it makes of the tables
+abbrev pub move_made : Both DeleteSlot (Option InsertSlot) → Tables → Tables
+move_made it t =
+    after_some (λ (new : InsertSlot). with_slot new.row) it.second
+    (without_slot it.first.draft it.first.exam t)
 
-pub put_there : (db : Database) (d e n : ℕ) (o : Option Place) (at : Place) (row : SlotRow)
-    (t : Tables) → o ≡ Some at → n ≡ e → row ≡ slot_row d e at
-    → Held db (with_slot row (without_slot d n t)) → Held db (slot_put d e o t)
-put_there db d e n o at row t there exam is h = rw (there, ← is, ← exam) h
+one_moved : (d e : ℕ) (o : Option Place) (t : Tables) → move_made (moved d e o) t ≡ slot_put d e o t
+one_moved d e None t = refl
+one_moved d e (Some at) t = refl
+
+pub all_moved : (d : ℕ) (new : Placing) (exams : List ℕ) (t : Tables)
+    → after_all move_made (map (new_place d new) exams) t ≡ slots_put d new exams t
+all_moved d new [] t = refl
+all_moved d new (e ∷ exams) t =
+    ap (after_all move_made (map (new_place d new) exams)) (one_moved d e (place_of new e) t)
+    ∙ all_moved d new exams (slot_put d e (place_of new e) t)
 
 pub row_is : (d e n p r : ℕ) (at : Place) → n ≡ e → p ≡ at.period → r ≡ at.room
     → (let row : SlotRow = record { draft = d; exam = n; period = p; room = r } in row) ≡ slot_row d e at
 row_is d e n p r at exam period room = cc
-
--- one more of the exams
-put_last : (d : ℕ) (new : Placing) (exams : List ℕ) (e : ℕ) (t : Tables)
-    → slots_put d new (exams ++ e ∷ []) t ≡ slot_put d e (place_of new e) (slots_put d new exams t)
-put_last d new [] e t = refl
-put_last d new (x ∷ exams) e t = put_last d new exams e (slot_put d x (place_of new x) t)
-
-pub put_more : (d : ℕ) (new : Placing) (exams : List ℕ) (i e : ℕ) (o : Option Place) (t : Tables)
-    → i < length exams → e ≡ get_or exams i e → o ≡ place_of new e
-    → slots_put d new (take (i + 1) exams) t ≡ slot_put d e o (slots_put d new (take i exams) t)
-put_more d new exams i e o t lt is placed =
-    ap (λ l. slots_put d new l t) (take_more exams i e lt)
-    ∙ ap (λ x. slots_put d new (take i exams ++ x ∷ []) t) (sym is)
-    ∙ put_last d new (take i exams) e t
-    ∙ ap (λ x. slot_put d e x (slots_put d new (take i exams) t)) (sym placed)
-
-pub put_all : (d : ℕ) (new : Placing) (exams : List ℕ) (i : ℕ) (t : Tables) → length exams ≤ i
-    → slots_put d new (take i exams) t ≡ slots_put d new exams t
-put_all d new exams i t le = ap (λ l. slots_put d new l t) (take_all i exams le)

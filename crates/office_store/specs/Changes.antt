@@ -1,12 +1,16 @@
 -- What the transaction of each command makes of the tables.
-use Rattle.std.specs.Prelude.{ℕ, ◌++◌, map, reverse, true, false, ◌==◌, if◌then◌else◌, List, [], ◌∷◌, Option, Some, None}
+use Rattle.std.specs.Prelude.{ℕ, ◌++◌, map, reverse, true, false, ◌==◌, if◌then◌else◌, List, [], ◌∷◌, Option, Some, None, option_map}
 use Rattle.exam_model.specs.Timetable.{Placing, place_of}
 use Rattle.exam_terms.specs.declared.place.Place.{Place}
 use Rattle.office_tables.specs.Changes.{with_meta, no_meta, with_owner, without_owner, with_enrols, with_draft, without_draft, with_slot, with_slots, without_slot, without_slots}
 use Rattle.office_tables.specs.Tables.{Tables}
+use Rattle.office_tables.specs.declared.altering.Both.{Both}
+use Rattle.office_tables.specs.declared.owners.InsertOwner.{InsertOwner}
 use Rattle.office_tables.specs.declared.rows.DraftRow.{DraftRow}
 use Rattle.office_tables.specs.declared.rows.EnrolRow.{EnrolRow}
 use Rattle.office_tables.specs.declared.rows.SlotRow.{SlotRow}
+use Rattle.office_tables.specs.declared.slots.DeleteSlot.{DeleteSlot}
+use Rattle.office_tables.specs.declared.slots.InsertSlot.{InsertSlot}
 use Rattle.office_records.specs.SeatsStored.{seat_rows_without}
 use Rattle.office_records.specs.SharesStored.{share_rows_without}
 use Rattle.office_records.specs.Stands.{slot_row}
@@ -21,6 +25,11 @@ abbrev pub owner_put : ℕ → ℕ → Tables → Tables
 owner_put exam dept t =
     if dept == 0 then without_owner exam t
     else with_owner (record { exam = exam; dept = dept }) (without_owner exam t)
+
+-- the row of an exam's owner that comes; a department 0 is none
+abbrev pub new_owner : ℕ → ℕ → Option InsertOwner
+new_owner exam dept =
+    if dept == 0 then None else Some (record { row = record { exam = exam; dept = dept } })
 
 -- a draft is put in, with the places of its exams
 abbrev pub draft_put : DraftRow → List SlotRow → Tables → Tables
@@ -39,6 +48,17 @@ slot_put d e (Some at) t = with_slot (slot_row d e at) (without_slot d e t)
 abbrev pub slots_put : ℕ → Placing → List ℕ → Tables → Tables
 slots_put d T [] t = t
 slots_put d T (e ∷ exams) t = slots_put d T exams (slot_put d e (place_of T e) t)
+
+-- an exam's place in a draft goes, and another comes, if there is one
+abbrev pub moved : ℕ → ℕ → Option Place → Both DeleteSlot (Option InsertSlot)
+moved d e place = record {
+  first = record { draft = d; exam = e };
+  second = option_map (λ at. record { row = slot_row d e at }) place;
+}
+
+-- it goes where it stood, and comes where it stands in the timetable
+abbrev pub new_place : ℕ → Placing → ℕ → Both DeleteSlot (Option InsertSlot)
+new_place d T e = moved d e (place_of T e)
 
 -- a draft in place of another, where these exams stand elsewhere
 abbrev pub edit_put : DraftRow → Placing → List ℕ → Tables → Tables

@@ -12,13 +12,15 @@ ghost use Rattle.office_records.specs.Stands.{IsKept, once, slots_from};
 
 use crate::fault::Failed;
 use crate::office::Office;
-use crate::transactions::{put_draft, remove_draft};
+use crate::transactions::put;
 use exam_model::{Enrolments, ExamNo, Instance, Timetable};
 use exam_score::{Parts, score};
 use office_files::read_solution;
 use office_model::StoreFault;
 use office_records::draft_row;
-use office_tables::{DraftRow, SlotRow, drafts_of};
+use office_tables::{
+    Both, DeleteDraft, DeleteSlots, DraftRow, Each, InsertDraft, InsertSlot, SlotRow, drafts_of,
+};
 use sqlite::Alter;
 use std::alloc::{AllocError, Global};
 
@@ -42,7 +44,15 @@ impl<S: Alter> Office<S> {
             return Err(StoreFault::DraftTaken);
         }
         let (parts, slots) = begin(alloc, number, instance, enrolments, text)?;
-        put_draft(&mut self.conn, draft_row(number, parts), &slots)?;
+        let draft = Both {
+            first: InsertDraft {
+                row: draft_row(number, parts),
+            },
+            second: Each {
+                alterations: &slots,
+            },
+        };
+        put(&mut self.conn, &draft)?;
         Ok(parts.total())
     }
 
@@ -59,7 +69,11 @@ impl<S: Alter> Office<S> {
         if rows.is_empty() {
             return Err(StoreFault::NoDraft);
         }
-        remove_draft(&mut self.conn, number)?;
+        let draft = Both {
+            first: DeleteDraft { no: number },
+            second: DeleteSlots { draft: number },
+        };
+        put(&mut self.conn, &draft)?;
         Ok(())
     }
 
@@ -98,10 +112,11 @@ fn begin(
     instance: &Instance,
     enrolments: &Enrolments,
     text: &[u8],
-) -> Result<(Parts, Vec<SlotRow>), StoreFault>
+) -> Result<(Parts, Vec<InsertSlot>), StoreFault>
     requires together { length enrolments.now ≡ length instance.now.exams }
     ensures ok { IfOk result (λ begun.
-        Begins number text.now instance.now enrolments.now begun.0 begun.1.items) }
+        Begins number text.now instance.now enrolments.now begun.0
+        (map (λ it. it.row) begun.1.items)) }
     ensures err { IfErr result (λ e. (e ≡ StoreFault.Store)
         ⊎ (first_timetable text.now instance.now ≡ Err e)) }
 {
@@ -129,22 +144,24 @@ fn first_timetable(alloc: Global, instance: &Instance, text: &[u8]) -> Result<Ti
 }
 
 // The rows of the placed exams, by exam.
-pub(crate) fn slot_rows(
+fn slot_rows(
     alloc: Global,
     draft: u32,
     timetable: &Timetable,
-) -> Result<Vec<SlotRow>, AllocError>
-    ensures { IfOk result (λ rows. rows.items ≡ slots_from draft 0 timetable.now) }
+) -> Result<Vec<InsertSlot>, AllocError>
+    ensures { IfOk result (λ rows. map (λ it. it.row) rows.items
+        ≡ slots_from draft 0 timetable.now) }
 {
     let mut rows = Vec::new(alloc);
     for exam in 0..timetable.exams() {
         if let Some(place) = timetable.get(ExamNo::new(exam)) {
-            rows.push(SlotRow {
+            let row = SlotRow {
                 draft,
                 exam,
                 period: place.period.get(),
                 room: place.room.get(),
-            })?;
+            };
+            rows.push(InsertSlot { row })?;
         }
     }
     Ok(rows)

@@ -1,5 +1,5 @@
 // Drafts are edited.
-ghost use Rattle.std.specs.Prelude.{◌≡◌, ◌⊎◌, ◌<◌, length, All, Err, IfErr, IfOk, Ok, OnOk, Some};
+ghost use Rattle.std.specs.Prelude.{◌≡◌, ◌⊎◌, ◌<◌, length, map, All, Err, IfErr, IfOk, Ok, OnOk, Some};
 ghost use Rattle.sqlite.specs.Held.{state};
 ghost use Rattle.sqlite.specs.State.{HasCleanDisk};
 ghost use Rattle.exam_model.specs.Fits.{Fits};
@@ -8,6 +8,7 @@ ghost use Rattle.office_model.specs.Office.{AreRecords, OfficeState, Records};
 ghost use Rattle.office_records.specs.Memory.{memory_of};
 ghost use Rattle.office_records.specs.Stands.{IsKept};
 ghost use Rattle.office_model.specs.Commands.{draft_edited, named};
+ghost use Rattle.office_store.specs.Changes.{moved, new_place};
 ghost use Rattle.office_store.specs.Editing.{Edits, Judges};
 ghost use Rattle.office_store.specs.Folding.{HasRead, IsSame};
 ghost use Rattle.office_store.specs.Reading.{AreRowsOf};
@@ -17,14 +18,15 @@ use crate::folding::penalty_after;
 use crate::office::Office;
 use crate::pricing::stored_penalty;
 use crate::reading::DraftRows;
-use crate::transactions::put_edit;
+use crate::transactions::put;
 use exam_draft::{Edit, judge};
-use exam_model::{Enrolments, ExamNo, Instance, Timetable};
+use exam_model::{Enrolments, ExamNo, Instance, Place, Timetable};
 use exam_score::Parts;
 use office_model::{Refusal, StoreFault};
 use office_records::{draft_row, timetable_of};
+use office_tables::{Both, DeleteDraft, DeleteSlot, Each, InsertDraft, InsertSlot, SlotRow};
 use sqlite::{Alter, Connection};
-use std::alloc::Global;
+use std::alloc::{AllocError, Global};
 
 // The timetable of a draft before an edit, with its penalty, and after it.
 #[derive(Drop)]
@@ -46,7 +48,21 @@ impl<S: Alter> Office<S> {
         let found = self.draft_rows(alloc, number)?;
         let (timetable, parts) = self.edited_draft(alloc, number, &found, edit)?;
         let exams = edit.exams(alloc)?;
-        put_edit(&mut self.conn, draft_row(number, parts), &timetable, &exams)?;
+        let row = draft_row(number, parts);
+        let places = new_places(alloc, row.no, &timetable, &exams)?;
+        let draft = Both {
+            first: DeleteDraft { no: row.no },
+            second: InsertDraft { row },
+        };
+        put(
+            &mut self.conn,
+            &Both {
+                first: draft,
+                second: Each {
+                    alterations: &places,
+                },
+            },
+        )?;
         Ok(parts.total())
     }
 
@@ -160,5 +176,42 @@ fn new_timetable(
     match judge(alloc, instance, enrolments, old, edit) {
         Ok(new) => Ok(new),
         Err(fault) => Err(StoreFault::of_edit(fault)),
+    }
+}
+
+// Each of these exams goes where it stood in the draft, and comes where it stands in the timetable.
+fn new_places(
+    alloc: Global,
+    draft: u32,
+    timetable: &Timetable,
+    exams: &[ExamNo],
+) -> Result<Vec<Moved>, AllocError>
+    requires exist { All (λ e. e < length timetable.now) exams.now }
+    ensures { IfOk result (λ places. places.items ≡ map (new_place draft timetable.now) exams.now) }
+{
+    let mut places = Vec::new(alloc);
+    for exam in exams {
+        places.push(moved(draft, *exam, timetable.get(*exam)))?;
+    }
+    Ok(places)
+}
+
+// An exam's place in a draft goes, and another comes, if there is one.
+type Moved = Both<DeleteSlot, Option<InsertSlot>>;
+
+fn moved(draft: u32, exam: ExamNo, place: Option<Place>) -> Moved
+    ensures { result ≡ moved draft exam place }
+{
+    let exam = exam.get();
+    Both {
+        first: DeleteSlot { draft, exam },
+        second: place.map(|at| InsertSlot {
+            row: SlotRow {
+                draft,
+                exam,
+                period: at.period.get(),
+                room: at.room.get(),
+            },
+        }),
     }
 }

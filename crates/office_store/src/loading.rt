@@ -10,12 +10,12 @@ ghost use Rattle.office_store.specs.Running.{Runs};
 ghost use Rattle.office_records.specs.Stands.{enrol_row};
 
 use crate::office::Office;
-use crate::transactions::put_session;
+use crate::transactions::put;
 use exam_model::{Enrolments, ExamNo, Instance, StudentNo};
 use office_files::read_instance;
 use office_model::{Loaded, StoreFault};
 use office_records::text_of;
-use office_tables::EnrolRow;
+use office_tables::{Both, DeleteMeta, Each, EnrolRow, InsertEnrol, InsertMeta};
 use sqlite::Alter;
 use std::alloc::{AllocError, Global};
 
@@ -41,7 +41,21 @@ impl<S: Alter> Office<S> {
         let loaded = counts_of(&instance, &enrolments);
         let stored = text_of(alloc, &instance)?;
         let rows = enrol_rows(alloc, &enrolments)?;
-        put_session(&mut self.conn, &stored, &rows)?;
+        let meta = Both {
+            first: DeleteMeta,
+            second: InsertMeta {
+                published: false,
+                instance: &stored,
+            },
+        };
+        let pairs = Each { alterations: &rows };
+        put(
+            &mut self.conn,
+            &Both {
+                first: meta,
+                second: pairs,
+            },
+        )?;
         self.kept = Some((instance, enrolments));
         Ok(loaded)
     }
@@ -60,23 +74,29 @@ fn counts_of(instance: &Instance, enrolments: &Enrolments) -> Loaded
     }
 }
 
-fn add_rows(rows: &mut Vec<EnrolRow>, exam: u32, students: &[StudentNo]) -> Result<(), AllocError>
-    ensures rows { OnOk result (rows.new.items
-        ≡ rows.old.items ++ map enrol_row (pairs_at exam students.now)) }
+fn add_rows(
+    rows: &mut Vec<InsertEnrol>,
+    exam: u32,
+    students: &[StudentNo],
+) -> Result<(), AllocError>
+    ensures rows { OnOk result (map (λ it. it.row) rows.new.items
+        ≡ map (λ it. it.row) rows.old.items ++ map enrol_row (pairs_at exam students.now)) }
     ensures numbers { OnOk result (All (λ s. s ≤ 999999999) students.now) }
 {
     for student in students {
-        rows.push(EnrolRow {
+        let row = EnrolRow {
             student: student.get(),
             exam,
-        })?;
+        };
+        rows.push(InsertEnrol { row })?;
     }
     Ok(())
 }
 
 // The rows of the pairs, by exam and then by student.
-fn enrol_rows(alloc: Global, enrolments: &Enrolments) -> Result<Vec<EnrolRow>, AllocError>
-    ensures rows { IfOk result (λ rows. rows.items ≡ map enrol_row (pairs_of enrolments.now)) }
+fn enrol_rows(alloc: Global, enrolments: &Enrolments) -> Result<Vec<InsertEnrol>, AllocError>
+    ensures rows { IfOk result (λ rows. map (λ it. it.row) rows.items
+        ≡ map enrol_row (pairs_of enrolments.now)) }
     ensures numbers { IfOk result (λ _. (e : ℕ) → e < length enrolments.now
         → All (λ s. s ≤ 999999999) (students enrolments.now e)) }
 {

@@ -19,7 +19,7 @@ use office_model::{Counts, StoreFault};
 use office_records::rescored;
 use office_tables::{
     Alteration, Both, DeleteDrafts, DeleteEnrol, DraftRow, Each, EnrolRow, InsertBatch,
-    InsertDraft, insert_enrol, transact,
+    InsertDraft, InsertEnrol, transact,
 };
 use sqlite::{Alter, Connection, Error, Transaction};
 use std::alloc::{AllocError, Global};
@@ -152,7 +152,8 @@ impl Alteration for PutLine {
         let student = self.change.student.get();
         let exam = self.change.exam.get();
         if self.change.add {
-            insert_enrol(tx, EnrolRow { student, exam })
+            let row = EnrolRow { student, exam };
+            InsertEnrol { row }.apply(tx)
         } else {
             DeleteEnrol { student, exam }.apply(tx)
         }

@@ -4,16 +4,17 @@ ghost use Rattle.sqlite.specs.Held.{state};
 ghost use Rattle.sqlite.specs.State.{HasCleanDisk};
 ghost use Rattle.office_model.specs.Commands.{owned, owner_in};
 ghost use Rattle.office_model.specs.Office.{OfficeState};
+ghost use Rattle.office_store.specs.Changes.{new_owner};
 ghost use Rattle.office_store.specs.Running.{IsAwake, Now, Reads, Runs};
 ghost use Rattle.office_records.specs.Stands.{some_dept};
 
 use crate::fault::Failed;
 use crate::office::Office;
-use crate::transactions::put_owner;
+use crate::transactions::put;
 use exam_draft::EditFault;
 use exam_model::ExamNo;
 use office_model::{Refusal, StoreFault};
-use office_tables::{OwnerRow, owners_of};
+use office_tables::{Both, DeleteOwner, InsertOwner, OwnerRow, owners_of};
 use sqlite::Alter;
 use std::alloc::Global;
 
@@ -32,7 +33,12 @@ impl<S: Alter> Office<S> {
         if exam.get() >= instance.exams() {
             return Err(StoreFault::Refused(Refusal::Edit(EditFault::NoSuch)));
         }
-        put_owner(&mut self.conn, exam.get(), dept)?;
+        let exam = exam.get();
+        let owner = Both {
+            first: DeleteOwner { exam },
+            second: new_owner(exam, dept),
+        };
+        put(&mut self.conn, &owner)?;
         Ok(())
     }
 
@@ -67,4 +73,15 @@ impl<S: Alter> Office<S> {
         let rows = owners_of(alloc, &mut self.conn, exam.get())?;
         Ok(rows)
     }
+}
+
+// The row of an exam's owner; a department 0 is none.
+fn new_owner(exam: u32, dept: u32) -> Option<InsertOwner>
+    ensures { result ≡ new_owner exam dept }
+{
+    if dept == 0 {
+        return None;
+    }
+    let row = OwnerRow { exam, dept };
+    Some(InsertOwner { row })
 }

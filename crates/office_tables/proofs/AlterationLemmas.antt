@@ -3,15 +3,17 @@ use Rattle.std.proofs.Common.{◌≡◌, List, [], ◌∷◌, ◌++◌, map, rev
 use Rattle.std.specs.List.{list_any}
 use Rattle.std.proofs.lemmas.List.{reverse-append}
 use Rattle.office_tables.specs.Alterations.{after_all}
-use Rattle.office_tables.specs.Changes.{with_draft, with_placement, with_seat, without_student_seats, with_student_share, without_student_share, with_part_share}
+use Rattle.office_tables.specs.Changes.{with_draft, with_enrol, with_enrols, with_placement, with_seat, without_student_seats, with_slot, with_slots, with_student_share, without_student_share, with_part_share}
 use Rattle.office_tables.specs.Tables.{Tables}
 use Rattle.office_tables.specs.declared.drafts.InsertDraft.{InsertDraft}
+use Rattle.office_tables.specs.declared.enrolments.InsertEnrol.{InsertEnrol}
 use Rattle.office_tables.specs.declared.placing.InsertPlacement.{InsertPlacement}
 use Rattle.office_tables.specs.declared.seating.DeleteStudentSeats.{DeleteStudentSeats}
 use Rattle.office_tables.specs.declared.seating.InsertSeat.{InsertSeat}
 use Rattle.office_tables.specs.declared.sharing.DeleteStudentShare.{DeleteStudentShare}
 use Rattle.office_tables.specs.declared.sharing.InsertPartShare.{InsertPartShare}
 use Rattle.office_tables.specs.declared.sharing.InsertStudentShare.{InsertStudentShare}
+use Rattle.office_tables.specs.declared.slots.InsertSlot.{InsertSlot}
 
 -- a row that comes before others comes last of their reverse
 first_last : {X : Type 0} (x : X) (xs ys : List X)
@@ -19,6 +21,20 @@ first_last : {X : Type 0} (x : X) (xs ys : List X)
 first_last x xs ys =
     sym (append_assoc (reverse xs) (x ∷ []) ys)
     ∙ ap (λ l. l ++ ys) (sym (reverse-append (x ∷ []) xs))
+
+pub enrols_put : (its : List InsertEnrol) (t : Tables)
+    → after_all (λ it. with_enrol it.row) its t ≡ with_enrols (map (λ it. it.row) its) t
+enrols_put [] t = refl
+enrols_put (it ∷ rest) t =
+    enrols_put rest (with_enrol it.row t)
+    ∙ ap (λ l. record t { enrol = l }) (first_last it.row (map (λ x. x.row) rest) t.enrol)
+
+pub slots_put : (its : List InsertSlot) (t : Tables)
+    → after_all (λ it. with_slot it.row) its t ≡ with_slots (map (λ it. it.row) its) t
+slots_put [] t = refl
+slots_put (it ∷ rest) t =
+    slots_put rest (with_slot it.row t)
+    ∙ ap (λ l. record t { slot = l }) (first_last it.row (map (λ x. x.row) rest) t.slot)
 
 pub drafts_put : (its : List InsertDraft) (t : Tables)
     → after_all (λ it. with_draft it.row) its t

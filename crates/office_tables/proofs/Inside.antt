@@ -1,6 +1,6 @@
 -- What a statement inside a transaction leaves of it.
-use Rattle.std.proofs.Common.{◌+◌, ◌<◌, ◌++◌, ◌∷◌, [], reverse, take, get_or, length, ◌≡◌, inl, inr, ℕ, List, Bool, true, false, Ok, Err, Result, refl, sym, ap, ◌∙◌, IsTrue, arith, OnOk}
-use Rattle.std.proofs.lemmas.List.{take_more, reverse-append}
+use Rattle.std.proofs.Common.{◌+◌, ◌<◌, ◌++◌, ◌∷◌, [], take, get_or, length, ◌≡◌, inl, inr, ℕ, List, Bool, true, false, Ok, Err, Result, refl, sym, ap, ◌∙◌, IsTrue, arith, OnOk}
+use Rattle.std.proofs.lemmas.List.{take_more}
 use Rattle.sqlite_value.specs.Order.{Row}
 use Rattle.sqlite.specs.declared.error.Error.{Error}
 use Rattle.sqlite.specs.State.{State, HasCleanDisk, Executes, ExecutesInside, KeepsCommit}
@@ -51,14 +51,6 @@ pub changes_by : (f : Tables → Tables) (sql : List ℕ) (params : Row) (old ne
     → OnOk r (HasRun sql params old new) → OnOk r (Makes f old new)
 changes_by f sql params old new r step =
     on_ok_weaker r (λ ran. (ran.inside, λ t stands. step ran.count t stands ran.executed))
-
--- ---- a loop of inserts
-
-pub one_more : {X : Type 0} (xs ys : List X) (i : ℕ) (d : X) → i < length xs
-    → reverse (take (i + 1) xs) ++ ys ≡ get_or xs i d ∷ (reverse (take i xs) ++ ys)
-one_more xs ys i d h =
-    ap (λ l. reverse l ++ ys) (take_more xs i d h)
-    ∙ ap (λ l. l ++ ys) (reverse-append (take i xs) (get_or xs i d ∷ []))
 
 -- ---- alterations, one after the other
 

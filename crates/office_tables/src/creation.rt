@@ -5,7 +5,8 @@ ghost use Rattle.office_tables.specs.Schema.{no_schema, schema_3, schema_5, sche
 ghost use Rattle.office_tables.specs.Steps.{Grows, Within};
 ghost use Rattle.office_tables.specs.Tables.{Stands, empty_tables};
 
-use crate::meta::put_meta;
+use crate::altering::Alteration;
+use crate::meta::InsertMeta;
 use crate::schema::{
     create_batch, create_draft, create_enrol, create_meta, create_owner, create_placed,
     create_seat, create_share_part, create_share_student, create_slot,
@@ -72,5 +73,9 @@ fn create_last_table<S: Alter>(tx: &mut Transaction<'_, S>) -> Result<(), Error>
     ensures within { Within (state S.Store tx.old.conn.now) (state S.Store tx.new.conn.now) }
 {
     create_batch(tx)?;
-    put_meta(tx, false, &[])
+    let row = InsertMeta {
+        published: false,
+        instance: &[],
+    };
+    row.apply(tx)
 }

@@ -5,7 +5,7 @@ ghost use Rattle.sqlite.specs.State.{Survives};
 ghost use Rattle.office_tables.specs.Changes.{with_draft, without_draft, no_drafts};
 ghost use Rattle.office_tables.specs.Tables.{draft_row};
 ghost use Rattle.sqlite.specs.Values.{bound};
-ghost use Rattle.office_tables.specs.Steps.{AnswersOpen, Changes, LeavesAll, LeavesCommitted, Nothing, OpensNone, Reads, Within};
+ghost use Rattle.office_tables.specs.Steps.{AnswersOpen, LeavesAll, LeavesCommitted, Nothing, OpensNone, Reads};
 ghost use Rattle.office_tables.specs.Amounts.{AreAmounts};
 
 use crate::altering::Alteration;
@@ -16,21 +16,6 @@ use crate::streaming::stream;
 use sqlite::types::ValueRef;
 use sqlite::{Alter, Connection, Error, Transaction, params};
 use std::alloc::Global;
-
-/// Adds a draft.
-pub fn insert_draft<S: Alter>(tx: &mut Transaction<'_, S>, row: DraftRow) -> Result<(), Error>
-    requires amounts { AreAmounts row }
-    ensures same_reference { tx.new.conn.ghost_name ≡ tx.old.conn.ghost_name }
-    ensures makes { Changes S.Store (with_draft row) tx.old.conn.now tx.new.conn.now result }
-    ensures within { Within (state S.Store tx.old.conn.now) (state S.Store tx.new.conn.now) }
-{
-    run(
-        tx,
-        "INSERT INTO draft (no, in_row, in_day, spread, mixed, front, period, room) VALUES (?1, \
-         ?2, ?3, ?4, ?5, ?6, ?7, ?8)",
-        &columns_of(row),
-    )
-}
 
 // The columns of a draft.
 fn columns_of(row: DraftRow) -> [ValueRef<'static>; 8]
@@ -49,16 +34,7 @@ fn columns_of(row: DraftRow) -> [ValueRef<'static>; 8]
     ]
 }
 
-/// Takes a draft out.
-pub fn delete_draft<S: Alter>(tx: &mut Transaction<'_, S>, no: u32) -> Result<(), Error>
-    ensures same_reference { tx.new.conn.ghost_name ≡ tx.old.conn.ghost_name }
-    ensures makes { Changes S.Store (without_draft no) tx.old.conn.now tx.new.conn.now result }
-    ensures within { Within (state S.Store tx.old.conn.now) (state S.Store tx.new.conn.now) }
-{
-    run(tx, "DELETE FROM draft WHERE no = ?1", params![no])
-}
-
-/// Adds a draft, as a part of a transaction.
+/// Adds a draft.
 #[derive(Clone, Copy)]
 pub struct InsertDraft {
     pub row: DraftRow,
@@ -70,11 +46,16 @@ impl Alteration for InsertDraft {
     ghost fits = { λ it. AreAmounts it.row };
 
     fn apply<S: Alter>(&self, tx: &mut Transaction<'_, S>) -> Result<(), Error> {
-        insert_draft(tx, self.row)
+        run(
+            tx,
+            "INSERT INTO draft (no, in_row, in_day, spread, mixed, front, period, room) VALUES (?1, \
+             ?2, ?3, ?4, ?5, ?6, ?7, ?8)",
+            &columns_of(self.row),
+        )
     }
 }
 
-/// Takes a draft out, as a part of a transaction.
+/// Takes a draft out.
 #[derive(Clone, Copy)]
 pub struct DeleteDraft {
     pub no: u32,
@@ -86,7 +67,7 @@ impl Alteration for DeleteDraft {
     ghost fits = { λ _. Unit {0} };
 
     fn apply<S: Alter>(&self, tx: &mut Transaction<'_, S>) -> Result<(), Error> {
-        delete_draft(tx, self.no)
+        run(tx, "DELETE FROM draft WHERE no = ?1", params![self.no])
     }
 }
 

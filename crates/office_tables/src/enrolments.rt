@@ -2,9 +2,9 @@
 ghost use Rattle.std.specs.Prelude.{◌≡◌, ◌==◌, false, filter, IsPermutation};
 ghost use Rattle.sqlite.specs.Held.{state};
 ghost use Rattle.sqlite.specs.State.{Survives};
-ghost use Rattle.office_tables.specs.Changes.{with_enrol, with_enrols, without_enrol};
+ghost use Rattle.office_tables.specs.Changes.{with_enrol, without_enrol};
 ghost use Rattle.office_tables.specs.Selections.{HerEnrolsRise, IsInOrder};
-ghost use Rattle.office_tables.specs.Steps.{AnswersOpen, Changes, LeavesAll, LeavesCommitted, Nothing, OpensNone, Reads, Within};
+ghost use Rattle.office_tables.specs.Steps.{AnswersOpen, LeavesAll, LeavesCommitted, Nothing, OpensNone, Reads};
 
 use crate::altering::Alteration;
 use crate::rows::EnrolRow;
@@ -13,32 +13,7 @@ use crate::streaming::stream;
 use sqlite::{Alter, Connection, Error, Transaction, params};
 use std::alloc::Global;
 
-/// Adds a pair of a student and an exam.
-pub fn insert_enrol<S: Alter>(tx: &mut Transaction<'_, S>, row: EnrolRow) -> Result<(), Error>
-    ensures same_reference { tx.new.conn.ghost_name ≡ tx.old.conn.ghost_name }
-    ensures makes { Changes S.Store (with_enrol row) tx.old.conn.now tx.new.conn.now result }
-    ensures within { Within (state S.Store tx.old.conn.now) (state S.Store tx.new.conn.now) }
-{
-    run(
-        tx,
-        "INSERT INTO enrol (student, exam) VALUES (?1, ?2)",
-        params![row.student, row.exam],
-    )
-}
-
-/// Adds each pair.
-pub fn insert_enrols<S: Alter>(tx: &mut Transaction<'_, S>, rows: &[EnrolRow]) -> Result<(), Error>
-    ensures same_reference { tx.new.conn.ghost_name ≡ tx.old.conn.ghost_name }
-    ensures makes { Changes S.Store (with_enrols rows.now) tx.old.conn.now tx.new.conn.now result }
-    ensures within { Within (state S.Store tx.old.conn.now) (state S.Store tx.new.conn.now) }
-{
-    for row in rows {
-        insert_enrol(tx, *row)?;
-    }
-    Ok(())
-}
-
-/// Adds a pair, as a part of a transaction.
+/// Adds a pair.
 #[derive(Clone, Copy)]
 pub struct InsertEnrol {
     pub row: EnrolRow,
@@ -50,7 +25,11 @@ impl Alteration for InsertEnrol {
     ghost fits = { λ _. Unit {0} };
 
     fn apply<S: Alter>(&self, tx: &mut Transaction<'_, S>) -> Result<(), Error> {
-        insert_enrol(tx, self.row)
+        run(
+            tx,
+            "INSERT INTO enrol (student, exam) VALUES (?1, ?2)",
+            params![self.row.student, self.row.exam],
+        )
     }
 }
 

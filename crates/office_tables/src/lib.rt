@@ -1,4 +1,5 @@
-//! The ten tables of an office's SQLite file: one function for each statement.
+//! The ten tables of an office's SQLite file: a value for each statement that changes
+//! them, a function for each that reads.
 #![tactic(auto)]
 
 mod adopted_rows;
@@ -29,12 +30,12 @@ pub use adopting::adopt_tables;
 pub use altering::{Alteration, Both, Each, transact};
 pub use batches::{InsertBatch, batch_numbers, batch_of};
 pub use creation::{create_tables, is_bare};
-pub use drafts::{DeleteDraft, DeleteDrafts, InsertDraft, delete_draft, drafts_of, insert_draft};
-pub use enrolments::{DeleteEnrol, InsertEnrol, enrols_of, insert_enrol, insert_enrols};
+pub use drafts::{DeleteDraft, DeleteDrafts, InsertDraft, drafts_of};
+pub use enrolments::{DeleteEnrol, InsertEnrol, enrols_of};
 pub use found::Found;
 pub use looking::look;
-pub use meta::{DeleteMeta, InsertMeta, delete_meta, is_published, put_meta};
-pub use owners::{DeleteOwner, InsertOwner, delete_owner, insert_owner, owners_of};
+pub use meta::{DeleteMeta, InsertMeta, is_published};
+pub use owners::{DeleteOwner, InsertOwner, owners_of};
 pub use placing::{DeletePlacements, InsertPlacement, placements, placements_of};
 pub use rows::{
     BatchCountsRow, BatchRow, DraftRow, EnrolRow, MetaRow, OwnerRow, PartShareRow, PlacedRow,
@@ -45,7 +46,4 @@ pub use sharing::{
     DeletePartShares, DeleteStudentShare, InsertPartShare, InsertStudentShare, part_shares,
     student_shares, student_shares_of,
 };
-pub use slots::{
-    DeleteSlot, DeleteSlots, InsertSlot, delete_slot, delete_slots, insert_slot, insert_slots,
-    slots_of,
-};
+pub use slots::{DeleteSlot, DeleteSlots, InsertSlot, slots_of};

@@ -5,7 +5,7 @@ ghost use Rattle.sqlite.specs.Held.{state};
 ghost use Rattle.sqlite.specs.State.{Survives};
 ghost use Rattle.office_tables.specs.Changes.{with_meta, no_meta};
 ghost use Rattle.office_tables.specs.Readings.{Finds, IsFoundMeta, Leaves, Looks};
-ghost use Rattle.office_tables.specs.Steps.{AnswersOpen, Changes, LeavesAll, LeavesCommitted, Nothing, OpensNone, Reads, Within};
+ghost use Rattle.office_tables.specs.Steps.{AnswersOpen, LeavesAll, LeavesCommitted, Nothing, OpensNone, Reads};
 ghost use Rattle.office_tables.specs.Tables.{flag, Meta};
 
 use crate::altering::Alteration;
@@ -17,33 +17,7 @@ use crate::streaming::stream;
 use sqlite::{Alter, Connection, Error, Transaction, params};
 use std::alloc::Global;
 
-/// Puts the row in: whether there is a publication, and the instance.
-pub fn put_meta<S: Alter>(
-    tx: &mut Transaction<'_, S>,
-    published: bool,
-    instance: &[u8],
-) -> Result<(), Error>
-    ensures same_reference { tx.new.conn.ghost_name ≡ tx.old.conn.ghost_name }
-    ensures makes { Changes S.Store (with_meta published instance.now) tx.old.conn.now tx.new.conn.now result }
-    ensures within { Within (state S.Store tx.old.conn.now) (state S.Store tx.new.conn.now) }
-{
-    run(
-        tx,
-        "INSERT INTO meta (id, version, published, instance) VALUES (0, 1, ?1, ?2)",
-        params![flag_of(published), instance],
-    )
-}
-
-/// Takes the row out.
-pub fn delete_meta<S: Alter>(tx: &mut Transaction<'_, S>) -> Result<(), Error>
-    ensures same_reference { tx.new.conn.ghost_name ≡ tx.old.conn.ghost_name }
-    ensures makes { Changes S.Store (no_meta) tx.old.conn.now tx.new.conn.now result }
-    ensures within { Within (state S.Store tx.old.conn.now) (state S.Store tx.new.conn.now) }
-{
-    run(tx, "DELETE FROM meta", &[])
-}
-
-/// Puts the row in, as a part of a transaction.
+/// Puts the row in.
 #[derive(Clone, Copy)]
 pub struct InsertMeta<'a> {
     pub published: bool,
@@ -56,11 +30,15 @@ impl Alteration for InsertMeta<'_> {
     ghost fits = { λ _. Unit {0} };
 
     fn apply<S: Alter>(&self, tx: &mut Transaction<'_, S>) -> Result<(), Error> {
-        put_meta(tx, self.published, self.instance)
+        run(
+            tx,
+            "INSERT INTO meta (id, version, published, instance) VALUES (0, 1, ?1, ?2)",
+            params![flag_of(self.published), self.instance],
+        )
     }
 }
 
-/// Takes the row out, as a part of a transaction.
+/// Takes the row out.
 #[derive(Clone, Copy)]
 pub struct DeleteMeta;
 
@@ -70,7 +48,7 @@ impl Alteration for DeleteMeta {
     ghost fits = { λ _. Unit {0} };
 
     fn apply<S: Alter>(&self, tx: &mut Transaction<'_, S>) -> Result<(), Error> {
-        delete_meta(tx)
+        run(tx, "DELETE FROM meta", &[])
     }
 }
 

@@ -3,7 +3,7 @@ ghost use Rattle.std.specs.Prelude.{◌≡◌, ◌==◌, false, filter, IsPermut
 ghost use Rattle.sqlite.specs.Held.{state};
 ghost use Rattle.sqlite.specs.State.{Survives};
 ghost use Rattle.office_tables.specs.Changes.{with_owner, without_owner};
-ghost use Rattle.office_tables.specs.Steps.{AnswersOpen, Changes, LeavesAll, LeavesCommitted, Nothing, OpensNone, Reads, Within};
+ghost use Rattle.office_tables.specs.Steps.{AnswersOpen, LeavesAll, LeavesCommitted, Nothing, OpensNone, Reads};
 
 use crate::altering::Alteration;
 use crate::rows::OwnerRow;
@@ -13,28 +13,6 @@ use sqlite::{Alter, Connection, Error, Transaction, params};
 use std::alloc::Global;
 
 /// Adds an owner.
-pub fn insert_owner<S: Alter>(tx: &mut Transaction<'_, S>, row: OwnerRow) -> Result<(), Error>
-    ensures same_reference { tx.new.conn.ghost_name ≡ tx.old.conn.ghost_name }
-    ensures makes { Changes S.Store (with_owner row) tx.old.conn.now tx.new.conn.now result }
-    ensures within { Within (state S.Store tx.old.conn.now) (state S.Store tx.new.conn.now) }
-{
-    run(
-        tx,
-        "INSERT INTO owner (exam, dept) VALUES (?1, ?2)",
-        params![row.exam, row.dept],
-    )
-}
-
-/// Takes an exam's owner away.
-pub fn delete_owner<S: Alter>(tx: &mut Transaction<'_, S>, exam: u32) -> Result<(), Error>
-    ensures same_reference { tx.new.conn.ghost_name ≡ tx.old.conn.ghost_name }
-    ensures makes { Changes S.Store (without_owner exam) tx.old.conn.now tx.new.conn.now result }
-    ensures within { Within (state S.Store tx.old.conn.now) (state S.Store tx.new.conn.now) }
-{
-    run(tx, "DELETE FROM owner WHERE exam = ?1", params![exam])
-}
-
-/// Adds an owner, as a part of a transaction.
 #[derive(Clone, Copy)]
 pub struct InsertOwner {
     pub row: OwnerRow,
@@ -46,11 +24,15 @@ impl Alteration for InsertOwner {
     ghost fits = { λ _. Unit {0} };
 
     fn apply<S: Alter>(&self, tx: &mut Transaction<'_, S>) -> Result<(), Error> {
-        insert_owner(tx, self.row)
+        run(
+            tx,
+            "INSERT INTO owner (exam, dept) VALUES (?1, ?2)",
+            params![self.row.exam, self.row.dept],
+        )
     }
 }
 
-/// Takes an exam's owner away, as a part of a transaction.
+/// Takes an exam's owner away.
 #[derive(Clone, Copy)]
 pub struct DeleteOwner {
     pub exam: u32,
@@ -62,7 +44,7 @@ impl Alteration for DeleteOwner {
     ghost fits = { λ _. Unit {0} };
 
     fn apply<S: Alter>(&self, tx: &mut Transaction<'_, S>) -> Result<(), Error> {
-        delete_owner(tx, self.exam)
+        run(tx, "DELETE FROM owner WHERE exam = ?1", params![self.exam])
     }
 }
 

@@ -2,8 +2,8 @@
 ghost use Rattle.std.specs.Prelude.{◌≡◌, ◌==◌, false, filter, IsPermutation};
 ghost use Rattle.sqlite.specs.Held.{state};
 ghost use Rattle.sqlite.specs.State.{Survives};
-ghost use Rattle.office_tables.specs.Changes.{with_slot, with_slots, without_slot, without_slots};
-ghost use Rattle.office_tables.specs.Steps.{AnswersOpen, Changes, LeavesAll, LeavesCommitted, Nothing, OpensNone, Reads, Within};
+ghost use Rattle.office_tables.specs.Changes.{with_slot, without_slot, without_slots};
+ghost use Rattle.office_tables.specs.Steps.{AnswersOpen, LeavesAll, LeavesCommitted, Nothing, OpensNone, Reads};
 
 use crate::altering::Alteration;
 use crate::rows::SlotRow;
@@ -13,57 +13,6 @@ use sqlite::{Alter, Connection, Error, Transaction, params};
 use std::alloc::Global;
 
 /// Adds a placement.
-pub fn insert_slot<S: Alter>(tx: &mut Transaction<'_, S>, row: SlotRow) -> Result<(), Error>
-    ensures same_reference { tx.new.conn.ghost_name ≡ tx.old.conn.ghost_name }
-    ensures makes { Changes S.Store (with_slot row) tx.old.conn.now tx.new.conn.now result }
-    ensures within { Within (state S.Store tx.old.conn.now) (state S.Store tx.new.conn.now) }
-{
-    run(
-        tx,
-        "INSERT INTO slot (draft, exam, period, room) VALUES (?1, ?2, ?3, ?4)",
-        params![row.draft, row.exam, row.period, row.room],
-    )
-}
-
-/// Adds each placement.
-pub fn insert_slots<S: Alter>(tx: &mut Transaction<'_, S>, rows: &[SlotRow]) -> Result<(), Error>
-    ensures same_reference { tx.new.conn.ghost_name ≡ tx.old.conn.ghost_name }
-    ensures makes { Changes S.Store (with_slots rows.now) tx.old.conn.now tx.new.conn.now result }
-    ensures within { Within (state S.Store tx.old.conn.now) (state S.Store tx.new.conn.now) }
-{
-    for row in rows {
-        insert_slot(tx, *row)?;
-    }
-    Ok(())
-}
-
-/// Takes all placements of a draft out.
-pub fn delete_slots<S: Alter>(tx: &mut Transaction<'_, S>, draft: u32) -> Result<(), Error>
-    ensures same_reference { tx.new.conn.ghost_name ≡ tx.old.conn.ghost_name }
-    ensures makes { Changes S.Store (without_slots draft) tx.old.conn.now tx.new.conn.now result }
-    ensures within { Within (state S.Store tx.old.conn.now) (state S.Store tx.new.conn.now) }
-{
-    run(tx, "DELETE FROM slot WHERE draft = ?1", params![draft])
-}
-
-/// Takes an exam's placement in a draft out.
-pub fn delete_slot<S: Alter>(
-    tx: &mut Transaction<'_, S>,
-    draft: u32,
-    exam: u32,
-) -> Result<(), Error>
-    ensures same_reference { tx.new.conn.ghost_name ≡ tx.old.conn.ghost_name }
-    ensures makes { Changes S.Store (without_slot draft exam) tx.old.conn.now tx.new.conn.now result }
-    ensures within { Within (state S.Store tx.old.conn.now) (state S.Store tx.new.conn.now) }
-{
-    run(
-        tx,
-        "DELETE FROM slot WHERE draft = ?1 AND exam = ?2",
-        params![draft, exam],
-    )
-}
-
-/// Adds a placement, as a part of a transaction.
 #[derive(Clone, Copy)]
 pub struct InsertSlot {
     pub row: SlotRow,
@@ -75,11 +24,20 @@ impl Alteration for InsertSlot {
     ghost fits = { λ _. Unit {0} };
 
     fn apply<S: Alter>(&self, tx: &mut Transaction<'_, S>) -> Result<(), Error> {
-        insert_slot(tx, self.row)
+        run(
+            tx,
+            "INSERT INTO slot (draft, exam, period, room) VALUES (?1, ?2, ?3, ?4)",
+            params![
+                self.row.draft,
+                self.row.exam,
+                self.row.period,
+                self.row.room
+            ],
+        )
     }
 }
 
-/// Takes all placements of a draft out, as a part of a transaction.
+/// Takes all placements of a draft out.
 #[derive(Clone, Copy)]
 pub struct DeleteSlots {
     pub draft: u32,
@@ -91,11 +49,11 @@ impl Alteration for DeleteSlots {
     ghost fits = { λ _. Unit {0} };
 
     fn apply<S: Alter>(&self, tx: &mut Transaction<'_, S>) -> Result<(), Error> {
-        delete_slots(tx, self.draft)
+        run(tx, "DELETE FROM slot WHERE draft = ?1", params![self.draft])
     }
 }
 
-/// Takes an exam's placement in a draft out, as a part of a transaction.
+/// Takes an exam's placement in a draft out.
 #[derive(Clone, Copy)]
 pub struct DeleteSlot {
     pub draft: u32,
@@ -108,7 +66,11 @@ impl Alteration for DeleteSlot {
     ghost fits = { λ _. Unit {0} };
 
     fn apply<S: Alter>(&self, tx: &mut Transaction<'_, S>) -> Result<(), Error> {
-        delete_slot(tx, self.draft, self.exam)
+        run(
+            tx,
+            "DELETE FROM slot WHERE draft = ?1 AND exam = ?2",
+            params![self.draft, self.exam],
+        )
     }
 }
 

@@ -4,11 +4,11 @@ ghost use Rattle.office_tables.specs.Amounts.{ArePartAmounts, AreStudentAmounts}
 use crate::given::assert_same;
 use crate::tables::created;
 use office_tables::{
-    Both, DeleteMeta, DeletePartShares, DeletePlacements, DeleteStudentSeats, DeleteStudentShare,
-    Each, EnrolRow, InsertMeta, InsertPartShare, InsertPlacement, InsertSeat, InsertStudentShare,
-    PartShareRow, PlacedRow, SeatRow, StudentShareRow, adopt_tables, enrols_of, insert_enrols,
-    is_published, part_shares, placements, placements_of, seats, seats_of, student_shares,
-    student_shares_of, transact,
+    Alteration, Both, DeleteMeta, DeletePartShares, DeletePlacements, DeleteStudentSeats,
+    DeleteStudentShare, Each, EnrolRow, InsertEnrol, InsertMeta, InsertPartShare, InsertPlacement,
+    InsertSeat, InsertStudentShare, PartShareRow, PlacedRow, SeatRow, StudentShareRow,
+    adopt_tables, enrols_of, is_published, part_shares, placements, placements_of, seats, seats_of,
+    student_shares, student_shares_of, transact,
 };
 use sqlite::{Connection, MemStore};
 use std::alloc::Global;
@@ -60,7 +60,9 @@ fn published(alloc: Global) -> Result<Connection<MemStore>, Fail> {
     }
     let mut tx = conn.transaction();
     let pairs = [(2, 2), (1, 0), (2, 0)].map(|(student, exam)| EnrolRow { student, exam });
-    insert_enrols(&mut tx, &pairs)?;
+    for row in pairs {
+        InsertEnrol { row }.apply(&mut tx)?;
+    }
     tx.commit()?;
     if !conn.is_autocommit() {
         return Err("a transaction is open")?;

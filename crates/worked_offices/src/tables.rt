@@ -1,9 +1,9 @@
 // The tables of an office's file, over a database in memory.
 use crate::given::assert_same;
 use office_tables::{
-    DraftRow, EnrolRow, OwnerRow, SlotRow, adopt_tables, create_tables, delete_draft, delete_meta,
-    delete_owner, delete_slot, delete_slots, drafts_of, insert_draft, insert_enrol, insert_enrols,
-    insert_owner, insert_slot, insert_slots, is_bare, look, owners_of, put_meta, slots_of,
+    Alteration, Both, DeleteDraft, DeleteMeta, DeleteOwner, DeleteSlot, DeleteSlots, DraftRow,
+    Each, EnrolRow, InsertDraft, InsertEnrol, InsertMeta, InsertOwner, InsertSlot, OwnerRow,
+    SlotRow, adopt_tables, create_tables, drafts_of, is_bare, look, owners_of, slots_of,
 };
 use sqlite::{Connection, Error, MemStore, Transaction};
 use std::alloc::Global;
@@ -66,11 +66,21 @@ fn tables_are_made_once(rt: HostRuntime) -> Result<(), Fail> {
 }
 
 fn put_some(tx: &mut Transaction<'_, MemStore>) -> Result<(), Error> {
-    delete_meta(tx)?;
-    put_meta(tx, false, b"[Exams:1]")?;
-    insert_owner(tx, OWNER)?;
-    insert_draft(tx, DRAFT)?;
-    insert_slots(tx, &three_slots())
+    let meta = Both {
+        first: DeleteMeta,
+        second: InsertMeta {
+            published: false,
+            instance: b"[Exams:1]",
+        },
+    };
+    meta.apply(tx)?;
+    InsertOwner { row: OWNER }.apply(tx)?;
+    InsertDraft { row: DRAFT }.apply(tx)?;
+    let slots = three_slots().map(|row| InsertSlot { row });
+    Each {
+        alterations: &slots,
+    }
+    .apply(tx)
 }
 
 // Has one owner, one draft and three slots, and these enrolments.
@@ -81,7 +91,9 @@ fn filled(alloc: Global, pairs: &[EnrolRow]) -> Result<Connection<MemStore>, Fai
     }
     let mut tx = conn.transaction();
     put_some(&mut tx)?;
-    insert_enrols(&mut tx, pairs)?;
+    for pair in pairs {
+        InsertEnrol { row: *pair }.apply(&mut tx)?;
+    }
     tx.commit()?;
     Ok(conn)
 }
@@ -123,26 +135,24 @@ fn rows_come_back(rt: HostRuntime) -> Result<(), Fail> {
 }
 
 fn put_one_by_one(tx: &mut Transaction<'_, MemStore>) -> Result<(), Error> {
-    insert_owner(tx, OWNER)?;
-    insert_enrol(
-        tx,
-        EnrolRow {
-            student: 1,
-            exam: 0,
-        },
-    )?;
-    insert_draft(tx, DRAFT)?;
-    for slot in three_slots() {
-        insert_slot(tx, slot)?;
+    InsertOwner { row: OWNER }.apply(tx)?;
+    let row = EnrolRow {
+        student: 1,
+        exam: 0,
+    };
+    InsertEnrol { row }.apply(tx)?;
+    InsertDraft { row: DRAFT }.apply(tx)?;
+    for row in three_slots() {
+        InsertSlot { row }.apply(tx)?;
     }
     Ok(())
 }
 
 fn delete_most(tx: &mut Transaction<'_, MemStore>) -> Result<(), Error> {
-    delete_owner(tx, 0)?;
-    delete_draft(tx, 1)?;
-    delete_slot(tx, 1, 2)?;
-    delete_slots(tx, 2)
+    DeleteOwner { exam: 0 }.apply(tx)?;
+    DeleteDraft { no: 1 }.apply(tx)?;
+    DeleteSlot { draft: 1, exam: 2 }.apply(tx)?;
+    DeleteSlots { draft: 2 }.apply(tx)
 }
 
 #[test]

@@ -5,7 +5,7 @@ use Rattle.office_store.proofs.loading.add_rows.Given as goal
 
 abbrev pub invariant-loop-student : goal.invariant-loop-student
 invariant-loop-student l = record {
-  rows : l.rows.items
-      ≡ l.fn.rows.items ++ map enrol_row (pairs_at l.exam (take l.student-index l.students));
+  rows : map (λ it. it.row) l.rows.items
+      ≡ map (λ it. it.row) l.fn.rows.items ++ map enrol_row (pairs_at l.exam (take l.student-index l.students));
   numbers : (k d : ℕ) → k < l.student-index → slice_index_or l.students k d ≤ 999999999;
 }

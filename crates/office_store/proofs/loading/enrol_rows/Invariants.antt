@@ -6,6 +6,6 @@ use Rattle.office_store.proofs.loading.enrol_rows.Given as goal
 
 abbrev pub invariant-loop-number : goal.invariant-loop-number
 invariant-loop-number l = record {
-  rows : l.rows.items ≡ map enrol_row (pairs_of (take l.number l.enrolments));
+  rows : map (λ it. it.row) l.rows.items ≡ map enrol_row (pairs_of (take l.number l.enrolments));
   numbers : (e : ℕ) → e < l.number → All (λ s. s ≤ 999999999) (students l.enrolments e);
 }

@@ -24,16 +24,16 @@ returns-then-is_empty-clause-runs g c =
 
 pub invariant_of-self-2 : goal.invariant_of-self-2
 invariant_of-self-2 g c = (
-  c.in_ok-remove_draft.ensures.rests,
+  c.in_ok-put.ensures.rests,
   rests (draft_dropped c.args.number) (state g.S.Store c.self.inside.conn)
-      (state g.S.Store c.remove_draft.new.conn) c.self.inside.kept c.self.inside.kept tt
-      c.self.invariant.1 c.remove_draft.ensures.clean
-      (λ k. (c.in_ok-remove_draft.ensures.done k).was_open)
+      (state g.S.Store c.put.new.conn) c.self.inside.kept c.self.inside.kept tt
+      c.self.invariant.1 c.put.ensures.clean
+      (λ k. (c.in_ok-put.ensures.done k).was_open)
       (λ k. drop_moves c.args.number c.in_ok-rows.rows.items _ c.in_ok-rows.rows.ok.0 _
       (seen g.S.Store c.drafts.new.self c.self.inside.conn c.self.view_is _ c.in_ok-rows.ensures.rows
-      (c.remove_draft.ensures.clean k))
+      (c.put.ensures.clean k))
       c.self.inside.kept _ c.if-is_none.ensures c.if-is_empty.ensures
-      (c.in_ok-remove_draft.ensures.done k).makes),
+      (c.in_ok-put.ensures.done k).makes),
   c.self.invariant.2,
 )
 
@@ -41,10 +41,10 @@ pub returns-clause-runs : goal.returns-clause-runs
 returns-clause-runs g c =
     runs g.S.Store (draft_dropped c.args.number) c.args.self.now c.drafts.new.self
     c.self.inside.conn c.self.inside.kept c.self.view_is c.self.invariant.1
-    c.in_ok-rows.ensures.awake c.in_ok-rows.ensures.still c.remove_draft.new.conn
-    c.self.inside.kept tt c.remove_draft.ensures.clean
+    c.in_ok-rows.ensures.awake c.in_ok-rows.ensures.still c.put.new.conn
+    c.self.inside.kept tt c.put.ensures.clean
     (λ k. drop_moves c.args.number c.in_ok-rows.rows.items _ c.in_ok-rows.rows.ok.0 _
     (seen g.S.Store c.drafts.new.self c.self.inside.conn c.self.view_is _ c.in_ok-rows.ensures.rows
-    (c.remove_draft.ensures.clean k))
+    (c.put.ensures.clean k))
     c.self.inside.kept _ c.if-is_none.ensures c.if-is_empty.ensures
-    (c.in_ok-remove_draft.ensures.done k).makes)
+    (c.in_ok-put.ensures.done k).makes)

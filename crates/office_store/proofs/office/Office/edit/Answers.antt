@@ -1,4 +1,4 @@
-use Rattle.std.proofs.Common.{rules, ◌≡◌, Err, subst, sym}
+use Rattle.std.proofs.Common.{rules, ◌≡◌, ◌∙◌, Err, subst, sym}
 use Rattle.sqlite.specs.Held.{state}
 use Rattle.exam_draft.specs.Edits.{edited_exams}
 use Rattle.office_model.specs.Commands.{draft_edited}
@@ -34,11 +34,11 @@ returns-clause-runs g c =
     (λ k o now. now_still (state g.S.Store c.draft_rows.new.self)
     (state g.S.Store c.edited_draft.new.self) o (c.edited_draft.ensures.still k)
     (c.in_ok-found.ensures.still (c.edited_draft.ensures.clean k) o now))
-    c.put_edit.new.conn c.self.inside.kept c.total.result c.put_edit.ensures.clean
+    c.put.new.conn c.self.inside.kept c.total.result c.put.ensures.clean
     (λ k. edit_moves g.S.Store c.draft_rows.new.self c.edited_draft.new.self c.self.inside.conn
-    c.self.view_is c.args.number c.args.edit c.put_edit.new.conn c.self.inside.kept
-    (c.in_ok-timetable.timetable, c.in_ok-timetable.parts) c.draft_row.result c.total.result
-    c.deref.result.now
+    c.self.view_is c.args.number c.args.edit c.put.new.conn c.self.inside.kept
+    (c.in_ok-timetable.timetable, c.in_ok-timetable.parts) c.draft_row-row.result c.total.result
+    c.deref.result.now c.deref-2.result.now
     (λ k. c.in_ok-found.ensures.awake (c.edited_draft.ensures.clean k))
     c.edited_draft.ensures.still
     (λ k. c.in_ok-timetable.ensures.awake k
@@ -46,21 +46,22 @@ returns-clause-runs g c =
     (λ k o kept. c.in_ok-timetable.ensures.edits k
     (c.in_ok-found.ensures.awake (c.edited_draft.ensures.clean k)) o kept
     (c.in_ok-found.ensures.rows (c.edited_draft.ensures.clean k) o kept))
-    c.draft_row.ensures.number c.draft_row.ensures.parts c.total.ensures.total exams
-    (c.put_edit.ensures.clean k) (c.in_ok-put_edit.ensures.done k).makes)
+    c.draft_row-row.ensures.number c.draft_row-row.ensures.parts c.total.ensures.total exams
+    (c.deref-2.ensures.value ∙ c.in_ok-places.ensures)
+    (c.put.ensures.clean k) (c.in_ok-put.ensures.done k).makes)
 
 pub invariant_of-self-2 : goal.invariant_of-self-2
 invariant_of-self-2 g c =
     let exams : c.deref.result.now ≡ edited_exams c.args.edit = search rules in (
-      c.in_ok-put_edit.ensures.rests,
+      c.in_ok-put.ensures.rests,
       rests (draft_edited c.args.number c.args.edit) (state g.S.Store c.self.inside.conn)
-          (state g.S.Store c.put_edit.new.conn) c.self.inside.kept c.self.inside.kept
-          c.total.result c.self.invariant.1 c.put_edit.ensures.clean
-          (λ k. (c.in_ok-put_edit.ensures.done k).was_open)
+          (state g.S.Store c.put.new.conn) c.self.inside.kept c.self.inside.kept
+          c.total.result c.self.invariant.1 c.put.ensures.clean
+          (λ k. (c.in_ok-put.ensures.done k).was_open)
           (λ k. edit_moves g.S.Store c.draft_rows.new.self c.edited_draft.new.self c.self.inside.conn
-          c.self.view_is c.args.number c.args.edit c.put_edit.new.conn c.self.inside.kept
-          (c.in_ok-timetable.timetable, c.in_ok-timetable.parts) c.draft_row.result c.total.result
-          c.deref.result.now
+          c.self.view_is c.args.number c.args.edit c.put.new.conn c.self.inside.kept
+          (c.in_ok-timetable.timetable, c.in_ok-timetable.parts) c.draft_row-row.result c.total.result
+          c.deref.result.now c.deref-2.result.now
           (λ k. c.in_ok-found.ensures.awake (c.edited_draft.ensures.clean k))
           c.edited_draft.ensures.still
           (λ k. c.in_ok-timetable.ensures.awake k
@@ -68,7 +69,8 @@ invariant_of-self-2 g c =
           (λ k o kept. c.in_ok-timetable.ensures.edits k
           (c.in_ok-found.ensures.awake (c.edited_draft.ensures.clean k)) o kept
           (c.in_ok-found.ensures.rows (c.edited_draft.ensures.clean k) o kept))
-          c.draft_row.ensures.number c.draft_row.ensures.parts c.total.ensures.total exams
-          (c.put_edit.ensures.clean k) (c.in_ok-put_edit.ensures.done k).makes),
+          c.draft_row-row.ensures.number c.draft_row-row.ensures.parts c.total.ensures.total exams
+          (c.deref-2.ensures.value ∙ c.in_ok-places.ensures)
+          (c.put.ensures.clean k) (c.in_ok-put.ensures.done k).makes),
       c.self.invariant.2,
     )

@@ -1,4 +1,5 @@
-use Rattle.std.proofs.Common.{rules, ◌≡◌, Some, ◌∙◌, true, false}
+use Rattle.std.proofs.Common.{rules, ◌≡◌, Some, ◌∙◌, ap, map, true, false}
+use Rattle.office_tables.specs.declared.enrolments.InsertEnrol.{InsertEnrol}
 use Rattle.std.specs.Prelude.{is_some}
 use Rattle.sqlite.specs.Held.{state}
 use Rattle.exam_model.specs.Enrolments.{Enrolled}
@@ -31,12 +32,12 @@ returns-clause-runs g c =
     runs g.S.Store (loaded c.args.text.now) c.args.self.now c.look.new.self c.self.inside.conn
     c.self.inside.kept c.self.view_is c.self.invariant.1 c.in_ok-look.ensures.awake
     (stays_by g.S.Store c.args.self.now c.look.new.self c.in_ok-look.ensures.still)
-    c.put_session.new.conn (Some (I, E)) c.counts_of-loaded.result c.put_session.ensures.clean
+    c.put.new.conn (Some (I, E)) c.counts_of-loaded.result c.put.ensures.clean
     (λ k. load_moves c.args.text.now I E c.counts_of-loaded.result c.deref.result.now
     c.deref-2.result.now _ _ c.self.inside.kept c.in-Ok.ensures.exact
     c.counts_of-loaded.ensures.counts (c.deref.ensures.value ∙ c.in_ok-stored.ensures.text)
-    (c.deref-2.ensures.value ∙ c.in_ok-rows.ensures.rows) c.counts_of-loaded.ensures.instance are no
-    (c.in_ok-put_session.ensures.done k).makes)
+    (ap (map (λ (it : InsertEnrol). it.row)) c.deref-2.ensures.value ∙ c.in_ok-rows.ensures.rows) c.counts_of-loaded.ensures.instance are no
+    (c.in_ok-put.ensures.done k).makes)
 
 pub invariant_of-self-2 : goal.invariant_of-self-2
 invariant_of-self-2 g c =
@@ -48,16 +49,16 @@ invariant_of-self-2 g c =
       exams = as_many c.args.text.now I E c.in-Ok.ensures.reading;
       students = c.in_ok-rows.ensures.numbers;
     } in (
-      c.in_ok-put_session.ensures.rests,
+      c.in_ok-put.ensures.rests,
       rests (loaded c.args.text.now) (state g.S.Store c.self.inside.conn)
-          (state g.S.Store c.put_session.new.conn) c.self.inside.kept (Some (I, E))
-          c.counts_of-loaded.result c.self.invariant.1 c.put_session.ensures.clean
-          (λ k. (c.in_ok-put_session.ensures.done k).was_open)
+          (state g.S.Store c.put.new.conn) c.self.inside.kept (Some (I, E))
+          c.counts_of-loaded.result c.self.invariant.1 c.put.ensures.clean
+          (λ k. (c.in_ok-put.ensures.done k).was_open)
           (λ k. load_moves c.args.text.now I E c.counts_of-loaded.result c.deref.result.now
           c.deref-2.result.now _ _ c.self.inside.kept c.in-Ok.ensures.exact
           c.counts_of-loaded.ensures.counts (c.deref.ensures.value ∙ c.in_ok-stored.ensures.text)
-          (c.deref-2.ensures.value ∙ c.in_ok-rows.ensures.rows)
-          c.counts_of-loaded.ensures.instance are no (c.in_ok-put_session.ensures.done k).makes),
+          (ap (map (λ (it : InsertEnrol). it.row)) c.deref-2.ensures.value ∙ c.in_ok-rows.ensures.rows)
+          c.counts_of-loaded.ensures.instance are no (c.in_ok-put.ensures.done k).makes),
       as_many c.args.text.now I E c.in-Ok.ensures.reading,
     )
 

@@ -49,19 +49,19 @@ returns-in_err-parts-clause-runs g c =
 
 pub invariant_of-self-2 : goal.invariant_of-self-2
 invariant_of-self-2 g c = (
-  c.in_ok-put_draft.ensures.rests,
+  c.in_ok-put.ensures.rests,
   rests (draft_made c.args.number c.args.text.now) (state g.S.Store c.self.inside.conn)
-      (state g.S.Store c.put_draft.new.conn) c.self.inside.kept c.self.inside.kept c.total.result
-      c.self.invariant.1 c.put_draft.ensures.clean
-      (λ k. (c.in_ok-put_draft.ensures.done k).was_open)
+      (state g.S.Store c.put.new.conn) c.self.inside.kept c.self.inside.kept c.total.result
+      c.self.invariant.1 c.put.ensures.clean
+      (λ k. (c.in_ok-put.ensures.done k).was_open)
       (λ k. made_moves c.args.number c.in_ok-rows.rows.items _ c.in_ok-rows.rows.ok.0 _
       (seen g.S.Store c.drafts.new.self c.self.inside.conn c.self.view_is _ c.in_ok-rows.ensures.rows
-      (c.put_draft.ensures.clean k))
+      (c.put.ensures.clean k))
       c.self.inside.kept c.args.text.now c.in-Some.instance c.in-Some.enrolments c.in-Some.is
       c.if-not-is_draft_number.ensures c.if-not-is_empty.ensures _ c.in_ok-parts.parts
       c.draft_row.result c.in_ok-parts.slots.items c.deref.result.now c.total.result
       c.deref.ensures.value c.in_ok-parts.ensures.ok c.draft_row.ensures.number
-      c.draft_row.ensures.parts c.total.ensures.total (c.in_ok-put_draft.ensures.done k).makes),
+      c.draft_row.ensures.parts c.total.ensures.total (c.in_ok-put.ensures.done k).makes),
   c.self.invariant.2,
 )
 
@@ -69,13 +69,13 @@ pub returns-clause-runs : goal.returns-clause-runs
 returns-clause-runs g c =
     runs g.S.Store (draft_made c.args.number c.args.text.now) c.args.self.now c.drafts.new.self
     c.self.inside.conn c.self.inside.kept c.self.view_is c.self.invariant.1
-    c.in_ok-rows.ensures.awake c.in_ok-rows.ensures.still c.put_draft.new.conn c.self.inside.kept
-    c.total.result c.put_draft.ensures.clean
+    c.in_ok-rows.ensures.awake c.in_ok-rows.ensures.still c.put.new.conn c.self.inside.kept
+    c.total.result c.put.ensures.clean
     (λ k. made_moves c.args.number c.in_ok-rows.rows.items _ c.in_ok-rows.rows.ok.0 _
     (seen g.S.Store c.drafts.new.self c.self.inside.conn c.self.view_is _ c.in_ok-rows.ensures.rows
-    (c.put_draft.ensures.clean k))
+    (c.put.ensures.clean k))
     c.self.inside.kept c.args.text.now c.in-Some.instance c.in-Some.enrolments c.in-Some.is
     c.if-not-is_draft_number.ensures c.if-not-is_empty.ensures _ c.in_ok-parts.parts
     c.draft_row.result c.in_ok-parts.slots.items c.deref.result.now c.total.result
     c.deref.ensures.value c.in_ok-parts.ensures.ok c.draft_row.ensures.number
-    c.draft_row.ensures.parts c.total.ensures.total (c.in_ok-put_draft.ensures.done k).makes)
+    c.draft_row.ensures.parts c.total.ensures.total (c.in_ok-put.ensures.done k).makes)

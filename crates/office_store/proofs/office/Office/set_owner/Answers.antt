@@ -32,22 +32,22 @@ returns-clause-runs g c =
     runs g.S.Store (owned c.args.exam c.args.dept) c.args.self.now c.look.new.self
     c.self.inside.conn c.self.inside.kept c.self.view_is c.self.invariant.1
     c.in_ok-look.ensures.awake (stays_by g.S.Store c.args.self.now c.look.new.self c.in_ok-look.ensures.still)
-    c.put_owner.new.conn c.self.inside.kept tt c.put_owner.ensures.clean
+    c.put.new.conn c.self.inside.kept tt c.put.ensures.clean
     (λ k. owner_moves _ _ c.in-Some.instance c.in-Some.field-0-1 c.in-Some.is c.args.exam
-    c.args.dept _ exists c.requires.dept c.get-2.result c.get-2.ensures
-    (c.in_ok-put_owner.ensures.done k).makes)
+    c.args.dept _ exists c.requires.dept c.get-2.result c.get-2.ensures c.new_owner.result c.new_owner.ensures
+    (c.in_ok-put.ensures.done k).makes)
 
 pub invariant_of-self-2 : goal.invariant_of-self-2
 invariant_of-self-2 g c =
     let exists : c.args.exam < length c.in-Some.instance.exams
     = omega (arith, c.exams.ensures.count, c.if-get-exams.false, c.get.ensures) in (
-      c.in_ok-put_owner.ensures.rests,
+      c.in_ok-put.ensures.rests,
       rests (owned c.args.exam c.args.dept) (state g.S.Store c.self.inside.conn)
-          (state g.S.Store c.put_owner.new.conn) c.self.inside.kept c.self.inside.kept tt
-          c.self.invariant.1 c.put_owner.ensures.clean
-          (λ k. (c.in_ok-put_owner.ensures.done k).was_open)
+          (state g.S.Store c.put.new.conn) c.self.inside.kept c.self.inside.kept tt
+          c.self.invariant.1 c.put.ensures.clean
+          (λ k. (c.in_ok-put.ensures.done k).was_open)
           (λ k. owner_moves _ _ c.in-Some.instance c.in-Some.field-0-1 c.in-Some.is c.args.exam
-          c.args.dept _ exists c.requires.dept c.get-2.result c.get-2.ensures
-          (c.in_ok-put_owner.ensures.done k).makes),
+          c.args.dept _ exists c.requires.dept c.get-2.result c.get-2.ensures c.new_owner.result c.new_owner.ensures
+          (c.in_ok-put.ensures.done k).makes),
       c.self.invariant.2,
     )
