@@ -9,6 +9,7 @@ use Rattle.office_model.specs.declared.counts.Published.{Published}
 use Rattle.office_model.specs.declared.fault.StoreFault.{StoreFault}
 use Rattle.office_model.specs.declared.views.ViewRow.{ViewRow}
 
+-- what a command answers
 pub data PlainAnswer : Type 0 where
   -- a candidate, her exams and what they cost her; one of them; the cost alone; no exam of hers
   my_exams : ℕ → List ViewRow → PersonalPenalty → PlainAnswer

@@ -43,6 +43,7 @@ counted change E n =
     else record n { dropped = n.dropped + 1 })
     else record n { unchanged = n.unchanged + 1 }
 
+-- nothing counted yet
 abbrev pub no_counts : Counts
 no_counts = record { added = 0; dropped = 0; unchanged = 0 }
 
@@ -88,6 +89,7 @@ enrolled_by (Some kept) number bytes changes r = do
   _ ← unless (same_bytes kept.bytes bytes) BatchDiffers
   Ok (kept.counts, Some r)
 
+-- a batch is taken: the file's fault comes first, then that nothing is loaded
 abbrev pub batch_enrolled : ℕ → List ℕ → OfficeState → Gives Counts
 batch_enrolled number bytes office = do
   changes ← named (λ f. Refused (refusal.File f)) (batch_in bytes)
@@ -106,6 +108,7 @@ lines_if_new None (Ok changes) = changes
 lines_if_new None (Err fault) = []
 lines_if_new (Some kept) read = []
 
+-- the batch that an office keeps under a number
 abbrev pub kept_in : OfficeState → ℕ → Option KeptBatch
 kept_in None number = None
 kept_in (Some r) number = kept_under number r.batches

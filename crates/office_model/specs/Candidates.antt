@@ -12,6 +12,7 @@ pub data Asked : Type 0 where
   whole cost : Asked
   one : ℕ → Asked
 
+-- her exam, or that it is none of hers
 abbrev pub exam_answer : Option ViewRow → PlainAnswer
 exam_answer None = not_mine
 exam_answer (Some shown) = my_one shown

@@ -64,6 +64,7 @@ SpellsSession bytes counts =
 abbrev pub NamesFirstFault : List ℕ → StoreFault → Type 0
 NamesFirstFault bytes fault = (f : FileFault) → fault ≡ Refused (refusal.File f) → first_fault bytes ≡ Some f
 
+-- a session is loaded where there is none: the file's fault comes first
 abbrev pub loaded : List ℕ → OfficeState → Gives counts.Loaded
 loaded bytes office = do
   s ← named (λ f. Refused (refusal.File f)) (instance_in bytes)
@@ -72,6 +73,7 @@ loaded bytes office = do
 
 -- ---- owners
 
+-- an exam is given to a department; 0 takes it away from all
 abbrev pub owned : ℕ → ℕ → OfficeState → Gives (Unit {0})
 owned exam dept office = do
   r ← when_loaded office
@@ -94,9 +96,11 @@ abbrev pub first_timetable : List ℕ → Session → Result Placing StoreFault
 first_timetable [] I = Ok (unplaced (length I.exams))
 first_timetable (b ∷ bytes) I = named (λ f. Refused (refusal.File f)) (solution_in I (b ∷ bytes))
 
+-- drafts are numbered from 1 to 8
 abbrev pub is_draft_number : ℕ → Bool
 is_draft_number d = nat_le 1 d && nat_le d 8
 
+-- a draft is made where its number is free, of a solution or of nothing
 abbrev pub draft_made : ℕ → List ℕ → OfficeState → Gives ℕ
 draft_made d bytes office = do
   r ← when_loaded office
@@ -105,6 +109,7 @@ draft_made d bytes office = do
   T ← first_timetable bytes r.session
   Ok (penalty_now r T, Some (record r { draft = set_at d (Some T) r.draft }))
 
+-- a draft is dropped
 abbrev pub draft_dropped : ℕ → OfficeState → Gives (Unit {0})
 draft_dropped d office = do
   r ← when_loaded office
@@ -118,6 +123,7 @@ draft_in d (Some r) = r.draft d
 
 -- ---- what is shown
 
+-- the session and its enrolments
 abbrev pub session_shown : OfficeState → Gives (Session × Enrolled)
 session_shown office = do
   r ← when_loaded office
@@ -132,6 +138,7 @@ draft_shown d office = do
 
 -- ---- edits
 
+-- a draft is edited: its penalty afterwards
 abbrev pub draft_edited : ℕ → Edit → OfficeState → Gives ℕ
 draft_edited d change office = do
   r ← when_loaded office

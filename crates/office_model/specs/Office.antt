@@ -81,6 +81,7 @@ pub record AreRecords (r : Records) : Type 0 where
   pub publication : (p : Publication) → r.published ≡ Some p → IsPublication r.session p
   pub batches : AreKept r.batches
 
+-- there is no session yet, or these are records of one
 abbrev pub IsOffice : OfficeState → Type 0
 IsOffice None = Unit {0}
 IsOffice (Some r) = AreRecords r

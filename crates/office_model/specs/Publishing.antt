@@ -37,6 +37,7 @@ publication_counts r p = record {
   penalty = penalty_now r p.timetable;
 }
 
+-- a draft is published, unless an exam has no place in it or it breaks a rule
 abbrev pub draft_published : ℕ → OfficeState → Gives counts.Published
 draft_published d office = do
   r ← when_loaded office

@@ -13,10 +13,12 @@ abbrev pub is_load : PlainAnswer → Bool
 is_load (now_loaded counts) = true
 is_load _ = false
 
+-- this answer says that a draft was published
 abbrev pub is_publication : PlainAnswer → Bool
 is_publication (now_published d counts) = true
 is_publication _ = false
 
+-- this answer says that a batch was taken
 abbrev pub is_batch : PlainAnswer → Bool
 is_batch (now_enrolled number counts) = true
 is_batch _ = false

@@ -60,6 +60,7 @@ draft_in_session d office = do
   T ← else_err NoDraft (r.draft d)
   Ok (((r.session, r.enrolments), T), office)
 
+-- the report of a draft's breaches
 abbrev pub violations_of : (Session × Enrolled) × Placing → List ℕ
 violations_of found = violation_text (breaches_of found.0.0 found.0.1 found.1)
 
@@ -86,6 +87,7 @@ told_to (Cand s) asked old = (old, told s asked (view_of s old))
 
 -- ---- the commands
 
+-- an edit's answer, and the office after it
 abbrev pub edit_outcome : ℕ → Edit → OfficeState → Outcome
 edit_outcome d change old = outcome (now_edited d) old (draft_edited d change old)
 
@@ -138,6 +140,7 @@ abbrev pub allowed_in : OfficeState → Caller → PlainCommand → Result (Unit
 allowed_in old caller command =
     permits caller command (owners_in old command).0 (owners_in old command).1
 
+-- a command of a caller who may not ask for it is denied, whatever the office holds
 abbrev pub if_allowed : Result (Unit {0}) Denial → OfficeState → Caller → PlainCommand → Outcome
 if_allowed (Ok done) old caller command = permitted old caller command
 if_allowed (Err denial) old caller command = (old, denied denial)

@@ -24,6 +24,7 @@ pub record ArePublished (published : Option Publication) (enrolled : List ℕ)
 abbrev pub seat_in : List SeatRow → ℕ → Option SeatRow
 seat_in seats exam = find (λ row. row.exam == exam) seats
 
+-- where an exam stands in this list, if it does
 abbrev pub place_in : List (ℕ × Place) → ℕ → Option Place
 place_in places exam = option_map (λ found. found.1) (find (λ found. found.0 == exam) places)
 

@@ -28,10 +28,12 @@ pub record View : Type 0 where
 abbrev pub her_exams : List ℕ → List SeatRow → List ℕ
 her_exams enrolled seats = ascending (enrolled ++ map (λ row. row.exam) seats)
 
+-- where an exam was published, if it was
 abbrev pub published_place : Option Publication → ℕ → Option Place
 published_place None e = None
 published_place (Some p) e = place_of p.timetable e
 
+-- what a candidate may see, of these enrolments, this publication and these seats of hers
 abbrev pub view_from : Session → List ℕ → Option Publication → List SeatRow → View
 view_from I enrolled published seats = record {
   enrolled = enrolled;
@@ -41,6 +43,7 @@ view_from I enrolled published seats = record {
   weights = I.weights;
 }
 
+-- the weights where there is no session
 abbrev pub no_weights : Weights
 no_weights = record {
   row = 0;
@@ -52,6 +55,7 @@ no_weights = record {
   front = 0;
 }
 
+-- what anybody sees where there is no session
 abbrev pub no_view : View
 no_view = record { enrolled = []; places = []; seats = []; periods = []; weights = no_weights }
 
@@ -74,6 +78,7 @@ shown_at at p = record {
   room = at.room;
 }
 
+-- a place's date, time and numbers, where the session has its period
 abbrev pub shown_place : List Period → Place → Option ShownPlace
 shown_place periods at = option_map (shown_at at) (slice_get periods at.period)
 
@@ -86,6 +91,7 @@ shown_exam view exam place = record {
   seat = option_map (λ row. row.seat) (find (λ row. row.exam == exam) view.seats);
 }
 
+-- these exams of hers, each with its place
 abbrev pub shown_from : View → List ℕ → List (Option Place) → List ViewRow
 shown_from view [] places = []
 shown_from view (e ∷ exams) [] = []
@@ -105,6 +111,7 @@ pub record ShownView : Type 0 where
   pub exams : List ViewRow
   pub personal : PersonalPenalty
 
+-- all that a candidate is shown: her exams and what they cost her
 abbrev pub shown_to : ℕ → View → ShownView
 shown_to s view = record {
   student = s;

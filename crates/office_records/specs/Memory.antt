@@ -8,6 +8,7 @@ use Rattle.office_model.specs.Office.{OfficeState}
 abbrev pub Memory : Type 0
 Memory = Option (Session × Enrolled)
 
+-- what the program keeps at hand of an office
 abbrev pub memory_of : OfficeState → Memory
 memory_of office = option_map (λ r. (r.session, r.enrolments)) office
 

@@ -17,6 +17,7 @@ use Rattle.office_model.specs.Publishing.{rows_now}
 
 -- ---- the rows of a publication
 
+-- the row of an exam's published place
 abbrev pub placed_row : ℕ → Place → PlacedRow
 placed_row e at = record { exam = e; period = at.period; room = at.room }
 
@@ -26,6 +27,7 @@ placed_from e [] = []
 placed_from e (None ∷ T) = placed_from (e + 1) T
 placed_from e (Some at ∷ T) = placed_row e at ∷ placed_from (e + 1) T
 
+-- the rows of all published places, by exam
 abbrev pub placed_rows : Option Publication → List PlacedRow
 placed_rows None = []
 placed_rows (Some p) = placed_from 0 p.timetable
@@ -54,6 +56,7 @@ pub record AreRowsOf (mark : Bool) (places : List PlacedRow) (seats : List SeatR
 
 -- ---- a publication that was found
 
+-- a timetable with its seats
 abbrev pub publication : Placing → List publish.SeatRow → Publication
 publication T rows = record { timetable = T; rows = rows }
 

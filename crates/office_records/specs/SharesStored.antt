@@ -46,6 +46,7 @@ abbrev pub student_share_rows : Session → Option Publication → List StudentS
 student_share_rows I None = []
 student_share_rows I (Some p) = map student_share_row (student_shares I p.rows)
 
+-- the rows that a publication has of exams, periods and rooms; none where nothing is published
 abbrev pub part_share_rows : Session → Option Publication → List PartShareRow
 part_share_rows I None = []
 part_share_rows I (Some p) = part_rows (shares_of I p.rows p.timetable)

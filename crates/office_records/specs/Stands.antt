@@ -31,9 +31,11 @@ session_text I = canonical_instance I (no_pairs (length I.exams))
 abbrev pub meta_row : Bool → Session → Meta
 meta_row published I = record { published = published; instance = session_text I }
 
+-- the row of an enrolment
 abbrev pub enrol_row : Pair → EnrolRow
 enrol_row p = record { student = p.student; exam = p.exam }
 
+-- the row of an exam's place in a draft
 abbrev pub slot_row : ℕ → ℕ → Place → SlotRow
 slot_row d e at = record { draft = d; exam = e; period = at.period; room = at.room }
 
@@ -43,6 +45,7 @@ slots_from d e [] = []
 slots_from d e (None ∷ T) = slots_from d (e + 1) T
 slots_from d e (Some at ∷ T) = slot_row d e at ∷ slots_from d (e + 1) T
 
+-- the rows of all places of a draft, by exam; none where there is no such draft
 abbrev pub slot_rows : ℕ → Option Placing → List SlotRow
 slot_rows d None = []
 slot_rows d (Some T) = slots_from d 0 T
@@ -68,12 +71,15 @@ some_dept dept = if dept == 0 then [] else dept ∷ []
 
 -- ---- the tables
 
+-- the rows of an exam's owner
 abbrev pub owners_at : ℕ → List OwnerRow → List OwnerRow
 owners_at e rows = filter (λ r. r.exam == e) rows
 
+-- the rows of a draft
 abbrev pub drafts_at : ℕ → List DraftRow → List DraftRow
 drafts_at d rows = filter (λ r. r.no == d) rows
 
+-- the rows of a draft's places
 abbrev pub slots_at : ℕ → List SlotRow → List SlotRow
 slots_at d rows = filter (λ r. r.draft == d) rows
 
@@ -99,6 +105,7 @@ Stands t (Some r) = StandsLoaded t r
 
 -- ---- soundness
 
+-- the seven parts of the penalty that a draft's row has
 abbrev pub parts_of : DraftRow → Penalty
 parts_of row = record {
   row = row.in_row;
@@ -120,6 +127,7 @@ pub record AreSound (t : Tables) (r : Records) : Type 0 where
   pub scored : AllByRecursion (IsScoredRow r) t.draft
   pub shared : AreShared r.session r.published t.share_student t.share_part
 
+-- where nothing is loaded there is nothing to be sound
 abbrev pub IsSound : Tables → OfficeState → Type 0
 IsSound t None = Unit {0}
 IsSound t (Some r) = AreSound t r

@@ -64,12 +64,15 @@ cost_data penalty = object
     (member (codes "row") (counted penalty.row)
     (member (codes "spread") (counted penalty.spread) no_members))))
 
+-- one exam of hers, as text
 abbrev pub exam_text : ViewRow → List ℕ
 exam_text row = compact_text (exam_data row)
 
+-- her exams and what they cost her, as text
 abbrev pub candidate_text : ℕ → List ViewRow → PersonalPenalty → List ℕ
 candidate_text s rows penalty = compact_text (candidate_data s rows penalty)
 
+-- what her exams cost her, as text
 abbrev pub cost_text : PersonalPenalty → List ℕ
 cost_text penalty = compact_text (cost_data penalty)
 

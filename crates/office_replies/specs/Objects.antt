@@ -18,6 +18,7 @@ quoted word = codes "\"" ++ word ++ codes "\""
 abbrev pub number : List ℕ → ℕ → PlainMember
 number key n = record { key = key; says = decimal n }
 
+-- a member whose value is a word in quotes
 abbrev pub word : List ℕ → List ℕ → PlainMember
 word key w = record { key = key; says = quoted w }
 
@@ -35,10 +36,12 @@ object_text first others =
 
 -- ---- as the program holds them
 
+-- a member's value, as text
 abbrev pub said_text : Says → List ℕ
 said_text (Number n) = decimal n
 said_text (Word w) = quoted w.now
 
+-- a member as lists of bytes
 abbrev pub plain_member : Member → PlainMember
 plain_member m = record { key = m.key.now; says = said_text m.says }
 

@@ -38,10 +38,12 @@ broken_text b = object_text (word (codes "error") (codes "broken"))
     (number (codes "exam") b.exam ∷ number (codes "other") b.other
     ∷ word (codes "rule") (rule_name b.rule) ∷ [])
 
+-- that an exam has no place
 abbrev pub unplaced_text : ℕ → List ℕ
 unplaced_text e =
     object_text (word (codes "error") (codes "unplaced")) (number (codes "exam") e ∷ [])
 
+-- what is wrong with a file, and in which line
 abbrev pub file_text : FileFault → List ℕ
 file_text f = object_text (word (codes "error") (codes "file"))
     (number (codes "fault") (kind_number f.what) ∷ number (codes "line") f.line ∷ [])
@@ -55,11 +57,13 @@ edit_reply edit.SameExam = error_reply error.SameExam
 edit_reply (edit.Broken b) = json_reply Conflict (broken_text b)
 edit_reply edit.NoMemory = unavailable
 
+-- why a draft was not published
 abbrev pub publish_reply : PublishFault → PlainReply
 publish_reply (publish.Unplaced e) = json_reply Conflict (unplaced_text e)
 publish_reply (publish.Broken b) = json_reply Conflict (broken_text b)
 publish_reply publish.NoMemory = unavailable
 
+-- why a command was refused: an edit, a publication, a file
 abbrev pub refused_reply : Refusal → PlainReply
 refused_reply (refusal.Edit f) = edit_reply f
 refused_reply (refusal.Publish f) = publish_reply f
@@ -79,11 +83,13 @@ fault_reply_of fault.BadSchema = unavailable
 
 -- ---- changes that were made
 
+-- how much was loaded
 abbrev pub loaded_text : counts.Loaded → List ℕ
 loaded_text l = object_text (number (codes "exams") l.exams)
     (number (codes "pairs") l.pairs ∷ number (codes "periods") l.periods
     ∷ number (codes "rooms") l.rooms ∷ [])
 
+-- which department an exam belongs to now
 abbrev pub owner_text : ℕ → ℕ → List ℕ
 owner_text e dept = object_text (number (codes "dept") dept) (number (codes "exam") e ∷ [])
 
@@ -92,6 +98,7 @@ abbrev pub penalty_text : ℕ → ℕ → List ℕ
 penalty_text d penalty =
     object_text (number (codes "draft") d) (number (codes "penalty") penalty ∷ [])
 
+-- which draft was dropped
 abbrev pub dropped_text : ℕ → List ℕ
 dropped_text d = object_text (number (codes "draft") d) []
 
@@ -100,6 +107,7 @@ abbrev pub published_text : ℕ → Published → List ℕ
 published_text d p = object_text (number (codes "changed") p.changed)
     (number (codes "draft") d ∷ number (codes "penalty") p.penalty ∷ [])
 
+-- what a batch did
 abbrev pub enrolled_text : ℕ → Counts → List ℕ
 enrolled_text batch c = object_text (number (codes "added") c.added)
     (number (codes "batch") batch ∷ number (codes "dropped") c.dropped

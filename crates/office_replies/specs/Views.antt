@@ -7,6 +7,7 @@ use Rattle.serde_json.specs.Written.{compact_text}
 use Rattle.exam_terms.specs.declared.place.Place.{Place}
 use Rattle.exam_model.specs.Timetable.{Placing, place_of}
 
+-- a number as JSON has it
 abbrev pub counted : ℕ → Data
 counted n = number (unsigned n)
 
@@ -33,5 +34,6 @@ draft_data d T penalty = object
     (member (codes "exams") (array (items_of (exams_data T)))
     (member (codes "penalty") (counted penalty) no_members)))
 
+-- a draft, where each exam stands and its penalty, as text
 abbrev pub draft_text : ℕ → Placing → ℕ → List ℕ
 draft_text d T penalty = compact_text (draft_data d T penalty)

@@ -18,6 +18,7 @@ use Rattle.office_schema.specs.declared.parts.TableKey.TheVariants.{Number, Pair
 
 -- ---- columns and tables
 
+-- a column of a kind, without a default, which takes no NULL and nothing of another kind
 abbrev pub column_of : Kind → List ℕ → Column
 column_of kind name = record {
   name = name;
@@ -28,12 +29,15 @@ column_of kind name = record {
   collation = Binary;
 }
 
+-- a column of whole numbers
 abbrev pub int : List ℕ → Column
 int = column_of Integer
 
+-- a column of bytes
 abbrev pub blob : List ℕ → Column
 blob = column_of Blob
 
+-- a table of plain rows, without foreign keys, checks or triggers
 abbrev pub table_of : List ℕ → ℕ → List Column → Option ℕ → List ℕ → List (List ℕ) → List Order → Table
 table_of name tree columns key primary uniques orders = record {
   name = name;
@@ -66,14 +70,17 @@ seated_table name tree columns = table_of name tree columns None (1 ∷ 2 ∷ []
 
 -- ---- a table by its key, and a table's key alone
 
+-- the columns that names and kinds tell of, in their order
 abbrev pub columns_of : List (Bor (List ℕ) × Kind) → List Column
 columns_of = map (λ column. column_of column.1 column.0.now)
 
+-- the table of a name, at a tree, whose rows are told apart in this way
 abbrev pub table_by : TableKey → List ℕ → ℕ → List Column → Table
 table_by Number = keyed_table
 table_by Pair = paired_table
 table_by PairAndTriple = seated_table
 
+-- a table's rows are told apart in this way, and in no other
 abbrev pub HasKey : TableKey → Table → Type 0
 HasKey Number t =
     (t.key ≡ Some 0) × (t.primary ≡ 0 ∷ []) × (t.uniques ≡ []) × (t.orders ≡ [])
@@ -86,28 +93,34 @@ HasKey PairAndTriple t =
 
 -- ---- the tables
 
+-- one row: the schema's version, whether anything is published, and the session's file
 abbrev pub meta_table : Table
 meta_table = keyed_table (codes "meta") 0
     (int (codes "id") ∷ int (codes "version") ∷ int (codes "published") ∷
     blob (codes "instance") ∷ [])
 
+-- which department an exam belongs to; no row where it belongs to none
 abbrev pub owner_table : Table
 owner_table = keyed_table (codes "owner") 1
     (int (codes "exam") ∷ int (codes "dept") ∷ [])
 
+-- who sits which exam
 abbrev pub enrol_table : Table
 enrol_table = paired_table (codes "enrol") 2
     (int (codes "student") ∷ int (codes "exam") ∷ [])
 
+-- the drafts, each with the seven parts of its penalty
 abbrev pub draft_table : Table
 draft_table = keyed_table (codes "draft") 4
     (int (codes "no") ∷ int (codes "in_row") ∷ int (codes "in_day") ∷ int (codes "spread") ∷
     int (codes "mixed") ∷ int (codes "front") ∷ int (codes "period") ∷ int (codes "room") ∷ [])
 
+-- where a draft places its exams
 abbrev pub slot_table : Table
 slot_table = paired_table (codes "slot") 5
     (int (codes "draft") ∷ int (codes "exam") ∷ int (codes "period") ∷ int (codes "room") ∷ [])
 
+-- where the publication places its exams
 abbrev pub placed_table : Table
 placed_table = keyed_table (codes "placed") 7
     (int (codes "exam") ∷ int (codes "period") ∷ int (codes "room") ∷ [])
@@ -118,20 +131,24 @@ seat_table = seated_table (codes "seat") 8
     (int (codes "student") ∷ int (codes "exam") ∷ int (codes "period") ∷ int (codes "room") ∷
     int (codes "seat") ∷ [])
 
+-- what each candidate with a seat adds to the publication's penalty
 abbrev pub share_student_table : Table
 share_student_table = keyed_table (codes "share_student") 11
     (int (codes "student") ∷ int (codes "in_row") ∷ int (codes "in_day") ∷ int (codes "spread") ∷
     [])
 
+-- what each exam, period and room adds to it
 abbrev pub share_part_table : Table
 share_part_table = paired_table (codes "share_part") 12
     (int (codes "kind") ∷ int (codes "no") ∷ int (codes "penalty") ∷ int (codes "mixed") ∷ [])
 
+-- the batches that were taken: their bytes, and what they were answered
 abbrev pub batch_table : Table
 batch_table = keyed_table (codes "batch") 14
     (int (codes "no") ∷ blob (codes "bytes") ∷ int (codes "added") ∷ int (codes "dropped") ∷
     int (codes "unchanged") ∷ [])
 
+-- the index that SQLite makes by itself for the key of a table
 abbrev pub index_of : List ℕ → ℕ → ℕ → List ℕ → Index
 index_of name tree table columns = record {
   name = name;
@@ -142,6 +159,7 @@ index_of name tree table columns = record {
   is_unique = true;
 }
 
+-- the ten tables and the indexes of their keys
 abbrev pub office_schema : Schema
 office_schema = record {
   tables = meta_table ∷ owner_table ∷ enrol_table ∷ draft_table ∷ slot_table ∷ placed_table ∷

@@ -34,6 +34,7 @@ line_put change t =
 abbrev pub put_line : Change → PutLine
 put_line change = record { change = change }
 
+-- a draft's row is put in
 abbrev pub put_draft : DraftRow → InsertDraft
 put_draft row = record { row = row }
 

@@ -31,21 +31,27 @@ use Rattle.office_store.specs.declared.new_publication.NewPublication.{NewPublic
 
 -- ---- rows as parts of a transaction
 
+-- the row of a published place is put in
 abbrev pub placement_put : PlacedRow → InsertPlacement
 placement_put row = record { row = row }
 
+-- a candidate's seats are taken out
 abbrev pub her_seats_gone : ℕ → DeleteStudentSeats
 her_seats_gone student = record { student = student }
 
+-- the row of a seat is put in
 abbrev pub seat_put : stored.SeatRow → InsertSeat
 seat_put row = record { row = row }
 
+-- a candidate's share is taken out
 abbrev pub share_gone : ℕ → DeleteStudentShare
 share_gone student = record { student = student }
 
+-- the row of a candidate's share is put in
 abbrev pub student_share_put : StudentShareRow → InsertStudentShare
 student_share_put row = record { row = row }
 
+-- the row of an exam's, a period's or a room's share is put in
 abbrev pub part_share_put : PartShareRow → InsertPartShare
 part_share_put row = record { row = row }
 

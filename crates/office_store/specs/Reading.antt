@@ -35,6 +35,7 @@ abbrev pub student_rows_in : OfficeState → List StudentShareRow
 student_rows_in None = []
 student_rows_in (Some r) = student_share_rows r.session r.published
 
+-- the share rows of exams, periods and rooms in an office; none where nothing is loaded
 abbrev pub part_rows_in : OfficeState → List PartShareRow
 part_rows_in None = []
 part_rows_in (Some r) = part_share_rows r.session r.published

@@ -31,6 +31,7 @@ place_in_row row = (row.exam, record { period = row.period; room = row.room })
 abbrev pub share_in_row : StudentShareRow → PersonalPenalty
 share_in_row row = record { row = row.in_row; day = row.in_day; spread = row.spread }
 
+-- nothing, where she has no row of a share
 abbrev pub no_share : PersonalPenalty
 no_share = record { row = 0; day = 0; spread = 0 }
 

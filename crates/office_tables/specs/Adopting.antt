@@ -38,11 +38,13 @@ pub record AreReadable (t : Tables) : Type 0 where
 abbrev pub IsForeign : Database → Type 0
 IsForeign db = (t : Tables) → AreReadable t → Stands db t → ⊥
 
+-- what was found of the session is what its three tables hold
 pub record HoldsSession (db : Database) (found : FoundSession) : Type 0 where
   pub meta : Holds keyed (meta_row (meta_from found.meta) ∷ []) (db.trees 0)
   pub owner : Holds keyed (map owner_row found.owners.items) (db.trees 1)
   pub enrol : Holds keyless (map enrol_row found.enrols.items) (db.trees 2)
 
+-- what was found of the drafts is what their two tables hold
 pub record HoldsDrafts (db : Database) (found : FoundDrafts) : Type 0 where
   pub draft : Holds keyed (map draft_row found.drafts.items) (db.trees 4)
   pub slot : Holds keyless (map slot_row found.slots.items) (db.trees 5)
@@ -54,10 +56,12 @@ pub record HoldsPublication (db : Database) (found : FoundPublication) : Type 0 
   pub share_student : Holds keyed (map share_student_row found.student_shares.items) (db.trees 11)
   pub share_part : Holds keyless (map share_part_row found.part_shares.items) (db.trees 12)
 
+-- it is what the tables hold, or none, and the file is no office's
 abbrev pub IsFoundSession : Database → Option FoundSession → Type 0
 IsFoundSession db (Some found) = HoldsSession db found
 IsFoundSession db None = IsForeign db
 
+-- the same of the drafts
 abbrev pub IsFoundDrafts : Database → Option FoundDrafts → Type 0
 IsFoundDrafts db (Some found) = HoldsDrafts db found
 IsFoundDrafts db None = IsForeign db
@@ -100,12 +104,14 @@ IsAdopted db None = IsForeign db
 
 -- ---- parts together
 
+-- what the three tables gave, together; none where one of them gave nothing
 abbrev pub IsSession : Option MetaRow → Option (Vec OwnerRow Global) → Option (Vec EnrolRow Global)
     → Option FoundSession → Type 0
 IsSession meta owners enrols (Some found) =
     (meta ≡ Some found.meta) × (owners ≡ Some found.owners) × (enrols ≡ Some found.enrols)
 IsSession meta owners enrols None = (meta ≡ None) ⊎ ((owners ≡ None) ⊎ (enrols ≡ None))
 
+-- what the two tables gave, together; none where one of them gave nothing
 abbrev pub IsDrafts : Option (Vec DraftRow Global) → Option (Vec SlotRow Global)
     → Option FoundDrafts → Type 0
 IsDrafts drafts slots (Some found) = (drafts ≡ Some found.drafts) × (slots ≡ Some found.slots)
@@ -121,6 +127,7 @@ IsPublication placements seats students parts (Some found) =
 IsPublication placements seats students parts None =
     (placements ≡ None) ⊎ ((seats ≡ None) ⊎ ((students ≡ None) ⊎ (parts ≡ None)))
 
+-- all parts together; none where one of them gave nothing
 abbrev pub IsWhole : Option FoundSession → Option FoundDrafts → Option FoundPublication
     → Option (Vec BatchCountsRow Global) → Option Found → Type 0
 IsWhole session drafts publication batches (Some found) =

@@ -4,9 +4,11 @@ use Rattle.office_tables.specs.declared.rows.DraftRow.{DraftRow}
 use Rattle.office_tables.specs.declared.rows.PartShareRow.{PartShareRow}
 use Rattle.office_tables.specs.declared.rows.StudentShareRow.{StudentShareRow}
 
+-- a sum that the tables can hold, and that can be added to another without wrapping
 abbrev pub IsAmount : ℕ → Type 0
 IsAmount n = n < 2 ^ 62
 
+-- all seven parts of a draft's penalty are such sums
 pub record AreAmounts (row : DraftRow) : Type 0 where
   pub in_row : IsAmount row.in_row
   pub in_day : IsAmount row.in_day

@@ -36,6 +36,7 @@ pub record Lists (tree : ℕ) (shown : List Term) (sql : List ℕ) : Type 0 wher
   pub unlisted : reads_listing office_schema sql ≡ false
   pub plain : IsPlain (understood office_schema sql)
 
+-- what a SELECT shows of a row: the value of each of its terms
 abbrev pub listed : List Term → Row → Row
 listed shown row = eval_all shown ([] ∷ row ∷ [])
 

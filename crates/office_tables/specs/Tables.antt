@@ -31,6 +31,7 @@ pub record Batch : Type 0 where
   pub dropped : ℕ
   pub unchanged : ℕ
 
+-- the rows of the ten tables
 pub record Tables : Type 0 where
   pub meta : List Meta
   pub owner : List OwnerRow
@@ -45,42 +46,53 @@ pub record Tables : Type 0 where
 
 -- ---- their columns
 
+-- a yes or no, as the file has it
 abbrev pub flag : Bool → ℕ
 flag b = if b then 1 else 0
 
+-- the columns of the line about the file: its key, 0, and the version of the schema, 1, come first
 abbrev pub meta_row : Meta → Row
 meta_row r = Int (pos 0) ∷ Int (pos 1) ∷ Int (pos (flag r.published)) ∷ Blob r.instance ∷ []
 
+-- an owner's columns
 abbrev pub owner_row : OwnerRow → Row
 owner_row r = Int (pos r.exam) ∷ Int (pos r.dept) ∷ []
 
+-- an enrolment's columns
 abbrev pub enrol_row : EnrolRow → Row
 enrol_row r = Int (pos r.student) ∷ Int (pos r.exam) ∷ []
 
+-- a draft's columns
 abbrev pub draft_row : DraftRow → Row
 draft_row r =
     Int (pos r.no) ∷ Int (pos r.in_row) ∷ Int (pos r.in_day) ∷ Int (pos r.spread) ∷
     Int (pos r.mixed) ∷ Int (pos r.front) ∷ Int (pos r.period) ∷ Int (pos r.room) ∷ []
 
+-- the columns of a draft's place
 abbrev pub slot_row : SlotRow → Row
 slot_row r = Int (pos r.draft) ∷ Int (pos r.exam) ∷ Int (pos r.period) ∷ Int (pos r.room) ∷ []
 
+-- the columns of a published place
 abbrev pub placed_row : PlacedRow → Row
 placed_row r = Int (pos r.exam) ∷ Int (pos r.period) ∷ Int (pos r.room) ∷ []
 
+-- a seat's columns
 abbrev pub seat_row : SeatRow → Row
 seat_row r =
     Int (pos r.student) ∷ Int (pos r.exam) ∷ Int (pos r.period) ∷ Int (pos r.room) ∷
     Int (pos r.seat) ∷ []
 
+-- the columns of a student's share
 abbrev pub share_student_row : StudentShareRow → Row
 share_student_row r =
     Int (pos r.student) ∷ Int (pos r.in_row) ∷ Int (pos r.in_day) ∷ Int (pos r.spread) ∷ []
 
+-- the columns of the share of an exam, a period or a room
 abbrev pub share_part_row : PartShareRow → Row
 share_part_row r =
     Int (pos r.kind) ∷ Int (pos r.no) ∷ Int (pos r.penalty) ∷ Int (pos r.mixed) ∷ []
 
+-- a batch's columns
 abbrev pub batch_row : Batch → Row
 batch_row r =
     Int (pos r.no) ∷ Blob r.bytes ∷ Int (pos r.added) ∷ Int (pos r.dropped) ∷
