@@ -30,7 +30,9 @@ pub use altering::{Alteration, Both, Each, transact};
 pub use batches::{InsertBatch, batch_numbers, batch_of};
 pub use creation::{create_tables, is_bare};
 pub use drafts::{DeleteDraft, DeleteDrafts, InsertDraft, delete_draft, drafts_of, insert_draft};
-pub use enrolments::{DeleteEnrol, InsertEnrol, enrols_of, insert_enrol, insert_enrols};
+pub use enrolments::{
+    DeleteEnrol, InsertEnrol, enrols_of, find_enrols_of, insert_enrol, insert_enrols,
+};
 pub use found::Found;
 pub use looking::look;
 pub use meta::{DeleteMeta, InsertMeta, delete_meta, is_published, put_meta};
