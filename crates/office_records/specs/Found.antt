@@ -1,7 +1,7 @@
 -- When rows that were found are those of an office's records, table by table.
 use Rattle.std.specs.Prelude.{◌≡◌, ◌≢◌, ℕ, ◌<◌, ◌≤◌, Bool, List, [], map, length, All, AllPairs, Option, Some, None, IsSome, is_some, slice_set, IsPermutation}
 use Rattle.std.specs.List.{AllByRecursion}
-use Rattle.exam_terms.specs.declared.limits.TheConstants.{MAX_BATCH, MAX_BATCHES, TEXT_BYTES}
+use Rattle.exam_terms.specs.declared.limits.TheConstants.{MAX_BATCH, MAX_BATCHES, MAX_DEPARTMENT, MAX_DRAFTS, TEXT_BYTES}
 use Rattle.exam_model.specs.Enrolments.{Enrolled}
 use Rattle.exam_model.specs.Fits.{Fits, PlaceExists}
 use Rattle.exam_model.specs.Instance.{Session, IsInstance}
@@ -34,7 +34,7 @@ pub record IsSessionRow (found : Meta) (I : Session) : Type 0 where
 -- these rows name the owners of this session's exams
 pub record AreOwners (I : Session) (found : List OwnerRow) (owner_of : ℕ → ℕ) : Type 0 where
   pub rows : (e : ℕ) → map (λ o. o.dept) (owners_at e found) ≡ some_dept (owner_of e)
-  pub departments : (e : ℕ) → owner_of e ≤ 999
+  pub departments : (e : ℕ) → owner_of e ≤ MAX_DEPARTMENT
   pub owned : (e : ℕ) → owner_of e ≢ 0 → e < length I.exams
 
 -- these rows are the pairs of enrolments of this session's exams
@@ -51,7 +51,7 @@ pub record AreSlots (I : Session) (d : ℕ) (found : List SlotRow) (T : Placing)
 -- these rows are drafts, with their places and their penalties
 pub record AreDrafts (I : Session) (E : Enrolled) (found : List DraftRow) (places : List SlotRow)
     (draft : ℕ → Option Placing) : Type 0 where
-  pub numbered : (d : ℕ) → IsSome (draft d) → (1 ≤ d) × (d ≤ 8)
+  pub numbered : (d : ℕ) → IsSome (draft d) → (1 ≤ d) × (d ≤ MAX_DRAFTS)
   pub fits : (d : ℕ) (T : Placing) → draft d ≡ Some T → Fits I E T
   pub rows : (d : ℕ) → map (λ row. row.no) (drafts_at d found) ≡ once (is_some (draft d)) d
   pub slots : (d : ℕ) → IsPermutation (slots_at d places) (slot_rows d (draft d))

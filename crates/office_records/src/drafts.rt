@@ -2,6 +2,7 @@
 ghost use Rattle.std.specs.Prelude.{◌≡◌, ◌≢◌, ◌≤◌, ◌↔◌, ◌==◌, ℕ, length};
 ghost use Rattle.std.specs.Prelude.{All, IfErr, IsTrue, OnOk, Option};
 ghost use Rattle.std.specs.List.{list_all, list_any};
+ghost use Rattle.exam_terms.specs.declared.limits.TheConstants.{MAX_DRAFTS};
 ghost use Rattle.exam_model.specs.Timetable.{Placing};
 ghost use Rattle.exam_score.specs.Track.{track};
 ghost use Rattle.office_tables.specs.Amounts.{AreAmounts};
@@ -12,6 +13,7 @@ use crate::fault::RecordFault;
 use crate::timetable::timetable_of;
 use exam_model::{Enrolments, Instance};
 use exam_score::{Parts, score};
+use exam_terms::limits::MAX_DRAFTS;
 use office_tables::{DraftRow, SlotRow};
 use std::alloc::Global;
 
@@ -45,9 +47,9 @@ pub fn check_drafts(
 
 // Whether a draft after these may have this number.
 fn is_next(no: u32, earlier: &[DraftRow]) -> bool
-    ensures { IsTrue result ↔ ((1 ≤ no) × (no ≤ 8) × All (λ row. row.no ≢ no) earlier.now) }
+    ensures { IsTrue result ↔ ((1 ≤ no) × (no ≤ MAX_DRAFTS) × All (λ row. row.no ≢ no) earlier.now) }
 {
-    let exists = 1 <= no && no <= 8;
+    let exists = 1 <= no && no <= MAX_DRAFTS;
     exists && earlier.iter().all(|row| row.no != no)
 }
 

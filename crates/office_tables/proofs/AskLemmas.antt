@@ -64,10 +64,15 @@ both_alike : {X : Type 0} (b : Bool) (x : X) → cond b x x ≡ x
 both_alike true x = refl
 both_alike false x = refl
 
-command_is : (q : Query) (names : List (List ℕ)) (r : Result Compiled CompileError)
+pub command_is : (q : Query) (names : List (List ℕ)) (r : Result Compiled CompileError)
     → Selects q names r → command_of r ≡ Select (record { lets = []; body = q }) names
 command_is q names (Ok c) h = h
 command_is q names (Err e) h = absurd h
+
+-- trees of which none is replaced
+pub overlay_none : (trees : Trees) → overlay trees [] ≡ trees
+overlay_none trees =
+    λ i t. ap (λ o. unwrap_or o (trees t)) (both_alike (nat_le (2 ^ 31) t) None) i
 
 -- what a text gives is an answer of the query that it means
 pub answers : (q : Query) (sql : List ℕ) (params : Row) (old mid new : State)
@@ -80,8 +85,7 @@ answers q sql params old mid new means same rows h =
     (Select (record { lets = []; body = q }) means.names) command means.plain means.unlisted rows
     h).answer Null in
     let bare : overlay mid.now.trees [] ≡ old.now.trees =
-    (λ i t. ap (λ o. unwrap_or o (mid.now.trees t)) (both_alike (nat_le (2 ^ 31) t) None) i)
-    ∙ ap (λ d. d.trees) same.0.now_is in
+    overlay_none mid.now.trees ∙ ap (λ d. d.trees) same.0.now_is in
     subst (λ trees. IsAnswer q trees params rows) bare answer
 
 -- an answer shows all matches, in the order that is asked

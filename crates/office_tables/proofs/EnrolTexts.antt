@@ -1,5 +1,8 @@
 -- What is read of the table of enrolments.
-use Rattle.std.proofs.Common.{◌≡◌, ℕ, pos, List, [], ◌∷◌, filter, true, ◌&&◌, ◌==◌, codes, refl, ap, IsPermutation}
+use Rattle.std.proofs.Common.{◌≡◌, ◌<◌, ℕ, pos, List, [], ◌∷◌, map, filter, true, ◌&&◌, ◌==◌, codes, refl, ap, arith, rules, IsPermutation, Option, Some, None}
+use Rattle.std.specs.List.{AllByRecursion}
+use Rattle.std.specs.Prelude.{IfSome, IsSome, Vec}
+use Rattle.std.specs.declared.alloc.Global.{Global}
 use Rattle.sqlite_sql.specs.declared.ops.BinaryOp.TheVariants.{Compare}
 use Rattle.sqlite_sql.specs.declared.ops.CompareOp.TheVariants.{Eq}
 use Rattle.sqlite_sql.specs.Ops.{binary, is_true}
@@ -8,14 +11,17 @@ use Rattle.sqlite_value.specs.declared.value.Value.TheVariants.{Int}
 use Rattle.sqlite_value.specs.Order.{Row, column}
 use Rattle.sqlite.specs.Effect.{Database}
 use Rattle.sqlite.specs.Listing.{understood}
-use Rattle.sqlite.specs.Query.{Query, inner, end}
-use Rattle.sqlite.specs.Term.{Term, col}
+use Rattle.sqlite.specs.Query.{Query, inner, end, matches}
+use Rattle.sqlite.specs.Term.{Term, col, eval_all}
 use Rattle.sqlite_tied.specs.Compute.{everything}
 use Rattle.office_schema.specs.Schema.{office_schema}
 use Rattle.office_tables.specs.Asking.{asks, IsReadOf, Means}
+use Rattle.office_tables.specs.Readings.{IsReadAnswer}
+use Rattle.office_tables.specs.Records.{FitsEnrol}
+use Rattle.office_tables.specs.Selections.{HerEnrolsRise, IsInOrder}
 use Rattle.office_tables.specs.declared.rows.EnrolRow.{EnrolRow}
 use Rattle.office_tables.specs.Tables.{Tables, Stands, keyless, enrol_row}
-use Rattle.office_tables.proofs.OrderLemmas.{Rises, read, rising, table_shown}
+use Rattle.office_tables.proofs.OrderLemmas.{Rises, columns_shown, in_this_order, one_less, read, rising, table_shown}
 use Rattle.office_tables.proofs.Queries.{column_less, equal_numbers, equals, passes}
 use Rattle.office_tables.proofs.RecordsBack.{enrol_of}
 
@@ -46,18 +52,51 @@ enrols_of_means = record {
   plain = (refl, refl);
 }
 
-pub enrols_of_read : (db : Database) (number : ℕ) (t : Tables) → Stands db t
-    → (found : List EnrolRow)
-    → IsReadOf enrol_row 2 (Int (pos number) ∷ []) enrols_of_query db.trees found
-    → IsPermutation (filter (λ r. r.student == number) t.enrol) found
-    × Rises (λ (x : EnrolRow). x.exam ∷ []) found
-enrols_of_read db number t stands found is =
-    let params : Row = Int (pos number) ∷ [] in
-    read enrol_of enrol_row 2 (λ x. refl) (λ x. refl) (inner 2 end) (equals 1 0 ∷ []) enrol_columns
-    (1 ∷ []) (λ (x : EnrolRow). x.exam ∷ []) (λ x. refl) db.trees params
-    (filter (λ r. r.student == number) t.enrol) found
-    (table_shown enrol_row keyless enrol_picked params 2 (equals 1 0 ∷ []) enrol_columns enrol_shown
-    (λ x. refl) (passes params (equals 0 0 ∷ [])) (λ r.
-    ap (λ v. is_true (binary (Compare Eq Binary) v (Int (pos number))) && true) (column_less r 0))
-    (λ r. r.student == number) (λ x. equal_numbers x.student number) db.trees t.enrol
-    stands.enrol.same) is
+-- what is read of the table: hers
+module _ (db : Database) (number : ℕ) (t : Tables) (stands : Stands db t) where
+  abbrev pub given : Row
+  given = Int (pos number) ∷ []
+
+  abbrev pub hers : List EnrolRow
+  hers = filter (λ r. r.student == number) t.enrol
+
+  shown : IsPermutation (map (eval_all enrol_columns)
+      (matches db.trees (equals 1 0 ∷ []) (inner 2 end) (given ∷ []))) (map enrol_row hers)
+  shown =
+      table_shown enrol_row keyless enrol_picked given 2 (equals 1 0 ∷ []) enrol_columns enrol_shown
+      (λ x. refl) (passes given (equals 0 0 ∷ [])) (λ r.
+      ap (λ v. is_true (binary (Compare Eq Binary) v (Int (pos number))) && true) (column_less r 0))
+      (λ r. r.student == number) (λ x. equal_numbers x.student number) db.trees t.enrol
+      stands.enrol.same
+
+  pub enrols_of_read : (found : List EnrolRow)
+      → IsReadOf enrol_row 2 given enrols_of_query db.trees found
+      → IsPermutation hers found × Rises (λ (x : EnrolRow). x.exam ∷ []) found
+  enrols_of_read found is =
+      read enrol_of enrol_row 2 (λ x. refl) (λ x. refl) (inner 2 end) (equals 1 0 ∷ [])
+      enrol_columns (1 ∷ []) (λ (x : EnrolRow). x.exam ∷ []) (λ x. refl) db.trees given hers found
+      shown is
+
+  abbrev pub Answered : Option (Vec EnrolRow Global) → Type 0
+  Answered = IsReadAnswer FitsEnrol enrol_row 2 given enrols_of_query db.trees
+
+  pub found_rows : (found : Option (Vec EnrolRow Global)) → Answered found
+      → IfSome found (λ rows. IsPermutation hers rows.items)
+  found_rows (Some rows) is = (enrols_of_read rows.items is).0
+  found_rows None is = tt
+
+  pub found_in_order : (found : Option (Vec EnrolRow Global)) → Answered found
+      → IfSome found (λ rows. IsInOrder HerEnrolsRise hers rows.items)
+  found_in_order (Some rows) is =
+      in_this_order (λ (a b : EnrolRow). a.exam < b.exam) (λ (x : EnrolRow). x.exam ∷ [])
+      (λ x y low. one_less x.exam y.exam low) hers rows.items (enrols_of_read rows.items is)
+  found_in_order None is = tt
+
+  pub found_where_fit : (found : Option (Vec EnrolRow Global)) → Answered found
+      → AllByRecursion FitsEnrol hers → IsSome found
+  found_where_fit (Some rows) is fit = search rules
+  found_where_fit None (rows, none, answer) fit =
+      let same = columns_shown enrol_row 2 (λ x. refl) (λ x. omega arith) (inner 2 end)
+      (equals 1 0 ∷ []) enrol_columns (rising enrol_columns (1 ∷ [])) db.trees given hers rows shown
+      answer in
+      absurd (none same.1 hers fit same.0)

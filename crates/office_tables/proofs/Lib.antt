@@ -11,6 +11,7 @@ pub mod DraftTexts
 pub mod EnrolLemmas
 pub mod EnrolTexts
 pub mod Frames
+pub mod Gathered
 pub mod Inside
 pub mod JoinedTexts
 pub mod ListTexts
@@ -28,6 +29,7 @@ pub mod Queries
 pub mod Reading
 pub mod RecordLemmas
 pub mod RecordsBack
+pub mod Rising
 pub mod ShareLemmas
 pub mod ShareTexts
 pub mod SlotLemmas

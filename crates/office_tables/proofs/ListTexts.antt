@@ -3,6 +3,7 @@ use Rattle.std.proofs.Common.{◌≡◌, ℕ, List, [], ◌∷◌, codes, take, 
 use Rattle.std.specs.List.{AllByRecursion}
 use Rattle.sqlite_trees.proofs.ListLemmas.{all_of, all_weaker}
 use Rattle.sqlite_value.specs.declared.keys.Collation.TheVariants.{Binary}
+use Rattle.sqlite_value.specs.declared.keys.Key.{Key}
 use Rattle.sqlite_value.specs.Keys.{ascending}
 use Rattle.sqlite_value.specs.Order.{Row, column}
 use Rattle.sqlite.specs.Effect.{Database, IsDatabase}
@@ -14,6 +15,10 @@ use Rattle.office_schema.specs.Schema.{office_schema, int, blob, meta_table, own
 use Rattle.office_tables.specs.Tables.{keyed, keyless}
 use Rattle.office_tables.proofs.WholeRows.{dropped, rows_long, typed_rows, present_rows}
 
+-- in the order of the rows' numbers
+abbrev by_number : List (Term × Key)
+by_number = (col 1 0, ascending Binary) ∷ []
+
 -- ---- owner
 
 abbrev pub owner_text : List ℕ
@@ -22,10 +27,9 @@ owner_text = codes "SELECT exam, dept, rowid FROM owner ORDER BY rowid"
 abbrev owner_terms : List Term
 owner_terms = col 1 0 ∷ col 1 2 ∷ col 1 0 ∷ []
 
-owner_is : Lists 1 owner_terms owner_text
+owner_is : Lists 1 owner_terms by_number owner_text
 unfolding understood everything
 owner_is = record {
-  order = (col 1 0, ascending Binary) ∷ [];
   names = codes "exam" ∷ codes "dept" ∷ codes "exam" ∷ [];
   selects = refl;
   unlisted = refl;
@@ -56,10 +60,9 @@ enrol_text = codes "SELECT student, exam, rowid FROM enrol ORDER BY rowid"
 abbrev enrol_terms : List Term
 enrol_terms = col 1 1 ∷ col 1 2 ∷ col 1 0 ∷ []
 
-enrol_is : Lists 2 enrol_terms enrol_text
+enrol_is : Lists 2 enrol_terms by_number enrol_text
 unfolding understood everything
 enrol_is = record {
-  order = (col 1 0, ascending Binary) ∷ [];
   names = codes "student" ∷ codes "exam" ∷ codes "rowid" ∷ [];
   selects = refl;
   unlisted = refl;
@@ -87,10 +90,9 @@ abbrev draft_terms : List Term
 draft_terms =
     col 1 0 ∷ col 1 2 ∷ col 1 3 ∷ col 1 4 ∷ col 1 5 ∷ col 1 6 ∷ col 1 7 ∷ col 1 8 ∷ col 1 0 ∷ []
 
-draft_is : Lists 4 draft_terms draft_text
+draft_is : Lists 4 draft_terms by_number draft_text
 unfolding understood everything
 draft_is = record {
-  order = (col 1 0, ascending Binary) ∷ [];
   names = codes "no" ∷ codes "in_row" ∷ codes "in_day" ∷ codes "spread" ∷ codes "mixed" ∷ codes "front" ∷ codes "period" ∷ codes "room" ∷ codes "no" ∷ [];
   selects = refl;
   unlisted = refl;
@@ -121,10 +123,9 @@ slot_text = codes "SELECT draft, exam, period, room, rowid FROM slot ORDER BY ro
 abbrev slot_terms : List Term
 slot_terms = col 1 1 ∷ col 1 2 ∷ col 1 3 ∷ col 1 4 ∷ col 1 0 ∷ []
 
-slot_is : Lists 5 slot_terms slot_text
+slot_is : Lists 5 slot_terms by_number slot_text
 unfolding understood everything
 slot_is = record {
-  order = (col 1 0, ascending Binary) ∷ [];
   names = codes "draft" ∷ codes "exam" ∷ codes "period" ∷ codes "room" ∷ codes "rowid" ∷ [];
   selects = refl;
   unlisted = refl;
@@ -151,10 +152,9 @@ placed_text = codes "SELECT exam, period, room, rowid FROM placed ORDER BY rowid
 abbrev placed_terms : List Term
 placed_terms = col 1 0 ∷ col 1 2 ∷ col 1 3 ∷ col 1 0 ∷ []
 
-placed_is : Lists 7 placed_terms placed_text
+placed_is : Lists 7 placed_terms by_number placed_text
 unfolding understood everything
 placed_is = record {
-  order = (col 1 0, ascending Binary) ∷ [];
   names = codes "exam" ∷ codes "period" ∷ codes "room" ∷ codes "exam" ∷ [];
   selects = refl;
   unlisted = refl;
@@ -185,10 +185,9 @@ seat_text = codes "SELECT student, exam, period, room, seat, rowid FROM seat ORD
 abbrev seat_terms : List Term
 seat_terms = col 1 1 ∷ col 1 2 ∷ col 1 3 ∷ col 1 4 ∷ col 1 5 ∷ col 1 0 ∷ []
 
-seat_is : Lists 8 seat_terms seat_text
+seat_is : Lists 8 seat_terms by_number seat_text
 unfolding understood everything
 seat_is = record {
-  order = (col 1 0, ascending Binary) ∷ [];
   names = codes "student" ∷ codes "exam" ∷ codes "period" ∷ codes "room" ∷ codes "seat" ∷ codes "rowid" ∷ [];
   selects = refl;
   unlisted = refl;
@@ -219,10 +218,9 @@ share_student_text = codes "SELECT student, in_row, in_day, spread, rowid FROM s
 abbrev share_student_terms : List Term
 share_student_terms = col 1 0 ∷ col 1 2 ∷ col 1 3 ∷ col 1 4 ∷ col 1 0 ∷ []
 
-share_student_is : Lists 11 share_student_terms share_student_text
+share_student_is : Lists 11 share_student_terms by_number share_student_text
 unfolding understood everything
 share_student_is = record {
-  order = (col 1 0, ascending Binary) ∷ [];
   names = codes "student" ∷ codes "in_row" ∷ codes "in_day" ∷ codes "spread" ∷ codes "student" ∷ [];
   selects = refl;
   unlisted = refl;
@@ -253,10 +251,9 @@ share_part_text = codes "SELECT kind, no, penalty, mixed, rowid FROM share_part 
 abbrev share_part_terms : List Term
 share_part_terms = col 1 1 ∷ col 1 2 ∷ col 1 3 ∷ col 1 4 ∷ col 1 0 ∷ []
 
-share_part_is : Lists 12 share_part_terms share_part_text
+share_part_is : Lists 12 share_part_terms by_number share_part_text
 unfolding understood everything
 share_part_is = record {
-  order = (col 1 0, ascending Binary) ∷ [];
   names = codes "kind" ∷ codes "no" ∷ codes "penalty" ∷ codes "mixed" ∷ codes "rowid" ∷ [];
   selects = refl;
   unlisted = refl;
@@ -287,10 +284,9 @@ batch_text = codes "SELECT no, added, dropped, unchanged, rowid FROM batch ORDER
 abbrev batch_terms : List Term
 batch_terms = col 1 0 ∷ col 1 3 ∷ col 1 4 ∷ col 1 5 ∷ col 1 0 ∷ []
 
-batch_is : Lists 14 batch_terms batch_text
+batch_is : Lists 14 batch_terms by_number batch_text
 unfolding understood everything
 batch_is = record {
-  order = (col 1 0, ascending Binary) ∷ [];
   names = codes "no" ∷ codes "added" ∷ codes "dropped" ∷ codes "unchanged" ∷ codes "no" ∷ [];
   selects = refl;
   unlisted = refl;
@@ -318,10 +314,9 @@ meta_text = codes "SELECT id, version, published, instance FROM meta"
 abbrev pub meta_terms : List Term
 meta_terms = col 1 0 ∷ col 1 2 ∷ col 1 3 ∷ col 1 4 ∷ []
 
-pub meta_is : Lists 0 meta_terms meta_text
+pub meta_is : Lists 0 meta_terms [] meta_text
 unfolding understood everything
 meta_is = record {
-  order = [];
   names = codes "id" ∷ codes "version" ∷ codes "published" ∷ codes "instance" ∷ [];
   selects = refl;
   unlisted = refl;

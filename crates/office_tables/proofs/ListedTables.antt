@@ -1,55 +1,45 @@
 -- What a text that lists a table tells of it.
-use Rattle.std.proofs.Common.{◌≡◌, ◌≢◌, ◌≤◌, ◌<◌, ◌<ℤ◌, ◌⊎◌, inl, inr, ℕ, ℤ, List, [], ◌∷◌, ◌++◌, map, length, get_or, Option, Some, None, Result, Ok, Err, refl, sym, ap, ap₂, subst, ◌∙◌, IsTrue, IsPermutation, arith, IfOk, IfErr, OnOk}
+use Rattle.std.proofs.Common.{◌≡◌, ◌≢◌, ◌≤◌, ◌<◌, ℕ, List, [], ◌∷◌, map, length, get_or, Option, Some, None, Result, Ok, Err, refl, sym, ap, ap₂, subst, ◌∙◌, IsTrue, IsPermutation, IfOk, IfErr, OnOk}
 use Rattle.std.specs.List.{AllByRecursion}
-use Rattle.std.specs.Prelude.{IfSome, Vec}
+use Rattle.std.specs.Prelude.{Vec}
 use Rattle.std.specs.declared.alloc.Global.{Global}
-use Rattle.std.proofs.lemmas.Int.{ints}
 use Rattle.std.proofs.lemmas.List.Sorted.{IsPermutation-sym, IsPermutation-trans, IsPermutation-map}
-use Rattle.sqlite_resolve.specs.declared.compiled.Compiled.{Compiled}
-use Rattle.sqlite_resolve.specs.declared.error.CompileError.{CompileError}
-use Rattle.sqlite_trees.specs.Tree.{rowid}
+use Rattle.sqlite_trees.specs.Tree.{rowid, Trees}
 use Rattle.sqlite_trees.specs.View.{is_int}
-use Rattle.sqlite_trees.proofs.ListLemmas.{all_weaker, all-append, ascending-append, map-map, all_from_map, ascending_from_map, all-map, all-permutation, all-get_or}
-use Rattle.sqlite_value.specs.declared.value.Value.TheVariants.{Int}
+use Rattle.sqlite_trees.proofs.ListLemmas.{all_weaker, ascending-map, map-map, all_from_map, ascending_from_map, all-map, all-permutation, all-get_or}
+use Rattle.sqlite_value.specs.declared.keys.Key.{Key}
 use Rattle.sqlite_value.specs.Order.{Row}
 use Rattle.sqlite.specs.declared.error.Error.{Error}
-use Rattle.sqlite.specs.Command.TheVariants.{Select}
 use Rattle.sqlite.specs.Listing.{understood}
-use Rattle.sqlite.specs.Query.{Query}
+use Rattle.sqlite.specs.Query.{IsAnswer, inner, end, matches}
 use Rattle.sqlite.specs.State.{State, Survives, IsUnchanged, FailsToQuery, Shown, CommitsShowing}
-use Rattle.sqlite.specs.Term.{Term}
-use Rattle.sqlite.proofs.Callers.{IsPlain, command_of, never_commits}
+use Rattle.sqlite.specs.Term.{Term, eval_all}
+use Rattle.sqlite.proofs.Callers.{IsPlain, never_commits}
 use Rattle.sqlite.proofs.StateLemmas.{survives_weaker}
-use Rattle.office_tables.specs.Asking.{Selects}
-use Rattle.office_tables.specs.Readings.{IsRead, IsFound, one_table, Lists, listed, only_column, IsListed, HasTables}
+use Rattle.office_tables.specs.Readings.{IsRead, IsFound, ColumnRises, one_table, ordered_by, Lists, listed, IsListed, HasTables}
 use Rattle.office_tables.specs.Records.{columns_from}
 use Rattle.office_schema.specs.Schema.{office_schema}
 use Rattle.office_tables.specs.Steps.{Keeps}
 use Rattle.office_tables.specs.Tables.{HasRowids}
-use Rattle.office_tables.proofs.Queries.{answered, every}
+use Rattle.office_tables.proofs.AskLemmas.{arranged, command_is, overlay_none}
+use Rattle.office_tables.proofs.Queries.{every, matched, passes}
 use Rattle.office_tables.proofs.Reading.{kept_failed, kept_unchanged, shown_same}
+use Rattle.office_tables.proofs.Rising.{only_column, rising_from_sorted, rowids_from_rising}
 use Rattle.office_tables.proofs.Statements.{selects}
 use Rattle.office_tables.proofs.TableLemmas.{rowids_moved}
 
-command_is : (q : Query) (names : List (List ℕ)) (r : Result Compiled CompileError)
-    → Selects q names r
-    → command_of r ≡ Select (record { lets = []; body = q }) names
-command_is q names (Ok c) h = h
-command_is q names (Err e) h = absurd h
-
 -- ---- a text that lists a tree
 
-module _ (tree : ℕ) (shown : List Term) (sql : List ℕ) (lists : Lists tree shown sql)
-    (old new : State) (has : old.now.schema ≡ office_schema) where
-  pub all_listed : (rows : List Row) → Shown sql [] old new rows
-      → IsPermutation (map (listed shown) (old.now.trees tree)) rows
-  all_listed rows h =
-      let command = command_is (one_table tree [] shown lists.order) lists.names _ lists.selects in
-      let answer = selects sql [] old new office_schema has lists.plain _ lists.names command
-      lists.unlisted rows h in
-      subst (λ l. IsPermutation (map (listed shown) l) rows)
-      (every _ (old.now.trees tree) (λ r. refl))
-      (answered tree [] shown lists.order old.now.trees [] rows answer)
+module _ (tree : ℕ) (shown : List Term) (order : List (Term × Key)) (sql : List ℕ)
+    (lists : Lists tree shown order sql) (old new : State)
+    (has : old.now.schema ≡ office_schema) where
+  pub listing : (rows : List Row) → Shown sql [] old new rows
+      → IsAnswer (one_table tree [] shown order) old.now.trees [] rows
+  listing rows h =
+      let q = one_table tree [] shown order in
+      let command = command_is q lists.names _ lists.selects in
+      subst (λ trees. IsAnswer q trees [] rows) (overlay_none old.now.trees)
+      (selects sql [] old new office_schema has lists.plain _ lists.names command lists.unlisted rows h)
 
   plain_now : IsPlain (understood old.now.schema sql)
   plain_now = subst (λ s. IsPlain (understood s sql)) (sym has) lists.plain
@@ -63,12 +53,25 @@ module _ (tree : ℕ) (shown : List Term) (sql : List ℕ) (lists : Lists tree s
   listed_kept (Ok rows) ok err = kept_unchanged old new (listed_same rows.items ok)
   listed_kept (Err e) ok err = kept_failed sql [] old new e err
 
-pub listed_silent : (tree : ℕ) (shown : List Term) (sql : List ℕ) → Lists tree shown sql
-    → (old new : State)
+pub listed_silent : (tree : ℕ) (shown : List Term) (order : List (Term × Key)) (sql : List ℕ)
+    → Lists tree shown order sql → (old new : State)
     → Survives old new (CommitsShowing sql [] old) → Survives old new (λ _. HasTables old → ⊥)
-listed_silent tree shown sql lists old new =
+listed_silent tree shown order sql lists old new =
     survives_weaker old new _ _ (λ _ db h tables. never_commits sql [] old db
     (subst (λ s. IsPlain (understood s sql)) (sym tables.schema) lists.plain) h)
+
+-- all rows of the tree are listed
+pub all_listed : (tree : ℕ) (shown : List Term) (order : List (Term × Key)) (trees : Trees)
+    (rows : List Row) → IsAnswer (one_table tree [] shown order) trees [] rows
+    → IsPermutation (map (listed shown) (trees tree)) rows
+all_listed tree shown order trees rows answer =
+    let a = arranged (inner tree end) [] shown order trees [] rows answer in
+    let found : map (eval_all shown) (matches trees [] (inner tree end) ([] ∷ []))
+    ≡ map (listed shown) (trees tree) =
+    ap (map (eval_all shown)) (matched [] [] (trees tree))
+    ∙ map-map (eval_all shown) (λ r. [] ∷ r ∷ []) _
+    ∙ ap (map (listed shown)) (every (passes [] []) (trees tree) (λ r. refl)) in
+    rw (sym found, a.1) (IsPermutation-map (eval_all shown) _ _ a.2)
 
 pub ok_gives : {T E : Type 0} (r : Result T E) (P : T → Type 0) (Q : Type 0) → ((x : T) → P x → Q)
     → IfOk r P → OnOk r Q
@@ -81,50 +84,6 @@ pub same_map : {X Y : Type 0} (f g : X → Y) (xs : List X) → AllByRecursion (
     → map f xs ≡ map g xs
 same_map f g [] h = refl
 same_map f g (x ∷ xs) h = ap₂ (λ y ys. y ∷ ys) h.0 (same_map f g xs h.1)
-
--- ---- numbers that rise
-
--- no number is above this one, and with none there is no row
-abbrev pub AreUpTo : Option ℤ → List Row → Type 0
-AreUpTo None rows = rows ≡ []
-AreUpTo (Some top) rows = AllByRecursion (λ r. (n : ℤ) × (rowid r ≡ Int n)
-    × ((n ≡ top) ⊎ (n <ℤ top))) rows
-
-below_then : (n top id : ℤ) → (n ≡ top) ⊎ (n <ℤ top) → top <ℤ id → n <ℤ id
-below_then n top id (inl same) h = grind (arith, ints)
-below_then n top id (inr low) h = grind (arith, ints)
-
-not_itself : (n : ℤ) → n <ℤ n → ⊥
-not_itself n h = grind (arith, ints)
-
-int_same : (a b : ℤ) → Int a ≡ Int b → a ≡ b
-int_same a b e = cc
-
-apart : (top id : ℤ) (a b : Row) → (n : ℤ) × (rowid a ≡ Int n) × ((n ≡ top) ⊎ (n <ℤ top))
-    → top <ℤ id
-    → rowid b ≡ Int id → rowid a ≢ rowid b
-apart top id a b low h is e =
-    let same : low.0 ≡ id = int_same _ _ (sym low.1 ∙ e ∙ is) in
-    not_itself id (subst (λ n. n <ℤ id) same (below_then low.0 top id low.2 h))
-
-pub rise_more : (rows : List Row) (last : Option ℤ) (id : ℤ) (row : Row) → HasRowids rows
-    → AreUpTo last rows
-    → IfSome last (λ before. before <ℤ id) → rowid row ≡ Int id
-    → HasRowids (rows ++ row ∷ []) × AreUpTo (Some id) (rows ++ row ∷ [])
-rise_more rows None id row h upto low is =
-    rw upto (record { ints = (ap is_int is, tt); apart = (tt, tt) }, ((id, is, inl refl), tt))
-rise_more rows (Some top) id row h upto low is = (
-  record {
-    ints = all-append _ rows (row ∷ []) h.ints (ap is_int is, tt);
-    apart = ascending-append (λ a b. rowid a ≢ rowid b) rows (row ∷ []) h.apart (tt, tt)
-        (all_weaker _ (λ x. AllByRecursion (λ y. rowid x ≢ rowid y) (row ∷ []))
-        (λ x k. (apart top id x row k low is, tt)) rows upto);
-  },
-  all-append (λ r. (n : ℤ) × (rowid r ≡ Int n) × ((n ≡ id) ⊎ (n <ℤ id))) rows (row ∷ [])
-      (all_weaker _ (λ r. (n : ℤ) × (rowid r ≡ Int n) × ((n ≡ id) ⊎ (n <ℤ id)))
-      (λ x k. (k.0, k.1, inr (below_then k.0 top id k.2 low))) rows upto)
-      ((id, is, inl refl), tt),
-)
 
 -- ---- from what is listed to what is stored
 
@@ -140,15 +99,24 @@ ids_adopted stored rows same h =
 module _ (width : ℕ) (show : Row → Row) (terms : List Term) (stored rows : List Row)
     (whole : AllByRecursion (λ r. IsListed width show r (listed terms r)) stored)
     (same : IsPermutation (map (listed terms) stored) rows) where
-  pub stored_ids : HasRowids (map (only_column width) rows) → HasRowids stored
-  stored_ids h =
+  ids_listed : IsPermutation (map (only_column 0) stored) (map (only_column width) rows)
+  ids_listed =
       let ids = same_map (λ r. only_column width (listed terms r)) (only_column 0) stored
       (all_weaker _ (λ r. only_column width (listed terms r) ≡ only_column 0 r)
       (λ r k. ap (λ v. v ∷ []) k.number) stored whole) in
-      let moved = subst (λ l. IsPermutation l (map (only_column width) rows))
+      subst (λ l. IsPermutation l (map (only_column width) rows))
       (map-map (only_column width) (listed terms) stored ∙ ids)
-      (IsPermutation-map (only_column width) _ _ same) in
-      ids_adopted stored _ moved h
+      (IsPermutation-map (only_column width) _ _ same)
+
+  pub stored_ids : HasRowids (map (only_column width) rows) → HasRowids stored
+  stored_ids h = ids_adopted stored _ ids_listed h
+
+  pub listed_ids : HasRowids stored → HasRowids (map (only_column width) rows)
+  listed_ids h =
+      rowids_moved _ _ ids_listed (record {
+        ints = all-map (λ r. IsTrue (is_int (rowid r))) (only_column 0) stored h.ints;
+        apart = ascending-map (λ a b. rowid a ≢ rowid b) (only_column 0) stored h.apart;
+      })
 
   pub stored_columns : IsPermutation (map show stored) (map (columns_from 0 width) rows)
   stored_columns =
@@ -182,16 +150,31 @@ unread {X} fits row_of width rows i d below refused wide made fit same =
     (all_from_map Made (columns_from 0 width) rows here) below in
     refused (all-get_or (λ r. width ≤ length r) rows i d wide below) it.0 it.1 it.2
 
+-- where numbers come once, those of the rows that a text lists rise
+pub listed_rise : (width tree : ℕ) (show : Row → Row) (terms : List Term) (trees : Trees)
+    (rows : List Row)
+    → AllByRecursion (λ r. IsListed width show r (listed terms r)) (trees tree)
+    → IsAnswer (one_table tree [] terms (ordered_by terms width)) trees [] rows
+    → HasRowids (trees tree) → ColumnRises width rows
+listed_rise width tree show terms trees rows whole answer once =
+    let order = ordered_by terms width in
+    let same = all_listed tree terms order trees rows answer in
+    let ids = listed_ids width show terms (trees tree) rows whole same once in
+    let a = arranged (inner tree end) [] terms order trees [] rows answer in
+    subst (ColumnRises width) (sym a.1)
+    (rising_from_sorted terms width a.0 a.3
+    (subst (λ l. HasRowids (map (only_column width) l)) a.1 ids))
+
 -- what was read of the rows that a text lists is what the table holds
 pub adopted : {X : Type 0} (fits : X → Type 0) (row_of : X → Row) (width : ℕ) (show : Row → Row)
     (terms : List Term) (stored rows : List Row)
     → AllByRecursion (λ r. IsListed width show r (listed terms r)) stored
     → IsPermutation (map (listed terms) stored) rows
-    → HasRowids (map (only_column width) rows) → (found : Option (Vec X Global))
+    → ColumnRises width rows → (found : Option (Vec X Global))
     → IsRead fits row_of width rows found
     → IsFound fits row_of show stored found
 adopted fits row_of width show terms stored rows whole same rise (Some made) is = record {
-  rowids = stored_ids width show terms stored rows whole same rise;
+  rowids = stored_ids width show terms stored rows whole same (rowids_from_rising width rows rise);
   same = subst (IsPermutation (map show stored)) (sym is)
       (stored_columns width show terms stored rows whole same);
 }

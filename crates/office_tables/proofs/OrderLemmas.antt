@@ -1,6 +1,7 @@
 -- Rows in the order of ORDER BY, as records in the order of their numbers.
-use Rattle.std.proofs.Common.{◌≡◌, ℕ, zero, suc, ◌+◌, ◌<◌, ◌⊎◌, inl, inr, pos, Bool, List, [], ◌∷◌, map, filter, length, get_or, nat_cmp, int_cmp, Ordering, Less, is_lt, refl, sym, ap, ap₂, subst, ◌∙◌, arith, IsPermutation}
+use Rattle.std.proofs.Common.{◌≡◌, ◌≤◌, ℕ, zero, suc, ◌+◌, ◌<◌, ◌⊎◌, inl, inr, pos, Bool, List, [], ◌∷◌, map, filter, length, get_or, nat_cmp, int_cmp, Ordering, Less, is_lt, refl, sym, ap, ap₂, subst, ◌∙◌, arith, IsPermutation}
 use Rattle.std.specs.Prelude.{slice_index_or, IsSortedByKey}
+use Rattle.std.specs.List.{AllByRecursion}
 use Rattle.std.specs.Ordering.{ordering_then, on}
 use Rattle.std.specs.Cmp.Lexicographic.{slice_cmp}
 use Rattle.std.proofs.lemmas.Bool.Decides.{nat_tests}
@@ -15,12 +16,12 @@ use Rattle.sqlite_value.specs.declared.keys.Key.{Key}
 use Rattle.sqlite_value.specs.Keys.{ascending}
 use Rattle.sqlite_value.specs.Order.{Row, column, value_cmp}
 use Rattle.sqlite_value.proofs.OrderLemmas.{value_cmp-Int}
-use Rattle.sqlite_trees.proofs.ListLemmas.{map-map, filter-map, filter_same, IsPermutation-filter, ascending_weaker}
+use Rattle.sqlite_trees.proofs.ListLemmas.{map-map, all_of, all-map, all-permutation, filter-map, filter_same, IsPermutation-filter, ascending_weaker}
 use Rattle.sqlite_rules.proofs.ListLemmas.{all_from}
 use Rattle.sqlite_keyed.proofs.SortLemmas.{sorted_unique}
 use Rattle.sqlite_sql.proofs.QueryLemmas.{key_cmp_shift}
 use Rattle.sqlite_trees.specs.Tree.{Trees, IsAscending}
-use Rattle.sqlite.specs.Query.{Query, Join, key_cmp, sort_cmp, matches, inner, end}
+use Rattle.sqlite.specs.Query.{Query, Join, IsAnswer, key_cmp, sort_cmp, matches, inner, end}
 use Rattle.sqlite.specs.Term.{Term, Env, lit, eval, eval_all}
 use Rattle.office_tables.specs.Asking.{asks, IsReadOf}
 use Rattle.office_tables.specs.Records.{columns_from}
@@ -55,7 +56,7 @@ in_order m n =
     value_cmp-Int (pos m) (pos n) ∙ same
 
 -- columns of what is shown are the terms that show them
-shown_column : (shown : List Term) (at : ℕ) (env : Env)
+pub shown_column : (shown : List Term) (at : ℕ) (env : Env)
     → column (eval_all shown env) at ≡ eval (slice_index_or shown at (lit Null)) env
 shown_column [] at env = refl
 shown_column (t ∷ shown) zero env = refl
@@ -169,6 +170,29 @@ module _ {R : Type 0} (record_of : Row → R) (row_of : R → Row) (width : ℕ)
       (at (k + 1) d within) (at k d (omega arith))))
       ∙ a.3 k [] low (omega arith) in
       (subst (IsPermutation xs) (sym is) u.2, subst (Rises key) (sym is) up)
+
+-- where the matches show these typed rows, those of an answer do
+pub columns_shown : {R : Type 0} (row_of : R → Row) (width : ℕ)
+    (whole : (x : R) → columns_from 0 width (row_of x) ≡ row_of x)
+    (long : (x : R) → width ≤ length (row_of x)) (from : Join) (where_ shown : List Term)
+    (order : List (Term × Key)) (trees : Trees) (params : Row) (xs : List R) (rows : List Row)
+    → IsPermutation (map (eval_all shown) (matches trees where_ from (params ∷ []))) (map row_of xs)
+    → IsAnswer (asks from where_ shown order) trees params rows
+    → IsPermutation (map (columns_from 0 width) rows) (map row_of xs)
+    × AllByRecursion (λ r. width ≤ length r) rows
+columns_shown row_of width whole long from where_ shown order trees params xs rows shows answer =
+    let a = arranged from where_ shown order trees params rows answer in
+    let found : IsPermutation (map row_of xs) rows =
+    rw a.1 (IsPermutation-trans _ _ _ (IsPermutation-sym _ _ shows)
+    (IsPermutation-map (eval_all shown) _ _ a.2)) in
+    let same : map (columns_from 0 width) (map row_of xs) ≡ map row_of xs =
+    map-map (columns_from 0 width) row_of xs
+    ∙ map_agree (λ x. columns_from 0 width (row_of x)) row_of whole xs in (
+      subst (IsPermutation (map (columns_from 0 width) rows)) same
+          (IsPermutation-map (columns_from 0 width) _ _ (IsPermutation-sym _ _ found)),
+      all-permutation (λ r. width ≤ length r) _ rows found
+          (all-map (λ r. width ≤ length r) row_of xs (all_of _ long xs)),
+    )
 
 -- ---- from a table to matches
 

@@ -21,8 +21,7 @@ use sqlite::{Alter, Connection, Error};
 use std::alloc::Global;
 
 /// The rows of an office; of each batch all but its bytes, which `batch_of` reads. `None` says that
-/// the database stands for no such office; an error, that a statement failed, memory was refused, or
-/// two rows of a table have one number.
+/// the database stands for no such office; an error, that a statement failed or memory was refused.
 pub fn adopt_tables<S: Alter>(
     alloc: Global,
     conn: &mut Connection<S>,

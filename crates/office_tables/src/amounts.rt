@@ -1,9 +1,10 @@
 // Penalties as SQLite keeps them: its integers have a sign.
-ghost use Rattle.std.specs.Prelude.{◌≡◌, ◌<◌, ◌^◌, pos};
+ghost use Rattle.std.specs.Prelude.{◌≡◌, pos};
+ghost use Rattle.office_tables.specs.Amounts.{IsAmount};
 
 // A penalty, which is below 2^62.
 pub fn signed(amount: u64) -> i64
-    requires { amount < 2 ^ 62 }
+    requires { IsAmount amount }
     ensures { result ≡ pos amount }
 {
     amount as i64

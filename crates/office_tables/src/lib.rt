@@ -31,7 +31,7 @@ pub use altering::{Alteration, Both, Each, transact};
 pub use batches::{InsertBatch, batch_numbers, batch_of};
 pub use creation::{create_tables, is_bare};
 pub use drafts::{DeleteDraft, DeleteDrafts, InsertDraft, drafts_of};
-pub use enrolments::{DeleteEnrol, InsertEnrol, enrols_of};
+pub use enrolments::{DeleteEnrol, InsertEnrol, enrols_of, find_enrols_of};
 pub use found::Found;
 pub use looking::look;
 pub use meta::{DeleteMeta, InsertMeta, is_published};

@@ -1,18 +1,20 @@
 // Whole tables, read from a database of which only the schema is known.
-ghost use Rattle.std.specs.Prelude.{◌≡◌, ◌↔◌, ◌<ℤ◌, ℕ, List, map, IfOk, IfSome, IsPermutation, IsTrue};
+ghost use Rattle.std.specs.Prelude.{◌≡◌, ◌↔◌, ℕ, List, [], IfOk, IsTrue};
 ghost use Rattle.sqlite.specs.Held.{state};
+ghost use Rattle.sqlite.specs.Query.{IsAnswer};
 ghost use Rattle.sqlite.specs.Term.{Term};
-ghost use Rattle.sqlite_value.specs.declared.value.Value.TheVariants.{Int};
+ghost use Rattle.sqlite_value.specs.declared.keys.Key.{Key};
 ghost use Rattle.sqlite_value.specs.Order.{Row as Columns, column};
-ghost use Rattle.office_tables.specs.Readings.{only_column, listed, Finds, IsFound, IsRead, Leaves, Lists, ListsTable, Looks};
-ghost use Rattle.office_tables.specs.Tables.{HasRowids};
+ghost use Rattle.office_tables.specs.Readings.{one_table, Finds, IsFound, IsNext, IsRead, Leaves, Lists, ListsTable, Looks, ColumnRises};
 
 use crate::records::Record;
+use sqlite::types::ValueRef;
 use sqlite::{Alter, Connection, Error, ErrorCode, Row};
 use std::alloc::Global;
 
-// A whole table by a text that lists it, with each row's number behind its columns. None says that
-// a row is of no record, and an error also that two rows have one number or one is no number.
+// A whole table by a text that lists it, with each row's number behind its columns and in the order
+// of these. None says that a row is of no record, that two rows have one number or that one is no
+// number.
 pub fn read_table<S: Alter, R: Record + Drop>(
     alloc: Global,
     conn: &mut Connection<S>,
@@ -26,18 +28,22 @@ pub fn read_table<S: Alter, R: Record + Drop>(
         → Looks (state S.Store conn.old) (state S.Store conn.new) }
 {
     let rows = list_rows(conn, sql)?;
-    if !numbers_rise(&rows, R::WIDTH)? {
-        return Err(Error::SqliteFailure(ErrorCode::DatabaseCorrupt));
+    if !numbers_rise(&rows, R::WIDTH) {
+        return Ok(None);
     }
     read_each(alloc, &rows)
 }
 
 // The rows that a text lists.
 pub fn list_rows<S: Alter>(conn: &mut Connection<S>, sql: &str) -> Result<Vec<Row>, Error>
-    ensures rows { (tree : ℕ) (shown : List Term) → Lists tree shown sql.now
-        → Finds S.Store (λ db rows. IsPermutation (map (listed shown) (db.trees tree)) rows.items) conn.old conn.new result }
-    ensures same { (tree : ℕ) (shown : List Term) → Lists tree shown sql.now → Leaves S.Store conn.old conn.new result }
-    ensures looks { (tree : ℕ) (shown : List Term) → Lists tree shown sql.now
+    ensures rows { (tree : ℕ) (shown : List Term) (order : List (Term × Key))
+        → Lists tree shown order sql.now
+        → Finds S.Store (λ db rows. IsAnswer (one_table tree [] shown order) db.trees [] rows.items)
+        conn.old conn.new result }
+    ensures same { (tree : ℕ) (shown : List Term) (order : List (Term × Key))
+        → Lists tree shown order sql.now → Leaves S.Store conn.old conn.new result }
+    ensures looks { (tree : ℕ) (shown : List Term) (order : List (Term × Key))
+        → Lists tree shown order sql.now
         → Looks (state S.Store conn.old) (state S.Store conn.new) }
 {
     conn.query_all(sql, &[])
@@ -72,27 +78,28 @@ pub fn is_out_of_memory(error: Error) -> bool
 }
 
 // Whether a column holds numbers, each above the one before.
-fn numbers_rise(rows: &[Row], at: usize) -> Result<bool, Error>
-    ensures { IfOk result (λ rise. IsTrue rise → HasRowids (map (only_column at) rows.now)) }
+fn numbers_rise(rows: &[Row], at: usize) -> bool
+    ensures { IsTrue result ↔ ColumnRises at rows.now }
 {
     let mut last: Option<i64> = None;
     for row in rows {
-        let next = next_number(row, at, last)?;
-        let Some(number) = next else {
-            return Ok(false);
+        let Some(number) = next_number(row, at, last) else {
+            return false;
         };
         last = Some(number);
     }
-    Ok(true)
+    true
 }
 
 // The number in a column, where it is above the last.
-fn next_number(row: &Row, at: usize, last: Option<i64>) -> Result<Option<i64>, Error>
-    ensures { IfOk result (λ next. IfSome next (λ number. (column row.now at ≡ Int number) × IfSome last (λ before. before <ℤ number))) }
+fn next_number(row: &Row, at: usize, last: Option<i64>) -> Option<i64>
+    ensures { IsNext (column row.now at) last result }
 {
-    let number: i64 = row.get(at)?;
+    let Ok(ValueRef::Int(number)) = row.get_ref(at) else {
+        return None;
+    };
     match last {
-        Some(before) if number <= before => Ok(None),
-        _ => Ok(Some(number)),
+        Some(before) if number <= before => None,
+        _ => Some(number),
     }
 }

@@ -1,20 +1,23 @@
 // What a query answers, as records.
-ghost use Rattle.std.specs.Prelude.{◌≡◌, false, IfOk, OnOk};
+ghost use Rattle.std.specs.Prelude.{◌≡◌, ◌∷◌, ◌++◌, [], false, List, IfOk, OnOk};
 ghost use Rattle.sqlite.specs.Given.{IsPlain};
 ghost use Rattle.sqlite.specs.Held.{state};
 ghost use Rattle.sqlite.specs.Listing.{understood};
 ghost use Rattle.sqlite.specs.Query.{Query};
 ghost use Rattle.sqlite.specs.State.{HasCleanDisk, IsUnchanged, Survives};
 ghost use Rattle.sqlite.specs.Values.{bound};
+ghost use Rattle.sqlite_value.specs.Order.{Row as Columns};
 ghost use Rattle.office_tables.specs.Asking.{IsReadOf, Means};
+ghost use Rattle.office_tables.specs.Readings.{IsGathered, IsReadAnswer};
 ghost use Rattle.office_tables.specs.Steps.{AnswersOpen, Keeps, OpensNone};
 
+use crate::listing::is_out_of_memory;
 use crate::records::Record;
 use sqlite::types::ValueRef;
-use sqlite::{Alter, Connection, Error};
+use sqlite::{Alter, Connection, Error, Row};
 use std::alloc::Global;
 
-// The records of a query's rows, of which it holds one row at a time.
+// The records of a query's rows.
 pub fn stream<S: Alter, R: Record + Drop>(
     alloc: Global,
     conn: &mut Connection<S>,
@@ -37,14 +40,64 @@ pub fn stream<S: Alter, R: Record + Drop>(
     ensures survives { Survives (state S.Store conn.old) (state S.Store conn.new)
         (λ _. IsPlain (understood (state S.Store conn.old).now.schema sql.now) → ⊥) }
 {
-    let mut records = Vec::new(alloc);
+    match stream_found(alloc, conn, sql, params)? {
+        Some(records) => Ok(records),
+        None => Err(Error::InvalidQuery),
+    }
+}
+
+// The records of a query's rows, of which it holds one row at a time. None says that a row is of no
+// record.
+pub fn stream_found<S: Alter, R: Record + Drop>(
+    alloc: Global,
+    conn: &mut Connection<S>,
+    sql: &str,
+    params: &[ValueRef<'_>],
+) -> Result<Option<Vec<R>>, Error>
+    ensures shown { (q : Query) → Means (state S.Store conn.old).now.schema q sql.now
+        → HasCleanDisk (state S.Store conn.new)
+        → IfOk result (IsReadAnswer R.fits R.columns_of R.WIDTH (bound params.now) q
+        (state S.Store conn.old).now.trees) }
+    ensures open { AnswersOpen S.Store conn.old conn.new result }
+    ensures was_open { OpensNone S.Store conn.old conn.new }
+    ensures same { HasCleanDisk (state S.Store conn.new)
+        → IsPlain (understood (state S.Store conn.old).now.schema sql.now)
+        → OnOk result (IsUnchanged (state S.Store conn.old) (state S.Store conn.new)) }
+    ensures kept { HasCleanDisk (state S.Store conn.new)
+        → IsPlain (understood (state S.Store conn.old).now.schema sql.now)
+        → Keeps (state S.Store conn.old) (state S.Store conn.new) }
+    ensures mode { conn.old.in_transaction ≡ false → conn.new.in_transaction ≡ false }
+    ensures survives { Survives (state S.Store conn.old) (state S.Store conn.new)
+        (λ _. IsPlain (understood (state S.Store conn.old).now.schema sql.now) → ⊥) }
+{
+    let mut found = Some(Vec::new(alloc));
     let mut rows = conn.query(sql, params)?;
     'rows: for _ in 0..u64::MAX {
         rows.advance()?;
         let Some(row) = rows.get() else {
-            return Ok(records);
+            return Ok(found);
         };
-        records.push(R::read(row)?)?;
+        found = with_row(found, row)?;
     }
     Err(Error::InvalidQuery)
+}
+
+// What was found, and one row more.
+fn with_row<R: Record + Drop>(found: Option<Vec<R>>, row: &Row) -> Result<Option<Vec<R>>, Error>
+    ensures { (rows : List Columns) → IsGathered R.fits R.columns_of R.WIDTH rows found
+        → IfOk result (IsGathered R.fits R.columns_of R.WIDTH (rows ++ row.now ∷ [])) }
+{
+    let Some(mut records) = found else {
+        return Ok(None);
+    };
+    match R::read(row) {
+        Ok(record) => records.push(record)?,
+        Err(error) => {
+            if is_out_of_memory(error) {
+                return Err(error);
+            }
+            return Ok(None);
+        }
+    }
+    Ok(Some(records))
 }

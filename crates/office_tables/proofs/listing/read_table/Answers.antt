@@ -1,45 +1,59 @@
-use Rattle.std.proofs.Common.{rules, IsTrue, map, subst, subst₂}
+use Rattle.std.proofs.Common.{rules, IsTrue, subst, subst₂, sym}
 use Rattle.std.proofs.lemmas.Result.{IfOk-weaker}
 use Rattle.sqlite.specs.Held.{state}
-use Rattle.office_tables.specs.Readings.{IsRead, only_column}
-use Rattle.office_tables.specs.Tables.{HasRowids}
-use Rattle.office_tables.proofs.ListedTables.{adopted}
+use Rattle.office_tables.specs.Readings.{IsRead, ColumnRises}
+use Rattle.office_tables.proofs.ListedTables.{adopted, all_listed, listed_rise}
 use Rattle.office_tables.proofs.Reading.{on_ok_both}
 use Rattle.office_tables.proofs.listing.read_table.Goals as goal
 
 pub returns-in_err-rows-clause-looks : goal.returns-in_err-rows-clause-looks
 returns-in_err-rows-clause-looks g c tree show lists =
-    c.list_rows.ensures.looks tree lists.terms lists.lists
-
-pub returns-in_err-numbers_rise-clause-looks : goal.returns-in_err-numbers_rise-clause-looks
-returns-in_err-numbers_rise-clause-looks g c tree show lists =
-    c.list_rows.ensures.looks tree lists.terms lists.lists
+    c.list_rows.ensures.looks tree lists.terms _ lists.lists
 
 pub returns-then-not-branch-clause-looks : goal.returns-then-not-branch-clause-looks
 returns-then-not-branch-clause-looks g c tree show lists =
-    c.list_rows.ensures.looks tree lists.terms lists.lists
+    c.list_rows.ensures.looks tree lists.terms _ lists.lists
+
+pub returns-then-not-branch-clause-same : goal.returns-then-not-branch-clause-same
+returns-then-not-branch-clause-same g c tree show lists clean tables =
+    c.in_ok-rows.ensures.same tree lists.terms _ lists.lists clean tables
+
+pub returns-then-not-branch-clause-found : goal.returns-then-not-branch-clause-found
+returns-then-not-branch-clause-found g c tree show lists clean tables =
+    let old = state g.S.Store c.args.conn.now in
+    let rows = c.in_ok-rows.rows.items in
+    let width = g.R.Record.WIDTH in
+    let same = c.in_ok-rows.ensures.same tree lists.terms _ lists.lists clean tables in
+    let whole = lists.whole old.now tables.schema (tables.live same.0.was_open).0 in
+    let answer = c.in_ok-rows.ensures.rows tree lists.terms _ lists.lists clean tables in
+    λ made fit holds.
+    let rise : ColumnRises width rows =
+    listed_rise width tree show lists.terms old.now.trees rows whole answer holds.rowids in
+    let yes = c.numbers_rise.ensures.1 (subst₂ ColumnRises (sym c.WIDTH.ensures)
+    (sym c.deref.ensures.value) rise) in
+    let no = c.if-not-branch.true in
+    search rules
 
 pub returns-clause-looks : goal.returns-clause-looks
-returns-clause-looks g c tree show lists = c.list_rows.ensures.looks tree lists.terms lists.lists
+returns-clause-looks g c tree show lists = c.list_rows.ensures.looks tree lists.terms _ lists.lists
 
 pub returns-clause-same : goal.returns-clause-same
 returns-clause-same g c tree show lists clean tables =
     on_ok_both c.read_each.result
-    (c.in_ok-rows.ensures.same tree lists.terms lists.lists clean tables)
+    (c.in_ok-rows.ensures.same tree lists.terms _ lists.lists clean tables)
 
 pub returns-clause-found : goal.returns-clause-found
 returns-clause-found g c tree show lists clean tables =
     let old = state g.S.Store c.args.conn.now in
     let rows = c.in_ok-rows.rows.items in
     let width = g.R.Record.WIDTH in
-    let same = c.in_ok-rows.ensures.same tree lists.terms lists.lists clean tables in
+    let same = c.in_ok-rows.ensures.same tree lists.terms _ lists.lists clean tables in
     let whole = lists.whole old.now tables.schema (tables.live same.0.was_open).0 in
-    let list = c.in_ok-rows.ensures.rows tree lists.terms lists.lists clean tables in
-    let rising : IsTrue c.in_ok-numbers_rise.field-0 = let f = c.if-not-branch.false in
-    search rules in
-    let rise : HasRowids (map (only_column width) rows) =
-    subst₂ (λ w rs. HasRowids (map (only_column w) rs)) c.WIDTH.ensures c.deref.ensures.value
-    (c.in_ok-numbers_rise.ensures rising) in
+    let list = all_listed tree lists.terms _ old.now.trees rows
+    (c.in_ok-rows.ensures.rows tree lists.terms _ lists.lists clean tables) in
+    let rising : IsTrue c.numbers_rise.result = let f = c.if-not-branch.false in search rules in
+    let rise : ColumnRises width rows =
+    subst₂ ColumnRises c.WIDTH.ensures c.deref.ensures.value (c.numbers_rise.ensures.0 rising) in
     IfOk-weaker c.read_each.result _ _
     (λ found is. adopted g.R.Record.fits g.R.Record.columns_of width show lists.terms
     (old.now.trees tree) rows whole list rise found

@@ -1,12 +1,12 @@
-use Rattle.std.proofs.Common.{◌≡◌, false, List, map, IsTrue}
+use Rattle.std.proofs.Common.{◌≡◌, false, List, IsTrue}
 use Rattle.sqlite_value.specs.Order.{Row}
 use Rattle.sqlite.specs.State.{HasCleanDisk, IsUnchanged, Survives}
 use Rattle.sqlite.specs.Held.{state}
 use Rattle.sqlite.specs.Given.{HasGiven, IsPlain}
 use Rattle.sqlite.specs.Listing.{understood}
 use Rattle.sqlite.specs.Values.{bound}
-use Rattle.office_tables.specs.Records.{columns_from}
-use Rattle.office_tables.proofs.streaming.stream.Given as goal
+use Rattle.office_tables.specs.Readings.{IsGathered}
+use Rattle.office_tables.proofs.streaming.stream_found.Given as goal
 
 abbrev pub invariant-rows : goal.invariant-rows
 invariant-rows g l =
@@ -21,6 +21,5 @@ invariant-rows g l =
       given : HasCleanDisk now → plain
           → (given : List Row) × HasGiven g.S.Store l.sql (bound l.params) l.rows.conn.now given
           × IsUnchanged old now
-          × (map g.R.Record.columns_of l.records.items
-          ≡ map (columns_from 0 g.R.Record.WIDTH) given);
+          × IsGathered g.R.Record.fits g.R.Record.columns_of g.R.Record.WIDTH given l.found;
     }

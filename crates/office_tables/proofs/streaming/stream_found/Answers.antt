@@ -8,10 +8,10 @@ use Rattle.sqlite.specs.State.{HasCleanDisk}
 use Rattle.sqlite.specs.Values.{bound}
 use Rattle.sqlite.proofs.Callers.{begun_plain, unchanged_then}
 use Rattle.sqlite.proofs.StateLemmas.{survives_then}
-use Rattle.office_tables.specs.Records.{columns_from}
 use Rattle.office_tables.proofs.AskLemmas.{answers, begun_open, silent}
+use Rattle.office_tables.proofs.Gathered.{gathered_read}
 use Rattle.office_tables.proofs.Reading.{kept_failed}
-use Rattle.office_tables.proofs.streaming.stream.Goals as goal
+use Rattle.office_tables.proofs.streaming.stream_found.Goals as goal
 
 pub returns-in_err-rows-clause-kept : goal.returns-in_err-rows-clause-kept
 returns-in_err-rows-clause-kept g c clean plain =
@@ -35,7 +35,7 @@ rows-init g c =
       given = λ clean plain.
           let begun = begun_plain g.S.Store c.args.sql.now (bound c.args.params.now) c.args.conn.now
           _ plain (made.begun clean) in
-          ([], begun.0, begun.1, ap (map g.R.Record.columns_of) c.new-records.ensures.items);
+          ([], begun.0, begun.1, ap (map g.R.Record.columns_of) c.new.ensures.items);
     }
 
 pub rows-preserved : goal.rows-preserved
@@ -43,8 +43,6 @@ rows-preserved g c =
     let old = state g.S.Store c.args.conn.now in
     let mid = c.rows.rows.conn.now in
     let now = c.advance.new.self.conn.now in
-    let columns_of = g.R.Record.columns_of in
-    let shown = columns_from 0 g.R.Record.WIDTH in
     record {
       same = c.advance.ensures.same_reference ∙ c.rows.invariant.same;
       mode = λ m. c.advance.ensures.mode (c.rows.invariant.mode m);
@@ -62,11 +60,7 @@ rows-preserved g c =
             advanced c.args.sql.now (bound c.args.params.now) was.0 was.1,
             unchanged_then old (state g.S.Store mid) (state g.S.Store now) was.2
                 (c.in_ok-advance.ensures.same clean),
-            ap (map columns_of) c.in_ok-push.ensures.items
-                ∙ map-append columns_of c.rows.records.items (c.in_ok-read.field-0 ∷ [])
-                ∙ ap (λ l. l ++ columns_of c.in_ok-read.field-0 ∷ []) was.3
-                ∙ ap (λ s. map shown was.0 ++ s ∷ []) c.in_ok-read.ensures.columns
-                ∙ sym (map-append shown was.0 (row ∷ [])),
+            c.in_ok-with_row.ensures was.0 was.3,
           );
     }
 
@@ -82,7 +76,7 @@ returns-in_default-clause-shown g c q means clean =
     let advanced = subst (Advances g.S.Store mid now) none (c.in_ok-advance.ensures.ok late) in
     let told = advanced c.args.sql.now (bound c.args.params.now) was.0 was.1 in (
       was.0,
-      was.3,
+      gathered_read _ _ _ was.0 _ was.3,
       answers q c.args.sql.now (bound c.args.params.now) old (state g.S.Store mid)
           (state g.S.Store now) means was.2 was.0 told,
     )
