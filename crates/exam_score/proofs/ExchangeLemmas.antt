@@ -14,17 +14,17 @@ use Rattle.exam_model.specs.Pairs.{Pair, is_pair, pairs_of}
 use Rattle.exam_model.specs.Sums.{sum_below, sum_pairs}
 use Rattle.exam_model.specs.Timetable.{Placing, place_of}
 use Rattle.exam_model.proofs.PairLemmas.{are_pairs}
-use Rattle.exam_model.proofs.SumLemmas.{IsChain, sum_by-none, sum_pairs-agree, sum_pairs-IsPermutation, each_weaker, sum_below-same, sum_below-within, sum_below-add}
+use Rattle.exam_model.proofs.SumLemmas.{IsChain, sum_by-none, sum_pairs-agree, sum_pairs-IsPermutation, each_weaker, sum_by-add, sum_by-same, sum_below-same, sum_below-within, sum_below-add}
 use Rattle.exam_score.specs.Changes.{DiffersAtMost, is_among}
 use Rattle.exam_score.specs.Cost.{row_cost, day_cost, spread_cost}
 use Rattle.exam_score.specs.CostLaws.{row_cost-swap, day_cost-swap, spread_cost-swap, row_cost-none, day_cost-none, spread_cost-none}
 use Rattle.exam_score.specs.Exchanges.{CannotExchange, IsExchanged, IsOfEdit, coming, going, is_touched, mixed_where, room_mixed_where, pairs_concerned, sits_among, sum_among}
-use Rattle.exam_score.specs.Folds.{Folded, StandsFor, personal_sum, rows_in}
+use Rattle.exam_score.specs.Folds.{Folded, StandsFor, edited_cost, personal_sum, students_cost}
 use Rattle.exam_score.specs.Front.{AreSizes, front_by}
 use Rattle.exam_score.specs.Penalty.{Penalty, PersonalPenalty, plus, total_of}
 use Rattle.exam_score.specs.Regrouping.{pair_part}
 use Rattle.exam_score.specs.Track.{duration_count, durations, exam_front, exam_period, exam_room, front_part, is_at, is_largest, is_late, minutes_of, mixed_part, room_mixed, track}
-use Rattle.exam_score.specs.Walk.{cost_with}
+use Rattle.exam_score.proofs.EditedLemmas.{between_none, between_swap}
 use Rattle.exam_score.proofs.FoldLemmas.{others_each, sum_apart}
 use Rattle.exam_score.proofs.FrontLemmas.{front_by_sizes}
 use Rattle.exam_score.proofs.PairsLemmas.{by_placed, part_of_rows}
@@ -131,16 +131,6 @@ sat_each E known =
 eqb-swap : (a b : ℕ) → eqb a b ≡ eqb b a
 eqb-swap a b = grind (arith, nat_tests)
 
-between_swap : (cost : ℕ → ℕ → ℕ) → ((p q : ℕ) → cost p q ≡ cost q p) → (a b : Option ℕ) → cost_between cost a b ≡ cost_between cost b a
-between_swap cost either None None = refl
-between_swap cost either None (Some q) = refl
-between_swap cost either (Some p) None = refl
-between_swap cost either (Some p) (Some q) = either p q
-
-between_none : (cost : ℕ → ℕ → ℕ) → ((p : ℕ) → cost p p ≡ 0) → (a : Option ℕ) → cost_between cost a a ≡ 0
-between_none cost nothing None = refl
-between_none cost nothing (Some p) = nothing p
-
 picked_none : (b : Bool) (n : ℕ) → n ≡ 0 → cond b n 0 ≡ 0
 picked_none true n h = h
 picked_none false n h = refl
@@ -153,10 +143,18 @@ any_order cost at either nothing xs ys moved =
     (λ p. picked_none (eqb p.student p.student) (cost_between cost (at p.exam) (at p.exam)) (between_none cost nothing (at p.exam)))
     (λ p q. ap₂ (λ b n. cond b n 0) (eqb-swap q.student p.student) (between_swap cost either (at p.exam) (at q.exam))) xs ys moved)
 
--- the part of all pairs, and the costs of those who are concerned
+sums_with : {X : Type 0} (g h k m : X → X → ℕ) → ((x y : X) → g x y + h x y ≡ k x y + m x y) → (xs : List X)
+    → sum_pairs g xs + sum_pairs h xs ≡ sum_pairs k xs + sum_pairs m xs
+sums_with g h k m same [] = refl
+sums_with g h k m same (x ∷ xs) =
+    let own = sym (sum_by-add (g x) (h x) xs) ∙ sum_by-same _ _ (same x) xs ∙ sum_by-add (k x) (m x) xs in
+    let more = sums_with g h k m same xs in
+    omega arith
+
+-- the part of all pairs, and what the edited exams cost those who are concerned
 part_exchanged : (cost : ℕ → ℕ → ℕ) (E : Enrolled) (old new : Placing) (edited : List ℕ) (pairs : List Pair) → ((p q : ℕ) → cost p q ≡ cost q p) → ((p : ℕ) → cost p p ≡ 0)
     → AreEnrolments E → IsPermutation (pairs_concerned E edited) pairs → DiffersAtMost edited old new
-    → pair_part cost E (period_of new) + cost_with cost (rows_in old pairs) ≡ pair_part cost E (period_of old) + cost_with cost (rows_in new pairs)
+    → pair_part cost E (period_of new) + students_cost cost old edited pairs ≡ pair_part cost E (period_of old) + students_cost cost new edited pairs
 part_exchanged cost E old new edited pairs either nothing known moved same =
     let v : ℕ → ℕ → ℕ = λ e f. cost_between cost (period_of old e) (period_of old f) in
     let w : ℕ → ℕ → ℕ = λ e f. cost_between cost (period_of new e) (period_of new f) in
@@ -170,11 +168,13 @@ part_exchanged cost E old new edited pairs either nothing known moved same =
     = sum_pairs-agree (later_cost w) (later_cost v) (filter (λ p. not (sits_among E edited p.student)) all)
     (chain_of_each (λ p. is_among edited p.exam ≡ false) (λ p q. later_cost w p q ≡ later_cost v p q)
     (λ p q a b. ap (λ n. cond (eqb q.student p.student) n 0) (ap₂ (cost_between cost) (period_same p.exam a) (period_same q.exam b))) (filter (λ p. not (sits_among E edited p.student)) all) alone) in
-    let old_rows = any_order cost (period_of old) either nothing (pairs_concerned E edited) pairs moved ∙ by_placed cost old pairs in
-    let new_rows = any_order cost (period_of new) either nothing (pairs_concerned E edited) pairs moved ∙ by_placed cost new pairs in
+    let old_sum = any_order cost (period_of old) either nothing (pairs_concerned E edited) pairs moved in
+    let new_sum = any_order cost (period_of new) either nothing (pairs_concerned E edited) pairs moved in
+    let edits : sum_pairs (later_cost w) pairs + students_cost cost old edited pairs ≡ sum_pairs (later_cost v) pairs + students_cost cost new edited pairs
+    = sums_with (later_cost w) (later_cost (edited_cost cost old edited)) (later_cost v) (later_cost (edited_cost cost new edited)) edits_of pairs in
     let old_part = by_placed cost old all ∙ part_of_rows cost E old known in
     let new_part = by_placed cost new all ∙ part_of_rows cost E new known in
-    omega (arith, before, after, others, old_rows, new_rows, old_part, new_part)
+    omega (arith, before, after, others, old_sum, new_sum, old_part, new_part, edits)
   where
     period_same : (e : ℕ) → is_among edited e ≡ false → period_of new e ≡ period_of old e
     period_same e not_edited = ap (λ (o : Option Place). period_in o) (same e not_edited)
@@ -182,6 +182,21 @@ part_exchanged cost E old new edited pairs either nothing known moved same =
         period_in : Option Place → Option ℕ
         period_in None = None
         period_in (Some at) = Some at.period
+
+    edits_of : (p q : Pair)
+        → later_cost (λ e f. cost_between cost (period_of new e) (period_of new f)) p q + later_cost (edited_cost cost old edited) p q
+        ≡ later_cost (λ e f. cost_between cost (period_of old e) (period_of old f)) p q + later_cost (edited_cost cost new edited) p q
+    edits_of p q =
+        by_students (eqb q.student p.student) (is_among edited p.exam || is_among edited q.exam)
+        (cost_between cost (period_of new p.exam) (period_of new q.exam)) (cost_between cost (period_of old p.exam) (period_of old q.exam))
+        (λ none. ap₂ (cost_between cost) (period_same p.exam (or_parts (is_among edited p.exam) (is_among edited q.exam) none).0)
+        (period_same q.exam (or_parts (is_among edited p.exam) (is_among edited q.exam) none).1))
+      where
+        by_students : (same edit : Bool) (m n : ℕ) → (edit ≡ false → m ≡ n)
+            → cond same m 0 + cond same (cond edit n 0) 0 ≡ cond same n 0 + cond same (cond edit m 0) 0
+        by_students true true m n h = omega arith
+        by_students true false m n h = omega (arith, h refl)
+        by_students false edit m n h = refl
 
 -- ---- sums over numbers
 
@@ -234,18 +249,18 @@ front_exchanged s E old new edited sizes are exams same =
 -- ---- the whole
 
 -- what the fold's sums and its open student make
-sums_of_all : (s : Session) (t : Placing) (sum : PersonalPenalty) (closed current pairs : List Pair) → sum ≡ personal_sum s t closed → pairs ≡ closed ++ current
-    → AllByRecursion (λ p. AllByRecursion (λ q. p.student < q.student) current) closed → plus sum (personal_sum s t current) ≡ personal_sum s t pairs
-sums_of_all s t sum closed current pairs is parts others =
-    ap (λ p. plus p (personal_sum s t current)) is ∙ sym (sum_apart s t closed current others) ∙ ap (personal_sum s t) (sym parts)
+sums_of_all : (s : Session) (t : Placing) (edited : List ℕ) (sum : PersonalPenalty) (closed current pairs : List Pair) → sum ≡ personal_sum s t edited closed → pairs ≡ closed ++ current
+    → AllByRecursion (λ p. AllByRecursion (λ q. p.student < q.student) current) closed → plus sum (personal_sum s t edited current) ≡ personal_sum s t edited pairs
+sums_of_all s t edited sum closed current pairs is parts others =
+    ap (λ p. plus p (personal_sum s t edited current)) is ∙ sym (sum_apart s t edited closed current others) ∙ ap (personal_sum s t edited) (sym parts)
 
 pub track_exchanged : (fold : Folded) (E : Enrolled) (pairs : List Pair) (sizes : List ℕ) (old : Penalty) → StandsFor fold pairs → IsOfEdit fold E pairs sizes old
     → IsExchanged old (going fold sizes) (coming fold sizes) (track fold.instance E fold.later)
 track_exchanged fold E pairs sizes old h is =
     let s = fold.instance in
     let others = others_each h.closed fold.current h.others in
-    let before = sums_of_all s fold.earlier fold.before h.closed fold.current pairs h.before h.parts others in
-    let after = sums_of_all s fold.later fold.after h.closed fold.current pairs h.after h.parts others in
+    let before = sums_of_all s fold.earlier fold.edited fold.before h.closed fold.current pairs h.before h.parts others in
+    let after = sums_of_all s fold.later fold.edited fold.after h.closed fold.current pairs h.after h.parts others in
     let row = part_exchanged (row_cost s.periods s.weights) E fold.earlier fold.later fold.edited pairs (row_cost-swap s.periods s.weights) (row_cost-none s.periods s.weights) is.enrolments is.concerned is.others in
     let day = part_exchanged (day_cost s.periods s.weights) E fold.earlier fold.later fold.edited pairs (day_cost-swap s.periods s.weights) (day_cost-none s.periods s.weights) is.enrolments is.concerned is.others in
     let spread = part_exchanged (spread_cost s.periods s.weights) E fold.earlier fold.later fold.edited pairs (spread_cost-swap s.periods s.weights) (spread_cost-none s.periods s.weights) is.enrolments is.concerned is.others in

@@ -3,18 +3,14 @@ use Rattle.std.specs.List.{AllByRecursion}
 use Rattle.std.proofs.Common.{◌≡◌, ◌≢◌, ℕ, zero, suc, ◌+◌, ◌<◌, inl, inr, cond, List, [], ◌∷◌, ◌++◌, length, map, sum_by, Option, Some, None, All, AllPairs, refl, sym, ◌∙◌, ap, ap₂, subst, arith, ne_eqb, eq-eqb, append_assoc, length-append, zero-add}
 use Rattle.std.proofs.lemmas.List.Elements.{All-from_recursion, recursion_from_All}
 use Rattle.std.proofs.lemmas.List.Sums.{sum_by-append, sum_by-cons}
-use Rattle.exam_model.specs.Fits.{period_of}
 use Rattle.exam_model.specs.Instance.{Session}
-use Rattle.exam_model.specs.PairCost.{cost_between}
 use Rattle.exam_model.specs.Pairs.{Pair}
 use Rattle.exam_model.specs.Sums.{sum_pairs}
 use Rattle.exam_model.specs.Timetable.{Placing}
 use Rattle.exam_model.proofs.SumLemmas.{IsChain, chain_from_index, sum_by-none, each_weaker}
 use Rattle.exam_score.specs.Cost.{row_cost, day_cost, spread_cost}
-use Rattle.exam_score.specs.Folds.{Folded, StandsFor, CanFollow, ComesEarlier, exams_cost, pairs_sat, personal_at, personal_sum, rows_in}
+use Rattle.exam_score.specs.Folds.{Folded, StandsFor, CanFollow, ComesEarlier, edited_cost, exams_cost, pairs_sat, personal_at, personal_sum, students_cost}
 use Rattle.exam_score.specs.Penalty.{PersonalPenalty, plus}
-use Rattle.exam_score.specs.Walk.{cost_with}
-use Rattle.exam_score.proofs.PairsLemmas.{by_placed}
 use Rattle.exam_score.proofs.RegroupingLemmas.{later_cost}
 
 -- ---- lists
@@ -67,22 +63,20 @@ apart_cost w (p ∷ ps) qs h =
     (ne_eqb q.student p.student (λ e. omega (arith, l, e)))) qs h.0) in
     omega arith
 
-pub cost_apart : (cost : ℕ → ℕ → ℕ) (t : Placing) (ps qs : List Pair)
+cost_apart : (cost : ℕ → ℕ → ℕ) (t : Placing) (edited : List ℕ) (ps qs : List Pair)
     → AllByRecursion (λ p. AllByRecursion (λ q. p.student < q.student) qs) ps
-    → cost_with cost (rows_in t (ps ++ qs))
-    ≡ cost_with cost (rows_in t ps) + cost_with cost (rows_in t qs)
-cost_apart cost t ps qs h =
-    sym (by_placed cost t (ps ++ qs))
-    ∙ apart_cost (λ e f. cost_between cost (period_of t e) (period_of t f)) ps qs h
-    ∙ ap₂ (λ m n. m + n) (by_placed cost t ps) (by_placed cost t qs)
+    → students_cost cost t edited (ps ++ qs)
+    ≡ students_cost cost t edited ps + students_cost cost t edited qs
+cost_apart cost t edited ps qs h = apart_cost (edited_cost cost t edited) ps qs h
 
-pub sum_apart : (s : Session) (t : Placing) (ps qs : List Pair)
+pub sum_apart : (s : Session) (t : Placing) (edited : List ℕ) (ps qs : List Pair)
     → AllByRecursion (λ p. AllByRecursion (λ q. p.student < q.student) qs) ps
-    → personal_sum s t (ps ++ qs) ≡ plus (personal_sum s t ps) (personal_sum s t qs)
-sum_apart s t ps qs h = λ i. record {
-  row = cost_apart (row_cost s.periods s.weights) t ps qs h i;
-  day = cost_apart (day_cost s.periods s.weights) t ps qs h i;
-  spread = cost_apart (spread_cost s.periods s.weights) t ps qs h i;
+    → personal_sum s t edited (ps ++ qs)
+    ≡ plus (personal_sum s t edited ps) (personal_sum s t edited qs)
+sum_apart s t edited ps qs h = λ i. record {
+  row = cost_apart (row_cost s.periods s.weights) t edited ps qs h i;
+  day = cost_apart (day_cost s.periods s.weights) t edited ps qs h i;
+  spread = cost_apart (spread_cost s.periods s.weights) t edited ps qs h i;
 }
 
 -- the pairs of one student
@@ -101,22 +95,20 @@ own_cost : (w : ℕ → ℕ → ℕ) (s : ℕ) (es : List ℕ)
 own_cost w s [] = refl
 own_cost w s (e ∷ es) = ap₂ (λ m n. m + n) (own_beside w s e es) (own_cost w s es)
 
-cost_of_student : (cost : ℕ → ℕ → ℕ) (t : Placing) (student : Option ℕ) (es : List ℕ)
-    → (student ≡ None → es ≡ [])
-    → exams_cost cost t es ≡ cost_with cost (rows_in t (pairs_sat student es))
-cost_of_student cost t None es none = ap (exams_cost cost t) (none refl)
-cost_of_student cost t (Some s) es none =
-    sym (own_cost (λ e f. cost_between cost (period_of t e) (period_of t f)) s es)
-    ∙ by_placed cost t (pairs_sat (Some s) es)
+cost_of_student : (cost : ℕ → ℕ → ℕ) (t : Placing) (edited : List ℕ) (student : Option ℕ)
+    (es : List ℕ) → (student ≡ None → es ≡ [])
+    → exams_cost cost t edited es ≡ students_cost cost t edited (pairs_sat student es)
+cost_of_student cost t edited None es none = ap (exams_cost cost t edited) (none refl)
+cost_of_student cost t edited (Some s) es none = sym (own_cost (edited_cost cost t edited) s es)
 
 -- what the open student pays
-pub sum_of_student : (s : Session) (t : Placing) (student : Option ℕ) (es : List ℕ)
-    → (student ≡ None → es ≡ [])
-    → personal_at s t es ≡ personal_sum s t (pairs_sat student es)
-sum_of_student s t student es none = λ i. record {
-  row = cost_of_student (row_cost s.periods s.weights) t student es none i;
-  day = cost_of_student (day_cost s.periods s.weights) t student es none i;
-  spread = cost_of_student (spread_cost s.periods s.weights) t student es none i;
+pub sum_of_student : (s : Session) (t : Placing) (edited : List ℕ) (student : Option ℕ)
+    (es : List ℕ) → (student ≡ None → es ≡ [])
+    → personal_at s t edited es ≡ personal_sum s t edited (pairs_sat student es)
+sum_of_student s t edited student es none = λ i. record {
+  row = cost_of_student (row_cost s.periods s.weights) t edited student es none i;
+  day = cost_of_student (day_cost s.periods s.weights) t edited student es none i;
+  spread = cost_of_student (spread_cost s.periods s.weights) t edited student es none i;
 }
 
 -- ---- the student of a pair
@@ -223,8 +215,8 @@ pub stands_turn : (fold : Folded) (pairs : List Pair) (s e : ℕ) (student : Opt
     (exams : List ℕ) (b a : PersonalPenalty) → StandsFor fold pairs
     → fold.current ≡ pairs_sat student exams → (student ≡ Some s → ⊥)
     → (fold.current ≡ [] → fold.count ≡ 0) → CanFollow fold (record { exam = e; student = s })
-    → b ≡ personal_sum fold.instance fold.earlier fold.current
-    → a ≡ personal_sum fold.instance fold.later fold.current
+    → b ≡ personal_sum fold.instance fold.earlier fold.edited fold.current
+    → a ≡ personal_sum fold.instance fold.later fold.edited fold.current
     → StandsFor (record fold {
       count = fold.count + 1;
       before = plus fold.before b;
@@ -250,9 +242,9 @@ stands_turn fold pairs s e student exams b a h own other started follows b_is a_
       in_order = in_order_push h.closed fold.current pairs pair h.parts h.in_order below after;
       count = ap (λ n. n + 1) h.count ∙ sym (length-append pairs (pair ∷ []));
       before = ap₂ plus h.before b_is
-          ∙ sym (sum_apart fold.instance fold.earlier h.closed fold.current others);
+          ∙ sym (sum_apart fold.instance fold.earlier fold.edited h.closed fold.current others);
       after = ap₂ plus h.after a_is
-          ∙ sym (sum_apart fold.instance fold.later h.closed fold.current others);
+          ∙ sym (sum_apart fold.instance fold.later fold.edited h.closed fold.current others);
       others = each_others (h.closed ++ fold.current) (pair ∷ [])
           (each_weaker (λ p. p.student < s) (λ p. AllByRecursion (λ q. p.student < q.student)
           (pair ∷ [])) (λ p l. (l, tt)) (h.closed ++ fold.current) all_below);

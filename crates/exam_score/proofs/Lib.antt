@@ -9,6 +9,7 @@ pub mod FrontLemmas
 pub mod MixedLemmas
 pub mod SmallLemmas
 pub mod LineLemmas
+pub mod EditedLemmas
 pub mod FoldLemmas
 pub mod TouchedLemmas
 pub mod ExchangeLemmas

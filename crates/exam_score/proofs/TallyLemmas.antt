@@ -1,11 +1,11 @@
 -- Tallies filed in slots: one more exam counted, in an old tally or in a new one.
-use Rattle.std.proofs.Common.{◌≡◌, ◌≢◌, ℕ, zero, suc, ◌+◌, ◌-◌, ◌*◌, ◌<◌, ◌≤◌, List, [], ◌∷◌, ◌++◌, length, get_or, set, sum_by, All, inl, inr, refl, sym, subst, ◌∙◌, ap, arith, length-set}
+use Rattle.std.proofs.Common.{◌≡◌, ◌≢◌, ℕ, ◌+◌, ◌-◌, ◌*◌, ◌<◌, ◌≤◌, List, [], ◌∷◌, ◌++◌, length, get_or, set, sum_by, All, inl, inr, refl, sym, subst, ◌∙◌, ap, arith, length-set}
 use Rattle.std.proofs.Math.Nat.{mul_comm}
 use Rattle.std.proofs.lemmas.Bool.{cases_eq, cases_lt}
 use Rattle.std.proofs.lemmas.List.{get_or-set_same, get_or-set_other, get_or_append_left, get_or_push, get_or_read, length_push}
 use Rattle.std.proofs.lemmas.List.Sums.{sum_by_push, sum_by-set}
 use Rattle.exam_score.specs.Rows.{row_at}
-use Rattle.exam_score.specs.Tallies.{tally_sum, slot_of, IsLast, AreLinkedIn, AreFiled, Extends, Grows}
+use Rattle.exam_score.specs.Tallies.{tally_sum, slot_of, IsLast, AreCrowded, AreLinkedIn, AreFiled, Extends, Grows}
 use Rattle.exam_score.specs.declared.rows.Row.{Row}
 use Rattle.exam_score.specs.declared.tallies.Tally.{Tally}
 
@@ -236,8 +236,33 @@ filed_none m xs last none long clear = record {
   linked = record { links = λ k d lt. absurd (omega (arith, ap length none)); ascending = λ i j d l m. absurd (omega (arith, ap length none)) };
 }
 
--- there is nothing to set past the end
-pub set_beyond : (xs : List ℕ) (i y : ℕ) → length xs ≤ i → set xs i y ≡ xs
-set_beyond [] i y le = refl
-set_beyond (x ∷ xs) zero y le = absurd (omega arith)
-set_beyond (x ∷ xs) (suc i) y le = ap (λ (l : List ℕ). x ∷ l) (set_beyond xs i y (omega arith))
+-- ---- how crowded the slots are
+
+pub crowd_none : (sizes : List ℕ) (slots n : ℕ) → length sizes ≡ slots
+    → ((slot : ℕ) → slot < length sizes → get_or sizes slot 0 ≡ 0) → AreCrowded sizes 0 slots n
+crowd_none sizes slots n long zeros = record {
+  count = long;
+  each = λ slot lt. omega (arith, zeros slot lt);
+  all = omega arith;
+}
+
+-- one more in a slot
+pub crowd_more : (sizes : List ℕ) (steps slots n slot : ℕ) → slot < slots → n < 200000 → AreCrowded sizes steps slots n
+    → AreCrowded (set sizes slot (get_or sizes slot 0 + 1)) (steps + get_or sizes slot 0) slots (n + 1)
+crowd_more sizes steps slots n slot exists few h =
+    let within : slot < length sizes = omega (arith, h.count) in
+    let own = h.each slot within in
+    record {
+      count = length-set sizes slot (get_or sizes slot 0 + 1) ∙ h.count;
+      each = λ k lt. elim (cases_eq k slot) [
+        | inl same ↦
+            (let here : get_or (set sizes slot (get_or sizes slot 0 + 1)) k 0 ≡ get_or sizes slot 0 + 1
+            = ap (λ j. get_or (set sizes slot (get_or sizes slot 0 + 1)) j 0) same ∙ get_or-set_same sizes slot (get_or sizes slot 0 + 1) 0 within in
+            omega arith)
+        | inr other ↦
+            (let here = get_or-set_other sizes slot k (get_or sizes slot 0 + 1) 0 (λ e. omega arith) in
+            let old = h.each k (omega (arith, length-set sizes slot (get_or sizes slot 0 + 1))) in
+            omega arith)
+      ];
+      all = let before = h.all in omega arith;
+    }

@@ -55,14 +55,14 @@ abbrev pub going : Folded → List ℕ → Penalty
 going fold sizes =
     edit_share fold.instance fold.earlier fold.edited
     (is_touched fold.edited fold.earlier fold.later) sizes
-    (plus fold.before (personal_sum fold.instance fold.earlier fold.current))
+    (plus fold.before (personal_sum fold.instance fold.earlier fold.edited fold.current))
 
 -- what comes
 abbrev pub coming : Folded → List ℕ → Penalty
 coming fold sizes =
     edit_share fold.instance fold.later fold.edited
     (is_touched fold.edited fold.earlier fold.later) sizes
-    (plus fold.after (personal_sum fold.instance fold.later fold.current))
+    (plus fold.after (personal_sum fold.instance fold.later fold.edited fold.current))
 
 -- the new penalty is the old one less what goes and with what comes, in each part
 pub record IsExchanged (old goes comes new : Penalty) : Type 0 where

@@ -1,5 +1,5 @@
 -- A fold over the pairs of the students whom an edit concerns, as contracts see it.
-use Rattle.std.specs.Prelude.{◌≡◌, ℕ, ◌+◌, ◌*◌, ◌<◌, ◌≤◌, ◌⊎◌, List, [], ◌++◌, length, map, filter_map, Option, Some, None, All, AllPairs}
+use Rattle.std.specs.Prelude.{◌≡◌, ℕ, ◌+◌, ◌*◌, ◌<◌, ◌≤◌, ◌⊎◌, ◌==◌, ◌||◌, ◌&&◌, nat_le, if◌then◌else◌, List, [], ◌++◌, length, map, Option, Some, None, All, AllPairs}
 use Rattle.exam_terms.specs.declared.limits.TheConstants.{MAX_AMOUNT, MAX_PAIRS}
 use Rattle.exam_model.specs.Fits.{period_of}
 use Rattle.exam_model.specs.Instance.{Session}
@@ -7,11 +7,9 @@ use Rattle.exam_model.specs.PairCost.{cost_between}
 use Rattle.exam_model.specs.Pairs.{Pair}
 use Rattle.exam_model.specs.Sums.{sum_pairs}
 use Rattle.exam_model.specs.Timetable.{Placing}
+use Rattle.exam_score.specs.Changes.{is_among}
 use Rattle.exam_score.specs.Cost.{row_cost, day_cost, spread_cost}
 use Rattle.exam_score.specs.Penalty.{PersonalPenalty}
-use Rattle.exam_score.specs.Rows.{row_of}
-use Rattle.exam_score.specs.Walk.{cost_with}
-use Rattle.exam_score.specs.declared.rows.Row.{Row}
 
 -- ---- what is folded
 
@@ -19,22 +17,30 @@ use Rattle.exam_score.specs.declared.rows.Row.{Row}
 abbrev pub ComesEarlier : Pair → Pair → Type 0
 ComesEarlier p q = (p.student < q.student) ⊎ ((p.student ≡ q.student) × (p.exam < q.exam))
 
--- the rows of pairs in a timetable
-abbrev pub rows_in : Placing → List Pair → List Row
-rows_in t pairs = filter_map (row_of t) pairs
+-- what two exams of a student cost where one of them is edited: any other two cost after an edit
+-- what they did before
+abbrev pub edited_cost : (ℕ → ℕ → ℕ) → Placing → List ℕ → ℕ → ℕ → ℕ
+edited_cost cost t edited e f =
+    if is_among edited e || is_among edited f
+    then cost_between cost (period_of t e) (period_of t f) else 0
 
--- the personal penalties of all students of these pairs, added up
-abbrev pub personal_sum : Session → Placing → List Pair → PersonalPenalty
-personal_sum s t pairs = record {
-  row = cost_with (row_cost s.periods s.weights) (rows_in t pairs);
-  day = cost_with (day_cost s.periods s.weights) (rows_in t pairs);
-  spread = cost_with (spread_cost s.periods s.weights) (rows_in t pairs);
+-- over all pairs of exams of one student
+abbrev pub students_cost : (ℕ → ℕ → ℕ) → Placing → List ℕ → List Pair → ℕ
+students_cost cost t edited pairs = sum_pairs (λ p q.
+    if q.student == p.student then edited_cost cost t edited p.exam q.exam else 0) pairs
+
+-- what the edited exams make of the personal penalties of all students of these pairs, added up
+abbrev pub personal_sum : Session → Placing → List ℕ → List Pair → PersonalPenalty
+personal_sum s t edited pairs = record {
+  row = students_cost (row_cost s.periods s.weights) t edited pairs;
+  day = students_cost (day_cost s.periods s.weights) t edited pairs;
+  spread = students_cost (spread_cost s.periods s.weights) t edited pairs;
 }
 
 -- ---- what is kept
 
--- the arguments of a fold, how many pairs it took, the personal penalties of the closed students
--- in either timetable, and the pairs of the open student
+-- the arguments of a fold, how many pairs it took, what the edited exams make of the closed
+-- students' personal penalties in either timetable, and the pairs of the open student
 pub record Folded : Type 0 where
   pub instance : Session
   pub earlier : Placing
@@ -58,8 +64,8 @@ pub record StandsFor (fold : Folded) (pairs : List Pair) : Type 0 where
   pub parts : pairs ≡ closed ++ fold.current
   pub in_order : AllPairs ComesEarlier pairs
   pub count : fold.count ≡ length pairs
-  pub before : fold.before ≡ personal_sum fold.instance fold.earlier closed
-  pub after : fold.after ≡ personal_sum fold.instance fold.later closed
+  pub before : fold.before ≡ personal_sum fold.instance fold.earlier fold.edited closed
+  pub after : fold.after ≡ personal_sum fold.instance fold.later fold.edited closed
   pub others : All (λ p. All (λ q. p.student < q.student) fold.current) closed
 
 -- the pair comes after all of the open student's
@@ -73,22 +79,27 @@ abbrev pub pairs_sat : Option ℕ → List ℕ → List Pair
 pairs_sat None exams = []
 pairs_sat (Some s) exams = map (λ e. record { exam = e; student = s }) exams
 
--- what all pairs of these exams cost, by their periods
-abbrev pub exams_cost : (ℕ → ℕ → ℕ) → Placing → List ℕ → ℕ
-exams_cost cost t exams =
-    sum_pairs (λ e f. cost_between cost (period_of t e) (period_of t f)) exams
+-- what the pairs of these exams cost in which an edited one stands
+abbrev pub exams_cost : (ℕ → ℕ → ℕ) → Placing → List ℕ → List ℕ → ℕ
+exams_cost cost t edited exams = sum_pairs (edited_cost cost t edited) exams
 
--- the personal penalty of a student who sits these exams
-abbrev pub personal_at : Session → Placing → List ℕ → PersonalPenalty
-personal_at s t exams = record {
-  row = exams_cost (row_cost s.periods s.weights) t exams;
-  day = exams_cost (day_cost s.periods s.weights) t exams;
-  spread = exams_cost (spread_cost s.periods s.weights) t exams;
+-- what an edited exam costs beside another one: two edited ones cost it at the smaller
+abbrev pub cost_at : (ℕ → ℕ → ℕ) → Placing → List ℕ → ℕ → ℕ → ℕ
+cost_at cost t edited e f =
+    if is_among edited f && nat_le f e then 0
+    else cost_between cost (period_of t e) (period_of t f)
+
+-- what the edited exams make of the personal penalty of a student who sits these exams
+abbrev pub personal_at : Session → Placing → List ℕ → List ℕ → PersonalPenalty
+personal_at s t edited exams = record {
+  row = exams_cost (row_cost s.periods s.weights) t edited exams;
+  day = exams_cost (day_cost s.periods s.weights) t edited exams;
+  spread = exams_cost (spread_cost s.periods s.weights) t edited exams;
 }
 
 -- ---- bounds
 
--- each part of a student's penalty is small, by the number of her exams
+-- each part of what a student makes is small, by the number of her exams
 pub record IsSmall (p : PersonalPenalty) (exams : ℕ) : Type 0 where
   pub row : p.row ≤ exams * (MAX_PAIRS * MAX_AMOUNT)
   pub day : p.day ≤ exams * (MAX_PAIRS * MAX_AMOUNT)

@@ -1,5 +1,6 @@
 -- How many exams each student has in each period: what tallies count, and how they are linked.
 use Rattle.std.specs.Prelude.{◌≡◌, ◌≢◌, ℕ, ◌+◌, ◌-◌, ◌*◌, ◌%◌, ◌^◌, ◌<◌, ◌≤◌, List, length, slice_index, slice_index_or, Option, Some, None, sum_by, AllPairs}
+use Rattle.exam_terms.specs.declared.limits.TheConstants.{MAX_PAIRS}
 use Rattle.exam_model.specs.Enrolments.{Enrolled, students}
 use Rattle.exam_model.specs.Sums.{sum_pairs}
 use Rattle.exam_score.specs.Rows.{row_at}
@@ -75,6 +76,13 @@ pub record AreFiled (tallies : List Tally) (last : List ℕ) (slots : ℕ) : Typ
   pub lasts : (slot : ℕ) → slot < length last
       → IsLast tallies slots slot (slice_index last slot) (length tallies)
   pub linked : AreLinkedIn tallies slots
+
+-- how far so many tallies crowd so many slots: none has more of them, and from each tally no more
+-- steps lead back along its slot than there may be pairs
+pub record AreCrowded (sizes : List ℕ) (steps slots tallies : ℕ) : Type 0 where
+  pub count : length sizes ≡ slots
+  pub each : (slot : ℕ) → slot < length sizes → slice_index sizes slot ≤ tallies
+  pub all : steps ≤ tallies * MAX_PAIRS
 
 -- the tally just before place n is x
 pub record IsReached (tallies : List Tally) (n : ℕ) (x : Tally) : Type 0 where

@@ -25,7 +25,7 @@ pub fn personal(instance: &Instance, periods: &[PeriodNo]) -> PersonalParts
 fn cost_of_pairs<C: PairCost>(cost: &C, periods: &[PeriodNo]) -> u64
     requires { length periods.now ≤ MAX_EXAMS }
     ensures cost { result ≡ candidate_cost (C.cost_of cost.now) periods.now }
-    ensures small { result ≤ 400000000000 }
+    ensures small { result ≤ MAX_EXAMS * (MAX_EXAMS * MAX_AMOUNT) }
 {
     let mut total = 0;
     let mut rest = periods;

@@ -108,8 +108,8 @@ impl<'a> EditFold<'a> {
         }
         let mut exams = Vec::new(self.alloc);
         exams.push(exam)?;
-        let before = personal_at(self.instance, self.earlier, &self.exams);
-        let after = personal_at(self.instance, self.later, &self.exams);
+        let before = personal_at(self.instance, self.earlier, self.edited, &self.exams);
+        let after = personal_at(self.instance, self.later, self.edited, &self.exams);
         self.before = self.before.plus(before);
         self.after = self.after.plus(after);
         self.student = Some(student);
@@ -137,9 +137,9 @@ impl<'a> EditFold<'a> {
             earlier: self.earlier,
             later: self.later,
         };
-        let before = personal_at(self.instance, self.earlier, &self.exams);
+        let before = personal_at(self.instance, self.earlier, self.edited, &self.exams);
         let before = self.before.plus(before);
-        let after = personal_at(self.instance, self.later, &self.exams);
+        let after = personal_at(self.instance, self.later, self.edited, &self.exams);
         let after = self.after.plus(after);
         let goes = edit_share(self.instance, self.earlier, &touched, sizes, before);
         let comes = edit_share(self.instance, self.later, &touched, sizes, after);

@@ -59,7 +59,7 @@ pub fn edited_front(
     total
 }
 
-fn is_among(exams: &[ExamNo], exam: ExamNo) -> bool
+pub fn is_among(exams: &[ExamNo], exam: ExamNo) -> bool
     ensures { result ≡ is_among exams.now exam }
 {
     exams.iter().any(|other| *other == exam)

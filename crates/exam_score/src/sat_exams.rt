@@ -1,70 +1,90 @@
-// What a student's exams cost her in a timetable, by the exams alone.
-ghost use Rattle.std.specs.Prelude.{◌≡◌, ◌≤◌, ◌*◌, Some, length, sum_by};
+// What edited exams cost a student in a timetable, by her exams alone.
+ghost use Rattle.std.specs.Prelude.{◌≡◌, ◌≤◌, ◌*◌, length, sum_by};
 ghost use Rattle.exam_terms.specs.declared.limits.TheConstants.{MAX_AMOUNT, MAX_PAIRS};
-ghost use Rattle.exam_model.specs.Fits.{period_of};
-ghost use Rattle.exam_model.specs.PairCost.{cost_between};
 ghost use Rattle.exam_model.specs.Timetable.{place_of};
-ghost use Rattle.exam_score.specs.Folds.{exams_cost, personal_at, IsSmall};
+ghost use Rattle.exam_score.specs.Folds.{cost_at, exams_cost, personal_at, IsSmall};
 
+use crate::edited_exams::is_among;
 use crate::pair_costs::{DayCost, RowCost, SpreadCost};
 use crate::personal_parts::PersonalParts;
-use exam_model::{ExamNo, Instance, PairCost, PeriodNo, Place, Timetable};
+use exam_model::{ExamNo, Instance, PairCost, Place, Timetable};
 
-// The personal penalty of a student who sits these exams. It takes no memory.
-pub fn personal_at(instance: &Instance, timetable: &Timetable, exams: &[ExamNo]) -> PersonalParts
+// What the edited exams make of the personal penalty of a student who sits these exams. It takes
+// no memory, and the time of her exams times the edited ones among them.
+pub fn personal_at(
+    instance: &Instance,
+    timetable: &Timetable,
+    edited: &[ExamNo],
+    exams: &[ExamNo],
+) -> PersonalParts
     requires few { length exams.now ≤ MAX_PAIRS }
-    ensures sum { result ≡ personal_at instance.now timetable.now exams.now }
+    ensures sum { result ≡ personal_at instance.now timetable.now edited.now exams.now }
     ensures small { IsSmall result (length exams.now) }
 {
     let _kept = instance.periods();
-    let row = cost_of_exams(&RowCost(instance), timetable, exams);
-    let day = cost_of_exams(&DayCost(instance), timetable, exams);
-    let spread = cost_of_exams(&SpreadCost(instance), timetable, exams);
+    let row = cost_of_exams(&RowCost(instance), timetable, edited, exams);
+    let day = cost_of_exams(&DayCost(instance), timetable, edited, exams);
+    let spread = cost_of_exams(&SpreadCost(instance), timetable, edited, exams);
     PersonalParts::of(row, day, spread)
 }
 
-// The cost of all pairs of exams.
-fn cost_of_exams<C: PairCost>(cost: &C, timetable: &Timetable, exams: &[ExamNo]) -> u64
+// The cost of all pairs of exams in which an edited one stands.
+fn cost_of_exams<C: PairCost>(
+    cost: &C,
+    timetable: &Timetable,
+    edited: &[ExamNo],
+    exams: &[ExamNo],
+) -> u64
     requires few { length exams.now ≤ MAX_PAIRS }
-    ensures cost { result ≡ exams_cost (C.cost_of cost.now) timetable.now exams.now }
+    ensures cost { result ≡ exams_cost (C.cost_of cost.now) timetable.now edited.now exams.now }
     ensures small { result ≤ length exams.now * (MAX_PAIRS * MAX_AMOUNT) }
 {
     let mut total = 0;
-    let mut rest = exams;
-    while let Some((exam, others)) = rest.split_first() {
-        total += cost_beside(cost, timetable, *exam, others);
-        rest = others;
+    for exam in exams {
+        if is_among(edited, *exam) {
+            total += cost_beside(cost, timetable, edited, *exam, exams);
+        }
     }
     total
 }
 
-// What one exam costs beside the others.
-fn cost_beside<C: PairCost>(cost: &C, timetable: &Timetable, exam: ExamNo, others: &[ExamNo]) -> u64
+// What an edited exam costs beside all of these.
+fn cost_beside<C: PairCost>(
+    cost: &C,
+    timetable: &Timetable,
+    edited: &[ExamNo],
+    exam: ExamNo,
+    others: &[ExamNo],
+) -> u64
     requires few { length others.now ≤ MAX_PAIRS }
-    ensures sum { result ≡ sum_by (λ f. cost_between (C.cost_of cost.now)
-        (period_of timetable.now exam) (period_of timetable.now f)) others.now }
+    ensures sum { result
+        ≡ sum_by (cost_at (C.cost_of cost.now) timetable.now edited.now exam) others.now }
     ensures small { result ≤ length others.now * MAX_AMOUNT }
 {
-    let Some(place) = place_in(timetable, exam) else {
-        return 0;
-    };
-    let period = place.period;
     let mut total = 0;
     for other in others {
-        total += cost_from(cost, timetable, period, *other);
+        total += cost_at(cost, timetable, edited, exam, *other);
     }
     total
 }
 
-// What an exam in this period costs beside another one.
-fn cost_from<C: PairCost>(cost: &C, timetable: &Timetable, period: PeriodNo, other: ExamNo) -> u64
-    ensures cost { result ≡ cost_between (C.cost_of cost.now) (Some period)
-        (period_of timetable.now other) }
+// What an edited exam costs beside another one; two edited ones cost it once, at the smaller.
+fn cost_at<C: PairCost>(
+    cost: &C,
+    timetable: &Timetable,
+    edited: &[ExamNo],
+    exam: ExamNo,
+    other: ExamNo,
+) -> u64
+    ensures cost { result ≡ cost_at (C.cost_of cost.now) timetable.now edited.now exam other }
     ensures small { result ≤ MAX_AMOUNT }
 {
-    match place_in(timetable, other) {
-        Some(place) => cost.cost(period, place.period),
-        None => 0,
+    if is_among(edited, other) && other.get() <= exam.get() {
+        return 0;
+    }
+    match (place_in(timetable, exam), place_in(timetable, other)) {
+        (Some(one), Some(two)) => cost.cost(one.period, two.period),
+        _ => 0,
     }
 }
 

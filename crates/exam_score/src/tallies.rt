@@ -1,9 +1,9 @@
 // How many exams each student has in each period.
-ghost use Rattle.std.specs.Prelude.{◌≡◌, ℕ, ◌+◌, ◌-◌, ◌≤◌, min, ◌<◌, ◌↔◌, IsTrue, length, slice_index, slice_index_or, slice_set, sum_by, All, AllPairs, IfOk, OnOk};
+ghost use Rattle.std.specs.Prelude.{◌≡◌, ℕ, ◌+◌, ◌-◌, ◌*◌, ◌≤◌, ◌<◌, ◌↔◌, IsTrue, length, slice_index, slice_index_or, slice_set, sum_by, All, AllPairs, IfOk, OnOk};
 ghost use Rattle.exam_terms.specs.declared.limits.TheConstants.{MAX_PAIRS};
 ghost use Rattle.exam_model.specs.Enrolments.{size_of};
 ghost use Rattle.exam_score.specs.Rows.{row_at};
-ghost use Rattle.exam_score.specs.Tallies.{tally_sum, slot_of, AreCounted, AreFiled, AreLinked, Grows, Extends};
+ghost use Rattle.exam_score.specs.Tallies.{tally_sum, slot_of, AreCounted, AreCrowded, AreFiled, AreLinked, Grows, Extends};
 ghost use Rattle.exam_score.specs.declared.rows.Row.{Row};
 
 use crate::sittings::Sitting;
@@ -123,12 +123,16 @@ fn count_students(
 ) -> Result<(), AllocError>
     requires some { 0 < slots }
     requires filed { AreFiled tallies.old.items last.old.items slots }
+    requires crowded { AreCrowded crowd.old.sizes.items crowd.old.steps slots
+        (length tallies.old.items) }
     requires few { length tallies.old.items + length students.now ≤ MAX_PAIRS }
     requires not_later { All (λ x. x.period ≤ period) tallies.old.items }
     ensures counted { OnOk result ((f : Row → ℕ) → sum_by (tally_sum f) tallies.new.items
         ≡ sum_by (tally_sum f) tallies.old.items
         + sum_by (λ s. f (row_at period s)) students.now) }
     ensures filed { OnOk result (AreFiled tallies.new.items last.new.items slots) }
+    ensures crowded { OnOk result (AreCrowded crowd.new.sizes.items crowd.new.steps slots
+        (length tallies.new.items)) }
     ensures grown { OnOk result
         (Grows tallies.old.items tallies.new.items period (length students.now)) }
 {
@@ -149,11 +153,15 @@ fn count_one(
 ) -> Result<(), AllocError>
     requires some { 0 < slots }
     requires filed { AreFiled tallies.old.items last.old.items slots }
+    requires crowded { AreCrowded crowd.old.sizes.items crowd.old.steps slots
+        (length tallies.old.items) }
     requires few { length tallies.old.items < MAX_PAIRS }
     requires not_later { All (λ x. x.period ≤ period) tallies.old.items }
     ensures counted { OnOk result ((f : Row → ℕ) → sum_by (tally_sum f) tallies.new.items
         ≡ sum_by (tally_sum f) tallies.old.items + f (row_at period student)) }
     ensures filed { OnOk result (AreFiled tallies.new.items last.new.items slots) }
+    ensures crowded { OnOk result (AreCrowded crowd.new.sizes.items crowd.new.steps slots
+        (length tallies.new.items)) }
     ensures grown { OnOk result (Grows tallies.old.items tallies.new.items period 1) }
 {
     let slot = slot_of(student, slots);
@@ -177,17 +185,18 @@ fn count_one(
 }
 
 // Notes a new tally in this slot, and the steps from it to those before it.
-#[tactic(auto, using(crate::proofs::TallyLemmas::set_beyond))]
 fn note(crowd: &mut Crowd, slot: usize)
+    requires exists { slot < length crowd.old.sizes.items }
+    requires few { slice_index crowd.old.sizes.items slot < MAX_PAIRS }
+    requires few_steps { crowd.old.steps ≤ MAX_PAIRS * MAX_PAIRS }
     ensures sizes { crowd.new.sizes.items ≡ slice_set crowd.old.sizes.items slot
-        (min (slice_index crowd.old.sizes.items slot + 1) u32.MAX) }
-    ensures steps { slot < length crowd.old.sizes.items → crowd.new.steps
-        ≡ min (crowd.old.steps + slice_index crowd.old.sizes.items slot) u64.MAX }
+        (slice_index crowd.old.sizes.items slot + 1) }
+    ensures steps { crowd.new.steps
+        ≡ crowd.old.steps + slice_index crowd.old.sizes.items slot }
 {
-    if let Some(size) = crowd.sizes.get_mut(slot) {
-        crowd.steps = crowd.steps.saturating_add(u64::from(*size));
-        *size = size.saturating_add(1);
-    }
+    let size = crowd.sizes[slot];
+    crowd.steps += u64::from(size);
+    crowd.sizes[slot] = size + 1;
 }
 
 fn slot_of(student: StudentNo, slots: u32) -> usize

@@ -1,14 +1,10 @@
-use Rattle.std.proofs.Common.{◌≡◌, ◌≤◌, ◌+◌, ◌*◌, length}
-use Rattle.exam_score.specs.Folds.{exams_cost}
+use Rattle.std.proofs.Common.{◌≡◌, ◌≤◌, ◌*◌, take, sum_by}
+use Rattle.exam_score.proofs.EditedLemmas.{edited_beside}
 use Rattle.exam_score.proofs.sat_exams.cost_of_exams.Given as goal
 
--- what is counted and what is left make the whole, and the rest is no longer
+-- what the edited ones of the exams seen so far cost beside all, and a bound on it
 abbrev pub invariant-loop-exam : goal.invariant-loop-exam
 invariant-loop-exam g l = record {
-  whole : l.total + exams_cost (g.C.PairCost.cost_of l.cost) l.timetable l.rest ≡ exams_cost (g.C.PairCost.cost_of l.cost) l.timetable l.exams;
-  shorter : length l.rest ≤ length l.exams;
-  bounded : l.total + 20000000000 * length l.rest ≤ 20000000000 * length l.exams;
+  sum : l.total ≡ sum_by (edited_beside (g.C.PairCost.cost_of l.cost) l.timetable l.edited l.exams) (take l.exam-index l.exams);
+  small : l.total ≤ l.exam-index * 20000000000;
 }
-
-abbrev pub decreases-loop-exam : goal.decreases-loop-exam
-decreases-loop-exam g l = length l.rest

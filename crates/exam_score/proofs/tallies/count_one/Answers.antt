@@ -1,9 +1,9 @@
-use Rattle.std.proofs.Common.{◌≡◌, ◌+◌, ◌-◌, ◌<◌, ◌++◌, ◌∷◌, [], length, set, sum_by, sym, subst, ◌∙◌, ap, ap₂, arith}
+use Rattle.std.proofs.Common.{◌≡◌, ◌+◌, ◌-◌, ◌<◌, ◌++◌, ◌∷◌, [], length, length-set, get_or, set, sum_by, sym, subst, ◌∙◌, ap, ap₂, arith}
 use Rattle.std.proofs.lemmas.List.{get_or_read, get_or_default, length_push}
 use Rattle.exam_score.specs.Rows.{row_at}
-use Rattle.exam_score.specs.Tallies.{tally_sum, AreFiled, Extends}
+use Rattle.exam_score.specs.Tallies.{tally_sum, AreCrowded, AreFiled, Extends}
 use Rattle.exam_score.specs.declared.tallies.Tally.{Tally}
-use Rattle.exam_score.proofs.TallyLemmas.{place_within, alike_set, filed_alike, counted_set, filed_push}
+use Rattle.exam_score.proofs.TallyLemmas.{place_within, alike_set, crowd_more, filed_alike, counted_set, filed_push}
 use Rattle.exam_score.proofs.tallies.count_one.Goals as goal
 
 pub returns-then-extends-clause-counted : goal.returns-then-extends-clause-counted
@@ -46,3 +46,32 @@ returns-clause-filed c =
     (subst (λ n. AreFiled (xs ++ y ∷ []) (set last slot n) c.args.slots) (sym long)
     (filed_push c.args.slots xs last y slot c.requires.filed within (sym c.slot_of-slot.ensures.slot)
     (get_or_read last slot c.index-before.result.now within c.index-before.ensures 0) c.requires.not_later))
+
+pub returns-then-extends-clause-crowded : goal.returns-then-extends-clause-crowded
+returns-then-extends-clause-crowded c =
+    let xs = c.args.tallies.now.items in
+    let x = c.index-tally.result.now in
+    let y : Tally = record { student = x.student; period = x.period; exams = x.exams + 1; before = x.before } in
+    subst (AreCrowded c.args.crowd.now.sizes.items c.args.crowd.now.steps c.args.slots) (sym (length-set xs (c.index-before.result.now - 1) y)) c.requires.crowded
+
+pub note-requires : goal.note-requires
+note-requires c =
+    let exists : c.slot_of-slot.result < length c.args.crowd.now.sizes.items = omega (arith, c.slot_of-slot.ensures.exists, c.requires.crowded.count) in
+    record {
+      exists = exists;
+      few = omega (arith, c.requires.crowded.each c.slot_of-slot.result exists, c.requires.few);
+      few_steps = omega (arith, c.requires.crowded.all, c.requires.few);
+    }
+
+pub returns-clause-crowded : goal.returns-clause-crowded
+returns-clause-crowded c =
+    let xs = c.args.tallies.now.items in
+    let sizes = c.args.crowd.now.sizes.items in
+    let steps = c.args.crowd.now.steps in
+    let slot = c.slot_of-slot.result in
+    let y : Tally = record { student = c.args.student; period = c.args.period; exams = 1; before = c.index-before.result.now } in
+    let long : length c.push.new.self.items ≡ length xs + 1 = ap length c.in_ok-push.ensures.items ∙ length_push xs y in
+    let more = crowd_more sizes steps c.args.slots (length xs) slot c.slot_of-slot.ensures.exists c.requires.few c.requires.crowded in
+    subst (AreCrowded c.note.new.crowd.sizes.items c.note.new.crowd.steps c.args.slots) (sym long)
+    (subst (λ n. AreCrowded c.note.new.crowd.sizes.items n c.args.slots (length xs + 1)) (sym c.note.ensures.steps)
+    (subst (λ zs. AreCrowded zs (steps + get_or sizes slot 0) c.args.slots (length xs + 1)) (sym c.note.ensures.sizes) more))

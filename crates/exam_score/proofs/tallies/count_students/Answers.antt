@@ -9,6 +9,7 @@ pub loop-student-init : goal.loop-student-init
 loop-student-init c = record {
   counted = λ f. omega arith;
   filed = c.requires.filed;
+  crowded = c.requires.crowded;
   grown = grown_none c.args.tallies.now.items c.args.period;
 }
 
@@ -18,6 +19,7 @@ count_one-requires c =
     record {
       some = c.requires.some;
       filed = c.loop-student.invariant.filed;
+      crowded = c.loop-student.invariant.crowded;
       few = omega (arith, grown.few, c.requires.few, c.loop-student-test.true);
       not_later = grown_no_later c.args.tallies.now.items c.loop-student.tallies.items c.args.period c.args.period c.loop-student.student-index grown c.requires.not_later (omega arith);
     }
@@ -37,6 +39,7 @@ loop-student-preserved c =
           let sum : sum_by (tally_sum f) c.count_one.new.tallies.items ≡ sum_by (tally_sum f) c.args.tallies.now.items + sum_by w (take (i + 1) c.args.students.now) = omega arith in
           sum;
       filed = new.filed;
+      crowded = new.crowded;
       grown = grown_more c.args.tallies.now.items c.loop-student.tallies.items c.count_one.new.tallies.items c.args.period i c.loop-student.invariant.grown new.grown;
     }
 
@@ -52,5 +55,6 @@ returns c =
           let sum : sum_by (tally_sum f) c.loop-student.tallies.items ≡ sum_by (tally_sum f) c.args.tallies.now.items + sum_by w c.args.students.now = omega arith in
           sum;
       filed = c.loop-student.invariant.filed;
+      crowded = c.loop-student.invariant.crowded;
       grown = rw (← end) c.loop-student.invariant.grown;
     }

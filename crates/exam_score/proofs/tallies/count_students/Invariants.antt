@@ -1,6 +1,6 @@
-use Rattle.std.proofs.Common.{◌≡◌, ◌+◌, ℕ, sum_by, take}
+use Rattle.std.proofs.Common.{◌≡◌, ◌+◌, ℕ, length, sum_by, take}
 use Rattle.exam_score.specs.Rows.{row_at}
-use Rattle.exam_score.specs.Tallies.{tally_sum, AreFiled, Grows}
+use Rattle.exam_score.specs.Tallies.{tally_sum, AreCrowded, AreFiled, Grows}
 use Rattle.exam_score.specs.declared.rows.Row.{Row}
 use Rattle.exam_score.proofs.tallies.count_students.Given as goal
 
@@ -11,5 +11,6 @@ invariant-loop-student l = record {
       ≡ sum_by (tally_sum f) l.fn.tallies.items
       + sum_by (λ s. f (row_at l.period s)) (take l.student-index l.students);
   filed : AreFiled l.tallies.items l.last.items l.slots;
+  crowded : AreCrowded l.crowd.sizes.items l.crowd.steps l.slots (length l.tallies.items);
   grown : Grows l.fn.tallies.items l.tallies.items l.period l.student-index;
 }

@@ -6,7 +6,7 @@ use Rattle.exam_model.specs.Enrolments.{students, size_of}
 use Rattle.exam_score.specs.Rows.{row_at}
 use Rattle.exam_score.specs.Tallies.{tally_sum, sitting_sum}
 use Rattle.exam_score.specs.declared.sittings.Sitting.{Sitting}
-use Rattle.exam_score.proofs.TallyLemmas.{filed_none}
+use Rattle.exam_score.proofs.TallyLemmas.{crowd_none, filed_none}
 use Rattle.exam_score.proofs.tallies.file_all.Goals as goal
 
 pub loop-sitting-init : goal.loop-sitting-init
@@ -15,6 +15,7 @@ loop-sitting-init c =
     record {
       counted = λ f. ap (sum_by (tally_sum f)) (sym none);
       filed = filed_none c.args.slots c.in_ok-tallies.tallies.items c.in_ok-last.last.items none c.in_ok-last.ensures.long c.in_ok-last.ensures.zero;
+      crowded = crowd_none c.in_ok-sizes.sizes.items c.args.slots (length c.in_ok-tallies.tallies.items) c.in_ok-sizes.ensures.long c.in_ok-sizes.ensures.zero;
       few = omega (arith, ap length none);
       earlier = λ k j d e lt from below. absurd (omega (arith, ap length none));
     }
@@ -35,6 +36,7 @@ count_students-requires c =
     record {
       some = c.requires.some;
       filed = c.loop-sitting.invariant.filed;
+      crowded = c.loop-sitting.invariant.crowded;
       few = omega arith;
       not_later = λ k d lt.
           let le = c.loop-sitting.invariant.earlier k i d x lt (omega arith) c.loop-sitting-test.true in
@@ -62,6 +64,7 @@ loop-sitting-preserved c =
           let sum : sum_by (sitting_sum E f) (take (i + 1) xs) ≡ sum_by (tally_sum f) c.count_students.new.tallies.items = omega arith in
           sum;
       filed = new.filed;
+      crowded = new.crowded;
       few =
           let more = sum_by_more size xs i x c.loop-sitting-test.true in
           let here : size (get_or xs i x) ≡ size x = ap size (sym c.sitting-item.is) in

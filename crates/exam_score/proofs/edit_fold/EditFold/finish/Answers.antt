@@ -17,9 +17,9 @@ goes_is : (c : goal.After-drop-self-inside) → c.edit_share-goes.result ≡ goi
 goes_is c =
     let f = c.self.inside in
     let fold : Folded = folded c in
-    let students : c.plus-before.result ≡ plus f.before (personal_sum f.instance.now f.earlier.now (pairs_sat f.student f.exams.items))
-    = c.plus-before.ensures ∙ ap (plus f.before) (c.personal_at-before.ensures.sum ∙ ap (personal_at f.instance.now f.earlier.now) c.deref.ensures.value
-    ∙ sum_of_student f.instance.now f.earlier.now f.student f.exams.items (λ none. (c.self.invariant.started none).1)) in
+    let students : c.plus-before.result ≡ plus f.before (personal_sum f.instance.now f.earlier.now f.edited.now (pairs_sat f.student f.exams.items))
+    = c.plus-before.ensures ∙ ap (plus f.before) (c.personal_at-before.ensures.sum ∙ ap (personal_at f.instance.now f.earlier.now f.edited.now) c.deref.ensures.value
+    ∙ sum_of_student f.instance.now f.earlier.now f.edited.now f.student f.exams.items (λ none. (c.self.invariant.started none).1)) in
     c.edit_share-goes.ensures
     ∙ ap (edit_share f.instance.now f.earlier.now f.edited.now (is_touched f.edited.now f.earlier.now f.later.now) c.args.sizes.now) students
     ∙ ap (λ v. going v c.args.sizes.now) c.self.view_is
@@ -28,9 +28,9 @@ comes_is : (c : goal.After-drop-self-inside) → c.edit_share-comes.result ≡ c
 comes_is c =
     let f = c.self.inside in
     let fold : Folded = folded c in
-    let students : c.plus-after.result ≡ plus f.after (personal_sum f.instance.now f.later.now (pairs_sat f.student f.exams.items))
-    = c.plus-after.ensures ∙ ap (plus f.after) (c.personal_at-after.ensures.sum ∙ ap (personal_at f.instance.now f.later.now) c.deref-2.ensures.value
-    ∙ sum_of_student f.instance.now f.later.now f.student f.exams.items (λ none. (c.self.invariant.started none).1)) in
+    let students : c.plus-after.result ≡ plus f.after (personal_sum f.instance.now f.later.now f.edited.now (pairs_sat f.student f.exams.items))
+    = c.plus-after.ensures ∙ ap (plus f.after) (c.personal_at-after.ensures.sum ∙ ap (personal_at f.instance.now f.later.now f.edited.now) c.deref-2.ensures.value
+    ∙ sum_of_student f.instance.now f.later.now f.edited.now f.student f.exams.items (λ none. (c.self.invariant.started none).1)) in
     c.edit_share-comes.ensures
     ∙ ap (edit_share f.instance.now f.later.now f.edited.now (is_touched f.edited.now f.earlier.now f.later.now) c.args.sizes.now) students
     ∙ ap (λ v. coming v c.args.sizes.now) c.self.view_is

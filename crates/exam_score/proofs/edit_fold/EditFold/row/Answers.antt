@@ -24,12 +24,12 @@ returns-clause-ok c = λ pairs h.
     let f = c.self.inside in
     let fold : Folded = record { instance = f.instance.now; earlier = f.earlier.now; later = f.later.now; edited = f.edited.now; count = f.count; before = f.before; after = f.after; current = pairs_sat f.student f.exams.items } in
     let value : fold ≡ c.args.self.now = c.self.view_is in
-    let before : c.personal_at-before.result ≡ personal_sum fold.instance fold.earlier fold.current
-    = c.personal_at-before.ensures.sum ∙ ap (personal_at fold.instance fold.earlier) c.deref.ensures.value
-    ∙ sum_of_student fold.instance fold.earlier f.student f.exams.items (λ none. (c.self.invariant.started none).1) in
-    let after : c.personal_at-after.result ≡ personal_sum fold.instance fold.later fold.current
-    = c.personal_at-after.ensures.sum ∙ ap (personal_at fold.instance fold.later) c.deref-2.ensures.value
-    ∙ sum_of_student fold.instance fold.later f.student f.exams.items (λ none. (c.self.invariant.started none).1) in
+    let before : c.personal_at-before.result ≡ personal_sum fold.instance fold.earlier fold.edited fold.current
+    = c.personal_at-before.ensures.sum ∙ ap (personal_at fold.instance fold.earlier fold.edited) c.deref.ensures.value
+    ∙ sum_of_student fold.instance fold.earlier fold.edited f.student f.exams.items (λ none. (c.self.invariant.started none).1) in
+    let after : c.personal_at-after.result ≡ personal_sum fold.instance fold.later fold.edited fold.current
+    = c.personal_at-after.ensures.sum ∙ ap (personal_at fold.instance fold.later fold.edited) c.deref-2.ensures.value
+    ∙ sum_of_student fold.instance fold.later fold.edited f.student f.exams.items (λ none. (c.self.invariant.started none).1) in
     let items : c.push-2.new.self.items ≡ c.args.exam ∷ [] = c.in_ok-push-2.ensures.items ∙ ap (λ es. es ++ c.args.exam ∷ []) c.new-exams.ensures.items in
     let other : f.student ≡ Some c.args.student → ⊥ = λ is. true≢false (sym (c.is_open.ensures.1 is) ∙ c.if-is_open.false) in
     let more = stands_turn fold pairs c.args.student c.args.exam f.student f.exams.items c.personal_at-before.result c.personal_at-after.result
