@@ -29,6 +29,13 @@ pub kept_still : {S : Type 0} (g : Ghosts S) (old new : Held S) (o : OfficeState
 kept_still g old new o (inl same) kept = subst (λ h. IsKept (state g h).now o) (sym same) kept
 kept_still g old new o (inr still) kept = subst (λ db. IsKept db o) (sym still.0.now_is) kept
 
+-- and was there before
+pub kept_before : {S : Type 0} (g : Ghosts S) (old new : Held S) (o : OfficeState)
+    → (new ≡ old) ⊎ IsUnchanged (state g old) (state g new)
+    → IsKept (state g new).now o → IsKept (state g old).now o
+kept_before g old new o (inl same) kept = subst (λ h. IsKept (state g h).now o) same kept
+kept_before g old new o (inr still) kept = subst (λ db. IsKept db o) still.0.now_is kept
+
 -- ---- readers, one after the other
 
 pub unchanged_then : (a b c : State) → IsUnchanged a b → IsUnchanged b c → IsUnchanged a c

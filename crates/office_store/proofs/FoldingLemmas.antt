@@ -1,5 +1,5 @@
 -- What is folded of the rows of an edit's students.
-use Rattle.std.proofs.Common.{not, filter, eqb, None, IsPermutation, IfOk, ◌≡◌, ℕ, suc, ◌+◌, ◌<◌, ◌≤◌, inl, inr, Bool, true, false, true≢false, IsTrue, get_or, add-one, List, [], ◌∷◌, ◌++◌, length, map, All, Option, Some, Result, Ok, Err, refl, sym, ◌∙◌, ap, subst, arith, append_assoc, length-append}
+use Rattle.std.proofs.Common.{not, filter, eqb, None, IsPermutation, IfOk, ◌≡◌, ℕ, suc, ◌+◌, ◌<◌, ◌≤◌, inl, inr, Bool, true, false, true≢false, IsTrue, get_or, add-one, List, [], ◌∷◌, ◌++◌, length, map, All, Option, Some, Result, Ok, Err, refl, sym, ◌∙◌, ap, ap₂, subst, arith, append_assoc, length-append}
 use Rattle.std.specs.Prelude.{◌↔◌, nat_lt, ok_or}
 use Rattle.std.specs.List.{AllByRecursion, IsAllAdjacentAnswer, flat_map}
 use Rattle.std.proofs.lemmas.Bool.Decides.{nat_tests}
@@ -170,7 +170,7 @@ module _ {S : Type 0} (store : Ghosts S) (all : List ℕ) where
         (subst (All (λ s. All (λ p. p.student < s) taken.pairs)) is taken.below)).0;
   }
 
-  pub more_taken : (a b c : Held S) (fold next : Folded) (count more : ℕ) (rest : List ℕ) (s : ℕ)
+  more_taken : (a b c : Held S) (fold next : Folded) (count more : ℕ) (rest : List ℕ) (s : ℕ)
       (others exams : List ℕ) (taken : HasTaken store a b fold count all rest)
       → rest ≡ s ∷ others → IsAscending rest → more ≡ count + length exams → more ≤ 200000
       → ((pairs : List Pair) → StandsFor fold pairs
@@ -231,6 +231,22 @@ module _ {S : Type 0} (store : Ghosts S) (all : List ℕ) where
             (recursion_from_All (λ p. p.student < n) taken.pairs h.0) (own n exams k.0)),
         each ns h.1 k.1,
       )
+
+  -- the exams that were read, as they were counted and as they were folded
+  pub read_taken : (a b c : Held S) (fold next : Folded) (count more : ℕ) (rest : List ℕ) (s : ℕ)
+      (others read counted folded : List ℕ) → HasTaken store a b fold count all rest
+      → rest ≡ s ∷ others → IsAscending rest → counted ≡ read → folded ≡ read
+      → more ≡ count + length counted → more ≤ 200000
+      → ((pairs : List Pair) → StandsFor fold pairs
+      → StandsFor next (pairs ++ pairs_sat (Some s) folded))
+      → ((E : Enrolled) → HadEnrolments store a c E → HadEnrolments store a b E)
+      → ((E : Enrolled) → HadEnrolments store a c E → read ≡ exams_sat E s)
+      → HasTaken store a c next more all others
+  read_taken a b c fold next count more rest s others read counted folded taken is up one other adds
+      few stands before are =
+      more_taken a b c fold next count more rest s others folded taken is up
+      (adds ∙ ap (λ (xs : List ℕ). count + length xs) (one ∙ sym other)) few stands before
+      (λ E had. other ∙ are E had)
 
   -- over a clean disk there are no more pairs than an office has
   pub not_more : (a b c : Held S) (fold : Folded) (count : ℕ) (rest : List ℕ) (s : ℕ)
@@ -348,6 +364,16 @@ are_hers_of s rows exams is =
     subst (All (λ (row : EnrolRow). row.student ≡ s)) (sym is)
     (All-from_recursion (λ (row : EnrolRow). row.student ≡ s) (map (her_row s) exams)
     (each_hers s exams))
+
+-- rows of hers are those of their exams
+pub hers_back : (s : ℕ) (rows : List EnrolRow) → All (λ (row : EnrolRow). row.student ≡ s) rows
+    → rows ≡ map (her_row s) (map (λ (row : EnrolRow). row.exam) rows)
+hers_back s rows all = each rows (recursion_from_All (λ (row : EnrolRow). row.student ≡ s) rows all)
+  where
+    each : (qs : List EnrolRow) → AllByRecursion (λ (row : EnrolRow). row.student ≡ s) qs
+        → qs ≡ map (her_row s) (map (λ (row : EnrolRow). row.exam) qs)
+    each [] h = refl
+    each (q ∷ qs) h = ap₂ (λ (n : ℕ) (l : List EnrolRow). her_row n q.exam ∷ l) h.0 (each qs h.1)
 
 pub exams_are : (s : ℕ) (rows : List EnrolRow) (exams : List ℕ) → rows ≡ map (her_row s) exams
     → map (λ (row : EnrolRow). row.exam) rows ≡ exams

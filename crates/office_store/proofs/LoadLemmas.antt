@@ -1,7 +1,6 @@
 -- A session that is put in.
-use Rattle.std.proofs.Common.{◌≡◌, ℕ, ◌+◌, ◌<◌, ◌≤◌, List, [], ◌∷◌, ◌++◌, map, length, take, get_or, Some, None, refl, sym, ◌∙◌, ap, arith, subst, reverse, Bool, true, false, eqb}
+use Rattle.std.proofs.Common.{◌≡◌, ℕ, ◌+◌, ◌<◌, List, [], ◌∷◌, ◌++◌, map, length, take, get_or, Some, None, refl, sym, ◌∙◌, ap, arith, subst, reverse, true, false}
 use Rattle.std.specs.Prelude.{IsPermutation, is_some, is_none, Ok, Err}
-use Rattle.std.proofs.lemmas.Bool.Decides.{nat_tests}
 use Rattle.std.proofs.lemmas.List.{append-nil, append_assoc, map-append, take_more, length-take, length-map}
 use Rattle.std.proofs.lemmas.List.Sorted.{IsPermutation-sym, IsPermutation-reverse, IsPermutation-refl}
 use Rattle.exam_model.specs.Enrolments.{Enrolled, students, no_pairs}
@@ -96,28 +95,6 @@ module _ (I : Session) (E : Enrolled) (text : List ℕ) (rows : List EnrolRow)
     };
     office = fresh_records I E is are;
   }
-
--- ---- bounds
-
-pub one_more_below : (xs : List ℕ) (i most : ℕ) → ((k d : ℕ) → k < i → get_or xs k d ≤ most)
-    → ((d : ℕ) → get_or xs i d ≤ most) → (k d : ℕ) → k < i + 1 → get_or xs k d ≤ most
-one_more_below xs i most before here k d lt = go (eqb k i) refl
-  where
-    go : (b : Bool) → eqb k i ≡ b → get_or xs k d ≤ most
-    go true is =
-        let same : k ≡ i = grind (arith, nat_tests, is) in
-        subst (λ n. get_or xs n d ≤ most) (sym same) (here d)
-    go false is = before k d (grind (arith, nat_tests, is, lt))
-
-pub one_more_all : (P : ℕ → Type 0) (i : ℕ) → ((e : ℕ) → e < i → P e) → P i
-    → (e : ℕ) → e < i + 1 → P e
-one_more_all P i before here e lt = go (eqb e i) refl
-  where
-    go : (b : Bool) → eqb e i ≡ b → P e
-    go true is =
-        let same : e ≡ i = grind (arith, nat_tests, is) in
-        subst P (sym same) here
-    go false is = before e (grind (arith, nat_tests, is, lt))
 
 -- ---- the command
 

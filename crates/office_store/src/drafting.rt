@@ -15,6 +15,7 @@ use crate::office::Office;
 use crate::transactions::put;
 use exam_model::{Enrolments, ExamNo, Instance, Timetable};
 use exam_score::{Parts, score};
+use exam_terms::limits::MAX_DRAFTS;
 use office_files::read_solution;
 use office_model::StoreFault;
 use office_records::draft_row;
@@ -102,7 +103,7 @@ impl<S: Alter> Office<S> {
 fn is_draft_number(number: u32) -> bool
     ensures { result ≡ is_draft_number number }
 {
-    (1..=8).contains(&number)
+    (1..=MAX_DRAFTS).contains(&number)
 }
 
 // The penalty of a draft as it begins, and the rows of its places.

@@ -118,7 +118,8 @@ fn fold_students<'a, S: Alter>(
 fn count_more(count: usize, exams: &[ExamNo]) -> Result<usize, StoreFault>
     requires few { count ≤ MAX_PAIRS }
     ensures ok { IfOk result (λ more. (more ≡ count + length exams.now) × (more ≤ MAX_PAIRS)) }
-    ensures err { IfErr result (λ _. MAX_PAIRS < count + length exams.now) }
+    ensures err { IfErr result (λ e. (e ≡ StoreFault.BadSchema)
+        × (MAX_PAIRS < count + length exams.now)) }
 {
     if exams.len() > MAX_PAIRS as usize - count {
         return Err(StoreFault::BadSchema);
@@ -168,7 +169,7 @@ fn exams_in_order(
     student: StudentNo,
     rows: &[EnrolRow],
 ) -> Result<Vec<ExamNo>, StoreFault>
-    ensures are { IfOk result (λ exams. exams.items ≡ map (λ row. row.exam) rows.now) }
+    ensures are { IfOk result (λ exams. rows.now ≡ map (her_row student) exams.items) }
     ensures ascending { IfOk result (λ exams. IsAscending exams.items) }
     ensures fault { (exams : List ℕ) → rows.now ≡ map (her_row student) exams → IsAscending exams
         → IfErr result (λ e. e ≡ StoreFault.Store) }

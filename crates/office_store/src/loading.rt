@@ -1,8 +1,8 @@
 // The session is loaded once.
-ghost use Rattle.std.specs.Prelude.{◌≡◌, ◌++◌, ◌<◌, ◌≤◌, ℕ, All, IfErr, IfOk, OnOk, length, map};
+ghost use Rattle.std.specs.Prelude.{◌≡◌, ◌++◌, IfErr, IfOk, OnOk, map};
 ghost use Rattle.sqlite.specs.Held.{state};
 ghost use Rattle.sqlite.specs.State.{HasCleanDisk};
-ghost use Rattle.exam_model.specs.Enrolments.{AreEnrolments, students};
+ghost use Rattle.exam_model.specs.Enrolments.{AreEnrolments};
 ghost use Rattle.exam_model.specs.Instance.{IsInstance};
 ghost use Rattle.exam_model.specs.Pairs.{pairs_at, pairs_of};
 ghost use Rattle.office_model.specs.Commands.{NamesFirstFault, SpellsSession, counts_of, loaded};
@@ -79,9 +79,8 @@ fn add_rows(
     exam: u32,
     students: &[StudentNo],
 ) -> Result<(), AllocError>
-    ensures rows { OnOk result (map (λ it. it.row) rows.new.items
+    ensures { OnOk result (map (λ it. it.row) rows.new.items
         ≡ map (λ it. it.row) rows.old.items ++ map enrol_row (pairs_at exam students.now)) }
-    ensures numbers { OnOk result (All (λ s. s ≤ 999999999) students.now) }
 {
     for student in students {
         let row = EnrolRow {
@@ -95,10 +94,8 @@ fn add_rows(
 
 // The rows of the pairs, by exam and then by student.
 fn enrol_rows(alloc: Global, enrolments: &Enrolments) -> Result<Vec<InsertEnrol>, AllocError>
-    ensures rows { IfOk result (λ rows. map (λ it. it.row) rows.items
+    ensures { IfOk result (λ rows. map (λ it. it.row) rows.items
         ≡ map enrol_row (pairs_of enrolments.now)) }
-    ensures numbers { IfOk result (λ _. (e : ℕ) → e < length enrolments.now
-        → All (λ s. s ≤ 999999999) (students enrolments.now e)) }
 {
     let mut rows = Vec::new(alloc);
     for number in 0..enrolments.exams() {

@@ -26,6 +26,9 @@ impl<S: Alter> Office<S> {
         ensures found { IfOk result (λ office. HasCleanDisk (state S.Store office)
             → (there : OfficeState) → IsOfficeOf (state S.Store conn).now there
             → Now (state S.Store office) there) }
+        // It stood for one.
+        ensures stood { IfOk result (λ office. HasCleanDisk (state S.Store office)
+            → (there : OfficeState) × IsOfficeOf (state S.Store conn).now there) }
         ensures fault { IfErr result (λ e. IsOfDatabase e.0) }
         // But for Store, it stands for none.
         ensures refused { IfErr result (λ e. HasCleanDisk (state S.Store e.1)

@@ -2,6 +2,7 @@
 ghost use Rattle.std.specs.Prelude.{◌≡◌, ◌≤◌, IfOk, OnOk, map};
 ghost use Rattle.sqlite.specs.Held.{state};
 ghost use Rattle.sqlite.specs.State.{HasCleanDisk};
+ghost use Rattle.exam_terms.specs.declared.limits.TheConstants.{MAX_DEPARTMENT};
 ghost use Rattle.office_model.specs.Commands.{owned, owner_in};
 ghost use Rattle.office_model.specs.Office.{OfficeState};
 ghost use Rattle.office_store.specs.Changes.{new_owner};
@@ -22,7 +23,7 @@ impl<S: Alter> Office<S> {
     /// Makes a department, 1 to 999, the owner of an exam; 0 takes the owner away. `NotLoaded`: there
     /// is no session; then `Refused` with `NoSuch`: there is no such exam.
     pub fn set_owner(&mut self, exam: ExamNo, dept: u32) -> Result<(), StoreFault>
-        requires dept { dept ≤ 999 }
+        requires dept { dept ≤ MAX_DEPARTMENT }
         ensures runs { Runs S.Store (owned exam dept) self.old self.new result }
         ensures clean { HasCleanDisk (state S.Store self.new) → HasCleanDisk (state S.Store self.old) }
     {

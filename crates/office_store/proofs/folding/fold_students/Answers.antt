@@ -1,6 +1,6 @@
-use Rattle.std.proofs.Common.{rules, ◌≡◌, ◌∙◌, ◌+◌, ℕ, Err, IfErr, ap, arith, length, subst, sym}
+use Rattle.std.proofs.Common.{rules, ◌≡◌, ◌∙◌, Err, IfErr, ap, arith, length, subst, sym}
 use Rattle.office_model.specs.declared.fault.StoreFault.TheVariants.{Store}
-use Rattle.office_store.proofs.FoldingLemmas.{fold_of, had_before, had_on, more_taken, next_taken, not_more, read_on, rise_on, same_on}
+use Rattle.office_store.proofs.FoldingLemmas.{fold_of, had_before, had_on, next_taken, not_more, read_on, read_taken, rise_on, same_on}
 use Rattle.office_store.proofs.folding.fold_students.Goals as goal
 
 pub returns-in_err-exams-clause-fault : goal.returns-in_err-exams-clause-fault
@@ -24,7 +24,7 @@ returns-in_err-count-clause-fault g c E had =
     (had_before g.S.Store c.args.conn.now c.each.conn c.read_exams.new.conn inv.read inv.same
     c.read_exams.ensures.read E had)
     (c.deref.ensures.value ∙ hers) in
-    absurd (omega (arith, few, c.in_err-count.ensures.err))
+    absurd (omega (arith, few, c.in_err-count.ensures.err.1))
 
 pub fold_exams-requires-clause-room : goal.fold_exams-requires-clause-room
 fold_exams-requires-clause-room g c =
@@ -43,18 +43,16 @@ pub each-preserved : goal.each-preserved
 each-preserved g c =
     let inv = c.each.invariant in
     let is = c.in-Some.ensures.cases.0 in
-    let exams = c.deref-in-Some.result.now in
     record {
-      taken = more_taken g.S.Store c.args.students.now c.args.conn.now c.each.conn
+      taken = read_taken g.S.Store c.args.students.now c.args.conn.now c.each.conn
           c.read_exams.new.conn c.each.fold c.fold_exams.new.fold c.each.count c.in_ok-count.count
-          c.each.rest.now c.in-Some.student.now c.in-Some.others.now exams inv.taken is inv.up
-          (c.in_ok-count.ensures.ok.0
-          ∙ ap (λ (n : ℕ). c.each.count + n) (ap length (c.deref.ensures.value ∙ sym c.deref-in-Some.ensures.value)))
-          c.in_ok-count.ensures.ok.1
+          c.each.rest.now c.in-Some.student.now c.in-Some.others.now c.in_ok-exams.exams.items
+          c.deref.result.now c.deref-in-Some.result.now inv.taken is inv.up c.deref.ensures.value
+          c.deref-in-Some.ensures.value c.in_ok-count.ensures.ok.0 c.in_ok-count.ensures.ok.1
           c.in_ok-fold_exams.ensures.stands
           (had_before g.S.Store c.args.conn.now c.each.conn c.read_exams.new.conn inv.read inv.same
           c.read_exams.ensures.read)
-          (λ E had. c.deref-in-Some.ensures.value ∙ c.in_ok-exams.ensures.hers E
+          (λ E had. c.in_ok-exams.ensures.hers E
           (had_on g.S.Store c.args.conn.now c.each.conn c.read_exams.new.conn inv.read inv.same
           c.read_exams.ensures.read E had));
       up = rise_on c.each.rest.now c.in-Some.student.now c.in-Some.others.now is inv.up;

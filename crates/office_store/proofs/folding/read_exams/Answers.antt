@@ -1,7 +1,6 @@
-use Rattle.std.proofs.Common.{◌≡◌, ◌∙◌}
+use Rattle.std.proofs.Common.{◌≡◌, ◌∙◌, ℕ, Vec, sym}
 use Rattle.exam_model.specs.Changes.{exams_sat}
 use Rattle.office_tables.specs.declared.rows.EnrolRow.{EnrolRow}
-use Rattle.std.proofs.Common.{List, ℕ, map, Vec}
 use Rattle.std.specs.declared.alloc.Global.{Global}
 use Rattle.office_store.proofs.FoldingLemmas.{exams_are, ok_weaker, rows_had, sat_up}
 use Rattle.office_store.proofs.folding.read_exams.Goals as goal
@@ -12,7 +11,8 @@ returns-clause-hers g c E had =
     let rows = rows_had g.S.Store c.args.conn.now c.enrols_of.new.conn E had s c.get.result
     c.get.ensures.number c.in-Ok.rows.items c.in-Ok.ensures.in_order in
     ok_weaker _ _ c.exams_in_order.result
-    (λ exams are. are ∙ exams_are s c.deref.result.now (exams_sat E s) (c.deref.ensures.value ∙ rows))
+    (λ (exams : Vec ℕ Global) are. sym (exams_are s c.deref.result.now exams.items are)
+    ∙ exams_are s c.deref.result.now (exams_sat E s) (c.deref.ensures.value ∙ rows))
     c.exams_in_order.ensures.are
 
 pub returns-clause-fault : goal.returns-clause-fault

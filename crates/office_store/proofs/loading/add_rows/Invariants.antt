@@ -1,11 +1,10 @@
-use Rattle.std.specs.Prelude.{◌≡◌, ◌++◌, ℕ, ◌<◌, ◌≤◌, map, slice_index_or, take}
+use Rattle.std.specs.Prelude.{◌≡◌, ◌++◌, map, take}
 use Rattle.exam_model.specs.Pairs.{pairs_at}
 use Rattle.office_records.specs.Stands.{enrol_row}
 use Rattle.office_store.proofs.loading.add_rows.Given as goal
 
 abbrev pub invariant-loop-student : goal.invariant-loop-student
-invariant-loop-student l = record {
-  rows : map (λ it. it.row) l.rows.items
-      ≡ map (λ it. it.row) l.fn.rows.items ++ map enrol_row (pairs_at l.exam (take l.student-index l.students));
-  numbers : (k d : ℕ) → k < l.student-index → slice_index_or l.students k d ≤ 999999999;
-}
+invariant-loop-student l =
+    map (λ it. it.row) l.rows.items
+    ≡ map (λ it. it.row) l.fn.rows.items
+    ++ map enrol_row (pairs_at l.exam (take l.student-index l.students))

@@ -4,9 +4,9 @@ use Rattle.std.specs.Prelude.{is_some}
 use Rattle.sqlite.specs.Held.{state}
 use Rattle.exam_model.specs.Enrolments.{Enrolled}
 use Rattle.exam_model.specs.Instance.{Session}
-use Rattle.office_model.specs.Office.{AreEnrolled}
 use Rattle.office_model.specs.Commands.{loaded}
 use Rattle.office_model.specs.declared.fault.StoreFault.TheVariants.{Loaded}
+use Rattle.office_model.proofs.RecordLemmas.{are_enrolled}
 use Rattle.office_store.proofs.CommandLemmas.{refuses, rests, runs, stays_by}
 use Rattle.office_store.proofs.LoadLemmas.{as_many, load_denied, load_moves}
 use Rattle.office_store.proofs.office.Office.load.Goals as goal
@@ -24,11 +24,8 @@ returns-clause-runs g c =
     let I : Session = c.in-Ok.read.0 in
     let E : Enrolled = c.in-Ok.read.1 in
     let no : is_some c.self.inside.kept ≡ false = search rules in
-    let are : AreEnrolled I E = record {
-      set = c.counts_of-loaded.ensures.enrolments;
-      exams = as_many c.args.text.now I E c.in-Ok.ensures.reading;
-      students = c.in_ok-rows.ensures.numbers;
-    } in
+    let are = are_enrolled I E c.counts_of-loaded.ensures.enrolments
+    (as_many c.args.text.now I E c.in-Ok.ensures.reading) in
     runs g.S.Store (loaded c.args.text.now) c.args.self.now c.look.new.self c.self.inside.conn
     c.self.inside.kept c.self.view_is c.self.invariant.1 c.in_ok-look.ensures.awake
     (stays_by g.S.Store c.args.self.now c.look.new.self c.in_ok-look.ensures.still)
@@ -36,7 +33,7 @@ returns-clause-runs g c =
     (λ k. load_moves c.args.text.now I E c.counts_of-loaded.result c.deref.result.now
     c.deref-2.result.now _ _ c.self.inside.kept c.in-Ok.ensures.exact
     c.counts_of-loaded.ensures.counts (c.deref.ensures.value ∙ c.in_ok-stored.ensures.text)
-    (ap (map (λ (it : InsertEnrol). it.row)) c.deref-2.ensures.value ∙ c.in_ok-rows.ensures.rows) c.counts_of-loaded.ensures.instance are no
+    (ap (map (λ (it : InsertEnrol). it.row)) c.deref-2.ensures.value ∙ c.in_ok-rows.ensures) c.counts_of-loaded.ensures.instance are no
     (c.in_ok-put.ensures.done k).makes)
 
 pub invariant_of-self-2 : goal.invariant_of-self-2
@@ -44,11 +41,8 @@ invariant_of-self-2 g c =
     let I : Session = c.in-Ok.read.0 in
     let E : Enrolled = c.in-Ok.read.1 in
     let no : is_some c.self.inside.kept ≡ false = search rules in
-    let are : AreEnrolled I E = record {
-      set = c.counts_of-loaded.ensures.enrolments;
-      exams = as_many c.args.text.now I E c.in-Ok.ensures.reading;
-      students = c.in_ok-rows.ensures.numbers;
-    } in (
+    let are = are_enrolled I E c.counts_of-loaded.ensures.enrolments
+    (as_many c.args.text.now I E c.in-Ok.ensures.reading) in (
       c.in_ok-put.ensures.rests,
       rests (loaded c.args.text.now) (state g.S.Store c.self.inside.conn)
           (state g.S.Store c.put.new.conn) c.self.inside.kept (Some (I, E))
@@ -57,7 +51,7 @@ invariant_of-self-2 g c =
           (λ k. load_moves c.args.text.now I E c.counts_of-loaded.result c.deref.result.now
           c.deref-2.result.now _ _ c.self.inside.kept c.in-Ok.ensures.exact
           c.counts_of-loaded.ensures.counts (c.deref.ensures.value ∙ c.in_ok-stored.ensures.text)
-          (ap (map (λ (it : InsertEnrol). it.row)) c.deref-2.ensures.value ∙ c.in_ok-rows.ensures.rows)
+          (ap (map (λ (it : InsertEnrol). it.row)) c.deref-2.ensures.value ∙ c.in_ok-rows.ensures)
           c.counts_of-loaded.ensures.instance are no (c.in_ok-put.ensures.done k).makes),
       as_many c.args.text.now I E c.in-Ok.ensures.reading,
     )

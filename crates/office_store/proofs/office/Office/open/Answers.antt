@@ -1,6 +1,6 @@
-use Rattle.std.proofs.Common.{sym, subst}
+use Rattle.std.proofs.Common.{inl, inr, None, refl, sym, subst}
 use Rattle.office_records.specs.Stands.{IsKept}
-use Rattle.office_store.proofs.AdoptLemmas.{kept_still}
+use Rattle.office_store.proofs.AdoptLemmas.{kept_before, kept_still}
 use Rattle.office_store.proofs.OpenLemmas.{before_load, fails, if_err, if_ok, is_kept, or_none}
 use Rattle.office_store.proofs.office.Office.open.Goals as goal
 
@@ -17,6 +17,21 @@ returns-else-is_bare-clause-found g c = if_ok c.adopt.result _ _ _
     (λ office same _ clean there is stays. kept_still g.S.Store _ _ there (same clean)
     (is_kept _ there (fails _ _ c.is_bare.ensures.1 c.if-is_bare.false) is))
     c.adopt.ensures.same c.adopt.ensures.same
+
+-- what was opened had no table
+pub returns-then-is_bare-clause-stood : goal.returns-then-is_bare-clause-stood
+returns-then-is_bare-clause-stood g c = if_ok c.create.result _ _ _
+    (λ office made bare clean. (None, inl (bare, refl)))
+    c.create.ensures.made c.create.ensures.bare
+
+-- or tables of an office
+pub returns-else-is_bare-clause-stood : goal.returns-else-is_bare-clause-stood
+returns-else-is_bare-clause-stood g c = if_ok c.adopt.result _ _ _
+    (λ office adopted same clean. (
+      (adopted clean).0,
+      inr (kept_before g.S.Store _ _ (adopted clean).0 (same clean) (adopted clean).1),
+    ))
+    c.adopt.ensures.adopted c.adopt.ensures.same
 
 -- what is no office's database
 pub returns-else-is_bare-clause-refused : goal.returns-else-is_bare-clause-refused
