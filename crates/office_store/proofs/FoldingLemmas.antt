@@ -1,6 +1,7 @@
 -- What is folded of the rows of an edit's students.
-use Rattle.std.proofs.Common.{not, filter, eqb, None, IsPermutation, IfOk, ◌≡◌, ℕ, suc, ◌+◌, ◌<◌, ◌≤◌, inl, inr, Bool, true, false, true≢false, IsTrue, get_or, add-one, List, [], ◌∷◌, ◌++◌, length, map, All, Option, Some, Result, Ok, Err, refl, sym, ◌∙◌, ap, ap₂, subst, arith, append_assoc, length-append}
-use Rattle.std.specs.Prelude.{◌↔◌, nat_lt, ok_or}
+use Rattle.std.proofs.Common.{not, filter, eqb, None, IsPermutation, IfOk, Vec, ◌≡◌, ℕ, suc, ◌+◌, ◌<◌, ◌≤◌, inl, inr, Bool, true, false, true≢false, IsTrue, get_or, add-one, List, [], ◌∷◌, ◌++◌, length, map, All, Option, Some, Result, Ok, Err, refl, sym, ◌∙◌, ap, ap₂, subst, arith, append_assoc, length-append}
+use Rattle.std.specs.Prelude.{◌↔◌, IfSome, IsSome, nat_lt, ok_or}
+use Rattle.std.specs.declared.alloc.Global.{Global}
 use Rattle.std.specs.List.{AllByRecursion, IsAllAdjacentAnswer, flat_map}
 use Rattle.std.proofs.lemmas.Bool.Decides.{nat_tests}
 use Rattle.std.proofs.lemmas.List.{append-nil, length-map}
@@ -12,6 +13,7 @@ use Rattle.exam_model.specs.Changes.{exams_sat}
 use Rattle.exam_model.specs.Enrolments.{AreEnrolments, Enrolled, IsAscending, students}
 use Rattle.exam_model.specs.Instance.{Session}
 use Rattle.exam_model.specs.Timetable.{Placing}
+use Rattle.sqlite_trees.proofs.ListLemmas.{all-filter}
 use Rattle.sqlite_trees.specs.Tree as tree
 use Rattle.exam_model.specs.Pairs.{Pair}
 use Rattle.exam_model.proofs.SumLemmas.{IsChain, each_weaker}
@@ -24,6 +26,8 @@ use Rattle.exam_score.specs.Track.{track}
 use Rattle.exam_score.proofs.ConcernedLemmas.{edit_is, track_is}
 use Rattle.office_model.specs.declared.fault.StoreFault.TheVariants.{BadSchema}
 use Rattle.office_records.specs.Stands.{IsKept}
+use Rattle.office_records.proofs.ReadableLemmas.{are_readable}
+use Rattle.office_tables.specs.Records.{FitsEnrol}
 use Rattle.office_tables.specs.Selections.{HerEnrolsRise, IsInOrder}
 use Rattle.office_tables.specs.Tables.{Tables, Stands}
 use Rattle.office_tables.specs.declared.rows.EnrolRow.{EnrolRow}
@@ -401,6 +405,21 @@ rows_had store a b E had s n is found order =
     (subst (λ k. found ≡ map (her_row k) (exams_sat had.records.enrolments k)) is
     (rows_read had.kept.held had.records n found had.kept.stands had.kept.office
     (order had.clean had.kept.held had.kept.tables)))
+
+-- her rows have a reading
+pub rows_fit : {S : Type 0} (store : Ghosts S) (a b : Held S) (E : Enrolled)
+    → HadEnrolments store a b E → (n : ℕ) (found : Option (Vec EnrolRow Global))
+    → (HasCleanDisk (state store b) → (t : Tables) → Stands (state store a).now t
+    → AllByRecursion FitsEnrol (filter (λ (x : EnrolRow). eqb x.student n) t.enrol) → IsSome found)
+    → IsSome found
+rows_fit store a b E had n found reads =
+    let t = had.kept.held in
+    reads had.clean t had.kept.tables
+    (all-filter FitsEnrol (λ (x : EnrolRow). eqb x.student n) t.enrol
+    (are_readable t (Some had.records) had.kept.stands had.kept.sound had.kept.office).enrol)
+
+pub some_is : {X : Type 0} (P : X → Type 0) (o : Option X) (x : X) → o ≡ Some x → IfSome o P → P x
+some_is P o x is h = subst (λ (o : Option X). IfSome o P) is h
 
 pub sat_up : (E : Enrolled) (s : ℕ) → IsAscending (exams_sat E s)
 sat_up E s = ascending_from_chain (exams_sat E s) (chained (exams_sat E s) (sat_rise E s))

@@ -19,7 +19,7 @@ use exam_model::{Enrolments, ExamNo, Instance, StudentNo};
 use exam_score::{EditFold, Parts};
 use exam_terms::limits::MAX_PAIRS;
 use office_model::StoreFault;
-use office_tables::{EnrolRow, enrols_of};
+use office_tables::{EnrolRow, find_enrols_of};
 use sqlite::{Alter, Connection};
 use std::alloc::{AllocError, Global};
 
@@ -142,7 +142,8 @@ fn fold_exams(fold: &mut EditFold, student: StudentNo, exams: &[ExamNo]) -> Resu
     Ok(())
 }
 
-// The exams that the file has of a student, ascending. `BadSchema`: its rows are out of order.
+// The exams that the file has of a student, ascending. `BadSchema`: a row of hers has no reading, or
+// they are out of order.
 fn read_exams<S: Alter>(
     alloc: Global,
     conn: &mut Connection<S>,
@@ -156,9 +157,11 @@ fn read_exams<S: Alter>(
     ensures read { HasRead S.Store conn.old conn.new }
     ensures same { OnOk result (IsSame S.Store conn.old conn.new) }
 {
-    let rows = match enrols_of(alloc, conn, student.get()) {
-        Ok(rows) => rows,
-        Err(_) => return Err(StoreFault::Store),
+    let Ok(found) = find_enrols_of(alloc, conn, student.get()) else {
+        return Err(StoreFault::Store);
+    };
+    let Some(rows) = found else {
+        return Err(StoreFault::BadSchema);
     };
     exams_in_order(alloc, student, &rows)
 }

@@ -1,15 +1,16 @@
-use Rattle.std.proofs.Common.{◌≡◌, ◌∙◌, ℕ, Vec, sym}
+use Rattle.std.proofs.Common.{◌≡◌, ◌∙◌, ℕ, Vec, None, rules, sym, subst}
+use Rattle.std.specs.Prelude.{IsSome}
 use Rattle.exam_model.specs.Changes.{exams_sat}
-use Rattle.office_tables.specs.declared.rows.EnrolRow.{EnrolRow}
 use Rattle.std.specs.declared.alloc.Global.{Global}
-use Rattle.office_store.proofs.FoldingLemmas.{exams_are, ok_weaker, rows_had, sat_up}
+use Rattle.office_store.proofs.FoldingLemmas.{exams_are, ok_weaker, rows_fit, rows_had, sat_up, some_is}
 use Rattle.office_store.proofs.folding.read_exams.Goals as goal
 
 pub returns-clause-hers : goal.returns-clause-hers
 returns-clause-hers g c E had =
     let s = c.args.student in
-    let rows = rows_had g.S.Store c.args.conn.now c.enrols_of.new.conn E had s c.get.result
-    c.get.ensures.number c.in-Ok.rows.items c.in-Ok.ensures.in_order in
+    let rows = rows_had g.S.Store c.args.conn.now c.find_enrols_of.new.conn E had s c.get.result
+    c.get.ensures.number c.in-Some.rows.items
+    (λ k t h. some_is _ _ _ c.in-Some.is (c.in-Ok.ensures.in_order k t h)) in
     ok_weaker _ _ c.exams_in_order.result
     (λ (exams : Vec ℕ Global) are. sym (exams_are s c.deref.result.now exams.items are)
     ∙ exams_are s c.deref.result.now (exams_sat E s) (c.deref.ensures.value ∙ rows))
@@ -18,6 +19,15 @@ returns-clause-hers g c E had =
 pub returns-clause-fault : goal.returns-clause-fault
 returns-clause-fault g c E had =
     let s = c.args.student in
-    let rows = rows_had g.S.Store c.args.conn.now c.enrols_of.new.conn E had s c.get.result
-    c.get.ensures.number c.in-Ok.rows.items c.in-Ok.ensures.in_order in
+    let rows = rows_had g.S.Store c.args.conn.now c.find_enrols_of.new.conn E had s c.get.result
+    c.get.ensures.number c.in-Some.rows.items
+    (λ k t h. some_is _ _ _ c.in-Some.is (c.in-Ok.ensures.in_order k t h)) in
     c.exams_in_order.ensures.fault (exams_sat E s) (c.deref.ensures.value ∙ rows) (sat_up E s)
+
+-- over a clean disk her rows have a reading
+pub returns-in_default-2-clause-fault : goal.returns-in_default-2-clause-fault
+returns-in_default-2-clause-fault g c E had =
+    let read = rows_fit g.S.Store c.args.conn.now c.find_enrols_of.new.conn E had c.get.result
+    c.in-Ok.found c.in-Ok.ensures.found in
+    let none : c.in-Ok.found ≡ None = search rules in
+    absurd (subst IsSome none read)

@@ -10,16 +10,16 @@ pub returns-in_err-rows-clause-looks : goal.returns-in_err-rows-clause-looks
 returns-in_err-rows-clause-looks g c tree show lists =
     c.list_rows.ensures.looks tree lists.terms _ lists.lists
 
-pub returns-then-not-branch-clause-looks : goal.returns-then-not-branch-clause-looks
-returns-then-not-branch-clause-looks g c tree show lists =
+pub returns-then-not-numbers_rise-clause-looks : goal.returns-then-not-numbers_rise-clause-looks
+returns-then-not-numbers_rise-clause-looks g c tree show lists =
     c.list_rows.ensures.looks tree lists.terms _ lists.lists
 
-pub returns-then-not-branch-clause-same : goal.returns-then-not-branch-clause-same
-returns-then-not-branch-clause-same g c tree show lists clean tables =
+pub returns-then-not-numbers_rise-clause-same : goal.returns-then-not-numbers_rise-clause-same
+returns-then-not-numbers_rise-clause-same g c tree show lists clean tables =
     c.in_ok-rows.ensures.same tree lists.terms _ lists.lists clean tables
 
-pub returns-then-not-branch-clause-found : goal.returns-then-not-branch-clause-found
-returns-then-not-branch-clause-found g c tree show lists clean tables =
+pub returns-then-not-numbers_rise-clause-found : goal.returns-then-not-numbers_rise-clause-found
+returns-then-not-numbers_rise-clause-found g c tree show lists clean tables =
     let old = state g.S.Store c.args.conn.now in
     let rows = c.in_ok-rows.rows.items in
     let width = g.R.Record.WIDTH in
@@ -31,7 +31,7 @@ returns-then-not-branch-clause-found g c tree show lists clean tables =
     listed_rise width tree show lists.terms old.now.trees rows whole answer holds.rowids in
     let yes = c.numbers_rise.ensures.1 (subst₂ ColumnRises (sym c.WIDTH.ensures)
     (sym c.deref.ensures.value) rise) in
-    let no = c.if-not-branch.true in
+    let no = c.if-not-numbers_rise.true in
     search rules
 
 pub returns-clause-looks : goal.returns-clause-looks
@@ -51,7 +51,7 @@ returns-clause-found g c tree show lists clean tables =
     let whole = lists.whole old.now tables.schema (tables.live same.0.was_open).0 in
     let list = all_listed tree lists.terms _ old.now.trees rows
     (c.in_ok-rows.ensures.rows tree lists.terms _ lists.lists clean tables) in
-    let rising : IsTrue c.numbers_rise.result = let f = c.if-not-branch.false in search rules in
+    let rising : IsTrue c.numbers_rise.result = let f = c.if-not-numbers_rise.false in search rules in
     let rise : ColumnRises width rows =
     subst₂ ColumnRises c.WIDTH.ensures c.deref.ensures.value (c.numbers_rise.ensures.0 rising) in
     IfOk-weaker c.read_each.result _ _

@@ -60,7 +60,7 @@ rows-preserved g c =
             advanced c.args.sql.now (bound c.args.params.now) was.0 was.1,
             unchanged_then old (state g.S.Store mid) (state g.S.Store now) was.2
                 (c.in_ok-advance.ensures.same clean),
-            c.in_ok-with_row.ensures was.0 was.3,
+            c.in_ok-found.ensures was.0 was.3,
           );
     }
 
