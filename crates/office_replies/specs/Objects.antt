@@ -4,6 +4,7 @@ use Rattle.std.specs.List.{flat_map}
 use Rattle.office_replies.specs.declared.objects.Member.{Member}
 use Rattle.office_replies.specs.declared.objects.Says.{Says}
 use Rattle.office_replies.specs.declared.objects.Says.TheVariants.{Number, Word}
+use Rattle.office_replies.specs.declared.objects.TheConstants.{WORD_BYTES}
 
 -- a key, and the text of what it says
 pub record PlainMember : Type 0 where
@@ -45,12 +46,12 @@ said_text (Word w) = quoted w.now
 abbrev pub plain_member : Member → PlainMember
 plain_member m = record { key = m.key.now; says = said_text m.says }
 
--- a word of at most 16 bytes
+-- a short word
 abbrev pub IsShortSaid : Says → Type 0
 IsShortSaid (Number n) = Unit {0}
-IsShortSaid (Word w) = length w.now ≤ 16
+IsShortSaid (Word w) = length w.now ≤ WORD_BYTES
 
 -- so are a member's key and its word
 pub record IsShort (m : Member) : Type 0 where
-  pub key : length m.key.now ≤ 16
+  pub key : length m.key.now ≤ WORD_BYTES
   pub says : IsShortSaid m.says

@@ -13,6 +13,13 @@ use std::alloc::{AllocError, Global};
 /// The bytes kept for a reply to a change.
 pub const REPLY_ROOM: usize = 256;
 
+// The most bytes of a key or a word, of what a member says (twenty digits), and of a member.
+const WORD_BYTES: usize = 16;
+
+const SAID_BYTES: usize = 20;
+
+const MEMBER_BYTES: usize = 45;
+
 /// A member of an object.
 #[derive(Clone, Copy)]
 pub(crate) struct Member {
@@ -96,9 +103,9 @@ fn put_object(room: &mut Vec<u8>, first: Member, others: &[Member])
 #[tactic(auto, unfolding(crate::specs::Objects::member_text))]
 fn put_member(room: &mut Vec<u8>, member: Member)
     requires short { IsShort member }
-    requires room { vec_len room.old + 45 ≤ vec_capacity room.old }
+    requires room { vec_len room.old + MEMBER_BYTES ≤ vec_capacity room.old }
     ensures text { room.new.items ≡ room.old.items ++ member_text (plain_member member) }
-    ensures len { vec_len room.new ≤ vec_len room.old + 45 }
+    ensures len { vec_len room.new ≤ vec_len room.old + MEMBER_BYTES }
     ensures room { vec_capacity room.old ≤ vec_capacity room.new }
 {
     put(room, b"\"");
@@ -110,9 +117,9 @@ fn put_member(room: &mut Vec<u8>, member: Member)
 // Adds what a member says, for which there is room.
 fn put_said(room: &mut Vec<u8>, says: Says)
     requires short { IsShortSaid says }
-    requires room { vec_len room.old + 20 ≤ vec_capacity room.old }
+    requires room { vec_len room.old + SAID_BYTES ≤ vec_capacity room.old }
     ensures text { room.new.items ≡ room.old.items ++ said_text says }
-    ensures len { vec_len room.new ≤ vec_len room.old + 20 }
+    ensures len { vec_len room.new ≤ vec_len room.old + SAID_BYTES }
     ensures room { vec_capacity room.old ≤ vec_capacity room.new }
 {
     match says {
@@ -124,9 +131,9 @@ fn put_said(room: &mut Vec<u8>, says: Says)
 // Adds a number in decimal, for which there is room.
 #[tactic(auto, using(crate::proofs::LengthLemmas::decimal_is_short))]
 fn put_number(room: &mut Vec<u8>, number: u64)
-    requires room { vec_len room.old + 20 ≤ vec_capacity room.old }
+    requires room { vec_len room.old + SAID_BYTES ≤ vec_capacity room.old }
     ensures text { room.new.items ≡ room.old.items ++ decimal number }
-    ensures len { vec_len room.new ≤ vec_len room.old + 20 }
+    ensures len { vec_len room.new ≤ vec_len room.old + SAID_BYTES }
     ensures room { vec_capacity room.old ≤ vec_capacity room.new }
 {
     let mut digits = Buffer::new();
@@ -135,10 +142,10 @@ fn put_number(room: &mut Vec<u8>, number: u64)
 
 // Adds a word between quotes, for which there is room.
 fn put_word(room: &mut Vec<u8>, word: &[u8])
-    requires short { length word.now ≤ 16 }
-    requires room { vec_len room.old + 20 ≤ vec_capacity room.old }
+    requires short { length word.now ≤ WORD_BYTES }
+    requires room { vec_len room.old + SAID_BYTES ≤ vec_capacity room.old }
     ensures text { room.new.items ≡ room.old.items ++ quoted word.now }
-    ensures len { vec_len room.new ≤ vec_len room.old + 20 }
+    ensures len { vec_len room.new ≤ vec_len room.old + SAID_BYTES }
     ensures room { vec_capacity room.old ≤ vec_capacity room.new }
 {
     put(room, b"\"");
