@@ -419,7 +419,7 @@ rows_fit store a b E had n found reads =
     (are_readable t (Some had.records) had.kept.stands had.kept.sound had.kept.office).enrol)
 
 pub some_is : {X : Type 0} (P : X → Type 0) (o : Option X) (x : X) → o ≡ Some x → IfSome o P → P x
-some_is P o x is h = subst (λ (o : Option X). IfSome o P) is h
+some_is {X} P o x is h = subst (λ (o : Option X). IfSome o P) is h
 
 pub sat_up : (E : Enrolled) (s : ℕ) → IsAscending (exams_sat E s)
 sat_up E s = ascending_from_chain (exams_sat E s) (chained (exams_sat E s) (sat_rise E s))

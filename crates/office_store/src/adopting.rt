@@ -21,8 +21,7 @@ use std::alloc::Global;
 impl<S: Alter> Office<S> {
     /// Takes over a database that holds an office. `BadSchema`: the tables are not those of an
     /// office, or what they hold is not what it should be. `Store`: a statement failed, memory was
-    /// refused, a transaction is open, or the row numbers of a table don't ascend, which no file
-    /// that SQLite wrote shows. A refusal hands the connection back; nothing changes.
+    /// refused, or a transaction is open. A refusal hands the connection back; nothing changes.
     pub fn adopt(
         alloc: Global,
         conn: Connection<S>,

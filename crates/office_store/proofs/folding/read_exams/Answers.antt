@@ -25,8 +25,8 @@ returns-clause-fault g c E had =
     c.exams_in_order.ensures.fault (exams_sat E s) (c.deref.ensures.value ∙ rows) (sat_up E s)
 
 -- over a clean disk her rows have a reading
-pub returns-in_default-2-clause-fault : goal.returns-in_default-2-clause-fault
-returns-in_default-2-clause-fault g c E had =
+pub returns-in_default-found-clause-fault : goal.returns-in_default-found-clause-fault
+returns-in_default-found-clause-fault g c E had =
     let read = rows_fit g.S.Store c.args.conn.now c.find_enrols_of.new.conn E had c.get.result
     c.in-Ok.found c.in-Ok.ensures.found in
     let none : c.in-Ok.found ≡ None = search rules in

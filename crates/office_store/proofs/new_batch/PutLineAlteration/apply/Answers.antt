@@ -16,10 +16,10 @@ returns-then-self-clause-makes g c =
     let what : c.get-exam.result ≡ change.exam = search rules in
     let row : EnrolRow = record { student = c.get-student.result; exam = c.get-exam.result } in
     changes_as g.S.Store (with_enrol row) (line_put change) c.args.tx.now.conn.now
-    c.apply.new.tx.conn.now c.apply.result
-    (λ t. subst (Stands (state g.S.Store c.apply.new.tx.conn.now).now)
+    c.apply-then-self.new.tx.conn.now c.apply-then-self.result
+    (λ t. subst (Stands (state g.S.Store c.apply-then-self.new.tx.conn.now).now)
     (line_comes change row add (λ i. record { student = who i; exam = what i }) t))
-    c.apply.ensures.makes
+    c.apply-then-self.ensures.makes
 
 pub returns-else-self-clause-makes : goal.returns-else-self-clause-makes
 returns-else-self-clause-makes g c =
@@ -28,7 +28,7 @@ returns-else-self-clause-makes g c =
     let who : c.get-student.result ≡ change.student = search rules in
     let what : c.get-exam.result ≡ change.exam = search rules in
     changes_as g.S.Store (without_enrol c.get-student.result c.get-exam.result) (line_put change)
-    c.args.tx.now.conn.now c.apply-2.new.tx.conn.now c.apply-2.result
-    (λ t. subst (Stands (state g.S.Store c.apply-2.new.tx.conn.now).now)
+    c.args.tx.now.conn.now c.apply-else-self.new.tx.conn.now c.apply-else-self.result
+    (λ t. subst (Stands (state g.S.Store c.apply-else-self.new.tx.conn.now).now)
     (line_goes change c.get-student.result c.get-exam.result drop who what t))
-    c.apply-2.ensures.makes
+    c.apply-else-self.ensures.makes

@@ -34,7 +34,7 @@ returns-clause-runs g c =
     c.in_ok-look.ensures.awake (stays_by g.S.Store c.args.self.now c.look.new.self c.in_ok-look.ensures.still)
     c.put.new.conn c.self.inside.kept tt c.put.ensures.clean
     (λ k. owner_moves _ _ c.in-Some.instance c.in-Some.field-0-1 c.in-Some.is c.args.exam
-    c.args.dept _ exists c.requires.dept c.get-2.result c.get-2.ensures c.new_owner.result c.new_owner.ensures
+    c.args.dept _ exists c.requires.dept c.get-exam.result c.get-exam.ensures c.new_owner.result c.new_owner.ensures
     (c.in_ok-put.ensures.done k).makes)
 
 pub invariant_of-self-2 : goal.invariant_of-self-2
@@ -47,7 +47,7 @@ invariant_of-self-2 g c =
           c.self.invariant.1 c.put.ensures.clean
           (λ k. (c.in_ok-put.ensures.done k).was_open)
           (λ k. owner_moves _ _ c.in-Some.instance c.in-Some.field-0-1 c.in-Some.is c.args.exam
-          c.args.dept _ exists c.requires.dept c.get-2.result c.get-2.ensures c.new_owner.result c.new_owner.ensures
+          c.args.dept _ exists c.requires.dept c.get-exam.result c.get-exam.ensures c.new_owner.result c.new_owner.ensures
           (c.in_ok-put.ensures.done k).makes),
       c.self.invariant.2,
     )
