@@ -30,4 +30,4 @@ returns-in_default-found-clause-fault g c E had =
     let read = rows_fit g.S.Store c.args.conn.now c.find_enrols_of.new.conn E had c.get.result
     c.in-Ok.found c.in-Ok.ensures.found in
     let none : c.in-Ok.found ≡ None = search rules in
-    absurd (subst IsSome none read)
+    absurd (let no = subst IsSome none read in cc)

@@ -16,10 +16,10 @@ returns-then-self-clause-makes g c =
     let what : c.get-exam.result ≡ change.exam = search rules in
     let row : EnrolRow = record { student = c.get-student.result; exam = c.get-exam.result } in
     changes_as g.S.Store (with_enrol row) (line_put change) c.args.tx.now.conn.now
-    c.apply-then-self.new.tx.conn.now c.apply-then-self.result
-    (λ t. subst (Stands (state g.S.Store c.apply-then-self.new.tx.conn.now).now)
+    c.apply.new.tx.conn.now c.apply.result
+    (λ t. subst (Stands (state g.S.Store c.apply.new.tx.conn.now).now)
     (line_comes change row add (λ i. record { student = who i; exam = what i }) t))
-    c.apply-then-self.ensures.makes
+    c.apply.ensures.makes
 
 pub returns-else-self-clause-makes : goal.returns-else-self-clause-makes
 returns-else-self-clause-makes g c =
