@@ -58,7 +58,6 @@ asked_in (Ok asked) old reply new told =
     Some (record { caller = asked.caller; command = asked.command; answer = told.0 })
 asked_in (Err refusal) old reply new told = None
 
--- one request of a run: the office before it, what was asked, the reply, the office after it
 abbrev pub entry : (old : OfficeState) (request : PlainRequest) (reply : PlainReply)
     (new : OfficeState) → Replies old request reply new → Entry
 entry old request reply new told = record {
