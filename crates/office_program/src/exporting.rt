@@ -15,8 +15,7 @@ ghost use Rattle.office_program.specs.FaultLines.{IsOfExport};
 use crate::faults::{ProgramFault, fault_of_export, fault_of_open};
 use crate::telling::{LongWork, tell};
 use office_files::{FaultKind, write_solution};
-use office_store::{Office, StoreFault};
-use sqlite::{Alter, Connection};
+use office_http::{Alter, Connection, Office, StoreFault};
 use std::alloc::Global;
 use std::io::Write;
 

@@ -9,7 +9,7 @@ use crate::loading::LoadFault;
 use office_check::{CheckFault, InputFault};
 use office_connections::RunFault;
 use office_files::{FaultKind, FileFault};
-use office_store::{Refusal, StoreFault};
+use office_http::{Refusal, StoreFault};
 use sqlite::{Error, ErrorCode};
 use std::fmt;
 

@@ -8,8 +8,7 @@ ghost use Rattle.office_store.specs.Running.{Now};
 ghost use Rattle.office_store.specs.Opening.{IsOfficeOf};
 ghost use Rattle.office_program.specs.Load.{Loads, NamesTextFault, PrintsCounts, RefusesLoad, loaded_text};
 
-use office_store::{Loaded, Office, StoreFault};
-use sqlite::{Alter, Connection};
+use office_http::{Alter, Connection, Loaded, Office, StoreFault};
 use std::alloc::Global;
 use std::fmt;
 use std::io::{self, Write};

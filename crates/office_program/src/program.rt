@@ -7,6 +7,7 @@ ghost use Rattle.std.specs.declared.io.ErrorKind.TheVariants as failure;
 ghost use Rattle.clap.specs.Words.{kind_of};
 ghost use Rattle.clap.specs.Faults.{fault_of};
 ghost use Rattle.clap.specs.declared.error.kind.ErrorKind.TheVariants as kind;
+ghost use Rattle.exam_terms.specs.declared.limits.TheConstants.{INSTANCE_BYTES};
 ghost use Rattle.office_check.specs.Check.{WritesReport};
 ghost use Rattle.office_program.specs.FaultLines.{IsOfCheck, IsOfLoad, IsOfOffice, fault_line, not_text_line};
 ghost use Rattle.office_program.specs.Load.{PrintsCounts};
@@ -23,7 +24,7 @@ use crate::words::{Task, read_words};
 use clap::Error;
 use clap::error::ErrorKind;
 use office_check::{InputFault, check_run, instance_text};
-use sqlite::{Alter, Connection};
+use office_http::{Alter, Connection};
 use std::alloc::Global;
 use std::io::Write;
 use std::rt::Files;
@@ -56,7 +57,7 @@ fn check<'a, R: Files + AllocGlobal, W: Write>(
 
 // The whole text of an instance's file.
 fn text_at<R: Files + AllocGlobal>(rt: &R, path: &str) -> Result<Vec<u8>, InputFault>
-    ensures short { IfOk result (λ text. length text.items ≤ 4194304) }
+    ensures short { IfOk result (λ text. length text.items ≤ INSTANCE_BYTES) }
 {
     let Ok(mut file) = fs::open(rt, path) else {
         return Err(InputFault::Read);

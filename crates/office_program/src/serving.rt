@@ -15,10 +15,8 @@ use crate::faults::{ProgramFault, fault_of_open, fault_of_run};
 use crate::telling::{LongWork, TellingMachine, tell};
 use crate::words::Terms;
 use office_connections::{Plan, listen, serve_run};
-use office_http::{AnsweringDesk, Desk, Routes};
+use office_http::{Alter, AnsweringDesk, Connection, Desk, Office, Routes};
 use office_messages::Machine;
-use office_store::Office;
-use sqlite::{Alter, Connection};
 use std::io::Write;
 use std::time::Duration;
 

@@ -47,7 +47,7 @@ pub struct Terms {
     pub patience: u32,
 }
 
-// The bounds of the numbers of `serve`.
+// The greatest numbers of `serve`: a port, connections, and a day in seconds.
 const MOST_PORT: u32 = 65_535;
 
 const MOST_CONNECTIONS: u32 = 1_000_000;
@@ -121,7 +121,7 @@ fn patience_option<'a>(alloc: Global) -> Arg<'a>
         .value_name("SECONDS")
         .help("How long a client may take for a message, and for a reply")
         .default_value("30")
-        .value_parser(value_parser!(u32).range(1..=86_400))
+        .value_parser(value_parser!(u32).range(1..=i64::from(MOST_PATIENCE)))
 }
 
 // The option that says on which port the office listens.
@@ -134,7 +134,7 @@ fn port_option<'a>(alloc: Global) -> Arg<'a>
         .value_name("N")
         .help("The port of 127.0.0.1; 0 takes any")
         .required(true)
-        .value_parser(value_parser!(u16).range(0..=65_535))
+        .value_parser(value_parser!(u16).range(0..=i64::from(MOST_PORT)))
 }
 
 // The option that says how many connections are served.
@@ -147,7 +147,7 @@ fn connections_option<'a>(alloc: Global) -> Arg<'a>
         .value_name("K")
         .help("How many connections are served")
         .required(true)
-        .value_parser(value_parser!(u32).range(1..=1_000_000))
+        .value_parser(value_parser!(u32).range(1..=i64::from(MOST_CONNECTIONS)))
 }
 
 // The command `serve`.
