@@ -4,7 +4,7 @@ ghost use Rattle.sqlite.specs.Held.{state};
 ghost use Rattle.sqlite.specs.State.{HasCleanDisk};
 ghost use Rattle.office_policy.specs.Commands.{IfGiven, batch, clear, drop_draft, load, move};
 ghost use Rattle.office_policy.specs.Commands.{new_draft, place, plain_text, publish, set_owner, swap};
-ghost use Rattle.exam_terms.specs.declared.limits.TheConstants.{MAX_BATCH};
+ghost use Rattle.exam_terms.specs.declared.limits.TheConstants.{MAX_BATCH, MAX_DEPARTMENT};
 ghost use Rattle.office_model.specs.Step.{edit_outcome};
 ghost use Rattle.office_desk.specs.Performing.{IsGiven, Performs, Yields};
 
@@ -35,7 +35,7 @@ pub(crate) fn set_owner<S: Alter>(
     exam: ExamNo,
     body: Body<u32>,
 ) -> Result<Answer, Answer>
-    requires { IfGiven body (λ dept. dept ≤ 999) }
+    requires { IfGiven body (λ dept. dept ≤ MAX_DEPARTMENT) }
     ensures performs { Performs S.Store (set_owner exam body) office.old office.new result }
     ensures clean { HasCleanDisk (state S.Store office.new)
         → HasCleanDisk (state S.Store office.old) }

@@ -15,4 +15,5 @@ pub use office_model::{
     quiet_run, quiet_step, same_changes_same_view, same_view_same_answer, shown_changes_nothing,
     told_by_view,
 };
-pub use office_store::{Edit, Office, Refusal, StoreFault};
+pub use office_reports::{penalty_report, rooms_report, violation_report};
+pub use office_store::{Edit, Loaded, Office, Refusal, StoreFault};

@@ -10,8 +10,10 @@ pub use laws::{
     each_told_by_view, quiet_message, quiet_messages, same_changes_same_view, same_view_same_bytes,
     same_view_same_output, same_view_same_replies, told_by_view,
 };
-pub use office_desk::{Desk, Refusal, StoreFault};
+pub use office_desk::{
+    Desk, Loaded, Office, Refusal, StoreFault, penalty_report, rooms_report, violation_report,
+};
 pub use office_requests::{End, Reply, Request, Routes, ServeFault, Served};
-pub use office_store::Office;
 pub use replying::reply;
 pub use serving::{AnsweringDesk, serve};
+pub use sqlite::{Alter, Connection};
