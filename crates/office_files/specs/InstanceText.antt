@@ -19,22 +19,27 @@ use Rattle.office_files.specs.declared.weightings.Weighting.{Weighting}
 use Rattle.office_files.specs.declared.fault.FaultKind.TheVariants.{TooLong, StrayText}
 use Rattle.office_files.specs.declared.fault.FileFault.{FileFault}
 
--- how each section begins
+-- how the section of the exams begins: its word, then how many lines it has
 abbrev pub exams_heading : Heading
 exams_heading = record { word = codes "Exams"; limit = Some MAX_EXAMS }
 
+-- how that of the periods begins
 abbrev pub periods_heading : Heading
 periods_heading = record { word = codes "Periods"; limit = Some MAX_PERIODS }
 
+-- how that of the rooms begins
 abbrev pub rooms_heading : Heading
 rooms_heading = record { word = codes "Rooms"; limit = Some MAX_ROOMS }
 
+-- how that of the rules on periods begins: its word alone
 abbrev pub period_rules_heading : Heading
 period_rules_heading = record { word = codes "PeriodHardConstraints"; limit = None }
 
+-- how that of the rules on rooms begins
 abbrev pub room_rules_heading : Heading
 room_rules_heading = record { word = codes "RoomHardConstraints"; limit = None }
 
+-- how that of the weightings begins
 abbrev pub weightings_heading : Heading
 weightings_heading = record { word = codes "InstitutionalWeightings"; limit = None }
 

@@ -83,12 +83,13 @@ period_line counts before fields = period_in fields
 abbrev pub room_line : Counts → List Room → List (List ℕ) → Result Room FaultKind
 room_line counts before fields = room_in fields
 
--- a line of a section of rules, of which there are at most 5,000
+-- a line of the rules on periods, of which there are at most so many
 abbrev pub period_rule_line : Counts → List PeriodRule → List (List ℕ) → Result PeriodRule FaultKind
 period_rule_line counts before fields = do
   _ ← unless (nat_lt (length before) MAX_RULES) OutOfRange
   period_rule_in counts.exams fields
 
+-- a line of the rules on rooms, of which there are at most as many
 abbrev pub room_rule_line : Counts → List RoomRule → List (List ℕ) → Result RoomRule FaultKind
 room_rule_line counts before fields = do
   _ ← unless (nat_lt (length before) MAX_RULES) OutOfRange

@@ -5,7 +5,7 @@ use Rattle.office_requests.specs.Requests.{PlainAsked, GivesAsked, refusal_reply
 use Rattle.office_requests.specs.declared.requests.Refusal.{Refusal}
 use Rattle.office_requests.specs.declared.requests.Refusal.TheVariants as refusal
 use Rattle.office_model.specs.Answers as answers
-use Rattle.office_model.specs.Answers.{PlainAnswer, shows}
+use Rattle.office_model.specs.Answers.{PlainAnswer}
 use Rattle.office_model.specs.Office.{OfficeState}
 use Rattle.office_model.specs.Step.{Steps}
 use Rattle.office_model.proofs.ToldLemmas.{shown_stays}

@@ -58,6 +58,7 @@ asked_in (Ok asked) old reply new told =
     Some (record { caller = asked.caller; command = asked.command; answer = told.0 })
 asked_in (Err refusal) old reply new told = None
 
+-- what a transcript keeps of one message that was replied to
 abbrev pub entry : (old : OfficeState) (request : PlainRequest) (reply : PlainReply)
     (new : OfficeState) → Replies old request reply new → Entry
 entry old request reply new told = record {

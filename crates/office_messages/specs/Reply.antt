@@ -27,9 +27,11 @@ abbrev pub payload_bytes : Payload → List ℕ
 payload_bytes (Fixed bytes) = bytes.now
 payload_bytes (Made bytes) = bytes.items
 
+-- the methods that the field Allow names
 abbrev pub allow_text : Allow → List ℕ
 allow_text allow = allow.methods.now
 
+-- a reply without where its bytes lie in memory
 abbrev pub plain_reply : Reply → PlainReply
 plain_reply r = record {
   status = r.status;

@@ -22,6 +22,7 @@ pub data Item : Type 0 where
   asks : PlainRequest → Item
   fails : Fault → Form → Item
 
+-- how many messages a connection is answered at most
 abbrev pub max_messages : ℕ
 max_messages = 100
 

@@ -4,6 +4,7 @@ use Rattle.http.specs.StatusCode.{code_digits}
 use Rattle.office_messages.specs.declared.statuses.Status.{Status}
 use Rattle.office_messages.specs.declared.statuses.Status.TheVariants as status
 
+-- the number of a status
 abbrev pub code_of : Status → ℕ
 code_of status.Done = 200
 code_of status.Created = 201
@@ -16,6 +17,7 @@ code_of status.PayloadTooLarge = 413
 code_of status.NotImplemented = 501
 code_of status.ServiceUnavailable = 503
 
+-- the words behind it
 abbrev pub phrase_of : Status → List ℕ
 phrase_of status.Done = codes "OK"
 phrase_of status.Created = codes "Created"

@@ -15,10 +15,11 @@ use Rattle.office_messages.specs.declared.form.Form.TheVariants.{Full}
 use Rattle.office_messages.specs.declared.framing.Fault.{Fault}
 use Rattle.office_messages.specs.declared.framing.Fault.TheVariants as faults
 
--- the most fields of a head, and its most bytes
+-- how many fields a head has at most
 abbrev pub max_headers : ℕ
 max_headers = 32
 
+-- how many bytes it has at most
 abbrev pub max_head : ℕ
 max_head = 16384
 

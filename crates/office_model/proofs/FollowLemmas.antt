@@ -12,7 +12,6 @@ use Rattle.exam_publish.specs.Changed.{rows_of}
 use Rattle.office_batches.specs.BatchText.{batch_in}
 use Rattle.office_files.specs.declared.fault.FileFault.{FileFault}
 use Rattle.office_model.specs.declared.counts.Counts.{Counts}
-use Rattle.office_model.specs.declared.fault.StoreFault.{StoreFault}
 use Rattle.office_model.specs.declared.fault.StoreFault.TheVariants.{TooMany, Refused, BatchDiffers}
 use Rattle.office_model.specs.declared.fault.Refusal.TheVariants as refusal
 use Rattle.office_model.specs.Commands.{named}

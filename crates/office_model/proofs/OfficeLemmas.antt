@@ -1,5 +1,5 @@
 -- What a step leaves of an office is an office.
-use Rattle.std.proofs.Common.{◌≡◌, ℕ, ◌≤◌, List, [], ◌∷◌, length, Option, Some, None, Result, Ok, Err, IfOk, refl, ap, sym, subst, ◌∙◌, arith}
+use Rattle.std.proofs.Common.{◌≡◌, ℕ, ◌≤◌, List, [], ◌∷◌, length, Option, Some, None, Result, Ok, Err, IfOk, refl, sym, subst, ◌∙◌}
 use Rattle.std.specs.Prelude.{IsSome, is_none, nat_le}
 use Rattle.std.proofs.lemmas.Bool.{leb-true, ltb-true}
 use Rattle.std.proofs.lemmas.List.{length-replicate}
@@ -32,12 +32,12 @@ use Rattle.office_model.specs.Answers.{now_dropped, now_published, now_enrolled}
 use Rattle.office_model.specs.Batches.{batch_enrolled}
 use Rattle.office_model.specs.Commands.{Gives, draft_dropped, draft_edited, draft_made, first_timetable}
 use Rattle.office_model.specs.Commands.{is_draft_number, loaded, named, owned}
-use Rattle.office_model.specs.Office.{AreEnrolled, AreRecords, IsOffice, OfficeState, Records}
-use Rattle.office_model.specs.Publishing.{draft_published, published_as, unless_refused}
+use Rattle.office_model.specs.Office.{AreRecords, IsOffice, OfficeState, Records}
+use Rattle.office_model.specs.Publishing.{draft_published, unless_refused}
 use Rattle.office_model.specs.Step.{step}
 use Rattle.office_model.specs.declared.fault.Refusal.TheVariants as refusal
 use Rattle.office_model.specs.declared.fault.StoreFault.{StoreFault}
-use Rattle.office_model.specs.declared.fault.StoreFault.TheVariants.{DraftTaken, Loaded, NoDraft, NotLoaded, Refused}
+use Rattle.office_model.specs.declared.fault.StoreFault.TheVariants.{DraftTaken, Loaded, NoDraft, Refused}
 use Rattle.office_model.proofs.RecordLemmas.{are_enrolled, both_true, edited_fits, fresh_records, left_records, made_records, owner_records, published_records}
 use Rattle.office_model.proofs.StepLemmas.{Keeps, step_law, whatever}
 

@@ -1,6 +1,6 @@
 -- Quiet requests leave a view as it was.
 use Rattle.std.proofs.Common.{◌≡◌, ℕ, List, [], ◌∷◌, Some, None, refl, ◌∙◌, ap, subst, inl, inr, true≢false}
-use Rattle.std.specs.Prelude.{Result, Ok, Err, IfOk}
+use Rattle.std.specs.Prelude.{Ok, Err, IfOk}
 use Rattle.office_batches.specs.BatchText.{batch_in}
 use Rattle.office_policy.specs.Commands.{PlainCommand, load, publish, batch}
 use Rattle.office_policy.specs.declared.callers.Caller.{Caller}

@@ -1,6 +1,5 @@
 -- What is told changes nothing, and a candidate is told what her view says.
-use Rattle.std.proofs.Common.{◌≡◌, ℕ, true, Some, None, refl, ap, sym, subst, ◌∙◌, inl, inr, true≢false}
-use Rattle.std.specs.Prelude.{Result, Ok, Err, IfOk}
+use Rattle.std.proofs.Common.{◌≡◌, ℕ, true, refl, ap, sym, ◌∙◌, inl, inr, true≢false}
 use Rattle.exam_draft.specs.declared.edit.Edit.{Edit}
 use Rattle.exam_draft.specs.declared.edit.Edit.TheVariants as edit
 use Rattle.office_policy.specs.Commands.{PlainCommand, me, load, set_owner, new_draft, drop_draft}

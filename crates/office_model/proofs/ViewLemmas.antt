@@ -1,6 +1,6 @@
 -- A candidate's rows, put together from the places of her exams and her seat rows.
-use Rattle.std.specs.List.{AllByRecursion, cons_option, filter_map, find, list_any}
-use Rattle.std.proofs.Common.{◌≡◌, ℕ, Bool, true, false, cond, ◌||◌, eqb, List, [], ◌∷◌, ◌++◌, map, Option, Some, None, option_map, refl, sym, ◌∙◌, ap, subst, eqb-true, All}
+use Rattle.std.specs.List.{AllByRecursion, cons_option, list_any}
+use Rattle.std.proofs.Common.{◌≡◌, ℕ, Bool, true, false, cond, ◌||◌, eqb, List, [], ◌∷◌, ◌++◌, map, Option, Some, None, option_map, refl, sym, ◌∙◌, ap, eqb-true}
 use Rattle.std.proofs.lemmas.Bool.{eq-eqb}
 use Rattle.std.proofs.lemmas.List.Elements.{recursion_from_All}
 use Rattle.std.proofs.lemmas.List.Folds.{list_any-append}
@@ -12,7 +12,6 @@ use Rattle.exam_publish.proofs.ListLemmas.{any_map, has_ascending}
 use Rattle.office_model.specs.Office.{Publication}
 use Rattle.office_model.specs.ViewRows.{ArePublished, place_in, place_of_seat, places_in, seat_in, view_row}
 use Rattle.office_model.specs.Views.{her_exams, published_place, shown_exam, shown_exams, shown_from, view_from}
-use Rattle.office_model.specs.declared.views.ViewRow.{ViewRow}
 
 -- ---- one exam's place
 

@@ -2,6 +2,7 @@
 use Rattle.std.specs.Prelude.{ℕ, ◌+◌, Bool, true, false, not, ◌&&◌, ◌==◌, nat_le, nat_lt, if◌then◌else◌, List, [], ◌∷◌, length, filter, Option, Some, None, Result, Ok, Err}
 use Rattle.std.specs.List.{find, list_all}
 use Rattle.exam_terms.specs.Refusing.{◌>>=◌, unless}
+use Rattle.exam_terms.specs.declared.limits.TheConstants.{MAX_BATCHES, MAX_PAIRS}
 use Rattle.exam_model.specs.declared.change.Change.{Change}
 use Rattle.exam_model.specs.Changes.{with_pair, without_pair}
 use Rattle.exam_model.specs.Enrolments.{Enrolled, has, pair_count}
@@ -51,7 +52,7 @@ no_counts = record { added = 0; dropped = 0; unchanged = 0 }
 abbrev pub enrolled : List Change → Enrolled → Counts → Result (Counts × Enrolled) StoreFault
 enrolled [] E n = Ok (n, E)
 enrolled (change ∷ changes) E n = do
-  _ ← unless (nat_le (pair_count (after_change change E)) 200000) TooMany
+  _ ← unless (nat_le (pair_count (after_change change E)) MAX_PAIRS) TooMany
   enrolled changes (after_change change E) (counted change E n)
 
 -- ---- batches
@@ -73,7 +74,7 @@ newly_enrolled number bytes changes r = do
   _ ← unless (list_all (λ change. exam_exists r.session change.exam) changes)
       (Refused (refusal.Edit NoSuch))
   done ← enrolled changes r.enrolments no_counts
-  _ ← unless (nat_lt (length r.batches) 10000) TooMany
+  _ ← unless (nat_lt (length r.batches) MAX_BATCHES) TooMany
   Ok (
     done.0,
     Some (record r {

@@ -4,6 +4,7 @@ use Rattle.std.specs.Prelude.{◌≡◌, ℕ, Bool, ◌&&◌, nat_le, List, [], 
 use Rattle.exam_model.specs.Enrolments.{Enrolled, pair_count}
 use Rattle.exam_model.specs.Instance.{Session}
 use Rattle.exam_terms.specs.Refusing.{◌>>=◌, unless, else_err}
+use Rattle.exam_terms.specs.declared.limits.TheConstants.{MAX_DRAFTS}
 use Rattle.exam_model.specs.Timetable.{Placing, unplaced}
 use Rattle.exam_score.specs.Penalty.{Penalty, total_of}
 use Rattle.exam_score.specs.Track.{track}
@@ -98,7 +99,7 @@ first_timetable (b ∷ bytes) I = named (λ f. Refused (refusal.File f)) (soluti
 
 -- drafts are numbered from 1 to 8
 abbrev pub is_draft_number : ℕ → Bool
-is_draft_number d = nat_le 1 d && nat_le d 8
+is_draft_number d = nat_le 1 d && nat_le d MAX_DRAFTS
 
 -- a draft is made where its number is free, of a solution or of nothing
 abbrev pub draft_made : ℕ → List ℕ → OfficeState → Gives ℕ

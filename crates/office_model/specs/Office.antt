@@ -1,5 +1,6 @@
 -- The office: nothing, or the records of one examination session.
 use Rattle.std.specs.Prelude.{◌≡◌, ◌≢◌, ℕ, ◌<◌, ◌≤◌, ◌==◌, if◌then◌else◌, List, length, All, AllPairs, Option, Some, None, IsSome}
+use Rattle.exam_terms.specs.declared.limits.TheConstants.{MAX_BATCH, MAX_BATCHES, MAX_DEPARTMENT, MAX_DRAFTS, MAX_STUDENT, TEXT_BYTES}
 use Rattle.exam_model.specs.Enrolments.{Enrolled, AreEnrolments, students}
 use Rattle.exam_model.specs.Fits.{Fits}
 use Rattle.exam_model.specs.Instance.{Session, IsInstance}
@@ -49,7 +50,7 @@ published_enrolments I p = enrolled_in (length I.exams) p.rows
 pub record AreEnrolled (I : Session) (E : Enrolled) : Type 0 where
   pub set : AreEnrolments E
   pub exams : length E ≡ length I.exams
-  pub students : (e : ℕ) → e < length E → All (λ s. s ≤ 999999999) (students E e)
+  pub students : (e : ℕ) → e < length E → All (λ s. s ≤ MAX_STUDENT) (students E e)
 
 -- each exam has a place, no rule is broken with the enrolments of the rows, each row is at its
 -- exam's place, and each seat is one of its room and nobody else's
@@ -61,12 +62,12 @@ pub record IsPublication (I : Session) (p : Publication) : Type 0 where
 
 -- a batch within its limits
 pub record IsKeptBatch (b : KeptBatch) : Type 0 where
-  pub number : b.no ≤ 999999999
-  pub size : length b.bytes ≤ 1048576
+  pub number : b.no ≤ MAX_BATCH
+  pub size : length b.bytes ≤ TEXT_BYTES
 
 -- batches of different numbers, no more than are kept
 pub record AreKept (batches : List KeptBatch) : Type 0 where
-  pub few : length batches ≤ 10000
+  pub few : length batches ≤ MAX_BATCHES
   pub within : All IsKeptBatch batches
   pub numbers : AllPairs (λ b c. b.no ≢ c.no) batches
 
@@ -74,9 +75,9 @@ pub record AreKept (batches : List KeptBatch) : Type 0 where
 pub record AreRecords (r : Records) : Type 0 where
   pub session : IsInstance r.session
   pub enrolled : AreEnrolled r.session r.enrolments
-  pub departments : (e : ℕ) → r.owner_of e ≤ 999
+  pub departments : (e : ℕ) → r.owner_of e ≤ MAX_DEPARTMENT
   pub owned : (e : ℕ) → r.owner_of e ≢ 0 → e < length r.session.exams
-  pub numbered : (d : ℕ) → IsSome (r.draft d) → (1 ≤ d) × (d ≤ 8)
+  pub numbered : (d : ℕ) → IsSome (r.draft d) → (1 ≤ d) × (d ≤ MAX_DRAFTS)
   pub drafts : (d : ℕ) (T : Placing) → r.draft d ≡ Some T → Fits r.session r.enrolments T
   pub publication : (p : Publication) → r.published ≡ Some p → IsPublication r.session p
   pub batches : AreKept r.batches

@@ -1,5 +1,5 @@
 -- What a candidate's rows are put together from: her exams, places that are known, her seat rows.
-use Rattle.std.specs.Prelude.{◌≡◌, ℕ, ◌==◌, List, map, All, Option, Some, None, option_map, option_and_then}
+use Rattle.std.specs.Prelude.{◌≡◌, ℕ, ◌==◌, List, All, Option, Some, None, option_map, option_and_then}
 use Rattle.std.specs.List.{filter_map, find, list_any}
 use Rattle.exam_terms.specs.declared.place.Place.{Place}
 use Rattle.exam_model.specs.declared.parts.Period.{Period}

@@ -14,6 +14,7 @@ use Rattle.office_policy.specs.declared.command.Body.TheVariants.{Given, Bad, Lo
 abbrev pub json_in : List ℕ → Option Data
 json_in bytes = if is_utf8 bytes then read bytes else None
 
+-- how many members stand in a row
 abbrev pub count : Members → ℕ
 count no_members = 0
 count (member k d ms) = count ms + 1
@@ -22,6 +23,7 @@ count (member k d ms) = count ms + 1
 abbrev pub members_count : Data → Option ℕ
 members_count d = option_map count (as_object d)
 
+-- a number that is not above another
 abbrev pub at_most : ℕ → ℕ → Option ℕ
 at_most most n = if nat_le n most then Some n else None
 

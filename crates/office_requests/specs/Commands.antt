@@ -17,19 +17,22 @@ use Rattle.office_requests.specs.declared.pages.Page.TheVariants as page
 use Rattle.office_requests.specs.declared.requests.Refusal.{Refusal}
 use Rattle.office_requests.specs.declared.requests.Refusal.TheVariants as refusal
 
--- what a method asks for where one alone asks for something
+-- what is asked for where GET alone asks for something
 abbrev pub by_get : PlainCommand → Verb → Option PlainCommand
 by_get c Get = Some c
 by_get c _ = None
 
+-- where PUT alone does
 abbrev pub by_put : PlainCommand → Verb → Option PlainCommand
 by_put c Put = Some c
 by_put c _ = None
 
+-- where POST alone does
 abbrev pub by_post : PlainCommand → Verb → Option PlainCommand
 by_post c Post = Some c
 by_post c _ = None
 
+-- where DELETE alone does
 abbrev pub by_delete : PlainCommand → Verb → Option PlainCommand
 by_delete c Delete = Some c
 by_delete c _ = None
@@ -47,13 +50,15 @@ of_draft d body Put = Some (new_draft d (text_body body))
 of_draft d body Delete = Some (drop_draft d)
 of_draft d body _ = None
 
--- with the number that a segment of the path is; with two numbers, and with three
+-- with the number that a segment of the path is
 abbrev pub with_one : {A : Type 0} → ℕ → (ℕ → A) → List ℕ → Option A
 with_one k made path = option_map (λ n. made n) (number_in k path)
 
+-- with the numbers of a draft and of an exam in it
 abbrev pub with_two : {A : Type 0} → (ℕ → ℕ → A) → List ℕ → Option A
 with_two made path = option_and_then (λ d. with_one 4 (made d) path) (number_in 2 path)
 
+-- with these two and that of another exam
 abbrev pub with_three : {A : Type 0} → (ℕ → ℕ → ℕ → A) → List ℕ → Option A
 with_three made path =
     option_and_then (λ d. option_and_then (λ a. with_one 5 (made d a) path) (number_in 4 path))
@@ -92,5 +97,6 @@ has_json (place d e body) = true
 has_json (move d e body) = true
 has_json _ = false
 
+-- that it has one
 abbrev pub HasJson : PlainCommand → Type 0
 HasJson c = has_json c ≡ true

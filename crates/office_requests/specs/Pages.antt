@@ -10,10 +10,11 @@ use Rattle.office_requests.specs.declared.pages.Page.TheVariants as page
 abbrev pub number : List ℕ
 number = param_token ∷ []
 
--- the pattern of a draft, and those of one of its exams
+-- the pattern of a draft
 abbrev pub draft : List ℕ
 draft = codes "/drafts/" ++ number
 
+-- that of an exam in a draft
 abbrev pub draft_exam : List ℕ
 draft_exam = draft ++ codes "/exams/" ++ number
 

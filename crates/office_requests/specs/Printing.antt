@@ -17,10 +17,11 @@ abbrev pub path_from : List (List ℕ) → List ℕ
 path_from [] = []
 path_from (segment ∷ segments) = slash ∷ (segment ++ path_from segments)
 
--- the segments of a draft, and of one of its exams
+-- the segments of a draft, and those behind them
 abbrev pub draft_segments : ℕ → List (List ℕ) → List (List ℕ)
 draft_segments d more = codes "drafts" ∷ decimal d ∷ more
 
+-- those of an exam in a draft
 abbrev pub slot_segments : ℕ → ℕ → List (List ℕ) → List (List ℕ)
 slot_segments d e more = draft_segments d (codes "exams" ∷ decimal e ∷ more)
 

@@ -61,6 +61,7 @@ pub record PlainAsked : Type 0 where
   pub caller : Caller
   pub command : PlainCommand
 
+-- a request as read, without where a text lies in memory
 abbrev pub plain_asked : Asked → PlainAsked
 plain_asked asked = record { caller = asked.caller; command = plain_command asked.command }
 

@@ -8,6 +8,7 @@ use Rattle.office_messages.specs.declared.statuses.Status.TheVariants as status
 use Rattle.office_requests.specs.declared.texts.FixedError.{FixedError}
 use Rattle.office_requests.specs.declared.texts.FixedError.TheVariants as error
 
+-- the status that goes with an error
 abbrev pub status_of : FixedError → Status
 status_of error.Caller = status.BadRequest
 status_of error.Body = status.BadRequest
@@ -55,5 +56,6 @@ error_text error.AlreadyPlaced = codes "{\"error\":\"already-placed\"}"
 error_text error.NotPlaced = codes "{\"error\":\"not-placed\"}"
 error_text error.SameExam = codes "{\"error\":\"same-exam\"}"
 
+-- its reply: the status, and the text as JSON
 abbrev pub error_reply : FixedError → PlainReply
 error_reply e = json_reply (status_of e) (error_text e)

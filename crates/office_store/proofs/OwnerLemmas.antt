@@ -12,7 +12,7 @@ use Rattle.office_tables.specs.declared.rows.OwnerRow.{OwnerRow}
 use Rattle.office_store.specs.Changes.{new_owner, owner_put}
 use Rattle.exam_model.specs.Enrolments.{Enrolled}
 use Rattle.exam_model.specs.Instance.{Session}
-use Rattle.office_model.specs.Office.{OfficeState, Records, AreRecords, set_at}
+use Rattle.office_model.specs.Office.{OfficeState, Records, set_at}
 use Rattle.office_model.proofs.RecordLemmas.{owner_records}
 use Rattle.office_records.specs.Memory.{Memory, memory_of}
 use Rattle.office_store.proofs.CommandLemmas.{Denies, Moves}

@@ -1,6 +1,6 @@
 -- A publication that is put in.
 use Rattle.std.proofs.Common.{◌≡◌, ℕ, true, not, eqb, List, [], ◌∷◌, ◌++◌}
-use Rattle.std.proofs.Common.{map, filter, reverse, length, Option, Some, None, Result, Ok, Err, refl}
+use Rattle.std.proofs.Common.{map, filter, reverse, Some, None, Result, Ok, Err, refl}
 use Rattle.std.proofs.Common.{sym, ◌∙◌, ap, ap₂, subst, arith}
 use Rattle.std.specs.Prelude.{◌||◌, IsPermutation}
 use Rattle.std.specs.List.{list_any}

@@ -82,7 +82,7 @@ pub fn enrols_of<S: Alter>(
     }
 }
 
-/// The same, or `None`: a row of hers has a number that no enrolment has.
+/// The same, or `None`: a row of hers has an exam's number of more than 32 bits.
 pub fn find_enrols_of<S: Alter>(
     alloc: Global,
     conn: &mut Connection<S>,

@@ -7,8 +7,8 @@ use office_tables::{
     Alteration, Both, DeleteMeta, DeletePartShares, DeletePlacements, DeleteStudentSeats,
     DeleteStudentShare, Each, EnrolRow, InsertEnrol, InsertMeta, InsertPartShare, InsertPlacement,
     InsertSeat, InsertStudentShare, PartShareRow, PlacedRow, SeatRow, StudentShareRow,
-    adopt_tables, enrols_of, is_published, part_shares, placements, placements_of, seats, seats_of,
-    student_shares, student_shares_of, transact,
+    adopt_tables, enrols_of, find_enrols_of, is_published, part_shares, placements, placements_of,
+    seats, seats_of, student_shares, student_shares_of, transact,
 };
 use sqlite::{Connection, MemStore};
 use std::alloc::Global;
@@ -129,6 +129,21 @@ fn a_student_has_her_rows(rt: HostRuntime) -> Result<(), Fail> {
     assert_same(&rt, hers.as_slice(), wanted.as_slice(), "seats");
     let none = placements_of(rt.alloc(), &mut conn, 3)?;
     assert_same(&rt, none.len(), 0, "places of nobody");
+    Ok(())
+}
+
+#[test]
+fn a_number_of_33_bits_has_no_reading(rt: HostRuntime) -> Result<(), Fail> {
+    let mut conn = published(rt.alloc())?;
+    let _count = conn.execute("INSERT INTO enrol VALUES (1, 4294967296)", &[])?;
+    let found = find_enrols_of(rt.alloc(), &mut conn, 1)?;
+    assert_same(&rt, found.is_none(), true, "a row of hers has none");
+    assert_same(&rt, enrols_of(rt.alloc(), &mut conn, 1).is_err(), true, "refused");
+    let Some(found) = find_enrols_of(rt.alloc(), &mut conn, 2)? else {
+        return Err("another's rows have readings")?;
+    };
+    let wanted = [(2, 0), (2, 2)].map(|(student, exam)| EnrolRow { student, exam });
+    assert_same(&rt, found.as_slice(), wanted.as_slice(), "another's rows");
     Ok(())
 }
 

@@ -1,8 +1,8 @@
-use Rattle.std.proofs.Common.{◌≡◌, ℕ, ◌≤◌, List, IfOk, inl, inr, ap, sym, subst, Ok, Err, refl}
+use Rattle.std.proofs.Common.{◌≡◌, ◌≤◌, inl, inr, ap, sym, subst, Ok, Err, refl}
 use Rattle.office_model.specs.Batches.{batch_enrolled}
 use Rattle.office_model.specs.Commands.{Gives}
 use Rattle.office_model.specs.Office.{IsOffice, OfficeState}
-use Rattle.office_model.specs.Step.{Outcome, step}
+use Rattle.office_model.specs.Step.{Outcome}
 use Rattle.office_model.specs.declared.counts.Counts.{Counts}
 use Rattle.office_model.proofs.OfficeLemmas.{Leaves, step_leaves}
 use Rattle.office_enrolment.proofs.laws.step_leaves_an_office.Goals as goal

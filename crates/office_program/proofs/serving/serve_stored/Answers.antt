@@ -1,11 +1,10 @@
-use Rattle.std.proofs.Common.{◌≡◌, ◌∙◌, ap, inl, inr, refl, subst, sym}
+use Rattle.std.proofs.Common.{◌≡◌, ◌∙◌, inl, inr, subst, sym}
 use Rattle.sqlite.specs.Held.{state}
 use Rattle.sqlite.specs.State.{HasCleanDisk}
 use Rattle.office_connections.proofs.ReachLemmas.{reaches_refl}
 use Rattle.office_http.specs.Replying.{Replies}
 use Rattle.office_store.specs.Opening.{IsOfficeOf}
 use Rattle.office_store.specs.Running.{Now}
-use Rattle.office_program.specs.Serve.{ComesTo}
 use Rattle.office_program.proofs.serving.serve_stored.Goals as goal
 
 -- no office was found, and the tables are as they were

@@ -1,6 +1,5 @@
 use Rattle.std.proofs.Common.{[], ◌∷◌, ◌++◌, map, refl, sym, ap, subst, rules, arith, ◌∙◌}
 use Rattle.std.specs.Prelude.{option_copied}
-use Rattle.std.proofs.lemmas.List.{map-append}
 use Rattle.std.proofs.lemmas.Result.{IfErr-at_err}
 use Rattle.sqlite.specs.Given.{Advances}
 use Rattle.sqlite.specs.Held.{state}

@@ -1,4 +1,4 @@
-use Rattle.std.proofs.Common.{◌≡◌, ℕ, ◌≤◌, List, Option, Result, Ok, Err, IfOk, IfErr, sym, arith}
+use Rattle.std.proofs.Common.{◌≡◌, ℕ, ◌≤◌, List, Option, Result, Ok, Err, IfOk, IfErr, arith}
 use Rattle.office_messages.specs.declared.connection.Served.{Served}
 use Rattle.office_messages.specs.declared.connection.ServeFault.{ServeFault}
 use Rattle.office_messages.specs.Serve.{Item, Told, Serves, ServesFront}
