@@ -1,6 +1,7 @@
 -- The lines that are printed while connections are served.
 use Rattle.std.specs.Prelude.{ℕ, ◌≤◌, List, [], ◌∷◌, ◌++◌, Option, codes, decimal}
 use Rattle.std.specs.Io.KnownBytes.{Appends}
+use Rattle.office_connections.specs.declared.listening.TheConstants.{MAX_PORT}
 use Rattle.office_messages.specs.declared.connection.ServeFault.{ServeFault}
 use Rattle.office_messages.specs.declared.connection.ServeFault.TheVariants as fault
 
@@ -26,4 +27,4 @@ listening_line port = codes "listening 127.0.0.1:" ++ decimal port ++ 10 ∷ []
 
 -- the line that tells some port is printed
 abbrev pub PrintsPort : Option (List ℕ) → Option (List ℕ) → Type 0
-PrintsPort old new = (port : ℕ) × (port ≤ 65535) × Appends old new (listening_line port)
+PrintsPort old new = (port : ℕ) × (port ≤ MAX_PORT) × Appends old new (listening_line port)

@@ -7,6 +7,9 @@ use std::io;
 use std::io::Write;
 use std::net::{Ipv4Addr, Net, SocketAddr, TcpListener, TcpStream};
 
+/// The greatest port.
+pub const MAX_PORT: u32 = 65_535;
+
 /// Listens on this port of 127.0.0.1; 0 takes any that is free.
 pub fn listen<R: Net<Listener = TcpListener, Stream = TcpStream>>(
     net: &R,

@@ -9,11 +9,11 @@ use Rattle.clap.specs.declared.builder.command.Command.{Command}
 use Rattle.clap.specs.declared.builder.value_parser.ValueParser.TheVariants.{Signed}
 use Rattle.clap.specs.declared.error.kind.ErrorKind.{ErrorKind}
 use Rattle.clap.specs.declared.error.kind.ErrorKind.TheVariants as kind
+use Rattle.office_connections.specs.declared.listening.TheConstants.{MAX_PORT}
 use Rattle.office_program.specs.declared.words.Task.{Task}
 use Rattle.office_program.specs.declared.words.Task.TheVariants.{Check, Export, Load, Serve}
 use Rattle.office_program.specs.declared.words.Terms.{Terms}
-use Rattle.office_program.specs.declared.words.TheConstants.{MOST_CONNECTIONS, MOST_PATIENCE}
-use Rattle.office_program.specs.declared.words.TheConstants.{MOST_PORT}
+use Rattle.office_program.specs.declared.words.TheConstants.{MAX_CONNECTIONS, MAX_PATIENCE}
 
 -- an argument that has to be there, and has one value
 abbrev pub required_rule : Text → Rule
@@ -39,15 +39,15 @@ numbered rule least most = record rule { parser = Some (Signed (pos least) (pos 
 
 -- the option of the port, which has to be there
 abbrev pub port_rule : Rule
-port_rule = numbered (named_rule (codes "port")) 0 MOST_PORT
+port_rule = numbered (named_rule (codes "port")) 0 MAX_PORT
 
 -- the option of the number of connections, which has to be there
 abbrev pub connections_rule : Rule
-connections_rule = numbered (named_rule (codes "connections")) 1 MOST_CONNECTIONS
+connections_rule = numbered (named_rule (codes "connections")) 1 MAX_CONNECTIONS
 
 -- the option of the patience, which is 30 where it is not given
 abbrev pub patience_rule : Rule
-patience_rule = record (numbered (new_rule (codes "patience")) 1 MOST_PATIENCE) {
+patience_rule = record (numbered (new_rule (codes "patience")) 1 MAX_PATIENCE) {
   long = Some (codes "patience");
   value_names = 1;
   defaults = codes "30" ∷ [];
@@ -104,11 +104,11 @@ HasNumber name rows n =
 -- the numbers found for `serve` are those of the terms, each within its bounds
 abbrev pub HasTerms : List Row → Terms → Type 0
 HasTerms rows terms =
-    HasNumber (codes "port") rows terms.port × (terms.port ≤ MOST_PORT)
+    HasNumber (codes "port") rows terms.port × (terms.port ≤ MAX_PORT)
     × HasNumber (codes "connections") rows terms.connections
-    × (1 ≤ terms.connections) × (terms.connections ≤ MOST_CONNECTIONS)
+    × (1 ≤ terms.connections) × (terms.connections ≤ MAX_CONNECTIONS)
     × HasNumber (codes "patience") rows terms.patience
-    × (1 ≤ terms.patience) × (terms.patience ≤ MOST_PATIENCE)
+    × (1 ≤ terms.patience) × (terms.patience ≤ MAX_PATIENCE)
 
 -- the values found for `serve` are those of the task
 abbrev pub HasServeValues : List Row → Task → Type 0

@@ -19,6 +19,7 @@ ghost use Rattle.office_program.specs.Program.{serve_app};
 
 use crate::helps;
 use clap::{Arg, ArgMatches, Command, Error, value_parser};
+use office_connections::MAX_PORT;
 use std::alloc::{AllocError, Global};
 use std::env::Args;
 use std::io;
@@ -47,12 +48,11 @@ pub struct Terms {
     pub patience: u32,
 }
 
-// The greatest numbers of `serve`: a port, connections, and a day in seconds.
-const MOST_PORT: u32 = 65_535;
+// How many connections `serve` takes at most.
+const MAX_CONNECTIONS: u32 = 1_000_000;
 
-const MOST_CONNECTIONS: u32 = 1_000_000;
-
-const MOST_PATIENCE: u32 = 86_400;
+// The longest patience, a day in seconds.
+const MAX_PATIENCE: u32 = 86_400;
 
 /// The words of the command line, in their order.
 pub fn words_of(alloc: Global, args: Args) -> io::Result<Vec<String>>
@@ -121,7 +121,7 @@ fn patience_option<'a>(alloc: Global) -> Arg<'a>
         .value_name("SECONDS")
         .help("How long a client may take for a message, and for a reply")
         .default_value("30")
-        .value_parser(value_parser!(u32).range(1..=i64::from(MOST_PATIENCE)))
+        .value_parser(value_parser!(u32).range(1..=i64::from(MAX_PATIENCE)))
 }
 
 // The option that says on which port the office listens.
@@ -134,7 +134,7 @@ fn port_option<'a>(alloc: Global) -> Arg<'a>
         .value_name("N")
         .help("The port of 127.0.0.1; 0 takes any")
         .required(true)
-        .value_parser(value_parser!(u16).range(0..=i64::from(MOST_PORT)))
+        .value_parser(value_parser!(u16).range(0..=i64::from(MAX_PORT)))
 }
 
 // The option that says how many connections are served.
@@ -147,7 +147,7 @@ fn connections_option<'a>(alloc: Global) -> Arg<'a>
         .value_name("K")
         .help("How many connections are served")
         .required(true)
-        .value_parser(value_parser!(u32).range(1..=i64::from(MOST_CONNECTIONS)))
+        .value_parser(value_parser!(u32).range(1..=i64::from(MAX_CONNECTIONS)))
 }
 
 // The command `serve`.
@@ -247,9 +247,9 @@ fn terms_of(values: &ArgMatches<'_>) -> Result<Terms, Error>
     ensures ok { IfOk result (HasTerms (rows_of (found_of values.now))) }
     ensures err { IfErr result (λ e. kind_of e ≡ OutOfMemory) }
 {
-    let port = number_of(values, "port", 0, MOST_PORT)?;
-    let connections = number_of(values, "connections", 1, MOST_CONNECTIONS)?;
-    let patience = number_of(values, "patience", 1, MOST_PATIENCE)?;
+    let port = number_of(values, "port", 0, MAX_PORT)?;
+    let connections = number_of(values, "connections", 1, MAX_CONNECTIONS)?;
+    let patience = number_of(values, "patience", 1, MAX_PATIENCE)?;
     Ok(Terms {
         port: port as u16,
         connections,
