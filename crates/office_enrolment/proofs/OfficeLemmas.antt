@@ -22,7 +22,7 @@ use Rattle.office_model.specs.declared.fault.StoreFault.{StoreFault}
 use Rattle.office_model.specs.declared.fault.StoreFault.TheVariants.{BatchDiffers, Refused, TooMany}
 use Rattle.office_model.proofs.RecordLemmas.{are_enrolled}
 use Rattle.office_enrolment.specs.AfterBatch.{after_batch}
-use Rattle.office_enrolment.specs.Keeping.{batch_judged, batch_kept, with_batch}
+use Rattle.office_enrolment.specs.Keeping.{batch_judged, batch_kept, records_with_batch}
 use Rattle.office_enrolment.proofs.LineLemmas.{HaveNumbers, accepted, all_after, all_exams, all_kept}
 
 -- ---- the judgement
@@ -106,7 +106,7 @@ module _ (number : ℕ) (bytes : List ℕ) (small : number ≤ 999999999)
   records_after : (changes : List Change) (r : Records) (done : Counts × Enrolled)
       → HaveNumbers changes → kept_under number r.batches ≡ None → length r.batches < 10000
       → after_batch changes r.enrolments ≡ Ok done → AreRecords r
-      → AreRecords (with_batch number bytes r done)
+      → AreRecords (records_with_batch number bytes r done)
   records_after changes r done known new room is were =
       record {
         session = were.session;
@@ -128,7 +128,7 @@ module _ (number : ℕ) (bytes : List ℕ) (small : number ≤ 999999999)
       → batch_kept number bytes r done ≡ Ok (counts, new) → IsOffice new
   kept_after changes r done counts new known none is were keeps =
       let room : Bool = nat_lt (length r.batches) 10000 in
-      let gave : Counts × OfficeState = (done.0, Some (with_batch number bytes r done)) in
+      let gave : Counts × OfficeState = (done.0, Some (records_with_batch number bytes r done)) in
       let given : Counts × OfficeState = (counts, new) in
       elim room as (λ b. room ≡ b → (unless b TooMany >>= λ _. Ok gave) ≡ Ok given → IsOffice new) [
         | true ↦ λ less same.

@@ -10,7 +10,7 @@ use Rattle.exam_publish.specs.Rows.{row_place}
 use Rattle.exam_publish.specs.declared.seat_row.SeatRow.{SeatRow}
 use Rattle.exam_publish.proofs.ListLemmas.{any_map, has_ascending}
 use Rattle.office_model.specs.Office.{Publication}
-use Rattle.office_model.specs.ViewRows.{ArePublished, place_in, place_of_seat, places_in, seat_in, view_row}
+use Rattle.office_model.specs.ViewRows.{AreOfPublication, place_in, place_of_seat, places_in, seat_in, view_row}
 use Rattle.office_model.specs.Views.{her_exams, published_place, shown_exam, shown_exams, shown_from, view_from}
 
 -- ---- one exam's place
@@ -85,7 +85,7 @@ module _ (published : Option Publication) where
 
 module _ (I : Session) (published : Option Publication) (enrolled : List ℕ)
     (places : List (ℕ × Place)) (seats : List SeatRow)
-    (are : ArePublished published enrolled places seats) where
+    (are : AreOfPublication published enrolled places seats) where
   row_is : (e : ℕ)
       → (list_any (λ x. eqb x e) enrolled || list_any (λ row. eqb row.exam e) seats) ≡ true
       → view_row I.periods enrolled places seats e

@@ -48,8 +48,8 @@ fresh s = record {
 }
 
 -- how much there is of it
-abbrev pub counts_of : Session × Enrolled → counts.Loaded
-counts_of s = record {
+abbrev pub loaded_of : Session × Enrolled → counts.Loaded
+loaded_of s = record {
   exams = length s.0.exams;
   pairs = pair_count s.1;
   periods = length s.0.periods;
@@ -59,7 +59,7 @@ counts_of s = record {
 -- the text spells a session of so much
 abbrev pub SpellsSession : List ℕ → counts.Loaded → Type 0
 SpellsSession bytes counts =
-    (s : Session × Enrolled) × (instance_in bytes ≡ Ok s) × (counts ≡ counts_of s)
+    (s : Session × Enrolled) × (instance_in bytes ≡ Ok s) × (counts ≡ loaded_of s)
 
 -- a text that is refused has this fault first
 abbrev pub NamesFirstFault : List ℕ → StoreFault → Type 0
@@ -70,7 +70,7 @@ abbrev pub loaded : List ℕ → OfficeState → Gives counts.Loaded
 loaded bytes office = do
   s ← named (λ f. Refused (refusal.File f)) (instance_in bytes)
   _ ← unless (is_none office) Loaded
-  Ok (counts_of s, Some (fresh s))
+  Ok (loaded_of s, Some (fresh s))
 
 -- ---- owners
 

@@ -15,7 +15,7 @@ places_in published exams =
     filter_map (λ e. option_map (λ at. (e, at)) (published_place published e)) exams
 
 -- the published places of the exams where she is enrolled, and seat rows each at its exam's place
-pub record ArePublished (published : Option Publication) (enrolled : List ℕ)
+pub record AreOfPublication (published : Option Publication) (enrolled : List ℕ)
     (known : List (ℕ × Place)) (rows : List SeatRow) : Type 0 where
   pub places : known ≡ places_in published enrolled
   pub seats : All (λ row. published_place published row.exam ≡ Some (row_place row)) rows

@@ -4,7 +4,7 @@ ghost use Rattle.std.specs.Prelude.{option_and_then, option_map};
 ghost use Rattle.std.specs.List.{list_any};
 ghost use Rattle.exam_publish.specs.Changed.{ascending};
 ghost use Rattle.office_model.specs.Office.{Publication};
-ghost use Rattle.office_model.specs.ViewRows.{ArePublished, place_in, place_of_seat, seat_in};
+ghost use Rattle.office_model.specs.ViewRows.{AreOfPublication, place_in, place_of_seat, seat_in};
 ghost use Rattle.office_model.specs.ViewRows.{view_row};
 ghost use Rattle.office_model.specs.Views.{her_exams, shown_exams, shown_place, view_from};
 
@@ -118,7 +118,7 @@ pub fn view_rows(
     seats: &[SeatRow],
 ) -> Result<Vec<ViewRow>, AllocError>
     ensures { IfOk result (λ rows. (published : Option Publication)
-        → ArePublished published enrolled.now places.now seats.now
+        → AreOfPublication published enrolled.now places.now seats.now
         → rows.items ≡ shown_exams (view_from instance.now enrolled.now published seats.now)) }
 {
     let exams = her_exams(alloc, enrolled, seats)?;

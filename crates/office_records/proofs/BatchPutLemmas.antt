@@ -15,7 +15,7 @@ use Rattle.office_tables.specs.declared.rows.SlotRow.{SlotRow}
 use Rattle.office_model.specs.Office.{AreRecords, Records}
 use Rattle.office_model.specs.declared.counts.Counts.{Counts}
 use Rattle.office_enrolment.specs.AfterBatch.{acting, after_batch, lines_in}
-use Rattle.office_enrolment.specs.Keeping.{with_batch}
+use Rattle.office_enrolment.specs.Keeping.{records_with_batch}
 use Rattle.office_enrolment.proofs.RowLemmas.{rows_after_batch}
 use Rattle.office_records.specs.BatchRows.{batch_put, enrol_rows}
 use Rattle.office_records.specs.Found.{AreDrafts}
@@ -38,7 +38,7 @@ module _ (number : ℕ) (bytes : List ℕ) (changes : List Change) (r : Records)
 
   -- the tables stand for the office after the batch
   pub batch_stands : number ≤ 999999999 → lines_in done.0 ≤ 1048576 → StandsLoaded t r
-      → StandsLoaded put (with_batch number bytes r done)
+      → StandsLoaded put (records_with_batch number bytes r done)
   batch_stands small few h = record {
     meta = h.meta;
     owner = h.owner;
@@ -54,7 +54,7 @@ module _ (number : ℕ) (bytes : List ℕ) (changes : List Change) (r : Records)
   }
 
   -- and are sound: what is published, and its shares, stays
-  pub batch_sound : IsSound t (Some r) → IsSound put (Some (with_batch number bytes r done))
+  pub batch_sound : IsSound t (Some r) → IsSound put (Some (records_with_batch number bytes r done))
   batch_sound h = record { scored = again.scored; shared = h.shared }
 
 -- ---- drafts

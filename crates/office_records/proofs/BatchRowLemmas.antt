@@ -13,7 +13,7 @@ use Rattle.office_tables.specs.Tables.{Batch, Tables}
 use Rattle.office_tables.specs.declared.rows.BatchCountsRow.{BatchCountsRow}
 use Rattle.office_model.specs.Office.{AreKept, IsKeptBatch, IsOffice, KeptBatch, OfficeState}
 use Rattle.office_records.specs.Found.{AreBatchRows, AreFoundBatches, IsBatchRow, IsShort}
-use Rattle.office_records.specs.Stands.{Stands, StandsBatches, stored_batch}
+use Rattle.office_records.specs.Stands.{StandsForOffice, StandsBatches, stored_batch}
 
 -- a stored batch as the office keeps it
 abbrev pub kept_batch : Batch → KeptBatch
@@ -142,7 +142,7 @@ short_by_rows found batches rows all =
     (subst (AllByRecursion Picked) (sym rows) (recursion_from_All Picked found all)))
 
 -- an office's batches are not too long
-pub stored_short : (t : Tables) (o : OfficeState) → Stands t o → IsOffice o → All IsShort t.batch
+pub stored_short : (t : Tables) (o : OfficeState) → StandsForOffice t o → IsOffice o → All IsShort t.batch
 stored_short t None stands is =
     subst (λ (u : Tables). All IsShort u.batch) (sym stands)
     (λ k d none. absurd (omega (arith, none)))

@@ -14,7 +14,7 @@ use Rattle.office_tables.specs.declared.rows.SeatRow.{SeatRow}
 use Rattle.office_tables.specs.declared.rows.StudentShareRow.{StudentShareRow}
 use Rattle.office_model.specs.Office.{IsPublication, Publication}
 use Rattle.office_records.specs.Found.{ArePublication}
-use Rattle.office_records.specs.Publications.{ArePlaces, ArePublished, AreRowsOf, HasPlacesAndSeats, publication, stored_seat}
+use Rattle.office_records.specs.Publications.{ArePlaces, ArePublished, ArePublicationRows, HasPlacesAndSeats, publication, stored_seat}
 use Rattle.office_records.specs.SharesStored.{AreShared}
 use Rattle.office_records.specs.declared.fault.RecordFault.{RecordFault}
 use Rattle.office_records.specs.declared.fault.RecordFault.TheVariants.{BadRows}
@@ -38,13 +38,13 @@ module _ (I : Session) (mark : Bool) (places : List PlacedRow) (seats : List Sea
   -- no publication of the session has these rows
   abbrev pub NoneHas : Type 0
   NoneHas =
-      (published : Option Publication) → AreRowsOf mark places seats published
+      (published : Option Publication) → ArePublicationRows mark places seats published
       → ArePublished I published → ⊥
 
   -- no other publication of the session has them
   abbrev pub HasAlone : Option Publication → Type 0
   HasAlone own =
-      (published : Option Publication) → AreRowsOf mark places seats published
+      (published : Option Publication) → ArePublicationRows mark places seats published
       → ArePublished I published → own ≡ published
 
   -- ---- unmarked
@@ -63,10 +63,10 @@ module _ (I : Session) (mark : Bool) (places : List PlacedRow) (seats : List Sea
   -- ---- marked
 
   module _ (marked : mark ≡ true) where
-    marked_none : AreRowsOf mark places seats None → ⊥
+    marked_none : ArePublicationRows mark places seats None → ⊥
     marked_none are = true≢false (sym marked ∙ are.marked)
 
-    places_are : (p : Publication) → AreRowsOf mark places seats (Some p) → IsPublication I p
+    places_are : (p : Publication) → ArePublicationRows mark places seats (Some p) → IsPublication I p
         → ArePlaces I places p.timetable
     places_are p are is = record {
       exams = is.rows.exams;
@@ -84,7 +84,7 @@ module _ (I : Session) (mark : Bool) (places : List PlacedRow) (seats : List Sea
     module _ (T : Placing) (rows : List publish.SeatRow) (places_is : ArePlaces I places T)
         (seats_only : (own : List publish.SeatRow) → RowsInOrder own
         → IsPermutation seats (map stored_seat own) → rows ≡ own) where
-      one : (p : Publication) → AreRowsOf mark places seats (Some p) → IsPublication I p
+      one : (p : Publication) → ArePublicationRows mark places seats (Some p) → IsPublication I p
           → publication T rows ≡ p
       one p are is = λ i. record {
         timetable = same_places I places T p.timetable places_is (places_are p are is) i;

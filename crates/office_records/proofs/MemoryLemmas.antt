@@ -17,11 +17,11 @@ use Rattle.exam_model.proofs.SameSet.{same_set}
 use Rattle.office_files.specs.CanonicalText.{canonical_instance}
 use Rattle.office_files.specs.InstanceText.{instance_in}
 use Rattle.office_files.proofs.CanonicalInstance.{instance_same}
-use Rattle.office_tables.specs.Tables.{Tables, Stands as Held, Holds, Meta, meta_row, flag, keyed, keyless, enrol_row as enrol_columns}
+use Rattle.office_tables.specs.Tables.{Tables, Stands, Holds, Meta, meta_columns, flag, keyed, keyless, enrol_columns}
 use Rattle.office_tables.specs.declared.rows.EnrolRow.{EnrolRow}
 use Rattle.office_model.specs.Office.{OfficeState, Records, AreRecords, AreEnrolled}
 use Rattle.office_records.specs.Memory.{memory_of}
-use Rattle.office_records.specs.Stands.{IsKept, Stands, StandsLoaded, enrol_row, meta_row as session_row}
+use Rattle.office_records.specs.Stands.{IsKept, StandsForOffice, StandsLoaded, enrol_row, meta_row}
 
 -- ---- the rows of a table
 
@@ -65,7 +65,7 @@ unfolding is_one
 flags true = refl
 flags false = refl
 
-pub meta_is : (m : Meta) → meta_back (meta_row m) ≡ m
+pub meta_is : (m : Meta) → meta_back (meta_columns m) ≡ m
 unfolding meta_back blob_of
 meta_is m = ap (λ b. record { published = b; instance = m.instance }) (flags m.published)
 
@@ -137,18 +137,18 @@ same_enrolments I E F e f p =
 
 -- ---- both
 
-module _ (db : Database) (p q : Tables) (held : Held db p) (held2 : Held db q) where
+module _ (db : Database) (p q : Tables) (held : Stands db p) (held2 : Stands db q) where
   metas : IsPermutation p.meta q.meta
-  metas = same_rows keyed meta_row meta_back meta_is p.meta q.meta (db.trees 0) held.meta held2.meta
+  metas = same_rows keyed meta_columns meta_back meta_is p.meta q.meta (db.trees 0) held.meta held2.meta
 
   enrols : IsPermutation p.enrol q.enrol
   enrols = same_rows keyless enrol_columns columns_back columns_are p.enrol q.enrol (db.trees 2)
       held.enrol held2.enrol
 
-  nothing_loaded : (r : Records) → Stands p None → StandsLoaded q r → ⊥
+  nothing_loaded : (r : Records) → StandsForOffice p None → StandsLoaded q r → ⊥
   nothing_loaded r none some =
       let is : IsPermutation (record { published = false; instance = [] } ∷ [])
-      (session_row (is_some r.published) r.session ∷ [])
+      (meta_row (is_some r.published) r.session ∷ [])
       = subst (λ l. IsPermutation (record { published = false; instance = [] } ∷ []) l) some.meta
       (subst (λ (t : Tables). IsPermutation t.meta q.meta) none metas) in
       let same = ap (λ (m : Meta). m.instance) (same_one _ _ is) in
@@ -157,9 +157,9 @@ module _ (db : Database) (p q : Tables) (held : Held db p) (held2 : Held db q) w
   loaded_same : (r s : Records) → StandsLoaded p r → StandsLoaded q s → AreRecords r → AreRecords s
       → memory_of (Some r) ≡ memory_of (Some s)
   loaded_same r s a b first second =
-      let one : IsPermutation (session_row (is_some r.published) r.session ∷ [])
-      (session_row (is_some s.published) s.session ∷ [])
-      = subst (λ l. IsPermutation l (session_row (is_some s.published) s.session ∷ [])) a.meta
+      let one : IsPermutation (meta_row (is_some r.published) r.session ∷ [])
+      (meta_row (is_some s.published) s.session ∷ [])
+      = subst (λ l. IsPermutation l (meta_row (is_some s.published) s.session ∷ [])) a.meta
       (subst (λ l. IsPermutation p.meta l) b.meta metas) in
       let texts = ap (λ (m : Meta). m.instance) (sym (same_one _ _ one)) in
       let sessions = same_session r.session s.session first.session second.session texts in

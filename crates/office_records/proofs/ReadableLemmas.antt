@@ -43,7 +43,7 @@ use Rattle.office_model.specs.Publishing.{rows_now}
 use Rattle.office_records.specs.Publications.{placed_from, placed_rows, stored_seat}
 use Rattle.office_records.specs.SharesStored.{part_rows, part_share_rows, plain_rows, room_rows}
 use Rattle.office_records.specs.SharesStored.{student_share_row, student_share_rows}
-use Rattle.office_records.specs.Stands.{IsKept, IsSound, Stands, some_dept, once, slot_rows, slots_from}
+use Rattle.office_records.specs.Stands.{IsKept, IsSound, StandsForOffice, some_dept, once, slot_rows, slots_from}
 use Rattle.office_records.specs.Stands.{enrol_row}
 
 -- ---- lists
@@ -311,7 +311,7 @@ module _ (I : Session) (known : IsInstance I) where
 
 -- ---- the tables
 
-pub are_readable : (t : Tables) (o : OfficeState) → Stands t o → IsSound t o → IsOffice o
+pub are_readable : (t : Tables) (o : OfficeState) → StandsForOffice t o → IsSound t o → IsOffice o
     → AreReadable t
 are_readable t None stands sound is = subst AreReadable (sym stands) (record {
   row = record { published = false; instance = [] };

@@ -16,7 +16,7 @@ use Rattle.office_records.specs.Found.{AreOwners, ArePublication, IsSessionRow, 
 use Rattle.office_model.specs.Office.{OfficeState, Publication, Records, AreKept, AreRecords, IsOffice, IsPublication}
 use Rattle.office_records.specs.Publications.{ArePublished}
 use Rattle.office_records.specs.Memory.{memory_of}
-use Rattle.office_records.specs.Stands.{IsSound, Stands, StandsLoaded, meta_row}
+use Rattle.office_records.specs.Stands.{IsSound, StandsForOffice, StandsLoaded, meta_row}
 use Rattle.office_records.proofs.BatchRowLemmas.{batch_rows, batches_kept, batches_stand}
 use Rattle.office_records.proofs.BatchRowLemmas.{kept_batch, no_batches}
 use Rattle.office_records.proofs.MemoryLemmas.{same_enrolments}
@@ -75,7 +75,7 @@ module _ (found : Found) (batches : List Batch) where
       }
 
   pub nothing_loaded : IsUnloaded found → AreFoundBatches found.batches.items batches
-      → (office : OfficeState) × Stands t office × IsSound t office × IsOffice office
+      → (office : OfficeState) × StandsForOffice t office × IsSound t office × IsOffice office
       × (memory_of office ≡ None)
   nothing_loaded is these =
       let none = no_batches batches (these.rows ∙ is.batches) in
@@ -97,7 +97,7 @@ module _ (found : Found) (batches : List Batch) where
       → (draft : ℕ → Option Placing) × AreDrafts I E found.drafts.items found.slots.items draft
       → (published : Option Publication) × IsPublished I published
       → AreBatchRows found.batches.items → AreFoundBatches found.batches.items batches
-      → (office : OfficeState) × Stands t office × IsSound t office × IsOffice office
+      → (office : OfficeState) × StandsForOffice t office × IsSound t office × IsOffice office
       × (memory_of office ≡ Some (I, E))
   office_of I E session owners enrols drafts published kept these = (
     Some (record {

@@ -9,18 +9,18 @@ use Rattle.sqlite_value.specs.Order.{Row}
 use Rattle.sqlite.specs.Effect.{Database}
 use Rattle.sqlite_trees.proofs.ListLemmas.{IsPermutation-filter, all-permutation}
 use Rattle.office_tables.specs.Records.{FitsBatch}
-use Rattle.office_tables.specs.Tables.{Tables, Meta, Holds, Stands as Held, keyed, keyless}
+use Rattle.office_tables.specs.Tables.{Tables, Meta, Holds, Stands, keyed, keyless}
 use Rattle.office_tables.specs.Tables.{empty_tables}
-use Rattle.office_tables.specs.Tables.{owner_row, enrol_row as enrol_columns, draft_row, slot_row}
-use Rattle.office_tables.specs.Tables.{placed_row, seat_row, share_student_row, share_part_row}
-use Rattle.office_tables.specs.Tables.{batch_row, meta_row}
+use Rattle.office_tables.specs.Tables.{owner_columns, enrol_columns, draft_columns, slot_columns}
+use Rattle.office_tables.specs.Tables.{placed_columns, seat_columns, share_student_columns, share_part_columns}
+use Rattle.office_tables.specs.Tables.{batch_columns, meta_columns}
 use Rattle.office_tables.specs.declared.rows.OwnerRow.{OwnerRow}
 use Rattle.office_tables.specs.declared.rows.DraftRow.{DraftRow}
 use Rattle.office_tables.specs.declared.rows.SlotRow.{SlotRow}
 use Rattle.office_model.specs.Office.{OfficeState, Records}
 use Rattle.office_tables.proofs.RecordsBack.{owner_of, enrol_of, draft_of, slot_of, placement_of}
 use Rattle.office_tables.proofs.RecordsBack.{seat_of, student_share_of, part_share_of, batch_of}
-use Rattle.office_records.specs.Stands.{IsScoredRow, IsSound, Stands, StandsLoaded, some_dept, once}
+use Rattle.office_records.specs.Stands.{IsScoredRow, IsSound, StandsForOffice, StandsLoaded, some_dept, once}
 use Rattle.office_records.proofs.MemoryLemmas.{same_rows, same_one, meta_back, meta_is}
 
 -- ---- lists
@@ -81,69 +81,69 @@ all_empty t m o e d s p z x y b = λ i. record {
   batch = b i;
 }
 
-module _ (db : Database) (t u : Tables) (p : Held db t) (q : Held db u) where
+module _ (db : Database) (t u : Tables) (p : Stands db t) (q : Stands db u) where
   metas : IsPermutation t.meta u.meta
-  metas = same_rows keyed meta_row meta_back meta_is _ _ _ p.meta q.meta
+  metas = same_rows keyed meta_columns meta_back meta_is _ _ _ p.meta q.meta
 
   owners : IsPermutation t.owner u.owner
-  owners = same_rows keyed owner_row owner_of (λ r. refl) _ _ _ p.owner q.owner
+  owners = same_rows keyed owner_columns owner_of (λ r. refl) _ _ _ p.owner q.owner
 
   enrols : IsPermutation t.enrol u.enrol
   enrols = same_rows keyless enrol_columns enrol_of (λ r. refl) _ _ _ p.enrol q.enrol
 
   drafts : IsPermutation t.draft u.draft
-  drafts = same_rows keyed draft_row draft_of (λ r. refl) _ _ _ p.draft q.draft
+  drafts = same_rows keyed draft_columns draft_of (λ r. refl) _ _ _ p.draft q.draft
 
   slots : IsPermutation t.slot u.slot
-  slots = same_rows keyless slot_row slot_of (λ r. refl) _ _ _ p.slot q.slot
+  slots = same_rows keyless slot_columns slot_of (λ r. refl) _ _ _ p.slot q.slot
 
   placements : IsPermutation t.placed u.placed
-  placements = same_rows keyed placed_row placement_of (λ r. refl) _ _ _ p.placed q.placed
+  placements = same_rows keyed placed_columns placement_of (λ r. refl) _ _ _ p.placed q.placed
 
   seats : IsPermutation t.seat u.seat
-  seats = same_rows keyless seat_row seat_of (λ r. refl) _ _ _ p.seat q.seat
+  seats = same_rows keyless seat_columns seat_of (λ r. refl) _ _ _ p.seat q.seat
 
   student_shares : IsPermutation t.share_student u.share_student
   student_shares =
-      same_rows keyed share_student_row student_share_of (λ r. refl) _ _ _ p.share_student
+      same_rows keyed share_student_columns student_share_of (λ r. refl) _ _ _ p.share_student
       q.share_student
 
   part_shares : IsPermutation t.share_part u.share_part
   part_shares =
-      same_rows keyless share_part_row part_share_of (λ r. refl) _ _ _ p.share_part q.share_part
+      same_rows keyless share_part_columns part_share_of (λ r. refl) _ _ _ p.share_part q.share_part
 
   batch_rows : IsPermutation t.batch u.batch
-  batch_rows = same_rows keyed batch_row batch_of (λ r. refl) _ _ _ p.batch q.batch
+  batch_rows = same_rows keyed batch_columns batch_of (λ r. refl) _ _ _ p.batch q.batch
 
   one_meta : (m : Meta) → t.meta ≡ m ∷ [] → u.meta ≡ m ∷ []
   one_meta m is =
       same_few (m ∷ []) u.meta (omega arith) (subst (λ l. IsPermutation l u.meta) is metas)
 
   no_owner : t.owner ≡ [] → u.owner ≡ []
-  no_owner = none_held keyed owner_row _ _ _ p.owner q.owner
+  no_owner = none_held keyed owner_columns _ _ _ p.owner q.owner
 
   no_placed : t.placed ≡ [] → u.placed ≡ []
-  no_placed = none_held keyed placed_row _ _ _ p.placed q.placed
+  no_placed = none_held keyed placed_columns _ _ _ p.placed q.placed
 
   no_seat : t.seat ≡ [] → u.seat ≡ []
-  no_seat = none_held keyless seat_row _ _ _ p.seat q.seat
+  no_seat = none_held keyless seat_columns _ _ _ p.seat q.seat
 
   no_share_student : t.share_student ≡ [] → u.share_student ≡ []
-  no_share_student = none_held keyed share_student_row _ _ _ p.share_student q.share_student
+  no_share_student = none_held keyed share_student_columns _ _ _ p.share_student q.share_student
 
   no_share_part : t.share_part ≡ [] → u.share_part ≡ []
-  no_share_part = none_held keyless share_part_row _ _ _ p.share_part q.share_part
+  no_share_part = none_held keyless share_part_columns _ _ _ p.share_part q.share_part
 
   no_batch : t.batch ≡ [] → u.batch ≡ []
-  no_batch = none_held keyed batch_row _ _ _ p.batch q.batch
+  no_batch = none_held keyed batch_columns _ _ _ p.batch q.batch
 
   empty : t ≡ empty_tables → u ≡ empty_tables
   empty is =
       all_empty u (one_meta _ (ap (λ (t : Tables). t.meta) is))
       (no_owner (ap (λ (t : Tables). t.owner) is))
       (none_held keyless enrol_columns _ _ _ p.enrol q.enrol (ap (λ (t : Tables). t.enrol) is))
-      (none_held keyed draft_row _ _ _ p.draft q.draft (ap (λ (t : Tables). t.draft) is))
-      (none_held keyless slot_row _ _ _ p.slot q.slot (ap (λ (t : Tables). t.slot) is))
+      (none_held keyed draft_columns _ _ _ p.draft q.draft (ap (λ (t : Tables). t.draft) is))
+      (none_held keyless slot_columns _ _ _ p.slot q.slot (ap (λ (t : Tables). t.slot) is))
       (no_placed (ap (λ (t : Tables). t.placed) is)) (no_seat (ap (λ (t : Tables). t.seat) is))
       (no_share_student (ap (λ (t : Tables). t.share_student) is))
       (no_share_part (ap (λ (t : Tables). t.share_part) is))
@@ -173,7 +173,7 @@ module _ (db : Database) (t u : Tables) (p : Held db t) (q : Held db u) where
   }
 
   -- they stand for the same offices
-  pub same_stands : (o : OfficeState) → Stands t o → Stands u o
+  pub same_stands : (o : OfficeState) → StandsForOffice t o → StandsForOffice u o
   same_stands None h = empty h
   same_stands (Some r) h = loaded r h
 

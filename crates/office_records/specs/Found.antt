@@ -22,7 +22,7 @@ use Rattle.office_tables.specs.declared.rows.PlacedRow.{PlacedRow}
 use Rattle.office_tables.specs.declared.rows.SeatRow.{SeatRow}
 use Rattle.office_tables.specs.declared.rows.StudentShareRow.{StudentShareRow}
 use Rattle.office_model.specs.Office.{AreEnrolled, Publication}
-use Rattle.office_records.specs.Publications.{AreRowsOf, ArePublished}
+use Rattle.office_records.specs.Publications.{ArePublicationRows, ArePublished}
 use Rattle.office_records.specs.SharesStored.{AreShared}
 use Rattle.office_records.specs.Stands.{session_text, enrol_row, slots_from, slot_rows, once, some_dept, owners_at, drafts_at, slots_at, parts_of}
 
@@ -62,7 +62,7 @@ pub record AreDrafts (I : Session) (E : Enrolled) (found : List DraftRow) (place
 pub record ArePublication (I : Session) (mark : Bool) (places : List PlacedRow)
     (seats : List SeatRow) (students : List StudentShareRow) (parts : List PartShareRow)
     (published : Option Publication) : Type 0 where
-  pub rows : AreRowsOf mark places seats published
+  pub rows : ArePublicationRows mark places seats published
   pub is : ArePublished I published
   pub shared : AreShared I published students parts
 

@@ -49,7 +49,7 @@ pub record StandsPublished (places : List PlacedRow) (seats : List SeatRow)
   pub seat : IsPermutation seats (map stored_seat (rows_now published))
 
 -- with a mark that says whether there is a publication
-pub record AreRowsOf (mark : Bool) (places : List PlacedRow) (seats : List SeatRow)
+pub record ArePublicationRows (mark : Bool) (places : List PlacedRow) (seats : List SeatRow)
     (published : Option Publication) : Type 0 where
   pub marked : mark ≡ is_some published
   pub stands : StandsPublished places seats published

@@ -83,10 +83,10 @@ student_shares_put students new stored = new ++ share_rows_without students stor
 -- ---- parts
 
 -- how a kind is written
-abbrev pub kind_number : PartKind → ℕ
-kind_number Exam = 0
-kind_number Period = 1
-kind_number Room = 2
+abbrev pub part_kind_number : PartKind → ℕ
+part_kind_number Exam = 0
+part_kind_number Period = 1
+part_kind_number Room = 2
 
 -- no more exams, periods and rooms than a session has
 pub record HasFewParts (shares : Sharing) : Type 0 where

@@ -99,9 +99,9 @@ pub record StandsLoaded (t : Tables) (r : Records) : Type 0 where
   pub batches : StandsBatches t.batch r.batches
 
 -- the tables stand for the office: before a load they are empty
-abbrev pub Stands : Tables → OfficeState → Type 0
-Stands t None = t ≡ empty_tables
-Stands t (Some r) = StandsLoaded t r
+abbrev pub StandsForOffice : Tables → OfficeState → Type 0
+StandsForOffice t None = t ≡ empty_tables
+StandsForOffice t (Some r) = StandsLoaded t r
 
 -- ---- soundness
 
@@ -138,6 +138,6 @@ IsSound t (Some r) = AreSound t r
 pub record IsKept (db : Database) (o : OfficeState) : Type 0 where
   pub held : Tables
   pub tables : tables.Stands db held
-  pub stands : Stands held o
+  pub stands : StandsForOffice held o
   pub sound : IsSound held o
   pub office : IsOffice o

@@ -5,7 +5,7 @@ ghost use Rattle.exam_publish.specs.AddUp.{AreSmall};
 ghost use Rattle.exam_publish.specs.Shares.{Sharing};
 ghost use Rattle.exam_publish.specs.declared.share_lists.RoomShare.{RoomShare};
 ghost use Rattle.office_tables.specs.Amounts.{ArePartAmounts};
-ghost use Rattle.office_records.specs.SharesStored.{HasFewParts, kind_number, part_rows, plain_rows, room_rows};
+ghost use Rattle.office_records.specs.SharesStored.{HasFewParts, part_kind_number, part_rows, plain_rows, room_rows};
 
 use crate::fault::RecordFault;
 use exam_publish::{RoomShare, Shares};
@@ -23,7 +23,7 @@ pub enum PartKind {
 impl PartKind {
     // How the tables write it.
     fn number(self) -> u32
-        ensures { result ≡ kind_number self }
+        ensures { result ≡ part_kind_number self }
     {
         match self {
             PartKind::Exam => 0,
@@ -63,7 +63,7 @@ fn push_plain(
 ) -> Result<(), AllocError>
     requires { length shares.now ≤ MAX_EXAMS }
     ensures { OnOk result
-        (rows.new.items ≡ rows.old.items ++ plain_rows (kind_number kind) 0 shares.now) }
+        (rows.new.items ≡ rows.old.items ++ plain_rows (part_kind_number kind) 0 shares.now) }
 {
     'shares: for (at, share) in shares.iter().enumerate() {
         rows.push(PartShareRow {
@@ -109,9 +109,9 @@ pub fn plain_shares(
     rows: &[PartShareRow],
     kind: PartKind,
 ) -> Result<Vec<u64>, RecordFault>
-    ensures are { IfOk result (λ shares. plain_rows (kind_number kind) 0 shares.items ≡ rows.now) }
+    ensures are { IfOk result (λ shares. plain_rows (part_kind_number kind) 0 shares.items ≡ rows.now) }
     ensures none { IfErr result (λ e. e ≡ RecordFault.BadRows → (shares : List ℕ)
-        → plain_rows (kind_number kind) 0 shares ≡ rows.now → ⊥) }
+        → plain_rows (part_kind_number kind) 0 shares ≡ rows.now → ⊥) }
 {
     let mut shares = Vec::with_capacity(alloc, rows.len())?;
     'rows: for (at, row) in rows.iter().enumerate() {
@@ -146,7 +146,7 @@ pub fn room_shares(alloc: Global, rows: &[PartShareRow]) -> Result<Vec<RoomShare
 // Whether a row is the share of this exam or period.
 fn is_plain(row: PartShareRow, kind: PartKind, no: usize) -> bool
     ensures { IsTrue result
-        ↔ ((row.kind ≡ kind_number kind) × (row.no ≡ no) × (row.mixed ≡ 0)) }
+        ↔ ((row.kind ≡ part_kind_number kind) × (row.no ≡ no) × (row.mixed ≡ 0)) }
 {
     row.kind == kind.number() && row.no as usize == no && row.mixed == 0
 }

@@ -4,7 +4,7 @@ ghost use Rattle.exam_model.specs.Timetable.{Placing};
 ghost use Rattle.exam_publish.specs.Rows.{ArePublishedRows};
 ghost use Rattle.exam_publish.specs.Seats.{AreSeated};
 ghost use Rattle.office_model.specs.Office.{IsPublication, Publication};
-ghost use Rattle.office_records.specs.Publications.{AreFound, ArePlaces, ArePublished, AreRowsOf, placed_from, placed_slot, publication, publication_from, seat_pair};
+ghost use Rattle.office_records.specs.Publications.{AreFound, ArePlaces, ArePublished, ArePublicationRows, placed_from, placed_slot, publication, publication_from, seat_pair};
 
 use crate::enrolments::enrolments_of;
 use crate::fault::RecordFault;
@@ -27,15 +27,15 @@ pub fn publication_of(
     seats: &[SeatRow],
 ) -> Result<Option<(Timetable, Vec<publish::SeatRow>)>, RecordFault>
     ensures rows { IfOk result
-        (λ found. AreRowsOf mark places.now seats.now (publication_from found)) }
+        (λ found. ArePublicationRows mark places.now seats.now (publication_from found)) }
     ensures are { IfOk result (λ found. AreFound instance.now (publication_from found)) }
 
     // No other publication has these rows.
     ensures only { IfOk result (λ found. (published : Option Publication)
-        → AreRowsOf mark places.now seats.now published → ArePublished instance.now published
+        → ArePublicationRows mark places.now seats.now published → ArePublished instance.now published
         → publication_from found ≡ published) }
     ensures none { IfErr result (λ e. e ≡ RecordFault.BadRows → (published : Option Publication)
-        → AreRowsOf mark places.now seats.now published → ArePublished instance.now published → ⊥) }
+        → ArePublicationRows mark places.now seats.now published → ArePublished instance.now published → ⊥) }
 {
     if !mark {
         return no_publication(places, seats);

@@ -12,12 +12,12 @@ use Rattle.sqlite.specs.Store.{Ghosts}
 use Rattle.office_tables.specs.Adopting.{tables_of}
 use Rattle.office_tables.specs.Records.{counts_of}
 use Rattle.office_tables.specs.Steps.{Keeps}
-use Rattle.office_tables.specs.Tables.{Batch, Tables, batch_row, Stands as HeldBy}
+use Rattle.office_tables.specs.Tables.{Batch, Tables, batch_columns, Stands}
 use Rattle.office_tables.specs.declared.found.Found.{Found}
 use Rattle.office_tables.proofs.TableLemmas.{keys_once}
 use Rattle.office_model.specs.Office.{OfficeState, IsOffice}
 use Rattle.office_records.specs.Found.{AreFoundBatches, IsShort}
-use Rattle.office_records.specs.Stands.{IsKept, IsSound, Stands}
+use Rattle.office_records.specs.Stands.{IsKept, IsSound, StandsForOffice}
 use Rattle.office_records.proofs.BatchRowLemmas.{stored_short}
 use Rattle.office_records.proofs.SameTables.{same_sound, same_stands}
 use Rattle.office_tables.specs.Alterations.{Undone}
@@ -57,9 +57,9 @@ unchanged_then a b c first second = (
 module _ {S : Type 0} (g : Ghosts S) (old mid : Held S) where
   -- tables that stood still do
   pub held_still : (t : Tables) → (mid ≡ old) ⊎ IsUnchanged (state g old) (state g mid)
-      → HeldBy (state g old).now t → HeldBy (state g mid).now t
-  held_still t (inl same) held = subst (λ h. HeldBy (state g h).now t) (sym same) held
-  held_still t (inr still) held = subst (λ db. HeldBy db t) (sym still.0.now_is) held
+      → Stands (state g old).now t → Stands (state g mid).now t
+  held_still t (inl same) held = subst (λ h. Stands (state g h).now t) (sym same) held
+  held_still t (inr still) held = subst (λ db. Stands db t) (sym still.0.now_is) held
 
   -- what changes nothing keeps all
   pub kept_by : (mid ≡ old) ⊎ IsUnchanged (state g old) (state g mid)
@@ -118,18 +118,18 @@ two_by_two R (x ∷ xs) up =
 
 module _ (db : Database) (found : Found) (batches : List Batch)
     (rows : map counts_of batches ≡ found.batches.items)
-    (held : HeldBy db (tables_of found batches)) where
+    (held : Stands db (tables_of found batches)) where
   pub found_batches : All IsShort batches → AreFoundBatches found.batches.items batches
   found_batches short = record {
     rows = rows;
     apart = two_by_two (λ (b c : Batch). b.no ≢ c.no) batches
-        (keys_once batch_row (λ (b : Batch). b.no) (λ b. refl) batches (db.trees 14) held.batch);
+        (keys_once batch_columns (λ (b : Batch). b.no) (λ b. refl) batches (db.trees 14) held.batch);
     short = short;
   }
 
   -- what stands for an office is among the tables that were found
   module _ (o : OfficeState) (kept : IsKept db o) where
-    same_office : Stands (tables_of found batches) o
+    same_office : StandsForOffice (tables_of found batches) o
     same_office =
         same_stands db kept.held (tables_of found batches) kept.tables held o kept.stands
 
@@ -137,7 +137,7 @@ module _ (db : Database) (found : Found) (batches : List Batch)
     pub none_long : All IsShort batches
     none_long = stored_short (tables_of found batches) o same_office kept.office
 
-    pub none_refused : ((office : OfficeState) → Stands (tables_of found batches) office
+    pub none_refused : ((office : OfficeState) → StandsForOffice (tables_of found batches) office
         → IsSound (tables_of found batches) office → IsOffice office → ⊥) → ⊥
     none_refused none =
         none o same_office

@@ -16,7 +16,7 @@ use Rattle.sqlite.specs.Store.{Ghosts}
 use Rattle.office_batches.specs.BatchText.{batch_in}
 use Rattle.office_tables.specs.Alterations.{after_all}
 use Rattle.office_tables.specs.Changes.{no_drafts, with_batch, with_draft, with_enrol, without_enrol}
-use Rattle.office_tables.specs.Tables.{Batch, Tables, Stands as HeldBy}
+use Rattle.office_tables.specs.Tables.{Batch, Tables, Stands}
 use Rattle.office_tables.specs.declared.drafts.InsertDraft.{InsertDraft}
 use Rattle.office_tables.specs.declared.rows.DraftRow.{DraftRow}
 use Rattle.office_tables.specs.declared.rows.EnrolRow.{EnrolRow}
@@ -123,14 +123,14 @@ module _ (number : ℕ) (bytes : List ℕ) (changes : List Change)
       → length r.enrolments ≡ length r.session.exams → after_batch changes r.enrolments ≡ Ok done
       → length r.batches < 10000
       → newly_enrolled number bytes changes r
-      ≡ Ok (done.0, Some (keeping.with_batch number bytes r done))
+      ≡ Ok (done.0, Some (keeping.records_with_batch number bytes r done))
   new_gives r done exams after room =
       let there : nat_lt (length r.batches) 10000 ≡ true = grind (arith, nat_tests, room) in
       as_office number bytes changes r exams
       ∙ ap (λ (judged : Result (Counts × Enrolled) StoreFault).
       judged >>= keeping.batch_kept number bytes r) after
       ∙ ap (λ b. unless b TooMany >>= λ _.
-      Ok (done.0, Some (keeping.with_batch number bytes r done))) there
+      Ok (done.0, Some (keeping.records_with_batch number bytes r done))) there
 
   -- ---- the command, by what is in memory and the rows that a batch is judged by
 
@@ -172,7 +172,7 @@ module _ (number : ℕ) (bytes : List ℕ) (changes : List Change)
         module _ (r : Records) (here : IsKept a (Some r)) (made : IsNewFor changes slots r new)
           where
             gives : batch_enrolled number bytes (Some r)
-                ≡ Ok (new.counts, Some (keeping.with_batch number bytes r done))
+                ≡ Ok (new.counts, Some (keeping.records_with_batch number bytes r done))
             gives =
                 gives_new r (is_new (Some r) here)
                 ∙ new_gives r done here.office.enrolled.exams made.after made.room
@@ -184,27 +184,27 @@ module _ (number : ℕ) (bytes : List ℕ) (changes : List Change)
             again = drafts_moved r.session new.enrolments rows (reverse rows) slots r.draft
                 (IsPermutation-reverse rows) made.drafts
 
-            enrolled_kept : ((t : Tables) → HeldBy a t → HeldBy b (new_batch_put number bytes new t))
-                → IsKept b (Some (keeping.with_batch number bytes r done))
+            enrolled_kept : ((t : Tables) → Stands a t → Stands b (new_batch_put number bytes new t))
+                → IsKept b (Some (keeping.records_with_batch number bytes r done))
             enrolled_kept makes = record {
               held = new_batch_put number bytes new here.held;
               tables = makes here.held here.tables;
               stands = subst (λ (l : List Change). StandsLoaded
-                  (batch_put l (reverse rows) row here.held) (keeping.with_batch number bytes r done))
+                  (batch_put l (reverse rows) row here.held) (keeping.records_with_batch number bytes r done))
                   (sym made.lines)
                   (batch_stands number bytes changes r done here.office made.after here.held
                   (reverse rows) slots again small (counted r.enrolments done made.after)
                   here.stands);
               sound = subst (λ (l : List Change). IsSound (batch_put l (reverse rows) row here.held)
-                  (Some (keeping.with_batch number bytes r done))) (sym made.lines)
+                  (Some (keeping.records_with_batch number bytes r done))) (sym made.lines)
                   (batch_sound number bytes changes r done here.office made.after here.held
                   (reverse rows) slots again here.sound);
-              office = leaves (Some r) (Some (keeping.with_batch number bytes r done)) new.counts
+              office = leaves (Some r) (Some (keeping.records_with_batch number bytes r done)) new.counts
                   here.office gives;
             }
 
         pub enrol_moves : Comes (Ok new)
-            → ((t : Tables) → HeldBy a t → HeldBy b (new_batch_put number bytes new t))
+            → ((t : Tables) → Stands a t → Stands b (new_batch_put number bytes new t))
             → Moves (batch_enrolled number bytes) new.counts a b m (Some (I, new.enrolments))
         enrol_moves comes makes o kept is =
             let of = kept_of o I E (is ∙ at_hand) in
@@ -213,7 +213,7 @@ module _ (number : ℕ) (bytes : List ℕ) (changes : List Change)
             let told = tells (Some r) here in
             let made = comes r here.office
             (subst (λ o. memory_of o ≡ Some (I, E)) of.is (is ∙ at_hand)) told.0 told.1 in (
-              Some (keeping.with_batch number bytes r done),
+              Some (keeping.records_with_batch number bytes r done),
               ap (batch_enrolled number bytes) of.is ∙ gives r here made,
               enrolled_kept r here made makes,
               ap (λ (J : Session). Some (J, new.enrolments)) of.session,

@@ -12,7 +12,7 @@ use Rattle.office_files.specs.SolutionText.{solution_in}
 use Rattle.office_files.specs.declared.fault.FileFault.{FileFault}
 use Rattle.office_tables.specs.Alterations.{after_all}
 use Rattle.office_tables.specs.Changes.{with_draft, with_slot}
-use Rattle.office_tables.specs.Tables.{Tables, Stands as Held}
+use Rattle.office_tables.specs.Tables.{Tables, Stands}
 use Rattle.office_tables.specs.declared.rows.DraftRow.{DraftRow}
 use Rattle.office_tables.specs.declared.rows.SlotRow.{SlotRow}
 use Rattle.office_tables.specs.declared.slots.InsertSlot.{InsertSlot}
@@ -150,7 +150,7 @@ pub begun_kept : (a b : Database) (r : Records) (d : ℕ) (bytes : List ℕ) (pe
     (row : DraftRow) (slots : List SlotRow)
     (begins : Begins d bytes r.session r.enrolments penalty slots) → row.no ≡ d
     → parts_of row ≡ penalty → true ≡ is_draft_number d → is_some (r.draft d) ≡ false
-    → IsKept a (Some r) → ((t : Tables) → Held a t → Held b (draft_put row slots t))
+    → IsKept a (Some r) → ((t : Tables) → Stands a t → Stands b (draft_put row slots t))
     → IsKept b (Some (record r { draft = set_at d (Some begins.timetable) r.draft }))
 begun_kept a b r d bytes penalty row slots begins number parts numbered free kept makes =
     let within = in_range d numbered in
@@ -193,7 +193,7 @@ module _ (d : ℕ) (rows : List DraftRow) (n : ℕ) (long : n ≡ length rows) (
       ∙ dropped_none of.records d (none_there empty o kept of.records of.is)
 
   pub drop_moves : (b : Database) → is_some m ≡ true → false ≡ eqb n 0
-      → ((t : Tables) → Held a t → Held b (draft_removed d t)) → Moves (draft_dropped d) tt a b m m
+      → ((t : Tables) → Stands a t → Stands b (draft_removed d t)) → Moves (draft_dropped d) tt a b m m
   drop_moves b loaded some makes o kept is =
       let of = has_records o m is loaded in (
         _,
@@ -230,14 +230,14 @@ module _ (d : ℕ) (rows : List DraftRow) (n : ℕ) (long : n ≡ length rows) (
           (slots placed : List InsertSlot) (total : ℕ) → placed ≡ slots
           → Begins d text I E penalty (map (λ (it : InsertSlot). it.row) slots) → row.no ≡ d
           → parts_of row ≡ penalty → total ≡ total_of penalty
-          → ((t : Tables) → Held a t
-          → Held b (after_all (λ (it : InsertSlot). with_slot it.row) placed (with_draft row t)))
+          → ((t : Tables) → Stands a t
+          → Stands b (after_all (λ (it : InsertSlot). with_slot it.row) placed (with_draft row t)))
           → Moves (draft_made d text) total a b m m
       made_moves b penalty row slots put total same begins number parts is_total comes o kept is =
           let rows : List InsertSlot → List SlotRow = map (λ (it : InsertSlot). it.row) in
           let placed : List SlotRow = rows put in
-          let makes : (t : Tables) → Held a t → Held b (draft_put row placed t)
-          = λ t h. subst (Held b) (slots_put put (with_draft row t)) (comes t h) in
+          let makes : (t : Tables) → Stands a t → Stands b (draft_put row placed t)
+          = λ t h. subst (Stands b) (slots_put put (with_draft row t)) (comes t h) in
           let of = kept_of o I E (is ∙ at_hand) in
           let free = none_there empty o kept of.records of.is in
           let begun = begins_in o I E of d text penalty (rows slots) placed (ap rows same) begins in (

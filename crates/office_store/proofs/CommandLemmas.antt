@@ -8,7 +8,7 @@ use Rattle.office_model.specs.Office.{OfficeState}
 use Rattle.office_records.specs.Memory.{Memory, memory_of}
 use Rattle.office_records.specs.Stands.{IsKept}
 use Rattle.office_model.specs.Commands.{Gives}
-use Rattle.office_store.specs.Running.{Does, IsAtRest, IsAwake, IsFault, IsStill, Now, Reads, Runs, Shows, Tells}
+use Rattle.office_store.specs.Running.{Does, IsAtRest, IsAwake, IsFault, IsStill, Now, ReadsOffice, Runs, Shows, Tells}
 use Rattle.office_model.specs.declared.fault.StoreFault.{StoreFault}
 use Rattle.office_model.specs.declared.fault.StoreFault.TheVariants.{NotLoaded}
 use Rattle.office_store.proofs.ReadLemmas.{does_now}
@@ -51,7 +51,7 @@ module _ {S : Type 0} (g : Ghosts S) (before mid inside : Held S)
   pub tells : {A : Type 0} (says : OfficeState → A) (result : Result A StoreFault)
       → (HasCleanDisk (state g mid) → (o : OfficeState) → IsKept (state g mid).now o
       → memory_of o ≡ m → Tells (says o) result)
-      → Reads g says before mid result
+      → ReadsOffice g says before mid result
   tells says result told clean o now =
       let here = there clean o now in
       shown (says o) o (Now (state g mid)) result (told clean o here.0 here.1) (λ _. here.0)

@@ -12,14 +12,14 @@ use Rattle.exam_model.specs.Fits.{Fits}
 use Rattle.exam_model.specs.Timetable.{Placing}
 use Rattle.exam_terms.specs.declared.place.Place.{Place}
 use Rattle.exam_score.specs.Track.{track}
-use Rattle.office_tables.specs.Tables.{Tables, Stands as Held}
+use Rattle.office_tables.specs.Tables.{Tables, Stands}
 use Rattle.office_tables.specs.declared.rows.DraftRow.{DraftRow}
 use Rattle.office_tables.specs.declared.rows.SlotRow.{SlotRow}
 use Rattle.office_store.specs.Changes.{draft_put, draft_removed}
 use Rattle.office_model.specs.Commands.{draft_in}
 use Rattle.office_model.specs.Office.{OfficeState, Records, set_at}
 use Rattle.office_model.proofs.RecordLemmas.{left_records, made_records}
-use Rattle.office_records.specs.Stands.{Stands, StandsLoaded, IsSound, IsScoredRow, IsKept, drafts_at, slots_at, slots_from, slot_rows, slot_row, parts_of, once}
+use Rattle.office_records.specs.Stands.{StandsForOffice, StandsLoaded, IsSound, IsScoredRow, IsKept, drafts_at, slots_at, slots_from, slot_rows, slot_row, parts_of, once}
 use Rattle.office_records.proofs.KeyLemmas.{none_of, all_of_other, each_left}
 use Rattle.office_records.proofs.MemoryLemmas.{same_one}
 
@@ -164,7 +164,7 @@ pub made_kept : (a b : Database) (r : Records) (d : ℕ) (T : Placing) (row : Dr
     (slots : List SlotRow) → row.no ≡ d → slots ≡ slots_from d 0 T
     → parts_of row ≡ track r.session r.enrolments T
     → r.draft d ≡ None → 1 ≤ d → d ≤ 8 → Fits r.session r.enrolments T → IsKept a (Some r)
-    → ((t : Tables) → Held a t → Held b (draft_put row slots t))
+    → ((t : Tables) → Stands a t → Stands b (draft_put row slots t))
     → IsKept b (Some (record r { draft = set_at d (Some T) r.draft }))
 made_kept a b r d T row slots number_is are scored free low high fits kept makes = record {
   held = draft_put row slots kept.held;
@@ -222,7 +222,7 @@ left_sound t r d sound = record {
     other x k e S f = k S (sym (ap (λ b. cond b None (r.draft x.no)) e) ∙ f)
 
 pub left_kept : (a b : Database) (r : Records) (d : ℕ) → IsKept a (Some r)
-    → ((t : Tables) → Held a t → Held b (draft_removed d t))
+    → ((t : Tables) → Stands a t → Stands b (draft_removed d t))
     → IsKept b (Some (record r { draft = set_at d None r.draft }))
 left_kept a b r d kept makes = record {
   held = draft_removed d kept.held;
@@ -242,7 +242,7 @@ one_or_none true n (y ∷ []) p = ap (λ z. z ∷ []) (same_one n y p)
 one_or_none true n (y ∷ z ∷ ys) p =
     absurd (let long = length_permutation _ _ p in omega (arith, long))
 
-pub draft_read : (t : Tables) (o : OfficeState) (d : ℕ) (rows : List DraftRow) → Stands t o
+pub draft_read : (t : Tables) (o : OfficeState) (d : ℕ) (rows : List DraftRow) → StandsForOffice t o
     → IsPermutation (filter (λ r. eqb r.no d) t.draft) rows
     → map (λ (r : DraftRow). r.no) rows ≡ once (is_some (draft_in d o)) d
 draft_read t None d rows stands p =

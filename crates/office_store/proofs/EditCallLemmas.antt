@@ -3,7 +3,7 @@ use Rattle.std.proofs.Common.{◌≡◌, ℕ, List, Option, Some, None, Result, 
 use Rattle.std.proofs.Common.{map}
 use Rattle.std.specs.Prelude.{IsErrAnd, is_some}
 use Rattle.sqlite.specs.Effect.{Database}
-use Rattle.sqlite.specs.Held.{Held as Conn, state}
+use Rattle.sqlite.specs.Held.{Stands as Conn, state}
 use Rattle.sqlite.specs.State.{HasCleanDisk}
 use Rattle.sqlite.specs.Store.{Ghosts}
 use Rattle.exam_model.specs.Enrolments.{Enrolled}
@@ -17,7 +17,7 @@ use Rattle.exam_draft.specs.Edits.{Edited, IsEditedAt, edited, edited_exams}
 use Rattle.exam_draft.specs.declared.edit.Edit.{Edit}
 use Rattle.office_tables.specs.Alterations.{after_all}
 use Rattle.office_tables.specs.Changes.{with_draft, without_draft}
-use Rattle.office_tables.specs.Tables.{Tables, Stands as Held}
+use Rattle.office_tables.specs.Tables.{Tables, Stands}
 use Rattle.office_tables.specs.declared.altering.Both.{Both}
 use Rattle.office_tables.specs.declared.rows.DraftRow.{DraftRow}
 use Rattle.office_tables.specs.declared.rows.SlotRow.{SlotRow}
@@ -236,7 +236,7 @@ pub edit_stored : (a b : Database) (o : OfficeState) (d : ℕ) (change : Edit)
     (new : Placing × Penalty) (row : DraftRow) (total : ℕ) (exams : List ℕ)
     (of : IsEdited d change o new) → row.no ≡ d → parts_of row ≡ new.1 → total ≡ total_of new.1
     → exams ≡ edited_exams change → IsKept a o
-    → ((t : Tables) → Held a t → Held b (edit_put row new.0 exams t))
+    → ((t : Tables) → Stands a t → Stands b (edit_put row new.0 exams t))
     → IsStored b o d change total
 edit_stored a b o d change new row total exams of number parts is_total are kept makes = record {
   office = Some (record of.records { draft = set_at d (Some new.0) of.records.draft });
@@ -248,7 +248,7 @@ edit_stored a b o d change new row total exams of number parts is_total are kept
       (Some (record of.records { draft = set_at n (Some new.0) of.records.draft }))) number
       (edit_kept a b of.records of.old new.0 row change (ap of.records.draft number ∙ of.draft)
       of.edits (parts ∙ of.scored) of.fits (subst (IsKept a) of.is kept)
-      (subst (λ l. (t : Tables) → Held a t → Held b (edit_put row new.0 l t)) are makes));
+      (subst (λ l. (t : Tables) → Stands a t → Stands b (edit_put row new.0 l t)) are makes));
   memory = ap memory_of (sym of.is);
 }
 
@@ -296,15 +296,15 @@ module _ {S : Type 0} (g : Ghosts S) (first mid inside : Conn S) (view : inside 
       → IsEdited d change o new)
       → row.no ≡ d → parts_of row ≡ new.1 → total ≡ total_of new.1 → exams ≡ edited_exams change
       → places ≡ map (new_place row.no new.0) exams → HasCleanDisk (state g inside)
-      → ((t : Tables) → Held (state g inside).now t
-      → Held (state g after).now
+      → ((t : Tables) → Stands (state g inside).now t
+      → Stands (state g after).now
       (after_all move_made places (with_draft row (without_draft row.no t))))
       → Moves (draft_edited d change) total (state g inside).now (state g after).now m m
   edit_moves after m new row total exams places awake still opened edits number parts is_total are put clean comes o kept is =
-      let makes : (t : Tables) → Held (state g inside).now t
-      → Held (state g after).now (edit_put row new.0 exams t)
+      let makes : (t : Tables) → Stands (state g inside).now t
+      → Stands (state g after).now (edit_put row new.0 exams t)
       = λ t h. let u = with_draft row (without_draft row.no t) in
-      subst (Held (state g after).now)
+      subst (Stands (state g after).now)
       (ap (λ l. after_all move_made l u) put ∙ all_moved row.no new.0 exams u) (comes t h) in
       let here = subst (λ h. HasCleanDisk (state g h)) view clean in
       let there = subst (λ h. IsKept (state g h).now o) view kept in

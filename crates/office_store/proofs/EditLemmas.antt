@@ -15,7 +15,7 @@ use Rattle.exam_rules.specs.Breaches.{least_breach_of}
 use Rattle.exam_score.specs.Changes.{DiffersAtMost}
 use Rattle.exam_score.specs.Track.{track}
 use Rattle.exam_draft.specs.Edits.{exam_exists, place_exists, is_placed, unless_broken}
-use Rattle.office_tables.specs.Tables.{Tables, Stands as Held}
+use Rattle.office_tables.specs.Tables.{Tables, Stands}
 use Rattle.office_tables.specs.Changes.{with_draft, without_draft}
 use Rattle.office_tables.specs.declared.rows.DraftRow.{DraftRow}
 use Rattle.office_store.specs.Changes.{edit_put}
@@ -182,7 +182,7 @@ pub edit_kept : (a b : Database) (r : Records) (T new : Placing) (row : DraftRow
     → r.draft row.no ≡ Some T → edited r.session r.enrolments T change ≡ Ok new
     → parts_of row ≡ track r.session r.enrolments new → Fits r.session r.enrolments new
     → IsKept a (Some r)
-    → ((t : Tables) → Held a t → Held b (edit_put row new (edited_exams change) t))
+    → ((t : Tables) → Stands a t → Stands b (edit_put row new (edited_exams change) t))
     → IsKept b (Some (record r { draft = set_at row.no (Some new) r.draft }))
 edit_kept a b r T new row change there made scored fits kept makes =
     let before = kept.office.drafts row.no T there in

@@ -23,7 +23,7 @@ use Rattle.office_model.specs.declared.counts.Counts.{Counts}
 use Rattle.office_model.specs.declared.fault.StoreFault.TheVariants.{BatchDiffers}
 use Rattle.office_model.specs.Office.{AreRecords, IsOffice, KeptBatch, OfficeState, Records}
 use Rattle.office_records.specs.Found.{AreDrafts}
-use Rattle.office_records.specs.Stands.{IsSound, Stands, StandsLoaded, stored_batch}
+use Rattle.office_records.specs.Stands.{IsSound, StandsForOffice, StandsLoaded, stored_batch}
 use Rattle.office_records.proofs.SameTables.{same_few}
 use Rattle.office_store.specs.NewBatches.{AreBatchRowsOf, IsRowOf, answered_again}
 use Rattle.office_store.specs.Running.{Does}
@@ -75,7 +75,7 @@ module _ (t : Tables) (r : Records) (stands : StandsLoaded t r) (is : AreRecords
       (IsPermutation-filter (λ (b : Batch). eqb b.no number) _ _ stands.batches.same)))
 
 pub batch_read : (t : Tables) (o : OfficeState) (number : ℕ) (found : Option BatchRow)
-    → Stands t o → IsOffice o
+    → StandsForOffice t o → IsOffice o
     → filter (λ (b : Batch). eqb b.no number) t.batch ≡ map batch_from (option_to_list found)
     → IsRowOf (kept_in o number) found
 batch_read t None number found stands is row =
@@ -83,7 +83,7 @@ batch_read t None number found stands is row =
 batch_read t (Some r) number found stands is row = sym row ∙ stored_under t r stands is number
 
 pub rows_read : (t : Tables) (o : OfficeState) (numbers : List ℕ) (drafts : List DraftRow)
-    (slots : List SlotRow) → Stands t o → IsSound t o → IsOffice o
+    (slots : List SlotRow) → StandsForOffice t o → IsSound t o → IsOffice o
     → IsPermutation (map (λ (b : Batch). b.no) t.batch) numbers
     → ((r : Records) → StandsLoaded t r → IsSound t (Some r) → AreRecords r
     → AreDrafts r.session r.enrolments drafts slots r.draft)

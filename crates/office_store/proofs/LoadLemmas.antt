@@ -12,12 +12,12 @@ use Rattle.office_files.specs.ExamLines.{ExamLine}
 use Rattle.office_files.specs.InstanceText.{InstanceText, instance_in, session_of}
 use Rattle.office_tables.specs.Alterations.{after_all}
 use Rattle.office_tables.specs.Changes.{no_meta, with_enrol, with_meta}
-use Rattle.office_tables.specs.Tables.{Tables, Stands as Held, empty_tables}
+use Rattle.office_tables.specs.Tables.{Tables, Stands, empty_tables}
 use Rattle.office_tables.specs.declared.enrolments.InsertEnrol.{InsertEnrol}
 use Rattle.office_tables.specs.declared.rows.EnrolRow.{EnrolRow}
 use Rattle.office_tables.proofs.AlterationLemmas.{enrols_put}
 use Rattle.office_store.specs.Changes.{session_put}
-use Rattle.office_model.specs.Commands.{fresh, counts_of, loaded}
+use Rattle.office_model.specs.Commands.{fresh, loaded_of, loaded}
 use Rattle.office_model.specs.Office.{OfficeState, AreEnrolled}
 use Rattle.office_records.specs.Memory.{Memory, memory_of}
 use Rattle.office_model.specs.declared.fault.StoreFault.TheVariants.{Loaded}
@@ -83,11 +83,11 @@ module _ (I : Session) (E : Enrolled) (text : List ℕ) (rows : List EnrolRow)
   }
 
   -- the database stands for the office with that session alone
-  session_kept : (a b : Database) → IsKept a None → ((t : Tables) → Held a t → Held b (session_put text rows t))
+  session_kept : (a b : Database) → IsKept a None → ((t : Tables) → Stands a t → Stands b (session_put text rows t))
       → IsInstance I → AreEnrolled I E → IsKept b (Some (fresh (I, E)))
   session_kept a b kept makes is are = record {
     held = session_put text rows empty_tables;
-    tables = makes empty_tables (subst (Held a) kept.stands kept.tables);
+    tables = makes empty_tables (subst (Stands a) kept.stands kept.tables);
     stands = session_stands;
     sound = record {
       scored = tt;
@@ -110,7 +110,7 @@ as_many b I E text =
     omega (arith, exams, lists, one, other)
 
 loaded_first : (b : List ℕ) (s : Session × Enrolled) → instance_in b ≡ Ok s
-    → loaded b None ≡ Ok (counts_of s, Some (fresh s))
+    → loaded b None ≡ Ok (loaded_of s, Some (fresh s))
 loaded_first b s is = rw is refl
 
 loaded_again : (b : List ℕ) (s : Session × Enrolled) (o : OfficeState) → instance_in b ≡ Ok s
@@ -133,18 +133,18 @@ load_denied text s a m read some o kept is = loaded_again text s o read (some_ke
 
 pub load_moves : (text : List ℕ) (I : Session) (E : Enrolled) (counts : loading.Loaded)
     (stored : List ℕ) (its : List InsertEnrol) (a b : Database) (m : Memory)
-    → instance_in text ≡ Ok (I, E) → counts ≡ counts_of (I, E)
+    → instance_in text ≡ Ok (I, E) → counts ≡ loaded_of (I, E)
     → stored ≡ canonical_instance I (no_pairs (length I.exams))
     → map (λ (it : InsertEnrol). it.row) its ≡ map enrol_row (pairs_of E) → IsInstance I
     → AreEnrolled I E → is_some m ≡ false
-    → ((t : Tables) → Held a t → Held b (after_all (λ (it : InsertEnrol). with_enrol it.row) its
+    → ((t : Tables) → Stands a t → Stands b (after_all (λ (it : InsertEnrol). with_enrol it.row) its
     (with_meta false stored (no_meta t))))
     → Moves (loaded text) counts a b m (Some (I, E))
 load_moves text I E counts stored its a b m read counted is_text are_rows is are empty comes o kept held =
     let none = none_kept m o held empty in
     let rows = map (λ (it : InsertEnrol). it.row) its in
-    let makes : (t : Tables) → Held a t → Held b (session_put stored rows t)
-    = λ t h. subst (Held b) (enrols_put its (with_meta false stored (no_meta t))) (comes t h) in (
+    let makes : (t : Tables) → Stands a t → Stands b (session_put stored rows t)
+    = λ t h. subst (Stands b) (enrols_put its (with_meta false stored (no_meta t))) (comes t h) in (
       Some (fresh (I, E)),
       ap (loaded text) none ∙ loaded_first text (I, E) read
           ∙ ap (λ k. Ok (k, Some (fresh (I, E)))) (sym counted),

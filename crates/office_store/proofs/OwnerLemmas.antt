@@ -5,7 +5,7 @@ use Rattle.std.specs.Prelude.{Option, Some, None, length, IsPermutation}
 use Rattle.std.proofs.lemmas.List.Sorted.{IsPermutation-map, length_permutation}
 use Rattle.sqlite.specs.Effect.{Database}
 use Rattle.office_tables.specs.Alterations.{after_some}
-use Rattle.office_tables.specs.Tables.{Tables, Stands as Held}
+use Rattle.office_tables.specs.Tables.{Tables, Stands}
 use Rattle.office_tables.specs.Changes.{without_owner, with_owner}
 use Rattle.office_tables.specs.declared.owners.InsertOwner.{InsertOwner}
 use Rattle.office_tables.specs.declared.rows.OwnerRow.{OwnerRow}
@@ -20,7 +20,7 @@ use Rattle.office_store.proofs.RunLemmas.{kept_of}
 use Rattle.exam_draft.specs.Edits.{exam_exists}
 use Rattle.exam_draft.specs.declared.fault.EditFault.TheVariants.{NoSuch}
 use Rattle.office_model.specs.Commands.{owned, owner_in}
-use Rattle.office_records.specs.Stands.{Stands, StandsLoaded, IsSound, IsKept, owners_at, some_dept}
+use Rattle.office_records.specs.Stands.{StandsForOffice, StandsLoaded, IsSound, IsKept, owners_at, some_dept}
 use Rattle.office_model.specs.declared.fault.Refusal.TheVariants.{Edit}
 use Rattle.office_model.specs.declared.fault.StoreFault.TheVariants.{Refused}
 use Rattle.office_records.proofs.KeyLemmas.{none_of, all_of_other}
@@ -109,7 +109,7 @@ owner_sound t r e d false h = record { scored = h.scored; shared = h.shared }
 
 -- the database stands for the office with that owner
 pub owner_kept : (a b : Database) (r : Records) (e d : ℕ) → IsKept a (Some r)
-    → ((t : Tables) → Held a t → Held b (owner_put e d t)) → e < length r.session.exams → d ≤ 999
+    → ((t : Tables) → Stands a t → Stands b (owner_put e d t)) → e < length r.session.exams → d ≤ 999
     → IsKept b (Some (record r { owner_of = set_at e d r.owner_of }))
 owner_kept a b r e d kept makes exists few = record {
   held = owner_put e d kept.held;
@@ -137,18 +137,18 @@ owned_nowhere r e d none =
 module _ (a : Database) (m : Memory) (I : Session) (E : Enrolled) (at_hand : m ≡ Some (I, E)) (e d : ℕ) where
   pub owner_moves : (b : Database) → e < length I.exams → d ≤ 999 → (n : ℕ) → n ≡ e
       → (new : Option InsertOwner) → new ≡ new_owner n d
-      → ((t : Tables) → Held a t → Held b (comes new (without_owner n t)))
+      → ((t : Tables) → Stands a t → Stands b (comes new (without_owner n t)))
       → Moves (owned e d) tt a b m m
   owner_moves b exists few n same new is_new comes_in o kept is =
-      let makes : (t : Tables) → Held a t → Held b (owner_put n d t)
-      = λ t h. subst (Held b)
+      let makes : (t : Tables) → Stands a t → Stands b (owner_put n d t)
+      = λ t h. subst (Stands b)
       (ap (λ x. comes x (without_owner n t)) is_new ∙ owner_made n d t) (comes_in t h) in
       let of = kept_of o I E (is ∙ at_hand) in
       let there = subst (λ I. e < length I.exams) (sym of.session) exists in (
         _,
         ap (owned e d) of.is ∙ owned_there of.records e d there,
         owner_kept a b of.records e d (subst (IsKept a) of.is kept)
-            (subst (λ n. (t : Tables) → Held a t → Held b (owner_put n d t)) same makes) there few,
+            (subst (λ n. (t : Tables) → Stands a t → Stands b (owner_put n d t)) same makes) there few,
         ap memory_of (sym of.is) ∙ is,
       )
 
@@ -168,7 +168,7 @@ few x false [] p = absurd (let long = length_permutation _ _ p in omega (arith, 
 few x false (y ∷ []) p = ap (λ z. z ∷ []) (same_one x y p)
 few x false (y ∷ z ∷ ys) p = absurd (let long = length_permutation _ _ p in omega (arith, long))
 
-pub owner_read : (t : Tables) (o : OfficeState) (e : ℕ) (rows : List OwnerRow) → Stands t o
+pub owner_read : (t : Tables) (o : OfficeState) (e : ℕ) (rows : List OwnerRow) → StandsForOffice t o
     → IsPermutation (filter (λ r. eqb r.exam e) t.owner) rows
     → map (λ r. r.dept) rows ≡ some_dept (owner_in e o)
 owner_read t None e rows stands p =

@@ -20,7 +20,7 @@ use Rattle.office_tables.specs.Changes.{no_meta, no_part_shares, no_placements, 
 use Rattle.office_tables.specs.Changes.{with_part_share, with_placement, with_seat}
 use Rattle.office_tables.specs.Changes.{with_student_share, without_student_seats}
 use Rattle.office_tables.specs.Changes.{without_student_share}
-use Rattle.office_tables.specs.Tables.{Tables, Stands as Held}
+use Rattle.office_tables.specs.Tables.{Tables, Stands}
 use Rattle.office_tables.proofs.AlterationLemmas.{part_shares_put, placements_put, seats_put}
 use Rattle.office_tables.proofs.AlterationLemmas.{student_seats_gone, student_shares_gone}
 use Rattle.office_tables.proofs.AlterationLemmas.{student_shares_put}
@@ -286,7 +286,7 @@ module _ (r : Records) (T : Placing) (is : AreRecords r) (fits : Fits r.session 
   -- the database stands for the office with the publication
   published_kept : (a b : Database) (penalty : ℕ) (new : NewPublication)
       → ArePutIn r.session T (rows_now r.published) new_one.rows penalty new → IsKept a (Some r)
-      → ((t : Tables) → Held a t → Held b (publication_put new t))
+      → ((t : Tables) → Stands a t → Stands b (publication_put new t))
       → IsKept b (Some (record r { published = Some new_one }))
   published_kept a b penalty new put kept makes = record {
     held = publication_put new kept.held;
@@ -348,7 +348,7 @@ module _ (I : Session) (E : Enrolled) (d : ℕ) (rows : List DraftRow) (slots : 
         subst (λ o. IsFault (draft_published d o) e) (sym of.is) of.publishes
 
     pub publish_moves : (b : Database) (new : NewPublication) → Comes (Ok new)
-        → ((t : Tables) → Held a t → Held b (publication_put new t))
+        → ((t : Tables) → Stands a t → Stands b (publication_put new t))
         → Moves (draft_published d) new.counts a b m m
     publish_moves b new comes makes o kept is =
         let of = there (Ok new) comes o kept is in

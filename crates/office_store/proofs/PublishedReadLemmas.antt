@@ -25,11 +25,11 @@ use Rattle.office_model.specs.Publishing.{rows_now}
 use Rattle.office_model.specs.declared.fault.StoreFault.{StoreFault}
 use Rattle.office_records.specs.Memory.{Memory, memory_of}
 use Rattle.office_records.specs.Faults.{store_fault}
-use Rattle.office_records.specs.Publications.{AreRowsOf, ArePublished, StandsPublished}
+use Rattle.office_records.specs.Publications.{ArePublicationRows, ArePublished, StandsPublished}
 use Rattle.office_records.specs.Publications.{publication_from}
 use Rattle.office_records.specs.Publications.{placed_from, placed_rows, stored_seat}
 use Rattle.office_records.specs.SharesStored.{AreShared, part_rows, plain_rows}
-use Rattle.office_records.specs.Stands.{IsKept, IsSound, Stands}
+use Rattle.office_records.specs.Stands.{IsKept, IsSound, StandsForOffice}
 use Rattle.office_records.proofs.ReadableLemmas.{are_numbered}
 use Rattle.office_records.specs.declared.fault.RecordFault.{RecordFault}
 use Rattle.office_records.specs.declared.fault.RecordFault.TheVariants.{BadRows, NoMemory}
@@ -43,14 +43,14 @@ use Rattle.office_store.proofs.RunLemmas.{kept_of, nothing_kept}
 
 -- ---- the rows of each table
 
-pub placed_read : (t : Tables) (o : OfficeState) (rows : List PlacedRow) → Stands t o
+pub placed_read : (t : Tables) (o : OfficeState) (rows : List PlacedRow) → StandsForOffice t o
     → IsPermutation t.placed rows → IsPermutation rows (placed_rows (published_in o))
 placed_read t None rows stands p =
     IsPermutation-sym _ _ (subst (λ (t : Tables). IsPermutation t.placed rows) stands p)
 placed_read t (Some r) rows stands p =
     IsPermutation-trans _ _ _ (IsPermutation-sym _ _ p) stands.published.placed
 
-pub seats_read : (t : Tables) (o : OfficeState) (rows : List SeatRow) → Stands t o
+pub seats_read : (t : Tables) (o : OfficeState) (rows : List SeatRow) → StandsForOffice t o
     → IsPermutation t.seat rows
     → IsPermutation rows (map stored_seat (rows_now (published_in o)))
 seats_read t None rows stands p =
@@ -59,14 +59,14 @@ seats_read t (Some r) rows stands p =
     IsPermutation-trans _ _ _ (IsPermutation-sym _ _ p) stands.published.seat
 
 pub student_shares_read : (t : Tables) (o : OfficeState) (rows : List StudentShareRow)
-    → Stands t o → IsSound t o → IsPermutation t.share_student rows
+    → StandsForOffice t o → IsSound t o → IsPermutation t.share_student rows
     → IsPermutation rows (student_rows_in o)
 student_shares_read t None rows stands sound p =
     IsPermutation-sym _ _ (subst (λ (t : Tables). IsPermutation t.share_student rows) stands p)
 student_shares_read t (Some r) rows stands sound p =
     IsPermutation-trans _ _ _ (IsPermutation-sym _ _ p) sound.shared.of_students
 
-pub part_shares_read : (t : Tables) (o : OfficeState) (rows : List PartShareRow) → Stands t o
+pub part_shares_read : (t : Tables) (o : OfficeState) (rows : List PartShareRow) → StandsForOffice t o
     → IsSound t o → IsPermutation t.share_part rows → IsPermutation rows (part_rows_in o)
 part_shares_read t None rows stands sound p =
     IsPermutation-sym _ _ (subst (λ (t : Tables). IsPermutation t.share_part rows) stands p)
@@ -134,7 +134,7 @@ mark_of (Some p) I known is n long false tells =
 -- the rows with their mark
 pub marked_rows : (r : Records) → AreRecords r → (places : List PlacedRow) (seats : List SeatRow)
     → StandsPublished places seats r.published → (mark : Bool) → (IsTrue mark ↔ (1 ≤ length places))
-    → AreRowsOf mark places seats r.published
+    → ArePublicationRows mark places seats r.published
 marked_rows r is places seats rows mark tells = record {
   marked = mark_of r.published r.session is.session is.publication (length places)
       (sym (length_permutation _ _ rows.placed)) mark tells;
@@ -166,7 +166,7 @@ module _ (I : Session) (places : List PlacedRow) (seats : List SeatRow) (mark : 
     (marks : IsTrue mark ↔ (1 ≤ length places)) (r : Records) (is : AreRecords r)
     (same : r.session ≡ I) (rows : StandsPublished places seats r.published) where
   pub told_found : (found : Option (Placing × Vec publish.SeatRow Global))
-      → ((published : Option Publication) → AreRowsOf mark places seats published
+      → ((published : Option Publication) → ArePublicationRows mark places seats published
       → ArePublished I published → publication_from found ≡ published)
       → option_map (λ (p : Placing × Vec publish.SeatRow Global). (p.0, p.1.items)) found
       ≡ publication_shown (Some r)
@@ -177,7 +177,7 @@ module _ (I : Session) (places : List PlacedRow) (seats : List SeatRow) (mark : 
       (are_published r.session r.published is.publication)))
 
   -- they aren't bad
-  pub found_good : ((published : Option Publication) → AreRowsOf mark places seats published
+  pub found_good : ((published : Option Publication) → ArePublicationRows mark places seats published
       → ArePublished I published → ⊥) → ⊥
   found_good none =
       none r.published (marked_rows r is places seats rows mark marks)

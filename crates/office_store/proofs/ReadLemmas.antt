@@ -15,7 +15,7 @@ use Rattle.office_tables.specs.declared.rows.SlotRow.{SlotRow}
 use Rattle.office_records.specs.Found.{AreSlots}
 use Rattle.office_model.specs.Office.{OfficeState, Records, AreRecords, IsOffice}
 use Rattle.office_records.specs.Memory.{memory_of}
-use Rattle.office_records.specs.Stands.{Stands, IsSound, IsScoredRow, drafts_at, slots_at, slots_from, slot_rows, parts_of, once}
+use Rattle.office_records.specs.Stands.{StandsForOffice, IsSound, IsScoredRow, drafts_at, slots_at, slots_from, slot_rows, parts_of, once}
 use Rattle.office_records.specs.declared.fault.RecordFault.{RecordFault}
 use Rattle.office_records.specs.declared.fault.RecordFault.TheVariants.{NoMemory, BadRows}
 use Rattle.office_model.specs.declared.fault.StoreFault.{StoreFault}
@@ -34,7 +34,7 @@ scored_read t (Some r) d rows sound p =
     (all-filter (IsScoredRow r) (λ (x : DraftRow). eqb x.no d) t.draft sound.scored)
 
 -- the rows of its places that are read are those of its timetable
-pub places_read : (t : Tables) (o : OfficeState) (d : ℕ) (rows : List SlotRow) → Stands t o
+pub places_read : (t : Tables) (o : OfficeState) (d : ℕ) (rows : List SlotRow) → StandsForOffice t o
     → IsPermutation (slots_at d t.slot) rows → IsPermutation rows (slot_rows d (draft_in d o))
 places_read t None d rows stands p =
     IsPermutation-sym _ _ (subst (λ (t : Tables). IsPermutation (slots_at d t.slot) rows) stands p)

@@ -4,7 +4,7 @@ use Rattle.exam_model.specs.Enrolments.{Enrolled}
 use Rattle.exam_model.specs.Instance.{Session}
 use Rattle.sqlite.specs.State.{State, HasCleanDisk, IsUnchanged}
 use Rattle.office_tables.specs.Steps.{Keeps}
-use Rattle.office_tables.specs.Tables.{Tables, Stands as Held}
+use Rattle.office_tables.specs.Tables.{Tables, Stands}
 use Rattle.office_model.specs.Office.{OfficeState, Records}
 use Rattle.office_records.specs.Memory.{Memory, memory_of}
 use Rattle.office_store.specs.Running.{Now, IsAtRest, IsStill}
@@ -76,7 +76,7 @@ module _ (a b : State) (m : Memory) (rest : IsAtRest a m) (clean : HasCleanDisk 
     (settled : IsTrue a.is_open → a.now ≡ a.committed) where
   -- it leaves the tables, or what was committed
   module _ (was_open : HasCleanDisk b → IsTrue b.is_open → IsTrue a.is_open)
-      (reads : HasCleanDisk b → (t : Tables) → Held a.now t → Keeps a b) where
+      (reads : HasCleanDisk b → (t : Tables) → Stands a.now t → Keeps a b) where
     pub still_read : HasCleanDisk b → IsStill a b
     still_read is_clean opened =
         let here = rest (clean is_clean) (was_open is_clean opened) in
@@ -87,7 +87,7 @@ module _ (a b : State) (m : Memory) (rest : IsAtRest a m) (clean : HasCleanDisk 
 
   -- it has answered: what stands now stood before
   pub kept_read : (HasCleanDisk b → IsTrue a.is_open)
-      → (HasCleanDisk b → (t : Tables) → Held a.now t → IsUnchanged a b)
+      → (HasCleanDisk b → (t : Tables) → Stands a.now t → IsUnchanged a b)
       → HasCleanDisk b → (o : OfficeState) → IsKept b.now o → IsKept a.now o
   kept_read was_open same is_clean o =
       let here = rest (clean is_clean) (was_open is_clean) in

@@ -24,9 +24,9 @@ use Rattle.office_tables.specs.declared.rows.EnrolRow.{EnrolRow}
 use Rattle.office_tables.specs.declared.rows.PlacedRow.{PlacedRow}
 use Rattle.office_model.specs.Office.{AreRecords, IsOffice, OfficeState, Publication, Records}
 use Rattle.office_model.specs.Views.{published_place}
-use Rattle.office_model.specs.ViewRows.{ArePublished, places_in}
+use Rattle.office_model.specs.ViewRows.{AreOfPublication, places_in}
 use Rattle.office_records.specs.Publications.{placed_from, placed_row, placed_rows}
-use Rattle.office_records.specs.Stands.{Stands, enrol_row, once}
+use Rattle.office_records.specs.Stands.{StandsForOffice, enrol_row, once}
 use Rattle.office_store.specs.Reading.{published_in}
 use Rattle.office_store.specs.Viewing.{exams_in, her_row, place_in_row}
 use Rattle.std.specs.Prelude.{◌^◌, All}
@@ -220,7 +220,7 @@ abbrev row_pair : EnrolRow → Pair
 row_pair r = record { exam = r.exam; student = r.student }
 
 -- what is stored of her enrolments is that of her exams
-her_enrolments : (t : Tables) (r : Records) (c : ℕ) → Stands t (Some r) → AreRecords r
+her_enrolments : (t : Tables) (r : Records) (c : ℕ) → StandsForOffice t (Some r) → AreRecords r
     → IsPermutation (filter (λ (x : EnrolRow). eqb x.student c) t.enrol)
     (map (her_row c) (exams_sat r.enrolments c))
 her_enrolments t r c stands is =
@@ -229,7 +229,7 @@ her_enrolments t r c stands is =
     ∙ ap (map (her_row c)) (sym (sat_is r.enrolments c)))
     (IsPermutation-filter (λ (x : EnrolRow). eqb x.student c) _ _ stands.enrol)
 
-pub rows_read : (t : Tables) (r : Records) (c : ℕ) (found : List EnrolRow) → Stands t (Some r)
+pub rows_read : (t : Tables) (r : Records) (c : ℕ) (found : List EnrolRow) → StandsForOffice t (Some r)
     → AreRecords r
     → IsInOrder HerEnrolsRise (filter (λ (x : EnrolRow). eqb x.student c) t.enrol) found
     → found ≡ map (her_row c) (exams_sat r.enrolments c)
@@ -237,7 +237,7 @@ rows_read t r c found stands is order =
     order (map (her_row c) (exams_sat r.enrolments c)) (her_enrolments t r c stands is)
     (rows_rise c (exams_sat r.enrolments c) (sat_rise r.enrolments c))
 
-pub enrols_read : (t : Tables) (o : OfficeState) (c : ℕ) (found : List EnrolRow) → Stands t o
+pub enrols_read : (t : Tables) (o : OfficeState) (c : ℕ) (found : List EnrolRow) → StandsForOffice t o
     → IsOffice o
     → IsInOrder HerEnrolsRise (filter (λ (x : EnrolRow). eqb x.student c) t.enrol) found
     → map (λ (r : EnrolRow). r.exam) found ≡ exams_in c o
@@ -321,7 +321,7 @@ rows_of_exam (Some p) e =
 abbrev rows_for : Option Publication → List ℕ → List PlacedRow
 rows_for published es = flat_map (λ e. one_or_none (row_for published e)) es
 
-her_places : (t : Tables) (r : Records) (c : ℕ) → Stands t (Some r) → AreRecords r
+her_places : (t : Tables) (r : Records) (c : ℕ) → StandsForOffice t (Some r) → AreRecords r
     → IsPermutation (placed_of c t) (rows_for r.published (exams_sat r.enrolments c))
 her_places t r c stands is =
     let by : EnrolRow → List PlacedRow = λ x. filter (λ (p : PlacedRow). eqb p.exam x.exam) t.placed in
@@ -371,7 +371,7 @@ places_back published (e ∷ es) = go (published_place published e) (places_back
     go None more = more
     go (Some at) more = ap (λ l. (e, at) ∷ l) more
 
-pub places_read : (t : Tables) (o : OfficeState) (c : ℕ) (found : List PlacedRow) → Stands t o
+pub places_read : (t : Tables) (o : OfficeState) (c : ℕ) (found : List PlacedRow) → StandsForOffice t o
     → IsOffice o → IsInOrder PlacementsRise (placed_of c t) found
     → map place_in_row found ≡ places_in (published_in o) (exams_in c o)
 places_read t None c found stands is order =
@@ -426,7 +426,7 @@ her_seats_rise r c is (Some p) e =
     (chain_from_index RowBefore p.rows (is.publication p e).rows.in_order))
     (hers c p.rows)
 
-pub her_seats_read : (t : Tables) (o : OfficeState) (c : ℕ) (found : List SeatRow) → Stands t o
+pub her_seats_read : (t : Tables) (o : OfficeState) (c : ℕ) (found : List SeatRow) → StandsForOffice t o
     → IsOffice o
     → IsInOrder HerSeatsRise (filter (λ (x : SeatRow). eqb x.student c) t.seat) found
     → found ≡ map stored_seat (rows_of c (rows_now (published_in o)))
@@ -444,7 +444,7 @@ her_seats_read t (Some r) c found stands is order =
 -- ---- her share
 
 pub her_shares_read : (t : Tables) (o : OfficeState) (c : ℕ) (found : List StudentShareRow)
-    → Stands t o → IsSound t o
+    → StandsForOffice t o → IsSound t o
     → IsPermutation (filter (λ (x : StudentShareRow). eqb x.student c) t.share_student) found
     → IsPermutation (filter (λ (x : StudentShareRow). eqb x.student c) (student_rows_in o)) found
 her_shares_read t None c found stands sound p =
@@ -599,7 +599,7 @@ module _ (r : Records) (I : Session) (c : ℕ) (is : AreRecords r) (same : r.ses
       (rows : List ViewRow) (personal : PersonalPenalty)
       → enrolled ≡ map (λ (row : EnrolRow). row.exam) enrols → at ≡ map place_in_row places
       → ((all : List publish.SeatRow) → map stored_seat all ≡ seats → own ≡ all)
-      → ((published : Option Publication) → ArePublished published enrolled at own
+      → ((published : Option Publication) → AreOfPublication published enrolled at own
       → rows ≡ shown_exams (view_from I enrolled published own))
       → (IsHerShare shares (share_of I.periods I.weights her_seat_rows)
       → personal ≡ share_of I.periods I.weights her_seat_rows)
@@ -610,7 +610,7 @@ module _ (r : Records) (I : Session) (c : ℕ) (is : AreRecords r) (same : r.ses
       let her_places : at ≡ places_in r.published enrolled
       = stands ∙ hers.of_places ∙ ap (places_in r.published) (sym her_exams) in
       let own_is : own ≡ her_seat_rows = only her_seat_rows (sym hers.of_seats) in
-      let published : ArePublished r.published enrolled at own = record {
+      let published : AreOfPublication r.published enrolled at own = record {
         places = her_places;
         seats = subst (All (λ (row : publish.SeatRow).
             published_place r.published row.exam ≡ Some (row_place row))) (sym own_is)
@@ -673,16 +673,16 @@ personal_is shares rows share read result same nothing one_row is hers =
 pub told_of_same : (I : Session) (rows : List ViewRow) (enrolled exams : List ℕ)
     (at places : List (ℕ × Place)) (own seats : List publish.SeatRow)
     → enrolled ≡ exams → at ≡ places → own ≡ seats
-    → ((published : Option Publication) → ArePublished published enrolled at own
+    → ((published : Option Publication) → AreOfPublication published enrolled at own
     → rows ≡ shown_exams (view_from I enrolled published own))
-    → (published : Option Publication) → ArePublished published exams places seats
+    → (published : Option Publication) → AreOfPublication published exams places seats
     → rows ≡ shown_exams (view_from I exams published seats)
 told_of_same I rows enrolled exams at places own seats p q s told =
     subst (λ (l : List publish.SeatRow). (published : Option Publication)
-    → ArePublished published exams places l → rows ≡ shown_exams (view_from I exams published l)) s
+    → AreOfPublication published exams places l → rows ≡ shown_exams (view_from I exams published l)) s
     (subst (λ (l : List (ℕ × Place)). (published : Option Publication)
-    → ArePublished published exams l own → rows ≡ shown_exams (view_from I exams published own)) q
-    (subst (λ (l : List ℕ). (published : Option Publication) → ArePublished published l at own
+    → AreOfPublication published exams l own → rows ≡ shown_exams (view_from I exams published own)) q
+    (subst (λ (l : List ℕ). (published : Option Publication) → AreOfPublication published l at own
     → rows ≡ shown_exams (view_from I l published own)) p told))
 
 -- ---- the view of an office

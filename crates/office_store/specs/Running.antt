@@ -43,9 +43,9 @@ Shows says office Stays (Ok x) = (x ≡ says) × Stays office
 Shows says office Stays (Err fault) = (fault ≡ Store) × Stays office
 
 -- the same, over a disk that returns what was written
-abbrev pub Reads : {S A : Type 0} → Ghosts S → (OfficeState → A) → Held S → Held S
+abbrev pub ReadsOffice : {S A : Type 0} → Ghosts S → (OfficeState → A) → Held S → Held S
     → Result A StoreFault → Type 0
-Reads store says old new result =
+ReadsOffice store says old new result =
     HasCleanDisk (state store new) → (office : OfficeState) → Now (state store old) office
     → Shows (says office) office (Now (state store new)) result
 

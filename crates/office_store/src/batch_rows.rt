@@ -6,7 +6,7 @@ ghost use Rattle.office_model.specs.Office.{AreRecords, Records};
 ghost use Rattle.office_records.specs.Found.{AreDrafts};
 ghost use Rattle.office_records.specs.Stands.{IsSound, StandsLoaded, drafts_at, slots_at};
 ghost use Rattle.office_tables.specs.Steps.{LeavesCommitted, OpensNone};
-ghost use Rattle.office_tables.specs.Tables.{Stands as Held, Tables};
+ghost use Rattle.office_tables.specs.Tables.{Stands, Tables};
 
 use crate::fault::Failed;
 use exam_terms::limits::MAX_DRAFTS;
@@ -28,17 +28,17 @@ pub(crate) fn batch_rows<S: Alter>(
     conn: &mut Connection<S>,
 ) -> Result<BatchRows, Failed>
     ensures numbers { HasCleanDisk (state S.Store conn.new) → (t : Tables)
-        → Held (state S.Store conn.old).now t → IfOk result
+        → Stands (state S.Store conn.old).now t → IfOk result
         (λ found. IsPermutation (map (λ b. b.no) t.batch) found.numbers.items) }
     ensures drafts { HasCleanDisk (state S.Store conn.new) → (t : Tables)
-        → Held (state S.Store conn.old).now t → IfOk result
+        → Stands (state S.Store conn.old).now t → IfOk result
         (λ found. (r : Records) → StandsLoaded t r → IsSound t (Some r) → AreRecords r
         → AreDrafts r.session r.enrolments found.drafts.items found.slots.items r.draft) }
     ensures open { HasCleanDisk (state S.Store conn.new)
         → OnOk result (IsTrue (state S.Store conn.old).is_open) }
     ensures was_open { OpensNone S.Store conn.old conn.new }
     ensures same { HasCleanDisk (state S.Store conn.new) → (t : Tables)
-        → Held (state S.Store conn.old).now t
+        → Stands (state S.Store conn.old).now t
         → OnOk result (IsUnchanged (state S.Store conn.old) (state S.Store conn.new)) }
     ensures kept { LeavesCommitted S.Store conn.old conn.new }
     ensures mode { conn.old.in_transaction ≡ false → conn.new.in_transaction ≡ false }
@@ -66,11 +66,11 @@ fn add_draft<S: Alter>(
     drafts: &mut Vec<DraftRow>,
 ) -> Result<(), Failed>
     ensures added { HasCleanDisk (state S.Store conn.new) → (t : Tables)
-        → Held (state S.Store conn.old).now t → OnOk result
+        → Stands (state S.Store conn.old).now t → OnOk result
         (IsPermutation (drafts.old.items ++ drafts_at number t.draft) drafts.new.items) }
     ensures was_open { OpensNone S.Store conn.old conn.new }
     ensures same { HasCleanDisk (state S.Store conn.new) → (t : Tables)
-        → Held (state S.Store conn.old).now t
+        → Stands (state S.Store conn.old).now t
         → OnOk result (IsUnchanged (state S.Store conn.old) (state S.Store conn.new)) }
     ensures kept { LeavesCommitted S.Store conn.old conn.new }
     ensures mode { conn.old.in_transaction ≡ false → conn.new.in_transaction ≡ false }
@@ -89,11 +89,11 @@ fn add_slots<S: Alter>(
     slots: &mut Vec<SlotRow>,
 ) -> Result<(), Failed>
     ensures added { HasCleanDisk (state S.Store conn.new) → (t : Tables)
-        → Held (state S.Store conn.old).now t → OnOk result
+        → Stands (state S.Store conn.old).now t → OnOk result
         (IsPermutation (slots.old.items ++ slots_at number t.slot) slots.new.items) }
     ensures was_open { OpensNone S.Store conn.old conn.new }
     ensures same { HasCleanDisk (state S.Store conn.new) → (t : Tables)
-        → Held (state S.Store conn.old).now t
+        → Stands (state S.Store conn.old).now t
         → OnOk result (IsUnchanged (state S.Store conn.old) (state S.Store conn.new)) }
     ensures kept { LeavesCommitted S.Store conn.old conn.new }
     ensures mode { conn.old.in_transaction ≡ false → conn.new.in_transaction ≡ false }

@@ -6,7 +6,7 @@ ghost use Rattle.sqlite.specs.Held.{state};
 ghost use Rattle.sqlite.specs.State.{HasCleanDisk, IsUnchanged};
 ghost use Rattle.office_tables.specs.Records.{batch_from, counts_of};
 ghost use Rattle.office_tables.specs.Steps.{LeavesCommitted};
-ghost use Rattle.office_tables.specs.Tables.{Stands as Held, Tables};
+ghost use Rattle.office_tables.specs.Tables.{Stands, Tables};
 ghost use Rattle.office_records.specs.Found.{IsShort};
 ghost use Rattle.office_store.specs.Faults.{IsOfDatabase};
 
@@ -24,14 +24,14 @@ pub fn check_bytes<S: Alter>(
     batches: &[BatchCountsRow],
 ) -> Result<(), StoreFault>
     ensures short { HasCleanDisk (state S.Store conn.new) → (t : Tables)
-        → Held (state S.Store conn.old).now t → map counts_of t.batch ≡ batches.now
+        → Stands (state S.Store conn.old).now t → map counts_of t.batch ≡ batches.now
         → OnOk result (All IsShort t.batch) }
     ensures long { HasCleanDisk (state S.Store conn.new) → (t : Tables)
-        → Held (state S.Store conn.old).now t
+        → Stands (state S.Store conn.old).now t
         → IfErr result (λ e. e ≡ StoreFault.BadSchema → All IsShort t.batch → ⊥) }
     ensures fault { IfErr result IsOfDatabase }
     ensures same { HasCleanDisk (state S.Store conn.new) → (t : Tables)
-        → Held (state S.Store conn.old).now t → OnOk result ((conn.new ≡ conn.old)
+        → Stands (state S.Store conn.old).now t → OnOk result ((conn.new ≡ conn.old)
         ⊎ IsUnchanged (state S.Store conn.old) (state S.Store conn.new)) }
     ensures kept { LeavesCommitted S.Store conn.old conn.new }
     ensures mode { conn.old.in_transaction ≡ false → conn.new.in_transaction ≡ false }
@@ -47,14 +47,14 @@ pub fn check_bytes<S: Alter>(
 // is.
 fn check_batch<S: Alter>(alloc: Global, conn: &mut Connection<S>, no: u32) -> Result<(), StoreFault>
     ensures short { HasCleanDisk (state S.Store conn.new) → (t : Tables)
-        → Held (state S.Store conn.old).now t
+        → Stands (state S.Store conn.old).now t
         → OnOk result (AllByRecursion IsShort (filter (λ b. b.no == no) t.batch)) }
     ensures long { HasCleanDisk (state S.Store conn.new) → (t : Tables)
-        → Held (state S.Store conn.old).now t
+        → Stands (state S.Store conn.old).now t
         → IfErr result (λ e. e ≡ StoreFault.BadSchema → All IsShort t.batch → ⊥) }
     ensures fault { IfErr result IsOfDatabase }
     ensures same { HasCleanDisk (state S.Store conn.new) → (t : Tables)
-        → Held (state S.Store conn.old).now t
+        → Stands (state S.Store conn.old).now t
         → OnOk result (IsUnchanged (state S.Store conn.old) (state S.Store conn.new)) }
     ensures kept { LeavesCommitted S.Store conn.old conn.new }
     ensures mode { conn.old.in_transaction ≡ false → conn.new.in_transaction ≡ false }

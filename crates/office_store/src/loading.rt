@@ -5,7 +5,7 @@ ghost use Rattle.sqlite.specs.State.{HasCleanDisk};
 ghost use Rattle.exam_model.specs.Enrolments.{AreEnrolments};
 ghost use Rattle.exam_model.specs.Instance.{IsInstance};
 ghost use Rattle.exam_model.specs.Pairs.{pairs_at, pairs_of};
-ghost use Rattle.office_model.specs.Commands.{NamesFirstFault, SpellsSession, counts_of, loaded};
+ghost use Rattle.office_model.specs.Commands.{NamesFirstFault, SpellsSession, loaded_of, loaded};
 ghost use Rattle.office_store.specs.Running.{Runs};
 ghost use Rattle.office_records.specs.Stands.{enrol_row};
 
@@ -62,7 +62,7 @@ impl<S: Alter> Office<S> {
 }
 
 fn counts_of(instance: &Instance, enrolments: &Enrolments) -> Loaded
-    ensures counts { result ≡ counts_of (instance.now, enrolments.now) }
+    ensures counts { result ≡ loaded_of (instance.now, enrolments.now) }
     ensures instance { IsInstance instance.now }
     ensures enrolments { AreEnrolments enrolments.now }
 {

@@ -6,7 +6,7 @@ ghost use Rattle.exam_terms.specs.declared.limits.TheConstants.{MAX_DEPARTMENT};
 ghost use Rattle.office_model.specs.Commands.{owned, owner_in};
 ghost use Rattle.office_model.specs.Office.{OfficeState};
 ghost use Rattle.office_store.specs.Changes.{new_owner};
-ghost use Rattle.office_store.specs.Running.{IsAwake, Now, Reads, Runs};
+ghost use Rattle.office_store.specs.Running.{IsAwake, Now, ReadsOffice, Runs};
 ghost use Rattle.office_records.specs.Stands.{some_dept};
 
 use crate::fault::Failed;
@@ -45,7 +45,7 @@ impl<S: Alter> Office<S> {
 
     /// The department that owns an exam; 0 where there is no such exam or owner.
     pub fn owner(&mut self, alloc: Global, exam: ExamNo) -> Result<u32, StoreFault>
-        ensures reads { Reads S.Store (owner_in exam) self.old self.new result }
+        ensures reads { ReadsOffice S.Store (owner_in exam) self.old self.new result }
         // What is at hand is then what the file says.
         ensures awake { HasCleanDisk (state S.Store self.new)
             → OnOk result (IsAwake (state S.Store self.new)) }

@@ -6,7 +6,7 @@ ghost use Rattle.office_model.specs.Office.{AreRecords, OfficeState, Records};
 ghost use Rattle.office_records.specs.Publications.{AreFound, StandsPublished, publication_from};
 ghost use Rattle.office_records.specs.SharesStored.{AreShared};
 ghost use Rattle.office_store.specs.Publications.{AddUpIn, plain, publication_shown, shares_in};
-ghost use Rattle.office_store.specs.Running.{IsAwake, Now, Reads, Tells};
+ghost use Rattle.office_store.specs.Running.{IsAwake, Now, ReadsOffice, Tells};
 
 use crate::office::Office;
 use crate::published_rows::{PublishedRows, ShareRows};
@@ -24,7 +24,7 @@ impl<S: Alter> Office<S> {
         &mut self,
         alloc: Global,
     ) -> Result<Option<(Timetable, Vec<SeatRow>)>, StoreFault>
-        ensures reads { Reads S.Store publication_shown self.old self.new (plain result) }
+        ensures reads { ReadsOffice S.Store publication_shown self.old self.new (plain result) }
         // What is at hand is then what the file says.
         ensures awake { HasCleanDisk (state S.Store self.new)
             → OnOk result (IsAwake (state S.Store self.new)) }
@@ -40,7 +40,7 @@ impl<S: Alter> Office<S> {
 
     /// Whose share of the publication's penalty is how much. `None`: nothing is published.
     pub fn shares(&mut self, alloc: Global) -> Result<Option<Shares>, StoreFault>
-        ensures reads { Reads S.Store shares_in self.old self.new result }
+        ensures reads { ReadsOffice S.Store shares_in self.old self.new result }
         // Together they are the penalty of the publication.
         ensures add_up { HasCleanDisk (state S.Store self.new) → (office : OfficeState)
             → Now (state S.Store self.old) office → IfOk result (AddUpIn office) }

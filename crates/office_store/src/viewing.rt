@@ -12,7 +12,7 @@ ghost use Rattle.office_model.specs.Views.{no_view, shown_to, view_of};
 ghost use Rattle.office_records.specs.Publications.{stored_seat};
 ghost use Rattle.office_records.specs.Stands.{IsKept};
 ghost use Rattle.office_store.specs.Reading.{published_in, student_rows_in};
-ghost use Rattle.office_store.specs.Running.{IsAwake, IsStill, Reads, Tells};
+ghost use Rattle.office_store.specs.Running.{IsAwake, IsStill, ReadsOffice, Tells};
 ghost use Rattle.office_store.specs.Viewing.{AreHerRows, exams_in, no_share, place_in_row};
 ghost use Rattle.office_store.specs.Viewing.{share_in_row};
 ghost use Rattle.office_tables.specs.declared.rows.StudentShareRow.{StudentShareRow as ShareRow};
@@ -47,7 +47,7 @@ impl<S: Alter> Office<S> {
         alloc: Global,
         student: StudentNo,
     ) -> Result<CandidateView, StoreFault>
-        ensures reads { Reads S.Store (λ o. shown_to student (view_of student o)) self.old self.new
+        ensures reads { ReadsOffice S.Store (λ o. shown_to student (view_of student o)) self.old self.new
             result }
         ensures clean { HasCleanDisk (state S.Store self.new)
             → HasCleanDisk (state S.Store self.old) }

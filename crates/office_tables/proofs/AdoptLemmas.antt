@@ -5,7 +5,7 @@ use Rattle.std.specs.declared.alloc.Global.{Global}
 use Rattle.sqlite.specs.Effect.{Database, IsDatabase}
 use Rattle.sqlite.specs.State.{State, HasCleanDisk, IsUnchanged}
 use Rattle.sqlite.proofs.StateLemmas.{survives_then}
-use Rattle.office_tables.specs.Adopting.{IsFoundSession, IsFoundDrafts, IsFoundPublication, IsFoundBatches, IsAdopted, IsSession, IsDrafts, IsPublication, IsWhole}
+use Rattle.office_tables.specs.Adopting.{IsFoundSession, IsFoundDrafts, IsFoundPublication, IsFoundBatches, IsAdopted, IsSession, IsDrafts, HasAllOfPublication, IsWhole}
 use Rattle.office_tables.specs.declared.found.Found.{Found}
 use Rattle.office_tables.specs.declared.found.FoundDrafts.{FoundDrafts}
 use Rattle.office_tables.specs.declared.found.FoundPublication.{FoundPublication}
@@ -23,7 +23,7 @@ use Rattle.office_tables.specs.declared.rows.PartShareRow.{PartShareRow}
 use Rattle.office_tables.specs.Readings.{IsFound, IsFoundMeta, HasTables, Looks}
 use Rattle.office_tables.specs.Records.{FitsOwner, FitsEnrol, FitsDraft, FitsSlot, FitsPlacement, FitsSeat, FitsStudentShare, FitsPartShare}
 use Rattle.office_schema.specs.Schema.{office_schema}
-use Rattle.office_tables.specs.Tables.{Holds, keyed, keyless, meta_row, owner_row, enrol_row, draft_row, slot_row, placed_row, seat_row, share_student_row, share_part_row}
+use Rattle.office_tables.specs.Tables.{Holds, keyed, keyless, meta_columns, owner_columns, enrol_columns, draft_columns, slot_columns, placed_columns, seat_columns, share_student_columns, share_part_columns}
 use Rattle.office_tables.proofs.Reading.{keeps_after}
 
 -- ---- readers in a row
@@ -87,63 +87,63 @@ module _ (a b c : State) (first : Stays a b) (looks : Looks b c) where
 
 pub session_found : (db : Database) (meta : Option MetaRow) (owners : Option (Vec OwnerRow Global))
     (enrols : Option (Vec EnrolRow Global))
-    → IsFoundMeta (db.trees 0) meta → IsFound FitsOwner owner_row keyed (db.trees 1) owners
-    → IsFound FitsEnrol enrol_row keyless (db.trees 2) enrols
+    → IsFoundMeta (db.trees 0) meta → IsFound FitsOwner owner_columns keyed (db.trees 1) owners
+    → IsFound FitsEnrol enrol_columns keyless (db.trees 2) enrols
     → (found : Option FoundSession) → IsSession meta owners enrols found → IsFoundSession db found
 session_found db meta owners enrols m o e (Some found) is = record {
   meta = subst (IsFoundMeta (db.trees 0)) is.0 m;
-  owner = subst (IsFound FitsOwner owner_row keyed (db.trees 1)) is.1 o;
-  enrol = subst (IsFound FitsEnrol enrol_row keyless (db.trees 2)) is.2 e;
+  owner = subst (IsFound FitsOwner owner_columns keyed (db.trees 1)) is.1 o;
+  enrol = subst (IsFound FitsEnrol enrol_columns keyless (db.trees 2)) is.2 e;
 }
 session_found db meta owners enrols m o e None (inl none) = λ t plain stands.
     subst (IsFoundMeta (db.trees 0)) none m plain.row
-    (subst (λ l. Holds keyed (map meta_row l) (db.trees 0)) plain.meta stands.meta)
+    (subst (λ l. Holds keyed (map meta_columns l) (db.trees 0)) plain.meta stands.meta)
 session_found db meta owners enrols m o e None (inr (inl none)) = λ t plain stands.
-    subst (IsFound FitsOwner owner_row keyed (db.trees 1)) none o t.owner plain.owner stands.owner
+    subst (IsFound FitsOwner owner_columns keyed (db.trees 1)) none o t.owner plain.owner stands.owner
 session_found db meta owners enrols m o e None (inr (inr none)) = λ t plain stands.
-    subst (IsFound FitsEnrol enrol_row keyless (db.trees 2)) none e t.enrol plain.enrol stands.enrol
+    subst (IsFound FitsEnrol enrol_columns keyless (db.trees 2)) none e t.enrol plain.enrol stands.enrol
 
 pub drafts_found : (db : Database) (drafts : Option (Vec DraftRow Global))
     (slots : Option (Vec SlotRow Global))
-    → IsFound FitsDraft draft_row keyed (db.trees 4) drafts
-    → IsFound FitsSlot slot_row keyless (db.trees 5) slots
+    → IsFound FitsDraft draft_columns keyed (db.trees 4) drafts
+    → IsFound FitsSlot slot_columns keyless (db.trees 5) slots
     → (found : Option FoundDrafts) → IsDrafts drafts slots found → IsFoundDrafts db found
 drafts_found db drafts slots d s (Some found) is = record {
-  draft = subst (IsFound FitsDraft draft_row keyed (db.trees 4)) is.0 d;
-  slot = subst (IsFound FitsSlot slot_row keyless (db.trees 5)) is.1 s;
+  draft = subst (IsFound FitsDraft draft_columns keyed (db.trees 4)) is.0 d;
+  slot = subst (IsFound FitsSlot slot_columns keyless (db.trees 5)) is.1 s;
 }
 drafts_found db drafts slots d s None (inl none) = λ t plain stands.
-    subst (IsFound FitsDraft draft_row keyed (db.trees 4)) none d t.draft plain.draft stands.draft
+    subst (IsFound FitsDraft draft_columns keyed (db.trees 4)) none d t.draft plain.draft stands.draft
 drafts_found db drafts slots d s None (inr none) = λ t plain stands.
-    subst (IsFound FitsSlot slot_row keyless (db.trees 5)) none s t.slot plain.slot stands.slot
+    subst (IsFound FitsSlot slot_columns keyless (db.trees 5)) none s t.slot plain.slot stands.slot
 
 pub publication_found : (db : Database) (placements : Option (Vec PlacedRow Global))
     (seats : Option (Vec SeatRow Global)) (students : Option (Vec StudentShareRow Global))
     (parts : Option (Vec PartShareRow Global))
-    → IsFound FitsPlacement placed_row keyed (db.trees 7) placements
-    → IsFound FitsSeat seat_row keyless (db.trees 8) seats
-    → IsFound FitsStudentShare share_student_row keyed (db.trees 11) students
-    → IsFound FitsPartShare share_part_row keyless (db.trees 12) parts
-    → (found : Option FoundPublication) → IsPublication placements seats students parts found
+    → IsFound FitsPlacement placed_columns keyed (db.trees 7) placements
+    → IsFound FitsSeat seat_columns keyless (db.trees 8) seats
+    → IsFound FitsStudentShare share_student_columns keyed (db.trees 11) students
+    → IsFound FitsPartShare share_part_columns keyless (db.trees 12) parts
+    → (found : Option FoundPublication) → HasAllOfPublication placements seats students parts found
     → IsFoundPublication db found
 publication_found db placements seats students parts p s n k (Some found) is = record {
-  placed = subst (IsFound FitsPlacement placed_row keyed (db.trees 7)) is.0 p;
-  seat = subst (IsFound FitsSeat seat_row keyless (db.trees 8)) is.1 s;
-  share_student = subst (IsFound FitsStudentShare share_student_row keyed (db.trees 11)) is.2 n;
-  share_part = subst (IsFound FitsPartShare share_part_row keyless (db.trees 12)) is.3 k;
+  placed = subst (IsFound FitsPlacement placed_columns keyed (db.trees 7)) is.0 p;
+  seat = subst (IsFound FitsSeat seat_columns keyless (db.trees 8)) is.1 s;
+  share_student = subst (IsFound FitsStudentShare share_student_columns keyed (db.trees 11)) is.2 n;
+  share_part = subst (IsFound FitsPartShare share_part_columns keyless (db.trees 12)) is.3 k;
 }
 publication_found db placements seats students parts p s n k None (inl none) = λ t plain stands.
-    subst (IsFound FitsPlacement placed_row keyed (db.trees 7)) none p t.placed plain.placed
+    subst (IsFound FitsPlacement placed_columns keyed (db.trees 7)) none p t.placed plain.placed
     stands.placed
 publication_found db placements seats students parts p s n k None (inr (inl none)) =
-    λ t plain stands. subst (IsFound FitsSeat seat_row keyless (db.trees 8)) none s
+    λ t plain stands. subst (IsFound FitsSeat seat_columns keyless (db.trees 8)) none s
     t.seat plain.seat
     stands.seat
 publication_found db placements seats students parts p s n k None (inr (inr (inl none))) =
-    λ t plain stands. subst (IsFound FitsStudentShare share_student_row keyed (db.trees 11)) none n
+    λ t plain stands. subst (IsFound FitsStudentShare share_student_columns keyed (db.trees 11)) none n
     t.share_student plain.share_student stands.share_student
 publication_found db placements seats students parts p s n k None (inr (inr (inr none))) =
-    λ t plain stands. subst (IsFound FitsPartShare share_part_row keyless (db.trees 12)) none k
+    λ t plain stands. subst (IsFound FitsPartShare share_part_columns keyless (db.trees 12)) none k
     t.share_part plain.share_part stands.share_part
 
 pub rows_found : (db : Database) → db.schema ≡ office_schema

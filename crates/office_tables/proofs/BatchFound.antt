@@ -16,8 +16,8 @@ use Rattle.sqlite.specs.Effect.{Database, IsDatabase}
 use Rattle.office_schema.specs.Schema.{office_schema, int, blob, batch_table}
 use Rattle.office_tables.specs.Adopting.{IsFoundBatches}
 use Rattle.office_tables.specs.Readings.{IsFound}
-use Rattle.office_tables.specs.Records.{counts_of, counts_row, FitsCounts}
-use Rattle.office_tables.specs.Tables.{keyed, batch_row}
+use Rattle.office_tables.specs.Records.{counts_of, counts_columns, FitsCounts}
+use Rattle.office_tables.specs.Tables.{keyed, batch_columns}
 use Rattle.office_tables.specs.declared.rows.BatchCountsRow.{BatchCountsRow}
 use Rattle.office_tables.proofs.AskLemmas.{unmapped}
 use Rattle.office_tables.proofs.ListTexts.{counts_shown}
@@ -59,8 +59,8 @@ whole (a ∷ b ∷ v ∷ row) long typed present =
 abbrev picked : Row → Row
 picked q = column q 0 ∷ column q 2 ∷ column q 3 ∷ column q 4 ∷ []
 
-is_batch : (q : Row) → IsWhole q → (found : BatchCountsRow) × (picked q ≡ counts_row found)
-    → q ≡ batch_row (batch_of q)
+is_batch : (q : Row) → IsWhole q → (found : BatchCountsRow) × (picked q ≡ counts_columns found)
+    → q ≡ batch_columns (batch_of q)
 is_batch q whole (found, is) =
     let no : column q 0 ≡ Int (pos found.no) = ap (λ (l : Row). column l 0) is in
     let added : column q 2 ≡ Int (pos found.added) = ap (λ (l : Row). column l 1) is in
@@ -97,35 +97,35 @@ module _ (db : Database) (is : db.schema ≡ office_schema) (sound : IsDatabase 
 
   -- the table's batches have the numbers that were found; or there are none that fit
   pub batches_found : (found : Option (Vec BatchCountsRow Global))
-      → IsFound FitsCounts counts_row counts_shown (db.trees 14) found → IsFoundBatches db found
+      → IsFound FitsCounts counts_columns counts_shown (db.trees 14) found → IsFoundBatches db found
   batches_found (Some found) holds =
       let shown = map keyed (db.trees 14) in
-      let moved = subst (λ l. IsPermutation l (map counts_row found.items)) (sym counts_listed)
+      let moved = subst (λ l. IsPermutation l (map counts_columns found.items)) (sym counts_listed)
       holds.same in
-      let u = unmapped picked shown (map counts_row found.items) moved in
+      let u = unmapped picked shown (map counts_columns found.items) moved in
       let here = all-permutation IsWhole shown u.0 u.2 all_whole in
-      let Counted = λ (q : Row). (f : BatchCountsRow) × (q ≡ counts_row f) in
+      let Counted = λ (q : Row). (f : BatchCountsRow) × (q ≡ counts_columns f) in
       let counted : AllByRecursion (λ q. Counted (picked q)) u.0 =
       all_from_map Counted picked u.0 (subst (AllByRecursion Counted) u.1
-      (all-map Counted counts_row found.items (all_of _ (λ f. (f, refl)) found.items))) in
-      let rows : u.0 ≡ map batch_row (map batch_of u.0) =
-      all_same (λ q. batch_row (batch_of q)) u.0
-      (all_both IsWhole (λ q. Counted (picked q)) (λ q. q ≡ batch_row (batch_of q)) is_batch u.0
+      (all-map Counted counts_columns found.items (all_of _ (λ f. (f, refl)) found.items))) in
+      let rows : u.0 ≡ map batch_columns (map batch_of u.0) =
+      all_same (λ q. batch_columns (batch_of q)) u.0
+      (all_both IsWhole (λ q. Counted (picked q)) (λ q. q ≡ batch_columns (batch_of q)) is_batch u.0
       here counted)
-      ∙ sym (map-map batch_row batch_of u.0) in
+      ∙ sym (map-map batch_columns batch_of u.0) in
       let numbers : map counts_of (map batch_of u.0) ≡ found.items =
       map-map counts_of batch_of u.0 ∙ sym (map-map counts_in picked u.0)
-      ∙ ap (map counts_in) (sym u.1) ∙ map-map counts_in counts_row found.items
-      ∙ id_map (λ f. counts_in (counts_row f)) (λ f. refl) found.items in (
+      ∙ ap (map counts_in) (sym u.1) ∙ map-map counts_in counts_columns found.items
+      ∙ id_map (λ f. counts_in (counts_columns f)) (λ f. refl) found.items in (
         map batch_of u.0,
         numbers,
         record { rowids = holds.rowids; same = subst (IsPermutation shown) rows u.2 },
       )
   batches_found None none = λ batches fit holds.
-      let typed : map picked (map batch_row batches) ≡ map counts_row (map counts_of batches) =
-      map-map picked batch_row batches ∙ sym (map-map counts_row counts_of batches) in
+      let typed : map picked (map batch_columns batches) ≡ map counts_columns (map counts_of batches) =
+      map-map picked batch_columns batches ∙ sym (map-map counts_columns counts_of batches) in
       let same : IsPermutation (map counts_shown (db.trees 14))
-      (map counts_row (map counts_of batches)) =
+      (map counts_columns (map counts_of batches)) =
       rw (sym counts_listed, sym typed) (IsPermutation-map picked _ _ holds.same) in
       none (map counts_of batches) (all-map FitsCounts counts_of batches fit)
       (record { rowids = holds.rowids; same = same })

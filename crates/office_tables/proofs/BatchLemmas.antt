@@ -12,7 +12,7 @@ use Rattle.sqlite.specs.Term.{Term, lit, col}
 use Rattle.sqlite.proofs.Callers.{IsPlain, command_of}
 use Rattle.sqlite_tied.specs.Compute.{everything}
 use Rattle.office_schema.specs.Schema.{office_schema, batch_table}
-use Rattle.office_tables.specs.Tables.{Tables, Stands, Batch, keyed, batch_row}
+use Rattle.office_tables.specs.Tables.{Tables, Stands, Batch, keyed, batch_columns}
 use Rattle.office_tables.proofs.Casts.{cast_int, cast_null}
 use Rattle.office_tables.proofs.Frames.{batch_changed}
 use Rattle.office_tables.proofs.Statements.{inserts}
@@ -36,7 +36,7 @@ unfolding understood everything
 insert_plain = (refl, refl)
 
 pub added : (old new : State) (row : Batch) (count : ℕ) (t : Tables) → Stands old.now t
-    → Executes insert_text (batch_row row) old new (Ok count)
+    → Executes insert_text (batch_columns row) old new (Ok count)
     → Stands new.now (record t { batch = row ∷ t.batch })
 added old new row count t stands h =
     let done = inserts insert_text _ old new count office_schema stands.schema insert_plain
@@ -55,6 +55,6 @@ added old new row count t stands h =
     ) refl in
     let fresh : are_fresh stored (new_row ∷ []) ≡ true = rw (cast_int row.no) at is.fresh in
     batch_changed old.now new.now t stands done.0 (row ∷ t.batch) is.tables
-    (rw rows (holds_more keyed (map batch_row t.batch) stored new_row (batch_row row) refl refl
+    (rw rows (holds_more keyed (map batch_columns t.batch) stored new_row (batch_columns row) refl refl
     fresh
     stands.batch))

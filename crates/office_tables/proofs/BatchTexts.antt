@@ -17,9 +17,9 @@ use Rattle.sqlite.proofs.Callers.{one_permutation}
 use Rattle.sqlite_tied.specs.Compute.{everything}
 use Rattle.office_schema.specs.Schema.{office_schema}
 use Rattle.office_tables.specs.Asking.{asks, IsReadOf, Means}
-use Rattle.office_tables.specs.Records.{batch_from, number_row}
+use Rattle.office_tables.specs.Records.{batch_from, number_columns}
 use Rattle.office_tables.specs.Selections.{NumbersRise}
-use Rattle.office_tables.specs.Tables.{Tables, Stands, Batch, keyed, batch_row}
+use Rattle.office_tables.specs.Tables.{Tables, Stands, Batch, keyed, batch_columns}
 use Rattle.office_tables.specs.declared.rows.BatchRow.{BatchRow}
 use Rattle.office_tables.proofs.OrderLemmas.{Rises, numbers_cmp, read, rising, table_shown, typed}
 use Rattle.office_tables.proofs.Queries.{column_later, equal_numbers, equals, every, matched, passes}
@@ -28,7 +28,7 @@ use Rattle.office_tables.proofs.TableLemmas.{keys_once, once_moved}
 
 -- a number is kept once
 pub kept_once : (db : Database) (t : Tables) → Stands db t → IsAscending (λ a b. a.no ≢ b.no) t.batch
-kept_once db t stands = keys_once batch_row (λ (b : Batch). b.no) (λ b. refl) t.batch (db.trees 14)
+kept_once db t stands = keys_once batch_columns (λ (b : Batch). b.no) (λ b. refl) t.batch (db.trees 14)
     stands.batch
 
 -- ---- SELECT no, bytes, added, dropped, unchanged FROM batch WHERE no = ?1 ORDER BY no
@@ -65,14 +65,14 @@ shown_is r = rw (
 ) refl
 
 rows_read : (db : Database) (n : ℕ) (t : Tables) → Stands db t → (found : List Batch)
-    → IsReadOf batch_row 5 (Int (pos n) ∷ []) batch_of_query db.trees found
+    → IsReadOf batch_columns 5 (Int (pos n) ∷ []) batch_of_query db.trees found
     → IsPermutation (filter (λ r. r.no == n) t.batch) found
 rows_read db n t stands found is =
     let params : Row = Int (pos n) ∷ [] in
-    (read batch_of batch_row 5 (λ x. refl) (λ x. refl) (inner 14 end) (equals 0 0 ∷ []) columns
+    (read batch_of batch_columns 5 (λ x. refl) (λ x. refl) (inner 14 end) (equals 0 0 ∷ []) columns
     (0 ∷ []) (λ (x : Batch). x.no ∷ []) (λ x. refl) db.trees params
     (filter (λ r. r.no == n) t.batch) found
-    (table_shown batch_row keyed picked params 14 (equals 0 0 ∷ []) columns shown_is
+    (table_shown batch_columns keyed picked params 14 (equals 0 0 ∷ []) columns shown_is
     (λ x. refl) (passes params (equals 0 0 ∷ [])) (λ r. refl)
     (λ r. r.no == n) (λ x. equal_numbers x.no n) db.trees t.batch
     stands.batch.same) is).0
@@ -110,14 +110,14 @@ last_alone xs (z ∷ rest) (Some y) is some few =
 
 pub batch_of_read : (db : Database) (n : ℕ) (t : Tables) → Stands db t
     → (found rest : List BatchRow) (last : Option BatchRow)
-    → IsReadOf (λ r. batch_row (batch_from r)) 5 (Int (pos n) ∷ []) batch_of_query db.trees found
+    → IsReadOf (λ r. batch_columns (batch_from r)) 5 (Int (pos n) ∷ []) batch_of_query db.trees found
     → found ≡ rest ++ option_to_list last → IsSome last ↔ (0 < length found)
     → filter (λ r. r.no == n) t.batch ≡ map batch_from (option_to_list last)
 batch_of_read db n t stands found rest last is ends some =
     let kept = filter (λ r. r.no == n) t.batch in
     let same : IsPermutation kept (map batch_from found) =
     rows_read db n t stands (map batch_from found)
-    (typed batch_row batch_from 5 (Int (pos n) ∷ []) batch_of_query db.trees found is) in
+    (typed batch_columns batch_from 5 (Int (pos n) ∷ []) batch_of_query db.trees found is) in
     let few = one_at_most n kept (passing n t.batch)
     (ascending-filter (λ a b. a.no ≢ b.no) (λ r. r.no == n) t.batch (kept_once db t stands)) in
     let long = length_permutation _ _ same in
@@ -136,11 +136,11 @@ batch_of_read db n t stands found rest last is ends some =
 abbrev pub numbers_text : List ℕ
 numbers_text = codes "SELECT no FROM batch ORDER BY no"
 
-abbrev number_columns : List Term
-number_columns = col 1 0 ∷ []
+abbrev number_terms : List Term
+number_terms = col 1 0 ∷ []
 
 abbrev pub numbers_query : Query
-numbers_query = asks (inner 14 end) [] number_columns (rising number_columns (0 ∷ []))
+numbers_query = asks (inner 14 end) [] number_terms (rising number_terms (0 ∷ []))
 
 pub numbers_means : Means office_schema numbers_query numbers_text
 unfolding understood everything
@@ -152,31 +152,31 @@ numbers_means = record {
 }
 
 numbers_shown : (rows : List Row)
-    → map (eval_all number_columns) (map (λ r. [] ∷ r ∷ []) (filter (passes [] []) rows))
+    → map (eval_all number_terms) (map (λ r. [] ∷ r ∷ []) (filter (passes [] []) rows))
     ≡ map (λ r. column r 0 ∷ []) (map keyed rows)
 numbers_shown rows =
-    ap (λ l. map (eval_all number_columns) (map (λ r. [] ∷ r ∷ []) l))
+    ap (λ l. map (eval_all number_terms) (map (λ r. [] ∷ r ∷ []) l))
     (every (passes [] []) rows (λ x. refl))
-    ∙ map-map (eval_all number_columns) (λ r. [] ∷ r ∷ []) rows
+    ∙ map-map (eval_all number_terms) (λ r. [] ∷ r ∷ []) rows
     ∙ sym (map-map (λ (r : Row). column r 0 ∷ []) keyed rows)
 
 numbers_found : (db : Database) (t : Tables) → Stands db t → (found : List ℕ)
-    → IsReadOf number_row 1 [] numbers_query db.trees found
+    → IsReadOf number_columns 1 [] numbers_query db.trees found
     → IsPermutation (map (λ b. b.no) t.batch) found × Rises (λ (n : ℕ). n ∷ []) found
 numbers_found db t stands found is =
     let rows = IsPermutation-map (λ (r : Row). column r 0 ∷ []) _ _ stands.batch.same in
-    let as_numbers : map (λ (r : Row). column r 0 ∷ []) (map batch_row t.batch)
-    ≡ map number_row (map (λ b. b.no) t.batch) =
-    map-map (λ (r : Row). column r 0 ∷ []) batch_row t.batch
-    ∙ sym (map-map number_row (λ (b : Batch). b.no) t.batch) in
-    let shows : IsPermutation (map (eval_all number_columns)
+    let as_numbers : map (λ (r : Row). column r 0 ∷ []) (map batch_columns t.batch)
+    ≡ map number_columns (map (λ b. b.no) t.batch) =
+    map-map (λ (r : Row). column r 0 ∷ []) batch_columns t.batch
+    ∙ sym (map-map number_columns (λ (b : Batch). b.no) t.batch) in
+    let shows : IsPermutation (map (eval_all number_terms)
     (matches db.trees [] (inner 14 end) ([] ∷ [])))
-    (map number_row (map (λ b. b.no) t.batch)) =
-    rw (ap (map (eval_all number_columns)) (matched [] [] (db.trees 14))
+    (map number_columns (map (λ b. b.no) t.batch)) =
+    rw (ap (map (eval_all number_terms)) (matched [] [] (db.trees 14))
     ∙ numbers_shown (db.trees 14))
     (subst (IsPermutation _) as_numbers rows) in
-    read (λ r. number (column r 0)) number_row 1 (λ x. refl) (λ x. refl) (inner 14 end) []
-    number_columns (0 ∷ []) (λ (n : ℕ). n ∷ []) (λ x. refl) db.trees []
+    read (λ r. number (column r 0)) number_columns 1 (λ x. refl) (λ x. refl) (inner 14 end) []
+    number_terms (0 ∷ []) (λ (n : ℕ). n ∷ []) (λ x. refl) db.trees []
     (map (λ b. b.no) t.batch) found shows is
 
 above : (n m : ℕ) → is_lt (numbers_cmp (m ∷ []) (n ∷ [])) ≡ false → n ≢ m → n < m
@@ -195,7 +195,7 @@ strictly (n ∷ m ∷ ns) up apart =
     ((first, all_weaker (λ y. m < y) (λ y. n < y) (λ y high. omega arith) ns rest.0), rest)
 
 pub numbers_read : (db : Database) (t : Tables) → Stands db t → (found : List ℕ)
-    → IsReadOf number_row 1 [] numbers_query db.trees found
+    → IsReadOf number_columns 1 [] numbers_query db.trees found
     → IsPermutation (map (λ b. b.no) t.batch) found × NumbersRise found
 numbers_read db t stands found is =
     let all = numbers_found db t stands found is in (

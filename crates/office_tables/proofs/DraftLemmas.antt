@@ -13,7 +13,7 @@ use Rattle.sqlite.proofs.Callers.{IsPlain, command_of}
 use Rattle.sqlite_tied.specs.Compute.{everything}
 use Rattle.office_tables.specs.declared.rows.DraftRow.{DraftRow}
 use Rattle.office_schema.specs.Schema.{office_schema, draft_table}
-use Rattle.office_tables.specs.Tables.{Tables, Stands, keyed, draft_row}
+use Rattle.office_tables.specs.Tables.{Tables, Stands, keyed, draft_columns}
 use Rattle.office_tables.proofs.Casts.{cast_int, cast_null}
 use Rattle.office_tables.proofs.Frames.{draft_changed, holds_none}
 use Rattle.office_tables.proofs.Statements.{inserts, deletes}
@@ -37,7 +37,7 @@ unfolding understood everything
 insert_plain = (refl, refl)
 
 pub added : (old new : State) (row : DraftRow) (count : ℕ) (t : Tables) → Stands old.now t
-    → Executes insert_text (draft_row row) old new (Ok count)
+    → Executes insert_text (draft_columns row) old new (Ok count)
     → Stands new.now (record t { draft = row ∷ t.draft })
 added old new row count t stands h =
     let done = inserts insert_text _ old new count office_schema stands.schema insert_plain
@@ -48,7 +48,7 @@ added old new row count t stands h =
     let rows : new.now.trees 4 ≡ put_row new_row stored = is.rows ∙ rw (cast_null, cast_int row.no, cast_int row.in_row, cast_int row.in_day, cast_int row.spread, cast_int row.mixed, cast_int row.front, cast_int row.period, cast_int row.room) refl in
     let fresh : are_fresh stored (new_row ∷ []) ≡ true = rw (cast_int row.no) at is.fresh in
     draft_changed old.now new.now t stands done.0 (row ∷ t.draft) is.tables
-    (rw rows (holds_more keyed (map draft_row t.draft) stored new_row (draft_row row) refl refl fresh stands.draft))
+    (rw rows (holds_more keyed (map draft_columns t.draft) stored new_row (draft_columns row) refl refl fresh stands.draft))
 
 -- ---- DELETE WHERE no = ?1
 
@@ -77,7 +77,7 @@ deleted old new number count t stands h =
     let answer = answered 4 (equals 0 0 ∷ []) _ [] old.now.trees params done.0 done.2 in
     let rows : new.now.trees 4 ≡ filter (λ r. not (test r)) stored =
     is.rows ∙ left_of test stored done.0 stands.draft.rowids answer in
-    let same = shown_filter keyed draft_row (λ r. not (test r)) (λ row. not (shown_test row)) (λ r. not (r.no == number))
+    let same = shown_filter keyed draft_columns (λ r. not (test r)) (λ row. not (shown_test row)) (λ r. not (r.no == number))
     (λ r. refl) (λ x. ap not (equal_numbers x.no number)) stored t.draft stands.draft.same in
     draft_changed old.now new.now t stands done.1 (filter (λ r. not (r.no == number)) t.draft) is.tables
     (rw rows (record { rowids = rowids_filter (λ r. not (test r)) stored stands.draft.rowids; same = same }))

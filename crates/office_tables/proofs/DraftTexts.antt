@@ -10,7 +10,7 @@ use Rattle.sqlite_tied.specs.Compute.{everything}
 use Rattle.office_schema.specs.Schema.{office_schema}
 use Rattle.office_tables.specs.Asking.{asks, IsReadOf, Means}
 use Rattle.office_tables.specs.declared.rows.DraftRow.{DraftRow}
-use Rattle.office_tables.specs.Tables.{Tables, Stands, keyed, draft_row}
+use Rattle.office_tables.specs.Tables.{Tables, Stands, keyed, draft_columns}
 use Rattle.office_tables.proofs.OrderLemmas.{read, rising, table_shown}
 use Rattle.office_tables.proofs.Queries.{column_later, equal_numbers, equals, passes}
 use Rattle.office_tables.proofs.RecordsBack.{draft_of}
@@ -53,14 +53,14 @@ shown_is r = rw (
 
 pub drafts_of_read : (db : Database) (number : ℕ) (t : Tables) → Stands db t
     → (found : List DraftRow)
-    → IsReadOf draft_row 8 (Int (pos number) ∷ []) drafts_of_query db.trees found
+    → IsReadOf draft_columns 8 (Int (pos number) ∷ []) drafts_of_query db.trees found
     → IsPermutation (filter (λ r. r.no == number) t.draft) found
 drafts_of_read db number t stands found is =
     let params : Row = Int (pos number) ∷ [] in
-    (read draft_of draft_row 8 (λ x. refl) (λ x. refl) (inner 4 end) (equals 0 0 ∷ []) columns
+    (read draft_of draft_columns 8 (λ x. refl) (λ x. refl) (inner 4 end) (equals 0 0 ∷ []) columns
     (0 ∷ []) (λ (x : DraftRow). x.no ∷ []) (λ x. refl) db.trees params
     (filter (λ r. r.no == number) t.draft) found
-    (table_shown draft_row keyed picked params 4 (equals 0 0 ∷ []) columns shown_is
+    (table_shown draft_columns keyed picked params 4 (equals 0 0 ∷ []) columns shown_is
     (λ x. refl) (passes params (equals 0 0 ∷ [])) (λ r. refl)
     (λ r. r.no == number) (λ x. equal_numbers x.no number) db.trees t.draft
     stands.draft.same) is).0

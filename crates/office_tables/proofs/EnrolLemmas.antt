@@ -13,7 +13,7 @@ use Rattle.sqlite.proofs.Callers.{IsPlain, command_of}
 use Rattle.sqlite_tied.specs.Compute.{everything}
 use Rattle.office_tables.specs.declared.rows.EnrolRow.{EnrolRow}
 use Rattle.office_schema.specs.Schema.{office_schema, enrol_table}
-use Rattle.office_tables.specs.Tables.{Tables, Stands, keyless, enrol_row}
+use Rattle.office_tables.specs.Tables.{Tables, Stands, keyless, enrol_columns}
 use Rattle.office_tables.proofs.Casts.{cast_int, cast_null}
 use Rattle.office_tables.proofs.Frames.{enrol_changed}
 use Rattle.office_tables.proofs.Statements.{inserts, deletes}
@@ -37,18 +37,18 @@ unfolding understood everything
 insert_plain = (refl, refl)
 
 pub added : (old new : State) (row : EnrolRow) (count : ℕ) (t : Tables) → Stands old.now t
-    → Executes insert_text (enrol_row row) old new (Ok count)
+    → Executes insert_text (enrol_columns row) old new (Ok count)
     → Stands new.now (record t { enrol = row ∷ t.enrol })
 added old new row count t stands h =
     let done = inserts insert_text _ old new count office_schema stands.schema insert_plain
     2 enrol_table refl insert_terms 3 insert_is (λ taken news. refl) h in
     let is = done.1 in
     let stored = old.now.trees 2 in
-    let new_row : Row = Int (next_rowid stored) ∷ enrol_row row in
+    let new_row : Row = Int (next_rowid stored) ∷ enrol_columns row in
     let rows : new.now.trees 2 ≡ put_row new_row stored = is.rows ∙ rw (cast_null, cast_int row.student, cast_int row.exam) refl in
     let fresh : are_fresh stored (new_row ∷ []) ≡ true = rw (cast_null) at is.fresh in
     enrol_changed old.now new.now t stands done.0 (row ∷ t.enrol) is.tables
-    (rw rows (holds_more keyless (map enrol_row t.enrol) stored new_row (enrol_row row) refl refl fresh stands.enrol))
+    (rw rows (holds_more keyless (map enrol_columns t.enrol) stored new_row (enrol_columns row) refl refl fresh stands.enrol))
 
 -- ---- DELETE WHERE student = ?1 AND exam = ?2
 
@@ -80,7 +80,7 @@ deleted old new student exam count t stands h =
     done.2 in
     let rows : new.now.trees 2 ≡ filter (λ r. not (test r)) stored =
     is.rows ∙ left_of test stored done.0 stands.enrol.rowids answer in
-    let same = shown_filter keyless enrol_row (λ r. not (test r))
+    let same = shown_filter keyless enrol_columns (λ r. not (test r))
     (λ (row : Row). not (passes params (equals 0 0 ∷ equals 1 1 ∷ []) row))
     (λ r. not ((r.student == student) && (r.exam == exam)))
     (λ r. rw (column_less r 0, column_less r 1) refl)

@@ -20,13 +20,13 @@ use Rattle.office_tables.specs.Readings.{IsReadAnswer}
 use Rattle.office_tables.specs.Records.{FitsEnrol}
 use Rattle.office_tables.specs.Selections.{HerEnrolsRise, IsInOrder}
 use Rattle.office_tables.specs.declared.rows.EnrolRow.{EnrolRow}
-use Rattle.office_tables.specs.Tables.{Tables, Stands, keyless, enrol_row}
+use Rattle.office_tables.specs.Tables.{Tables, Stands, keyless, enrol_columns}
 use Rattle.office_tables.proofs.OrderLemmas.{Rises, columns_shown, in_this_order, one_less, read, rising, table_shown}
 use Rattle.office_tables.proofs.Queries.{column_less, equal_numbers, equals, passes}
 use Rattle.office_tables.proofs.RecordsBack.{enrol_of}
 
-abbrev pub enrol_columns : List Term
-enrol_columns = col 1 1 ∷ col 1 2 ∷ []
+abbrev pub enrol_terms : List Term
+enrol_terms = col 1 1 ∷ col 1 2 ∷ []
 
 abbrev enrol_picked : Row → Row
 enrol_picked row = column row 0 ∷ column row 1 ∷ []
@@ -41,7 +41,7 @@ enrols_of_text = codes "SELECT student, exam FROM enrol WHERE student = ?1 ORDER
 
 abbrev pub enrols_of_query : Query
 enrols_of_query =
-    asks (inner 2 end) (equals 1 0 ∷ []) enrol_columns (rising enrol_columns (1 ∷ []))
+    asks (inner 2 end) (equals 1 0 ∷ []) enrol_terms (rising enrol_terms (1 ∷ []))
 
 pub enrols_of_means : Means office_schema enrols_of_query enrols_of_text
 unfolding understood everything
@@ -60,25 +60,25 @@ module _ (db : Database) (number : ℕ) (t : Tables) (stands : Stands db t) wher
   abbrev pub hers : List EnrolRow
   hers = filter (λ r. r.student == number) t.enrol
 
-  shown : IsPermutation (map (eval_all enrol_columns)
-      (matches db.trees (equals 1 0 ∷ []) (inner 2 end) (given ∷ []))) (map enrol_row hers)
+  shown : IsPermutation (map (eval_all enrol_terms)
+      (matches db.trees (equals 1 0 ∷ []) (inner 2 end) (given ∷ []))) (map enrol_columns hers)
   shown =
-      table_shown enrol_row keyless enrol_picked given 2 (equals 1 0 ∷ []) enrol_columns enrol_shown
+      table_shown enrol_columns keyless enrol_picked given 2 (equals 1 0 ∷ []) enrol_terms enrol_shown
       (λ x. refl) (passes given (equals 0 0 ∷ [])) (λ r.
       ap (λ v. is_true (binary (Compare Eq Binary) v (Int (pos number))) && true) (column_less r 0))
       (λ r. r.student == number) (λ x. equal_numbers x.student number) db.trees t.enrol
       stands.enrol.same
 
   pub enrols_of_read : (found : List EnrolRow)
-      → IsReadOf enrol_row 2 given enrols_of_query db.trees found
+      → IsReadOf enrol_columns 2 given enrols_of_query db.trees found
       → IsPermutation hers found × Rises (λ (x : EnrolRow). x.exam ∷ []) found
   enrols_of_read found is =
-      read enrol_of enrol_row 2 (λ x. refl) (λ x. refl) (inner 2 end) (equals 1 0 ∷ [])
-      enrol_columns (1 ∷ []) (λ (x : EnrolRow). x.exam ∷ []) (λ x. refl) db.trees given hers found
+      read enrol_of enrol_columns 2 (λ x. refl) (λ x. refl) (inner 2 end) (equals 1 0 ∷ [])
+      enrol_terms (1 ∷ []) (λ (x : EnrolRow). x.exam ∷ []) (λ x. refl) db.trees given hers found
       shown is
 
   abbrev pub Answered : Option (Vec EnrolRow Global) → Type 0
-  Answered = IsReadAnswer FitsEnrol enrol_row 2 given enrols_of_query db.trees
+  Answered = IsReadAnswer FitsEnrol enrol_columns 2 given enrols_of_query db.trees
 
   pub found_rows : (found : Option (Vec EnrolRow Global)) → Answered found
       → IfSome found (λ rows. IsPermutation hers rows.items)
@@ -96,7 +96,7 @@ module _ (db : Database) (number : ℕ) (t : Tables) (stands : Stands db t) wher
       → AllByRecursion FitsEnrol hers → IsSome found
   found_where_fit (Some rows) is fit = search rules
   found_where_fit None (rows, none, answer) fit =
-      let same = columns_shown enrol_row 2 (λ x. refl) (λ x. omega arith) (inner 2 end)
-      (equals 1 0 ∷ []) enrol_columns (rising enrol_columns (1 ∷ [])) db.trees given hers rows shown
+      let same = columns_shown enrol_columns 2 (λ x. refl) (λ x. omega arith) (inner 2 end)
+      (equals 1 0 ∷ []) enrol_terms (rising enrol_terms (1 ∷ [])) db.trees given hers rows shown
       answer in
       absurd (none same.1 hers fit same.0)

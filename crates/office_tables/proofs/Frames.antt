@@ -7,7 +7,7 @@ use Rattle.sqlite_trees.specs.Tree.{Trees}
 use Rattle.sqlite_schema.specs.declared.schema.Table.{Table}
 use Rattle.sqlite.specs.Effect.{Database}
 use Rattle.office_schema.specs.Schema.{office_schema}
-use Rattle.office_tables.specs.Tables.{Tables, Stands, Holds, Meta, Batch, keyless, keyed, meta_row, owner_row, enrol_row, draft_row, slot_row, placed_row, seat_row, share_student_row, share_part_row, batch_row}
+use Rattle.office_tables.specs.Tables.{Tables, Stands, Holds, Meta, Batch, keyless, keyed, meta_columns, owner_columns, enrol_columns, draft_columns, slot_columns, placed_columns, seat_columns, share_student_columns, share_part_columns, batch_columns}
 use Rattle.office_tables.specs.declared.rows.OwnerRow.{OwnerRow}
 use Rattle.office_tables.specs.declared.rows.EnrolRow.{EnrolRow}
 use Rattle.office_tables.specs.declared.rows.DraftRow.{DraftRow}
@@ -32,7 +32,7 @@ holds_none show stored none =
 
 module _ (old new : Database) (t : Tables) (stands : Stands old t) (schema : new.schema ≡ office_schema) where
   pub meta_changed : (rows : List Meta) → Others 0 old.trees new.trees
-      → Holds keyed (map meta_row rows) (new.trees 0) → Stands new (record t { meta = rows })
+      → Holds keyed (map meta_columns rows) (new.trees 0) → Stands new (record t { meta = rows })
   meta_changed rows others held = record {
     schema = schema;
     meta = held;
@@ -48,7 +48,7 @@ module _ (old new : Database) (t : Tables) (stands : Stands old t) (schema : new
   }
 
   pub owner_changed : (rows : List OwnerRow) → Others 1 old.trees new.trees
-      → Holds keyed (map owner_row rows) (new.trees 1) → Stands new (record t { owner = rows })
+      → Holds keyed (map owner_columns rows) (new.trees 1) → Stands new (record t { owner = rows })
   owner_changed rows others held = record {
     schema = schema;
     meta = still keyed _ _ _ (others.0 (omega arith)) stands.meta;
@@ -64,7 +64,7 @@ module _ (old new : Database) (t : Tables) (stands : Stands old t) (schema : new
   }
 
   pub enrol_changed : (rows : List EnrolRow) → Others 2 old.trees new.trees
-      → Holds keyless (map enrol_row rows) (new.trees 2) → Stands new (record t { enrol = rows })
+      → Holds keyless (map enrol_columns rows) (new.trees 2) → Stands new (record t { enrol = rows })
   enrol_changed rows others held = record {
     schema = schema;
     meta = still keyed _ _ _ (others.0 (omega arith)) stands.meta;
@@ -80,7 +80,7 @@ module _ (old new : Database) (t : Tables) (stands : Stands old t) (schema : new
   }
 
   pub draft_changed : (rows : List DraftRow) → Others 4 old.trees new.trees
-      → Holds keyed (map draft_row rows) (new.trees 4) → Stands new (record t { draft = rows })
+      → Holds keyed (map draft_columns rows) (new.trees 4) → Stands new (record t { draft = rows })
   draft_changed rows others held = record {
     schema = schema;
     meta = still keyed _ _ _ (others.0 (omega arith)) stands.meta;
@@ -96,7 +96,7 @@ module _ (old new : Database) (t : Tables) (stands : Stands old t) (schema : new
   }
 
   pub slot_changed : (rows : List SlotRow) → Others 5 old.trees new.trees
-      → Holds keyless (map slot_row rows) (new.trees 5) → Stands new (record t { slot = rows })
+      → Holds keyless (map slot_columns rows) (new.trees 5) → Stands new (record t { slot = rows })
   slot_changed rows others held = record {
     schema = schema;
     meta = still keyed _ _ _ (others.0 (omega arith)) stands.meta;
@@ -112,7 +112,7 @@ module _ (old new : Database) (t : Tables) (stands : Stands old t) (schema : new
   }
 
   pub placed_changed : (rows : List PlacedRow) → Others 7 old.trees new.trees
-      → Holds keyed (map placed_row rows) (new.trees 7) → Stands new (record t { placed = rows })
+      → Holds keyed (map placed_columns rows) (new.trees 7) → Stands new (record t { placed = rows })
   placed_changed rows others held = record {
     schema = schema;
     meta = still keyed _ _ _ (others.0 (omega arith)) stands.meta;
@@ -128,7 +128,7 @@ module _ (old new : Database) (t : Tables) (stands : Stands old t) (schema : new
   }
 
   pub seat_changed : (rows : List SeatRow) → Others 8 old.trees new.trees
-      → Holds keyless (map seat_row rows) (new.trees 8) → Stands new (record t { seat = rows })
+      → Holds keyless (map seat_columns rows) (new.trees 8) → Stands new (record t { seat = rows })
   seat_changed rows others held = record {
     schema = schema;
     meta = still keyed _ _ _ (others.0 (omega arith)) stands.meta;
@@ -144,7 +144,7 @@ module _ (old new : Database) (t : Tables) (stands : Stands old t) (schema : new
   }
 
   pub share_student_changed : (rows : List StudentShareRow) → Others 11 old.trees new.trees
-      → Holds keyed (map share_student_row rows) (new.trees 11) → Stands new (record t { share_student = rows })
+      → Holds keyed (map share_student_columns rows) (new.trees 11) → Stands new (record t { share_student = rows })
   share_student_changed rows others held = record {
     schema = schema;
     meta = still keyed _ _ _ (others.0 (omega arith)) stands.meta;
@@ -160,7 +160,7 @@ module _ (old new : Database) (t : Tables) (stands : Stands old t) (schema : new
   }
 
   pub share_part_changed : (rows : List PartShareRow) → Others 12 old.trees new.trees
-      → Holds keyless (map share_part_row rows) (new.trees 12) → Stands new (record t { share_part = rows })
+      → Holds keyless (map share_part_columns rows) (new.trees 12) → Stands new (record t { share_part = rows })
   share_part_changed rows others held = record {
     schema = schema;
     meta = still keyed _ _ _ (others.0 (omega arith)) stands.meta;
@@ -176,7 +176,7 @@ module _ (old new : Database) (t : Tables) (stands : Stands old t) (schema : new
   }
 
   pub batch_changed : (rows : List Batch) → Others 14 old.trees new.trees
-      → Holds keyed (map batch_row rows) (new.trees 14) → Stands new (record t { batch = rows })
+      → Holds keyed (map batch_columns rows) (new.trees 14) → Stands new (record t { batch = rows })
   batch_changed rows others held = record {
     schema = schema;
     meta = still keyed _ _ _ (others.0 (omega arith)) stands.meta;

@@ -19,7 +19,7 @@ use Rattle.office_tables.specs.Asking.{asks, IsReadOf, Means}
 use Rattle.office_tables.specs.declared.rows.EnrolRow.{EnrolRow}
 use Rattle.office_tables.specs.declared.rows.PlacedRow.{PlacedRow}
 use Rattle.office_tables.specs.Selections.{placed_of}
-use Rattle.office_tables.specs.Tables.{Tables, Stands, keyed, keyless, enrol_row, placed_row}
+use Rattle.office_tables.specs.Tables.{Tables, Stands, keyed, keyless, enrol_columns, placed_columns}
 use Rattle.office_tables.proofs.OrderLemmas.{Rises, read, rising}
 use Rattle.office_tables.proofs.Queries.{column_less, column_later, equal_pairs, equals, map_agree}
 use Rattle.office_tables.proofs.RecordsBack.{placement_of}
@@ -115,32 +115,32 @@ module _ (params : Row) (trees : Trees) where
 
 -- those that suit an enrolment, of the placements that a table holds
 one_placed : (student : ℕ) (trees : Trees) (placed : List PlacedRow)
-    → IsPermutation (map keyed (trees 7)) (map placed_row placed) → (e : EnrolRow)
-    → IsPermutation (suited (Int (pos student) ∷ []) trees (enrol_row e))
-    (map placed_row (filter (λ p. (e.student == student) && (p.exam == e.exam)) placed))
+    → IsPermutation (map keyed (trees 7)) (map placed_columns placed) → (e : EnrolRow)
+    → IsPermutation (suited (Int (pos student) ∷ []) trees (enrol_columns e))
+    (map placed_columns (filter (λ p. (e.student == student) && (p.exam == e.exam)) placed))
 one_placed student trees placed same e =
     let params : Row = Int (pos student) ∷ [] in
-    let kept = IsPermutation-map picked _ _ (IsPermutation-filter (suits params (enrol_row e)) _ _
+    let kept = IsPermutation-map picked _ _ (IsPermutation-filter (suits params (enrol_columns e)) _ _
     same) in
-    let typed : map picked (filter (suits params (enrol_row e)) (map placed_row placed))
-    ≡ map placed_row (filter (λ p. (e.student == student) && (p.exam == e.exam)) placed) =
-    ap (map picked) (filter-map (suits params (enrol_row e)) placed_row placed)
-    ∙ map-map picked placed_row _
-    ∙ ap (λ p. map placed_row (filter p placed))
+    let typed : map picked (filter (suits params (enrol_columns e)) (map placed_columns placed))
+    ≡ map placed_columns (filter (λ p. (e.student == student) && (p.exam == e.exam)) placed) =
+    ap (map picked) (filter-map (suits params (enrol_columns e)) placed_columns placed)
+    ∙ map-map picked placed_columns _
+    ∙ ap (λ p. map placed_columns (filter p placed))
     (λ i p. equal_pairs e.student student p.exam e.exam i) in
     subst (IsPermutation _) typed kept
 
 -- none suits another student's
 hers_alone : (student : ℕ) (placed : List PlacedRow) (enrols : List EnrolRow)
-    → flat_map (λ e. map placed_row (filter (λ p. (e.student == student) && (p.exam == e.exam))
+    → flat_map (λ e. map placed_columns (filter (λ p. (e.student == student) && (p.exam == e.exam))
     placed)) enrols
-    ≡ map placed_row (flat_map (λ e. filter (λ p. p.exam == e.exam) placed)
+    ≡ map placed_columns (flat_map (λ e. filter (λ p. p.exam == e.exam) placed)
     (filter (λ e. e.student == student) enrols))
 hers_alone student placed [] = refl
 hers_alone student placed (e ∷ enrols) =
-    sym (map-flat_map placed_row (λ x. filter (λ p. (x.student == student) && (p.exam == x.exam))
+    sym (map-flat_map placed_columns (λ x. filter (λ p. (x.student == student) && (p.exam == x.exam))
     placed) (e ∷ enrols))
-    ∙ ap (map placed_row) (go (e ∷ enrols))
+    ∙ ap (map placed_columns) (go (e ∷ enrols))
   where
     none : (xs : List PlacedRow) → filter (λ _. false) xs ≡ []
     none [] = refl
@@ -162,7 +162,7 @@ hers_alone student placed (e ∷ enrols) =
 
 pub placements_of_read : (db : Database) (student : ℕ) (t : Tables) → Stands db t
     → (found : List PlacedRow)
-    → IsReadOf placed_row 3 (Int (pos student) ∷ []) placements_of_query db.trees found
+    → IsReadOf placed_columns 3 (Int (pos student) ∷ []) placements_of_query db.trees found
     → IsPermutation (placed_of student t) found × Rises (λ (x : PlacedRow). x.exam ∷ []) found
 placements_of_read db student t stands found is =
     let params : Row = Int (pos student) ∷ [] in
@@ -171,9 +171,9 @@ placements_of_read db student t stands found is =
     stands.placed.same) t.enrol in
     let rows : IsPermutation (map (eval_all columns)
     (matches db.trees tests (inner 2 (inner 7 end)) (params ∷ [])))
-    (map placed_row (placed_of student t)) =
+    (map placed_columns (placed_of student t)) =
     rw (all_suited params db.trees, sym (hers_alone student t.placed t.enrol))
     (IsPermutation-trans _ _ _ stored
-    (rw (flat_map-map (suited params db.trees) enrol_row t.enrol) typed)) in
-    read placement_of placed_row 3 (λ x. refl) (λ x. refl) (inner 2 (inner 7 end)) tests columns
+    (rw (flat_map-map (suited params db.trees) enrol_columns t.enrol) typed)) in
+    read placement_of placed_columns 3 (λ x. refl) (λ x. refl) (inner 2 (inner 7 end)) tests columns
     (0 ∷ []) (λ (x : PlacedRow). x.exam ∷ []) (λ x. refl) db.trees params (placed_of student t) found rows is

@@ -17,7 +17,6 @@ pub mod JoinedTexts
 pub mod ListTexts
 pub mod ListedTables
 pub mod LookLemmas
-pub mod MarkTexts
 pub mod MetaFound
 pub mod MetaLemmas
 pub mod OrderLemmas

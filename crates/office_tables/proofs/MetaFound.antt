@@ -11,7 +11,7 @@ use Rattle.office_tables.specs.declared.rows.MetaRow.{MetaRow}
 use Rattle.office_tables.specs.Readings.{IsReadMeta, IsFoundMeta, listed}
 use Rattle.office_tables.specs.Records.{meta_from}
 use Rattle.office_schema.specs.Schema.{office_schema}
-use Rattle.office_tables.specs.Tables.{Meta, HasRowids, Holds, keyed, meta_row}
+use Rattle.office_tables.specs.Tables.{Meta, HasRowids, Holds, keyed, meta_columns}
 use Rattle.office_tables.proofs.ListedTables.{same_map}
 use Rattle.office_tables.proofs.ListTexts.{meta_terms, meta_whole}
 use Rattle.office_tables.proofs.WholeRows.{dropped}
@@ -31,11 +31,11 @@ first_alone (y ∷ []) x long first = ap (λ v. v ∷ []) (sym first)
 first_alone (y ∷ z ∷ xs) x long first = absurd (omega (arith, long))
 
 -- the row that stands alone has the number 0
-rowids_of_one : (stored : List Row) (m : Meta) → IsPermutation (map keyed stored) (meta_row m ∷ [])
+rowids_of_one : (stored : List Row) (m : Meta) → IsPermutation (map keyed stored) (meta_columns m ∷ [])
     → HasRowids stored
 rowids_of_one stored m same =
     let ints = all_from_map (λ r. IsTrue (is_int (rowid r))) keyed stored
-    (all-permutation (λ r. IsTrue (is_int (rowid r))) (meta_row m ∷ []) (map keyed stored)
+    (all-permutation (λ r. IsTrue (is_int (rowid r))) (meta_columns m ∷ []) (map keyed stored)
     (IsPermutation-sym _ _ same) (refl, tt)) in
     go stored (sym (length_permutation _ _ same)) ints
   where
@@ -51,7 +51,7 @@ module _ (db : Database) (is : db.schema ≡ office_schema) (sound : IsDatabase 
   shown = subst (λ l. IsPermutation l rows)
       (same_map (listed meta_terms) keyed (db.trees 0) (meta_whole db is sound)) list
 
-  pub not_alone : length rows ≢ 1 → (m : Meta) → Holds keyed (meta_row m ∷ []) (db.trees 0) → ⊥
+  pub not_alone : length rows ≢ 1 → (m : Meta) → Holds keyed (meta_columns m ∷ []) (db.trees 0) → ⊥
   not_alone many m holds =
       let one = length_permutation _ _
       (IsPermutation-trans _ _ _ (IsPermutation-sym _ _ shown) holds.same) in many (sym one)
@@ -65,13 +65,13 @@ module _ (db : Database) (is : db.schema ≡ office_schema) (sound : IsDatabase 
       → IsFoundMeta (db.trees 0) found
   alone row one (Some m) read =
       let long = (subst (AllByRecursion (λ r. length r ≡ 4)) one four).0 in
-      let here : IsPermutation (map keyed (db.trees 0)) (meta_row (meta_from m) ∷ []) =
+      let here : IsPermutation (map keyed (db.trees 0)) (meta_columns (meta_from m) ∷ []) =
       subst (IsPermutation (map keyed (db.trees 0)))
       (one ∙ ap (λ v. v ∷ []) (dropped 0 4 row long ∙ read)) shown in
       record { rowids = rowids_of_one (db.trees 0) (meta_from m) here; same = here }
   alone row one None none = λ m holds.
       let long = (subst (AllByRecursion (λ r. length r ≡ 4)) one four).0 in
-      let same = one_same row (meta_row m)
+      let same = one_same row (meta_columns m)
       (IsPermutation-trans _ _ _
       (IsPermutation-sym _ _ (subst (IsPermutation (map keyed (db.trees 0))) one shown))
       holds.same) in

@@ -14,7 +14,7 @@ use Rattle.sqlite.proofs.Callers.{IsPlain, command_of}
 use Rattle.sqlite_tied.specs.Compute.{everything}
 use Rattle.office_schema.specs.Schema.{office_schema, meta_table}
 use Rattle.office_tables.specs.Schema.{IsBlank}
-use Rattle.office_tables.specs.Tables.{Tables, Stands, Meta, empty_tables, flag, keyed, keyless, meta_row}
+use Rattle.office_tables.specs.Tables.{Tables, Stands, Meta, empty_tables, flag, keyed, keyless, meta_columns}
 use Rattle.office_tables.proofs.Casts.{cast_int, cast_null}
 use Rattle.office_tables.proofs.Frames.{meta_changed, holds_none}
 use Rattle.office_tables.proofs.Statements.{inserts, deletes}
@@ -49,7 +49,7 @@ added old new row count t stands h =
     let rows : new.now.trees 0 ≡ put_row new_row stored = is.rows ∙ rw (cast_int 0, cast_int 1, cast_null, cast_int (flag row.published)) refl in
     let fresh : are_fresh stored (new_row ∷ []) ≡ true = rw (cast_int 0) at is.fresh in
     meta_changed old.now new.now t stands done.0 (row ∷ t.meta) is.tables
-    (rw rows (holds_more keyed (map meta_row t.meta) stored new_row (meta_row row) refl refl fresh stands.meta))
+    (rw rows (holds_more keyed (map meta_columns t.meta) stored new_row (meta_columns row) refl refl fresh stands.meta))
 
 -- ---- DELETE
 

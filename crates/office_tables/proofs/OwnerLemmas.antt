@@ -13,7 +13,7 @@ use Rattle.sqlite.proofs.Callers.{IsPlain, command_of}
 use Rattle.sqlite_tied.specs.Compute.{everything}
 use Rattle.office_tables.specs.declared.rows.OwnerRow.{OwnerRow}
 use Rattle.office_schema.specs.Schema.{office_schema, owner_table}
-use Rattle.office_tables.specs.Tables.{Tables, Stands, keyed, owner_row}
+use Rattle.office_tables.specs.Tables.{Tables, Stands, keyed, owner_columns}
 use Rattle.office_tables.proofs.Casts.{cast_int, cast_null}
 use Rattle.office_tables.proofs.Frames.{owner_changed}
 use Rattle.office_tables.proofs.Statements.{inserts, deletes}
@@ -37,7 +37,7 @@ unfolding understood everything
 insert_plain = (refl, refl)
 
 pub added : (old new : State) (row : OwnerRow) (count : ℕ) (t : Tables) → Stands old.now t
-    → Executes insert_text (owner_row row) old new (Ok count)
+    → Executes insert_text (owner_columns row) old new (Ok count)
     → Stands new.now (record t { owner = row ∷ t.owner })
 added old new row count t stands h =
     let done = inserts insert_text _ old new count office_schema stands.schema insert_plain
@@ -48,7 +48,7 @@ added old new row count t stands h =
     let rows : new.now.trees 1 ≡ put_row new_row stored = is.rows ∙ rw (cast_null, cast_int row.exam, cast_int row.dept) refl in
     let fresh : are_fresh stored (new_row ∷ []) ≡ true = rw (cast_int row.exam) at is.fresh in
     owner_changed old.now new.now t stands done.0 (row ∷ t.owner) is.tables
-    (rw rows (holds_more keyed (map owner_row t.owner) stored new_row (owner_row row) refl refl fresh stands.owner))
+    (rw rows (holds_more keyed (map owner_columns t.owner) stored new_row (owner_columns row) refl refl fresh stands.owner))
 
 -- ---- DELETE WHERE exam = ?1
 
@@ -77,7 +77,7 @@ deleted old new exam count t stands h =
     let answer = answered 1 (equals 0 0 ∷ []) _ [] old.now.trees params done.0 done.2 in
     let rows : new.now.trees 1 ≡ filter (λ r. not (test r)) stored =
     is.rows ∙ left_of test stored done.0 stands.owner.rowids answer in
-    let same = shown_filter keyed owner_row (λ r. not (test r)) (λ row. not (shown_test row)) (λ r. not (r.exam == exam))
+    let same = shown_filter keyed owner_columns (λ r. not (test r)) (λ row. not (shown_test row)) (λ r. not (r.exam == exam))
     (λ r. refl) (λ x. ap not (equal_numbers x.exam exam)) stored t.owner stands.owner.same in
     owner_changed old.now new.now t stands done.1 (filter (λ r. not (r.exam == exam)) t.owner) is.tables
     (rw rows (record { rowids = rowids_filter (λ r. not (test r)) stored stands.owner.rowids; same = same }))

@@ -10,7 +10,7 @@ use Rattle.sqlite_tied.specs.Compute.{everything}
 use Rattle.office_schema.specs.Schema.{office_schema}
 use Rattle.office_tables.specs.Asking.{asks, IsReadOf, Means}
 use Rattle.office_tables.specs.declared.rows.OwnerRow.{OwnerRow}
-use Rattle.office_tables.specs.Tables.{Tables, Stands, keyed, owner_row}
+use Rattle.office_tables.specs.Tables.{Tables, Stands, keyed, owner_columns}
 use Rattle.office_tables.proofs.OrderLemmas.{read, rising, table_shown}
 use Rattle.office_tables.proofs.Queries.{column_later, equal_numbers, equals, passes}
 use Rattle.office_tables.proofs.RecordsBack.{owner_of}
@@ -40,14 +40,14 @@ shown_is : (r : Row) → column r 0 ∷ column r 2 ∷ [] ≡ picked (keyed r)
 shown_is r = rw (column_later r 0) refl
 
 pub owners_of_read : (db : Database) (exam : ℕ) (t : Tables) → Stands db t → (found : List OwnerRow)
-    → IsReadOf owner_row 2 (Int (pos exam) ∷ []) owners_of_query db.trees found
+    → IsReadOf owner_columns 2 (Int (pos exam) ∷ []) owners_of_query db.trees found
     → IsPermutation (filter (λ r. r.exam == exam) t.owner) found
 owners_of_read db exam t stands found is =
     let params : Row = Int (pos exam) ∷ [] in
-    (read owner_of owner_row 2 (λ x. refl) (λ x. refl) (inner 1 end) (equals 0 0 ∷ []) columns
+    (read owner_of owner_columns 2 (λ x. refl) (λ x. refl) (inner 1 end) (equals 0 0 ∷ []) columns
     (0 ∷ []) (λ (x : OwnerRow). x.exam ∷ []) (λ x. refl) db.trees params
     (filter (λ r. r.exam == exam) t.owner) found
-    (table_shown owner_row keyed picked params 1 (equals 0 0 ∷ []) columns shown_is
+    (table_shown owner_columns keyed picked params 1 (equals 0 0 ∷ []) columns shown_is
     (λ x. refl) (passes params (equals 0 0 ∷ [])) (λ r. refl)
     (λ r. r.exam == exam) (λ x. equal_numbers x.exam exam) db.trees t.owner
     stands.owner.same) is).0

@@ -18,7 +18,7 @@ use Rattle.sqlite_tied.specs.Compute.{everything}
 use Rattle.office_tables.specs.declared.rows.PlacedRow.{PlacedRow}
 use Rattle.office_tables.specs.declared.rows.SeatRow.{SeatRow}
 use Rattle.office_schema.specs.Schema.{office_schema, placed_table, seat_table}
-use Rattle.office_tables.specs.Tables.{Tables, Stands, keyed, keyless, placed_row, seat_row}
+use Rattle.office_tables.specs.Tables.{Tables, Stands, keyed, keyless, placed_columns, seat_columns}
 use Rattle.office_tables.proofs.Casts.{cast_int, cast_null}
 use Rattle.office_tables.proofs.Frames.{holds_none, placed_changed, seat_changed}
 use Rattle.office_tables.proofs.Statements.{inserts, deletes}
@@ -48,7 +48,7 @@ insert_placement_plain = (refl, refl)
 
 pub placement_added : (old new : State) (row : PlacedRow) (count : ℕ) (t : Tables)
     → Stands old.now t
-    → Executes insert_placement_text (placed_row row) old new (Ok count)
+    → Executes insert_placement_text (placed_columns row) old new (Ok count)
     → Stands new.now (record t { placed = row ∷ t.placed })
 placement_added old new row count t stands h =
     let done = inserts insert_placement_text _ old new count office_schema stands.schema
@@ -62,7 +62,7 @@ placement_added old new row count t stands h =
     is.rows ∙ rw (cast_null, cast_int row.exam, cast_int row.period, cast_int row.room) refl in
     let fresh : are_fresh stored (new_row ∷ []) ≡ true = rw (cast_int row.exam) at is.fresh in
     placed_changed old.now new.now t stands done.0 (row ∷ t.placed) is.tables
-    (rw rows (holds_more keyed (map placed_row t.placed) stored new_row (placed_row row) refl refl
+    (rw rows (holds_more keyed (map placed_columns t.placed) stored new_row (placed_columns row) refl refl
     fresh
     stands.placed))
 
@@ -113,7 +113,7 @@ unfolding understood everything
 insert_seat_plain = (refl, refl)
 
 pub seat_added : (old new : State) (row : SeatRow) (count : ℕ) (t : Tables) → Stands old.now t
-    → Executes insert_seat_text (seat_row row) old new (Ok count)
+    → Executes insert_seat_text (seat_columns row) old new (Ok count)
     → Stands new.now (record t { seat = row ∷ t.seat })
 seat_added old new row count t stands h =
     let done = inserts insert_seat_text _ old new count office_schema stands.schema
@@ -121,7 +121,7 @@ seat_added old new row count t stands h =
     (λ taken news. refl) h in
     let is = done.1 in
     let stored = old.now.trees 8 in
-    let new_row : Row = Int (next_rowid stored) ∷ seat_row row in
+    let new_row : Row = Int (next_rowid stored) ∷ seat_columns row in
     let rows : new.now.trees 8 ≡ put_row new_row stored =
     is.rows ∙ rw (
       cast_null,
@@ -134,7 +134,7 @@ seat_added old new row count t stands h =
     ) refl in
     let fresh : are_fresh stored (new_row ∷ []) ≡ true = rw (cast_null) at is.fresh in
     seat_changed old.now new.now t stands done.0 (row ∷ t.seat) is.tables
-    (rw rows (holds_more keyless (map seat_row t.seat) stored new_row (seat_row row) refl refl fresh
+    (rw rows (holds_more keyless (map seat_columns t.seat) stored new_row (seat_columns row) refl refl fresh
     stands.seat))
 
 -- ---- DELETE FROM seat WHERE student = ?1
@@ -167,7 +167,7 @@ student_seats_deleted old new number count t stands h =
     let answer = answered 8 (equals 1 0 ∷ []) _ [] old.now.trees params done.0 done.2 in
     let rows : new.now.trees 8 ≡ filter (λ r. not (test r)) stored =
     is.rows ∙ left_of test stored done.0 stands.seat.rowids answer in
-    let same = shown_filter keyless seat_row (λ r. not (test r)) (λ row. not (shown_test row))
+    let same = shown_filter keyless seat_columns (λ r. not (test r)) (λ row. not (shown_test row))
     (λ r. not (r.student == number))
     (λ r. ap (λ v. not (is_true (binary (Compare Eq Binary) v (Int (pos number))) && true))
     (column_less r 0))

@@ -15,13 +15,13 @@ use Rattle.office_schema.specs.Schema.{office_schema}
 use Rattle.office_tables.specs.Asking.{asks, IsReadOf, Means}
 use Rattle.office_tables.specs.declared.rows.PlacedRow.{PlacedRow}
 use Rattle.office_tables.specs.declared.rows.SeatRow.{SeatRow}
-use Rattle.office_tables.specs.Tables.{Tables, Stands, keyed, keyless, placed_row, seat_row}
+use Rattle.office_tables.specs.Tables.{Tables, Stands, keyed, keyless, placed_columns, seat_columns}
 use Rattle.office_tables.proofs.OrderLemmas.{Rises, read, rising, table_shown}
 use Rattle.office_tables.proofs.Queries.{column_less, column_later, equal_numbers, equals, every, passes}
 use Rattle.office_tables.proofs.RecordsBack.{placement_of, seat_of}
 
-abbrev pub placed_columns : List Term
-placed_columns = col 1 0 ∷ col 1 2 ∷ col 1 3 ∷ []
+abbrev pub placed_terms : List Term
+placed_terms = col 1 0 ∷ col 1 2 ∷ col 1 3 ∷ []
 
 abbrev placed_picked : Row → Row
 placed_picked row = column row 0 ∷ column row 1 ∷ column row 2 ∷ []
@@ -36,7 +36,7 @@ placements_text = codes "SELECT exam, period, room FROM placed ORDER BY exam"
 
 abbrev pub placements_query : Query
 placements_query =
-    asks (inner 7 end) [] placed_columns (rising placed_columns (0 ∷ []))
+    asks (inner 7 end) [] placed_terms (rising placed_terms (0 ∷ []))
 
 pub placements_means : Means office_schema placements_query placements_text
 unfolding understood everything
@@ -48,19 +48,19 @@ placements_means = record {
 }
 
 pub placements_read : (db : Database) (t : Tables) → Stands db t → (found : List PlacedRow)
-    → IsReadOf placed_row 3 [] placements_query db.trees found
+    → IsReadOf placed_columns 3 [] placements_query db.trees found
     → IsPermutation t.placed found × Rises (λ (x : PlacedRow). x.exam ∷ []) found
 placements_read db t stands found is =
-    read placement_of placed_row 3 (λ x. refl) (λ x. refl) (inner 7 end) [] placed_columns (0 ∷ [])
+    read placement_of placed_columns 3 (λ x. refl) (λ x. refl) (inner 7 end) [] placed_terms (0 ∷ [])
     (λ (x : PlacedRow). x.exam ∷ []) (λ x. refl) db.trees [] t.placed found
-    (subst (λ l. IsPermutation (map (eval_all placed_columns)
-    (matches db.trees [] (inner 7 end) ([] ∷ []))) (map placed_row l))
+    (subst (λ l. IsPermutation (map (eval_all placed_terms)
+    (matches db.trees [] (inner 7 end) ([] ∷ []))) (map placed_columns l))
     (every (λ _. true) t.placed (λ x. refl))
-    (table_shown placed_row keyed placed_picked [] 7 [] placed_columns placed_shown (λ x. refl)
+    (table_shown placed_columns keyed placed_picked [] 7 [] placed_terms placed_shown (λ x. refl)
     (λ _. true) (λ r. refl) (λ _. true) (λ x. refl) db.trees t.placed stands.placed.same)) is
 
-abbrev pub seat_columns : List Term
-seat_columns = col 1 1 ∷ col 1 2 ∷ col 1 3 ∷ col 1 4 ∷ col 1 5 ∷ []
+abbrev pub seat_terms : List Term
+seat_terms = col 1 1 ∷ col 1 2 ∷ col 1 3 ∷ col 1 4 ∷ col 1 5 ∷ []
 
 abbrev seat_picked : Row → Row
 seat_picked row = column row 0 ∷ column row 1 ∷ column row 2 ∷ column row 3 ∷ column row 4 ∷ []
@@ -83,7 +83,7 @@ seats_text = codes "SELECT student, exam, period, room, seat FROM seat ORDER BY 
 
 abbrev pub seats_query : Query
 seats_query =
-    asks (inner 8 end) [] seat_columns (rising seat_columns (1 ∷ 0 ∷ []))
+    asks (inner 8 end) [] seat_terms (rising seat_terms (1 ∷ 0 ∷ []))
 
 pub seats_means : Means office_schema seats_query seats_text
 unfolding understood everything
@@ -95,15 +95,15 @@ seats_means = record {
 }
 
 pub seats_read : (db : Database) (t : Tables) → Stands db t → (found : List SeatRow)
-    → IsReadOf seat_row 5 [] seats_query db.trees found
+    → IsReadOf seat_columns 5 [] seats_query db.trees found
     → IsPermutation t.seat found × Rises (λ (x : SeatRow). x.exam ∷ x.student ∷ []) found
 seats_read db t stands found is =
-    read seat_of seat_row 5 (λ x. refl) (λ x. refl) (inner 8 end) [] seat_columns (1 ∷ 0 ∷ [])
+    read seat_of seat_columns 5 (λ x. refl) (λ x. refl) (inner 8 end) [] seat_terms (1 ∷ 0 ∷ [])
     (λ (x : SeatRow). x.exam ∷ x.student ∷ []) (λ x. refl) db.trees [] t.seat found
-    (subst (λ l. IsPermutation (map (eval_all seat_columns)
-    (matches db.trees [] (inner 8 end) ([] ∷ []))) (map seat_row l))
+    (subst (λ l. IsPermutation (map (eval_all seat_terms)
+    (matches db.trees [] (inner 8 end) ([] ∷ []))) (map seat_columns l))
     (every (λ _. true) t.seat (λ x. refl))
-    (table_shown seat_row keyless seat_picked [] 8 [] seat_columns seat_shown (λ x. refl)
+    (table_shown seat_columns keyless seat_picked [] 8 [] seat_terms seat_shown (λ x. refl)
     (λ _. true) (λ r. refl) (λ _. true) (λ x. refl) db.trees t.seat stands.seat.same)) is
 
 -- ---- SELECT student, exam, period, room, seat FROM seat WHERE student = ?1 ORDER BY exam
@@ -114,7 +114,7 @@ seats_of_text = codes
 
 abbrev pub seats_of_query : Query
 seats_of_query =
-    asks (inner 8 end) (equals 1 0 ∷ []) seat_columns (rising seat_columns (1 ∷ []))
+    asks (inner 8 end) (equals 1 0 ∷ []) seat_terms (rising seat_terms (1 ∷ []))
 
 pub seats_of_means : Means office_schema seats_of_query seats_of_text
 unfolding understood everything
@@ -126,15 +126,15 @@ seats_of_means = record {
 }
 
 pub seats_of_read : (db : Database) (number : ℕ) (t : Tables) → Stands db t → (found : List SeatRow)
-    → IsReadOf seat_row 5 (Int (pos number) ∷ []) seats_of_query db.trees found
+    → IsReadOf seat_columns 5 (Int (pos number) ∷ []) seats_of_query db.trees found
     → IsPermutation (filter (λ r. r.student == number) t.seat) found
     × Rises (λ (x : SeatRow). x.exam ∷ []) found
 seats_of_read db number t stands found is =
     let params : Row = Int (pos number) ∷ [] in
-    read seat_of seat_row 5 (λ x. refl) (λ x. refl) (inner 8 end) (equals 1 0 ∷ []) seat_columns
+    read seat_of seat_columns 5 (λ x. refl) (λ x. refl) (inner 8 end) (equals 1 0 ∷ []) seat_terms
     (1 ∷ []) (λ (x : SeatRow). x.exam ∷ []) (λ x. refl) db.trees params
     (filter (λ r. r.student == number) t.seat) found
-    (table_shown seat_row keyless seat_picked params 8 (equals 1 0 ∷ []) seat_columns seat_shown
+    (table_shown seat_columns keyless seat_picked params 8 (equals 1 0 ∷ []) seat_terms seat_shown
     (λ x. refl) (passes params (equals 0 0 ∷ [])) (λ r.
     ap (λ v. is_true (binary (Compare Eq Binary) v (Int (pos number))) && true) (column_less r 0))
     (λ r. r.student == number) (λ x. equal_numbers x.student number) db.trees t.seat

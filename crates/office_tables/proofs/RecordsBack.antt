@@ -4,7 +4,6 @@ use Rattle.sqlite_value.specs.declared.value.Value.{Value}
 use Rattle.sqlite_value.specs.declared.value.Value.TheVariants.{Int, Blob}
 use Rattle.sqlite_value.specs.Order.{Row, column}
 use Rattle.office_tables.specs.declared.rows.BatchCountsRow.{BatchCountsRow}
-use Rattle.office_tables.specs.declared.rows.MarkRow.{MarkRow}
 use Rattle.office_tables.specs.declared.rows.OwnerRow.{OwnerRow}
 use Rattle.office_tables.specs.declared.rows.EnrolRow.{EnrolRow}
 use Rattle.office_tables.specs.declared.rows.DraftRow.{DraftRow}
@@ -22,9 +21,6 @@ number _ = 0
 abbrev pub bytes_in : Value → List ℕ
 bytes_in (Blob bytes) = bytes
 bytes_in _ = []
-
-abbrev pub mark_of : Row → MarkRow
-mark_of row = record { published = number (column row 0) }
 
 abbrev pub owner_of : Row → OwnerRow
 owner_of row = record {

@@ -14,7 +14,7 @@ use Rattle.sqlite_tied.specs.Compute.{everything}
 use Rattle.office_tables.specs.declared.rows.StudentShareRow.{StudentShareRow}
 use Rattle.office_tables.specs.declared.rows.PartShareRow.{PartShareRow}
 use Rattle.office_schema.specs.Schema.{office_schema, share_student_table, share_part_table}
-use Rattle.office_tables.specs.Tables.{Tables, Stands, keyed, keyless, share_student_row, share_part_row}
+use Rattle.office_tables.specs.Tables.{Tables, Stands, keyed, keyless, share_student_columns, share_part_columns}
 use Rattle.office_tables.proofs.Casts.{cast_int, cast_null}
 use Rattle.office_tables.proofs.Frames.{holds_none, share_student_changed, share_part_changed}
 use Rattle.office_tables.proofs.Statements.{inserts, deletes}
@@ -45,7 +45,7 @@ insert_student_share_plain = (refl, refl)
 
 pub student_share_added : (old new : State) (row : StudentShareRow) (count : ℕ) (t : Tables)
     → Stands old.now t
-    → Executes insert_student_share_text (share_student_row row) old new (Ok count)
+    → Executes insert_student_share_text (share_student_columns row) old new (Ok count)
     → Stands new.now (record t { share_student = row ∷ t.share_student })
 student_share_added old new row count t stands h =
     let done = inserts insert_student_share_text _ old new count office_schema stands.schema
@@ -66,8 +66,8 @@ student_share_added old new row count t stands h =
     ) refl in
     let fresh : are_fresh stored (new_row ∷ []) ≡ true = rw (cast_int row.student) at is.fresh in
     share_student_changed old.now new.now t stands done.0 (row ∷ t.share_student) is.tables
-    (rw rows (holds_more keyed (map share_student_row t.share_student) stored new_row
-    (share_student_row row) refl refl fresh
+    (rw rows (holds_more keyed (map share_student_columns t.share_student) stored new_row
+    (share_student_columns row) refl refl fresh
     stands.share_student))
 
 -- ---- DELETE FROM share_student WHERE student = ?1
@@ -102,7 +102,7 @@ student_share_deleted old new number count t stands h =
     let answer = answered 11 (equals 0 0 ∷ []) _ [] old.now.trees params done.0 done.2 in
     let rows : new.now.trees 11 ≡ filter (λ r. not (test r)) stored =
     is.rows ∙ left_of test stored done.0 stands.share_student.rowids answer in
-    let same = shown_filter keyed share_student_row (λ r. not (test r))
+    let same = shown_filter keyed share_student_columns (λ r. not (test r))
     (λ (row : Row). not (passes params (equals 0 0 ∷ []) row)) (λ r. not (r.student == number))
     (λ r. refl) (λ x. ap not (equal_numbers x.student number)) stored t.share_student
     stands.share_student.same in
@@ -133,7 +133,7 @@ insert_part_share_plain = (refl, refl)
 
 pub part_share_added : (old new : State) (row : PartShareRow) (count : ℕ) (t : Tables)
     → Stands old.now t
-    → Executes insert_part_share_text (share_part_row row) old new (Ok count)
+    → Executes insert_part_share_text (share_part_columns row) old new (Ok count)
     → Stands new.now (record t { share_part = row ∷ t.share_part })
 part_share_added old new row count t stands h =
     let done = inserts insert_part_share_text _ old new count office_schema stands.schema
@@ -141,7 +141,7 @@ part_share_added old new row count t stands h =
     (λ taken news. refl) h in
     let is = done.1 in
     let stored = old.now.trees 12 in
-    let new_row : Row = Int (next_rowid stored) ∷ share_part_row row in
+    let new_row : Row = Int (next_rowid stored) ∷ share_part_columns row in
     let rows : new.now.trees 12 ≡ put_row new_row stored =
     is.rows ∙ rw (
       cast_null,
@@ -153,8 +153,8 @@ part_share_added old new row count t stands h =
     ) refl in
     let fresh : are_fresh stored (new_row ∷ []) ≡ true = rw (cast_null) at is.fresh in
     share_part_changed old.now new.now t stands done.0 (row ∷ t.share_part) is.tables
-    (rw rows (holds_more keyless (map share_part_row t.share_part) stored new_row
-    (share_part_row row) refl refl fresh
+    (rw rows (holds_more keyless (map share_part_columns t.share_part) stored new_row
+    (share_part_columns row) refl refl fresh
     stands.share_part))
 
 -- ---- DELETE FROM share_part

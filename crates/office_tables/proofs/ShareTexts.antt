@@ -11,13 +11,13 @@ use Rattle.office_schema.specs.Schema.{office_schema}
 use Rattle.office_tables.specs.Asking.{asks, IsReadOf, Means}
 use Rattle.office_tables.specs.declared.rows.StudentShareRow.{StudentShareRow}
 use Rattle.office_tables.specs.declared.rows.PartShareRow.{PartShareRow}
-use Rattle.office_tables.specs.Tables.{Tables, Stands, keyed, keyless, share_student_row, share_part_row}
+use Rattle.office_tables.specs.Tables.{Tables, Stands, keyed, keyless, share_student_columns, share_part_columns}
 use Rattle.office_tables.proofs.OrderLemmas.{Rises, read, rising, table_shown}
 use Rattle.office_tables.proofs.Queries.{column_less, column_later, equal_numbers, equals, every, passes}
 use Rattle.office_tables.proofs.RecordsBack.{student_share_of, part_share_of}
 
-abbrev pub share_student_columns : List Term
-share_student_columns = col 1 0 ∷ col 1 2 ∷ col 1 3 ∷ col 1 4 ∷ []
+abbrev pub share_student_terms : List Term
+share_student_terms = col 1 0 ∷ col 1 2 ∷ col 1 3 ∷ col 1 4 ∷ []
 
 abbrev share_student_picked : Row → Row
 share_student_picked row = column row 0 ∷ column row 1 ∷ column row 2 ∷ column row 3 ∷ []
@@ -34,7 +34,7 @@ student_shares_text = codes
 
 abbrev pub student_shares_query : Query
 student_shares_query =
-    asks (inner 11 end) [] share_student_columns (rising share_student_columns (0 ∷ []))
+    asks (inner 11 end) [] share_student_terms (rising share_student_terms (0 ∷ []))
 
 pub student_shares_means : Means office_schema student_shares_query student_shares_text
 unfolding understood everything
@@ -47,16 +47,16 @@ student_shares_means = record {
 
 pub student_shares_read : (db : Database) (t : Tables) → Stands db t
     → (found : List StudentShareRow)
-    → IsReadOf share_student_row 4 [] student_shares_query db.trees found
+    → IsReadOf share_student_columns 4 [] student_shares_query db.trees found
     → IsPermutation t.share_student found × Rises (λ (x : StudentShareRow). x.student ∷ []) found
 student_shares_read db t stands found is =
-    read student_share_of share_student_row 4 (λ x. refl) (λ x. refl) (inner 11 end) []
-    share_student_columns (0 ∷ [])
+    read student_share_of share_student_columns 4 (λ x. refl) (λ x. refl) (inner 11 end) []
+    share_student_terms (0 ∷ [])
     (λ (x : StudentShareRow). x.student ∷ []) (λ x. refl) db.trees [] t.share_student found
-    (subst (λ l. IsPermutation (map (eval_all share_student_columns)
-    (matches db.trees [] (inner 11 end) ([] ∷ []))) (map share_student_row l))
+    (subst (λ l. IsPermutation (map (eval_all share_student_terms)
+    (matches db.trees [] (inner 11 end) ([] ∷ []))) (map share_student_columns l))
     (every (λ _. true) t.share_student (λ x. refl))
-    (table_shown share_student_row keyed share_student_picked [] 11 [] share_student_columns
+    (table_shown share_student_columns keyed share_student_picked [] 11 [] share_student_terms
     share_student_shown (λ x. refl)
     (λ _. true) (λ r. refl) (λ _. true) (λ x. refl) db.trees t.share_student
     stands.share_student.same)) is
@@ -69,8 +69,8 @@ student_shares_of_text = codes
 
 abbrev pub student_shares_of_query : Query
 student_shares_of_query =
-    asks (inner 11 end) (equals 0 0 ∷ []) share_student_columns
-    (rising share_student_columns (0 ∷ []))
+    asks (inner 11 end) (equals 0 0 ∷ []) share_student_terms
+    (rising share_student_terms (0 ∷ []))
 
 pub student_shares_of_means : Means office_schema student_shares_of_query student_shares_of_text
 unfolding understood everything
@@ -83,23 +83,23 @@ student_shares_of_means = record {
 
 pub student_shares_of_read : (db : Database) (number : ℕ) (t : Tables) → Stands db t
     → (found : List StudentShareRow)
-    → IsReadOf share_student_row 4 (Int (pos number) ∷ []) student_shares_of_query db.trees found
+    → IsReadOf share_student_columns 4 (Int (pos number) ∷ []) student_shares_of_query db.trees found
     → IsPermutation (filter (λ r. r.student == number) t.share_student) found
     × Rises (λ (x : StudentShareRow). x.student ∷ []) found
 student_shares_of_read db number t stands found is =
     let params : Row = Int (pos number) ∷ [] in
-    read student_share_of share_student_row 4 (λ x. refl) (λ x. refl) (inner 11 end)
-    (equals 0 0 ∷ []) share_student_columns (0 ∷ [])
+    read student_share_of share_student_columns 4 (λ x. refl) (λ x. refl) (inner 11 end)
+    (equals 0 0 ∷ []) share_student_terms (0 ∷ [])
     (λ (x : StudentShareRow). x.student ∷ []) (λ x. refl) db.trees params
     (filter (λ r. r.student == number) t.share_student) found
-    (table_shown share_student_row keyed share_student_picked params 11 (equals 0 0 ∷ [])
-    share_student_columns share_student_shown
+    (table_shown share_student_columns keyed share_student_picked params 11 (equals 0 0 ∷ [])
+    share_student_terms share_student_shown
     (λ x. refl) (passes params (equals 0 0 ∷ [])) (λ r. refl)
     (λ r. r.student == number) (λ x. equal_numbers x.student number) db.trees t.share_student
     stands.share_student.same) is
 
-abbrev pub share_part_columns : List Term
-share_part_columns = col 1 1 ∷ col 1 2 ∷ col 1 3 ∷ col 1 4 ∷ []
+abbrev pub share_part_terms : List Term
+share_part_terms = col 1 1 ∷ col 1 2 ∷ col 1 3 ∷ col 1 4 ∷ []
 
 abbrev share_part_picked : Row → Row
 share_part_picked row = column row 0 ∷ column row 1 ∷ column row 2 ∷ column row 3 ∷ []
@@ -115,7 +115,7 @@ part_shares_text = codes "SELECT kind, no, penalty, mixed FROM share_part ORDER 
 
 abbrev pub part_shares_query : Query
 part_shares_query =
-    asks (inner 12 end) [] share_part_columns (rising share_part_columns (0 ∷ 1 ∷ []))
+    asks (inner 12 end) [] share_part_terms (rising share_part_terms (0 ∷ 1 ∷ []))
 
 pub part_shares_means : Means office_schema part_shares_query part_shares_text
 unfolding understood everything
@@ -127,15 +127,15 @@ part_shares_means = record {
 }
 
 pub part_shares_read : (db : Database) (t : Tables) → Stands db t → (found : List PartShareRow)
-    → IsReadOf share_part_row 4 [] part_shares_query db.trees found
+    → IsReadOf share_part_columns 4 [] part_shares_query db.trees found
     → IsPermutation t.share_part found × Rises (λ (x : PartShareRow). x.kind ∷ x.no ∷ []) found
 part_shares_read db t stands found is =
-    read part_share_of share_part_row 4 (λ x. refl) (λ x. refl) (inner 12 end) []
-    share_part_columns (0 ∷ 1 ∷ []) (λ (x : PartShareRow). x.kind ∷ x.no ∷ []) (λ x. refl) db.trees [] t.share_part found
-    (subst (λ l. IsPermutation (map (eval_all share_part_columns)
-    (matches db.trees [] (inner 12 end) ([] ∷ []))) (map share_part_row l))
+    read part_share_of share_part_columns 4 (λ x. refl) (λ x. refl) (inner 12 end) []
+    share_part_terms (0 ∷ 1 ∷ []) (λ (x : PartShareRow). x.kind ∷ x.no ∷ []) (λ x. refl) db.trees [] t.share_part found
+    (subst (λ l. IsPermutation (map (eval_all share_part_terms)
+    (matches db.trees [] (inner 12 end) ([] ∷ []))) (map share_part_columns l))
     (every (λ _. true) t.share_part (λ x. refl))
-    (table_shown share_part_row keyless share_part_picked [] 12 [] share_part_columns
+    (table_shown share_part_columns keyless share_part_picked [] 12 [] share_part_terms
     share_part_shown (λ x. refl)
     (λ _. true) (λ r. refl) (λ _. true) (λ x. refl) db.trees t.share_part stands.share_part.same))
     is

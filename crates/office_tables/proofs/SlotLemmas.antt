@@ -17,7 +17,7 @@ use Rattle.sqlite.proofs.Callers.{IsPlain, command_of}
 use Rattle.sqlite_tied.specs.Compute.{everything}
 use Rattle.office_tables.specs.declared.rows.SlotRow.{SlotRow}
 use Rattle.office_schema.specs.Schema.{office_schema, slot_table}
-use Rattle.office_tables.specs.Tables.{Tables, Stands, keyless, slot_row}
+use Rattle.office_tables.specs.Tables.{Tables, Stands, keyless, slot_columns}
 use Rattle.office_tables.proofs.Casts.{cast_int, cast_null}
 use Rattle.office_tables.proofs.Frames.{slot_changed}
 use Rattle.office_tables.proofs.Statements.{inserts, deletes}
@@ -41,18 +41,18 @@ unfolding understood everything
 insert_plain = (refl, refl)
 
 pub added : (old new : State) (row : SlotRow) (count : ℕ) (t : Tables) → Stands old.now t
-    → Executes insert_text (slot_row row) old new (Ok count)
+    → Executes insert_text (slot_columns row) old new (Ok count)
     → Stands new.now (record t { slot = row ∷ t.slot })
 added old new row count t stands h =
     let done = inserts insert_text _ old new count office_schema stands.schema insert_plain
     4 slot_table refl insert_terms 5 insert_is (λ taken news. refl) h in
     let is = done.1 in
     let stored = old.now.trees 5 in
-    let new_row : Row = Int (next_rowid stored) ∷ slot_row row in
+    let new_row : Row = Int (next_rowid stored) ∷ slot_columns row in
     let rows : new.now.trees 5 ≡ put_row new_row stored = is.rows ∙ rw (cast_null, cast_int row.draft, cast_int row.exam, cast_int row.period, cast_int row.room) refl in
     let fresh : are_fresh stored (new_row ∷ []) ≡ true = rw (cast_null) at is.fresh in
     slot_changed old.now new.now t stands done.0 (row ∷ t.slot) is.tables
-    (rw rows (holds_more keyless (map slot_row t.slot) stored new_row (slot_row row) refl refl fresh stands.slot))
+    (rw rows (holds_more keyless (map slot_columns t.slot) stored new_row (slot_columns row) refl refl fresh stands.slot))
 
 -- ---- DELETE WHERE draft = ?1
 
@@ -81,7 +81,7 @@ delete_draftd old new draft count t stands h =
     let answer = answered 5 (equals 1 0 ∷ []) _ [] old.now.trees params done.0 done.2 in
     let rows : new.now.trees 5 ≡ filter (λ r. not (test r)) stored =
     is.rows ∙ left_of test stored done.0 stands.slot.rowids answer in
-    let same = shown_filter keyless slot_row (λ r. not (test r)) (λ row. not (shown_test row)) (λ r. not (r.draft == draft))
+    let same = shown_filter keyless slot_columns (λ r. not (test r)) (λ row. not (shown_test row)) (λ r. not (r.draft == draft))
     (λ r. ap (λ v. not (is_true (binary (Compare Eq Binary) v (Int (pos draft))) && true)) (column_less r 0)) (λ x. ap not (equal_numbers x.draft draft)) stored t.slot stands.slot.same in
     slot_changed old.now new.now t stands done.1 (filter (λ r. not (r.draft == draft)) t.slot) is.tables
     (rw rows (record { rowids = rowids_filter (λ r. not (test r)) stored stands.slot.rowids; same = same }))
@@ -113,7 +113,7 @@ deleted old new draft exam count t stands h =
     let answer = answered 5 (equals 1 0 ∷ equals 2 1 ∷ []) _ [] old.now.trees params done.0 done.2 in
     let rows : new.now.trees 5 ≡ filter (λ r. not (test r)) stored =
     is.rows ∙ left_of test stored done.0 stands.slot.rowids answer in
-    let same = shown_filter keyless slot_row (λ r. not (test r)) (λ row. not (shown_test row)) (λ r. not ((r.draft == draft) && (r.exam == exam)))
+    let same = shown_filter keyless slot_columns (λ r. not (test r)) (λ row. not (shown_test row)) (λ r. not ((r.draft == draft) && (r.exam == exam)))
     (λ r. rw (column_less r 0, column_less r 1) refl) (λ x. ap not (equal_pairs x.draft draft x.exam exam)) stored t.slot stands.slot.same in
     slot_changed old.now new.now t stands done.1 (filter (λ r. not ((r.draft == draft) && (r.exam == exam))) t.slot) is.tables
     (rw rows (record { rowids = rowids_filter (λ r. not (test r)) stored stands.slot.rowids; same = same }))

@@ -14,7 +14,7 @@ use Rattle.sqlite_tied.specs.Compute.{everything}
 use Rattle.office_schema.specs.Schema.{office_schema}
 use Rattle.office_tables.specs.Asking.{asks, IsReadOf, Means}
 use Rattle.office_tables.specs.declared.rows.SlotRow.{SlotRow}
-use Rattle.office_tables.specs.Tables.{Tables, Stands, keyless, slot_row}
+use Rattle.office_tables.specs.Tables.{Tables, Stands, keyless, slot_columns}
 use Rattle.office_tables.proofs.OrderLemmas.{read, rising, table_shown}
 use Rattle.office_tables.proofs.Queries.{column_less, equal_numbers, equals, passes}
 use Rattle.office_tables.proofs.RecordsBack.{slot_of}
@@ -44,14 +44,14 @@ shown_is : (r : Row) → column r 1 ∷ column r 2 ∷ column r 3 ∷ column r 4
 shown_is r = rw (column_less r 0, column_less r 1, column_less r 2, column_less r 3) refl
 
 pub slots_of_read : (db : Database) (draft : ℕ) (t : Tables) → Stands db t → (found : List SlotRow)
-    → IsReadOf slot_row 4 (Int (pos draft) ∷ []) slots_of_query db.trees found
+    → IsReadOf slot_columns 4 (Int (pos draft) ∷ []) slots_of_query db.trees found
     → IsPermutation (filter (λ r. r.draft == draft) t.slot) found
 slots_of_read db draft t stands found is =
     let params : Row = Int (pos draft) ∷ [] in
-    (read slot_of slot_row 4 (λ x. refl) (λ x. refl) (inner 5 end) (equals 1 0 ∷ []) columns
+    (read slot_of slot_columns 4 (λ x. refl) (λ x. refl) (inner 5 end) (equals 1 0 ∷ []) columns
     (1 ∷ []) (λ (x : SlotRow). x.exam ∷ []) (λ x. refl) db.trees params
     (filter (λ r. r.draft == draft) t.slot) found
-    (table_shown slot_row keyless picked params 5 (equals 1 0 ∷ []) columns shown_is
+    (table_shown slot_columns keyless picked params 5 (equals 1 0 ∷ []) columns shown_is
     (λ x. refl) (passes params (equals 0 0 ∷ [])) (λ r.
     ap (λ v. is_true (binary (Compare Eq Binary) v (Int (pos draft))) && true)
     (column_less r 0))

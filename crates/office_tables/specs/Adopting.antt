@@ -18,7 +18,7 @@ use Rattle.office_tables.specs.declared.rows.DraftRow.{DraftRow}
 use Rattle.office_tables.specs.declared.rows.SlotRow.{SlotRow}
 use Rattle.office_tables.specs.declared.rows.MetaRow.{MetaRow}
 use Rattle.office_tables.specs.Records.{counts_of, meta_from, FitsOwner, FitsEnrol, FitsDraft, FitsSlot, FitsPlacement, FitsSeat, FitsStudentShare, FitsPartShare, FitsBatch}
-use Rattle.office_tables.specs.Tables.{Tables, Meta, Batch, Stands, Holds, keyed, keyless, meta_row, owner_row, enrol_row, draft_row, slot_row, placed_row, seat_row, share_student_row, share_part_row, batch_row}
+use Rattle.office_tables.specs.Tables.{Tables, Meta, Batch, Stands, Holds, keyed, keyless, meta_columns, owner_columns, enrol_columns, draft_columns, slot_columns, placed_columns, seat_columns, share_student_columns, share_part_columns, batch_columns}
 
 -- the tables of an office, whose numbers the program's types hold
 pub record AreReadable (t : Tables) : Type 0 where
@@ -40,21 +40,21 @@ IsForeign db = (t : Tables) → AreReadable t → Stands db t → ⊥
 
 -- what was found of the session is what its three tables hold
 pub record HoldsSession (db : Database) (found : FoundSession) : Type 0 where
-  pub meta : Holds keyed (meta_row (meta_from found.meta) ∷ []) (db.trees 0)
-  pub owner : Holds keyed (map owner_row found.owners.items) (db.trees 1)
-  pub enrol : Holds keyless (map enrol_row found.enrols.items) (db.trees 2)
+  pub meta : Holds keyed (meta_columns (meta_from found.meta) ∷ []) (db.trees 0)
+  pub owner : Holds keyed (map owner_columns found.owners.items) (db.trees 1)
+  pub enrol : Holds keyless (map enrol_columns found.enrols.items) (db.trees 2)
 
 -- what was found of the drafts is what their two tables hold
 pub record HoldsDrafts (db : Database) (found : FoundDrafts) : Type 0 where
-  pub draft : Holds keyed (map draft_row found.drafts.items) (db.trees 4)
-  pub slot : Holds keyless (map slot_row found.slots.items) (db.trees 5)
+  pub draft : Holds keyed (map draft_columns found.drafts.items) (db.trees 4)
+  pub slot : Holds keyless (map slot_columns found.slots.items) (db.trees 5)
 
 -- the four tables of a publication hold what was found
 pub record HoldsPublication (db : Database) (found : FoundPublication) : Type 0 where
-  pub placed : Holds keyed (map placed_row found.placements.items) (db.trees 7)
-  pub seat : Holds keyless (map seat_row found.seats.items) (db.trees 8)
-  pub share_student : Holds keyed (map share_student_row found.student_shares.items) (db.trees 11)
-  pub share_part : Holds keyless (map share_part_row found.part_shares.items) (db.trees 12)
+  pub placed : Holds keyed (map placed_columns found.placements.items) (db.trees 7)
+  pub seat : Holds keyless (map seat_columns found.seats.items) (db.trees 8)
+  pub share_student : Holds keyed (map share_student_columns found.student_shares.items) (db.trees 11)
+  pub share_part : Holds keyless (map share_part_columns found.part_shares.items) (db.trees 12)
 
 -- it is what the tables hold, or none, and the file is no office's
 abbrev pub IsFoundSession : Database → Option FoundSession → Type 0
@@ -75,10 +75,10 @@ IsFoundPublication db None = IsForeign db
 abbrev pub IsFoundBatches : Database → Option (Vec BatchCountsRow Global) → Type 0
 IsFoundBatches db (Some found) =
     (batches : List Batch) × (map counts_of batches ≡ found.items)
-    × Holds keyed (map batch_row batches) (db.trees 14)
+    × Holds keyed (map batch_columns batches) (db.trees 14)
 IsFoundBatches db None =
     (batches : List Batch) → AllByRecursion FitsBatch batches
-    → Holds keyed (map batch_row batches) (db.trees 14) → ⊥
+    → Holds keyed (map batch_columns batches) (db.trees 14) → ⊥
 
 -- what was found, with the bytes of the batches
 abbrev pub tables_of : Found → List Batch → Tables
@@ -118,13 +118,13 @@ IsDrafts drafts slots (Some found) = (drafts ≡ Some found.drafts) × (slots �
 IsDrafts drafts slots None = (drafts ≡ None) ⊎ (slots ≡ None)
 
 -- what is found of a publication is found in all four tables
-abbrev pub IsPublication : Option (Vec PlacedRow Global) → Option (Vec SeatRow Global)
+abbrev pub HasAllOfPublication : Option (Vec PlacedRow Global) → Option (Vec SeatRow Global)
     → Option (Vec StudentShareRow Global) → Option (Vec PartShareRow Global)
     → Option FoundPublication → Type 0
-IsPublication placements seats students parts (Some found) =
+HasAllOfPublication placements seats students parts (Some found) =
     (placements ≡ Some found.placements) × (seats ≡ Some found.seats)
     × (students ≡ Some found.student_shares) × (parts ≡ Some found.part_shares)
-IsPublication placements seats students parts None =
+HasAllOfPublication placements seats students parts None =
     (placements ≡ None) ⊎ ((seats ≡ None) ⊎ ((students ≡ None) ⊎ (parts ≡ None)))
 
 -- all parts together; none where one of them gave nothing

@@ -19,7 +19,7 @@ use Rattle.sqlite.specs.Term.{Term, lit, eval_all}
 use Rattle.office_schema.specs.Schema.{office_schema}
 use Rattle.office_tables.specs.Asking.{asks, Means}
 use Rattle.office_tables.specs.Steps.{Keeps}
-use Rattle.office_tables.specs.Tables.{Meta, Holds, keyed, meta_row}
+use Rattle.office_tables.specs.Tables.{Meta, Holds, keyed, meta_columns}
 use Rattle.office_tables.specs.Records.{columns_from, meta_from}
 use Rattle.office_tables.specs.declared.rows.MetaRow.{MetaRow}
 
@@ -134,13 +134,13 @@ IsReadAnswer fits row_of width params q trees found =
 
 -- the first columns are those of this row; or, if there are enough, of no such row
 abbrev pub IsReadMeta : Row → Option MetaRow → Type 0
-IsReadMeta row (Some read) = columns_from 0 4 row ≡ meta_row (meta_from read)
-IsReadMeta row None = 4 ≤ length row → (m : Meta) → columns_from 0 4 row ≢ meta_row m
+IsReadMeta row (Some read) = columns_from 0 4 row ≡ meta_columns (meta_from read)
+IsReadMeta row None = 4 ≤ length row → (m : Meta) → columns_from 0 4 row ≢ meta_columns m
 
 -- the table holds this row alone; or there is none that it holds alone
 abbrev pub IsFoundMeta : List Row → Option MetaRow → Type 0
-IsFoundMeta stored (Some found) = Holds keyed (meta_row (meta_from found) ∷ []) stored
-IsFoundMeta stored None = (m : Meta) → Holds keyed (meta_row m ∷ []) stored → ⊥
+IsFoundMeta stored (Some found) = Holds keyed (meta_columns (meta_from found) ∷ []) stored
+IsFoundMeta stored None = (m : Meta) → Holds keyed (meta_columns m ∷ []) stored → ⊥
 
 -- a column reads as a value of this form; or, if the row has it, as none
 abbrev pub IsColumn : {X : Type 0} → (X → Value) → Row → ℕ → Option X → Type 0

@@ -4,7 +4,6 @@ use Rattle.sqlite_value.specs.declared.value.Value.TheVariants.{Int}
 use Rattle.sqlite_value.specs.Order.{Row, column}
 use Rattle.office_tables.specs.declared.rows.BatchRow.{BatchRow}
 use Rattle.office_tables.specs.declared.rows.BatchCountsRow.{BatchCountsRow}
-use Rattle.office_tables.specs.declared.rows.MarkRow.{MarkRow}
 use Rattle.office_tables.specs.declared.rows.MetaRow.{MetaRow}
 use Rattle.office_tables.specs.Tables.{Meta, Batch}
 use Rattle.office_tables.specs.declared.rows.OwnerRow.{OwnerRow}
@@ -36,17 +35,13 @@ counts_of r = record { no = r.no; added = r.added; dropped = r.dropped; unchange
 
 -- ---- their columns
 
--- the mark that something is published, as a SELECT gives it
-abbrev pub mark_row : MarkRow → Row
-mark_row r = Int (pos r.published) ∷ []
-
 -- a number alone
-abbrev pub number_row : ℕ → Row
-number_row n = Int (pos n) ∷ []
+abbrev pub number_columns : ℕ → Row
+number_columns n = Int (pos n) ∷ []
 
 -- a batch's number and counts, as a SELECT gives them
-abbrev pub counts_row : BatchCountsRow → Row
-counts_row r = Int (pos r.no) ∷ Int (pos r.added) ∷ Int (pos r.dropped) ∷ Int (pos r.unchanged) ∷ []
+abbrev pub counts_columns : BatchCountsRow → Row
+counts_columns r = Int (pos r.no) ∷ Int (pos r.added) ∷ Int (pos r.dropped) ∷ Int (pos r.unchanged) ∷ []
 
 -- so many columns of a row from one place on
 abbrev pub columns_from : ℕ → ℕ → Row → Row
@@ -58,10 +53,6 @@ columns_from at (suc n) row = column row at ∷ columns_from (suc at) n row
 -- a number of 32 bits
 abbrev pub IsNarrow : ℕ → Type 0
 IsNarrow n = n < 2 ^ 32
-
--- the mark has 32 bits
-abbrev pub FitsMark : MarkRow → Type 0
-FitsMark r = IsNarrow r.published
 
 -- an owner's numbers have 32 bits
 abbrev pub FitsOwner : OwnerRow → Type 0

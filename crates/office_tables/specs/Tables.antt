@@ -51,50 +51,50 @@ abbrev pub flag : Bool → ℕ
 flag b = if b then 1 else 0
 
 -- the columns of the line about the file: its key, 0, and the version of the schema, 1, come first
-abbrev pub meta_row : Meta → Row
-meta_row r = Int (pos 0) ∷ Int (pos 1) ∷ Int (pos (flag r.published)) ∷ Blob r.instance ∷ []
+abbrev pub meta_columns : Meta → Row
+meta_columns r = Int (pos 0) ∷ Int (pos 1) ∷ Int (pos (flag r.published)) ∷ Blob r.instance ∷ []
 
 -- an owner's columns
-abbrev pub owner_row : OwnerRow → Row
-owner_row r = Int (pos r.exam) ∷ Int (pos r.dept) ∷ []
+abbrev pub owner_columns : OwnerRow → Row
+owner_columns r = Int (pos r.exam) ∷ Int (pos r.dept) ∷ []
 
 -- an enrolment's columns
-abbrev pub enrol_row : EnrolRow → Row
-enrol_row r = Int (pos r.student) ∷ Int (pos r.exam) ∷ []
+abbrev pub enrol_columns : EnrolRow → Row
+enrol_columns r = Int (pos r.student) ∷ Int (pos r.exam) ∷ []
 
 -- a draft's columns
-abbrev pub draft_row : DraftRow → Row
-draft_row r =
+abbrev pub draft_columns : DraftRow → Row
+draft_columns r =
     Int (pos r.no) ∷ Int (pos r.in_row) ∷ Int (pos r.in_day) ∷ Int (pos r.spread) ∷
     Int (pos r.mixed) ∷ Int (pos r.front) ∷ Int (pos r.period) ∷ Int (pos r.room) ∷ []
 
 -- the columns of a draft's place
-abbrev pub slot_row : SlotRow → Row
-slot_row r = Int (pos r.draft) ∷ Int (pos r.exam) ∷ Int (pos r.period) ∷ Int (pos r.room) ∷ []
+abbrev pub slot_columns : SlotRow → Row
+slot_columns r = Int (pos r.draft) ∷ Int (pos r.exam) ∷ Int (pos r.period) ∷ Int (pos r.room) ∷ []
 
 -- the columns of a published place
-abbrev pub placed_row : PlacedRow → Row
-placed_row r = Int (pos r.exam) ∷ Int (pos r.period) ∷ Int (pos r.room) ∷ []
+abbrev pub placed_columns : PlacedRow → Row
+placed_columns r = Int (pos r.exam) ∷ Int (pos r.period) ∷ Int (pos r.room) ∷ []
 
 -- a seat's columns
-abbrev pub seat_row : SeatRow → Row
-seat_row r =
+abbrev pub seat_columns : SeatRow → Row
+seat_columns r =
     Int (pos r.student) ∷ Int (pos r.exam) ∷ Int (pos r.period) ∷ Int (pos r.room) ∷
     Int (pos r.seat) ∷ []
 
 -- the columns of a student's share
-abbrev pub share_student_row : StudentShareRow → Row
-share_student_row r =
+abbrev pub share_student_columns : StudentShareRow → Row
+share_student_columns r =
     Int (pos r.student) ∷ Int (pos r.in_row) ∷ Int (pos r.in_day) ∷ Int (pos r.spread) ∷ []
 
 -- the columns of the share of an exam, a period or a room
-abbrev pub share_part_row : PartShareRow → Row
-share_part_row r =
+abbrev pub share_part_columns : PartShareRow → Row
+share_part_columns r =
     Int (pos r.kind) ∷ Int (pos r.no) ∷ Int (pos r.penalty) ∷ Int (pos r.mixed) ∷ []
 
 -- a batch's columns
-abbrev pub batch_row : Batch → Row
-batch_row r =
+abbrev pub batch_columns : Batch → Row
+batch_columns r =
     Int (pos r.no) ∷ Blob r.bytes ∷ Int (pos r.added) ∷ Int (pos r.dropped) ∷
     Int (pos r.unchanged) ∷ []
 
@@ -121,16 +121,16 @@ pub record Holds (show : Row → Row) (rows stored : List Row) : Type 0 where
 -- the database has the ten tables, and they hold these rows
 pub record Stands (db : Database) (t : Tables) : Type 0 where
   pub schema : db.schema ≡ office_schema
-  pub meta : Holds keyed (map meta_row t.meta) (db.trees 0)
-  pub owner : Holds keyed (map owner_row t.owner) (db.trees 1)
-  pub enrol : Holds keyless (map enrol_row t.enrol) (db.trees 2)
-  pub draft : Holds keyed (map draft_row t.draft) (db.trees 4)
-  pub slot : Holds keyless (map slot_row t.slot) (db.trees 5)
-  pub placed : Holds keyed (map placed_row t.placed) (db.trees 7)
-  pub seat : Holds keyless (map seat_row t.seat) (db.trees 8)
-  pub share_student : Holds keyed (map share_student_row t.share_student) (db.trees 11)
-  pub share_part : Holds keyless (map share_part_row t.share_part) (db.trees 12)
-  pub batch : Holds keyed (map batch_row t.batch) (db.trees 14)
+  pub meta : Holds keyed (map meta_columns t.meta) (db.trees 0)
+  pub owner : Holds keyed (map owner_columns t.owner) (db.trees 1)
+  pub enrol : Holds keyless (map enrol_columns t.enrol) (db.trees 2)
+  pub draft : Holds keyed (map draft_columns t.draft) (db.trees 4)
+  pub slot : Holds keyless (map slot_columns t.slot) (db.trees 5)
+  pub placed : Holds keyed (map placed_columns t.placed) (db.trees 7)
+  pub seat : Holds keyless (map seat_columns t.seat) (db.trees 8)
+  pub share_student : Holds keyed (map share_student_columns t.share_student) (db.trees 11)
+  pub share_part : Holds keyless (map share_part_columns t.share_part) (db.trees 12)
+  pub batch : Holds keyed (map batch_columns t.batch) (db.trees 14)
 
 -- the tables before a load
 abbrev pub empty_tables : Tables

@@ -3,7 +3,7 @@ ghost use Rattle.sqlite.specs.Held.{state};
 ghost use Rattle.office_tables.specs.Adopting.{IsFoundBatches};
 ghost use Rattle.office_tables.specs.Readings.{Finds, IsFound, Leaves, Looks};
 ghost use Rattle.office_tables.specs.Records.{FitsOwner, FitsEnrol, FitsDraft, FitsSlot, FitsPlacement, FitsSeat, FitsStudentShare, FitsPartShare};
-ghost use Rattle.office_tables.specs.Tables.{owner_row, enrol_row, draft_row, slot_row, placed_row, seat_row, share_student_row, share_part_row, keyed, keyless};
+ghost use Rattle.office_tables.specs.Tables.{owner_columns, enrol_columns, draft_columns, slot_columns, placed_columns, seat_columns, share_student_columns, share_part_columns, keyed, keyless};
 
 use crate::listing::read_table;
 use crate::rows::{
@@ -18,7 +18,7 @@ pub fn adopt_owners<S: Alter>(
     alloc: Global,
     conn: &mut Connection<S>,
 ) -> Result<Option<Vec<OwnerRow>>, Error>
-    ensures found { Finds S.Store (λ db. IsFound FitsOwner owner_row keyed (db.trees 1)) conn.old conn.new result }
+    ensures found { Finds S.Store (λ db. IsFound FitsOwner owner_columns keyed (db.trees 1)) conn.old conn.new result }
     ensures same { Leaves S.Store conn.old conn.new result }
     ensures looks { Looks (state S.Store conn.old) (state S.Store conn.new) }
 {
@@ -34,7 +34,7 @@ pub fn adopt_enrols<S: Alter>(
     alloc: Global,
     conn: &mut Connection<S>,
 ) -> Result<Option<Vec<EnrolRow>>, Error>
-    ensures found { Finds S.Store (λ db. IsFound FitsEnrol enrol_row keyless (db.trees 2)) conn.old conn.new result }
+    ensures found { Finds S.Store (λ db. IsFound FitsEnrol enrol_columns keyless (db.trees 2)) conn.old conn.new result }
     ensures same { Leaves S.Store conn.old conn.new result }
     ensures looks { Looks (state S.Store conn.old) (state S.Store conn.new) }
 {
@@ -50,7 +50,7 @@ pub fn adopt_drafts<S: Alter>(
     alloc: Global,
     conn: &mut Connection<S>,
 ) -> Result<Option<Vec<DraftRow>>, Error>
-    ensures found { Finds S.Store (λ db. IsFound FitsDraft draft_row keyed (db.trees 4)) conn.old conn.new result }
+    ensures found { Finds S.Store (λ db. IsFound FitsDraft draft_columns keyed (db.trees 4)) conn.old conn.new result }
     ensures same { Leaves S.Store conn.old conn.new result }
     ensures looks { Looks (state S.Store conn.old) (state S.Store conn.new) }
 {
@@ -66,7 +66,7 @@ pub fn adopt_slots<S: Alter>(
     alloc: Global,
     conn: &mut Connection<S>,
 ) -> Result<Option<Vec<SlotRow>>, Error>
-    ensures found { Finds S.Store (λ db. IsFound FitsSlot slot_row keyless (db.trees 5)) conn.old conn.new result }
+    ensures found { Finds S.Store (λ db. IsFound FitsSlot slot_columns keyless (db.trees 5)) conn.old conn.new result }
     ensures same { Leaves S.Store conn.old conn.new result }
     ensures looks { Looks (state S.Store conn.old) (state S.Store conn.new) }
 {
@@ -82,7 +82,7 @@ pub fn adopt_placements<S: Alter>(
     alloc: Global,
     conn: &mut Connection<S>,
 ) -> Result<Option<Vec<PlacedRow>>, Error>
-    ensures found { Finds S.Store (λ db. IsFound FitsPlacement placed_row keyed (db.trees 7))
+    ensures found { Finds S.Store (λ db. IsFound FitsPlacement placed_columns keyed (db.trees 7))
         conn.old conn.new result }
     ensures same { Leaves S.Store conn.old conn.new result }
     ensures looks { Looks (state S.Store conn.old) (state S.Store conn.new) }
@@ -99,7 +99,7 @@ pub fn adopt_seats<S: Alter>(
     alloc: Global,
     conn: &mut Connection<S>,
 ) -> Result<Option<Vec<SeatRow>>, Error>
-    ensures found { Finds S.Store (λ db. IsFound FitsSeat seat_row keyless (db.trees 8))
+    ensures found { Finds S.Store (λ db. IsFound FitsSeat seat_columns keyless (db.trees 8))
         conn.old conn.new result }
     ensures same { Leaves S.Store conn.old conn.new result }
     ensures looks { Looks (state S.Store conn.old) (state S.Store conn.new) }
@@ -117,7 +117,7 @@ pub fn adopt_student_shares<S: Alter>(
     conn: &mut Connection<S>,
 ) -> Result<Option<Vec<StudentShareRow>>, Error>
     ensures found { Finds S.Store
-        (λ db. IsFound FitsStudentShare share_student_row keyed (db.trees 11)) conn.old conn.new result }
+        (λ db. IsFound FitsStudentShare share_student_columns keyed (db.trees 11)) conn.old conn.new result }
     ensures same { Leaves S.Store conn.old conn.new result }
     ensures looks { Looks (state S.Store conn.old) (state S.Store conn.new) }
 {
@@ -133,7 +133,7 @@ pub fn adopt_part_shares<S: Alter>(
     alloc: Global,
     conn: &mut Connection<S>,
 ) -> Result<Option<Vec<PartShareRow>>, Error>
-    ensures found { Finds S.Store (λ db. IsFound FitsPartShare share_part_row keyless (db.trees 12))
+    ensures found { Finds S.Store (λ db. IsFound FitsPartShare share_part_columns keyless (db.trees 12))
         conn.old conn.new result }
     ensures same { Leaves S.Store conn.old conn.new result }
     ensures looks { Looks (state S.Store conn.old) (state S.Store conn.new) }

@@ -2,7 +2,7 @@
 ghost use Rattle.std.specs.Prelude.{◌≡◌, ◌⊎◌, false, IfOk, OnOk};
 ghost use Rattle.sqlite.specs.Held.{state};
 ghost use Rattle.sqlite.specs.State.{HasCleanDisk, IsUnchanged, Survives};
-ghost use Rattle.office_tables.specs.Adopting.{IsAdopted, IsDrafts, IsFoundDrafts, IsFoundPublication, IsFoundSession, IsPublication, IsSession, IsWhole};
+ghost use Rattle.office_tables.specs.Adopting.{IsAdopted, IsDrafts, IsFoundDrafts, IsFoundPublication, IsFoundSession, HasAllOfPublication, IsSession, IsWhole};
 ghost use Rattle.office_tables.specs.Readings.{Finds, Leaves, Looks};
 ghost use Rattle.office_tables.specs.Steps.{Keeps};
 
@@ -125,7 +125,7 @@ fn publication_of(
     students: Option<Vec<StudentShareRow>>,
     parts: Option<Vec<PartShareRow>>,
 ) -> Option<FoundPublication>
-    ensures { IsPublication placements seats students parts result }
+    ensures { HasAllOfPublication placements seats students parts result }
 {
     Some(FoundPublication {
         placements: placements?,

@@ -3,7 +3,7 @@ ghost use Rattle.std.specs.Prelude.{◌≡◌, ◌==◌, false, filter, IsPermut
 ghost use Rattle.sqlite.specs.Held.{state};
 ghost use Rattle.sqlite.specs.State.{Survives};
 ghost use Rattle.office_tables.specs.Changes.{with_draft, without_draft, no_drafts};
-ghost use Rattle.office_tables.specs.Tables.{draft_row};
+ghost use Rattle.office_tables.specs.Tables.{draft_columns};
 ghost use Rattle.sqlite.specs.Values.{bound};
 ghost use Rattle.office_tables.specs.Steps.{AnswersOpen, LeavesAll, LeavesCommitted, Nothing, OpensNone, Reads};
 ghost use Rattle.office_tables.specs.Amounts.{AreAmounts};
@@ -20,7 +20,7 @@ use std::alloc::Global;
 // The columns of a draft.
 fn columns_of(row: DraftRow) -> [ValueRef<'static>; 8]
     requires amounts { AreAmounts row }
-    ensures { bound result ≡ draft_row row }
+    ensures { bound result ≡ draft_columns row }
 {
     [
         ValueRef::Int(i64::from(row.no)),

@@ -34,7 +34,7 @@ pub use drafts::{DeleteDraft, DeleteDrafts, InsertDraft, drafts_of};
 pub use enrolments::{DeleteEnrol, InsertEnrol, enrols_of, find_enrols_of};
 pub use found::Found;
 pub use looking::look;
-pub use meta::{DeleteMeta, InsertMeta, is_published};
+pub use meta::{DeleteMeta, InsertMeta};
 pub use owners::{DeleteOwner, InsertOwner, owners_of};
 pub use placing::{DeletePlacements, InsertPlacement, placements, placements_of};
 pub use rows::{

@@ -1,21 +1,16 @@
 // The office's one row.
-ghost use Rattle.std.specs.Prelude.{◌≡◌, ◌==◌, ◌∷◌, [], false};
-ghost use Rattle.std.specs.List.{list_any};
+ghost use Rattle.std.specs.Prelude.{◌≡◌};
 ghost use Rattle.sqlite.specs.Held.{state};
-ghost use Rattle.sqlite.specs.State.{Survives};
 ghost use Rattle.office_tables.specs.Changes.{with_meta, no_meta};
 ghost use Rattle.office_tables.specs.Readings.{Finds, IsFoundMeta, Leaves, Looks};
-ghost use Rattle.office_tables.specs.Steps.{AnswersOpen, LeavesAll, LeavesCommitted, Nothing, OpensNone, Reads};
-ghost use Rattle.office_tables.specs.Tables.{flag, Meta};
+ghost use Rattle.office_tables.specs.Tables.{flag};
 
 use crate::altering::Alteration;
 use crate::listing::list_rows;
 use crate::meta_row::read_meta;
-use crate::rows::{MarkRow, MetaRow};
+use crate::rows::MetaRow;
 use crate::running::run;
-use crate::streaming::stream;
 use sqlite::{Alter, Connection, Error, Transaction, params};
-use std::alloc::Global;
 
 /// Puts the row in.
 #[derive(Clone, Copy)]
@@ -50,28 +45,6 @@ impl Alteration for DeleteMeta {
     fn apply<S: Alter>(&self, tx: &mut Transaction<'_, S>) -> Result<(), Error> {
         run(tx, "DELETE FROM meta", &[])
     }
-}
-
-/// Whether the office's row says that there is a publication. The instance is not read.
-pub fn is_published<S: Alter>(alloc: Global, conn: &mut Connection<S>) -> Result<bool, Error>
-    ensures is { Reads S.Store (λ t is. (row : Meta) → t.meta ≡ row ∷ [] → is ≡ row.published)
-        conn.old conn.new result }
-    ensures open { AnswersOpen S.Store conn.old conn.new result }
-    ensures was_open { OpensNone S.Store conn.old conn.new }
-    ensures same { LeavesAll S.Store conn.old conn.new result }
-    ensures kept { LeavesCommitted S.Store conn.old conn.new }
-    ensures mode { conn.old.in_transaction ≡ false → conn.new.in_transaction ≡ false }
-    ensures survives { Survives (state S.Store conn.old) (state S.Store conn.new)
-        (Nothing (state S.Store conn.old)) }
-{
-    let marks: Vec<MarkRow> = stream(alloc, conn, "SELECT published FROM meta", &[])?;
-    Ok(is_marked(&marks))
-}
-
-fn is_marked(marks: &[MarkRow]) -> bool
-    ensures { result ≡ list_any (λ mark. mark.published == 1) marks.now }
-{
-    marks.iter().any(|mark| mark.published == 1)
 }
 
 // SQLite has no type for it.

@@ -1,12 +1,12 @@
 // Rows read as records.
 ghost use Rattle.std.specs.Prelude.{◌≡◌, ◌≢◌, ◌≤◌, ℕ, length, IfErr, IfOk};
 ghost use Rattle.sqlite_value.specs.Order.{Row as Columns};
-ghost use Rattle.office_tables.specs.Records.{batch_from, columns_from, counts_row, mark_row, number_row, IsNarrow, FitsMark, FitsOwner, FitsEnrol, FitsDraft, FitsSlot, FitsPlacement, FitsSeat, FitsStudentShare, FitsPartShare, FitsBatch, FitsCounts};
-ghost use Rattle.office_tables.specs.Tables.{owner_row, enrol_row, draft_row, slot_row, placed_row, seat_row, share_student_row, share_part_row, batch_row};
+ghost use Rattle.office_tables.specs.Records.{batch_from, columns_from, counts_columns, number_columns, IsNarrow, FitsOwner, FitsEnrol, FitsDraft, FitsSlot, FitsPlacement, FitsSeat, FitsStudentShare, FitsPartShare, FitsBatch, FitsCounts};
+ghost use Rattle.office_tables.specs.Tables.{owner_columns, enrol_columns, draft_columns, slot_columns, placed_columns, seat_columns, share_student_columns, share_part_columns, batch_columns};
 
 use crate::rows::{
-    BatchCountsRow, BatchRow, DraftRow, EnrolRow, MarkRow, OwnerRow, PartShareRow, PlacedRow,
-    SeatRow, SlotRow, StudentShareRow,
+    BatchCountsRow, BatchRow, DraftRow, EnrolRow, OwnerRow, PartShareRow, PlacedRow, SeatRow,
+    SlotRow, StudentShareRow,
 };
 use sqlite::{Error, ErrorCode, Row};
 
@@ -32,7 +32,7 @@ pub trait Record: Sized {
 impl Record for u32 {
     ghost WIDTH = { 1 };
 
-    ghost columns_of = { number_row };
+    ghost columns_of = { number_columns };
 
     ghost fits = { IsNarrow };
 
@@ -43,26 +43,10 @@ impl Record for u32 {
     }
 }
 
-impl Record for MarkRow {
-    ghost WIDTH = { 1 };
-
-    ghost columns_of = { mark_row };
-
-    ghost fits = { FitsMark };
-
-    const WIDTH: usize = 1;
-
-    fn read(row: &Row) -> Result<MarkRow, Error> {
-        Ok(MarkRow {
-            published: row.get(0)?,
-        })
-    }
-}
-
 impl Record for OwnerRow {
     ghost WIDTH = { 2 };
 
-    ghost columns_of = { owner_row };
+    ghost columns_of = { owner_columns };
 
     ghost fits = { FitsOwner };
 
@@ -79,7 +63,7 @@ impl Record for OwnerRow {
 impl Record for EnrolRow {
     ghost WIDTH = { 2 };
 
-    ghost columns_of = { enrol_row };
+    ghost columns_of = { enrol_columns };
 
     ghost fits = { FitsEnrol };
 
@@ -96,7 +80,7 @@ impl Record for EnrolRow {
 impl Record for DraftRow {
     ghost WIDTH = { 8 };
 
-    ghost columns_of = { draft_row };
+    ghost columns_of = { draft_columns };
 
     ghost fits = { FitsDraft };
 
@@ -119,7 +103,7 @@ impl Record for DraftRow {
 impl Record for SlotRow {
     ghost WIDTH = { 4 };
 
-    ghost columns_of = { slot_row };
+    ghost columns_of = { slot_columns };
 
     ghost fits = { FitsSlot };
 
@@ -138,7 +122,7 @@ impl Record for SlotRow {
 impl Record for PlacedRow {
     ghost WIDTH = { 3 };
 
-    ghost columns_of = { placed_row };
+    ghost columns_of = { placed_columns };
 
     ghost fits = { FitsPlacement };
 
@@ -156,7 +140,7 @@ impl Record for PlacedRow {
 impl Record for SeatRow {
     ghost WIDTH = { 5 };
 
-    ghost columns_of = { seat_row };
+    ghost columns_of = { seat_columns };
 
     ghost fits = { FitsSeat };
 
@@ -176,7 +160,7 @@ impl Record for SeatRow {
 impl Record for StudentShareRow {
     ghost WIDTH = { 4 };
 
-    ghost columns_of = { share_student_row };
+    ghost columns_of = { share_student_columns };
 
     ghost fits = { FitsStudentShare };
 
@@ -195,7 +179,7 @@ impl Record for StudentShareRow {
 impl Record for PartShareRow {
     ghost WIDTH = { 4 };
 
-    ghost columns_of = { share_part_row };
+    ghost columns_of = { share_part_columns };
 
     ghost fits = { FitsPartShare };
 
@@ -214,7 +198,7 @@ impl Record for PartShareRow {
 impl Record for BatchRow {
     ghost WIDTH = { 5 };
 
-    ghost columns_of = { λ made. batch_row (batch_from made) };
+    ghost columns_of = { λ made. batch_columns (batch_from made) };
 
     ghost fits = { λ made. FitsBatch (batch_from made) };
 
@@ -234,7 +218,7 @@ impl Record for BatchRow {
 impl Record for BatchCountsRow {
     ghost WIDTH = { 4 };
 
-    ghost columns_of = { counts_row };
+    ghost columns_of = { counts_columns };
 
     ghost fits = { FitsCounts };
 

@@ -8,12 +8,6 @@ pub struct MetaRow {
     pub instance: Vec<u8>,
 }
 
-// What the row about the office says of a publication: 1 that there is one, 0 that there is none.
-#[derive(Clone, Copy, Debug, PartialEq, Eq)]
-pub struct MarkRow {
-    pub published: u32,
-}
-
 /// Who owns an exam: a department, 1 to 999.
 #[derive(Clone, Copy, Debug, PartialEq, Eq)]
 pub struct OwnerRow {

@@ -7,7 +7,7 @@ ghost use Rattle.office_tables.specs.Amounts.{AreStudentAmounts, ArePartAmounts}
 ghost use Rattle.office_tables.specs.Changes.{with_student_share, without_student_share, with_part_share, no_part_shares};
 ghost use Rattle.office_tables.specs.Selections.{IsInOrder, PartSharesRise, StudentSharesRise};
 ghost use Rattle.office_tables.specs.Steps.{AnswersOpen, LeavesAll, LeavesCommitted, Nothing, OpensNone, Reads};
-ghost use Rattle.office_tables.specs.Tables.{share_student_row, share_part_row};
+ghost use Rattle.office_tables.specs.Tables.{share_student_columns, share_part_columns};
 
 use crate::altering::Alteration;
 use crate::amounts::signed;
@@ -41,7 +41,7 @@ impl Alteration for InsertStudentShare {
 // The columns of a student's share.
 fn student_columns(row: StudentShareRow) -> [ValueRef<'static>; 4]
     requires amounts { AreStudentAmounts row }
-    ensures { bound result ≡ share_student_row row }
+    ensures { bound result ≡ share_student_columns row }
 {
     [
         ValueRef::Int(i64::from(row.student)),
@@ -94,7 +94,7 @@ impl Alteration for InsertPartShare {
 // The columns of such a share.
 fn part_columns(row: PartShareRow) -> [ValueRef<'static>; 4]
     requires amounts { ArePartAmounts row }
-    ensures { bound result ≡ share_part_row row }
+    ensures { bound result ≡ share_part_columns row }
 {
     [
         ValueRef::Int(i64::from(row.kind)),

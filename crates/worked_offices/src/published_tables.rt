@@ -7,8 +7,8 @@ use office_tables::{
     Alteration, Both, DeleteMeta, DeletePartShares, DeletePlacements, DeleteStudentSeats,
     DeleteStudentShare, Each, EnrolRow, InsertEnrol, InsertMeta, InsertPartShare, InsertPlacement,
     InsertSeat, InsertStudentShare, PartShareRow, PlacedRow, SeatRow, StudentShareRow,
-    adopt_tables, enrols_of, find_enrols_of, is_published, part_shares, placements, placements_of,
-    seats, seats_of, student_shares, student_shares_of, transact,
+    adopt_tables, enrols_of, find_enrols_of, part_shares, placements, placements_of, seats,
+    seats_of, student_shares, student_shares_of, transact,
 };
 use sqlite::{Connection, MemStore};
 use std::alloc::Global;
@@ -105,8 +105,6 @@ fn a_publication_comes_back_in_order(rt: HostRuntime) -> Result<(), Fail> {
     let all = seats(rt.alloc(), &mut conn)?;
     let wanted = [seated(1, 0, 1), seated(2, 0, 2), seated(2, 2, 1)];
     assert_same(&rt, all.as_slice(), wanted.as_slice(), "seats");
-    let marked = is_published(rt.alloc(), &mut conn)?;
-    assert_same(&rt, marked, true, "published");
     let Some(found) = adopt_tables(rt.alloc(), &mut conn)? else {
         return Err("no tables")?;
     };
@@ -138,7 +136,12 @@ fn a_number_of_33_bits_has_no_reading(rt: HostRuntime) -> Result<(), Fail> {
     let _count = conn.execute("INSERT INTO enrol VALUES (1, 4294967296)", &[])?;
     let found = find_enrols_of(rt.alloc(), &mut conn, 1)?;
     assert_same(&rt, found.is_none(), true, "a row of hers has none");
-    assert_same(&rt, enrols_of(rt.alloc(), &mut conn, 1).is_err(), true, "refused");
+    assert_same(
+        &rt,
+        enrols_of(rt.alloc(), &mut conn, 1).is_err(),
+        true,
+        "refused",
+    );
     let Some(found) = find_enrols_of(rt.alloc(), &mut conn, 2)? else {
         return Err("another's rows have readings")?;
     };

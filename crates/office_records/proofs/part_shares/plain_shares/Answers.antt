@@ -1,12 +1,12 @@
 use Rattle.std.proofs.Common.{◌≡◌, [], ◌∷◌, ◌++◌, get_or, refl, rules}
 use Rattle.std.proofs.lemmas.Bool.{false≢true}
-use Rattle.office_records.specs.SharesStored.{kind_number}
+use Rattle.office_records.specs.SharesStored.{part_kind_number}
 use Rattle.office_records.proofs.PartRowLemmas.{no_row, plain_is, plain_more}
 use Rattle.office_records.proofs.part_shares.plain_shares.Goals as goal
 
 pub returns-then-not-is_plain-clause-none : goal.returns-then-not-is_plain-clause-none
 returns-then-not-is_plain-clause-none c _ shares same =
-    let kind = kind_number c.args.kind in
+    let kind = part_kind_number c.args.kind in
     absurd (false≢true (c.if-not-is_plain.ensures.1
     (plain_is kind c.args.rows.now shares same c.rows.at no_row c.rows-test.true)))
 
@@ -16,5 +16,5 @@ rows-preserved c =
     let at = c.rows.at in
     let added : c.push.new.self.items ≡ c.rows.shares.items ++ (get_or rows at no_row).penalty ∷ []
     = search rules in
-    plain_more (kind_number c.args.kind) rows at no_row c.rows.shares.items c.push.new.self.items
+    plain_more (part_kind_number c.args.kind) rows at no_row c.rows.shares.items c.push.new.self.items
     c.rows-test.true c.rows.invariant (c.if-not-is_plain.ensures.0 refl) added

@@ -1,5 +1,5 @@
 use Rattle.std.proofs.Common.{ℕ, [], ◌∷◌, ◌++◌, get_or, ap, ◌∙◌}
-use Rattle.office_records.specs.SharesStored.{kind_number}
+use Rattle.office_records.specs.SharesStored.{part_kind_number}
 use Rattle.office_records.proofs.PartRowLemmas.{plain_added, plain_row}
 use Rattle.office_records.proofs.part_shares.push_plain.Goals as goal
 
@@ -8,7 +8,7 @@ shares-preserved c =
     let shares = c.args.shares.now in
     let at = c.shares.at in
     let rows = c.shares.rows.items in
-    plain_added (kind_number c.args.kind) shares at 0 c.args.rows.now.items rows
+    plain_added (part_kind_number c.args.kind) shares at 0 c.args.rows.now.items rows
     c.push.new.self.items c.shares-test.true c.shares.invariant
     (c.in_ok-push.ensures.items
     ∙ ap (λ (k : ℕ). rows ++ plain_row k at (get_or shares at 0) ∷ []) c.number.ensures)

@@ -2,7 +2,7 @@ use Rattle.std.proofs.Common.{◌≡◌, List, Option, Some, None, sym, ap, subs
 use Rattle.std.specs.Prelude.{IfErr}
 use Rattle.std.proofs.lemmas.Result.{IfErr-weaker, on_ok_weaker}
 use Rattle.office_model.specs.Office.{Publication}
-use Rattle.office_records.specs.Publications.{AreRowsOf, publication, publication_from}
+use Rattle.office_records.specs.Publications.{ArePublicationRows, publication, publication_from}
 use Rattle.office_records.specs.SharesStored.{AreShared}
 use Rattle.office_records.specs.declared.fault.RecordFault.TheVariants.{BadRows}
 use Rattle.office_records.proofs.FoundLemmas.{HasAlone, no_such_shares}
@@ -49,9 +49,9 @@ returns-clause-are c =
     let mark = found.meta.published in
     let is : publication_from c.in_ok-published.published ≡ None
     = ap publication_from c.in-None.is in
-    let rows : AreRowsOf mark found.placements.items found.seats.items None
-    = subst (AreRowsOf mark found.placements.items found.seats.items) is
-    (of_same (λ p s. AreRowsOf mark p s (publication_from c.in_ok-published.published))
+    let rows : ArePublicationRows mark found.placements.items found.seats.items None
+    = subst (ArePublicationRows mark found.placements.items found.seats.items) is
+    (of_same (λ p s. ArePublicationRows mark p s (publication_from c.in_ok-published.published))
     c.deref.ensures.value c.deref-2.ensures.value c.in_ok-published.ensures.rows) in
     on_ok_weaker c.check_no_shares.result
     (λ shared. (

@@ -9,7 +9,7 @@ use Rattle.office_tables.specs.Tables.{Batch}
 use Rattle.office_tables.specs.declared.found.Found.{Found}
 use Rattle.office_records.specs.Found.{AreBatchRows, AreDrafts, AreEnrolRows, AreOwners, IsUnloaded}
 use Rattle.office_model.specs.Office.{OfficeState, Records, AreRecords, IsOffice}
-use Rattle.office_records.specs.Stands.{IsSound, Stands, StandsLoaded}
+use Rattle.office_records.specs.Stands.{IsSound, StandsForOffice, StandsLoaded}
 use Rattle.office_records.specs.declared.fault.RecordFault.{RecordFault}
 use Rattle.office_records.specs.declared.fault.RecordFault.TheVariants.{BadRows}
 use Rattle.office_records.proofs.RecordLemmas.{draft_rows, enrol_rows, kept_rows, office_of}
@@ -20,7 +20,7 @@ use Rattle.office_records.proofs.records.kept_of.Goals as goal
 abbrev StandsForNone : Found → Type 0
 StandsForNone found =
     (batches : List Batch) → map counts_of batches ≡ found.batches.items → (office : OfficeState)
-    → Stands (tables_of found batches) office → IsSound (tables_of found batches) office
+    → StandsForOffice (tables_of found batches) office → IsSound (tables_of found batches) office
     → IsOffice office → ⊥
 
 -- it is no office with a session, and not the one without
@@ -35,7 +35,7 @@ refused found unloaded fault (Ok x) empty is same none = tt
 refused found unloaded fault (Err e) empty is same none = λ bad batches rows o. each batches rows o bad
   where
     each : (batches : List Batch) → map counts_of batches ≡ found.batches.items
-        → (o : OfficeState) → e ≡ BadRows → Stands (tables_of found batches) o
+        → (o : OfficeState) → e ≡ BadRows → StandsForOffice (tables_of found batches) o
         → IsSound (tables_of found batches) o → IsOffice o → ⊥
     each batches rows None bad stands sound office =
         let was = empty.1 (unloaded_found found batches rows stands) in absurd cc

@@ -1,7 +1,7 @@
 use Rattle.std.specs.Prelude.{◌≡◌, IsPermutation, IsTrue, false, map}
 use Rattle.sqlite.specs.Held.{state}
 use Rattle.sqlite.specs.State.{HasCleanDisk, IsUnchanged}
-use Rattle.office_tables.specs.Tables.{Tables, Stands as Held}
+use Rattle.office_tables.specs.Tables.{Tables, Stands}
 use Rattle.office_tables.specs.declared.rows.DraftRow.{DraftRow}
 use Rattle.office_tables.specs.declared.rows.SlotRow.{SlotRow}
 use Rattle.office_store.proofs.AllDraftLemmas.{first}
@@ -16,11 +16,11 @@ invariant-each g l =
       mode : l.fn.conn.in_transaction ≡ false → l.conn.in_transaction ≡ false;
       was_open : HasCleanDisk now → IsTrue now.is_open → IsTrue old.is_open;
       opened : HasCleanDisk now → IsTrue old.is_open;
-      numbers : HasCleanDisk now → (t : Tables) → Held old.now t
+      numbers : HasCleanDisk now → (t : Tables) → Stands old.now t
           → IsPermutation (map (λ b. b.no) t.batch) l.numbers.items;
-      same : HasCleanDisk now → (t : Tables) → Held old.now t → IsUnchanged old now;
-      drafts : HasCleanDisk now → (t : Tables) → Held old.now t
+      same : HasCleanDisk now → (t : Tables) → Stands old.now t → IsUnchanged old now;
+      drafts : HasCleanDisk now → (t : Tables) → Stands old.now t
           → IsPermutation (first (λ (row : DraftRow). row.no) l.earlier t.draft) l.drafts.items;
-      slots : HasCleanDisk now → (t : Tables) → Held old.now t
+      slots : HasCleanDisk now → (t : Tables) → Stands old.now t
           → IsPermutation (first (λ (row : SlotRow). row.draft) l.earlier t.slot) l.slots.items;
     }

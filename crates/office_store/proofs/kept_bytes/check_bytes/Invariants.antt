@@ -2,7 +2,7 @@ use Rattle.std.specs.Prelude.{◌≡◌, ◌⊎◌, ◌==◌, All, false, filter
 use Rattle.std.specs.List.{AllByRecursion}
 use Rattle.sqlite.specs.Held.{state}
 use Rattle.sqlite.specs.State.{HasCleanDisk, IsUnchanged}
-use Rattle.office_tables.specs.Tables.{Tables, Stands as Held}
+use Rattle.office_tables.specs.Tables.{Tables, Stands}
 use Rattle.office_tables.specs.declared.rows.BatchCountsRow.{BatchCountsRow}
 use Rattle.office_records.specs.Found.{IsShort}
 use Rattle.office_store.proofs.kept_bytes.check_bytes.Given as goal
@@ -14,9 +14,9 @@ invariant-batches g l =
     record {
       clean : HasCleanDisk now → HasCleanDisk old;
       mode : l.fn.conn.in_transaction ≡ false → l.conn.in_transaction ≡ false;
-      same : HasCleanDisk now → (t : Tables) → Held old.now t
+      same : HasCleanDisk now → (t : Tables) → Stands old.now t
           → (l.conn ≡ l.fn.conn) ⊎ IsUnchanged old now;
-      short : HasCleanDisk now → (t : Tables) → Held old.now t
+      short : HasCleanDisk now → (t : Tables) → Stands old.now t
           → All (λ (row : BatchCountsRow).
           AllByRecursion IsShort (filter (λ b. b.no == row.no) t.batch))
           (take l.row-index l.batches);

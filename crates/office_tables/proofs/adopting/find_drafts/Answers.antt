@@ -1,7 +1,7 @@
 use Rattle.sqlite.specs.Held.{state}
 use Rattle.office_tables.specs.Readings.{IsFound}
 use Rattle.office_tables.specs.Records.{FitsSlot}
-use Rattle.office_tables.specs.Tables.{keyless, slot_row}
+use Rattle.office_tables.specs.Tables.{keyless, slot_columns}
 use Rattle.office_tables.proofs.AdoptLemmas.{clean_before, found_after, looks_then, stays_then, drafts_found}
 use Rattle.office_tables.proofs.adopting.find_drafts.Goals as goal
 
@@ -43,6 +43,6 @@ returns-clause-found g c clean tables =
     let clean_1 = clean_before at_1 at_2 c.adopt_slots.ensures.looks clean in
     let found_1 = c.in_ok-drafts.ensures.found clean_1 tables in
     let found_2 = found_after at_0 at_1 at_2 c.in_ok-drafts.ensures.same c.adopt_slots.ensures.looks
-    (λ db. IsFound FitsSlot slot_row keyless (db.trees 5) c.in_ok-slots.slots)
+    (λ db. IsFound FitsSlot slot_columns keyless (db.trees 5) c.in_ok-slots.slots)
     c.in_ok-slots.ensures.found clean tables in
     drafts_found at_0.now _ _ found_1 found_2 c.drafts_of.result c.drafts_of.ensures

@@ -1,7 +1,7 @@
 use Rattle.sqlite.specs.Held.{state}
 use Rattle.office_tables.specs.Readings.{IsFound}
 use Rattle.office_tables.specs.Records.{FitsSeat, FitsStudentShare, FitsPartShare}
-use Rattle.office_tables.specs.Tables.{keyed, keyless, seat_row, share_student_row, share_part_row}
+use Rattle.office_tables.specs.Tables.{keyed, keyless, seat_columns, share_student_columns, share_part_columns}
 use Rattle.office_tables.proofs.AdoptLemmas.{clean_before, found_after, looks_then, stays_then, publication_found}
 use Rattle.office_tables.proofs.adopting.find_publication.Goals as goal
 
@@ -102,13 +102,13 @@ returns-clause-found g c clean tables =
     let found_1 = c.in_ok-placements.ensures.found clean_1 tables in
     let found_2 = found_after at_0 at_1 at_2 c.in_ok-placements.ensures.same
     c.adopt_seats.ensures.looks
-    (λ db. IsFound FitsSeat seat_row keyless (db.trees 8) c.in_ok-seats.seats)
+    (λ db. IsFound FitsSeat seat_columns keyless (db.trees 8) c.in_ok-seats.seats)
     c.in_ok-seats.ensures.found clean_2 tables in
     let found_3 = found_after at_0 at_2 at_3 stays_2 c.adopt_student_shares.ensures.looks
-    (λ db. IsFound FitsStudentShare share_student_row keyed (db.trees 11) c.in_ok-students.students)
+    (λ db. IsFound FitsStudentShare share_student_columns keyed (db.trees 11) c.in_ok-students.students)
     c.in_ok-students.ensures.found clean_3 tables in
     let found_4 = found_after at_0 at_3 at_4 stays_3 c.adopt_part_shares.ensures.looks
-    (λ db. IsFound FitsPartShare share_part_row keyless (db.trees 12) c.in_ok-parts.parts)
+    (λ db. IsFound FitsPartShare share_part_columns keyless (db.trees 12) c.in_ok-parts.parts)
     c.in_ok-parts.ensures.found clean tables in
     publication_found at_0.now _ _ _ _ found_1 found_2 found_3 found_4 c.publication_of.result
     c.publication_of.ensures

@@ -1,7 +1,7 @@
 use Rattle.sqlite.specs.Held.{state}
 use Rattle.office_tables.specs.Readings.{IsFound}
 use Rattle.office_tables.specs.Records.{FitsOwner, FitsEnrol}
-use Rattle.office_tables.specs.Tables.{keyed, keyless, owner_row, enrol_row}
+use Rattle.office_tables.specs.Tables.{keyed, keyless, owner_columns, enrol_columns}
 use Rattle.office_tables.proofs.AdoptLemmas.{clean_before, found_after, looks_then, stays_then, session_found}
 use Rattle.office_tables.proofs.adopting.find_session.Goals as goal
 
@@ -67,9 +67,9 @@ returns-clause-found g c clean tables =
     let clean_1 = clean_before at_1 at_2 c.adopt_owners.ensures.looks clean_2 in
     let found_1 = c.in_ok-meta.ensures.found clean_1 tables in
     let found_2 = found_after at_0 at_1 at_2 c.in_ok-meta.ensures.same c.adopt_owners.ensures.looks
-    (λ db. IsFound FitsOwner owner_row keyed (db.trees 1) c.in_ok-owners.owners)
+    (λ db. IsFound FitsOwner owner_columns keyed (db.trees 1) c.in_ok-owners.owners)
     c.in_ok-owners.ensures.found clean_2 tables in
     let found_3 = found_after at_0 at_2 at_3 stays_2 c.adopt_enrols.ensures.looks
-    (λ db. IsFound FitsEnrol enrol_row keyless (db.trees 2) c.in_ok-enrols.enrols)
+    (λ db. IsFound FitsEnrol enrol_columns keyless (db.trees 2) c.in_ok-enrols.enrols)
     c.in_ok-enrols.ensures.found clean tables in
     session_found at_0.now _ _ _ found_1 found_2 found_3 c.session_of.result c.session_of.ensures

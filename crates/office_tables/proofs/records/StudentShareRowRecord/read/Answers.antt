@@ -1,33 +1,33 @@
 use Rattle.std.proofs.Common.{arith, refl, sym, ap}
 use Rattle.sqlite_value.specs.Order.{Row, column}
 use Rattle.office_tables.specs.Records.{FitsStudentShare}
-use Rattle.office_tables.specs.Tables.{share_student_row}
+use Rattle.office_tables.specs.Tables.{share_student_columns}
 use Rattle.office_tables.proofs.RecordLemmas.{IsNarrow, IsWide, refuses}
 use Rattle.office_tables.proofs.records.StudentShareRowRecord.read.Goals as goal
 
 pub returns-in_err-get-clause-refused : goal.returns-in_err-get-clause-refused
 returns-in_err-get-clause-refused c =
-    refuses c.args.row.now share_student_row FitsStudentShare 4 0 (omega arith) IsNarrow
+    refuses c.args.row.now share_student_columns FitsStudentShare 4 0 (omega arith) IsNarrow
     (λ made fits same. (made.student, sym (ap (λ (l : Row). column l 0) same), fits))
     c.from_residual.result _ c.from_residual.ensures.1 c.in_err-get.ensures.kind
 
 pub returns-in_err-get-2-clause-refused : goal.returns-in_err-get-2-clause-refused
 returns-in_err-get-2-clause-refused c =
-    refuses c.args.row.now share_student_row FitsStudentShare 4 1 (omega arith) IsWide
+    refuses c.args.row.now share_student_columns FitsStudentShare 4 1 (omega arith) IsWide
     (λ made fits same. (made.in_row, sym (ap (λ (l : Row). column l 1) same)))
     c.from_residual-in_err-get-2.result _ c.from_residual-in_err-get-2.ensures.1
     c.in_err-get-2.ensures.kind
 
 pub returns-in_err-get-3-clause-refused : goal.returns-in_err-get-3-clause-refused
 returns-in_err-get-3-clause-refused c =
-    refuses c.args.row.now share_student_row FitsStudentShare 4 2 (omega arith) IsWide
+    refuses c.args.row.now share_student_columns FitsStudentShare 4 2 (omega arith) IsWide
     (λ made fits same. (made.in_day, sym (ap (λ (l : Row). column l 2) same)))
     c.from_residual-in_err-get-3.result _ c.from_residual-in_err-get-3.ensures.1
     c.in_err-get-3.ensures.kind
 
 pub returns-in_err-get-4-clause-refused : goal.returns-in_err-get-4-clause-refused
 returns-in_err-get-4-clause-refused c =
-    refuses c.args.row.now share_student_row FitsStudentShare 4 3 (omega arith) IsWide
+    refuses c.args.row.now share_student_columns FitsStudentShare 4 3 (omega arith) IsWide
     (λ made fits same. (made.spread, sym (ap (λ (l : Row). column l 3) same)))
     c.from_residual-in_err-get-4.result _ c.from_residual-in_err-get-4.ensures.1
     c.in_err-get-4.ensures.kind
