@@ -4,12 +4,11 @@ ghost use Rattle.sqlite.specs.Held.{state};
 ghost use Rattle.sqlite.specs.State.{HasCleanDisk};
 ghost use Rattle.office_connections.specs.Lines.{PrintsPort};
 ghost use Rattle.office_connections.specs.Reaches.{Reaches};
-ghost use Rattle.office_http.specs.Replying.{Replies};
 ghost use Rattle.office_http.specs.Serving.{Leads};
 ghost use Rattle.office_model.specs.Office.{OfficeState};
 ghost use Rattle.office_store.specs.Opening.{IsOfficeOf};
 ghost use Rattle.office_program.specs.FaultLines.{IsOfServe};
-ghost use Rattle.office_program.specs.Serve.{ComesTo};
+ghost use Rattle.office_program.specs.Serve.{ComesTo, RepliesByView};
 
 use crate::faults::{ProgramFault, fault_of_open, fault_of_run};
 use crate::telling::{LongWork, TellingMachine, tell};
@@ -74,7 +73,8 @@ pub fn serve_stored<'a, S: Alter, O: Write, E: Write>(
 }
 
 /// Serves connections to an office at its desk, as the terms say: one after another, over sockets.
-/// However it ends, the office is one that it comes to by replying to some requests.
+/// However it ends, the office is one that it comes to by replying to some requests, to those of a
+/// candidate with the text of her view in the office that they came to.
 pub fn serve_desk<'a, S: Alter, O: Write, E: Write>(
     rt: &HostRuntime,
     database: &str,
@@ -84,7 +84,7 @@ pub fn serve_desk<'a, S: Alter, O: Write, E: Write>(
     err: &mut E,
 ) -> Result<u8, ProgramFault<'a>>
     // Over a disk that returns what was written, whatever office stood there before.
-    ensures reached { Leads S.Store (Reaches Replies) desk.old desk.new }
+    ensures reached { Leads S.Store (Reaches RepliesByView) desk.old desk.new }
     ensures clean { HasCleanDisk (state S.Store desk.new) → HasCleanDisk (state S.Store desk.old) }
     ensures status { IfOk result (λ status. status ≡ 0) }
     ensures port { IfOk result (λ _. PrintsPort (O.contents out.old) (O.contents out.new)) }

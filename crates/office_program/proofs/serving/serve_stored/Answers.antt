@@ -2,7 +2,7 @@ use Rattle.std.proofs.Common.{◌≡◌, ◌∙◌, inl, inr, subst, sym}
 use Rattle.sqlite.specs.Held.{state}
 use Rattle.sqlite.specs.State.{HasCleanDisk}
 use Rattle.office_connections.proofs.ReachLemmas.{reaches_refl}
-use Rattle.office_http.specs.Replying.{Replies}
+use Rattle.office_program.specs.Serve.{RepliesByView}
 use Rattle.office_store.specs.Opening.{IsOfficeOf}
 use Rattle.office_store.specs.Running.{Now}
 use Rattle.office_program.proofs.serving.serve_stored.Goals as goal
@@ -11,7 +11,7 @@ use Rattle.office_program.proofs.serving.serve_stored.Goals as goal
 pub returns-in-Err-clause-reached : goal.returns-in-Err-clause-reached
 returns-in-Err-clause-reached g c = λ clean kept there is. (
   there,
-  reaches_refl Replies there,
+  reaches_refl RepliesByView there,
   λ opened. elim c.in-Err.ensures.undone [
     | inl same ↦ subst (λ held. IsOfficeOf (state g.S.Store held).now there) (sym same) is
     | inr undone ↦ subst (λ db. IsOfficeOf db there)
