@@ -7,6 +7,7 @@ kills at random moments. A failing case is printed with what was expected and wh
 last line counts the cases.
 """
 import argparse
+import concurrent.futures
 import contextlib
 import json
 import os
@@ -465,6 +466,42 @@ def patient_client(run):
     run.judge("a patient client", (answer * 4, True, (0, b"")), (got, is_long, office.ended()))
 
 
+def kept_alive(office):
+    """Asks three times, with waits below the patience and more than that in all."""
+    question, answer, began = message("GET", "/drafts/1"), error(404, "draft"), time.monotonic()
+    with office.connect() as client:
+        got = asked(client, question, answer)
+        for _ in range(2):
+            time.sleep(18)
+            got += asked(client, question, answer)
+    return got, time.monotonic() - began > 30
+
+
+def silent(office):
+    """Asks nothing; what came, whether it was let go in about 30 seconds, and the next one's reply."""
+    question, answer, began = message("GET", "/drafts/1"), error(404, "draft"), time.monotonic()
+    with office.connect() as client, office.connect() as after:
+        came = rest(client)
+        is_in_time = 29 < time.monotonic() - began < 40
+        return came, is_in_time, asked(after, question, answer)
+
+
+def default_patience(run):
+    """Without `--patience` it is 30 seconds, for each wait by itself."""
+    answer, offices = error(404, "draft"), []
+    for name, connections in ("kept", 1), ("silent", 2):
+        database = run.folder / f"{name}.db"
+        shutil.copy(run.database(SMALL), database)
+        offices.append(Office(run.program, database, connections=connections))
+    with concurrent.futures.ThreadPoolExecutor() as pool:
+        got = [*pool.map(lambda client, office: client(office), (kept_alive, silent), offices)]
+    run.judge("a client that is kept alive past the default patience",
+              ((answer * 3, True), (0, b"")), (got[0], offices[0].ended()))
+    run.judge("a silent client at the default patience",
+              ((b"", True, answer), (0, b"examoffice: connection fault 1\n")),
+              (got[1], offices[1].ended()))
+
+
 # ---- kills
 
 Change = namedtuple("Change", "question status drafts")
@@ -614,7 +651,8 @@ def main():
                  port_is_taken]
         if not given.plain:
             tests += [stored_by_hand, adopt_after_republication, last_message, long_message,
-                      batches_are_kept, publication_is_told, slow_clients, patient_client]
+                      batches_are_kept, publication_is_told, slow_clients, patient_client,
+                      default_patience]
         for test in [*tests, longest_batch, most_batches]:
             test(run)
         kills(run, given.kills)
