@@ -7,6 +7,7 @@ kills at random moments. A failing case is printed with what was expected and wh
 last line counts the cases.
 """
 import argparse
+import concurrent.futures
 import contextlib
 import json
 import os
@@ -25,9 +26,10 @@ import tty
 from collections import namedtuple
 
 from serve_cases import (
-    CASES, EMPTY, EXAMPLES, FIRST_MOVED, MANY, MOVED_TEXT, PENALTY, PENDING, PUBLISHED, SECOND_PAGE,
-    SHOWN, SMALL, SOLUTION, STORED, THIRD, UNPLACED, asked_by, at, batch, batch_text, clear, drafted, enrolled,
-    error, me, message, move, place, publish, published, report, text)
+    CASES, EMPTY, EXAMPLES, FIRST_MOVED, MANY, MOVED_ROOMS, MOVED_TEXT, PENALTY, PENDING, PUBLISHED,
+    SECOND_PAGE, SHOWN, SMALL, SOLUTION, STORED, THIRD, UNPLACED, asked_by, at, batch, batch_text,
+    clear, drafted, enrolled, error, me, message, move, place, publish, published, reply, report,
+    text)
 
 SECONDS = 60
 
@@ -192,23 +194,51 @@ def served_again(run, name, first, again):
     return database
 
 
-def publication_is_kept(run):
-    """What is published is there when the file is served again, and is exported."""
-    database = served_again(
-        run, "a publication that is kept",
-        [*PUBLISHED, (move(3, 3, 1), drafted(200, 44)), (publish(), published(1, 44))],
-        [(SHOWN[0], text(MOVED_TEXT)), (SHOWN[1], text(report(7, 0, 3, 10, 0, 10, 14, 44))),
-         (asked_by(1), me(1, 1, *FIRST_MOVED)), (asked_by(2), SECOND_PAGE)])
-    done = subprocess.run([run.program, "export", "--db", str(database)], capture_output=True,
+def exported(run, database, **more):
+    """What `export` of a file ends with: its status, standard output and standard error."""
+    streams = {"stdout": subprocess.PIPE, "stderr": subprocess.PIPE, **more}
+    done = subprocess.run([run.program, "export", "--db", str(database)], **streams,
                           stdin=subprocess.DEVNULL, timeout=SECONDS, check=False)
-    run.judge("an export", (0, MOVED_TEXT.encode(), b""),
-              (done.returncode, done.stdout, done.stderr))
+    return done.returncode, done.stdout, done.stderr
+
+
+def adopt_after_republication(run):
+    """What was published last is there, byte for byte, when the file is served again, and is
+    exported. A file without tables is no office's, nor is one whose stored share was altered, and
+    none is made where there are tables."""
+    no_office = 1, b"", b"examoffice: store fault 9\n"
+    database = served_again(
+        run, "adopt_after_republication",
+        [(EMPTY, drafted(201, 0)), (place(0, 0, 0), drafted(200, 0)),
+         (place(1, 1, 0), drafted(200, 8)), (place(2, 3, 1), drafted(200, 21)),
+         (publish(), reply(409, '{"error":"unplaced","exam":3}')),
+         (place(3, 2, 0), drafted(200, 37)), (publish(), published(3, 37)),
+         (move(3, 3, 1), drafted(200, 44)), (publish(), published(1, 44)),
+         (SHOWN[0], text(MOVED_TEXT))],
+        [(SHOWN[0], text(MOVED_TEXT)), (SHOWN[1], text(report(7, 0, 3, 10, 0, 10, 14, 44))),
+         (SHOWN[2], text(MOVED_ROOMS)), (asked_by(1), me(1, 1, *FIRST_MOVED)),
+         (asked_by(2), SECOND_PAGE), (asked_by(3), me(3, 1, *THIRD))])
+    run.judge("adopt_after_republication, an export", (0, MOVED_TEXT.encode(), b""),
+              exported(run, database))
     with open("/dev/full", "wb") as full:
-        done = subprocess.run([run.program, "export", "--db", str(database)], stdout=full,
-                              stdin=subprocess.DEVNULL, stderr=subprocess.PIPE, timeout=SECONDS,
-                              check=False)
-    run.judge("an export to a full device", (1, b"examoffice: cannot write\n"),
-              (done.returncode, done.stderr))
+        run.judge("an export to a full device", (1, None, b"examoffice: cannot write\n"),
+                  exported(run, database, stdout=full))
+    for share in ("UPDATE share_student SET spread = spread + 1 WHERE student = 1",
+                  "UPDATE share_part SET mixed = mixed - 1 WHERE kind = 2 AND no = 1"):
+        altered = run.folder / "altered.db"
+        shutil.copy(database, altered)
+        subprocess.run(["sqlite3", str(altered), share], check=True, timeout=SECONDS)
+        run.judge(f"adopt_after_republication, {share}", no_office, exported(run, altered))
+    bare, other = run.folder / "bare.db", run.folder / "note.db"
+    bare.write_bytes(b"")
+    run.judge("adopt_after_republication, no tables", no_office, exported(run, bare))
+    subprocess.run(["sqlite3", str(other), "CREATE TABLE note (text TEXT)"], check=True,
+                   timeout=SECONDS)
+    done = subprocess.run([run.program, "load", "--db", str(other), str(EXAMPLES / "small.exam")],
+                          capture_output=True, stdin=subprocess.DEVNULL, timeout=SECONDS,
+                          check=False)
+    run.judge("adopt_after_republication, other tables", no_office,
+              (done.returncode, done.stdout, done.stderr))
 
 
 def batches_are_kept(run):
@@ -436,6 +466,42 @@ def patient_client(run):
     run.judge("a patient client", (answer * 4, True, (0, b"")), (got, is_long, office.ended()))
 
 
+def kept_alive(office):
+    """Asks three times, with waits below the patience and more than that in all."""
+    question, answer, began = message("GET", "/drafts/1"), error(404, "draft"), time.monotonic()
+    with office.connect() as client:
+        got = asked(client, question, answer)
+        for _ in range(2):
+            time.sleep(18)
+            got += asked(client, question, answer)
+    return got, time.monotonic() - began > 30
+
+
+def silent(office):
+    """Asks nothing; what came, whether it was let go in about 30 seconds, and the next one's reply."""
+    question, answer, began = message("GET", "/drafts/1"), error(404, "draft"), time.monotonic()
+    with office.connect() as client, office.connect() as after:
+        came = rest(client)
+        is_in_time = 29 < time.monotonic() - began < 40
+        return came, is_in_time, asked(after, question, answer)
+
+
+def default_patience(run):
+    """Without `--patience` it is 30 seconds, for each wait by itself."""
+    answer, offices = error(404, "draft"), []
+    for name, connections in ("kept", 1), ("silent", 2):
+        database = run.folder / f"{name}.db"
+        shutil.copy(run.database(SMALL), database)
+        offices.append(Office(run.program, database, connections=connections))
+    with concurrent.futures.ThreadPoolExecutor() as pool:
+        got = [*pool.map(lambda client, office: client(office), (kept_alive, silent), offices)]
+    run.judge("a client that is kept alive past the default patience",
+              ((answer * 3, True), (0, b"")), (got[0], offices[0].ended()))
+    run.judge("a silent client at the default patience",
+              ((b"", True, answer), (0, b"examoffice: connection fault 1\n")),
+              (got[1], offices[1].ended()))
+
+
 # ---- kills
 
 Change = namedtuple("Change", "question status drafts")
@@ -584,8 +650,9 @@ def main():
         tests = [worked_examples, stock_curl, many_connections, failing_reader_and_writer,
                  port_is_taken]
         if not given.plain:
-            tests += [stored_by_hand, publication_is_kept, last_message, long_message,
-                      batches_are_kept, publication_is_told, slow_clients, patient_client]
+            tests += [stored_by_hand, adopt_after_republication, last_message, long_message,
+                      batches_are_kept, publication_is_told, slow_clients, patient_client,
+                      default_patience]
         for test in [*tests, longest_batch, most_batches]:
             test(run)
         kills(run, given.kills)

@@ -3,8 +3,8 @@
 
 What was loaded is read by sqlite3, and held against docs/FORMATS.md and the small example; what
 sqlite3 wrote as drafted and published is found and exported; a database that sqlite3 made, or
-changed so that it stands for no office, is refused. A failing case
-is printed with what was expected and what came, and the last line counts the cases.
+changed so that it stands for no office, is refused, and its dump by sqlite3 is then as it was. A
+failing case is printed with what was expected and what came, and the last line counts the cases.
 """
 import pathlib
 import subprocess
@@ -99,6 +99,11 @@ def ended(*words):
     return done.returncode, done.stdout, done.stderr
 
 
+def dumped(office):
+    """All that sqlite3 finds in a file, as statements; what it ends with besides is judged too."""
+    return ended("sqlite3", str(office), ".dump")
+
+
 def lines(*texts):
     return 0, "".join(f"{text}\n" for text in texts).encode(), b""
 
@@ -150,7 +155,9 @@ def changed(program, folder):
     for text, expected in CHANGES.items():
         office.write_bytes(stored)
         yield f"a change: {text}", lines(), ended("sqlite3", str(office), text)
+        before = 0, dumped(office)[1], b""
         yield text, expected, ended(*load, str(SMALL))
+        yield f"the file after: {text}", before, dumped(office)
     office.write_bytes(stored)
     for text, expected in (("UPDATE owner SET dept = 1000", REFUSED),
                            ("UPDATE owner SET dept = 4", FOUND)):
@@ -174,8 +181,11 @@ def published(program, folder):
     for text, expected in PUBLISHED_CHANGES.items():
         office.write_bytes(stored)
         yield f"a change: {text}", lines(), ended("sqlite3", str(office), text)
+        before = 0, dumped(office)[1], b""
         yield text, expected, ended(*load)
+        yield f"the file after: {text}", before, dumped(office)
         yield f"an export after: {text}", EXPORTED if expected == FOUND else REFUSED, ended(*export)
+        yield f"the file after an export after: {text}", before, dumped(office)
 
 
 def main():

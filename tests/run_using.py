@@ -1,6 +1,6 @@
 #!/usr/bin/env python3
-"""run_using.py PROGRAM [PAGE..]: what USING.md and OPERATING.md tell the reader to type answers
-what they say.
+"""run_using.py PROGRAM [PAGE..]: what README.md, USING.md and OPERATING.md tell the reader to type
+answers what they say.
 
 A page's blocks of commands are typed into one shell, in a fresh folder that has the examples and
 the program, and what each prints is held against the block below it, byte for byte; but for the
@@ -24,7 +24,7 @@ from browser import free_port
 from openapi import Described
 
 TOP = pathlib.Path(__file__).resolve().parent.parent
-PAGES = [TOP / "docs" / name for name in ("USING.md", "OPERATING.md")]
+PAGES = [TOP / name for name in ("README.md", "docs/USING.md", "docs/OPERATING.md")]
 PORT, SECONDS, END = "8080", 60, b"\1"
 BLOCK = re.compile(r"^```sh\n(.*?)^```\n(?:\n```\n(.*?)^```\n)?", re.M | re.S)
 # What curl says of each exchange, on standard error.

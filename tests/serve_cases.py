@@ -143,6 +143,8 @@ SECOND = shown_exam(0, FRIDAY, "09:30:00", 0, 0, 2), shown_exam(1, FRIDAY, "14:0
 THIRD = shown_exam(1, FRIDAY, "14:00:00", 1, 0, 2), shown_exam(2, MONDAY, "09:30:00", 3, 1, 1)
 # Candidate 1 once exam 3 has moved to the place of exam 2.
 FIRST_MOVED = FIRST[0], shown_exam(3, MONDAY, "09:30:00", 3, 1, 2)
+# Candidate 3 once exam 2 has moved into the period of exam 0, and into the other room.
+THIRD_MOVED = THIRD[0], shown_exam(2, FRIDAY, "09:30:00", 0, 1, 1)
 # Candidate 3 who takes exam 0 late, and gets the seat of candidate 1 who gave it up; candidate 2
 # who gives it up.
 PENDING, NEWCOMER, WITHDRAWN = (
@@ -158,6 +160,11 @@ ROOMS = ("per room    used     cap  exams\n  0    0       2       3  0\n"
          "  3    1       1       2  2\n")
 MOVED_ROOMS = ("per room    used     cap  exams\n  0    0       2       3  0\n"
                "  1    0       2       3  1\n  3    1       2       2  2 3\n")
+# Exam 2 moved out of the room and period where it stands with exam 3.
+OUT_TEXT = "0, 0\r\n1, 0\r\n0, 1\r\n3, 1\r\n"
+OUT_ROOMS = ("per room    used     cap  exams\n  0    0       2       3  0\n"
+             "  0    1       1       2  2\n  1    0       2       3  1\n"
+             "  3    1       1       2  3\n")
 # Another office, in which candidate 2 has the same places and seats; all else there differs.
 OTHER = b"""[Exams:5]
 60, 0, 2
@@ -284,13 +291,17 @@ CASES = [
          (VIOLATIONS, text("breaches 0\n")),
          (PENALTY, text(report(*[0] * 8)))),
     case("reports_and_dropped_draft", SMALL,
-         (FROM_SOLUTION, drafted(201, 37)),
-         (message("GET", "/instance"), text(SMALL.replace(b"\n", b"\r\n"))),
+         *PUBLISHED,
+         (SHOWN[2], text(ROOMS)),
+         INSTANCE,
          (message("GET", "/drafts/1"), reply(200, PLACES)),
          (VIOLATIONS, text("breaches 0\n")),
          (message("DELETE", "/drafts/1"), reply(200, '{"draft":1}')),
          (message("DELETE", "/drafts/1"), error(404, "draft")),
-         (message("GET", "/drafts/1"), error(404, "draft"))),
+         (message("GET", "/drafts/1"), error(404, "draft")),
+         (SHOWN[0], text(TEXT)),
+         (SHOWN[1], text(report(7, 5, 3, 0, 0, 15, 7, 37))),
+         (SHOWN[2], text(ROOMS))),
     case("candidate_view", SMALL,
          *PUBLISHED,
          (asked_by(2), SECOND_PAGE),
@@ -438,6 +449,26 @@ CASES = [
          (asked_by(2), SECOND_PAGE),
          (asked_by(3), me(3, 10, NEWCOMER, *THIRD)),
          (asked_by(3, "/penalty"), cost(7, 0, 3))),
+    case("seats_kept, where another exam leaves the room and comes back", SMALL,
+         *PUBLISHED,
+         (move(3, 3, 1), drafted(200, 44)),
+         (publish(), published(1, 44)),
+         (move(2, 0, 1), drafted(200, 36)),
+         (publish(), published(1, 36)),
+         (SHOWN[0], text(OUT_TEXT)),
+         (SHOWN[1], text(report(14, 0, 3, 0, 0, 5, 14, 36))),
+         (SHOWN[2], text(OUT_ROOMS)),
+         (asked_by(1), me(1, 1, *FIRST_MOVED)),
+         (asked_by(2), SECOND_PAGE),
+         (asked_by(3), me(3, 8, *THIRD_MOVED)),
+         (move(2, 3, 1), drafted(200, 44)),
+         (publish(), published(1, 44)),
+         (SHOWN[0], text(MOVED_TEXT)),
+         (SHOWN[1], text(report(7, 0, 3, 10, 0, 10, 14, 44))),
+         (SHOWN[2], text(MOVED_ROOMS)),
+         (asked_by(1), me(1, 1, *FIRST_MOVED)),
+         (asked_by(2), SECOND_PAGE),
+         (asked_by(3), me(3, 1, *THIRD))),
     case("two_offices_one_view, with a draft, an owner and a batch", SMALL,
          *PUBLISHED,
          (message("PUT", "/drafts/2"), reply(201, '{"draft":2,"penalty":0}')),

@@ -104,7 +104,7 @@ fn found<S: Alter + Drop, R: Abort>(
 }
 
 #[test]
-fn adopt_after_republication(rt: HostRuntime) -> Result<(), Fail> {
+fn adopt_wants_tables_and_create_none(rt: HostRuntime) -> Result<(), Fail> {
     let bare = Connection::open_in_memory(rt.alloc())?;
     let (fault, bare) = refused(Office::adopt(rt.alloc(), bare))?;
     assert_same(&rt, fault, StoreFault::BadSchema, "no tables");
