@@ -281,8 +281,25 @@ add_up (Some r) is shares e = subst (AddUpIn (Some r)) (sym e) (go r.published i
           adds_up r.session p.rows p.timetable is.session known.rows (are_numbered r.session p known),
         )
 
-pub stored_add_up : (d : Database) (o : OfficeState) → IsKept d o → StoredAddUp o
-stored_add_up d o kept = add_up o kept.office (shares_in o) refl
+-- and so do the rows that it keeps
+pub stored_add_up : (d : Database) (o : OfficeState) (kept : IsKept d o)
+    → StoredAddUp o kept.held.share_student kept.held.share_part
+stored_add_up d None kept = tt
+stored_add_up d (Some r) kept = go r.published kept.office.publication kept.sound.shared
+  where
+    go : (published : Option Publication)
+        → ((p : Publication) → published ≡ Some p → IsPublication r.session p)
+        → AreShared r.session published kept.held.share_student kept.held.share_part
+        → StoredAddUp (Some (record r { published = published })) kept.held.share_student
+        kept.held.share_part
+    go None each shared = tt
+    go (Some p) each shared =
+        let known = each p refl in (
+          shares_of r.session p.rows p.timetable,
+          record { of_students = shared.of_students; of_parts = shared.of_parts },
+          adds_up r.session p.rows p.timetable kept.office.session known.rows
+              (are_numbered r.session p known),
+        )
 
 -- what is answered adds up
 pub adds_up_in : (o : OfficeState) (Stays : OfficeState → Type 0)

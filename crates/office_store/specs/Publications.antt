@@ -1,5 +1,5 @@
 -- What is read of a publication.
-use Rattle.std.specs.Prelude.{◌≡◌, List, Vec, Option, Some, None, option_map, Result, Ok, Err}
+use Rattle.std.specs.Prelude.{◌≡◌, List, Vec, Option, Some, None, IfSome, option_map, Result, Ok, Err}
 use Rattle.std.specs.declared.alloc.Global.{Global}
 use Rattle.exam_model.specs.Timetable.{Placing}
 use Rattle.exam_model.specs.Instance.{Session}
@@ -9,6 +9,9 @@ use Rattle.exam_publish.specs.declared.seat_row.SeatRow.{SeatRow}
 use Rattle.exam_score.specs.Track.{track}
 use Rattle.office_model.specs.Office.{OfficeState, Publication, published_enrolments}
 use Rattle.office_model.specs.Step.{publication_in}
+use Rattle.office_tables.specs.declared.rows.PartShareRow.{PartShareRow}
+use Rattle.office_tables.specs.declared.rows.StudentShareRow.{StudentShareRow}
+use Rattle.office_records.specs.SharesStored.{AreSharesOf}
 
 -- where each exam stands, and who sits where
 abbrev pub Shown : Type 0
@@ -39,6 +42,9 @@ AddUpIn office (Some shares) =
     (found : Session × Publication) × (publication_in office ≡ Some found)
     × AddUpTo (track found.0 (published_enrolments found.0 found.1) found.1.timetable) shares
 
--- the shares that an office stores are
-abbrev pub StoredAddUp : OfficeState → Type 0
-StoredAddUp office = AddUpIn office (shares_in office)
+-- where something is published, the stored rows are shares that together are its penalty
+abbrev pub StoredAddUp : OfficeState → List StudentShareRow → List PartShareRow → Type 0
+StoredAddUp office students parts =
+    IfSome (publication_in office) (λ (found : Session × Publication).
+    (shares : Sharing) × AreSharesOf students parts shares
+    × AddUpTo (track found.0 (published_enrolments found.0 found.1) found.1.timetable) shares)

@@ -27,9 +27,10 @@ impl<S: Alter> Office<S> {
     /// number; then `Refused`: an exam has no place, or a hard rule is broken.
     pub fn publish(&mut self, alloc: Global, number: u32) -> Result<Published, StoreFault>
         ensures runs { Runs S.Store (draft_published number) self.old self.new result }
-        // The shares that are stored then are the penalty of what is published.
-        ensures add_up { (office : OfficeState) → IsKept (state S.Store self.new).now office
-            → StoredAddUp office }
+        // The rows of shares that are stored then are, together, the penalty of what is published.
+        ensures add_up { (office : OfficeState)
+            → (kept : IsKept (state S.Store self.new).now office)
+            → StoredAddUp office kept.held.share_student kept.held.share_part }
         ensures clean { HasCleanDisk (state S.Store self.new)
             → HasCleanDisk (state S.Store self.old) }
     {
