@@ -23,7 +23,8 @@ import time
 import browser
 import front_pages
 from front_cases import (
-    CALLERS, CANDIDATE, FIRST_VIEW, MADE, SECOND_VIEW, TARGETS, ask, parted, password, told_error)
+    CALLERS, CANDIDATE, FIRST_VIEW, MADE, PAGES, SECOND_VIEW, TARGETS, ask, parted, password,
+    told_error)
 from openapi import Described
 from run_serve import Office, Run, one_reply, rest
 from serve_cases import SOLUTION, cost, message
@@ -87,7 +88,7 @@ class Front:
 
 
 def who_asks_and_what(run, front):
-    for name, question, answer in CALLERS + TARGETS:
+    for name, question, answer in CALLERS + TARGETS + PAGES:
         told = front.told(question)
         if isinstance(answer, int):
             told = told and told[0]
@@ -98,6 +99,13 @@ def who_asks_and_what(run, front):
         for path in ("/me", "/drafts/1", "/", "/registry.html"):
             status, body = front.told(message("GET", path, caller=None, fields=fields))
             run.judge(f"{name}, {path}", (401, True), (status, b"not signed in" in body))
+    for path, methods in (("/", "GET, HEAD"), ("/registry.html", "GET, HEAD"),
+                          ("/publication", "GET"), ("/nothing/at/all", "GET, HEAD")):
+        with front.connect() as client:
+            client.sendall(ask("registry", "POST", path, b"", "Connection: close"))
+            head = rest(client).partition(b"\r\n\r\n")[0].decode().split("\r\n")
+        run.judge(f"Allow of {path}", [f"Allow: {methods}"],
+                  [line for line in head if line.startswith("Allow")])
 
 
 def what_passes(run, folder):
