@@ -185,6 +185,7 @@ const wrong = {
   'ids that come once': new Set(ids).size === ids.length,
   'scopes of headers': all('th').every(e => e.scope),
   'captions of tables': all('table').every(e => e.caption),
+  'roles of tables': all('table, thead, tbody, tr, th, td').every(e => e.getAttribute('role')),
   'names of buttons': all('button').every(e => e.closest('dialog') || e.innerText.trim()),
   'what is labelled by what': all('[aria-labelledby], [aria-describedby]').every(e =>
     ((e.getAttribute('aria-labelledby') ?? '') + ' ' + (e.getAttribute('aria-describedby') ?? ''))
@@ -194,6 +195,13 @@ const wrong = {
   'no wider than the window': document.documentElement.scrollWidth <= window.innerWidth,
 };
 return Object.keys(wrong).filter(name => !wrong[name]);
+"""
+# The tables of a page, as its markup has them: the name, and for each row what its cells are.
+TABLES = """
+const kind = (cell) => cell.tagName === 'TD' ? 'cell'
+  : cell.scope === 'col' ? 'columnheader' : 'rowheader';
+return [...document.querySelectorAll('table')].filter(table => table.checkVisibility())
+  .map(table => [table.caption.innerText, [...table.rows].map(row => [...row.cells].map(kind))]);
 """
 CONTRAST = """
 const style = getComputedStyle(document.documentElement);
@@ -216,12 +224,34 @@ return [['--ink', '--ground'], ['--quiet', '--ground'], ['--quiet', '--raised'],
 """
 
 
+def tables_told(reader):
+    """The same of the accessibility tree, which is what a screen reader goes by."""
+    tree = reader.devtools("Accessibility.getFullAXTree")["nodes"]
+    nodes = {node["nodeId"]: node for node in tree}
+
+    def within(node, *roles):
+        """The outermost ones of these roles in a node, in their order."""
+        for child in (nodes[name] for name in node.get("childIds", []) if name in nodes):
+            if not child["ignored"] and child["role"]["value"] in roles:
+                yield child
+            else:
+                yield from within(child, *roles)
+
+    return [[table["name"]["value"],
+             [[cell["role"]["value"] for cell in within(row, "cell", "columnheader", "rowheader")]
+              for row in within(table, "row")]]
+            for table in within(tree[0], "table")]
+
+
 def pages_for_everybody(run, driver, front):
     """On a small phone, in both schemes of colour, by keyboard and for a screen reader."""
     for user, page in (("cleo", "candidate.html"), ("registry", "registry.html")):
         for more in ({"width": 320, "height": 600}, {"is_dark": True}):
             with reading(driver, front, user, page, **more) as reader:
                 run.judge(f"what {page} lacks", [], reader.run(LACKS))
+                tables = reader.run(TABLES)
+                run.judge(f"tables of {page}", (True, tables),
+                          (len(tables) > 1, tables_told(reader)))
                 run.judge(f"weak contrasts of {page}", [], reader.run(CONTRAST))
                 reader.press("\ue004")
                 focus = reader.run("const e = document.activeElement; return [e.className, "

@@ -108,10 +108,16 @@ export const moment = (date) => timed(now, date.toISOString(), date);
 
 const isThere = (it) => it !== null && it !== undefined && it !== false;
 
+// On a phone the rows of a table are shown as blocks. To some screen readers they would be no table
+// any more, so roles say it.
+const ROLES = { table: 'table', thead: 'rowgroup', tbody: 'rowgroup', tr: 'row', td: 'cell' };
+const roleOf = (name, { scope }) => (
+  name === 'th' ? `${scope === 'col' ? 'column' : 'row'}header` : ROLES[name]);
+
 /** An element; attributes and children that are null or false are left out. */
 export function element(name, attributes = {}, ...children) {
   const made = document.createElement(name);
-  for (const [key, value] of Object.entries(attributes)) {
+  for (const [key, value] of Object.entries({ role: roleOf(name, attributes), ...attributes })) {
     if (isThere(value)) made.setAttribute(key, value);
   }
   made.append(...children.flat().filter(isThere));
