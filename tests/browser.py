@@ -129,6 +129,11 @@ class Browser:
         found = self.ask("POST", "/element", using="css selector", value=selector)
         self.ask("POST", f"/element/{found[ELEMENT]}/click")
 
+    def types(self, selector, text):
+        """Types into a field; into one for files, the path of one."""
+        found = self.ask("POST", "/element", using="css selector", value=selector)
+        self.ask("POST", f"/element/{found[ELEMENT]}/value", text=text)
+
     def press(self, *keys):
         """Presses keys, one after another, wherever the focus is."""
         pressed = [{"type": kind, "value": key} for key in keys for kind in ("keyDown", "keyUp")]

@@ -77,6 +77,8 @@ CALLERS = [
 TARGETS = [
     ("an absolute target", ask("ada", "GET", "http://office/me"), REQUEST),
     ("an absolute target of another host", ask("ada", "GET", "http://elsewhere/drafts/1"), REQUEST),
+    ("the absolute target of a page", ask("ada", "GET", "http://office/"), REQUEST),
+    ("a host without a path", ask("ada", "GET", "http://office"), REQUEST),
     ("a target *", ask("ada", "OPTIONS", "*"), REQUEST),
     ("no path", ask("ada", "GET", "me"), REQUEST),
     ("a query", ask("registry", "GET", "/publication?x=1"), PATH),
@@ -104,4 +106,15 @@ TARGETS = [
     ("a publish of its own page", ask("registry", "POST", "/drafts/1/publish", b"",
                                       "Origin: http://office"),
      (200, b'{"changed":0,"draft":1,"penalty":37}')),
+]
+# What is asked of the front's pages, and what the front answers itself.
+PAGES = [
+    *((f"{method} {path}", ask(user, method, path, body), told_error(405, "method"))
+      for user, method, path, body in (
+          ("ada", "POST", "/", b"a body"), ("registry", "PUT", "/registry.html", b"a body"),
+          ("ada", "DELETE", "/style.css", b""), ("ada", "OPTIONS", "/", b""),
+          ("ada", "POST", "/nothing", b""))),
+    ("TRACE", ask("ada", "TRACE", "/me"), told_error(405, "method")),
+    ("a page", ask("ada", "GET", "/candidate.html"), 200),
+    ("the page of /", ask("ada", "GET", "/"), 200),
 ]

@@ -175,6 +175,67 @@ def states_of_exams(run, driver, front):
             run.judge(f"what it says to {user}", True, note in reader.text("#notes"))
 
 
+def late_changes(run, driver, front):
+    """A batch is typed and sent by keyboard, another one is a file; refusals name the line."""
+    tab, enter = "\ue004", "\ue007"
+    focus = "document.querySelector('#batch-%s').focus()"
+    file = run.folder / "late.csv"
+    bytes_of_file = b"student,exam,action\r\n2,0,add\r\n2,0,drop"
+    file.write_bytes(bytes_of_file)
+    with reading(driver, front, "registry") as reader:
+        reader.run(focus % "number")
+        reader.press("7", tab, tab, *"student,exam,action", enter, *"3,0,add", enter,
+                     *"2,0,add", enter, *"2,0,drop", tab)
+        run.judge("where a key leads behind the lines", "Send",
+                  reader.run("return document.activeElement.innerText"))
+        reader.press(enter)
+        reader.waits("return document.querySelector('#status').innerText.startsWith('Batch 7')")
+        run.judge("what a batch did", "Batch 7 is taken: 1 added, 1 dropped, 1 unchanged.",
+                  reader.text("#status"))
+        run.judge("where the focus is then", ["status", ""], reader.run(
+            "return [document.activeElement.id, document.querySelector('#batch-lines').value]"))
+        run.judge("what came", (200, b'{"added":1,"batch":7,"dropped":1,"unchanged":1}'),
+                  front.told(ask("registry", "PUT", "/batches/7",
+                                 batch_text("3,0,add", "2,0,add", "2,0,drop").rstrip())))
+        for number, lines, words in (
+                ("8", ("3,0,ad",), "Batch 8 was not taken. Line 2: the action is neither add nor "
+                 "drop."),
+                ("8", ("3,0,add", "x,1,add"), "Batch 8 was not taken. Line 3: a number is "
+                 "expected, and is not there."),
+                ("8", ("3,4,add",), "Batch 8 was not taken. There is no such exam, period or "
+                 "room."),
+                ("7", ("3,0,add",), "Batch 7 was not taken. Other lines have come under this "
+                 "number before. Please take a new number.")):
+            reader.run("document.querySelector('#batch').reset()")
+            reader.types("#batch-number", number)
+            reader.types("#batch-lines", batch_text(*lines).decode())
+            reader.click("#batch button")
+            is_read(reader)
+            run.judge(f"a refusal of {lines}", words, reader.text("#error"))
+            run.judge("its lines are still there", batch_text(*lines).decode(),
+                      reader.run("return document.querySelector('#batch-lines').value"))
+        reader.types("#batch-file", str(file))
+        reader.click("#batch button")
+        run.judge("a file and lines", "Choose a file or paste lines, not both.",
+                  reader.run("return document.activeElement.validationMessage"))
+        reader.run("document.querySelector('#batch').reset()")
+        reader.types("#batch-number", "9")
+        reader.click("#batch button")
+        run.judge("neither a file nor lines", "Choose a file, or paste lines here.",
+                  reader.run("return document.activeElement.validationMessage"))
+        reader.types("#batch-file", str(file))
+        reader.click("#batch button")
+        reader.waits("return document.querySelector('#status').innerText.startsWith('Batch 9')")
+        run.judge("a file", "Batch 9 is taken: 1 added, 1 dropped, 0 unchanged.",
+                  reader.text("#status"))
+        run.judge("its bytes", (200, b'{"added":1,"batch":9,"dropped":1,"unchanged":0}'),
+                  front.told(ask("registry", "PUT", "/batches/9", bytes_of_file)))
+        run.judge("complaints of the browser", [], reader.complaints())
+    with reading(driver, front, "physics", "registry.html") as reader:
+        run.judge("a department sends none", True,
+                  reader.run("return document.querySelector('#late').hidden"))
+
+
 # What a page has to have for whoever doesn't see it, or has no mouse.
 LACKS = """
 const all = (selector) => [...document.querySelectorAll(selector)];
@@ -185,6 +246,8 @@ const wrong = {
   'ids that come once': new Set(ids).size === ids.length,
   'scopes of headers': all('th').every(e => e.scope),
   'captions of tables': all('table').every(e => e.caption),
+  'roles of tables': all('table, thead, tbody, tr, th, td').every(e => e.getAttribute('role')),
+  'labels of fields': all('input, textarea').every(e => e.labels.length === 1),
   'names of buttons': all('button').every(e => e.closest('dialog') || e.innerText.trim()),
   'what is labelled by what': all('[aria-labelledby], [aria-describedby]').every(e =>
     ((e.getAttribute('aria-labelledby') ?? '') + ' ' + (e.getAttribute('aria-describedby') ?? ''))
@@ -194,6 +257,13 @@ const wrong = {
   'no wider than the window': document.documentElement.scrollWidth <= window.innerWidth,
 };
 return Object.keys(wrong).filter(name => !wrong[name]);
+"""
+# The tables of a page, as its markup has them: the name, and for each row what its cells are.
+TABLES = """
+const kind = (cell) => cell.tagName === 'TD' ? 'cell'
+  : cell.scope === 'col' ? 'columnheader' : 'rowheader';
+return [...document.querySelectorAll('table')].filter(table => table.checkVisibility())
+  .map(table => [table.caption.innerText, [...table.rows].map(row => [...row.cells].map(kind))]);
 """
 CONTRAST = """
 const style = getComputedStyle(document.documentElement);
@@ -216,12 +286,34 @@ return [['--ink', '--ground'], ['--quiet', '--ground'], ['--quiet', '--raised'],
 """
 
 
+def tables_told(reader):
+    """The same of the accessibility tree, which is what a screen reader goes by."""
+    tree = reader.devtools("Accessibility.getFullAXTree")["nodes"]
+    nodes = {node["nodeId"]: node for node in tree}
+
+    def within(node, *roles):
+        """The outermost ones of these roles in a node, in their order."""
+        for child in (nodes[name] for name in node.get("childIds", []) if name in nodes):
+            if not child["ignored"] and child["role"]["value"] in roles:
+                yield child
+            else:
+                yield from within(child, *roles)
+
+    return [[table["name"]["value"],
+             [[cell["role"]["value"] for cell in within(row, "cell", "columnheader", "rowheader")]
+              for row in within(table, "row")]]
+            for table in within(tree[0], "table")]
+
+
 def pages_for_everybody(run, driver, front):
     """On a small phone, in both schemes of colour, by keyboard and for a screen reader."""
     for user, page in (("cleo", "candidate.html"), ("registry", "registry.html")):
         for more in ({"width": 320, "height": 600}, {"is_dark": True}):
             with reading(driver, front, user, page, **more) as reader:
                 run.judge(f"what {page} lacks", [], reader.run(LACKS))
+                tables = reader.run(TABLES)
+                run.judge(f"tables of {page}", (True, tables),
+                          (len(tables) > 1, tables_told(reader)))
                 run.judge(f"weak contrasts of {page}", [], reader.run(CONTRAST))
                 reader.press("\ue004")
                 focus = reader.run("const e = document.activeElement; return [e.className, "
@@ -278,6 +370,7 @@ def judge(run, front, office, folder):
         registrys_page(run, driver, front)
         publishing(run, driver, front)
         states_of_exams(run, driver, front)
+        late_changes(run, driver, front)
         pages_for_everybody(run, driver, front)
         if folder:
             pictures(driver, front, folder)

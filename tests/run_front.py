@@ -23,7 +23,8 @@ import time
 import browser
 import front_pages
 from front_cases import (
-    CALLERS, CANDIDATE, FIRST_VIEW, MADE, SECOND_VIEW, TARGETS, ask, parted, password, told_error)
+    CALLERS, CANDIDATE, FIRST_VIEW, MADE, PAGES, SECOND_VIEW, TARGETS, ask, parted, password,
+    told_error)
 from openapi import Described
 from run_serve import Office, Run, one_reply, rest
 from serve_cases import SOLUTION, cost, message
@@ -38,7 +39,7 @@ SECONDS = 20
 class Front:
     """nginx with a copy of the front's folder, before an office on that port."""
 
-    def __init__(self, folder, office_port, client_seconds=None, rate=None):
+    def __init__(self, folder, office_port, client_seconds=None, rate=None, burst=200):
         self.folder, self.port = pathlib.Path(folder) / "front", browser.free_port()
         shutil.copytree(TOP / "front", self.folder, dirs_exist_ok=True)
         pathlib.Path(folder).chmod(0o755)
@@ -49,7 +50,7 @@ class Front:
         if client_seconds:
             text = re.sub(r"(client_\w+_timeout) 10s", rf"\1 {client_seconds}s", text)
         if rate:
-            text = text.replace("rate=50r/s", f"rate={rate}").replace("burst=200", "burst=20")
+            text = text.replace("rate=50r/s", f"rate={rate}").replace("burst=200", f"burst={burst}")
         path.write_text(text)
         with (self.folder / "run" / "errors").open("wb") as errors:
             self.process = subprocess.Popen([NGINX, "-p", str(self.folder), "-c", "nginx.conf"],
@@ -87,7 +88,7 @@ class Front:
 
 
 def who_asks_and_what(run, front):
-    for name, question, answer in CALLERS + TARGETS:
+    for name, question, answer in CALLERS + TARGETS + PAGES:
         told = front.told(question)
         if isinstance(answer, int):
             told = told and told[0]
@@ -98,6 +99,13 @@ def who_asks_and_what(run, front):
         for path in ("/me", "/drafts/1", "/", "/registry.html"):
             status, body = front.told(message("GET", path, caller=None, fields=fields))
             run.judge(f"{name}, {path}", (401, True), (status, b"not signed in" in body))
+    for path, methods in (("/", "GET, HEAD"), ("/registry.html", "GET, HEAD"),
+                          ("/publication", "GET"), ("/nothing/at/all", "GET, HEAD")):
+        with front.connect() as client:
+            client.sendall(ask("registry", "POST", path, b"", "Connection: close"))
+            head = rest(client).partition(b"\r\n\r\n")[0].decode().split("\r\n")
+        run.judge(f"Allow of {path}", [f"Allow: {methods}"],
+                  [line for line in head if line.startswith("Allow")])
 
 
 def what_passes(run, folder):
@@ -185,7 +193,7 @@ def no_office(run):
 
 def too_often(run, office):
     """Who asks too much in a short time is told so, and served again a moment later."""
-    front = Front(run.folder / "often", office.port, rate="1r/s")
+    front = Front(run.folder / "often", office.port, rate="1r/s", burst=20)
     with front.connect() as client:
         client.sendall(ask("ada", "GET", "/me/penalty") * 100)
         told = [one_reply(client) for _ in range(100)]
@@ -234,7 +242,8 @@ def main():
         run = Run(pathlib.Path(given.program).resolve(), folder, "front")
         office = run.office()
         try:
-            front = Front(folder, office.port, client_seconds=4)
+            # All ask from one address, and how often it may is too_often's to try.
+            front = Front(folder, office.port, client_seconds=4, rate="1000r/s")
             try:
                 before_the_office(run, front, office)
                 front_pages.judge(run, front, office, given.pictures)

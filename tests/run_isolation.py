@@ -311,7 +311,7 @@ def one_round(run, seed):
 def main():
     parser = argparse.ArgumentParser(description=__doc__)
     parser.add_argument("program", metavar="PROGRAM")
-    parser.add_argument("--rounds", type=int, default=40, help="how many rounds (40)")
+    parser.add_argument("--rounds", type=int, default=300, help="how many rounds (300)")
     parser.add_argument("--seed", type=int, default=2007, help="the first round's seed (2007)")
     given = parser.parse_args()
     with tempfile.TemporaryDirectory() as folder:

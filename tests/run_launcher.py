@@ -86,7 +86,7 @@ def without_rt(folder):
     """A PATH with the few commands that the launcher calls, and no rt."""
     few = folder / "few"
     few.mkdir()
-    for name in ("sh", "dirname", "find", "date", "touch"):
+    for name in ("sh", "dirname", "find", "date", "touch", "uname"):
         (few / name).symlink_to(shutil.which(name))
     return str(few)
 
@@ -186,11 +186,41 @@ def releases(repository):
            repository.checked())
 
 
+def unable(repository, few):
+    """Yields the cases of a release that this machine cannot run: a build, and one line."""
+    empty, builds = f"{repository.caller}\n0\n[]\n", repository.builds()
+    why = "examoffice: the release cannot run here; "
+    release, built = (folder / "examoffice" for folder in
+                      (repository.top / "release", repository.crate / "out"))
+    too_old = "#!/bin/sh\necho 'libc.so.6: version `GLIBC_2.34 not found' >&2\nexit 1\n"
+    for case, text in (("the C library is too old", too_old), ("there is no loader", "#!/none\n"),
+                       ("it is for another machine", "\x7fELF\x01")):
+        release.write_text(text)
+        built.unlink()
+        done = repository.call(path=few)
+        yield (f"{case}, and no rt",
+               (1, "", f"{why}the program has to be built, and there is no rt in PATH\n", builds),
+               (done.returncode, done.stdout, done.stderr, repository.builds()))
+        builds += 1
+        done = repository.call()
+        yield (case, (0, empty, [f"{why}building the program: proving and compiling its crates"],
+                      builds),
+               (done.returncode, done.stdout,
+                [line.rpartition(",")[0] for line in done.stderr.splitlines()],
+                repository.builds()))
+        yield f"{case}, again", (0, empty, False, builds), told(repository, repository.call())
+    built.unlink()
+    release.write_text("#!/bin/sh\n[ \"$*\" = --help ] || exit 3\n")
+    yield ("a release that runs, whatever its status", (3, "", False, builds),
+           told(repository, repository.call("check")))
+
+
 def cases(repository, folder):
     few = without_rt(folder)
     yield from calls(repository, few)
     yield from edits(repository)
     yield from releases(repository)
+    yield from unable(repository, few)
     yield from refusals(repository, few)
 
 

@@ -20,6 +20,15 @@ const FORBIDDEN = {
   origin: 'This was asked from another site, and was refused.',
 };
 
+// The faults that a line of a batch can have, by number.
+const FAULTS = {
+  4: 'a number is expected, and is not there',
+  7: 'the action is neither add nor drop',
+  8: 'a number is beyond its limit',
+  10: 'something stands behind the action',
+  11: 'the first line has to be student,exam,action',
+};
+
 const REFUSALS = {
   caller: 'Your account is linked to no candidate, department or office. Please ask the registry.',
   request: 'The office could not read this request.',
@@ -30,6 +39,8 @@ const REFUSALS = {
   number: 'There is no such exam, period or room.',
   publication: 'No timetable is published yet.',
   'not-loaded': 'No session is loaded yet.',
+  'batch-differs': 'Other lines have come under this number before. Please take a new number.',
+  'too-many': 'There would be too many enrolments, or batches.',
   length: 'This is longer than the office takes.',
   often: 'Too much was asked in a short time. Please wait a moment, and try again.',
   unavailable: 'The office cannot answer at the moment, and nothing was changed.'
@@ -44,6 +55,9 @@ function inWords(status, told) {
   if (told.error === 'forbidden') return FORBIDDEN[told.rule] ?? 'You may not do this.';
   if (told.error === 'broken') return ruleInWords(told.rule, told.exam, told.other);
   if (told.error === 'unplaced') return `Exam ${told.exam} has no place yet.`;
+  if (told.error === 'file') {
+    return `Line ${told.line}: ${FAULTS[told.fault] ?? `fault ${told.fault}`}.`;
+  }
   if (status === 401) return 'You are not signed in any more. Please reload this page.';
   return REFUSALS[told.error] ?? `The office refused this (${status}).`;
 }
@@ -59,10 +73,10 @@ export class Refusal extends Error {
 }
 
 /** What the office answers: an object, or a text. */
-export async function ask(path, method = 'GET') {
+export async function ask(path, method = 'GET', body = undefined) {
   let reply, text;
   try {
-    reply = await fetch(new URL(path, location.origin), { method, cache: 'no-store' });
+    reply = await fetch(new URL(path, location.origin), { method, body, cache: 'no-store' });
     text = await reply.text();
   } catch {
     throw new Refusal(0, {});
@@ -79,6 +93,16 @@ export async function askOr(error, path) {
     return await ask(path);
   } catch (refusal) {
     if (refusal.error === error) return null;
+    throw refusal;
+  }
+}
+
+/** The same for a change; where it is refused, these words come first. */
+export async function change(words, ...question) {
+  try {
+    return await ask(...question);
+  } catch (refusal) {
+    if (refusal.status) refusal.message = `${words} ${refusal.message}`;
     throw refusal;
   }
 }
@@ -108,10 +132,16 @@ export const moment = (date) => timed(now, date.toISOString(), date);
 
 const isThere = (it) => it !== null && it !== undefined && it !== false;
 
+// On a phone the rows of a table are shown as blocks. To some screen readers they would be no table
+// any more, so roles say it.
+const ROLES = { table: 'table', thead: 'rowgroup', tbody: 'rowgroup', tr: 'row', td: 'cell' };
+const roleOf = (name, { scope }) => (
+  name === 'th' ? `${scope === 'col' ? 'column' : 'row'}header` : ROLES[name]);
+
 /** An element; attributes and children that are null or false are left out. */
 export function element(name, attributes = {}, ...children) {
   const made = document.createElement(name);
-  for (const [key, value] of Object.entries(attributes)) {
+  for (const [key, value] of Object.entries({ role: roleOf(name, attributes), ...attributes })) {
     if (isThere(value)) made.setAttribute(key, value);
   }
   made.append(...children.flat().filter(isThere));

@@ -1,7 +1,7 @@
-// The registry's page: what is published and the drafts, with their penalties and violations, and
-// rooms by period.
+// The registry's page: what is published and the drafts, with their penalties and violations,
+// rooms by period, and batches of late changes.
 import {
-  Refusal, ask, askOr, byId, cell, columnHead, count, dayInShort, element, numeral, row, rowHead,
+  ask, askOr, byId, cell, change, columnHead, count, dayInShort, element, numeral, row, rowHead,
   ruleInWords, shown, small, time, unseen,
 } from './office.js';
 
@@ -81,6 +81,7 @@ async function load() {
   const again = office.timetables.find(({ name }) => name === office.open) ?? office.timetables[0];
   if (again) await open(again);
   byId('detail').hidden = !again;
+  byId('late').hidden = !office.mayPublish;
   const found = office.timetables.filter(({ number }) => number).length;
   const drafted = found ? count(found, 'draft') : 'no draft';
   if (!office.mayPublish) return `You see ${drafted}.`;
@@ -240,20 +241,45 @@ function confirmed(timetable) {
 }
 
 async function publish(number) {
-  let told;
-  try {
-    told = await ask(`/drafts/${number}/publish`, 'POST');
-  } catch (refusal) {
-    if (refusal instanceof Refusal) {
-      refusal.message = `Draft ${number} was not published. ${refusal.message}`;
-    }
-    throw refusal;
-  }
+  const told = await change(`Draft ${number} was not published.`,
+    `/drafts/${number}/publish`, 'POST');
   await load();
   byId('status').focus();
   const candidates = count(told.changed, 'candidate');
   return `Draft ${told.draft} is published; the seats of ${candidates} have changed.`;
 }
+
+// ---- Late changes
+
+// Either a file or lines; the browser tells the reader so, as of any field that is wrong.
+function checkLines() {
+  const [isFile, isText] = [byId('batch-file').files.length > 0, byId('batch-lines').value !== ''];
+  const wrong = isFile ? 'Choose a file or paste lines, not both.'
+    : 'Choose a file, or paste lines here.';
+  byId('batch-lines').setCustomValidity(isFile === isText ? wrong : '');
+}
+
+// A file goes as it is, byte for byte: under its number no other bytes are taken again.
+async function sendBatch(number) {
+  const body = byId('batch-file').files[0] ?? byId('batch-lines').value;
+  const told = await change(`Batch ${number} was not taken.`, `/batches/${number}`, 'PUT', body);
+  byId('batch').reset();
+  await load();
+  byId('status').focus();
+  const counts = ['added', 'dropped', 'unchanged'].map((what) => `${numeral(told[what])} ${what}`);
+  return `Batch ${told.batch} is taken: ${counts.join(', ')}.`;
+}
+
+for (const happens of ['input', 'reset']) {
+  // A reset is told before the fields are empty.
+  byId('batch').addEventListener(happens, () => setTimeout(checkLines));
+}
+byId('batch').addEventListener('submit', (event) => {
+  event.preventDefault();
+  const number = byId('batch-number').value;
+  shown(`Sending batch ${number} …`, () => sendBatch(number));
+});
+checkLines();
 
 const refresh = () => shown('Loading the timetables …', load);
 byId('refresh').addEventListener('click', refresh);
