@@ -1,12 +1,12 @@
 // The mixed part of the periods and rooms that an edit touches.
-ghost use Rattle.std.specs.Prelude.{◌≡◌, ◌≤◌, ◌-◌, ◌*◌, false, true, if◌then◌else◌, slice_index_or, slice_set};
+ghost use Rattle.std.specs.Prelude.{◌≡◌, ◌≤◌, ◌+◌, ◌-◌, ◌*◌, ◌&&◌, false, true, if◌then◌else◌, nat_lt, ◌∷◌, length, slice_index_or, slice_set};
 ghost use Rattle.exam_terms.specs.declared.limits.TheConstants.{MAX_AMOUNT, MAX_EXAMS, MAX_MINUTES, MAX_PERIODS, MAX_ROOMS};
 ghost use Rattle.exam_model.specs.Timetable.{place_of};
-ghost use Rattle.exam_score.specs.Exchanges.{is_touched, mixed_where, room_mixed_where};
+ghost use Rattle.exam_score.specs.Exchanges.{further_mixed, is_touched, mixed_where};
 ghost use Rattle.exam_score.specs.Track.{durations, is_at};
 
 use crate::sat_exams::place_in;
-use exam_model::{ExamNo, Instance, PeriodNo, Place, RoomNo, Timetable};
+use exam_model::{ExamNo, Instance, Place, Timetable};
 use exam_terms::limits::MAX_MINUTES;
 
 // The durations that there are, 0 minutes among them.
@@ -27,33 +27,61 @@ pub fn touched_mixed(instance: &Instance, timetable: &Timetable, touched: &Touch
         (is_touched touched.now.edited.now touched.now.earlier.now touched.now.later.now) }
     ensures small { result ≤ MAX_ROOMS * (MAX_PERIODS * (MAX_EXAMS * MAX_AMOUNT)) }
 {
+    let _known = instance.periods(); // read for the limits of its weights
     let mut total = 0;
-    for room in 0..instance.rooms() {
-        total += touched_in_room(instance, timetable, touched, RoomNo::new(room));
+    let mut left = touched.edited;
+    while let Some((exam, edited)) = left.split_first() {
+        let others = Touched { edited, ..*touched };
+        total += exam_mixed(instance, timetable, &others, *exam);
+        left = edited;
     }
     total
 }
 
-// The same of one room.
-fn touched_in_room(
+// The same of the places of one edited exam more, but those that the others touch.
+fn exam_mixed(instance: &Instance, timetable: &Timetable, others: &Touched, exam: ExamNo) -> u64
+    ensures further { mixed_where instance.now timetable.now
+        (is_touched others.now.edited.now others.now.earlier.now others.now.later.now) + result
+        ≡ mixed_where instance.now timetable.now
+        (is_touched (exam ∷ others.now.edited.now) others.now.earlier.now others.now.later.now) }
+    ensures small { result ≤ 2 * (MAX_EXAMS * MAX_AMOUNT) }
+{
+    let earlier = place_in(others.earlier, exam);
+    let first = place_mixed(instance, timetable, others, earlier);
+    let Some(later) = place_in(others.later, exam) else {
+        return first;
+    };
+    if stands_at(others.earlier, exam, &later) {
+        return first;
+    }
+    first + place_mixed(instance, timetable, others, Some(later))
+}
+
+// The same of one place, unless an edited exam touches it.
+fn place_mixed(
     instance: &Instance,
     timetable: &Timetable,
     touched: &Touched,
-    room: RoomNo,
+    place: Option<Place>,
 ) -> u64
-    ensures part { result ≡ room_mixed_where instance.now timetable.now
-        (is_touched touched.now.edited.now touched.now.earlier.now touched.now.later.now) room }
-    ensures small { result ≤ MAX_PERIODS * (MAX_EXAMS * MAX_AMOUNT) }
+    ensures further { result ≡ further_mixed instance.now timetable.now
+        (is_touched touched.now.edited.now touched.now.earlier.now touched.now.later.now) place }
+    ensures small { result ≤ MAX_EXAMS * MAX_AMOUNT }
 {
-    let mut total = 0;
-    for period in 0..instance.periods() {
-        let period = PeriodNo::new(period);
-        let place = Place { period, room };
-        if is_touched(touched, &place) {
-            total += mixed_at(instance, timetable, &place);
-        }
+    let Some(place) = place else {
+        return 0;
+    };
+    if !exists(instance, &place) || is_touched(touched, &place) {
+        return 0;
     }
-    total
+    mixed_at(instance, timetable, &place)
+}
+
+fn exists(instance: &Instance, place: &Place) -> bool
+    ensures { result ≡ (nat_lt place.now.room (length instance.now.rooms)
+        && nat_lt place.now.period (length instance.now.periods)) }
+{
+    place.room.get() < instance.rooms() && place.period.get() < instance.periods()
 }
 
 fn is_touched(touched: &Touched, place: &Place) -> bool

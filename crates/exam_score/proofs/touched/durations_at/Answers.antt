@@ -66,7 +66,7 @@ loop-exam-preserved c =
           })
       | else-stands_at w ↦
           (let here : is_at p r (place_of t e) ≡ false = stands ∙ w.if-stands_at.false in
-          let more : 0 ≡ cond (is_at p r (place_of t e) && not (nat_lt 0 (count_below e (lasts s t p r k)))) 1 0
+          let more : ◌≡◌ {A = ℕ} 0 (cond (is_at p r (place_of t e) && not (nat_lt 0 (count_below e (lasts s t p r k)))) 1 0)
           = ap (λ a. cond (a && not (nat_lt 0 (count_below e (lasts s t p r k)))) 1 0) (sym here) in
           record {
             long = ap length w.marked-is ∙ c.loop-exam.invariant.long;
