@@ -38,7 +38,7 @@ pub fn touched_mixed(instance: &Instance, timetable: &Timetable, touched: &Touch
     total
 }
 
-// The same of the places of one edited exam more, but those that the others touch.
+// What the places of one edited exam more make of it, but those that the others touch.
 fn exam_mixed(instance: &Instance, timetable: &Timetable, others: &Touched, exam: ExamNo) -> u64
     ensures further { mixed_where instance.now timetable.now
         (is_touched others.now.edited.now others.now.earlier.now others.now.later.now) + result
@@ -57,7 +57,7 @@ fn exam_mixed(instance: &Instance, timetable: &Timetable, others: &Touched, exam
     first + place_mixed(instance, timetable, others, Some(later))
 }
 
-// The same of one place, unless an edited exam touches it.
+// What a place makes of it, if it exists and no edited exam touches it.
 fn place_mixed(
     instance: &Instance,
     timetable: &Timetable,
@@ -71,13 +71,13 @@ fn place_mixed(
     let Some(place) = place else {
         return 0;
     };
-    if !exists(instance, &place) || is_touched(touched, &place) {
+    if !has_place(instance, &place) || is_touched(touched, &place) {
         return 0;
     }
     mixed_at(instance, timetable, &place)
 }
 
-fn exists(instance: &Instance, place: &Place) -> bool
+fn has_place(instance: &Instance, place: &Place) -> bool
     ensures { result ≡ (nat_lt place.now.room (length instance.now.rooms)
         && nat_lt place.now.period (length instance.now.periods)) }
 {
