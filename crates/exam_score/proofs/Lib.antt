@@ -6,6 +6,7 @@ pub mod TallyLemmas
 pub mod WalkLemmas
 pub mod PairsLemmas
 pub mod FrontLemmas
+pub mod FurtherLemmas
 pub mod MixedLemmas
 pub mod SmallLemmas
 pub mod LineLemmas

@@ -16,8 +16,9 @@ use Rattle.exam_terms.specs.declared.place.Place.{Place}
 use Rattle.exam_model.proofs.SumLemmas.{sum_below-le}
 use Rattle.exam_score.specs.Cost.{row_cost, day_cost, spread_cost}
 use Rattle.exam_score.specs.CostLaws.{spread_cost-small}
+use Rattle.exam_score.specs.Exchanges.{mixed_where, room_mixed_where}
 use Rattle.exam_score.specs.Penalty.{total_of}
-use Rattle.exam_score.specs.Track.{period_penalty, room_penalty, exam_period, exam_room, duration_count, lasting, durations, room_mixed, mixed_part, is_largest, is_late, exam_front, track}
+use Rattle.exam_score.specs.Track.{period_penalty, room_penalty, exam_period, exam_room, duration_count, lasting, durations, is_largest, is_late, exam_front, track}
 use Rattle.exam_score.proofs.CostLemmas.{row_cost-small, day_cost-small}
 use Rattle.exam_score.proofs.PairsLemmas.{part_small}
 
@@ -57,16 +58,21 @@ counted_few n test = let all = sum_below-le (λ m. cond (test m) 1 0) 1 n (λ m 
 durations_small : (s : Session) (t : Placing) (p r : ℕ) → durations s t p r ≤ 1441
 durations_small s t p r = subst (λ n. durations s t p r ≤ n) most_durations (counted_few duration_count (λ m. nat_lt 0 (lasting s t p r m)))
 
-mixed_small : (s : Session) (t : Placing) → IsInstance s → mixed_part s t ≤ 5764000000000
-mixed_small s t known =
+-- of the periods and rooms that pass
+pub mixed_where_small : (s : Session) (t : Placing) (touched : ℕ → ℕ → Bool) → IsInstance s → mixed_where s t touched ≤ 5764000000000
+mixed_where_small s t touched known =
     let one : (p r : ℕ) → (durations s t p r - 1) * s.weights.mixed ≤ 144100000
     = λ p r. mul-le-mul (let h = durations_small s t p r in let k : durations s t p r - 1 ≤ 1441 = omega arith in k) known.limits.weights.3 in
     let periods : length s.periods ≤ 200 = known.limits.counts.1.1 in
     let rooms : length s.rooms ≤ 200 = known.limits.counts.2.1 in
-    let by_period : (r : ℕ) → room_mixed s t r ≤ 28820000000
-    = λ r. (let all = sum_below-le (λ p. (durations s t p r - 1) * s.weights.mixed) 144100000 (length s.periods) (λ p lt. one p r) in omega arith) in
-    let all = sum_below-le (room_mixed s t) 28820000000 (length s.rooms) (λ r lt. by_period r) in
+    let by_period : (r : ℕ) → room_mixed_where s t touched r ≤ 28820000000
+    = λ r. (let all = sum_below-le (λ p. cond (touched p r) ((durations s t p r - 1) * s.weights.mixed) 0) 144100000 (length s.periods) (λ p lt. or_none (touched p r) _ (one p r)) in omega arith) in
+    let all = sum_below-le (room_mixed_where s t touched) 28820000000 (length s.rooms) (λ r lt. by_period r) in
     omega arith
+  where
+    or_none : (b : Bool) (n : ℕ) → n ≤ 144100000 → cond b n 0 ≤ 144100000
+    or_none true n h = h
+    or_none false n h = omega arith
 
 pub penalty_small : (s : Session) (E : Enrolled) (t : Placing) → IsInstance s → AreEnrolments E → Fits s E t → total_of (track s E t) < 2 ^ 62
 penalty_small s E t known enrolled fits =
@@ -74,7 +80,7 @@ penalty_small s E t known enrolled fits =
     let day = part_small (day_cost s.periods s.weights) E t enrolled (day_cost-small s known) in
     let one : (p q : ℕ) → spread_cost s.periods s.weights p q ≤ 100000 = λ p q. omega (arith, spread_cost-small s.periods s.weights p q) in
     let spread = part_small (spread_cost s.periods s.weights) E t enrolled one in
-    let mixed = mixed_small s t known in
+    let mixed = mixed_where_small s t (λ p r. true) known in
     let exams : length s.exams ≤ 2000 = known.limits.counts.0.1 in
     let front = sum_below-le (exam_front s E t) 100000 (length s.exams) (λ e lt. picked (is_largest s E e && is_late s (place_of t e)) s.weights.front known.limits.weights.6) in
     let period = sum_below-le (λ e. exam_period s (place_of t e)) 100000 (length s.exams) (λ e lt. period_small s known (place_of t e)) in

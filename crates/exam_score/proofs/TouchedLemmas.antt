@@ -1,9 +1,10 @@
 -- How many durations there are in a place, one exam more.
-use Rattle.std.proofs.Common.{◌≡◌, ◌≢◌, ℕ, zero, suc, ◌+◌, ◌<◌, ◌≤◌, Bool, true, false, cond, not, ◌&&◌, eqb, List, [], ◌∷◌, refl, sym, ◌∙◌, ap, arith, add-zero}
+use Rattle.std.proofs.Common.{◌≡◌, ◌≢◌, ℕ, zero, suc, ◌+◌, ◌<◌, ◌≤◌, Bool, true, false, cond, not, ◌&&◌, eqb, List, [], ◌∷◌, length, get_or, set, refl, sym, ◌∙◌, ap, arith, add-zero}
 use Rattle.std.specs.Prelude.{slice_get, nat_lt}
 use Rattle.std.specs.List.{AllByRecursion}
 use Rattle.std.proofs.lemmas.List.Elements.{recursion_from_All}
 use Rattle.std.proofs.lemmas.Bool.Decides.{nat_tests}
+use Rattle.std.proofs.lemmas.List.{get_or-set_same, get_or-set_other}
 use Rattle.exam_model.specs.Instance.{Session, IsInstance}
 use Rattle.exam_model.specs.Limits.{ExamInLimits}
 use Rattle.exam_model.specs.declared.parts.Exam.{Exam}
@@ -82,20 +83,38 @@ durations_none s t p r = none duration_count
     none zero = refl
     none (suc n) = omega (arith, none n)
 
--- one that passes is counted
-pub counted_some : (test : ℕ → Bool) (k n : ℕ) → k < n → test k ≡ true → nat_lt 0 (count_below n test) ≡ true
-counted_some test k zero lt is = absurd (omega arith)
-counted_some test k (suc n) lt is = go (eqb k n) refl (λ less. counted_some test k n less is)
+-- ---- the durations that are marked
+
+-- one duration more is marked
+marked_step : (before : List Bool) (k m n : ℕ) → k < length before → get_or before m false ≡ nat_lt 0 n
+    → get_or (set before k true) m false ≡ nat_lt 0 (n + cond (eqb k m) 1 0)
+marked_step before k m n lt known = go (eqb k m) refl
   where
-    go : (b : Bool) → eqb k n ≡ b → (k < n → nat_lt 0 (count_below n test) ≡ true) → nat_lt 0 (count_below (suc n) test) ≡ true
-    go true e below =
-        let same : k ≡ n = grind (arith, nat_tests) in
-        let here : ◌≡◌ {A = ℕ} (cond (test n) 1 0) 1 = ap (λ b. cond b 1 0) (ap test (sym same) ∙ is) in
-        let some : 0 < count_below (suc n) test = omega arith in
-        grind (arith, nat_tests)
-    go false e below =
-        let less : k < n = grind (arith, nat_tests) in
-        let more = below less in
-        let some : 0 < count_below n test = grind (arith, nat_tests) in
-        let all : 0 < count_below (suc n) test = omega arith in
-        grind (arith, nat_tests)
+    go : (b : Bool) → eqb k m ≡ b → get_or (set before k true) m false ≡ nat_lt 0 (n + cond b 1 0)
+    go true e =
+        let same : k ≡ m = grind (arith, nat_tests) in
+        let some : nat_lt 0 (n + 1) ≡ true = grind (arith, nat_tests) in
+        ap (λ j. get_or (set before k true) j false) (sym same) ∙ get_or-set_same before k true false lt ∙ sym some
+    go false e =
+        let other : m ≢ k = grind (arith, nat_tests) in
+        get_or-set_other before k m true false other ∙ known ∙ ap (nat_lt 0) (sym (add-zero n))
+
+-- an exam that stands here marks its duration
+pub marked_here : (s : Session) (t : Placing) (p r e m : ℕ) (before : List Bool)
+    → minutes_of (slice_get s.exams e) < length before → is_at p r (place_of t e) ≡ true
+    → get_or before m false ≡ nat_lt 0 (count_below e (lasts s t p r m))
+    → get_or (set before (minutes_of (slice_get s.exams e)) true) m false ≡ nat_lt 0 (count_below (e + 1) (lasts s t p r m))
+marked_here s t p r e m before lt here known =
+    marked_step before (minutes_of (slice_get s.exams e)) m (count_below e (lasts s t p r m)) lt known
+    ∙ ap (λ b. nat_lt 0 (count_below e (lasts s t p r m) + cond (b && eqb (minutes_of (slice_get s.exams e)) m) 1 0)) (sym here)
+    ∙ ap (nat_lt 0) (sym (sum_below_more (λ e. cond (lasts s t p r m e) 1 0) e))
+
+-- one that stands elsewhere marks none
+pub marked_elsewhere : (s : Session) (t : Placing) (p r e m : ℕ) (before : List Bool)
+    → is_at p r (place_of t e) ≡ false
+    → get_or before m false ≡ nat_lt 0 (count_below e (lasts s t p r m))
+    → get_or before m false ≡ nat_lt 0 (count_below (e + 1) (lasts s t p r m))
+marked_elsewhere s t p r e m before here known =
+    known ∙ ap (nat_lt 0) (sym (add-zero (count_below e (lasts s t p r m))))
+    ∙ ap (λ b. nat_lt 0 (count_below e (lasts s t p r m) + cond (b && eqb (minutes_of (slice_get s.exams e)) m) 1 0)) (sym here)
+    ∙ ap (nat_lt 0) (sym (sum_below_more (λ e. cond (lasts s t p r m e) 1 0) e))

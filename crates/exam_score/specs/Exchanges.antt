@@ -1,6 +1,7 @@
 -- What an edit takes from a penalty, and what it brings.
-use Rattle.std.specs.Prelude.{◌≡◌, ℕ, ◌+◌, ◌-◌, ◌*◌, ◌^◌, ◌≤◌, Bool, ◌||◌, if◌then◌else◌, List, length, filter, IsPermutation}
+use Rattle.std.specs.Prelude.{◌≡◌, ℕ, ◌+◌, ◌-◌, ◌*◌, ◌^◌, ◌≤◌, Bool, not, ◌&&◌, ◌||◌, if◌then◌else◌, nat_lt, Option, None, Some, List, length, filter, IsPermutation}
 use Rattle.std.specs.List.{list_any}
+use Rattle.exam_terms.specs.declared.place.Place.{Place}
 use Rattle.exam_model.specs.Enrolments.{Enrolled, AreEnrolments, has}
 use Rattle.exam_model.specs.Fits.{Fits}
 use Rattle.exam_model.specs.Instance.{Session}
@@ -29,6 +30,15 @@ room_mixed_where s t touched r =
 -- the mixed part of the periods and rooms that pass
 abbrev pub mixed_where : Session → Placing → (ℕ → ℕ → Bool) → ℕ
 mixed_where s t touched = sum_below (length s.rooms) (room_mixed_where s t touched)
+
+-- what one place more makes of the mixed part of the periods and rooms that pass: nothing where it
+-- is no period and room of the session, or passes already
+abbrev pub further_mixed : Session → Placing → (ℕ → ℕ → Bool) → Option Place → ℕ
+further_mixed s t touched None = 0
+further_mixed s t touched (Some at) =
+    if (nat_lt at.room (length s.rooms) && nat_lt at.period (length s.periods))
+    && not (touched at.period at.room)
+    then (durations s t at.period at.room - 1) * s.weights.mixed else 0
 
 -- g summed over the exams in a list, each of them once
 abbrev pub sum_among : Session → List ℕ → (ℕ → ℕ) → ℕ

@@ -1,13 +1,16 @@
 // The mixed part of the periods and rooms that an edit touches.
-ghost use Rattle.std.specs.Prelude.{◌≡◌, ◌<◌, ◌≤◌, ◌-◌, ◌*◌, ◌&&◌, not, if◌then◌else◌, nat_lt, length, slice_get};
-ghost use Rattle.exam_terms.specs.declared.limits.TheConstants.{MAX_AMOUNT, MAX_EXAMS, MAX_PERIODS, MAX_ROOMS};
-ghost use Rattle.exam_model.specs.Sums.{count_below};
+ghost use Rattle.std.specs.Prelude.{◌≡◌, ◌≤◌, ◌+◌, ◌-◌, ◌*◌, ◌&&◌, false, true, if◌then◌else◌, nat_lt, ◌∷◌, length, slice_index_or, slice_set};
+ghost use Rattle.exam_terms.specs.declared.limits.TheConstants.{MAX_AMOUNT, MAX_EXAMS, MAX_MINUTES, MAX_PERIODS, MAX_ROOMS};
 ghost use Rattle.exam_model.specs.Timetable.{place_of};
-ghost use Rattle.exam_score.specs.Exchanges.{is_touched, mixed_where, room_mixed_where};
-ghost use Rattle.exam_score.specs.Track.{durations, is_at, lasts, minutes_of};
+ghost use Rattle.exam_score.specs.Exchanges.{further_mixed, is_touched, mixed_where};
+ghost use Rattle.exam_score.specs.Track.{durations, is_at};
 
 use crate::sat_exams::place_in;
-use exam_model::{ExamNo, Instance, PeriodNo, Place, RoomNo, Timetable};
+use exam_model::{ExamNo, Instance, Place, Timetable};
+use exam_terms::limits::MAX_MINUTES;
+
+// The durations that there are, 0 minutes among them.
+const DURATIONS: usize = MAX_MINUTES as usize + 1;
 
 // The exams of an edit, and the timetables before and after it.
 #[derive(Clone, Copy)]
@@ -24,33 +27,61 @@ pub fn touched_mixed(instance: &Instance, timetable: &Timetable, touched: &Touch
         (is_touched touched.now.edited.now touched.now.earlier.now touched.now.later.now) }
     ensures small { result ≤ MAX_ROOMS * (MAX_PERIODS * (MAX_EXAMS * MAX_AMOUNT)) }
 {
+    let _known = instance.periods(); // read for the limits of its weights
     let mut total = 0;
-    for room in 0..instance.rooms() {
-        total += touched_in_room(instance, timetable, touched, RoomNo::new(room));
+    let mut left = touched.edited;
+    while let Some((exam, edited)) = left.split_first() {
+        let others = Touched { edited, ..*touched };
+        total += exam_mixed(instance, timetable, &others, *exam);
+        left = edited;
     }
     total
 }
 
-// The same of one room.
-fn touched_in_room(
+// What the places of one edited exam more make of it, but those that the others touch.
+fn exam_mixed(instance: &Instance, timetable: &Timetable, others: &Touched, exam: ExamNo) -> u64
+    ensures further { mixed_where instance.now timetable.now
+        (is_touched others.now.edited.now others.now.earlier.now others.now.later.now) + result
+        ≡ mixed_where instance.now timetable.now
+        (is_touched (exam ∷ others.now.edited.now) others.now.earlier.now others.now.later.now) }
+    ensures small { result ≤ 2 * (MAX_EXAMS * MAX_AMOUNT) }
+{
+    let earlier = place_in(others.earlier, exam);
+    let first = place_mixed(instance, timetable, others, earlier);
+    let Some(later) = place_in(others.later, exam) else {
+        return first;
+    };
+    if stands_at(others.earlier, exam, &later) {
+        return first;
+    }
+    first + place_mixed(instance, timetable, others, Some(later))
+}
+
+// What a place makes of it, if it exists and no edited exam touches it.
+fn place_mixed(
     instance: &Instance,
     timetable: &Timetable,
     touched: &Touched,
-    room: RoomNo,
+    place: Option<Place>,
 ) -> u64
-    ensures part { result ≡ room_mixed_where instance.now timetable.now
-        (is_touched touched.now.edited.now touched.now.earlier.now touched.now.later.now) room }
-    ensures small { result ≤ MAX_PERIODS * (MAX_EXAMS * MAX_AMOUNT) }
+    ensures further { result ≡ further_mixed instance.now timetable.now
+        (is_touched touched.now.edited.now touched.now.earlier.now touched.now.later.now) place }
+    ensures small { result ≤ MAX_EXAMS * MAX_AMOUNT }
 {
-    let mut total = 0;
-    for period in 0..instance.periods() {
-        let period = PeriodNo::new(period);
-        let place = Place { period, room };
-        if is_touched(touched, &place) {
-            total += mixed_at(instance, timetable, &place);
-        }
+    let Some(place) = place else {
+        return 0;
+    };
+    if !has_place(instance, &place) || is_touched(touched, &place) {
+        return 0;
     }
-    total
+    mixed_at(instance, timetable, &place)
+}
+
+fn has_place(instance: &Instance, place: &Place) -> bool
+    ensures { result ≡ (nat_lt place.now.room (length instance.now.rooms)
+        && nat_lt place.now.period (length instance.now.periods)) }
+{
+    place.room.get() < instance.rooms() && place.period.get() < instance.periods()
 }
 
 fn is_touched(touched: &Touched, place: &Place) -> bool
@@ -84,53 +115,30 @@ fn mixed_at(instance: &Instance, timetable: &Timetable, place: &Place) -> u64
     further * u64::from(instance.weights().mixed)
 }
 
-// How many different durations there are in a period and room.
+// How many different durations there are in a period and room, in one pass over the exams.
 fn durations_at(instance: &Instance, timetable: &Timetable, place: &Place) -> u64
     ensures count { result ≡ durations instance.now timetable.now place.now.period place.now.room }
     ensures small { result ≤ MAX_EXAMS }
 {
+    let mut marked = [false; DURATIONS];
     let mut count = 0;
     for exam in 0..instance.exams() {
-        count += durations_of(instance, timetable, place, ExamNo::new(exam));
+        let exam = ExamNo::new(exam);
+        if stands_at(timetable, exam, place) {
+            count += mark(&mut marked, instance.exam(exam).minutes);
+        }
     }
     count
 }
 
-// One where the exam stands there and no smaller one does that lasts as long, and else none.
-fn durations_of(instance: &Instance, timetable: &Timetable, place: &Place, exam: ExamNo) -> u64
-    requires exists { exam < length instance.now.exams }
-    ensures { result ≡ (if is_at place.now.period place.now.room (place_of timetable.now exam)
-        && not (nat_lt 0 (count_below exam (lasts instance.now timetable.now place.now.period
-        place.now.room (minutes_of (slice_get instance.now.exams exam))))) then 1 else 0) }
+// One where the duration was not marked, and else none; now it is.
+fn mark(marked: &mut [bool; DURATIONS], minutes: u32) -> u64
+    requires within { minutes ≤ MAX_MINUTES }
+    ensures fresh { result ≡ (if slice_index_or marked.old minutes false then 0 else 1) }
+    ensures marked { marked.new ≡ slice_set marked.old minutes true }
 {
-    if !stands_at(timetable, exam, place) {
-        return 0;
-    }
-    let minutes = instance.exam(exam).minutes;
-    if lasts_before(instance, timetable, place, minutes, exam) {
-        0
-    } else {
-        1
-    }
-}
-
-// Whether a smaller exam stands there and lasts so long.
-fn lasts_before(
-    instance: &Instance,
-    timetable: &Timetable,
-    place: &Place,
-    minutes: u32,
-    exam: ExamNo,
-) -> bool
-    requires exists { exam < length instance.now.exams }
-    ensures { result ≡ nat_lt 0 (count_below exam (lasts instance.now timetable.now place.now.period
-        place.now.room minutes)) }
-{
-    for other in 0..exam.get() {
-        let other = ExamNo::new(other);
-        if stands_at(timetable, other, place) && instance.exam(other).minutes == minutes {
-            return true;
-        }
-    }
-    false
+    let at = minutes as usize;
+    let was_marked = marked[at];
+    marked[at] = true;
+    if was_marked { 0 } else { 1 }
 }

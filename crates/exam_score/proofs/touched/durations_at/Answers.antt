@@ -1,20 +1,40 @@
-use Rattle.std.proofs.Common.{◌≡◌, ◌≤◌, ℕ, Bool, true, false, ◌∙◌, sym, ap, ap₂, ◌+◌, cond, not, ◌&&◌, arith}
+use Rattle.std.proofs.Common.{◌≡◌, ◌≤◌, ℕ, Bool, true, false, ◌∙◌, refl, sym, ap, ap₂, subst, ◌+◌, cond, not, ◌&&◌, arith, add-zero, length, length-set, get_or, set}
+use Rattle.std.proofs.lemmas.List.{get_or-replicate, length-replicate}
 use Rattle.exam_model.specs.Sums.{count_below}
 use Rattle.exam_model.specs.Timetable.{place_of}
-use Rattle.exam_score.specs.Track.{is_at, lasts, minutes_of}
+use Rattle.exam_score.specs.Track.{duration_count, is_at, lasts, minutes_of}
 use Rattle.std.specs.Prelude.{nat_lt, slice_get}
-use Rattle.exam_score.proofs.TouchedLemmas.{durations_more, durations_none, minutes_short}
+use Rattle.exam_score.proofs.TouchedLemmas.{durations_more, durations_none, marked_here, marked_elsewhere, minutes_short}
 use Rattle.exam_score.proofs.touched.durations_at.Goals as goal
+use Rattle.exam_score.proofs.touched.durations_at.Goals.{then-stands_at, else-stands_at}
 
-one_at_most : (b : Bool) (n k e : ℕ) → k ≡ cond b 1 0 → n ≤ e → n + k ≤ e + 1
-one_at_most true n k e is h = omega arith
-one_at_most false n k e is h = omega arith
+one_at_most : (before here : Bool) (n k e : ℕ) → k ≡ cond (here && not before) 1 0 → n ≤ e → n + k ≤ e + 1
+one_at_most true true n k e is h = omega arith
+one_at_most true false n k e is h = omega arith
+one_at_most false true n k e is h = omega arith
+one_at_most false false n k e is h = omega arith
+
+fresh : (before : Bool) → ◌≡◌ {A = ℕ} (cond before 0 1) (cond (not before) 1 0)
+fresh true = refl
+fresh false = refl
 
 pub loop-exam-init : goal.loop-exam-init
+unfolding duration_count
 loop-exam-init c = record {
+  long = length-replicate 1441 false;
+  marked = λ m lt. get_or-replicate 1441 m false false lt;
   count = sym (durations_none c.args.instance.now c.args.timetable.now c.args.place.now.period c.args.place.now.room);
   small = omega arith;
 }
+
+pub mark-count-requires : goal.mark-count-requires
+unfolding duration_count
+mark-count-requires c =
+    let s = c.args.instance.now in
+    let e = c.loop-exam.exam in
+    let is : minutes_of (slice_get s.exams e) ≡ c.exam.result.minutes
+    = ap (λ e. minutes_of (slice_get s.exams e)) (sym c.new-exam.ensures) ∙ ap minutes_of c.exam.ensures in
+    record { within = omega (arith, minutes_short s e c.exams-exam-end.ensures.kept) }
 
 pub loop-exam-preserved : goal.loop-exam-preserved
 loop-exam-preserved c =
@@ -23,9 +43,35 @@ loop-exam-preserved c =
     let p = c.args.place.now.period in
     let r = c.args.place.now.room in
     let e = c.loop-exam.exam in
-    let more : c.durations_of-count.result ≡ cond (is_at p r (place_of t e) && not (nat_lt 0 (count_below e (lasts s t p r (minutes_of (slice_get s.exams e)))))) 1 0
-    = c.durations_of-count.ensures ∙ ap (λ e. cond (is_at p r (place_of t e) && not (nat_lt 0 (count_below e (lasts s t p r (minutes_of (slice_get s.exams e)))))) 1 0) c.new.ensures in
-    record {
-      count = ap₂ (λ a b. a + b) c.loop-exam.invariant.count more ∙ sym (durations_more s t p r e (minutes_short s e c.exams-exam-end.ensures.kept));
-      small = one_at_most _ c.loop-exam.count c.durations_of-count.result e more c.loop-exam.invariant.small;
-    }
+    let before = c.loop-exam.marked in
+    let k = minutes_of (slice_get s.exams e) in
+    let short = minutes_short s e c.exams-exam-end.ensures.kept in
+    let stands = ap (λ e. is_at p r (place_of t e)) (sym c.new-exam.ensures) ∙ sym c.stands_at.ensures in
+    let known = c.loop-exam.invariant.marked k short in
+    elim c.if-stands_at.branch [
+      | then-stands_at w ↦
+          (let here : is_at p r (place_of t e) ≡ true = stands ∙ w.if-stands_at.true in
+          let is : w.exam.result.minutes ≡ k
+          = sym (ap (λ e. minutes_of (slice_get s.exams e)) (sym c.new-exam.ensures) ∙ ap minutes_of w.exam.ensures) in
+          let marked : c.if-stands_at.marked ≡ set before k true
+          = w.marked-is ∙ w.mark-count.ensures.marked ∙ ap (λ k. set before k true) is in
+          let more : w.mark-count.result ≡ cond (is_at p r (place_of t e) && not (nat_lt 0 (count_below e (lasts s t p r k)))) 1 0
+          = w.mark-count.ensures.fresh ∙ ap (λ k. cond (get_or before k false) 0 1) is ∙ fresh (get_or before k false)
+          ∙ ap₂ (λ a b. cond (a && not b) 1 0) (sym here) known in
+          record {
+            long = ap length marked ∙ length-set before k true ∙ c.loop-exam.invariant.long;
+            marked = λ m lt. ap (λ v. get_or v m false) marked ∙ marked_here s t p r e m before (omega (arith, short, c.loop-exam.invariant.long)) here (c.loop-exam.invariant.marked m lt);
+            count = w.count-is ∙ ap₂ (λ a b. a + b) c.loop-exam.invariant.count more ∙ sym (durations_more s t p r e short);
+            small = subst (λ n. n ≤ e + 1) (sym w.count-is) (one_at_most _ _ c.loop-exam.count w.mark-count.result e more c.loop-exam.invariant.small);
+          })
+      | else-stands_at w ↦
+          (let here : is_at p r (place_of t e) ≡ false = stands ∙ w.if-stands_at.false in
+          let more : ◌≡◌ {A = ℕ} 0 (cond (is_at p r (place_of t e) && not (nat_lt 0 (count_below e (lasts s t p r k)))) 1 0)
+          = ap (λ a. cond (a && not (nat_lt 0 (count_below e (lasts s t p r k)))) 1 0) (sym here) in
+          record {
+            long = ap length w.marked-is ∙ c.loop-exam.invariant.long;
+            marked = λ m lt. ap (λ v. get_or v m false) w.marked-is ∙ marked_elsewhere s t p r e m before here (c.loop-exam.invariant.marked m lt);
+            count = w.count-is ∙ sym (add-zero c.loop-exam.count) ∙ ap₂ (λ a b. a + b) c.loop-exam.invariant.count more ∙ sym (durations_more s t p r e short);
+            small = omega arith;
+          })
+    ]

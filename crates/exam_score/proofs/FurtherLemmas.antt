@@ -1,0 +1,156 @@
+-- One place more in the mixed part of the periods and rooms that pass.
+use Rattle.std.proofs.Common.{◌≡◌, ℕ, ◌+◌, ◌-◌, ◌*◌, Bool, true, false, cond, not, ◌&&◌, ◌||◌, eqb, ltb, List, ◌∷◌, length, Option, None, Some, refl, sym, ◌∙◌, ap, arith, add-zero}
+use Rattle.exam_terms.specs.declared.place.Place.{Place}
+use Rattle.exam_model.specs.Instance.{Session}
+use Rattle.exam_model.specs.Sums.{sum_below}
+use Rattle.exam_model.specs.Timetable.{Placing, place_of}
+use Rattle.exam_model.proofs.SumLemmas.{sum_below-same, sum_below-add, sum_below-at, sum_below-zeros}
+use Rattle.exam_score.specs.Exchanges.{further_mixed, is_touched, mixed_where, room_mixed_where}
+use Rattle.exam_score.specs.Track.{durations, is_at}
+
+-- what a period and room make of the mixed part
+abbrev mixed : Session → Placing → ℕ → ℕ → ℕ
+mixed s t p r = (durations s t p r - 1) * s.weights.mixed
+
+-- whether a period and room pass, or an exam's place is there
+abbrev or_at : (ℕ → ℕ → Bool) → Option Place → ℕ → ℕ → Bool
+or_at f o p r = f p r || is_at p r o
+
+-- ---- sums over rooms and periods
+
+mixed_same : (s : Session) (t : Placing) (f g : ℕ → ℕ → Bool) → ((p r : ℕ) → f p r ≡ g p r)
+    → mixed_where s t f ≡ mixed_where s t g
+mixed_same s t f g same =
+    sum_below-same _ _ (λ r. sum_below-same _ _ (λ p. ap (λ b. cond b (mixed s t p r) 0) (same p r))
+    (length s.periods)) (length s.rooms)
+
+pub mixed_none : (s : Session) (t : Placing) → mixed_where s t (λ p r. false) ≡ 0
+mixed_none s t =
+    sum_below-same _ _ (λ r. sum_below-zeros (length s.periods)) (length s.rooms)
+    ∙ sum_below-zeros (length s.rooms)
+
+-- a sum of which all terms pass or none
+sum_if : (b : Bool) (g : ℕ → ℕ) (n : ℕ) → sum_below n (λ e. cond b (g e) 0) ≡ cond b (sum_below n g) 0
+sum_if true g n = refl
+sum_if false g n = sum_below-zeros n
+
+-- ---- one place more
+
+one_term : (passes at_period at_room : Bool) (n : ℕ)
+    → cond (passes || (at_period && at_room)) n 0
+    ≡ cond passes n 0 + cond at_room (cond at_period (cond passes 0 n) 0) 0
+one_term true true true n = sym (add-zero n)
+one_term true true false n = sym (add-zero n)
+one_term true false true n = sym (add-zero n)
+one_term true false false n = sym (add-zero n)
+one_term false true true n = omega arith
+one_term false true false n = refl
+one_term false false true n = refl
+one_term false false false n = refl
+
+in_order : (has_room has_period passes : Bool) (n : ℕ)
+    → cond has_room (cond has_period (cond passes 0 n) 0) 0
+    ≡ cond ((has_room && has_period) && not passes) n 0
+in_order true true true n = refl
+in_order true true false n = refl
+in_order true false passes n = refl
+in_order false has_period passes n = refl
+
+-- it makes what the place makes, if it exists and did not pass
+one_place : (s : Session) (t : Placing) (f : ℕ → ℕ → Bool) (o : Option Place)
+    → mixed_where s t (or_at f o) ≡ mixed_where s t f + further_mixed s t f o
+one_place s t f None =
+    mixed_same s t (or_at f None) f (λ p r. or_false (f p r)) ∙ sym (add-zero (mixed_where s t f))
+  where
+    or_false : (b : Bool) → (b || false) ≡ b
+    or_false true = refl
+    or_false false = refl
+one_place s t f (Some at) =
+    sum_below-same _ _ by_room (length s.rooms)
+    ∙ sum_below-add (room_mixed_where s t f) (λ r. cond (eqb at.room r) (of_period r) 0) (length s.rooms)
+    ∙ ap (λ n. mixed_where s t f + n)
+    (sum_below-at of_period at.room (length s.rooms)
+    ∙ in_order (ltb at.room (length s.rooms)) (ltb at.period (length s.periods)) (f at.period at.room)
+    (mixed s t at.period at.room))
+  where
+    term : ℕ → ℕ → ℕ
+    term r p = cond (f p r) 0 (mixed s t p r)
+
+    of_period : ℕ → ℕ
+    of_period r = cond (ltb at.period (length s.periods)) (term r at.period) 0
+
+    by_room : (r : ℕ) → room_mixed_where s t (or_at f (Some at)) r
+        ≡ room_mixed_where s t f r + cond (eqb at.room r) (of_period r) 0
+    by_room r =
+        sum_below-same _ _ (λ p. one_term (f p r) (eqb at.period p) (eqb at.room r) (mixed s t p r)) (length s.periods)
+        ∙ sum_below-add _ (λ p. cond (eqb at.room r) (cond (eqb at.period p) (term r p) 0) 0) (length s.periods)
+        ∙ ap (λ n. room_mixed_where s t f r + n)
+        (sum_if (eqb at.room r) (λ p. cond (eqb at.period p) (term r p) 0) (length s.periods)
+        ∙ ap (λ n. cond (eqb at.room r) n 0) (sum_below-at (term r) at.period (length s.periods)))
+
+-- beside another place it makes as much, or nothing where it is the same one
+beside : (s : Session) (t : Placing) (f : ℕ → ℕ → Bool) (o : Option Place) (at : Place) (b : Bool)
+    → b ≡ is_at at.period at.room o
+    → further_mixed s t (or_at f o) (Some at) ≡ cond b 0 (further_mixed s t f (Some at))
+beside s t f o at b is =
+    ap (λ c. cond (exists && not (f at.period at.room || c)) (mixed s t at.period at.room) 0) (sym is)
+    ∙ by_case exists (f at.period at.room) b (mixed s t at.period at.room)
+  where
+    exists : Bool
+    exists = ltb at.room (length s.rooms) && ltb at.period (length s.periods)
+
+    by_case : (exists passes b : Bool) (n : ℕ)
+        → cond (exists && not (passes || b)) n 0 ≡ cond b 0 (cond (exists && not passes) n 0)
+    by_case true true true n = refl
+    by_case true true false n = refl
+    by_case true false true n = refl
+    by_case true false false n = refl
+    by_case false passes true n = refl
+    by_case false passes false n = refl
+
+-- ---- the two places of one exam more
+
+turned : (others earlier later : Bool) → ((others || earlier) || later) ≡ ((earlier || later) || others)
+turned true true later = refl
+turned true false true = refl
+turned true false false = refl
+turned false true later = refl
+turned false false true = refl
+turned false false false = refl
+
+-- the earlier place and then the later one
+both_places : (s : Session) (t : Placing) (e : ℕ) (edited : List ℕ) (old new : Placing)
+    → mixed_where s t (is_touched edited old new) + (further_mixed s t (is_touched edited old new) (place_of old e)
+    + further_mixed s t (or_at (is_touched edited old new) (place_of old e)) (place_of new e))
+    ≡ mixed_where s t (is_touched (e ∷ edited) old new)
+both_places s t e edited old new =
+    let f = is_touched edited old new in
+    let first = one_place s t f (place_of old e) in
+    let second = one_place s t (or_at f (place_of old e)) (place_of new e) in
+    let whole = mixed_same s t (or_at (or_at f (place_of old e)) (place_of new e)) (is_touched (e ∷ edited) old new)
+    (λ p r. turned (f p r) (is_at p r (place_of old e)) (is_at p r (place_of new e))) in
+    omega arith
+
+-- where there is no later place
+pub earlier_place : (s : Session) (t : Placing) (e : ℕ) (edited : List ℕ) (old new : Placing) → place_of new e ≡ None
+    → mixed_where s t (is_touched edited old new) + further_mixed s t (is_touched edited old new) (place_of old e)
+    ≡ mixed_where s t (is_touched (e ∷ edited) old new)
+earlier_place s t e edited old new none =
+    let f = is_touched edited old new in
+    let both = both_places s t e edited old new in
+    let nothing : further_mixed s t (or_at f (place_of old e)) (place_of new e) ≡ 0
+    = ap (further_mixed s t (or_at f (place_of old e))) none in
+    omega arith
+
+-- where there is one, which may be the earlier one
+pub later_place : (s : Session) (t : Placing) (e : ℕ) (edited : List ℕ) (old new : Placing) (at : Place) (b : Bool)
+    → place_of new e ≡ Some at → b ≡ is_at at.period at.room (place_of old e)
+    → mixed_where s t (is_touched edited old new) + (further_mixed s t (is_touched edited old new) (place_of old e)
+    + cond b 0 (further_mixed s t (is_touched edited old new) (Some at)))
+    ≡ mixed_where s t (is_touched (e ∷ edited) old new)
+later_place s t e edited old new at b is here =
+    let f = is_touched edited old new in
+    let both = both_places s t e edited old new in
+    let later : further_mixed s t (or_at f (place_of old e)) (place_of new e) ≡ cond b 0 (further_mixed s t f (Some at))
+    = ap (further_mixed s t (or_at f (place_of old e))) is ∙ beside s t f (place_of old e) at b here in
+    omega arith
