@@ -18,6 +18,8 @@ pub mod SectionLaws
 pub mod SolutionLaws
 pub mod InstanceLaws
 pub mod NameLaws
+mod WeightLemmas
+pub mod WeightLaws
 pub mod ReaderLaws
 pub mod LimitLaws
 mod FaultLemmas

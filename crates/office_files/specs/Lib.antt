@@ -12,6 +12,7 @@ pub mod ExamLines
 pub mod Names
 pub mod Sections
 pub mod InstanceText
+pub mod SaidWeights
 pub mod SolutionText
 pub mod FirstFault
 pub mod CanonicalText

@@ -11,6 +11,7 @@ ghost use Rattle.office_files.specs.Fields.{fields_of, rest};
 ghost use Rattle.office_files.specs.FirstFault.{fault_of, first_fault, first_solution_fault};
 ghost use Rattle.office_files.specs.InstanceText.{InstanceText, instance_in};
 ghost use Rattle.office_files.specs.Lines.{Located, lines_of};
+ghost use Rattle.office_files.specs.SaidWeights.{Weighs, last_section};
 ghost use Rattle.office_files.specs.SolutionText.{SolutionText, solution_in};
 
 /// A text spells at most one instance, with one set of enrolments.
@@ -25,6 +26,13 @@ pub fn sits_as_named()
     ensures { (b : List ℕ) (I : Session) (E : Enrolled) (s e : ℕ) (line : Located)
         → InstanceText b I E → e < length I.exams → slice_get (lines_of b) (e + 1) ≡ Some line
         → has E s e ≡ name_student (rest (fields_of line.text)) s }
+{}
+
+/// Each weight of what a text spells is the number on the line of its word, and zero where the
+/// section has no such line; no word has two. The section is the lines behind the last header.
+pub fn weighs_as_said()
+    ensures { (b : List ℕ) (I : Session) (E : Enrolled) → InstanceText b I E
+        → Weighs (last_section (lines_of b)) I.weights }
 {}
 
 /// What a text spells is in its limits: an instance, and enrolments of its exams.

@@ -1,0 +1,195 @@
+-- What one line of the weightings says: its word, and the numbers behind it.
+use Rattle.std.proofs.Common.{◌≡◌, ℕ, Bool, true, false, List, [], ◌∷◌, ◌++◌, Result, Ok, Err, refl, ap, sym, subst, ◌∙◌}
+use Rattle.std.specs.Prelude.{not, codes, if◌then◌else◌}
+use Rattle.std.specs.List.{list_any}
+use Rattle.std.specs.Str.{bytes_eq, str_eq_ignore_ascii_case, str_to_ascii_lowercase}
+use Rattle.std.proofs.lemmas.Slice.Eq.{bytes_eq-Decides}
+use Rattle.exam_terms.specs.Refusing.{◌>>=◌, unless}
+use Rattle.exam_model.specs.declared.parts.Weights.{Weights}
+use Rattle.office_files.specs.Fields.{first, rest, ended}
+use Rattle.office_files.specs.Numbers.{number}
+use Rattle.office_files.specs.SaidWeights.{field_behind}
+use Rattle.office_files.specs.Weightings.{weight_word, has_word, amount_in, front_in, weighting_by, weighting_line, with_weighting, with_weightings}
+use Rattle.office_files.specs.declared.counts.Counts.{Counts}
+use Rattle.office_files.specs.declared.fault.FaultKind.{FaultKind}
+use Rattle.office_files.specs.declared.fault.FaultKind.TheVariants.{BadWord, Repeated}
+use Rattle.office_files.specs.declared.weightings.Weighting.{Weighting}
+use Rattle.office_files.specs.declared.weightings.Weighting.TheVariants as said
+use Rattle.office_files.specs.declared.weightings.WeightWord.{WeightWord}
+use Rattle.office_files.specs.declared.weightings.WeightWord.TheVariants as word
+use Rattle.office_files.proofs.ReadingLaws.{bind_ok, ok_same, unless_ok}
+use Rattle.exam_terms.specs.declared.limits.TheConstants.{MAX_AMOUNT}
+
+-- ---- words
+
+-- a word as it is written
+abbrev pub text_of : WeightWord → List ℕ
+text_of word.Row = codes "TWOINAROW"
+text_of word.Day = codes "TWOINADAY"
+text_of word.Spread = codes "PERIODSPREAD"
+text_of word.Mixed = codes "NONMIXEDDURATIONS"
+text_of word.Front = codes "FRONTLOAD"
+
+-- whether a text is a word, in large or small letters
+abbrev is_word : WeightWord → List ℕ → Bool
+is_word w text = str_eq_ignore_ascii_case text (text_of w)
+
+-- a text that is one word is no other
+no_other : (w v : WeightWord) (text : List ℕ) → is_word w text ≡ true
+    → is_word v (text_of w) ≡ false → is_word v text ≡ false
+no_other w v text is differ =
+    let lower = str_to_ascii_lowercase in
+    let same = (bytes_eq-Decides (lower text) (lower (text_of w))).0 is in
+    ap (λ t. bytes_eq t (lower (text_of v))) same ∙ differ
+
+-- a text that is a word is read as it
+pub word_read : (w : WeightWord) (text : List ℕ) → is_word w text ≡ true → weight_word text ≡ Ok w
+word_read word.Row text is = rw is refl
+word_read word.Day text is = rw (no_other word.Day word.Row text is refl, is) refl
+word_read word.Spread text is =
+    rw (
+      no_other word.Spread word.Row text is refl,
+      no_other word.Spread word.Day text is refl,
+      is,
+    ) refl
+word_read word.Mixed text is =
+    rw (
+      no_other word.Mixed word.Row text is refl,
+      no_other word.Mixed word.Day text is refl,
+      no_other word.Mixed word.Spread text is refl,
+      is,
+    ) refl
+word_read word.Front text is =
+    rw (
+      no_other word.Front word.Row text is refl,
+      no_other word.Front word.Day text is refl,
+      no_other word.Front word.Spread text is refl,
+      no_other word.Front word.Mixed text is refl,
+      is,
+    ) refl
+
+-- one of five tests, that of the word
+abbrev test_of : WeightWord → Bool → Bool → Bool → Bool → Bool → Bool
+test_of word.Row a b c d e = a
+test_of word.Day a b c d e = b
+test_of word.Spread a b c d e = c
+test_of word.Mixed a b c d e = d
+test_of word.Front a b c d e = e
+
+test_held : (a b c d e : Bool) (w : WeightWord) →
+    ◌≡◌ {A = Result WeightWord FaultKind}
+    (if a then Ok word.Row else (if b then Ok word.Day else (if c then Ok word.Spread
+    else (if d then Ok word.Mixed else (if e then Ok word.Front else Err BadWord))))) (Ok w) →
+    test_of w a b c d e ≡ true
+test_held true b c d e word.Row is = refl
+test_held false true c d e word.Day is = refl
+test_held false false true d e word.Spread is = refl
+test_held false false false true e word.Mixed is = refl
+test_held false false false false true word.Front is = refl
+test_held _ _ _ _ _ _ is = cc
+
+tested : (w : WeightWord) (text : List ℕ) → test_of w (is_word word.Row text)
+    (is_word word.Day text) (is_word word.Spread text) (is_word word.Mixed text)
+    (is_word word.Front text) ≡ is_word w text
+tested word.Row text = refl
+tested word.Day text = refl
+tested word.Spread text = refl
+tested word.Mixed text = refl
+tested word.Front text = refl
+
+-- a text that is read as a word is that word
+pub read_word : (w : WeightWord) (text : List ℕ) → weight_word text ≡ Ok w → is_word w text ≡ true
+read_word w text is =
+    sym (tested w text)
+    ∙ test_held (is_word word.Row text) (is_word word.Day text) (is_word word.Spread text)
+    (is_word word.Mixed text) (is_word word.Front text) w is
+
+-- ---- what one line says
+
+-- the word of what a line says
+abbrev pub word_of : Weighting → WeightWord
+word_of (said.Row n) = word.Row
+word_of (said.Day n) = word.Day
+word_of (said.Spread n) = word.Spread
+word_of (said.Mixed n) = word.Mixed
+word_of (said.Front n k v) = word.Front
+
+pub has_its_word : (s : Weighting) → has_word (word_of s) s ≡ true
+has_its_word (said.Row n) = refl
+has_its_word (said.Day n) = refl
+has_its_word (said.Spread n) = refl
+has_its_word (said.Mixed n) = refl
+has_its_word (said.Front n k v) = refl
+
+pub its_word : (w : WeightWord) (s : Weighting) → has_word w s ≡ true → word_of s ≡ w
+its_word word.Row (said.Row n) has = refl
+its_word word.Day (said.Day n) has = refl
+its_word word.Spread (said.Spread n) has = refl
+its_word word.Mixed (said.Mixed n) has = refl
+its_word word.Front (said.Front n k v) has = refl
+its_word _ _ has = cc
+
+amount_read : (fields : List (List ℕ)) (n : ℕ) → amount_in fields ≡ Ok n
+    → number MAX_AMOUNT (first fields) ≡ Ok n
+amount_read fields n is =
+    let amount = bind_ok (number MAX_AMOUNT (first fields)) _ n is in
+    let end = bind_ok (ended (rest fields)) _ n amount.2 in
+    amount.1 ∙ end.2
+
+-- one number, said by a word
+pub one_read : (make : ℕ → Weighting) (fields : List (List ℕ)) (s : Weighting)
+    → (amount_in fields >>= λ n. Ok (make n)) ≡ Ok s
+    → (n : ℕ) × (number MAX_AMOUNT (first fields) ≡ Ok n) × (make n ≡ s)
+one_read make fields s is =
+    let amount = bind_ok (amount_in fields) _ s is in
+    (amount.0, amount_read fields amount.0 amount.1, ok_same _ _ s refl amount.2)
+
+-- the three numbers of the front load
+pub front_read : (fields : List (List ℕ)) (s : Weighting) → front_in fields ≡ Ok s
+    → (n : ℕ) × (k : ℕ) × (v : ℕ) × (number MAX_AMOUNT (field_behind 0 fields) ≡ Ok n)
+    × (number MAX_AMOUNT (field_behind 1 fields) ≡ Ok k)
+    × (number MAX_AMOUNT (field_behind 2 fields) ≡ Ok v) × (said.Front n k v ≡ s)
+front_read fields s is =
+    let exams = bind_ok (number MAX_AMOUNT (first fields)) _ s is in
+    let periods = bind_ok (number MAX_AMOUNT (first (rest fields))) _ s exams.2 in
+    let weight = bind_ok (number MAX_AMOUNT (first (rest (rest fields)))) _ s periods.2 in
+    let end = bind_ok (ended (rest (rest (rest fields)))) _ s weight.2 in
+    (exams.0, periods.0, weight.0, exams.1, periods.1, weight.1, ok_same _ _ s refl end.2)
+
+-- what is read by a word has that word
+by_word : (w : WeightWord) (fields : List (List ℕ)) (s : Weighting) → weighting_by w fields ≡ Ok s
+    → w ≡ word_of s
+by_word word.Row fields s is = ap word_of (one_read said.Row fields s is).2
+by_word word.Day fields s is = ap word_of (one_read said.Day fields s is).2
+by_word word.Spread fields s is = ap word_of (one_read said.Spread fields s is).2
+by_word word.Mixed fields s is = ap word_of (one_read said.Mixed fields s is).2
+by_word word.Front fields s is = ap word_of (front_read fields s is).6
+
+-- a line that was read: its word, which no line before it has, and its numbers
+pub record WasRead (before : List Weighting) (fields : List (List ℕ)) (s : Weighting) : Type 0 where
+  pub word : weight_word (first fields) ≡ Ok (word_of s)
+  pub new : list_any (has_word (word_of s)) before ≡ false
+  pub by : weighting_by (word_of s) (rest fields) ≡ Ok s
+
+not_so : (b : Bool) → not b ≡ true → b ≡ false
+not_so true is = cc
+not_so false is = refl
+
+pub was_read : (counts : Counts) (before : List Weighting) (fields : List (List ℕ)) (s : Weighting)
+    → weighting_line counts before fields ≡ Ok s → WasRead before fields s
+was_read counts before fields s is =
+    let w = bind_ok (weight_word (first fields)) _ s is in
+    let new = bind_ok (unless (not (list_any (has_word w.0) before)) Repeated) _ s w.2 in
+    let same = by_word w.0 (rest fields) s new.2 in
+    record {
+      word = w.1 ∙ ap Ok same;
+      new = subst (λ v. list_any (has_word v) before ≡ false) same
+          (not_so _ (unless_ok _ Repeated new.0 new.1));
+      by = subst (λ v. weighting_by v (rest fields) ≡ Ok s) same new.2;
+    }
+
+-- what one more line says comes on top
+pub one_more : (w : Weights) (ss : List Weighting) (s : Weighting)
+    → with_weightings w (ss ++ s ∷ []) ≡ with_weighting (with_weightings w ss) s
+one_more w [] s = refl
+one_more w (x ∷ ss) s = one_more (with_weighting w x) ss s

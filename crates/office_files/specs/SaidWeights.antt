@@ -1,0 +1,51 @@
+-- Which weights the last section of a text says (ITC 2007, institutional weightings).
+use Rattle.std.specs.Prelude.{◌≡◌, ℕ, zero, suc, Bool, true, false, if◌then◌else◌}
+use Rattle.std.specs.Prelude.{List, [], ◌∷◌, codes, All, AllPairs, Result, Ok}
+use Rattle.std.specs.List.{list_any}
+use Rattle.std.specs.Str.{str_eq_ignore_ascii_case}
+use Rattle.exam_terms.specs.declared.limits.TheConstants.{MAX_AMOUNT}
+use Rattle.exam_model.specs.declared.parts.Weights.{Weights}
+use Rattle.office_files.specs.Fields.{fields_of, first, rest}
+use Rattle.office_files.specs.Lines.{Located, is_header}
+use Rattle.office_files.specs.Numbers.{number}
+use Rattle.office_files.specs.declared.fault.FaultKind.{FaultKind}
+
+-- the lines behind the last header among these; all of them, where none is a header
+abbrev pub last_section : List Located → List Located
+last_section [] = []
+last_section (line ∷ lines) =
+    if list_any (λ other. is_header other.text) lines then last_section lines
+    else (if is_header line.text then lines else line ∷ lines)
+
+-- the field behind so many others; a missing field is judged as an empty one
+abbrev pub field_behind : ℕ → List (List ℕ) → List ℕ
+field_behind zero fields = first fields
+field_behind (suc n) fields = field_behind n (rest fields)
+
+-- whether the first field of a line is this word, in large or small letters
+abbrev pub begins_with : List ℕ → Located → Bool
+begins_with word line = str_eq_ignore_ascii_case (first (fields_of line.text)) word
+
+-- the number in the field of a line that stands behind so many others
+abbrev pub number_behind : ℕ → Located → Result ℕ FaultKind
+number_behind before line = number MAX_AMOUNT (field_behind before (fields_of line.text))
+
+-- what a section says by a word: at most one line begins with it, and has this number behind so
+-- many fields; where none begins with it, the number is zero
+pub record Says (section : List Located) (word : List ℕ) (before amount : ℕ) : Type 0 where
+  pub once : AllPairs (λ line other. begins_with word line ≡ true
+      → begins_with word other ≡ false) section
+  pub said : All (λ line. begins_with word line ≡ true
+      → number_behind before line ≡ Ok amount) section
+  pub unsaid : All (λ line. begins_with word line ≡ false) section → amount ≡ 0
+
+-- each weight is the number that the section says behind its word; the word of the front load is
+-- followed by how many exams are large, how many periods are late, and their weight
+pub record Weighs (section : List Located) (w : Weights) : Type 0 where
+  pub row : Says section (codes "TWOINAROW") 1 w.row
+  pub day : Says section (codes "TWOINADAY") 1 w.day
+  pub spread : Says section (codes "PERIODSPREAD") 1 w.spread
+  pub mixed : Says section (codes "NONMIXEDDURATIONS") 1 w.mixed
+  pub front_exams : Says section (codes "FRONTLOAD") 1 w.front_exams
+  pub front_periods : Says section (codes "FRONTLOAD") 2 w.front_periods
+  pub front : Says section (codes "FRONTLOAD") 3 w.front
