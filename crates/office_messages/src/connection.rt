@@ -69,7 +69,7 @@ pub trait Machine {
     // From the one state it may give this reply to the request, and go on to the other.
     ghost Answers: { Self → PlainRequest → PlainReply → Self → Type 0 };
 
-    /// Answers a request. Want of memory is a reply too.
+    /// Answers a request. Out of memory is a reply too.
     fn answer(&mut self, alloc: Global, request: &Request<'_>) -> Reply
         ensures { Answers self.old (plain_request request.now) (plain_reply result) self.new };
 }
