@@ -14,7 +14,7 @@ use crate::faults::{ProgramFault, fault_of_open, fault_of_run};
 use crate::telling::{LongWork, TellingMachine, tell};
 use crate::words::Terms;
 use office_connections::{Plan, listen, serve_run};
-use office_http::{Alter, AnsweringDesk, Connection, Desk, Office, Routes};
+use office_http::{Alter, AnsweringDesk, Connection, Desk, Office, Routes, told_by_view};
 use office_messages::Machine;
 use std::io::Write;
 use std::time::Duration;
@@ -93,6 +93,7 @@ pub fn serve_desk<'a, S: Alter, O: Write, E: Write>(
     let Ok(routes) = Routes::new(rt.alloc()) else {
         return Err(ProgramFault::NoMemory);
     };
+    told_by_view(); // the law of what a candidate is replied
     let mut machine = AnsweringDesk {
         desk,
         routes: &routes,

@@ -11,7 +11,7 @@ returns-in_default-clause-reached g c = stays_put g.S.Store c.args.desk.now
 
 pub returns-clause-reached : goal.returns-clause-reached
 returns-clause-reached g c =
-    desk_leads g.S.Store _ _
+    desk_leads g.S.Store c.told_by_view.ensures.told _ _
     (lent_reaches (λ m. m.desk.ghost_name) (λ m. m.desk.now) (Answered g.S.Store) _ _ _
     c.desk-1.given.1 c.serve_and_tell.ensures.reached)
 
