@@ -223,6 +223,12 @@ SECOND_ASKS = ((asked_by(2), SECOND_PAGE), *SECOND_EXAMS, (asked_by(2, "/penalty
                (message("GET", "/publication", caller="cand:2"), forbidden("P1")))
 
 
+def moved_shown(places, parts, rooms, third):
+    """What is shown of a publication in which exam 3 has moved, to whoever sees it."""
+    return ((SHOWN[0], text(places)), (SHOWN[1], text(parts)), (SHOWN[2], text(rooms)),
+            (asked_by(1), me(1, 1, *FIRST_MOVED)), (asked_by(2), SECOND_PAGE), (asked_by(3), third))
+
+
 def case(name, start, *exchanges):
     return Case(name, start, [asked for asked, _ in exchanges], [came for _, came in exchanges])
 
@@ -455,20 +461,10 @@ CASES = [
          (publish(), published(1, 44)),
          (move(2, 0, 1), drafted(200, 36)),
          (publish(), published(1, 36)),
-         (SHOWN[0], text(OUT_TEXT)),
-         (SHOWN[1], text(report(14, 0, 3, 0, 0, 5, 14, 36))),
-         (SHOWN[2], text(OUT_ROOMS)),
-         (asked_by(1), me(1, 1, *FIRST_MOVED)),
-         (asked_by(2), SECOND_PAGE),
-         (asked_by(3), me(3, 8, *THIRD_MOVED)),
+         *moved_shown(OUT_TEXT, report(14, 0, 3, 0, 0, 5, 14, 36), OUT_ROOMS, me(3, 8, *THIRD_MOVED)),
          (move(2, 3, 1), drafted(200, 44)),
          (publish(), published(1, 44)),
-         (SHOWN[0], text(MOVED_TEXT)),
-         (SHOWN[1], text(report(7, 0, 3, 10, 0, 10, 14, 44))),
-         (SHOWN[2], text(MOVED_ROOMS)),
-         (asked_by(1), me(1, 1, *FIRST_MOVED)),
-         (asked_by(2), SECOND_PAGE),
-         (asked_by(3), me(3, 1, *THIRD))),
+         *moved_shown(MOVED_TEXT, report(7, 0, 3, 10, 0, 10, 14, 44), MOVED_ROOMS, me(3, 1, *THIRD))),
     case("two_offices_one_view, with a draft, an owner and a batch", SMALL,
          *PUBLISHED,
          (message("PUT", "/drafts/2"), reply(201, '{"draft":2,"penalty":0}')),
