@@ -10,8 +10,8 @@ proved from its own body and from the contracts of what it calls, so edits of di
 tried together, in one check: an edit is refused where a goal of the function that it is in stays
 open. That this one calls another that is not proved counts for nothing. What is not refused so is
 tried alone, and refused where a goal of any function stays open, that of a caller, say; the rest is
-left to `rt must-fail`. Crates are tried side by side. Where all of a crate are refused,
-wrong-bodies/TRIED gets the hash of all that was tried."""
+left to `rt must-fail`. All checks of a crate, and crates, run side by side. Where all of a crate
+are refused, wrong-bodies/TRIED gets the hash of all that was tried."""
 import hashlib
 import os
 import re
@@ -21,7 +21,9 @@ import sys
 import tempfile
 import time
 from concurrent.futures import ThreadPoolExecutor
+from contextlib import contextmanager
 from pathlib import Path
+from queue import Empty, SimpleQueue
 
 ROOT = Path(__file__).resolve().parent.parent
 SOURCES = ("src", "specs", "proofs")
@@ -45,7 +47,7 @@ def main(words):
     if unknown:
         print(f"wrong bodies: no crate has any under the name {' '.join(unknown)}", file=sys.stderr)
         return 1
-    return try_all(words[1:] or crates, is_whole=not words[1:])
+    return try_all(words[1:] or crates)
 
 
 def crates_with_edits():
@@ -61,39 +63,83 @@ def say_current(crates):
     return 0
 
 
-def try_all(names, is_whole):
+def try_all(names):
     begun = time.monotonic()
-    if not is_proved(names, is_whole):
-        print(f"wrong bodies: 0 refused, {sum(len(edits_of(name)) for name in names)} not refused")
-        return 1
-    names = sorted(names, key=lambda name: -len(edits_of(name)) * size_of(name))
-    with ThreadPoolExecutor(lanes()) as pool:
-        refused = sum(pool.map(try_in_copy, names))
     wanted = sum(len(edits_of(name)) for name in names)
+    if not are_proved(names):
+        print(f"wrong bodies: 0 refused, {wanted} not refused")
+        return 1
+    print(f"wrong bodies: their crates proved, {(time.monotonic() - begun) / 60:.1f} minutes", flush=True)
+    names = sorted(names, key=lambda name: -len(edits_of(name)) * size_of(name))
+    # the crates' threads only wait for their checks
+    with ThreadPoolExecutor(lanes()) as checks, ThreadPoolExecutor(len(names)) as crates:
+        refused = sum(crates.map(lambda name: try_crate(name, checks), names))
     print(f"wrong bodies: {(time.monotonic() - begun) / 60:.1f} minutes")
     print(f"{refused} refused, {wanted - refused} not refused")
     return int(refused < wanted)
 
 
-def is_proved(names, is_whole):
+def are_proved(names):
     """Whether the crates are proved as they are: else an edit's refusal would say nothing."""
-    if is_whole:
-        ran = [run(["rt", "all", "check", "--jobs", str(lanes())], ROOT)]
-    else:
-        ran = [run(["rt", "check"], ROOT / "crates" / name) for name in names]
+    ran = [run(["rt", "check"], ROOT / "crates" / name) for name in upwards(names)]
     failed = [it for it in ran if it.returncode]
     print("".join(it.stdout for it in failed), end="")
     return not failed
 
 
-def try_in_copy(name):
-    """Tries the crate's wrong bodies in a copy of its own: what is edited there is no other's library."""
-    with tempfile.TemporaryDirectory(prefix="wrong-bodies-") as copy:
-        copy_to(Path(copy))
-        crate = Path(copy) / "crates" / name
-        shutil.copytree(ROOT / "crates" / name / KEPT, crate / KEPT)
-        (crate / "must-fail").mkdir()
-        return try_crate(Path(copy), name)
+def upwards(names):
+    """The crates as crates.txt has them, each below those that stand on it."""
+    stand = [line.split(":")[0].strip() for line in (ROOT / "crates.txt").read_text().splitlines()]
+    return sorted(names, key=stand.index)
+
+
+def try_crate(name, checks):
+    """Tries the crate's wrong bodies, and gives how many of them were refused."""
+    before, begun = hash_of(name), time.monotonic()
+    edits = [Edit(name, at) for at in edits_of(name)]
+    with Copies(name) as copies:
+        def refused_of(batches):
+            return sum(checks.map(lambda batch: try_together(copies, batch), batches), [])
+
+        refused = refused_of(batches(edits))
+        alone = [edit for edit in edits if edit not in refused]
+        refused_alone = refused_of([edit] for edit in alone)
+        left = [edit for edit in alone if edit not in refused_alone]
+        said = checks.submit(must_fail, copies, left).result() if left else ""
+    count = len(edits) - len(left) + len(re.findall(rf"must-fail {name}/\S+: refused, as it must be", said))
+    print(f"{said}wrong bodies: {name}: {count} of {len(edits)} refused, {len(alone)} of them alone, "
+          f"{time.monotonic() - begun:.0f} s", flush=True)
+    if count == len(edits) and before == hash_of(name):
+        mark(name).write_text(before + "\n")
+    return count
+
+
+class Copies:
+    """Copies of the repository in which a crate's edits are made, one for each check that runs at
+    once: what is edited there is no other's library."""
+
+    def __init__(self, name):
+        self.name, self.free = name, SimpleQueue()
+
+    def __enter__(self):
+        self.folder = tempfile.TemporaryDirectory(prefix="wrong-bodies-")
+        return self
+
+    def __exit__(self, *_):
+        self.folder.cleanup()
+
+    @contextmanager
+    def one(self):
+        try:
+            copy = self.free.get_nowait()
+        except Empty:
+            copy = Path(tempfile.mkdtemp(dir=self.folder.name))
+            copy_to(copy)
+            crate = copy / "crates" / self.name
+            shutil.copytree(ROOT / "crates" / self.name / KEPT, crate / KEPT)
+            (crate / "must-fail").mkdir()
+        yield copy
+        self.free.put(copy)
 
 
 def copy_to(copy):
@@ -112,22 +158,6 @@ def link_or_copy(file, to):
         os.link(file, to)
     except OSError:
         shutil.copy2(file, to)
-
-
-def try_crate(copy, name):
-    """Tries the crate's wrong bodies, and gives how many of them were refused."""
-    before, begun = hash_of(name), time.monotonic()
-    edits = [Edit(name, at) for at in edits_of(name)]
-    refused = sum((try_together(copy, name, batch) for batch in batches(edits)), [])
-    alone = [edit for edit in edits if edit not in refused]
-    left = [edit for edit in alone if not try_together(copy, name, [edit])]
-    said = must_fail(copy, name, left) if left else ""
-    count = len(edits) - len(left) + len(re.findall(rf"must-fail {name}/\S+: refused, as it must be", said))
-    print(f"{said}wrong bodies: {name}: {count} of {len(edits)} refused, {len(alone)} of them alone, "
-          f"{time.monotonic() - begun:.0f} s", flush=True)
-    if count == len(edits) and before == hash_of(name):
-        mark(name).write_text(before + "\n")
-    return count
 
 
 class Edit:
@@ -197,16 +227,18 @@ def batches(edits):
     return [batch for batch in made if len(batch) > 1]
 
 
-def try_together(copy, name, edits):
+def try_together(copies, edits):
     """Those of the edits whose functions have open goals when all of them are made; of one alone,
     any function may have one."""
-    crate = copy / "crates" / name
-    for edit in edits:
-        edit.put_into(crate)
-    said = run(["rt", "check", "--jobs", "1"], crate).stdout
-    for part in SOURCES:
-        if (crate / part).is_dir():
-            shutil.copytree(ROOT / "crates" / name / part, crate / part, dirs_exist_ok=True)
+    name = copies.name
+    with copies.one() as copy:
+        crate = copy / "crates" / name
+        for edit in edits:
+            edit.put_into(crate)
+        said = run(["rt", "check", "--jobs", "1"], crate).stdout
+        for part in SOURCES:
+            if (crate / part).is_dir():
+                shutil.copytree(ROOT / "crates" / name / part, crate / part, dirs_exist_ok=True)
     failing = OPEN.findall(said) if "logic=not-proved" in said else []
     at = {edit: [path for path in failing if len(edits) == 1 or edit.is_of(name, path)] for edit in edits}
     for edit in edits:
@@ -215,10 +247,11 @@ def try_together(copy, name, edits):
     return [edit for edit in edits if at[edit]]
 
 
-def must_fail(copy, name, edits):
-    for edit in edits:
-        shutil.copy(edit.at, copy / "crates" / name / "must-fail")
-    return run(["rt", "must-fail", name], copy).stdout
+def must_fail(copies, edits):
+    with copies.one() as copy:
+        for edit in edits:
+            shutil.copy(edit.at, copy / "crates" / copies.name / "must-fail")
+        return run(["rt", "must-fail", copies.name], copy).stdout
 
 
 def run(words, at):
