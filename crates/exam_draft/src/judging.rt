@@ -12,8 +12,8 @@ use exam_rules::first_breach_of;
 use std::alloc::Global;
 
 /// The edited timetable, or why the edit is refused. The timetable's places are gone over, and of
-/// the enrolments those in the edited exams, in exams that stand in their periods, and in exams that
-/// a coincidence line names beside them.
+/// the enrolments those in the edited exams, in exams that stand in their periods, and in exams
+/// that a coincidence line names beside them.
 pub fn judge(
     alloc: Global,
     instance: &Instance,

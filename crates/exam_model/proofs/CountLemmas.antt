@@ -2,7 +2,8 @@
 use Rattle.std.proofs.Common.{◌≡◌, ◌∙◌, ℕ, ◌+◌, ◌-◌, ◌<◌, ◌≤◌, Bool, true, false, List, [], length, set, refl, sym, ap, subst, arith, slice_index_or, Fits, w32, Result, Ok, Err, OnErr}
 use Rattle.std.specs.Prelude.{not}
 use Rattle.std.proofs.lemmas.List.{get_or_read, set-get_or}
-use Rattle.exam_model.specs.Enrolments.{Enrolled, AreEnrolments, AreNumbers, IsAscending, Enters, Leaves, Adds, Removes, students, has, has_student, pair_count}
+use Rattle.exam_model.specs.Enrolments.{Enrolled, AreEnrolments, AreNumbers, IsAscending, Adds, Removes, students, has, has_number, pair_count}
+use Rattle.exam_model.specs.StudentLists.{Enters, Leaves}
 use Rattle.exam_model.specs.Changes.{with_pair, without_pair}
 use Rattle.exam_model.proofs.StudentLemmas.{entered, left}
 use Rattle.exam_model.proofs.EnrolmentLemmas.{adds_set, enrolments_set, removes_set, enrolments_left}
@@ -41,13 +42,13 @@ old_present new false is no' = absurd (cc)
 
 -- a student is in the exam's list where the pair is in the set
 pub is_has : (E : Enrolled) (e s : ℕ) (roll : List ℕ) → e < length E
-    → roll ≡ slice_index_or E e roll → has_student roll s ≡ has E s e
+    → roll ≡ slice_index_or E e roll → has_number roll s ≡ has E s e
 is_has E e s roll lt is =
-    ap (λ (r : List ℕ). has_student r s) (get_or_read E e roll lt is [])
+    ap (λ (r : List ℕ). has_number r s) (get_or_read E e roll lt is [])
 
 -- a new pair is refused where no more may come
 pub full_refuses : (E : Enrolled) (e s p : ℕ) (roll : List ℕ) → e < length E
-    → roll ≡ slice_index_or E e roll → false ≡ has_student roll s → 200000 ≤ p → IsCounted E p
+    → roll ≡ slice_index_or E e roll → false ≡ has_number roll s → 200000 ≤ p → IsCounted E p
     → (e < length E) × (has E s e ≡ false) × (pair_count E ≡ 200000)
 full_refuses E e s p roll lt is absent full was =
     let count : p ≡ pair_count E = was.1 in
@@ -69,7 +70,7 @@ pair_entered E e s p roll new lt is enters was =
 
 -- and the count goes up for one who is new, and stays for one who isn't
 pub counted_new : (E : Enrolled) (e s p : ℕ) (roll new : List ℕ) → e < length E
-    → s ≤ 999999999 → roll ≡ slice_index_or E e roll → Enters roll new s → has_student roll s ≡ false
+    → s ≤ 999999999 → roll ≡ slice_index_or E e roll → Enters roll new s → has_number roll s ≡ false
     → p < 200000 → IsCounted E p → IsCounted (set E e new) (p + 1)
 counted_new E e s p roll new lt known is enters absent room was =
     let here = subst (λ (r : List ℕ). Enters r new s) (get_or_read E e roll lt is []) enters in
@@ -79,7 +80,7 @@ counted_new E e s p roll new lt known is enters absent room was =
     (enrolments_set E e s new lt known here (λ x. omega arith) was.0, omega arith)
 
 pub counted_old : (E : Enrolled) (e s p : ℕ) (roll new : List ℕ) → e < length E
-    → s ≤ 999999999 → roll ≡ slice_index_or E e roll → Enters roll new s → has_student roll s ≡ true
+    → s ≤ 999999999 → roll ≡ slice_index_or E e roll → Enters roll new s → has_number roll s ≡ true
     → IsCounted E p → IsCounted (set E e new) p
 counted_old E e s p roll new lt known is enters present was =
     let here = subst (λ (r : List ℕ). Enters r new s) (get_or_read E e roll lt is []) enters in
@@ -110,14 +111,14 @@ kept_left E e s roll new lt is leaves was =
 
 -- so many pairs were there where one is taken out
 pub count_less : (E : Enrolled) (e s p : ℕ) (roll new : List ℕ) → e < length E
-    → roll ≡ slice_index_or E e roll → Leaves roll new s → has_student roll s ≡ true
+    → roll ≡ slice_index_or E e roll → Leaves roll new s → has_number roll s ≡ true
     → p ≡ pair_count E → p ≡ pair_count (set E e new) + 1
 count_less E e s p roll new lt is leaves present was =
     let there = sym (is_has E e s roll lt is) ∙ present in
     was ∙ rw there at ((removes_left E e s roll new lt is leaves).pairs)
 
 pub count_same : (E : Enrolled) (e s p : ℕ) (roll new : List ℕ) → e < length E
-    → roll ≡ slice_index_or E e roll → Leaves roll new s → has_student roll s ≡ false
+    → roll ≡ slice_index_or E e roll → Leaves roll new s → has_number roll s ≡ false
     → p ≡ pair_count E → p ≡ pair_count (set E e new)
 count_same E e s p roll new lt is leaves absent was =
     let none = sym (is_has E e s roll lt is) ∙ absent in

@@ -7,7 +7,8 @@ use Rattle.std.proofs.lemmas.List.{length-set}
 use Rattle.std.proofs.lemmas.List.Folds.{sum_by-replicate}
 use Rattle.std.proofs.lemmas.List.Sums.{sum_by-set, get_or-le-sum_by}
 use Rattle.std.proofs.Common.{get_or-set_other, get_or-set_same}
-use Rattle.exam_model.specs.Enrolments.{Enrolled, AreEnrolments, AreNumbers, has_student, Enters, Leaves, Adds, Removes, students, has, size_of, pair_count, no_pairs}
+use Rattle.exam_model.specs.Enrolments.{Enrolled, AreEnrolments, AreNumbers, has_number, Adds, Removes, students, has, size_of, pair_count, no_pairs}
+use Rattle.exam_model.specs.StudentLists.{Enters, Leaves}
 
 -- no exam has more students than there are pairs
 pub size-le : (E : Enrolled) (e : ℕ) → e < length E → size_of E e ≤ pair_count E
@@ -84,7 +85,7 @@ numbers_entered : (old new : List ℕ) (s : ℕ) → s ≤ 999999999 → Enters 
 numbers_entered old new s known enters was t is =
     elim (cases_eq s t) [
       | inl same ↦ subst (λ (x : ℕ). x ≤ 999999999) same known
-      | inr other ↦ was t (subst (λ b. (b || has_student old t) ≡ true) (ne_eqb s t other)
+      | inr other ↦ was t (subst (λ b. (b || has_number old t) ≡ true) (ne_eqb s t other)
           (sym (enters.members t) ∙ is))
     ]
 
@@ -93,7 +94,7 @@ and_right true b is = is
 and_right false b is = absurd (cc)
 
 numbers_left : (old new : List ℕ) (s : ℕ) → Leaves old new s → AreNumbers old → AreNumbers new
-numbers_left old new s leaves was t is = was t (and_right (not (eqb s t)) (has_student old t) (sym (leaves.members t) ∙ is))
+numbers_left old new s leaves was t is = was t (and_right (not (eqb s t)) (has_number old t) (sym (leaves.members t) ∙ is))
 
 -- and keeps what every value of the type keeps, where there is room for a new pair
 pub enrolments_set : (E : Enrolled) (e s : ℕ) (new : List ℕ) → e < length E → s ≤ 999999999

@@ -2,6 +2,7 @@ mod CountLemmas
 mod EnrolLemmas
 mod EnrolmentLemmas
 pub mod PairLemmas
+pub mod PlaceLemmas
 mod RollLemmas
 pub mod SameSet
 pub mod DayLemmas

@@ -8,7 +8,7 @@ use Rattle.std.proofs.lemmas.List.Elements.{All-nil, All-append, All-map, All-we
 use Rattle.std.proofs.lemmas.List.Folds.{fold-map, fold_stays, list_any-append}
 use Rattle.std.proofs.lemmas.List.Kept.{AllPairs-cons}
 use Rattle.std.proofs.lemmas.List.Sums.{sum_by-cons, sum_by-append}
-use Rattle.exam_model.specs.Enrolments.{Enrolled, AreEnrolments, IsAscending, has_student, students, has, size_of, pair_count}
+use Rattle.exam_model.specs.Enrolments.{Enrolled, AreEnrolments, IsAscending, has_number, students, has, size_of, pair_count}
 use Rattle.exam_model.specs.Pairs.{Pair, pairs_at, pairs_from, pairs_of, is_pair, ComesBefore, AreInOrder, ArePairsOf}
 use Rattle.exam_model.proofs.EnrolmentLemmas.{and-true, and-false}
 use Rattle.exam_model.proofs.SameSet.{tail_ascends}
@@ -36,13 +36,13 @@ any_and p false (x ∷ xs) = ap₂ (λ a b. a || b) (and-false (p x)) (any_and p
 
 -- a pair is among an exam's if it is of that exam and of one of its students
 any_at : (s e f : ℕ) (xs : List ℕ)
-    → list_any (is_pair s e) (pairs_at f xs) ≡ ((f == e) && has_student xs s)
+    → list_any (is_pair s e) (pairs_at f xs) ≡ ((f == e) && has_number xs s)
 any_at s e f xs = any_map (is_pair s e) (λ t. pair f t) xs ∙ any_and (λ t. t == s) (f == e) xs
 
 -- it is among the first exam's, or among those of the others
 any_first : (s e f : ℕ) (xs : List ℕ) (rest : Enrolled)
     → list_any (is_pair s e) (pairs_from f (xs ∷ rest))
-    ≡ (((f == e) && has_student xs s) || list_any (is_pair s e) (pairs_from (f + 1) rest))
+    ≡ (((f == e) && has_number xs s) || list_any (is_pair s e) (pairs_from (f + 1) rest))
 any_first s e f xs rest =
     let others : List Pair = pairs_from (f + 1) rest in
     list_any-append (is_pair s e) (pairs_at f xs) others
@@ -61,7 +61,7 @@ any_from s e f k [] here = refl
 any_from s e f zero (xs ∷ rest) here =
     any_first s e f xs rest
     ∙ rw (eq-eqb f e (omega arith), any_below s e (f + 1) rest (omega arith))
-    (or-false (has_student xs s))
+    (or-false (has_number xs s))
 any_from s e f (suc k) (xs ∷ rest) here =
     any_first s e f xs rest
     ∙ rw (ne_eqb f e (omega arith)) (any_from s e (f + 1) k rest (omega arith))

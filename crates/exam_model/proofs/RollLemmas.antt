@@ -11,7 +11,8 @@ use Rattle.std.proofs.lemmas.List.{get_or_default, take-append-drop}
 use Rattle.std.proofs.lemmas.List.Sorted.{searched}
 use Rattle.std.proofs.lemmas.List.Edits.{length-insert, get_or-insert_below, get_or-insert_at, get_or-insert_above, length-remove, get_or-remove_below, get_or-remove_above}
 use Rattle.std.proofs.lemmas.List.Folds.{list_any_at, list_any_none, list_any-append}
-use Rattle.exam_model.specs.Enrolments.{AreNumbers, IsAscending, IsAt, IsGap, Enters, Leaves, has_student}
+use Rattle.exam_model.specs.Enrolments.{AreNumbers, IsAscending, has_number}
+use Rattle.exam_model.specs.StudentLists.{IsAt, IsGap, Enters, Leaves}
 
 -- ascending numbers rise
 pub rise : (xs : List ℕ) → IsAscending xs → (i j : ℕ) → i ≤ j → j < length xs
@@ -29,10 +30,10 @@ searched_roll xs x (Err at) up is =
     let f = searched xs x (Err at) is (rise xs up) in
     record { found = tt; absent = record { within = f.0; before = f.1; after = f.2 } }
 
-pub has_at : (xs : List ℕ) (x i : ℕ) → IsAt xs x i → has_student xs x ≡ true
+pub has_at : (xs : List ℕ) (x i : ℕ) → IsAt xs x i → has_number xs x ≡ true
 has_at xs x i at = list_any_at _ xs i 0 at.within (eq-eqb _ _ at.here)
 
-pub has_gap : (xs : List ℕ) (x i : ℕ) → IsGap xs x i → has_student xs x ≡ false
+pub has_gap : (xs : List ℕ) (x i : ℕ) → IsGap xs x i → has_number xs x ≡ false
 has_gap xs x i gap = list_any_none _ xs (λ k d lt.
     rw (get_or_default xs k d 0 lt) (elim (cases_lt k i) [
       | inl below ↦ ne_eqb _ _ (omega (arith, gap.before k below))
@@ -41,7 +42,7 @@ has_gap xs x i gap = list_any_none _ xs (λ k d lt.
 
 -- a search tells whether a student is there
 pub has_searched : (xs : List ℕ) (x : ℕ) (r : Result ℕ ℕ) → IfOk r (IsAt xs x)
-    → IfErr r (IsGap xs x) → is_ok r ≡ has_student xs x
+    → IfErr r (IsGap xs x) → is_ok r ≡ has_number xs x
 has_searched xs x (Ok at) found absent = sym (has_at xs x at found)
 has_searched xs x (Err at) found absent = sym (has_gap xs x at absent)
 
@@ -80,8 +81,8 @@ or_middle true false c = refl
 or_middle false b c = refl
 
 -- an insert anywhere adds the one student
-pub has_insert : (xs : List ℕ) (x at t : ℕ) → has_student (insert xs at x) t
-    ≡ ((x == t) || has_student xs t)
+pub has_insert : (xs : List ℕ) (x at t : ℕ) → has_number (insert xs at x) t
+    ≡ ((x == t) || has_number xs t)
 has_insert xs x at t =
     let p : ℕ → Bool = λ y. y == t in
     list_any-append p (take at xs) (x ∷ drop at xs)
@@ -101,8 +102,8 @@ enters_insert xs x at gap up = record {
 -- entering a student who is there changes nothing
 pub enters_again : (xs : List ℕ) (x i : ℕ) → IsAt xs x i → IsAscending xs → Enters xs xs x
 enters_again xs x i at up = record {
-  members = λ t. elim (x == t) as (λ b. (x == t) ≡ b → has_student xs t ≡ (b || has_student xs t)) [
-    | true ↦ λ e. subst (λ z. has_student xs z ≡ true) (eqb-true x t e) (has_at xs x i at)
+  members = λ t. elim (x == t) as (λ b. (x == t) ≡ b → has_number xs t ≡ (b || has_number xs t)) [
+    | true ↦ λ e. subst (λ z. has_number xs z ≡ true) (eqb-true x t e) (has_at xs x i at)
     | false ↦ λ e. refl
   ] refl;
   size = rw (has_at xs x i at) refl;
@@ -145,7 +146,7 @@ ascending_remove xs i lt up j k less within =
 
 -- what was there is the one student, or is left
 has_remove : (xs : List ℕ) (x i t : ℕ) → IsAt xs x i
-    → has_student xs t ≡ ((x == t) || has_student (remove xs i) t)
+    → has_number xs t ≡ ((x == t) || has_number (remove xs i) t)
 has_remove xs x i t at =
     let p : ℕ → Bool = λ y. y == t in
     let split : xs ≡ take i xs ++ x ∷ drop (suc i) xs
@@ -160,8 +161,8 @@ pub leaves_remove : (xs : List ℕ) (x i : ℕ) → IsAt xs x i → IsAscending 
     → Leaves xs (remove xs i) x
 leaves_remove xs x i at up = record {
   members = λ t. elim (x == t) as (λ b. (x == t) ≡ b
-      → has_student (remove xs i) t ≡ (not b && has_student xs t)) [
-        | true ↦ λ e. subst (λ z. has_student (remove xs i) z ≡ false) (eqb-true x t e)
+      → has_number (remove xs i) t ≡ (not b && has_number xs t)) [
+        | true ↦ λ e. subst (λ z. has_number (remove xs i) z ≡ false) (eqb-true x t e)
             (has_gap (remove xs i) x i (gap_remove xs x i at up))
         | false ↦ λ e. sym (has_remove xs x i t at ∙ rw e refl)
       ] refl;
@@ -173,8 +174,8 @@ leaves_remove xs x i at up = record {
 pub leaves_again : (xs : List ℕ) (x i : ℕ) → IsGap xs x i → IsAscending xs → Leaves xs xs x
 leaves_again xs x i gap up = record {
   members = λ t. elim (x == t) as (λ b. (x == t) ≡ b
-      → has_student xs t ≡ (not b && has_student xs t)) [
-        | true ↦ λ e. subst (λ z. has_student xs z ≡ false) (eqb-true x t e) (has_gap xs x i gap)
+      → has_number xs t ≡ (not b && has_number xs t)) [
+        | true ↦ λ e. subst (λ z. has_number xs z ≡ false) (eqb-true x t e) (has_gap xs x i gap)
         | false ↦ λ e. refl
       ] refl;
   size = rw (has_gap xs x i gap) refl;
@@ -189,7 +190,7 @@ are_numbers (x ∷ xs) each s is =
     elim (cases_eq x s) [
       | inl same ↦ subst (λ (t : ℕ). t ≤ 999999999) same (each 0 (omega arith))
       | inr other ↦ are_numbers xs (λ k lt. each (suc k) (omega arith)) s
-          (subst (λ b. (b || has_student xs s) ≡ true) (ne_eqb x s other) is)
+          (subst (λ b. (b || has_number xs s) ≡ true) (ne_eqb x s other) is)
     ]
 
 pub ruleset roll_facts = (has_at, has_gap, ascending_insert, enters_insert, enters_again, leaves_remove, leaves_again)

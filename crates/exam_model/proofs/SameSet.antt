@@ -2,14 +2,14 @@
 use Rattle.std.proofs.Common.{◌≡◌, ℕ, suc, ◌<◌, true, false, List, [], ◌∷◌, length, refl, ap, sym, ◌∙◌, inl, inr, arith, subst}
 use mathlib.Core.Bool.{true≢false}
 use Rattle.std.proofs.lemmas.Bool.{eq-eqb, ne_eqb, cases_order}
-use Rattle.exam_model.specs.Enrolments.{Enrolled, IsAscending, has_student, students, has}
+use Rattle.exam_model.specs.Enrolments.{Enrolled, IsAscending, has_number, students, has}
 use Rattle.exam_model.proofs.RollLemmas.{rise, has_gap}
 
 pub tail_ascends : (x : ℕ) (xs : List ℕ) → IsAscending (x ∷ xs) → IsAscending xs
 tail_ascends x xs up i j lt within = up (suc i) (suc j) (omega arith) (omega arith)
 
 -- what is below the first is no member
-below_first : (x y : ℕ) (ys : List ℕ) → IsAscending (y ∷ ys) → x < y → has_student (y ∷ ys) x
+below_first : (x y : ℕ) (ys : List ℕ) → IsAscending (y ∷ ys) → x < y → has_number (y ∷ ys) x
     ≡ false
 below_first x y ys up lt = has_gap (y ∷ ys) x 0 (record {
   within = omega arith;
@@ -18,16 +18,16 @@ below_first x y ys up lt = has_gap (y ∷ ys) x 0 (record {
 })
 
 -- nor is the first among the others
-first_once : (x : ℕ) (xs : List ℕ) → IsAscending (x ∷ xs) → has_student xs x ≡ false
+first_once : (x : ℕ) (xs : List ℕ) → IsAscending (x ∷ xs) → has_number xs x ≡ false
 first_once x [] up = refl
 first_once x (y ∷ ys) up =
     below_first x y ys (tail_ascends x (y ∷ ys) up) (up 0 1 (omega arith) (omega arith))
 
-has_first : (x : ℕ) (xs : List ℕ) → has_student (x ∷ xs) x ≡ true
+has_first : (x : ℕ) (xs : List ℕ) → has_number (x ∷ xs) x ≡ true
 has_first x xs = rw (eq-eqb x x refl) refl
 
 same_heads : (x y : ℕ) (xs ys : List ℕ) → IsAscending (x ∷ xs) → IsAscending (y ∷ ys)
-    → ((t : ℕ) → has_student (x ∷ xs) t ≡ has_student (y ∷ ys) t) → x ≡ y
+    → ((t : ℕ) → has_number (x ∷ xs) t ≡ has_number (y ∷ ys) t) → x ≡ y
 same_heads x y xs ys up up' same =
     elim (cases_order x y) [
       | inl e ↦ e
@@ -38,26 +38,26 @@ same_heads x y xs ys up up' same =
     ]
 
 same_tails : (x : ℕ) (xs ys : List ℕ) → IsAscending (x ∷ xs) → IsAscending (x ∷ ys)
-    → ((t : ℕ) → has_student (x ∷ xs) t ≡ has_student (x ∷ ys) t) → (t : ℕ) → has_student xs t
-    ≡ has_student ys t
+    → ((t : ℕ) → has_number (x ∷ xs) t ≡ has_number (x ∷ ys) t) → (t : ℕ) → has_number xs t
+    ≡ has_number ys t
 same_tails x xs ys up up' same t =
     elim (cases_order x t) [
-      | inl e ↦ subst (λ z. has_student xs z ≡ has_student ys z) e
+      | inl e ↦ subst (λ z. has_number xs z ≡ has_number ys z) e
           (first_once x xs up ∙ sym (first_once x ys up'))
       | inr (inl less) ↦ rw (ne_eqb x t (omega arith)) at (same t)
       | inr (inr more) ↦ rw (ne_eqb x t (omega arith)) at (same t)
     ]
 
 pub same_list : (xs ys : List ℕ) → IsAscending xs → IsAscending ys
-    → ((t : ℕ) → has_student xs t ≡ has_student ys t) → xs ≡ ys
+    → ((t : ℕ) → has_number xs t ≡ has_number ys t) → xs ≡ ys
 same_list [] [] up up' same = refl
 same_list [] (y ∷ ys) up up' same = absurd (true≢false (sym (has_first y ys) ∙ sym (same y)))
 same_list (x ∷ xs) [] up up' same = absurd (true≢false (sym (has_first x xs) ∙ same x))
 same_list (x ∷ xs) (y ∷ ys) up up' same =
     let head = same_heads x y xs ys up up' same in
     let up2 : IsAscending (x ∷ ys) = subst (λ z. IsAscending (z ∷ ys)) (sym head) up' in
-    let same2 : (t : ℕ) → has_student (x ∷ xs) t ≡ has_student (x ∷ ys) t
-    = subst (λ z. (t : ℕ) → has_student (x ∷ xs) t ≡ has_student (z ∷ ys) t) (sym head) same in
+    let same2 : (t : ℕ) → has_number (x ∷ xs) t ≡ has_number (x ∷ ys) t
+    = subst (λ z. (t : ℕ) → has_number (x ∷ xs) t ≡ has_number (z ∷ ys) t) (sym head) same in
     let tails = same_list xs ys (tail_ascends x xs up) (tail_ascends x ys up2)
     (same_tails x xs ys up up2 same2) in
     ap (λ (zs : List ℕ). x ∷ zs) tails ∙ ap (λ (z : ℕ). z ∷ ys) head

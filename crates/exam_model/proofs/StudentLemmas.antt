@@ -2,12 +2,13 @@
 use Rattle.std.proofs.Common.{◌≡◌, ◌≢◌, ◌∙◌, ℕ, zero, suc, ◌<◌, Bool, true, false, List, [], ◌∷◌, length, set, refl, ap, sym, inl, inr, arith, if◌then◌else◌}
 use Rattle.std.proofs.Common.{get_or-set_other, get_or-set_same}
 use Rattle.std.specs.Prelude.{◌==◌, ◌||◌, ◌&&◌, not, nat_lt, slice_index}
-use Rattle.std.specs.List.{range_with_len}
+use Rattle.std.specs.List.{AllByRecursion, range_with_len}
 use Rattle.std.proofs.lemmas.Bool.{ltb-true, ltb-false, eqb-true, eqb-false, ne_eqb, eq-eqb, cases_eq, cases_lt}
 use Rattle.std.proofs.lemmas.List.{length-set, set_past}
 use Rattle.std.proofs.lemmas.List.Elements.{filter_agree}
 use Rattle.exam_model.specs.Changes.{with_student, without_student, with_pair, without_pair, exams_sat}
-use Rattle.exam_model.specs.Enrolments.{Enrolled, IsAscending, Enters, Leaves, has_student, students, has}
+use Rattle.exam_model.specs.Enrolments.{Enrolled, IsAscending, has_number, students, has}
+use Rattle.exam_model.specs.StudentLists.{Enters, Leaves}
 use Rattle.exam_model.proofs.SameSet.{same_list}
 
 pub or_twice : (a r : Bool) → (a || r) ≡ (a || (a || r))
@@ -39,14 +40,24 @@ with_cases s u us P before same behind =
 
 -- she is a member, beside those from before
 pub has-with : (s : ℕ) (xs : List ℕ) (t : ℕ) →
-    has_student (with_student s xs) t ≡ ((s == t) || has_student xs t)
+    has_number (with_student s xs) t ≡ ((s == t) || has_number xs t)
 has-with s [] t = refl
 has-with s (u ∷ us) t =
-    with_cases s u us (λ ys. has_student ys t ≡ ((s == t) || has_student (u ∷ us) t))
+    with_cases s u us (λ ys. has_number ys t ≡ ((s == t) || has_number (u ∷ us) t))
     (λ lt. refl)
-    (λ same. rw same (or_twice (u == t) (has_student us t)))
+    (λ same. rw same (or_twice (u == t) (has_number us t)))
     (λ above. ap (λ b. (u == t) || b) (has-with s us t)
-    ∙ or_middle (u == t) (s == t) (has_student us t))
+    ∙ or_middle (u == t) (s == t) (has_number us t))
+
+-- what holds of her and of each member holds of all
+pub each_with : (P : ℕ → Type 0) (s : ℕ) (xs : List ℕ) → P s → AllByRecursion P xs →
+    AllByRecursion P (with_student s xs)
+each_with P s [] own each = (own, tt)
+each_with P s (u ∷ us) own each =
+    with_cases s u us (AllByRecursion P)
+    (λ before. (own, each))
+    (λ same. each)
+    (λ behind. (each.0, each_with P s us own each.1))
 
 -- every member is above x
 abbrev pub Above : ℕ → List ℕ → Type 0
@@ -100,20 +111,20 @@ ascending-with s (u ∷ us) up =
 
 -- without a student, the others are members as before
 pub has-without : (s : ℕ) (xs : List ℕ) (t : ℕ) →
-    has_student (without_student s xs) t ≡ (not (s == t) && has_student xs t)
+    has_number (without_student s xs) t ≡ (not (s == t) && has_number xs t)
 has-without s [] t = elim (s == t) as (λ b. false ≡ (not b && false)) [ true ↦ refl | false ↦ refl ]
 has-without s (u ∷ us) t = elim (cases_eq u s) [
   | inl same ↦ rw (same, eq-eqb s s refl) (has-without s us t ∙ first_is_she)
   | inr other ↦ rw (ne_eqb u s other) (ap (λ b. (u == t) || b) (has-without s us t) ∙ first_is_other other)
 ]
   where
-    first_is_she : (not (s == t) && has_student us t) ≡ (not (s == t) && ((s == t) || has_student us t))
-    first_is_she = elim (s == t) as (λ b. (not b && has_student us t) ≡ (not b && (b || has_student us t))) [
+    first_is_she : (not (s == t) && has_number us t) ≡ (not (s == t) && ((s == t) || has_number us t))
+    first_is_she = elim (s == t) as (λ b. (not b && has_number us t) ≡ (not b && (b || has_number us t))) [
       | true ↦ refl
       | false ↦ refl
     ]
 
-    first_is_other : (u ≡ s → ⊥) → ((u == t) || (not (s == t) && has_student us t)) ≡ (not (s == t) && ((u == t) || has_student us t))
+    first_is_other : (u ≡ s → ⊥) → ((u == t) || (not (s == t) && has_number us t)) ≡ (not (s == t) && ((u == t) || has_number us t))
     first_is_other other = elim (cases_eq u t) [
       | inl is ↦ rw (← is, eq-eqb u u refl, ne_eqb s u (λ q. other (sym q))) refl
       | inr isnt ↦ rw (ne_eqb u t isnt) refl
@@ -150,7 +161,7 @@ left s old new up leaves =
     (λ t. leaves.members t ∙ sym (has-without s old t))
 
 -- another student sits an exam as before, whatever its list becomes, where the list says so of her
-has_in : (E : Enrolled) (e t : ℕ) (new : List ℕ) → has_student new t ≡ has_student (students E e) t →
+has_in : (E : Enrolled) (e t : ℕ) (new : List ℕ) → has_number new t ≡ has_number (students E e) t →
     (f : ℕ) → has (set E e new) t f ≡ has E t f
 has_in E e t new same f = elim (cases_lt e (length E)) [
   | inl lt ↦ elim (cases_eq f e) [
@@ -161,7 +172,7 @@ has_in E e t new same f = elim (cases_lt e (length E)) [
 ]
 
 -- so she sits the same exams
-sat_in : (E : Enrolled) (e t : ℕ) (new : List ℕ) → has_student new t ≡ has_student (students E e) t →
+sat_in : (E : Enrolled) (e t : ℕ) (new : List ℕ) → has_number new t ≡ has_number (students E e) t →
     exams_sat (set E e new) t ≡ exams_sat E t
 sat_in E e t new same =
     rw (length-set E e new) (filter_agree (λ f. has (set E e new) t f) (λ f. has E t f) (has_in E e t new same) (range_with_len 0 (length E)))

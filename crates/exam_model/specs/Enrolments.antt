@@ -9,9 +9,9 @@ use Rattle.exam_model.specs.declared.fault.ModelFault.TheVariants.{Range, NoSuch
 abbrev pub Enrolled : Type 0
 Enrolled = List (List ℕ)
 
--- whether a student is in a list
-abbrev pub has_student : List ℕ → ℕ → Bool
-has_student students s = list_any (λ t. t == s) students
+-- whether a number is in a list
+abbrev pub has_number : List ℕ → ℕ → Bool
+has_number numbers n = list_any (λ k. k == n) numbers
 
 -- each number is greater than those before it
 abbrev pub IsAscending : List ℕ → Type 0
@@ -19,7 +19,7 @@ IsAscending xs = (i j : ℕ) → i < j → j < length xs → slice_index xs i < 
 
 -- each is a number that a student can have
 abbrev pub AreNumbers : List ℕ → Type 0
-AreNumbers xs = (s : ℕ) → has_student xs s ≡ true → s ≤ MAX_STUDENT
+AreNumbers xs = (s : ℕ) → has_number xs s ≡ true → s ≤ MAX_STUDENT
 
 -- the students of an exam, and none where there is no such exam
 abbrev pub students : Enrolled → ℕ → List ℕ
@@ -27,7 +27,7 @@ students E e = slice_index_or E e []
 
 -- whether the pair is in the set
 abbrev pub has : Enrolled → ℕ → ℕ → Bool
-has E s e = has_student (students E e) s
+has E s e = has_number (students E e) s
 
 -- how many students are paired with the exam
 abbrev pub size_of : Enrolled → ℕ → ℕ
@@ -75,26 +75,3 @@ abbrev pub RefusesAll : Enrolled → List ℕ → ModelFault → Type 0
 RefusesAll E xs NoSuch = ⊥
 RefusesAll E xs Range = MAX_PAIRS < pair_count E + length xs
 RefusesAll E xs NoMemory = Unit {0}
-
--- student s stands at place i of the list
-pub record IsAt (xs : List ℕ) (s i : ℕ) : Type 0 where
-  pub within : i < length xs
-  pub here : slice_index xs i ≡ s
-
--- student s would go at place i: smaller numbers before it, and greater ones from it on
-pub record IsGap (xs : List ℕ) (s i : ℕ) : Type 0 where
-  pub within : i ≤ length xs
-  pub before : (k : ℕ) → k < i → slice_index xs k < s
-  pub after : (k : ℕ) → i ≤ k → k < length xs → s < slice_index xs k
-
--- new is the list old with the student put in
-pub record Enters (old new : List ℕ) (s : ℕ) : Type 0 where
-  pub members : (t : ℕ) → has_student new t ≡ ((s == t) || has_student old t)
-  pub size : length new ≡ (if has_student old s then length old else length old + 1)
-  pub ascending : IsAscending new
-
--- new is the list old with the student taken out
-pub record Leaves (old new : List ℕ) (s : ℕ) : Type 0 where
-  pub members : (t : ℕ) → has_student new t ≡ (not (s == t) && has_student old t)
-  pub size : length old ≡ (if has_student old s then length new + 1 else length new)
-  pub ascending : IsAscending new

@@ -1,5 +1,5 @@
 -- What is taken together fits: one number of exams throughout, and places that exist.
-use Rattle.std.specs.Prelude.{◌≡◌, ℕ, ◌<◌, length, All, Option, Some, None, option_map}
+use Rattle.std.specs.Prelude.{◌≡◌, ℕ, ◌+◌, ◌*◌, ◌<◌, length, All, Option, Some, None, option_map}
 use Rattle.exam_terms.specs.declared.place.Place.{Place}
 use Rattle.exam_model.specs.Instance.{Session}
 use Rattle.exam_model.specs.Enrolments.{Enrolled}
@@ -13,6 +13,10 @@ period_of T e = option_map (λ at. at.period) (place_of T e)
 abbrev pub PlaceExists : Session → Option Place → Type 0
 PlaceExists I None = Unit {0}
 PlaceExists I (Some at) = (at.period < length I.periods) × (at.room < length I.rooms)
+
+-- a place's entry in a table with a line of so many rooms for each period
+abbrev pub slot_of : ℕ → Place → ℕ
+slot_of rooms at = at.period * rooms + at.room
 
 -- a timetable of just the session's exams, and every place in it exists
 pub record Suits (I : Session) (T : Placing) : Type 0 where

@@ -34,13 +34,13 @@ session exams periods rooms period_rules room_rules weights = record {
 }
 
 -- every limit holds
-pub record InLimits (s : Session) : Type 0 where
-  pub counts : AreCounted (length s.exams) (length s.periods) (length s.rooms)
-      (length s.period_rules) (length s.room_rules)
-  pub exams : All ExamInLimits s.exams
-  pub periods : All PeriodInLimits s.periods
-  pub rooms : All RoomInLimits s.rooms
-  pub weights : WeightsInLimits s.weights
+pub record InLimits (I : Session) : Type 0 where
+  pub counts : AreCounted (length I.exams) (length I.periods) (length I.rooms)
+      (length I.period_rules) (length I.room_rules)
+  pub exams : All ExamInLimits I.exams
+  pub periods : All PeriodInLimits I.periods
+  pub rooms : All RoomInLimits I.rooms
+  pub weights : WeightsInLimits I.weights
 
 -- both exams of a rule are among so many
 abbrev pub PeriodRuleExists : ℕ → PeriodRule → Type 0
@@ -53,20 +53,20 @@ abbrev pub RoomRuleExists : ℕ → RoomRule → Type 0
 RoomRuleExists n r = r.0 < n
 
 -- every exam that a rule names exists
-pub record NumbersExist (s : Session) : Type 0 where
-  pub period_rules : All (PeriodRuleExists (length s.exams)) s.period_rules
-  pub room_rules : All (RoomRuleExists (length s.exams)) s.room_rules
+pub record NumbersExist (I : Session) : Type 0 where
+  pub period_rules : All (PeriodRuleExists (length I.exams)) I.period_rules
+  pub room_rules : All (RoomRuleExists (length I.exams)) I.room_rules
 
 -- what every instance keeps
-pub record IsInstance (s : Session) : Type 0 where
-  pub limits : InLimits s
-  pub numbers : NumbersExist s
+pub record IsInstance (I : Session) : Type 0 where
+  pub limits : InLimits I
+  pub numbers : NumbersExist I
 
 -- why parts make no instance: a limit first, then a number
 abbrev pub RefusesSession : Session → ModelFault → Type 0
-RefusesSession s Range = InLimits s → ⊥
-RefusesSession s NoSuch = InLimits s × (NumbersExist s → ⊥)
-RefusesSession s NoMemory = Unit {0}
+RefusesSession I Range = InLimits I → ⊥
+RefusesSession I NoSuch = InLimits I × (NumbersExist I → ⊥)
+RefusesSession I NoMemory = Unit {0}
 
 -- the distance of two period numbers
 abbrev pub gap : ℕ → ℕ → ℕ

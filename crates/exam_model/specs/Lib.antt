@@ -2,6 +2,7 @@ pub mod Sums
 pub mod Limits
 pub mod Instance
 pub mod Enrolments
+pub mod StudentLists
 pub mod Pairs
 pub mod Changes
 pub mod Timetable

@@ -1,12 +1,13 @@
 // An instance: contracts see an examination session by its parts.
-ghost use Rattle.std.specs.Prelude.{◌≡◌, ◌<◌, length, slice_get, Some, IfOk, IfErr};
+ghost use Rattle.std.specs.Prelude.{◌≡◌, ◌<◌, ◌*◌, length, slice_get, Some, IfOk, IfErr};
+ghost use Rattle.exam_model.specs.Fits.{slot_of};
 ghost use Rattle.exam_model.specs.Instance.{Session, session, IsInstance, RefusesSession};
 
 use crate::fault::ModelFault;
 use crate::limits::{in_limits, numbers_exist};
 use crate::parts::{Exam, Period, Room, Weights};
 use crate::rules::{PeriodRule, RoomRule};
-use exam_terms::{ExamNo, PeriodNo, RoomNo};
+use exam_terms::{ExamNo, PeriodNo, Place, RoomNo};
 use std::alloc::Global;
 use std::marker::Model;
 
@@ -66,6 +67,31 @@ impl Instance {
         })
     }
 
+    /// The instance of these lists, whose limits were judged before, and whose rules name exams
+    /// that exist.
+    pub fn of(
+        exams: Vec<Exam>,
+        periods: Vec<Period>,
+        rooms: Vec<Room>,
+        period_rules: Vec<PeriodRule>,
+        room_rules: Vec<RoomRule>,
+        weights: Weights,
+    ) -> Instance
+        requires kept { IsInstance (session exams.items periods.items rooms.items
+            period_rules.items room_rules.items weights) }
+        ensures made { result ≡ session exams.items periods.items rooms.items
+            period_rules.items room_rules.items weights }
+    {
+        Instance {
+            exams,
+            periods,
+            rooms,
+            period_rules,
+            room_rules,
+            weights,
+        }
+    }
+
     /// The exam of that number, as it was given.
     pub fn exam(&self, exam: ExamNo) -> Exam
         requires exists { exam < length self.now.exams }
@@ -112,6 +138,19 @@ impl Instance {
         ensures kept { IsInstance self.now }
     {
         self.rooms.len() as u32
+    }
+
+    /// A place's entry in a table with a line of rooms for each period.
+    pub fn slot_of(&self, place: Place) -> usize
+        requires period { place.period < length self.now.periods }
+        requires room { place.room < length self.now.rooms }
+        ensures slot { result ≡ slot_of (length self.now.rooms) place }
+        ensures within { result < length self.now.periods * length self.now.rooms }
+    {
+        let _periods = self.periods(); // read for its limit
+        let period = place.period.get() as usize;
+        let room = place.room.get() as usize;
+        period * self.rooms() as usize + room
     }
 
     /// The rules on periods in the order in which they were given; at most 5,000.

@@ -1,6 +1,7 @@
 // The students of one exam, ascending: contracts see the list of their numbers.
 ghost use Rattle.std.specs.Prelude.{◌≡◌, ℕ, List, [], IfOk, IfErr, OnOk, OnErr, not};
-ghost use Rattle.exam_model.specs.Enrolments.{AreNumbers, IsAscending, IsAt, IsGap, Enters, Leaves, has_student};
+ghost use Rattle.exam_model.specs.Enrolments.{AreNumbers, IsAscending, has_number};
+ghost use Rattle.exam_model.specs.StudentLists.{IsAt, IsGap, Enters, Leaves};
 
 use exam_terms::StudentNo;
 use std::alloc::{AllocError, Global};
@@ -64,7 +65,7 @@ impl Roll {
 
     #[tactic(auto, using(crate::proofs::RollLemmas::roll_facts))]
     pub fn has(&self, student: StudentNo) -> bool
-        ensures { result ≡ has_student self.now student }
+        ensures { result ≡ has_number self.now student }
     {
         self.search(student).is_ok()
     }
@@ -72,7 +73,7 @@ impl Roll {
     // Puts a student in, and answers whether she is new.
     #[tactic(auto, using(crate::proofs::RollLemmas::roll_facts))]
     pub fn add(&mut self, student: StudentNo) -> Result<bool, AllocError>
-        ensures fresh { IfOk result (λ fresh. fresh ≡ not (has_student self.old student)) }
+        ensures fresh { IfOk result (λ fresh. fresh ≡ not (has_number self.old student)) }
         ensures ok { OnOk result (Enters self.old self.new student) }
         ensures err { OnErr result (self.new ≡ self.old) }
     {
@@ -86,7 +87,7 @@ impl Roll {
     // Takes a student out, and answers whether she was there.
     #[tactic(auto, using(crate::proofs::RollLemmas::roll_facts))]
     pub fn remove(&mut self, student: StudentNo) -> bool
-        ensures removed { result ≡ has_student self.old student }
+        ensures removed { result ≡ has_number self.old student }
         ensures left { Leaves self.old self.new student }
     {
         match self.search(student) {

@@ -3,7 +3,7 @@ use Rattle.std.specs.List.{AllByRecursion}
 use Rattle.std.proofs.Common.{◌≡◌, ℕ, ◌<◌, inl, inr, Bool, true, false, cond, not, ◌&&◌, ◌||◌, eqb, List, [], ◌∷◌, ◌++◌, map, refl, sym, ◌∙◌, ap, ap₂, subst, arith}
 use Rattle.std.proofs.lemmas.Bool.Decides.{nat_tests}
 use Rattle.std.proofs.lemmas.List.Folds.{list_any-append}
-use Rattle.exam_model.specs.Enrolments.{IsAscending, has_student}
+use Rattle.exam_model.specs.Enrolments.{IsAscending, has_number}
 use Rattle.exam_model.specs.Pairs.{Pair, ComesBefore}
 use Rattle.exam_model.proofs.SumLemmas.{IsChain, chain_from_index, each_weaker}
 use Rattle.exam_model.proofs.SameSet.{same_list}
@@ -77,13 +77,13 @@ right_alone (r ∷ rs) s = go (eqb r.student s) (right_alone rs s)
 -- ---- the walk
 
 pub record IsCompared (old new left right : List SeatRow) (found : List ℕ) : Type 0 where
-  pub members : (s : ℕ) → (has_student found s || is_changed left right s) ≡ is_changed old new s
+  pub members : (s : ℕ) → (has_number found s || is_changed left right s) ≡ is_changed old new s
   pub left_order : IsChain RowBefore left
   pub right_order : IsChain RowBefore right
 
 pub start : (old new : List SeatRow) (found : List ℕ) → found ≡ [] → RowsInOrder old → RowsInOrder new → IsCompared old new old new found
 start old new found none up up' = record {
-  members = λ s. ap (λ xs. has_student xs s || is_changed old new s) none;
+  members = λ s. ap (λ xs. has_number xs s || is_changed old new s) none;
   left_order = chain_from_index RowBefore old up;
   right_order = chain_from_index RowBefore new up';
 }
@@ -97,8 +97,8 @@ or_false true = refl
 or_false false = refl
 
 -- a student more
-pub has_push : (found : List ℕ) (t s : ℕ) → has_student (found ++ t ∷ []) s ≡ (has_student found s || eqb t s)
-has_push found t s = list_any-append (λ x. eqb x s) found (t ∷ []) ∙ ap (λ b. has_student found s || b) (or_false (eqb t s))
+pub has_push : (found : List ℕ) (t s : ℕ) → has_number (found ++ t ∷ []) s ≡ (has_number found s || eqb t s)
+has_push found t s = list_any-append (λ x. eqb x s) found (t ∷ []) ∙ ap (λ b. has_number found s || b) (or_false (eqb t s))
 
 pub step_left : {old new left right : List SeatRow} {found more : List ℕ} (r q : SeatRow) (rs qs : List SeatRow) → IsCompared old new left right found
     → left ≡ r ∷ rs → right ≡ q ∷ qs → comes_before (row_pair r) (row_pair q) ≡ true → more ≡ found ++ r.student ∷ []
@@ -108,9 +108,9 @@ step_left {old} {new} {left} {right} {found} {more} r q rs qs was l m lt is =
     let ms = subst (IsChain RowBefore) m was.right_order in
     let above : AllByRecursion (RowBefore r) right = subst (AllByRecursion (RowBefore r)) (sym m) (before_all r q qs (before_from_test (row_pair r) (row_pair q) lt) ms.0) in
     record {
-      members = λ s. ap (λ xs. has_student xs s || is_changed rs right s) is ∙ ap (λ b. b || is_changed rs right s) (has_push found r.student s)
-          ∙ or_assoc (has_student found s) (eqb r.student s) (is_changed rs right s)
-          ∙ ap (λ b. has_student found s || b) (left_step r rs right above s) ∙ ap (λ xs. has_student found s || is_changed xs right s) (sym l) ∙ was.members s;
+      members = λ s. ap (λ xs. has_number xs s || is_changed rs right s) is ∙ ap (λ b. b || is_changed rs right s) (has_push found r.student s)
+          ∙ or_assoc (has_number found s) (eqb r.student s) (is_changed rs right s)
+          ∙ ap (λ b. has_number found s || b) (left_step r rs right above s) ∙ ap (λ xs. has_number found s || is_changed xs right s) (sym l) ∙ was.members s;
       left_order = ls.1;
       right_order = was.right_order;
     }
@@ -123,23 +123,23 @@ step_right {old} {new} {left} {right} {found} {more} r q rs qs was l m lt is =
     let ms = subst (IsChain RowBefore) m was.right_order in
     let above : AllByRecursion (RowBefore q) left = subst (AllByRecursion (RowBefore q)) (sym l) (before_all q r rs (before_from_test (row_pair q) (row_pair r) lt) ls.0) in
     record {
-      members = λ s. ap (λ xs. has_student xs s || is_changed left qs s) is ∙ ap (λ b. b || is_changed left qs s) (has_push found q.student s)
-          ∙ or_assoc (has_student found s) (eqb q.student s) (is_changed left qs s)
-          ∙ ap (λ b. has_student found s || b) (right_step q left qs above s) ∙ ap (λ xs. has_student found s || is_changed left xs s) (sym m) ∙ was.members s;
+      members = λ s. ap (λ xs. has_number xs s || is_changed left qs s) is ∙ ap (λ b. b || is_changed left qs s) (has_push found q.student s)
+          ∙ or_assoc (has_number found s) (eqb q.student s) (is_changed left qs s)
+          ∙ ap (λ b. has_number found s || b) (right_step q left qs above s) ∙ ap (λ xs. has_number found s || is_changed left xs s) (sym m) ∙ was.members s;
       left_order = was.left_order;
       right_order = ms.1;
     }
 
 -- one list is used up
 pub end_left : {old new left right : List SeatRow} {found : List ℕ} (more : List ℕ) → IsCompared old new left right found → right ≡ []
-    → ((s : ℕ) → has_student more s ≡ (has_student found s || has_row left s)) → (s : ℕ) → has_student more s ≡ is_changed old new s
+    → ((s : ℕ) → has_number more s ≡ (has_number found s || has_row left s)) → (s : ℕ) → has_number more s ≡ is_changed old new s
 end_left {old} {new} {left} {right} {found} more was none is s =
-    is s ∙ ap (λ b. has_student found s || b) (sym (left_alone left s)) ∙ ap (λ xs. has_student found s || is_changed left xs s) (sym none) ∙ was.members s
+    is s ∙ ap (λ b. has_number found s || b) (sym (left_alone left s)) ∙ ap (λ xs. has_number found s || is_changed left xs s) (sym none) ∙ was.members s
 
 pub end_right : {old new left right : List SeatRow} {found : List ℕ} (more : List ℕ) → IsCompared old new left right found → left ≡ []
-    → ((s : ℕ) → has_student more s ≡ (has_student found s || has_row right s)) → (s : ℕ) → has_student more s ≡ is_changed old new s
+    → ((s : ℕ) → has_number more s ≡ (has_number found s || has_row right s)) → (s : ℕ) → has_number more s ≡ is_changed old new s
 end_right {old} {new} {left} {right} {found} more was none is s =
-    is s ∙ ap (λ b. has_student found s || b) (sym (right_alone right s)) ∙ ap (λ xs. has_student found s || is_changed xs right s) (sym none) ∙ was.members s
+    is s ∙ ap (λ b. has_number found s || b) (sym (right_alone right s)) ∙ ap (λ xs. has_number found s || is_changed xs right s) (sym none) ∙ was.members s
 
 -- ---- the list of all who changed
 
@@ -173,7 +173,7 @@ changed_has_row old new s =
         nobody true e = sym e
         nobody false e = refl
 
-pub listed : (old new : List SeatRow) (found : List ℕ) → IsAscending found → ((s : ℕ) → has_student found s ≡ is_changed old new s) → found ≡ changed_students old new
+pub listed : (old new : List SeatRow) (found : List ℕ) → IsAscending found → ((s : ℕ) → has_number found s ≡ is_changed old new s) → found ≡ changed_students old new
 listed old new found up members =
     same_list found (changed_students old new) up
     (ascending_from_chain (changed_students old new) (chain_filter (λ x y. x < y) (is_changed old new) (students_of (old ++ new)) (chain_ascending (map (λ row. row.student) (old ++ new)))))

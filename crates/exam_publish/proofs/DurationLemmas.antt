@@ -24,7 +24,7 @@ use Rattle.exam_score.specs.Stays.{is_stay, StayExists, AreStays}
 use Rattle.exam_score.specs.declared.mixed.Stay.{Stay}
 use Rattle.exam_publish.specs.Durations.{is_in_slot, AreDurations}
 use Rattle.exam_publish.specs.Tallies.{AreTallied}
-use Rattle.exam_publish.proofs.SeatingLemmas.{slot_within}
+use Rattle.exam_model.proofs.PlaceLemmas.{slot_within}
 
 -- ---- the order of the stays
 

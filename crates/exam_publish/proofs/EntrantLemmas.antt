@@ -15,7 +15,8 @@ use Rattle.exam_model.proofs.SumLemmas.{each_weaker}
 use Rattle.exam_publish.specs.declared.entrants.Entrant.{Entrant}
 use Rattle.exam_publish.specs.declared.seat_row.SeatRow.{SeatRow}
 use Rattle.exam_publish.specs.Seating.{EntrantExists, KeepsSmallSeat}
-use Rattle.exam_publish.specs.Seats.{IsSeatOf, HasSeat, entrant, entrants}
+use Rattle.exam_publish.specs.Seats.{IsSeatOf, HasSeat}
+use Rattle.exam_publish.specs.Entrants.{entrant, entrants}
 use Rattle.exam_publish.proofs.SeatLemmas.{IsFair, all_fair, each_entrant, from_within, length_filter_map}
 use Rattle.exam_publish.proofs.SeatingLemmas.{pairs_more, length_pairs}
 

@@ -8,7 +8,7 @@ use Rattle.std.proofs.lemmas.List.FromFn.{length-range_with_len, get_or-range_wi
 use Rattle.std.proofs.lemmas.List.Sums.{position_or_len_is, fails_before_first, passes_at_first}
 use Rattle.std.proofs.lemmas.Map.Steps.{le-length_from_below}
 use Rattle.exam_terms.specs.declared.place.Place.{Place}
-use Rattle.exam_model.specs.Enrolments.{has_student}
+use Rattle.exam_model.specs.Enrolments.{has_number}
 use Rattle.exam_rules.specs.Places.{is_one_place}
 use Rattle.exam_publish.specs.declared.seat_row.SeatRow.{SeatRow}
 use Rattle.exam_publish.specs.Rows.{row_place}
@@ -19,18 +19,18 @@ use Rattle.exam_publish.specs.Seating.{IsLast}
 
 pub record IsLeastFree (taken : List ℕ) (n : ℕ) : Type 0 where
   pub low : 1 ≤ n
-  pub free : has_student taken n ≡ false
-  pub below : (k : ℕ) → 1 ≤ k → k < n → has_student taken k ≡ true
+  pub free : has_number taken n ≡ false
+  pub below : (k : ℕ) → 1 ≤ k → k < n → has_number taken k ≡ true
 
 turned : (k x : ℕ) → eqb k x ≡ eqb x k
 turned k x = grind (arith, nat_tests)
 
-any_turned : (k : ℕ) (xs : List ℕ) → list_any (eqb k) xs ≡ has_student xs k
+any_turned : (k : ℕ) (xs : List ℕ) → list_any (eqb k) xs ≡ has_number xs k
 any_turned k [] = refl
 any_turned k (x ∷ xs) = ap₂ (λ a b. a || b) (turned k x) (any_turned k xs)
 
 -- so many numbers take so many places
-pub le_taken : (n : ℕ) (xs : List ℕ) → ((k : ℕ) → 1 ≤ k → k ≤ n → has_student xs k ≡ true) → n ≤ length xs
+pub le_taken : (n : ℕ) (xs : List ℕ) → ((k : ℕ) → 1 ≤ k → k ≤ n → has_number xs k ≡ true) → n ≤ length xs
 le_taken n xs h =
     let all = le-length_from_below (0 ∷ xs) (n + 1) (λ q lt. elim (cases_eq q 0) as (λ _. list_any (eqb q) (0 ∷ xs) ≡ true) [
       | inl none ↦ ap (λ b. b || list_any (eqb q) xs) (eq-eqb q 0 none)
@@ -45,7 +45,7 @@ position_small p (x ∷ xs) =
     elim (p x) as (λ b. cond (not b) (1 + position_or_len p xs) 0 ≤ length (x ∷ xs)) [ true ↦ omega arith | false ↦ omega arith ]
 
 abbrev is_free : List ℕ → ℕ → Bool
-is_free taken k = not (has_student taken k)
+is_free taken k = not (has_number taken k)
 
 at_number : (n i : ℕ) → i < n → get_or (range_with_len 1 n) i 0 ≡ i + 1
 at_number n i lt = get_or-range_with_len 1 n i 0 lt ∙ omega arith
@@ -71,29 +71,29 @@ turned_not : (b : Bool) → not b ≡ true → b ≡ false
 turned_not true h = sym h
 turned_not false h = refl
 
-least_below : (taken : List ℕ) (k : ℕ) → 1 ≤ k → k < least_free taken → has_student taken k ≡ true
+least_below : (taken : List ℕ) (k : ℕ) → 1 ≤ k → k < least_free taken → has_number taken k ≡ true
 least_below taken k low lt =
     let few = least_small taken in
     let n = length taken in
     let fails = fails_before_first (is_free taken) (range_with_len 1 n) (k - 1) 0 (omega arith) in
     let here : get_or (range_with_len 1 n) (k - 1) 0 ≡ k = at_number n (k - 1) (omega arith) ∙ omega arith in
-    not-false (has_student taken k) (ap (is_free taken) (sym here) ∙ fails)
+    not-false (has_number taken k) (ap (is_free taken) (sym here) ∙ fails)
 
-least_free_is : (taken : List ℕ) → has_student taken (least_free taken) ≡ false
+least_free_is : (taken : List ℕ) → has_number taken (least_free taken) ≡ false
 least_free_is taken =
     let n = length taken in
     let first = position_or_len (is_free taken) (range_with_len 1 n) in
     let long = length-range_with_len 1 n in
     let most = position_small (is_free taken) (range_with_len 1 n) in
-    elim (cases_lt first n) as (λ _. has_student taken (first + 1) ≡ false) [
-      | inl less ↦ turned_not (has_student taken (first + 1)) (ap (is_free taken) (sym (at_number n first less)) ∙ passes_at_first (is_free taken) (range_with_len 1 n) 0 (omega arith))
-      | inr past ↦ false_from_ne_true (has_student taken (first + 1)) (λ more. past_all taken (first + 1) (λ k a lt. least_below taken k a lt) more (omega arith))
+    elim (cases_lt first n) as (λ _. has_number taken (first + 1) ≡ false) [
+      | inl less ↦ turned_not (has_number taken (first + 1)) (ap (is_free taken) (sym (at_number n first less)) ∙ passes_at_first (is_free taken) (range_with_len 1 n) 0 (omega arith))
+      | inr past ↦ false_from_ne_true (has_number taken (first + 1)) (λ more. past_all taken (first + 1) (λ k a lt. least_below taken k a lt) more (omega arith))
     ]
   where
-    past_all : (taken : List ℕ) (m : ℕ) → ((k : ℕ) → 1 ≤ k → k < m → has_student taken k ≡ true) → has_student taken m ≡ true → length taken < m → ⊥
+    past_all : (taken : List ℕ) (m : ℕ) → ((k : ℕ) → 1 ≤ k → k < m → has_number taken k ≡ true) → has_number taken m ≡ true → length taken < m → ⊥
     past_all taken m below here beyond =
-        let all = le_taken m taken (λ k a le. elim (cases_eq k m) as (λ _. has_student taken k ≡ true) [
-          | inl same ↦ ap (has_student taken) same ∙ here
+        let all = le_taken m taken (λ k a le. elim (cases_eq k m) as (λ _. has_number taken k ≡ true) [
+          | inl same ↦ ap (has_number taken) same ∙ here
           | inr other ↦ below k a (omega arith)
         ]) in
         absurd (omega arith)
@@ -113,30 +113,30 @@ length_seats at r rs = go (is_one_place at (row_place r))
     go false = omega arith
 
 pub has_seats : (at : Place) (r : SeatRow) (rs : List SeatRow) (n : ℕ)
-    → has_student (seats_at at (r ∷ rs)) n ≡ ((is_one_place at (row_place r) && eqb r.seat n) || has_student (seats_at at rs) n)
+    → has_number (seats_at at (r ∷ rs)) n ≡ ((is_one_place at (row_place r) && eqb r.seat n) || has_number (seats_at at rs) n)
 has_seats at r rs n = go (is_one_place at (row_place r))
   where
-    go : (b : Bool) → has_student (map (λ row. row.seat) (cond b (r ∷ filter (λ row. is_one_place at (row_place row)) rs) (filter (λ row. is_one_place at (row_place row)) rs))) n
-        ≡ ((b && eqb r.seat n) || has_student (seats_at at rs) n)
+    go : (b : Bool) → has_number (map (λ row. row.seat) (cond b (r ∷ filter (λ row. is_one_place at (row_place row)) rs) (filter (λ row. is_one_place at (row_place row)) rs))) n
+        ≡ ((b && eqb r.seat n) || has_number (seats_at at rs) n)
     go true = refl
     go false = refl
 
-pub still_taken : (at : Place) (r : SeatRow) (rs : List SeatRow) (n : ℕ) → has_student (seats_at at rs) n ≡ true → has_student (seats_at at (r ∷ rs)) n ≡ true
-still_taken at r rs n h = has_seats at r rs n ∙ or_right (is_one_place at (row_place r) && eqb r.seat n) (has_student (seats_at at rs) n) h
+pub still_taken : (at : Place) (r : SeatRow) (rs : List SeatRow) (n : ℕ) → has_number (seats_at at rs) n ≡ true → has_number (seats_at at (r ∷ rs)) n ≡ true
+still_taken at r rs n h = has_seats at r rs n ∙ or_right (is_one_place at (row_place r) && eqb r.seat n) (has_number (seats_at at rs) n) h
 
 -- ---- the last seat given
 
 -- n is the next seat behind the last one that no kept row has
 pub record IsNext (kept : List SeatRow) (at : Place) (last n : ℕ) : Type 0 where
   pub beyond : last < n
-  pub free : has_student (seats_at at kept) n ≡ false
-  pub between : (k : ℕ) → last < k → k < n → has_student (seats_at at kept) k ≡ true
+  pub free : has_number (seats_at at kept) n ≡ false
+  pub between : (k : ℕ) → last < k → k < n → has_number (seats_at at kept) k ≡ true
 
 pub is_next : (kept standing : List SeatRow) (at : Place) (last n : ℕ) → IsLast kept standing at last → IsNext kept at last n → n ≡ least_free (seats_at at standing)
 is_next kept standing at last n was next = is_least (seats_at at standing) n (record {
   low = let h = next.beyond in omega arith;
   free = was.beyond n next.beyond ∙ next.free;
-  below = λ k low lt. elim (cases_lt last k) as (λ _. has_student (seats_at at standing) k ≡ true) [
+  below = λ k low lt. elim (cases_lt last k) as (λ _. has_number (seats_at at standing) k ≡ true) [
     | inl past ↦ was.beyond k past ∙ next.between k past lt
     | inr within ↦ was.all k low within
   ];
@@ -145,14 +145,14 @@ is_next kept standing at last n was next = is_least (seats_at at standing) n (re
 pub last_here : (kept standing : List SeatRow) (at : Place) (last n : ℕ) (r : SeatRow) → IsLast kept standing at last → IsNext kept at last n
     → is_one_place at (row_place r) ≡ true → r.seat ≡ n → IsLast kept (r ∷ standing) at n
 last_here kept standing at last n r was next here is = record {
-  all = λ k low le. elim (cases_eq n k) as (λ _. has_student (seats_at at (r ∷ standing)) k ≡ true) [
-    | inl same ↦ has_seats at r standing k ∙ ap (λ b. b || has_student (seats_at at standing) k) (ap (λ b. b && eqb r.seat k) here ∙ eq-eqb r.seat k (is ∙ same))
-    | inr other ↦ still_taken at r standing k (elim (cases_lt last k) as (λ _. has_student (seats_at at standing) k ≡ true) [
+  all = λ k low le. elim (cases_eq n k) as (λ _. has_number (seats_at at (r ∷ standing)) k ≡ true) [
+    | inl same ↦ has_seats at r standing k ∙ ap (λ b. b || has_number (seats_at at standing) k) (ap (λ b. b && eqb r.seat k) here ∙ eq-eqb r.seat k (is ∙ same))
+    | inr other ↦ still_taken at r standing k (elim (cases_lt last k) as (λ _. has_number (seats_at at standing) k ≡ true) [
       | inl past ↦ was.beyond k past ∙ next.between k past (omega arith)
       | inr within ↦ was.all k low within
     ])
   ];
-  beyond = λ k lt. has_seats at r standing k ∙ ap (λ b. b || has_student (seats_at at standing) k) (ap (λ b. b && eqb r.seat k) here ∙ ne_eqb r.seat k (λ e. omega arith))
+  beyond = λ k lt. has_seats at r standing k ∙ ap (λ b. b || has_number (seats_at at standing) k) (ap (λ b. b && eqb r.seat k) here ∙ ne_eqb r.seat k (λ e. omega arith))
       ∙ was.beyond k (let h = next.beyond in omega arith);
 }
 
@@ -163,5 +163,5 @@ last_there kept standing at last r was there = record {
   beyond = λ k lt. same k ∙ was.beyond k lt;
 }
   where
-    same : (k : ℕ) → has_student (seats_at at (r ∷ standing)) k ≡ has_student (seats_at at standing) k
-    same k = has_seats at r standing k ∙ ap (λ b. (b && eqb r.seat k) || has_student (seats_at at standing) k) there
+    same : (k : ℕ) → has_number (seats_at at (r ∷ standing)) k ≡ has_number (seats_at at standing) k
+    same k = has_seats at r standing k ∙ ap (λ b. (b && eqb r.seat k) || has_number (seats_at at standing) k) there

@@ -5,16 +5,18 @@ use Rattle.std.proofs.lemmas.Bool.{cases_eq, and_parts, false_from_ne_true}
 use Rattle.std.proofs.lemmas.List.{at_drop_more, length-replicate, length-set, get_or-set_same, get_or-set_other}
 use Rattle.std.proofs.lemmas.Nat.{same_from_place}
 use Rattle.exam_terms.specs.declared.place.Place.{Place}
+use Rattle.exam_model.specs.Fits.{slot_of}
+use Rattle.exam_model.proofs.PlaceLemmas.{slot_within}
 use Rattle.exam_rules.specs.Places.{is_one_place}
 use Rattle.exam_publish.specs.declared.entrants.Entrant.{Entrant}
 use Rattle.exam_publish.specs.declared.held.Held.{Held}
 use Rattle.exam_publish.specs.declared.seat_row.SeatRow.{SeatRow}
 use Rattle.exam_publish.specs.Rows.{row_place}
-use Rattle.exam_publish.specs.Seating.{slot_of, AreHeld, IsNextFree, IsLast, AreLast}
-use Rattle.exam_publish.specs.Seats.{kept_rows, seats_at, least_free, new_row, rows_beside, rows_for}
+use Rattle.exam_publish.specs.Seating.{AreHeld, IsNextFree, IsLast, AreLast}
+use Rattle.exam_publish.specs.Seats.{seats_at, least_free, new_row, rows_beside, rows_for}
+use Rattle.exam_publish.specs.Entrants.{kept_rows}
 use Rattle.exam_publish.proofs.FreeLemmas.{IsNext, is_next, last_here, last_there, le_taken, length_seats}
 use Rattle.exam_publish.proofs.SeatLemmas.{same_place, length_filter_map}
-use Rattle.exam_publish.proofs.SeatingLemmas.{slot_within}
 use Rattle.exam_publish.proofs.TallyLemmas.{zeros}
 
 -- the rows of the first i entrants, and the rows that stand for those behind them

@@ -7,14 +7,15 @@ use Rattle.std.proofs.lemmas.List.Elements.{filter_map-append, All-from_recursio
 use Rattle.std.proofs.lemmas.List.Sorted.{list_any-IsPermutation, All-permutation}
 use Rattle.std.proofs.lemmas.Bool.Decides.{nat_tests}
 use Rattle.exam_terms.specs.declared.place.Place.{Place}
-use Rattle.exam_model.specs.Enrolments.{has_student}
+use Rattle.exam_model.specs.Enrolments.{has_number}
 use Rattle.exam_rules.specs.Places.{is_one_place}
 use Rattle.exam_publish.specs.declared.entrants.Entrant.{Entrant}
 use Rattle.exam_publish.specs.declared.held.Held.{Held}
 use Rattle.exam_publish.specs.declared.seat_row.SeatRow.{SeatRow}
 use Rattle.exam_publish.specs.Rows.{row_place}
 use Rattle.exam_publish.specs.Seating.{is_held, held_cmp, AreHeld, KeepsSmallSeat}
-use Rattle.exam_publish.specs.Seats.{kept_rows, seats_at}
+use Rattle.exam_publish.specs.Seats.{seats_at}
+use Rattle.exam_publish.specs.Entrants.{kept_rows}
 use Rattle.exam_publish.proofs.FreeLemmas.{has_seats}
 
 abbrev pub row_seat : SeatRow → Held
@@ -39,7 +40,7 @@ pub held_same : (xs : List Entrant) (i : ℕ) (x : Entrant) (held : List Held) �
 held_same xs i x held lt is keeps was =
     was ∙ sym (ap (map row_seat) (one_more xs i x lt is ∙ ap (λ o. kept_rows (take i xs) ++ cons_option o []) keeps ∙ append-nil (kept_rows (take i xs))))
 
-members : (at : Place) (n : ℕ) (rows : List SeatRow) → list_any (is_held at n) (map row_seat rows) ≡ has_student (seats_at at rows) n
+members : (at : Place) (n : ℕ) (rows : List SeatRow) → list_any (is_held at n) (map row_seat rows) ≡ has_number (seats_at at rows) n
 members at n [] = refl
 members at n (r ∷ rs) = ap₂ (λ a b. a || b) one (members at n rs) ∙ sym (has_seats at r rs n)
   where

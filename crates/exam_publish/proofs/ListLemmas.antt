@@ -1,15 +1,15 @@
 -- Ascending lists of numbers, chains, and lists in order.
 use Rattle.std.specs.List.{list_any, AllByRecursion, dedup}
-use Rattle.std.proofs.Common.{◌≡◌, ℕ, suc, ◌<◌, Bool, true, false, cond, ◌&&◌, ◌||◌, eqb, ltb, List, [], ◌∷◌, length, map, filter, get_or, AllPairs, All, Contains, refl, sym, ◌∙◌, ap, arith, eqb-true}
+use Rattle.std.proofs.Common.{◌≡◌, ℕ, suc, ◌<◌, Bool, true, false, cond, ◌&&◌, ◌||◌, eqb, List, [], ◌∷◌, length, map, filter, get_or, AllPairs, All, Contains, refl, sym, ◌∙◌, ap, arith, eqb-true}
 use Rattle.std.specs.Prelude.{nat_eq}
-use Rattle.std.proofs.lemmas.Bool.Decides.{nat_tests}
 use Rattle.std.proofs.lemmas.List.Elements.{All-from_recursion, recursion_from_All}
 use Rattle.std.proofs.lemmas.List.Folds.{Any-from_list_any, list_any_at}
 use Rattle.std.proofs.lemmas.List.Kept.{AllPairs-cons, Contains-dedup_nat, Contains-from_dedup}
-use Rattle.exam_model.specs.Enrolments.{IsAscending, has_student}
-use Rattle.exam_model.proofs.SumLemmas.{IsChain, each_weaker}
+use Rattle.exam_model.specs.Enrolments.{IsAscending, has_number}
+use Rattle.exam_model.proofs.SumLemmas.{IsChain}
 use Rattle.exam_model.proofs.SameSet.{same_list}
-use Rattle.exam_publish.specs.Changed.{with_number, ascending}
+use Rattle.exam_model.proofs.StudentLemmas.{ascending-none, ascending-with, has-with}
+use Rattle.exam_publish.specs.Changed.{ascending}
 
 -- ---- chains
 
@@ -47,12 +47,12 @@ pub any_map : {X Y : Type 0} (p : Y → Bool) (f : X → Y) (xs : List X) → li
 any_map p f [] = refl
 any_map p f (x ∷ xs) = ap (λ b. p (f x) || b) (any_map p f xs)
 
-any_cond : (b : Bool) (t x : ℕ) (xs : List ℕ) → has_student (cond b (x ∷ xs) xs) t ≡ ((b && (eqb x t)) || has_student xs t)
+any_cond : (b : Bool) (t x : ℕ) (xs : List ℕ) → has_number (cond b (x ∷ xs) xs) t ≡ ((b && (eqb x t)) || has_number xs t)
 any_cond true t x xs = refl
 any_cond false t x xs = refl
 
 -- a number is left by a filter that it passes
-pub has_filter : (p : ℕ → Bool) (xs : List ℕ) (t : ℕ) → has_student (filter p xs) t ≡ (p t && has_student xs t)
+pub has_filter : (p : ℕ → Bool) (xs : List ℕ) (t : ℕ) → has_number (filter p xs) t ≡ (p t && has_number xs t)
 has_filter p [] t = none (p t)
   where
     none : (b : Bool) → false ≡ (b && false)
@@ -69,9 +69,9 @@ has_filter p (x ∷ xs) t =
     none true c = refl
     none false c = refl
 
-    here : (b : Bool) → eqb x t ≡ b → ((p x && b) || (p t && has_student xs t)) ≡ (p t && (b || has_student xs t))
-    here true e = ap (λ n. (p n && true) || (p t && has_student xs t)) (eqb-true x t e) ∙ both (p t) (has_student xs t)
-    here false e = none (p x) (p t && has_student xs t)
+    here : (b : Bool) → eqb x t ≡ b → ((p x && b) || (p t && has_number xs t)) ≡ (p t && (b || has_number xs t))
+    here true e = ap (λ n. (p n && true) || (p t && has_number xs t)) (eqb-true x t e) ∙ both (p t) (has_number xs t)
+    here false e = none (p x) (p t && has_number xs t)
 
 -- ---- ascending lists
 
@@ -87,76 +87,30 @@ chain_from_ascending (x ∷ xs) h =
     above [] k = λ i d l. absurd (omega arith)
     above (y ∷ ys) k = All-from_recursion (λ y. x < y) (y ∷ ys) (k 0 (omega arith), recursion_from_All (λ y. x < y) ys (above ys (λ j l. k (suc j) (omega arith))))
 
-has_with : (s : ℕ) (xs : List ℕ) (t : ℕ) → has_student (with_number s xs) t ≡ (eqb s t || has_student xs t)
-has_with s [] t = refl
-has_with s (x ∷ xs) t = go (eqb s x) refl (ltb s x) (has_with s xs t)
-  where
-    same : (a b : Bool) → (a || b) ≡ (a || (a || b))
-    same true b = refl
-    same false b = refl
-
-    turn : (a b c : Bool) → (b || (a || c)) ≡ (a || (b || c))
-    turn true true c = refl
-    turn true false c = refl
-    turn false b c = refl
-
-    go : (e : Bool) → eqb s x ≡ e → (l : Bool) → has_student (with_number s xs) t ≡ (eqb s t || has_student xs t)
-        → has_student (cond e (x ∷ xs) (cond l (s ∷ x ∷ xs) (x ∷ with_number s xs))) t ≡ (eqb s t || (eqb x t || has_student xs t))
-    go true is l more = ap (λ n. eqb n t || has_student xs t) (sym (eqb-true s x is)) ∙ same (eqb s t) (has_student xs t) ∙ ap (λ n. eqb s t || (eqb n t || has_student xs t)) (eqb-true s x is)
-    go false is true more = refl
-    go false is false more = ap (λ b. eqb x t || b) more ∙ turn (eqb s t) (eqb x t) (has_student xs t)
-
 -- the numbers stay
-pub has_ascending : (xs : List ℕ) (t : ℕ) → has_student (ascending xs) t ≡ has_student xs t
+pub has_ascending : (xs : List ℕ) (t : ℕ) → has_number (ascending xs) t ≡ has_number xs t
 has_ascending [] t = refl
-has_ascending (x ∷ xs) t = has_with x (ascending xs) t ∙ ap (λ b. eqb x t || b) (has_ascending xs t)
-
-each_with : (P : ℕ → Type 0) (s : ℕ) (xs : List ℕ) → P s → AllByRecursion P xs → AllByRecursion P (with_number s xs)
-each_with P s [] h a = (h, tt)
-each_with P s (x ∷ xs) h a = go (eqb s x) (ltb s x) (each_with P s xs h a.1)
-  where
-    go : (e l : Bool) → AllByRecursion P (with_number s xs) → AllByRecursion P (cond e (x ∷ xs) (cond l (s ∷ x ∷ xs) (x ∷ with_number s xs)))
-    go true l more = a
-    go false true more = (h, a)
-    go false false more = (a.0, more)
-
-chain_with : (s : ℕ) (xs : List ℕ) → IsChain (λ x y. x < y) xs → IsChain (λ x y. x < y) (with_number s xs)
-chain_with s [] h = (tt, tt)
-chain_with s (x ∷ xs) h = go (eqb s x) refl (ltb s x) refl (chain_with s xs h.1)
-  where
-    less : (a b : ℕ) → ltb a b ≡ true → a < b
-    less a b e = grind (arith, nat_tests)
-
-    more_than : (a b : ℕ) → eqb a b ≡ false → ltb a b ≡ false → b < a
-    more_than a b e l = grind (arith, nat_tests)
-
-    go : (e : Bool) → eqb s x ≡ e → (l : Bool) → ltb s x ≡ l → IsChain (λ x y. x < y) (with_number s xs)
-        → IsChain (λ x y. x < y) (cond e (x ∷ xs) (cond l (s ∷ x ∷ xs) (x ∷ with_number s xs)))
-    go true is l lt more = h
-    go false is true lt more =
-        let below = less s x lt in
-        ((below, each_weaker (λ y. x < y) (λ y. s < y) (λ y k. omega arith) xs h.0), h)
-    go false is false lt more = (each_with (λ y. x < y) s xs (more_than s x is lt) h.0, more)
-
-pub chain_ascending : (xs : List ℕ) → IsChain (λ x y. x < y) (ascending xs)
-chain_ascending [] = tt
-chain_ascending (x ∷ xs) = chain_with x (ascending xs) (chain_ascending xs)
+has_ascending (x ∷ xs) t = has-with x (ascending xs) t ∙ ap (λ b. eqb x t || b) (has_ascending xs t)
 
 pub ascends : (xs : List ℕ) → IsAscending (ascending xs)
-ascends xs = ascending_from_chain (ascending xs) (chain_ascending xs)
+ascends [] = ascending-none
+ascends (x ∷ xs) = ascending-with x (ascending xs) (ascends xs)
+
+pub chain_ascending : (xs : List ℕ) → IsChain (λ x y. x < y) (ascending xs)
+chain_ascending xs = chain_from_ascending (ascending xs) (ascends xs)
 
 -- the one ascending list of these numbers
-pub is_ascending : (xs ys : List ℕ) → IsAscending ys → ((t : ℕ) → has_student ys t ≡ has_student xs t) → ys ≡ ascending xs
+pub is_ascending : (xs ys : List ℕ) → IsAscending ys → ((t : ℕ) → has_number ys t ≡ has_number xs t) → ys ≡ ascending xs
 is_ascending xs ys up same = same_list ys (ascending xs) up (ascends xs) (λ t. same t ∙ sym (has_ascending xs t))
 
 -- what is left without repeats has each number
-pub has_dedup : (xs : List ℕ) (t : ℕ) → has_student (dedup nat_eq xs) t ≡ has_student xs t
+pub has_dedup : (xs : List ℕ) (t : ℕ) → has_number (dedup nat_eq xs) t ≡ has_number xs t
 has_dedup xs t =
-    alike (has_student (dedup nat_eq xs) t) (has_student xs t)
+    alike (has_number (dedup nat_eq xs) t) (has_number xs t)
     (λ h. moved (dedup nat_eq xs) xs (λ x there. Contains-from_dedup nat_eq xs x there) h)
     (λ h. moved xs (dedup nat_eq xs) (λ x there. Contains-dedup_nat xs x there) h)
   where
-    moved : (xs ys : List ℕ) → ((x : ℕ) → Contains xs x → Contains ys x) → has_student xs t ≡ true → has_student ys t ≡ true
+    moved : (xs ys : List ℕ) → ((x : ℕ) → Contains xs x → Contains ys x) → has_number xs t ≡ true → has_number ys t ≡ true
     moved xs ys keeps h =
         let any = Any-from_list_any (λ x. eqb x t) xs h in
         let there = keeps any.1 (any.0, any.2, any.3) in

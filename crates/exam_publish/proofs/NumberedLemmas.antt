@@ -13,7 +13,8 @@ use Rattle.exam_publish.specs.declared.seat_row.SeatRow.{SeatRow}
 use Rattle.exam_publish.specs.Numbered.{sits_at, row_with, numbered_rows}
 use Rattle.exam_publish.specs.Rows.{row_place}
 use Rattle.exam_publish.specs.Seating.{IsLast}
-use Rattle.exam_publish.specs.Seats.{entrant, entrants, kept_rows, seats_at, least_free, new_row, rows_beside, seat_rows}
+use Rattle.exam_publish.specs.Seats.{seats_at, least_free, new_row, rows_beside, seat_rows}
+use Rattle.exam_publish.specs.Entrants.{entrant, entrants, kept_rows}
 use Rattle.exam_publish.proofs.FreeLemmas.{IsNext, is_next, last_here, last_there}
 use Rattle.exam_publish.proofs.SeatLemmas.{one_place}
 use Rattle.exam_publish.proofs.SeatingLemmas.{rows_after, numbered}

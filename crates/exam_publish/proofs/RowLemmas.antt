@@ -6,7 +6,7 @@ use Rattle.std.proofs.lemmas.Bool.{and_from, cases_eq, cases_lt, eq-eqb, ne_eqb,
 use Rattle.std.proofs.lemmas.List.{get_or_past, length-map}
 use Rattle.std.proofs.lemmas.List.Elements.{All-from_recursion}
 use Rattle.std.proofs.lemmas.List.FromFn.{length-map-range_with_len, get_or-map-range_with_len}
-use Rattle.exam_model.specs.Enrolments.{Enrolled, AreEnrolments, AreNumbers, has_student, students}
+use Rattle.exam_model.specs.Enrolments.{Enrolled, AreEnrolments, AreNumbers, has_number, students}
 use Rattle.exam_model.specs.Fits.{period_of}
 use Rattle.exam_model.specs.Pairs.{Pair, is_pair, pairs_at, pairs_from, pairs_of}
 use Rattle.exam_model.specs.Timetable.{Placing}
@@ -106,7 +106,7 @@ numbers_in (r ∷ rs) e h = go (eqb r.exam e) (numbers_in rs e h.1)
     go false more = more
     go true more = λ s is. elim (cases_eq r.student s) [
       | inl same ↦ subst (λ (t : ℕ). t ≤ 999999999) same h.0
-      | inr other ↦ more s (subst (λ b. (b || has_student (students_in rs e) s) ≡ true) (ne_eqb r.student s other) is)
+      | inr other ↦ more s (subst (λ b. (b || has_number (students_in rs e) s) ≡ true) (ne_eqb r.student s other) is)
     ]
 
 none_past : (n : ℕ) (rows : List SeatRow) (e : ℕ) → n ≤ e → students (enrolled_in n rows) e ≡ []
@@ -161,10 +161,10 @@ each_in (r ∷ rs) = (
 pub are_students : (n : ℕ) (rows : List SeatRow) → pairs_of (enrolled_in n rows) ≡ map row_pair rows → AreStudentsOf (enrolled_in n rows) (students_of rows)
 are_students n rows pairs = record {
   once = index_from_chain (λ s t. s ≢ t) (students_of rows) (chain_weaker (λ x y. x < y) (λ s t. s ≢ t) (λ x y h e. omega arith) (students_of rows) (chain_ascending (map (λ row. row.student) rows)));
-  all = subst (All (λ p. has_student (students_of rows) p.student ≡ true)) (sym pairs)
-      (All-from_recursion (λ p. has_student (students_of rows) p.student ≡ true) (map row_pair rows)
-      (each_map (λ p. has_student (students_of rows) p.student ≡ true) row_pair rows
-      (each_weaker (λ row. has_row rows row.student ≡ true) (λ row. has_student (students_of rows) row.student ≡ true)
+  all = subst (All (λ p. has_number (students_of rows) p.student ≡ true)) (sym pairs)
+      (All-from_recursion (λ p. has_number (students_of rows) p.student ≡ true) (map row_pair rows)
+      (each_map (λ p. has_number (students_of rows) p.student ≡ true) row_pair rows
+      (each_weaker (λ row. has_row rows row.student ≡ true) (λ row. has_number (students_of rows) row.student ≡ true)
       (λ row h. has_ascending (map (λ row. row.student) rows) row.student ∙ any_map (λ t. eqb t row.student) (λ row. row.student) rows ∙ h) rows (each_in rows))));
 }
 

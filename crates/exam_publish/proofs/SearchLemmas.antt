@@ -17,7 +17,7 @@ use Rattle.exam_publish.specs.declared.held.Held.{Held}
 use Rattle.exam_publish.specs.declared.seat_row.SeatRow.{SeatRow}
 use Rattle.exam_publish.specs.Rows.{row_place, RowBefore, RowsInOrder}
 use Rattle.exam_publish.specs.Seating.{held_cmp, is_held}
-use Rattle.exam_publish.specs.Seats.{is_row_at}
+use Rattle.exam_publish.specs.Entrants.{is_row_at}
 
 -- a search tells whether an equal element is there
 found : {X K : Type 0} (R : K → K → Ordering) (o : IsTotalOrder R) (key : X → K) (xs : List X) (x : K) (d : X) (r : Result ℕ ℕ) → IsSortedBy (λ a b. is_lt (R (key a) (key b))) xs

@@ -9,7 +9,7 @@ use Rattle.std.proofs.lemmas.List.{length-map, get_or_default}
 use Rattle.std.proofs.lemmas.List.Elements.{All-from_recursion, recursion_from_All, All-contains_itself, All-contains}
 use Rattle.std.proofs.lemmas.List.Sums.{sum_by-cons}
 use Rattle.exam_model.specs.Instance.{Session}
-use Rattle.exam_model.specs.Enrolments.{Enrolled, AreEnrolments, has_student}
+use Rattle.exam_model.specs.Enrolments.{Enrolled, AreEnrolments, has_number}
 use Rattle.exam_model.specs.Fits.{Fits, PlaceExists}
 use Rattle.exam_model.specs.Pairs.{Pair, pairs_at, pairs_from, pairs_of, is_pair, ComesBefore, ArePairsOf}
 use Rattle.exam_model.specs.Sums.{sum_below}
@@ -28,7 +28,8 @@ use Rattle.exam_publish.specs.declared.seat_row.SeatRow.{SeatRow}
 use Rattle.exam_publish.specs.Numbered.{sits_at}
 use Rattle.exam_publish.specs.Permit.{publish_refusal, first_unplaced, least_breach}
 use Rattle.exam_publish.specs.Rows.{row_pair, row_place, RowBefore, RowsInOrder, IsAtExam, ArePublishedRows}
-use Rattle.exam_publish.specs.Seats.{IsSeatOf, HasSeat, HaveOwnSeats, AreSeated, is_row_at, entrant, entrants, kept_rows, seats_at, least_free, new_row, standing_with, rows_beside, seat_rows}
+use Rattle.exam_publish.specs.Seats.{IsSeatOf, HasSeat, HaveOwnSeats, AreSeated, seats_at, least_free, new_row, standing_with, rows_beside, seat_rows}
+use Rattle.exam_publish.specs.Entrants.{is_row_at, entrant, entrants, kept_rows}
 use Rattle.exam_publish.proofs.FreeLemmas.{least_is, least_small, length_seats, has_seats, still_taken}
 use Rattle.exam_publish.proofs.ListLemmas.{index_from_chain}
 use Rattle.exam_publish.proofs.PermitLemmas.{neither, all_placed}
@@ -229,7 +230,7 @@ rows_within I most standing (x ∷ xs) room kept fits = step x.kept room kept (�
 
 -- a row's seat is one of those that stand
 abbrev IsTaken : List SeatRow → SeatRow → Type 0
-IsTaken standing r = has_student (seats_at (row_place r) standing) r.seat ≡ true
+IsTaken standing r = has_number (seats_at (row_place r) standing) r.seat ≡ true
 
 -- a row that stands shares its seat with no row of entrants who keep other seats
 apart : (r : SeatRow) (standing : List SeatRow) (xs : List Entrant) → IsTaken standing r → AllByRecursion (HaveOwnSeats r) (kept_rows xs)
@@ -241,7 +242,7 @@ apart r standing (x ∷ xs) taken kept = step x.kept kept (λ s t k. apart r s x
     other a b c =
         let free = (least_is (seats_at x.place standing)).free in
         let same : row_place r ≡ x.place = (λ i. record { period = a i; room = b i }) in
-        true≢false (sym taken ∙ ap₂ (λ at n. has_student (seats_at at standing) n) same c ∙ free)
+        true≢false (sym taken ∙ ap₂ (λ at n. has_number (seats_at at standing) n) same c ∙ free)
 
     step : (o : Option SeatRow) → AllByRecursion (HaveOwnSeats r) (kept_rows (record x { kept = o } ∷ xs))
         → ((s : List SeatRow) → IsTaken s r → AllByRecursion (HaveOwnSeats r) (kept_rows xs) → AllByRecursion (HaveOwnSeats r) (rows_beside s xs))
@@ -252,7 +253,7 @@ apart r standing (x ∷ xs) taken kept = step x.kept kept (λ s t k. apart r s x
 taken_first : (r : SeatRow) (rs : List SeatRow) → IsTaken (r ∷ rs) r
 taken_first r rs =
     has_seats (row_place r) r rs r.seat
-    ∙ or_left (is_one_place (row_place r) (row_place r) && eqb r.seat r.seat) (has_student (seats_at (row_place r) rs) r.seat)
+    ∙ or_left (is_one_place (row_place r) (row_place r) && eqb r.seat r.seat) (has_number (seats_at (row_place r) rs) r.seat)
     (and_from (is_one_place (row_place r) (row_place r)) (eqb r.seat r.seat) (same_place (row_place r)) (eq-eqb r.seat r.seat refl))
 
 own_rows : (standing : List SeatRow) (xs : List Entrant) → IsChain HaveOwnSeats (kept_rows xs) → AllByRecursion (IsTaken standing) (kept_rows xs)
@@ -264,7 +265,7 @@ own_rows standing (x ∷ xs) chain taken = step x.kept chain taken (λ s c t. ow
     free_of r there a b c =
         let free = (least_is (seats_at x.place standing)).free in
         let same : row_place r ≡ x.place = (λ i. record { period = sym a i; room = sym b i }) in
-        true≢false (sym there ∙ ap₂ (λ at n. has_student (seats_at at standing) n) same (sym c) ∙ free)
+        true≢false (sym there ∙ ap₂ (λ at n. has_number (seats_at at standing) n) same (sym c) ∙ free)
 
     step : (o : Option SeatRow) → IsChain HaveOwnSeats (kept_rows (record x { kept = o } ∷ xs)) → AllByRecursion (IsTaken standing) (kept_rows (record x { kept = o } ∷ xs))
         → ((s : List SeatRow) → IsChain HaveOwnSeats (kept_rows xs) → AllByRecursion (IsTaken s) (kept_rows xs) → IsChain HaveOwnSeats (rows_beside s xs))

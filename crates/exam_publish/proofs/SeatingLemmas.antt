@@ -1,10 +1,9 @@
 -- Pairs and places in order, and seats that are numbered along the pairs.
 use Rattle.std.specs.List.{AllByRecursion, cons_option}
-use Rattle.std.proofs.Common.{◌≡◌, ℕ, ◌+◌, ◌*◌, ◌<◌, inl, inr, Bool, true, false, cond, ◌&&◌, List, [], ◌∷◌, ◌++◌, length, take, option_map, count_by, filter_map, refl, sym, ◌∙◌, ap, ap₂, subst, arith, append-nil, append_assoc, mul_comm, length-append}
+use Rattle.std.proofs.Common.{◌≡◌, ℕ, ◌+◌, ◌<◌, inl, inr, Bool, true, false, cond, ◌&&◌, List, [], ◌∷◌, ◌++◌, length, take, option_map, count_by, filter_map, refl, sym, ◌∙◌, ap, ap₂, subst, arith, append-nil, append_assoc, length-append}
 use Rattle.std.proofs.lemmas.Bool.Decides.{nat_tests}
 use Rattle.std.proofs.lemmas.List.{take_more, length-map, length-take}
 use Rattle.std.proofs.lemmas.List.Sums.{sum_by-cons, sum_by-append}
-use Rattle.std.proofs.lemmas.Nat.{mul-add-lt}
 use Rattle.exam_model.specs.Enrolments.{Enrolled, students, pair_count}
 use Rattle.exam_model.specs.Pairs.{Pair, pairs_at, pairs_from, pairs_of, ComesBefore}
 use Rattle.exam_model.specs.Timetable.{Placing, place_of}
@@ -13,7 +12,6 @@ use Rattle.exam_model.proofs.SumLemmas.{IsChain, sum_by-agree, sum_by-none, each
 use Rattle.exam_publish.specs.declared.seat_row.SeatRow.{SeatRow}
 use Rattle.exam_publish.specs.Numbered.{sits_at, seat_number, row_with, seat_row}
 use Rattle.exam_publish.specs.Rows.{comes_before}
-use Rattle.exam_publish.specs.Seating.{slot_of}
 
 -- ---- one exam more
 
@@ -27,12 +25,6 @@ pub pairs_more : (E : Enrolled) (e : ℕ) → e < length E → pairs_of (take (e
 pairs_more E e lt =
     ap (pairs_from 0) (take_more E e [] lt) ∙ pairs_from-push 0 (take e E) (students E e)
     ∙ ap (λ n. pairs_of (take e E) ++ pairs_at n (students E e)) (let l = length-take e E in omega arith)
-
-pub slot_within : (periods rooms : ℕ) (at : Place) → at.period < periods → at.room < rooms → slot_of rooms at < periods * rooms
-slot_within periods rooms at hp hr =
-    let lt = mul-add-lt at.period rooms at.room periods hp hr in
-    let turn = mul_comm rooms periods in
-    omega arith
 
 -- ---- how many pairs
 

@@ -5,7 +5,7 @@ use Rattle.std.proofs.lemmas.Bool.{and_parts, not-false}
 use Rattle.std.proofs.lemmas.List.Elements.{All-from_recursion, recursion_from_All}
 use Rattle.std.proofs.lemmas.List.FromFn.{length-map-range_with_len}
 use Rattle.std.proofs.lemmas.List.Sums.{sum_by-cons}
-use Rattle.exam_model.specs.Enrolments.{Enrolled, IsAscending, has_student}
+use Rattle.exam_model.specs.Enrolments.{Enrolled, IsAscending, has_number}
 use Rattle.exam_model.specs.Instance.{Session, IsInstance}
 use Rattle.exam_model.specs.Timetable.{Placing}
 use Rattle.exam_model.proofs.SumLemmas.{chain_from_index}
@@ -60,9 +60,9 @@ sharing I rows = firsts (λ s. share_of I.periods I.weights (rows_of s rows)) (s
 pub shares_ascend : (I : Session) (rows : List SeatRow) → IsAscending (map (λ (share : ℕ × PersonalPenalty). share.0) (student_shares I rows))
 shares_ascend I rows = subst IsAscending (sym (sharing I rows)) (ascends (map (λ (row : SeatRow). row.student) rows))
 
-pub shares_seated : (I : Session) (rows : List SeatRow) (s : ℕ) → has_student (map (λ (share : ℕ × PersonalPenalty). share.0) (student_shares I rows)) s ≡ has_row rows s
+pub shares_seated : (I : Session) (rows : List SeatRow) (s : ℕ) → has_number (map (λ (share : ℕ × PersonalPenalty). share.0) (student_shares I rows)) s ≡ has_row rows s
 shares_seated I rows s =
-    ap (λ xs. has_student xs s) (sharing I rows)
+    ap (λ xs. has_number xs s) (sharing I rows)
     ∙ has_ascending (map (λ (row : SeatRow). row.student) rows) s
     ∙ any_map (λ t. eqb t s) (λ (row : SeatRow). row.student) rows
 

@@ -2,21 +2,23 @@
 use Rattle.std.specs.List.{AllByRecursion}
 use Rattle.std.specs.List.Sorted.{ties, IsSortedByKey, IsStableByKey}
 use Rattle.std.specs.Ordering.{is_lt, nat_cmp}
-use Rattle.std.proofs.Common.{◌≡◌, ℕ, zero, suc, ◌+◌, ◌<◌, ◌≤◌, inl, inr, Bool, true, false, cond, not, ◌&&◌, ◌||◌, eqb, ltb, List, [], ◌∷◌, ◌++◌, length, take, drop, map, get_or, AllPairs, IsPermutation, refl, sym, ◌∙◌, ap, ap₂, subst, arith, eqb-true, take-append-drop, append-nil}
-use Rattle.std.proofs.lemmas.Bool.{cases_eq, eq-eqb, ne_eqb, lt-ltb}
+use Rattle.std.proofs.Common.{◌≡◌, ℕ, zero, suc, ◌+◌, ◌<◌, ◌≤◌, inl, inr, Bool, true, false, cond, not, ◌&&◌, ◌||◌, eqb, List, [], ◌∷◌, ◌++◌, length, take, drop, map, get_or, AllPairs, IsPermutation, refl, sym, ◌∙◌, ap, ap₂, subst, arith, eqb-true, take-append-drop, append-nil}
+use Rattle.std.proofs.lemmas.Bool.{cases_eq, eq-eqb, ne_eqb}
 use Rattle.std.proofs.lemmas.Bool.Decides.{nat_tests}
 use Rattle.std.proofs.lemmas.List.{get_or-take, get_or-drop, length-map, length-take, length-drop, append_assoc}
 use Rattle.std.proofs.lemmas.List.Elements.{filter-append, filter_agree, recursion_from_All}
 use Rattle.std.proofs.lemmas.List.Folds.{list_any-append}
 use Rattle.std.proofs.lemmas.List.Sorted.{list_any-IsPermutation, IsNonDecreasingBy-from_sort}
-use Rattle.exam_model.specs.Enrolments.{has_student}
+use Rattle.exam_model.specs.Changes.{with_student}
+use Rattle.exam_model.specs.Enrolments.{has_number}
 use Rattle.exam_model.specs.Instance.{Session}
 use Rattle.exam_model.specs.Timetable.{Placing}
 use Rattle.exam_model.proofs.SumLemmas.{IsChain, chain_from_index, each_weaker}
 use Rattle.exam_model.proofs.SameSet.{same_list}
+use Rattle.exam_model.proofs.StudentLemmas.{each_with, with_cases}
 use Rattle.exam_score.specs.Penalty.{PersonalPenalty}
 use Rattle.exam_publish.specs.declared.seat_row.SeatRow.{SeatRow}
-use Rattle.exam_publish.specs.Changed.{rows_of, has_row, students_of, with_number}
+use Rattle.exam_publish.specs.Changed.{rows_of, has_row, students_of}
 use Rattle.exam_publish.specs.Groups.{AreSorted, IsRun, shares_in}
 use Rattle.exam_publish.specs.Rows.{RowBefore, ArePublishedRows}
 use Rattle.exam_publish.specs.Shares.{share_of, student_shares}
@@ -31,7 +33,7 @@ tied s t = grind (arith, nat_tests)
 row_like : ℕ → SeatRow
 row_like s = record { student = s; exam = 0; period = 0; room = 0; seat = 0 }
 
-has_student_of : (rows : List SeatRow) (s : ℕ) → has_student (students_of rows) s ≡ has_row rows s
+has_student_of : (rows : List SeatRow) (s : ℕ) → has_number (students_of rows) s ≡ has_row rows s
 has_student_of rows s = has_ascending (map (λ row. row.student) rows) s ∙ any_map (λ t. eqb t s) (λ row. row.student) rows
 
 pub are_sorted : (rows sorted : List SeatRow) → IsPermutation rows sorted → IsSortedByKey (λ (row : SeatRow). row.student) nat_cmp sorted
@@ -89,34 +91,32 @@ rows_none s (x ∷ xs) a =
 
 -- ---- the numbers of the students
 
-each_with : (P : ℕ → Type 0) (s : ℕ) (xs : List ℕ) → P s → AllByRecursion P xs → AllByRecursion P (with_number s xs)
-each_with P s [] h a = (h, tt)
-each_with P s (x ∷ xs) h a = go (eqb s x) (ltb s x) (each_with P s xs h a.1)
-  where
-    go : (e l : Bool) → AllByRecursion P (with_number s xs) → AllByRecursion P (cond e (x ∷ xs) (cond l (s ∷ x ∷ xs) (x ∷ with_number s xs)))
-    go true l more = a
-    go false true more = (h, a)
-    go false false more = (a.0, more)
-
 each_ascending : (P : ℕ → Type 0) (xs : List SeatRow) → AllByRecursion (λ row. P row.student) xs → AllByRecursion P (students_of xs)
 each_ascending P [] a = tt
 each_ascending P (x ∷ xs) a = each_with P x.student (students_of xs) a.0 (each_ascending P xs a.1)
 
-with_first : (s : ℕ) (xs : List ℕ) → AllByRecursion (λ x. s < x) xs → with_number s xs ≡ s ∷ xs
+with_first : (s : ℕ) (xs : List ℕ) → AllByRecursion (λ x. s < x) xs → with_student s xs ≡ s ∷ xs
 with_first s [] a = refl
 with_first s (x ∷ xs) a =
     let less : s < x = a.0 in
-    ap₂ (λ e l. cond e (x ∷ xs) (cond l (s ∷ x ∷ xs) (x ∷ with_number s xs))) (ne_eqb s x (λ same. omega arith)) (lt-ltb s x less)
+    with_cases s x xs (λ ys. ys ≡ s ∷ x ∷ xs)
+    (λ before. refl)
+    (λ same. absurd (omega arith))
+    (λ behind. absurd (omega arith))
 
-with_again : (s : ℕ) (xs : List ℕ) → with_number s (s ∷ xs) ≡ s ∷ xs
-with_again s xs = ap (λ e. cond e (s ∷ xs) (cond (ltb s s) (s ∷ s ∷ xs) (s ∷ with_number s xs))) (eq-eqb s s refl)
+with_again : (s : ℕ) (xs : List ℕ) → with_student s (s ∷ xs) ≡ s ∷ xs
+with_again s xs =
+    with_cases s s xs (λ ys. ys ≡ s ∷ xs)
+    (λ before. absurd (omega arith))
+    (λ same. refl)
+    (λ behind. absurd (omega arith))
 
 -- one student's rows before those of greater ones
 run_first : (s : ℕ) (x : SeatRow) (own later : List SeatRow) → AllByRecursion (λ row. row.student ≡ s) (x ∷ own) → AllByRecursion (λ row. s < row.student) later
     → students_of ((x ∷ own) ++ later) ≡ s ∷ students_of later
-run_first s x [] later a b = ap (λ t. with_number t (students_of later)) a.0 ∙ with_first s (students_of later) (each_ascending (λ t. s < t) later b)
+run_first s x [] later a b = ap (λ t. with_student t (students_of later)) a.0 ∙ with_first s (students_of later) (each_ascending (λ t. s < t) later b)
 run_first s x (y ∷ own) later a b =
-    ap₂ (λ t xs. with_number t xs) a.0 (run_first s y own later a.1 b) ∙ with_again s (students_of later)
+    ap₂ (λ t xs. with_student t xs) a.0 (run_first s y own later a.1 b) ∙ with_again s (students_of later)
 
 run_students : (s : ℕ) (own later : List SeatRow) → 0 < length own → AllByRecursion (λ row. row.student ≡ s) own → AllByRecursion (λ row. s < row.student) later
     → students_of (own ++ later) ≡ s ∷ students_of later

@@ -1,6 +1,7 @@
 -- The candidates whose rows differ between two lists of rows.
-use Rattle.std.specs.Prelude.{ℕ, Bool, true, false, not, ◌&&◌, ◌==◌, nat_lt, if◌then◌else◌, List, [], ◌∷◌, ◌++◌, map, filter}
+use Rattle.std.specs.Prelude.{ℕ, Bool, true, false, not, ◌&&◌, ◌==◌, List, [], ◌∷◌, ◌++◌, map, filter}
 use Rattle.std.specs.List.{list_any}
+use Rattle.exam_model.specs.Changes.{with_student}
 use Rattle.exam_publish.specs.declared.seat_row.SeatRow.{SeatRow}
 
 -- one candidate's rows
@@ -28,16 +29,10 @@ same_rows (r ∷ rs) (q ∷ qs) = same_row r q && same_rows rs qs
 abbrev pub is_changed : List SeatRow → List SeatRow → ℕ → Bool
 is_changed old new s = not (same_rows (rows_of s old) (rows_of s new))
 
--- an ascending list with a number put in where it isn't there
-abbrev pub with_number : ℕ → List ℕ → List ℕ
-with_number s [] = s ∷ []
-with_number s (t ∷ ts) =
-    if s == t then t ∷ ts else (if nat_lt s t then s ∷ t ∷ ts else t ∷ with_number s ts)
-
 -- the numbers of a list, ascending, each once
 abbrev pub ascending : List ℕ → List ℕ
 ascending [] = []
-ascending (s ∷ ss) = with_number s (ascending ss)
+ascending (s ∷ ss) = with_student s (ascending ss)
 
 -- the candidates of these rows, ascending, each once
 abbrev pub students_of : List SeatRow → List ℕ

@@ -1,12 +1,12 @@
 -- The durations of each room and period, by stays.
 use Rattle.std.specs.Prelude.{◌≡◌, ℕ, ◌+◌, ◌*◌, ◌<◌, ◌≤◌, Bool, ◌==◌, List, length, slice_index}
+use Rattle.exam_model.specs.Fits.{slot_of}
 use Rattle.exam_model.specs.Instance.{Session}
 use Rattle.exam_model.specs.Timetable.{Placing}
 use Rattle.exam_terms.specs.declared.limits.TheConstants.{MAX_EXAMS}
 use Rattle.exam_terms.specs.declared.place.Place.{Place}
 use Rattle.exam_score.specs.Track.{durations}
 use Rattle.exam_score.specs.declared.mixed.Stay.{Stay}
-use Rattle.exam_publish.specs.Seating.{slot_of}
 
 -- a stay's place
 abbrev pub stay_place : Stay → Place

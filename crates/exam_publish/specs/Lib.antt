@@ -1,5 +1,6 @@
 pub mod Permit
 pub mod Rows
+pub mod Entrants
 pub mod Seats
 pub mod Numbered
 pub mod Seating

@@ -1,4 +1,5 @@
--- Where no seat is kept, seats are numbered through each room and period, by exam and then by student.
+-- Where no seat is kept, seats are numbered through each room and period, by exam and then by
+-- student.
 use Rattle.std.specs.Prelude.{ℕ, ◌+◌, Bool, ◌&&◌, List, Option, count_by, filter_map, option_map}
 use Rattle.exam_terms.specs.declared.place.Place.{Place}
 use Rattle.exam_model.specs.Pairs.{Pair}

@@ -37,7 +37,8 @@ RefusesPublication I E T NoMemory = first_unplaced T ≡ None
 abbrev pub IsComplete : Placing → Type 0
 IsComplete T = (e : ℕ) → e < length T → IsSome (place_of T e)
 
--- what a refusal names is so: an exam without a place, the first of them, or a breach where each exam has one
+-- what a refusal names is so: an exam without a place, the first of them, or a breach where each
+-- exam has one
 abbrev pub NamesCause : Session → Enrolled → Placing → PublishFault → Type 0
 NamesCause I E T (Unplaced e) = IsFirstUnplaced T e
 NamesCause I E T (Broken b) = IsComplete T × (is_breach I E T b ≡ true)

@@ -1,21 +1,18 @@
 -- How seats are given out along the entrants.
-use Rattle.std.specs.Prelude.{◌≡◌, ℕ, ◌+◌, ◌*◌, ◌<◌, ◌≤◌, Bool, true, false, ◌&&◌, ◌==◌, List, length, All, IfSome, slice_index}
+use Rattle.std.specs.Prelude.{◌≡◌, ℕ, ◌*◌, ◌<◌, ◌≤◌, Bool, true, false, ◌&&◌, ◌==◌, List, length, All, IfSome, slice_index}
 use Rattle.std.specs.List.{list_any}
 use Rattle.std.specs.List.Sorted.{IsSorted}
 use Rattle.std.specs.Ordering.{nat_cmp, ordering_then}
 use Rattle.std.specs.declared.cmp.Ordering.{Ordering}
 use Rattle.exam_terms.specs.declared.limits.TheConstants.{MAX_AMOUNT}
 use Rattle.exam_terms.specs.declared.place.Place.{Place}
-use Rattle.exam_model.specs.Enrolments.{has_student}
+use Rattle.exam_model.specs.Enrolments.{has_number}
+use Rattle.exam_model.specs.Fits.{slot_of}
 use Rattle.exam_model.specs.Instance.{Session}
 use Rattle.exam_publish.specs.declared.entrants.Entrant.{Entrant}
 use Rattle.exam_publish.specs.declared.held.Held.{Held}
 use Rattle.exam_publish.specs.declared.seat_row.SeatRow.{SeatRow}
 use Rattle.exam_publish.specs.Seats.{seats_at}
-
--- a place's entry in a table with a line of rooms for each period
-abbrev pub slot_of : ℕ → Place → ℕ
-slot_of rooms at = at.period * rooms + at.room
 
 -- an entrant's place exists
 pub record EntrantExists (I : Session) (x : Entrant) : Type 0 where
@@ -38,7 +35,8 @@ held_cmp x y =
 
 -- the seats that these rows hold, in order
 pub record AreHeld (kept : List SeatRow) (held : List Held) : Type 0 where
-  pub members : (at : Place) (n : ℕ) → list_any (is_held at n) held ≡ has_student (seats_at at kept) n
+  pub members : (at : Place) (n : ℕ)
+      → list_any (is_held at n) held ≡ has_number (seats_at at kept) n
   pub sorted : IsSorted held_cmp held
   pub small : All (λ h. h.seat ≤ MAX_AMOUNT) held
 
@@ -50,8 +48,9 @@ pub record IsNextFree (held : List Held) (at : Place) (from n : ℕ) : Type 0 wh
 
 -- up to this seat all are taken, and beyond it only those that are kept
 pub record IsLast (kept standing : List SeatRow) (at : Place) (n : ℕ) : Type 0 where
-  pub all : (k : ℕ) → 1 ≤ k → k ≤ n → has_student (seats_at at standing) k ≡ true
-  pub beyond : (k : ℕ) → n < k → has_student (seats_at at standing) k ≡ has_student (seats_at at kept) k
+  pub all : (k : ℕ) → 1 ≤ k → k ≤ n → has_number (seats_at at standing) k ≡ true
+  pub beyond : (k : ℕ) → n < k
+      → has_number (seats_at at standing) k ≡ has_number (seats_at at kept) k
 
 -- each place's entry is the last seat that was given there
 pub record AreLast (kept standing : List SeatRow) (periods rooms : ℕ) (last : List ℕ) : Type 0 where

@@ -1,16 +1,18 @@
--- Who sits where: an old seat stays where its exam stands as before, and the others are seated around the seats that stay.
-use Rattle.std.specs.Prelude.{◌≡◌, ◌≤◌, ℕ, ◌+◌, Bool, not, ◌&&◌, if◌then◌else◌, List, [], ◌∷◌, length, map, filter, filter_map, Option, None, Some, All, AllPairs, option_map, unwrap_or, is_some, slice_get}
-use Rattle.std.specs.List.{find, position_or_len, range_with_len}
+-- Who sits where: an old seat stays where its exam stands as before, and the others are seated
+-- around the seats that stay.
+use Rattle.std.specs.Prelude.{◌≡◌, ◌≤◌, ℕ, ◌+◌, not, if◌then◌else◌, List, [], ◌∷◌, length, map, filter, Option, None, Some, All, AllPairs, unwrap_or, is_some, slice_get}
+use Rattle.std.specs.List.{position_or_len, range_with_len}
 use Rattle.exam_terms.specs.declared.place.Place.{Place}
 use Rattle.exam_model.specs.declared.parts.Room.{Room}
-use Rattle.exam_model.specs.Enrolments.{has_student}
+use Rattle.exam_model.specs.Enrolments.{has_number}
 use Rattle.exam_model.specs.Instance.{Session}
-use Rattle.exam_model.specs.Pairs.{Pair, is_pair}
-use Rattle.exam_model.specs.Timetable.{Placing, place_of}
+use Rattle.exam_model.specs.Pairs.{Pair}
+use Rattle.exam_model.specs.Timetable.{Placing}
 use Rattle.exam_rules.specs.Places.{is_one_place}
 use Rattle.exam_publish.specs.declared.entrants.Entrant.{Entrant}
 use Rattle.exam_publish.specs.declared.seat_row.SeatRow.{SeatRow}
 use Rattle.exam_publish.specs.Rows.{row_place, RowsInOrder}
+use Rattle.exam_publish.specs.Entrants.{entrants, kept_rows}
 
 -- ---- seats
 
@@ -25,37 +27,14 @@ HasSeat I row = IsSeatOf (slice_get I.rooms row.room) row.seat
 
 -- two rows of one period and room have different seats
 abbrev pub HaveOwnSeats : SeatRow → SeatRow → Type 0
-HaveOwnSeats row other = row.period ≡ other.period → row.room ≡ other.room → row.seat ≡ other.seat → ⊥
+HaveOwnSeats row other =
+    row.period ≡ other.period → row.room ≡ other.room → row.seat ≡ other.seat → ⊥
 
 -- rows in order, each with a seat of its room, and none with the seat of another
 pub record AreSeated (I : Session) (rows : List SeatRow) : Type 0 where
   pub in_order : RowsInOrder rows
   pub within : All (HasSeat I) rows
   pub own : AllPairs HaveOwnSeats rows
-
--- ---- who keeps a seat
-
--- whether a row is the pair's, in this room and period
-abbrev pub is_row_at : Pair → Place → SeatRow → Bool
-is_row_at p at row = is_pair row.student row.exam p && is_one_place at (row_place row)
-
--- a pair, where its exam stands now, and its old row if that is there
-abbrev pub entrant : List SeatRow → Pair → Place → Entrant
-entrant old p at = record {
-  student = p.student;
-  exam = p.exam;
-  place = at;
-  kept = find (is_row_at p at) old;
-}
-
--- the entrants of the pairs whose exams have places, in order
-abbrev pub entrants : List Pair → Placing → List SeatRow → List Entrant
-entrants pairs T old =
-    filter_map (λ p. option_map (entrant old p) (place_of T p.exam)) pairs
-
--- the rows that entrants keep
-abbrev pub kept_rows : List Entrant → List SeatRow
-kept_rows xs = filter_map (λ x. x.kept) xs
 
 -- ---- the seats of the others
 
@@ -66,7 +45,7 @@ seats_at at rows = map (λ row. row.seat) (filter (λ row. is_one_place at (row_
 -- the least number from 1 that is none of these
 abbrev pub least_free : List ℕ → ℕ
 least_free taken =
-    position_or_len (λ n. not (has_student taken n)) (range_with_len 1 (length taken)) + 1
+    position_or_len (λ n. not (has_number taken n)) (range_with_len 1 (length taken)) + 1
 
 -- the row of an entrant who keeps none: its seat is the least one there that no row has
 abbrev pub new_row : List SeatRow → Entrant → SeatRow

@@ -29,7 +29,8 @@ share_of periods weights own = personal_of periods weights (map (λ row. row.per
 
 -- each candidate with rows, ascending, and her share
 abbrev pub student_shares : Session → List SeatRow → List (ℕ × PersonalPenalty)
-student_shares I rows = map (λ s. (s, share_of I.periods I.weights (rows_of s rows))) (students_of rows)
+student_shares I rows =
+    map (λ s. (s, share_of I.periods I.weights (rows_of s rows))) (students_of rows)
 
 -- each exam's share of the front load, sizes by the rows
 abbrev pub exam_shares : Session → List SeatRow → Placing → List ℕ

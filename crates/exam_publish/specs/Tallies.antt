@@ -3,7 +3,8 @@ use Rattle.std.specs.Prelude.{◌≡◌, ℕ, ◌*◌, ◌<◌, ◌≤◌, Bool,
 use Rattle.exam_terms.specs.declared.limits.TheConstants.{MAX_AMOUNT}
 
 -- entry k is the amount of k, once for each element that passes its test
-pub record AreTallied {X : Type 0} (amount : ℕ → ℕ) (test : ℕ → X → Bool) (n : ℕ) (xs : List X) (sums : List ℕ) : Type 0 where
+pub record AreTallied {X : Type 0} (amount : ℕ → ℕ) (test : ℕ → X → Bool) (n : ℕ) (xs : List X)
+    (sums : List ℕ) : Type 0 where
   pub count : length sums ≡ n
   pub each : (k : ℕ) → k < n → slice_index sums k ≡ amount k * count_by (test k) xs
   -- no entry is near the limit of its type

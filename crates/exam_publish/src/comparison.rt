@@ -1,6 +1,6 @@
 // Whose rows differ between two publications.
 ghost use Rattle.std.specs.Prelude.{◌≡◌, ℕ, ◌&&◌, ◌||◌, ◌==◌, IfOk, OnOk};
-ghost use Rattle.exam_model.specs.Enrolments.{IsAscending, has_student};
+ghost use Rattle.exam_model.specs.Enrolments.{IsAscending, has_number};
 ghost use Rattle.exam_publish.specs.Rows.{RowsInOrder, comes_before, row_pair};
 ghost use Rattle.exam_publish.specs.Changed.{is_changed, changed_students, ascending, has_row};
 
@@ -16,7 +16,7 @@ pub fn changed(
 ) -> Result<Vec<StudentNo>, AllocError>
     requires old_in_order { RowsInOrder old.now }
     requires new_in_order { RowsInOrder new.now }
-    ensures members { IfOk result (λ found. (s : ℕ) → has_student found.items s
+    ensures members { IfOk result (λ found. (s : ℕ) → has_number found.items s
         ≡ is_changed old.now new.now s) }
     ensures ascending { IfOk result (λ found. IsAscending found.items) }
     ensures listed { IfOk result (λ found. found.items ≡ changed_students old.now new.now) }
@@ -29,7 +29,7 @@ pub fn changed(
 fn differing(alloc: Global, old: &[SeatRow], new: &[SeatRow]) -> Result<Vec<StudentNo>, AllocError>
     requires old_in_order { RowsInOrder old.now }
     requires new_in_order { RowsInOrder new.now }
-    ensures { IfOk result (λ found. (s : ℕ) → has_student found.items s
+    ensures { IfOk result (λ found. (s : ℕ) → has_number found.items s
         ≡ is_changed old.now new.now s) }
 {
     let mut found = Vec::new(alloc);
@@ -65,8 +65,8 @@ fn is_before(row: &SeatRow, other: &SeatRow) -> bool
 
 // Adds a student, if her rows differ.
 fn push_if(found: &mut Vec<StudentNo>, differs: bool, student: StudentNo) -> Result<(), AllocError>
-    ensures { OnOk result ((s : ℕ) → has_student found.new.items s
-        ≡ (has_student found.old.items s || ((student == s) && differs))) }
+    ensures { OnOk result ((s : ℕ) → has_number found.new.items s
+        ≡ (has_number found.old.items s || ((student == s) && differs))) }
 {
     if differs {
         found.push(student)?;
@@ -76,8 +76,8 @@ fn push_if(found: &mut Vec<StudentNo>, differs: bool, student: StudentNo) -> Res
 
 // Adds the students of all rows.
 fn push_students(found: &mut Vec<StudentNo>, rows: &[SeatRow]) -> Result<(), AllocError>
-    ensures { OnOk result ((s : ℕ) → has_student found.new.items s
-        ≡ (has_student found.old.items s || has_row rows.now s)) }
+    ensures { OnOk result ((s : ℕ) → has_number found.new.items s
+        ≡ (has_number found.old.items s || has_row rows.now s)) }
 {
     'rows: for row in rows {
         found.push(row.student)?;

@@ -5,8 +5,7 @@ ghost use Rattle.exam_model.specs.Fits.{Suits};
 ghost use Rattle.exam_publish.specs.Durations.{AreDurations};
 ghost use Rattle.exam_model.specs.Sums.{sum_below};
 
-use crate::seating::slot_of;
-use exam_model::{Instance, PeriodNo, RoomNo, Timetable};
+use exam_model::{Instance, PeriodNo, Place, RoomNo, Timetable};
 use exam_score::stays_of;
 use std::alloc::{AllocError, Global};
 
@@ -25,7 +24,10 @@ pub fn durations(
     stays.sort_unstable();
     stays.dedup();
     'stays: for stay in &stays {
-        let slot = slot_of(instance, stay.period, stay.room);
+        let slot = instance.slot_of(Place {
+            period: stay.period,
+            room: stay.room,
+        });
         let count = kinds[slot] + 1;
         kinds[slot] = count;
     }
@@ -44,7 +46,11 @@ pub fn mixed_in(instance: &Instance, kinds: &[u32], room: RoomNo) -> u64
     let weight = u64::from(instance.weights().mixed);
     let mut total = 0;
     'periods: for period in 0..instance.periods() {
-        let count = kinds[slot_of(instance, PeriodNo::new(period), room)];
+        let place = Place {
+            period: PeriodNo::new(period),
+            room,
+        };
+        let count = kinds[instance.slot_of(place)];
         total += u64::from(count.saturating_sub(1)) * weight;
     }
     total

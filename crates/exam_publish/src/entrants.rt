@@ -4,7 +4,7 @@ ghost use Rattle.std.specs.List.{find};
 ghost use Rattle.exam_model.specs.Pairs.{pairs_of};
 ghost use Rattle.exam_publish.specs.Rows.{RowsInOrder, row_place};
 ghost use Rattle.exam_rules.specs.Places.{is_one_place};
-ghost use Rattle.exam_publish.specs.Seats.{is_row_at, entrant, entrants};
+ghost use Rattle.exam_publish.specs.Entrants.{is_row_at, entrant, entrants};
 
 use crate::seat_row::SeatRow;
 use exam_model::{Enrolments, ExamNo, Place, StudentNo, Timetable};
@@ -52,7 +52,8 @@ fn add_entrants(
 ) -> Result<(), AllocError>
     requires { RowsInOrder old.now }
     ensures { OnOk result (found.new.items ≡ found.old.items
-        ++ map (λ s. entrant old.now (record { exam = exam; student = s }) place.now) students.now) }
+        ++ map (λ s. entrant old.now (record { exam = exam; student = s }) place.now)
+        students.now) }
 {
     'students: for student in students {
         let student = *student;

@@ -3,7 +3,7 @@ ghost use Rattle.std.specs.Prelude.{◌≡◌, ◌≤◌, All, IfOk};
 ghost use Rattle.std.specs.List.{list_any};
 ghost use Rattle.std.specs.List.Sorted.{IsSorted};
 ghost use Rattle.exam_terms.specs.declared.limits.TheConstants.{MAX_AMOUNT};
-ghost use Rattle.exam_publish.specs.Seats.{kept_rows};
+ghost use Rattle.exam_publish.specs.Entrants.{kept_rows};
 ghost use Rattle.exam_publish.specs.Seating.{AreHeld, IsNextFree, KeepsSmallSeat, held_cmp, is_held};
 
 use crate::entrants::Entrant;

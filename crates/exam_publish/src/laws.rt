@@ -41,5 +41,6 @@ pub fn numbered_at_first()
 /// A candidate whose rows don't change has the same share as before.
 pub fn unchanged_share_stays()
     ensures { (I : Session) (old new : List SeatRow) (s : ℕ) → is_changed old new s ≡ false
-        → share_of I.periods I.weights (rows_of s old) ≡ share_of I.periods I.weights (rows_of s new) }
+        → share_of I.periods I.weights (rows_of s old)
+        ≡ share_of I.periods I.weights (rows_of s new) }
 {}

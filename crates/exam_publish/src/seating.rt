@@ -1,17 +1,19 @@
-// Seats: kept ones first, and the others in one pass, with the last seat given in each room and period.
-ghost use Rattle.std.specs.Prelude.{◌≡◌, ◌<◌, ◌≤◌, ◌+◌, ◌*◌, None, length, map, All, IfOk};
+// Seats: kept ones first, and the others in one pass, with the last seat given in each room and
+// period.
+ghost use Rattle.std.specs.Prelude.{◌≡◌, ◌≤◌, None, length, map, All, IfOk};
 ghost use Rattle.exam_terms.specs.declared.limits.TheConstants.{MAX_PAIRS};
 ghost use Rattle.exam_model.specs.Fits.{Fits};
 ghost use Rattle.exam_model.specs.Pairs.{pairs_of};
 ghost use Rattle.exam_publish.specs.Permit.{publish_refusal};
 ghost use Rattle.exam_publish.specs.Rows.{ArePublishedRows, row_pair};
-ghost use Rattle.exam_publish.specs.Seats.{AreSeated, kept_rows, rows_for, seat_rows};
+ghost use Rattle.exam_publish.specs.Seats.{AreSeated, rows_for, seat_rows};
+ghost use Rattle.exam_publish.specs.Entrants.{kept_rows};
 ghost use Rattle.exam_publish.specs.Seating.{AreHeld, EntrantExists};
 
 use crate::entrants::{Entrant, entrants_of};
 use crate::held::{Held, held_seats, next_free};
 use crate::seat_row::SeatRow;
-use exam_model::{Enrolments, Instance, PeriodNo, RoomNo, Timetable};
+use exam_model::{Enrolments, Instance, Timetable};
 use std::alloc::{AllocError, Global};
 
 /// A seat for each enrolment of a timetable that may be published, as `permit` says. Who has an old
@@ -62,7 +64,7 @@ fn seat_all(
             continue;
         }
         let place = entrant.place;
-        let slot = slot_of(instance, place.period, place.room);
+        let slot = instance.slot_of(place);
         let seat = next_free(held, &place, last[slot] + 1);
         last[slot] = seat;
         rows.push(new_row(*entrant, seat))?;
@@ -87,15 +89,4 @@ fn new_row(entrant: Entrant, seat: u32) -> SeatRow
         room: entrant.place.room,
         seat,
     }
-}
-
-/// A place's entry in a table with a line of rooms for each period.
-pub fn slot_of(instance: &Instance, period: PeriodNo, room: RoomNo) -> usize
-    requires period { period < length instance.now.periods }
-    requires room { room < length instance.now.rooms }
-    ensures slot { result ≡ period * length instance.now.rooms + room }
-    ensures within { result < length instance.now.periods * length instance.now.rooms }
-{
-    let _periods = instance.periods();
-    period.get() as usize * instance.rooms() as usize + room.get() as usize
 }

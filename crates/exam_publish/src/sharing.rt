@@ -1,6 +1,6 @@
 // Who has which share of the penalty.
 ghost use Rattle.std.specs.Prelude.{◌≡◌, ℕ, length, map, IfOk};
-ghost use Rattle.exam_model.specs.Enrolments.{IsAscending, has_student};
+ghost use Rattle.exam_model.specs.Enrolments.{IsAscending, has_number};
 ghost use Rattle.exam_publish.specs.AddUp.{AddUpTo, AreSmall};
 ghost use Rattle.exam_publish.specs.Changed.{has_row};
 ghost use Rattle.exam_publish.specs.Rows.{AreNumbered, ArePublishedRows};
@@ -27,9 +27,10 @@ pub fn shares(
     requires { ArePublishedRows instance.now rows.now timetable.now }
     ensures shares { IfOk result (λ shares. shares
         ≡ shares_of instance.now rows.now timetable.now) }
-    ensures ascending { IfOk result (λ shares. IsAscending (map (λ share. share.0) shares.students)) }
+    ensures ascending { IfOk result
+        (λ shares. IsAscending (map (λ share. share.0) shares.students)) }
     ensures seated { IfOk result (λ shares. (s : ℕ)
-        → has_student (map (λ share. share.0) shares.students) s ≡ has_row rows.now s) }
+        → has_number (map (λ share. share.0) shares.students) s ≡ has_row rows.now s) }
     ensures add_up { IfOk result (AddUpTo (track instance.now
         (enrolled_in (length instance.now.exams) rows.now) timetable.now)) }
     ensures small { IfOk result AreSmall }

@@ -4,13 +4,13 @@ use Rattle.std.proofs.Common.{◌≡◌, ℕ, suc, ◌+◌, ◌<◌, Bool, true,
 use Rattle.std.proofs.lemmas.Bool.{ne_eqb}
 use Rattle.std.proofs.lemmas.Bool.Decides.{nat_tests}
 use Rattle.std.proofs.lemmas.List.Sums.{sum_by-cons}
-use Rattle.exam_model.specs.Enrolments.{IsAscending, has_student}
+use Rattle.exam_model.specs.Enrolments.{IsAscending, has_number}
 
 tail_up : (x : ℕ) (xs : List ℕ) → IsAscending (x ∷ xs) → IsAscending xs
 tail_up x xs up i j lt within = up (suc i) (suc j) (omega arith) (omega arith)
 
 -- a number below the first is not in an ascending list
-absent : (s y : ℕ) (ys : List ℕ) → s < y → IsAscending (y ∷ ys) → has_student (y ∷ ys) s ≡ false
+absent : (s y : ℕ) (ys : List ℕ) → s < y → IsAscending (y ∷ ys) → has_number (y ∷ ys) s ≡ false
 absent s y [] lt up = ap (λ b. b || false) (ne_eqb y s (omega arith))
 absent s y (z ∷ zs) lt up =
     let more : y < z = up 0 1 (omega arith) (omega arith) in
@@ -18,16 +18,16 @@ absent s y (z ∷ zs) lt up =
 
 -- the first of the left list is not in the right one
 pub pass_left : (x y : ℕ) (xs ys : List ℕ) → x < y → IsAscending (y ∷ ys)
-    → list_any (λ s. has_student (y ∷ ys) s) (x ∷ xs) ≡ list_any (λ s. has_student (y ∷ ys) s) xs
-pass_left x y xs ys lt up = ap (λ b. b || list_any (λ s. has_student (y ∷ ys) s) xs) (absent x y ys lt up)
+    → list_any (λ s. has_number (y ∷ ys) s) (x ∷ xs) ≡ list_any (λ s. has_number (y ∷ ys) s) xs
+pass_left x y xs ys lt up = ap (λ b. b || list_any (λ s. has_number (y ∷ ys) s) xs) (absent x y ys lt up)
 
 -- the first of the right list is not in the left one
 pub pass_right : (x y : ℕ) (xs ys : List ℕ) → y < x → IsAscending (x ∷ xs)
-    → list_any (λ s. has_student (y ∷ ys) s) (x ∷ xs) ≡ list_any (λ s. has_student ys s) (x ∷ xs)
-pass_right x y [] ys lt up = ap (λ b. (b || has_student ys x) || false) (ne_eqb y x (omega arith))
+    → list_any (λ s. has_number (y ∷ ys) s) (x ∷ xs) ≡ list_any (λ s. has_number ys s) (x ∷ xs)
+pass_right x y [] ys lt up = ap (λ b. (b || has_number ys x) || false) (ne_eqb y x (omega arith))
 pass_right x y (z ∷ zs) ys lt up =
     let more : x < z = up 0 1 (omega arith) (omega arith) in
-    ap₂ (λ a b. (a || has_student ys x) || b) (ne_eqb y x (omega arith))
+    ap₂ (λ a b. (a || has_number ys x) || b) (ne_eqb y x (omega arith))
     (pass_right z y zs ys (omega arith) (tail_up x (z ∷ zs) up))
 
 -- students are shared where one of the first exam's is in the second
@@ -43,7 +43,7 @@ shared_any p (x ∷ xs) =
 
 -- what a walk keeps: whether students are common, and both lists ascending
 pub record IsWalked (left right : List ℕ) (common : Bool) : Type 0 where
-  pub same : list_any (λ s. has_student right s) left ≡ common
+  pub same : list_any (λ s. has_number right s) left ≡ common
   pub left_rises : IsAscending left
   pub right_rises : IsAscending right
 
@@ -53,9 +53,9 @@ pub step_left : (left right xs ys : List ℕ) (x y : ℕ) (common : Bool) → le
 step_left left right xs ys x y common l r lt was =
     let up = subst IsAscending l was.left_rises in
     let down = subst IsAscending r was.right_rises in
-    let now = subst (λ zs. list_any (λ s. has_student zs s) (x ∷ xs) ≡ common) r (subst (λ zs. list_any (λ s. has_student right s) zs ≡ common) l was.same) in
+    let now = subst (λ zs. list_any (λ s. has_number zs s) (x ∷ xs) ≡ common) r (subst (λ zs. list_any (λ s. has_number right s) zs ≡ common) l was.same) in
     record {
-      same = subst (λ zs. list_any (λ s. has_student zs s) xs ≡ common) (sym r) (sym (pass_left x y xs ys lt down) ∙ now);
+      same = subst (λ zs. list_any (λ s. has_number zs s) xs ≡ common) (sym r) (sym (pass_left x y xs ys lt down) ∙ now);
       left_rises = tail_up x xs up;
       right_rises = was.right_rises;
     }
@@ -66,15 +66,15 @@ pub step_right : (left right xs ys : List ℕ) (x y : ℕ) (common : Bool) → l
 step_right left right xs ys x y common l r lt was =
     let up = subst IsAscending l was.left_rises in
     let down = subst IsAscending r was.right_rises in
-    let now = subst (λ zs. list_any (λ s. has_student zs s) (x ∷ xs) ≡ common) r (subst (λ zs. list_any (λ s. has_student right s) zs ≡ common) l was.same) in
+    let now = subst (λ zs. list_any (λ s. has_number zs s) (x ∷ xs) ≡ common) r (subst (λ zs. list_any (λ s. has_number right s) zs ≡ common) l was.same) in
     record {
-      same = subst (λ zs. list_any (λ s. has_student ys s) zs ≡ common) (sym l) (sym (pass_right x y xs ys lt up) ∙ now);
+      same = subst (λ zs. list_any (λ s. has_number ys s) zs ≡ common) (sym l) (sym (pass_right x y xs ys lt up) ∙ now);
       left_rises = was.left_rises;
       right_rises = tail_up y ys down;
     }
 
 -- nobody is common with an empty list
-pub none_common : (left : List ℕ) → list_any (λ s. has_student [] s) left ≡ false
+pub none_common : (left : List ℕ) → list_any (λ s. has_number [] s) left ≡ false
 none_common [] = refl
 none_common (x ∷ xs) = none_common xs
 

@@ -9,13 +9,14 @@ use Rattle.exam_model.specs.Instance.{Session}
 use Rattle.exam_model.specs.Timetable.{Placing, place_of}
 use Rattle.exam_terms.specs.declared.place.Place.{Place}
 use Rattle.exam_rules.specs.Places.{PlaceExists, where_placed, where_both, is_one_place, in_one_period, in_one_place}
-use Rattle.exam_rules.specs.Groups.{has_exam, stands_in, AreGroups}
+use Rattle.exam_model.specs.Enrolments.{has_number}
+use Rattle.exam_rules.specs.Groups.{stands_in, AreGroups}
 use Rattle.exam_rules.proofs.MemberLemmas.{and_false}
 use Rattle.exam_rules.proofs.PlaceLemmas.{placed_exists, its_place_exists}
 
 -- a complete group has just the exams that stand in its period
 pub in_group : {T : Placing} {periods n : ℕ} {groups : List (List ℕ)} → AreGroups T periods n groups → length T ≡ n
-    → (p f : ℕ) → p < periods → has_exam (get_or groups p []) f ≡ stands_in T p f
+    → (p f : ℕ) → p < periods → has_number (get_or groups p []) f ≡ stands_in T p f
 in_group {T} {periods} {n} {groups} are same p f within =
     are.members p f within ∙ exists (stands_in T p f) (λ h. placed_exists T (λ q. p == q.period) f h)
   where
@@ -35,7 +36,7 @@ group_exists {T} {periods} {n} {groups} are p within k d lt =
 -- the pairs with an exam's group, as the rule on rooms says it
 pub one_place_group : {T : Placing} {periods n : ℕ} {groups : List (List ℕ)} → AreGroups T periods n groups → length T ≡ n
     → (k : ℕ) (q : Place) → place_of T k ≡ Some q → q.period < periods → (e f : ℕ)
-    → (has_exam (get_or groups q.period []) f && ((k == e) && (not (e == f) && in_one_place T e f)))
+    → (has_number (get_or groups q.period []) f && ((k == e) && (not (e == f) && in_one_place T e f)))
     ≡ ((k == e) && (not (e == f) && in_one_place T e f))
 one_place_group {T} {periods} {n} {groups} are same k q placed within e f =
     ap (λ b. b && ((k == e) && (not (e == f) && in_one_place T e f))) (in_group are same q.period f within)
@@ -96,22 +97,22 @@ one_period k (Some p) (Some q) h g = eq-eqb p.period q.period (sym (eqb-true k p
 -- two exams are in one of the groups where they stand in one period
 pub in_one_group : {T : Placing} {periods n : ℕ} {groups : List (List ℕ)} (I : Session) → AreGroups T periods n groups → length T ≡ n
     → periods ≡ length I.periods → All (PlaceExists I) T → (e f : ℕ)
-    → list_any (λ g. has_exam g e && has_exam g f) groups ≡ in_one_period T e f
+    → list_any (λ g. has_number g e && has_number g f) groups ≡ in_one_period T e f
 in_one_group {T} {periods} {n} {groups} I are same count exist e f =
-    same_tests (list_any (λ g. has_exam g e && has_exam g f) groups) (in_one_period T e f) sound (λ h. complete (place_of T e) refl h)
+    same_tests (list_any (λ g. has_number g e && has_number g f) groups) (in_one_period T e f) sound (λ h. complete (place_of T e) refl h)
   where
-    sound : list_any (λ g. has_exam g e && has_exam g f) groups ≡ true → in_one_period T e f ≡ true
+    sound : list_any (λ g. has_number g e && has_number g f) groups ≡ true → in_one_period T e f ≡ true
     sound h =
-        let any = Any-from_list_any (λ g. has_exam g e && has_exam g f) groups h in
+        let any = Any-from_list_any (λ g. has_number g e && has_number g f) groups h in
         let within : any.0 < periods = omega (arith, any.2, are.count) in
         let here : get_or groups any.0 [] ≡ any.1 = sym (get_or_read groups any.0 any.1 any.2 (sym any.3) []) in
-        let parts = and_parts (has_exam any.1 e) (has_exam any.1 f) any.4 in
-        let first = sym (in_group are same any.0 e within) ∙ ap (λ g. has_exam g e) here ∙ parts.0 in
-        let second = sym (in_group are same any.0 f within) ∙ ap (λ g. has_exam g f) here ∙ parts.1 in
+        let parts = and_parts (has_number any.1 e) (has_number any.1 f) any.4 in
+        let first = sym (in_group are same any.0 e within) ∙ ap (λ g. has_number g e) here ∙ parts.0 in
+        let second = sym (in_group are same any.0 f within) ∙ ap (λ g. has_number g f) here ∙ parts.1 in
         one_period any.0 (place_of T e) (place_of T f) first second
 
     complete : (o : Option Place) → place_of T e ≡ o → where_both (λ p q. p.period == q.period) o (place_of T f) ≡ true
-        → list_any (λ g. has_exam g e && has_exam g f) groups ≡ true
+        → list_any (λ g. has_number g e && has_number g f) groups ≡ true
     complete None is h = absurd (true≢false (sym h))
     complete (Some p) is h =
         let there = its_place_exists I T e p exist is in
@@ -119,5 +120,5 @@ in_one_group {T} {periods} {n} {groups} I are same count exist e f =
         let long : p.period < length groups = omega (arith, are.count) in
         let first = in_group are same p.period e within ∙ ap (where_placed (λ q. p.period == q.period)) is ∙ eq-eqb p.period p.period refl in
         let second = in_group are same p.period f within ∙ h in
-        list_any_at (λ g. has_exam g e && has_exam g f) groups p.period [] long
-        (and_from (has_exam (get_or groups p.period []) e) (has_exam (get_or groups p.period []) f) first second)
+        list_any_at (λ g. has_number g e && has_number g f) groups p.period [] long
+        (and_from (has_number (get_or groups p.period []) e) (has_number (get_or groups p.period []) f) first second)

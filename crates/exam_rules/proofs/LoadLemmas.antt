@@ -2,21 +2,14 @@
 use Rattle.std.proofs.Common.{◌≡◌, ℕ, ◌+◌, ◌*◌, ◌^◌, ◌<◌, ◌≤◌, ◌⊎◌, inl, inr, true, false, cond, ◌==◌, List, length, get_or, slice_set, Some, sym, ◌∙◌, ap, ap₂, arith, add-one, eqb-true, eq-eqb}
 use Rattle.std.proofs.lemmas.Bool.{and_parts, and_from, cases_eq, false_from_ne_true}
 use Rattle.std.proofs.lemmas.List.{length-set, get_or-set_same, get_or-set_other}
-use Rattle.std.proofs.lemmas.Nat.{mul-add-lt, same_from_place}
-use Rattle.std.proofs.Common.{mul_comm}
+use Rattle.std.proofs.lemmas.Nat.{same_from_place}
 use Rattle.exam_model.specs.Enrolments.{Enrolled, size_of}
+use Rattle.exam_model.specs.Fits.{slot_of}
 use Rattle.exam_model.specs.Timetable.{Placing, place_of}
 use Rattle.exam_terms.specs.declared.place.Place.{Place}
 use Rattle.exam_rules.specs.Places.{where_placed, is_one_place, load_below}
-use Rattle.exam_rules.specs.Loads.{slot_of, AreLoads}
-
--- an entry is within the table
-pub slot_within : (periods rooms : ℕ) (p : Place) → p.period < periods → p.room < rooms
-    → slot_of rooms p < periods * rooms
-slot_within periods rooms p hp hr =
-    let lt = mul-add-lt p.period rooms p.room periods hp hr in
-    let turn = mul_comm rooms periods in
-    omega arith
+use Rattle.exam_rules.specs.Loads.{AreLoads}
+use Rattle.exam_model.proofs.PlaceLemmas.{slot_within}
 
 -- an exam that does not stand at p
 other_place : (E : Enrolled) (T : Placing) (p : Place) (i : ℕ) → where_placed (is_one_place p) (place_of T i) ≡ false

@@ -6,18 +6,18 @@ use Rattle.std.proofs.lemmas.Bool.{cases_eq}
 use Rattle.std.proofs.lemmas.List.{length-set, get_or-set_same, get_or-set_other}
 use Rattle.std.proofs.lemmas.List.Folds.{list_any_more}
 use Rattle.std.proofs.lemmas.Nat.Bits.{bit_at_or, bit_at-lt, bit_at_set_same}
-use Rattle.exam_model.specs.Enrolments.{has_student}
+use Rattle.exam_model.specs.Enrolments.{has_number}
 use Rattle.exam_rules.specs.Marks.{marks_of, Has}
 
 -- of what is one of the first students
 pub before_or_here : (students : List ℕ) (i x s : ℕ) → i < length students → x ≡ get_or students i x
-    → has_student (take (i + 1) students) s ≡ true → (has_student (take i students) s ≡ true) ⊎ (x ≡ s)
+    → has_number (take (i + 1) students) s ≡ true → (has_number (take i students) s ≡ true) ⊎ (x ≡ s)
 before_or_here students i x s within here h =
-    go (has_student (take i students) s) (x == s) refl refl
-    (ap (λ y. has_student (take i students) s || (y == s)) here ∙ sym (list_any_more (λ t. t == s) students i x within) ∙ h)
+    go (has_number (take i students) s) (x == s) refl refl
+    (ap (λ y. has_number (take i students) s || (y == s)) here ∙ sym (list_any_more (λ t. t == s) students i x within) ∙ h)
   where
-    go : (a b : Bool) → has_student (take i students) s ≡ a → (x == s) ≡ b → ((has_student (take i students) s || (x == s)) ≡ true)
-        → (has_student (take i students) s ≡ true) ⊎ (x ≡ s)
+    go : (a b : Bool) → has_number (take i students) s ≡ a → (x == s) ≡ b → ((has_number (take i students) s || (x == s)) ≡ true)
+        → (has_number (take i students) s ≡ true) ⊎ (x ≡ s)
     go true b p q k = inl p
     go false true p q k = inr (eqb-true x s q)
     go false false p q k = absurd (no (sym (ap (λ c. c || (x == s)) p ∙ q) ∙ k))
@@ -34,7 +34,7 @@ more_right a b i h = bit_at_or a b i ∙ omega (arith, h, bit_at-lt a i)
 -- the first i students are marked, and no mark is lost
 pub record AreMarked (old students : List ℕ) (exam i : ℕ) (slots : List ℕ) : Type 0 where
   pub count : length slots ≡ 65536
-  pub marked : (s : ℕ) → has_student (take i students) s ≡ true → Has (marks_of slots s) exam
+  pub marked : (s : ℕ) → has_number (take i students) s ≡ true → Has (marks_of slots s) exam
   pub kept : (s e : ℕ) → Has (marks_of old s) e → Has (marks_of slots s) e
 
 pub marked_more : {old students : List ℕ} {exam i : ℕ} {slots : List ℕ} (x : ℕ)
@@ -61,7 +61,7 @@ marked_more {old} {students} {exam} {i} {slots} x so_far within here = record {
       | inr other ↦ ap (λ m. bit_at m b) (get_or-set_other slots (x % 65536) k marks 0 other) ∙ h
     ]
 
-    marked : (s : ℕ) → (has_student (take i students) s ≡ true) ⊎ (x ≡ s)
+    marked : (s : ℕ) → (has_number (take i students) s ≡ true) ⊎ (x ≡ s)
         → bit_at (get_or (slice_set slots (x % 65536) marks) (s % 65536) 0) (exam % 64) ≡ 1
     marked s (inl before) = grows (s % 65536) (exam % 64) (so_far.marked s before)
     marked s (inr same) =
@@ -72,7 +72,7 @@ marked_more {old} {students} {exam} {i} {slots} x so_far within here = record {
 -- the first i students have no marks, nor has one who had none before
 pub record AreCleared (old students : List ℕ) (i : ℕ) (slots : List ℕ) : Type 0 where
   pub count : length slots ≡ 65536
-  pub cleared : (s : ℕ) → has_student (take i students) s ≡ true → marks_of slots s ≡ 0
+  pub cleared : (s : ℕ) → has_number (take i students) s ≡ true → marks_of slots s ≡ 0
   pub kept : (s : ℕ) → marks_of old s ≡ 0 → marks_of slots s ≡ 0
 
 pub cleared_more : {old students : List ℕ} {i : ℕ} {slots : List ℕ} (x : ℕ)
@@ -96,7 +96,7 @@ cleared_more {old} {students} {i} {slots} x so_far within here = record {
           | inr other ↦ get_or-set_other slots (x % 65536) k 0 0 other ∙ h
         ]
 
-    cleared : (s : ℕ) → (has_student (take i students) s ≡ true) ⊎ (x ≡ s)
+    cleared : (s : ℕ) → (has_number (take i students) s ≡ true) ⊎ (x ≡ s)
         → get_or (slice_set slots (x % 65536) 0) (s % 65536) 0 ≡ 0
     cleared s (inl before) = stays (s % 65536) (so_far.cleared s before)
     cleared s (inr same) =
@@ -105,14 +105,14 @@ cleared_more {old} {students} {i} {slots} x so_far within here = record {
 
 -- what is marked for one of the first i students
 pub record AreOf (slots students : List ℕ) (i all : ℕ) : Type 0 where
-  pub each : (s e : ℕ) → has_student (take i students) s ≡ true → Has (marks_of slots s) e → Has all e
+  pub each : (s e : ℕ) → has_number (take i students) s ≡ true → Has (marks_of slots s) e → Has all e
 
 pub of_more : {slots students : List ℕ} {i all : ℕ} (x : ℕ) → AreOf slots students i all → i < length students
     → x ≡ get_or students i x → AreOf slots students (i + 1) (bit_or all (get_or slots (x % 65536) 0))
 of_more {slots} {students} {i} {all} x so_far within here =
     record { each = λ s e h k. step s e k (before_or_here students i x s within here h) }
   where
-    step : (s e : ℕ) → Has (marks_of slots s) e → (has_student (take i students) s ≡ true) ⊎ (x ≡ s)
+    step : (s e : ℕ) → Has (marks_of slots s) e → (has_number (take i students) s ≡ true) ⊎ (x ≡ s)
         → bit_at (bit_or all (get_or slots (x % 65536) 0)) (e % 64) ≡ 1
     step s e k (inl before) = more_left all (get_or slots (x % 65536) 0) (e % 64) (so_far.each s e before k)
     step s e k (inr same) =

@@ -10,7 +10,8 @@ use Rattle.exam_rules.specs.declared.exam_pair.ExamPair.{ExamPair}
 
 -- the rules in the order of the competition's table
 abbrev pub all_rules : List BreachRule
-all_rules = Duration ∷ (Clash ∷ (Capacity ∷ (After ∷ (Coincidence ∷ (Exclusion ∷ (RoomExclusive ∷ []))))))
+all_rules =
+    Duration ∷ (Clash ∷ (Capacity ∷ (After ∷ (Coincidence ∷ (Exclusion ∷ (RoomExclusive ∷ []))))))
 
 -- a rule's place in that table
 abbrev pub rank_of : BreachRule → ℕ

@@ -25,7 +25,8 @@ is_longer (Some exam) (Some period) = nat_lt period.length exam.minutes
 -- whether the exam lasts longer than its period
 abbrev pub outlasts : Session → Placing → ℕ → Bool
 outlasts I T e =
-    where_placed (λ p. is_longer (slice_get I.exams e) (slice_get I.periods p.period)) (place_of T e)
+    where_placed (λ p. is_longer (slice_get I.exams e) (slice_get I.periods p.period))
+    (place_of T e)
 
 -- whether so many students are more than the room's capacity
 abbrev pub is_too_small : Option Room → ℕ → Bool
@@ -47,8 +48,10 @@ breaks I E T Clash e f = nat_lt e f && (in_one_period T e f && share_student E e
 -- the exams in a room and period have more students than it has places: each of them, twice
 breaks I E T Capacity e f = (e == f) && is_overfull I E T e
 -- a line says that e comes after f, and the period of e is not greater
-breaks I E T After e f = list_any (is_after e f) I.period_rules && (not (e == f) && is_not_after T e f)
--- a line wants both in one period, they share no student, and their periods differ: the smaller first
+breaks I E T After e f =
+    list_any (is_after e f) I.period_rules && (not (e == f) && is_not_after T e f)
+-- a line wants both in one period, they share no student, and their periods differ: the smaller
+-- first
 breaks I E T Coincidence e f =
     list_any (is_coincidence e f) I.period_rules
     && (nat_lt e f && (not (share_student E e f) && in_two_periods T e f))
@@ -84,7 +87,8 @@ abbrev pub least_breach_of : Session → Enrolled → Placing → List ℕ → O
 least_breach_of I E T exams = find (λ b. name_one exams b.exam b.other) (breaches_of I E T)
 
 -- a breach of the timetable that names one of these exams
-pub record IsBreachOf (I : Session) (E : Enrolled) (T : Placing) (exams : List ℕ) (b : Breach) : Type 0 where
+pub record IsBreachOf (I : Session) (E : Enrolled) (T : Placing) (exams : List ℕ)
+    (b : Breach) : Type 0 where
   pub broken : is_breach I E T b ≡ true
   pub names : name_one exams b.exam b.other ≡ true
 

@@ -1,12 +1,8 @@
 -- The exams of each period.
 use Rattle.std.specs.Prelude.{◌≡◌, ℕ, ◌<◌, Bool, ◌&&◌, ◌==◌, nat_lt, List, [], length, slice_index_or}
-use Rattle.std.specs.List.{list_any}
+use Rattle.exam_model.specs.Enrolments.{has_number}
 use Rattle.exam_model.specs.Timetable.{Placing, place_of}
 use Rattle.exam_rules.specs.Places.{where_placed}
-
--- whether the exam is in the list
-abbrev pub has_exam : List ℕ → ℕ → Bool
-has_exam exams e = list_any (λ k. k == e) exams
 
 -- whether the exam stands in period p
 abbrev pub stands_in : Placing → ℕ → ℕ → Bool
@@ -16,4 +12,4 @@ stands_in T p e = where_placed (λ q. p == q.period) (place_of T e)
 pub record AreGroups (T : Placing) (periods i : ℕ) (groups : List (List ℕ)) : Type 0 where
   pub count : length groups ≡ periods
   pub members : (p e : ℕ) → p < periods
-      → has_exam (slice_index_or groups p []) e ≡ (nat_lt e i && stands_in T p e)
+      → has_number (slice_index_or groups p []) e ≡ (nat_lt e i && stands_in T p e)

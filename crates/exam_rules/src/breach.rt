@@ -1,4 +1,7 @@
 // What a hard rule's breach says (ITC 2007, hard constraints).
+ghost use Rattle.std.specs.Prelude.{◌≡◌};
+ghost use Rattle.exam_rules.specs.Breach.{all_rules};
+
 use exam_model::ExamNo;
 
 /// The hard rules, in the order in which their breaches are listed.
@@ -18,6 +21,21 @@ pub enum BreachRule {
     Exclusion,
     /// Another exam stands in the room and period of one that wants its room for itself.
     RoomExclusive,
+}
+
+/// The rules, in the order of their breaches.
+pub fn rules() -> [BreachRule; 7]
+    ensures { result ≡ all_rules }
+{
+    [
+        BreachRule::Duration,
+        BreachRule::Clash,
+        BreachRule::Capacity,
+        BreachRule::After,
+        BreachRule::Coincidence,
+        BreachRule::Exclusion,
+        BreachRule::RoomExclusive,
+    ]
 }
 
 /// A rule that two exams break. `Duration` and `Capacity` name one exam twice; `Clash`,

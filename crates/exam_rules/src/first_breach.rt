@@ -1,11 +1,11 @@
 // The first breach that names one of some exams, found from these exams alone.
 ghost use Rattle.std.specs.Prelude.{◌≡◌, ◌<◌, ℕ, ◌&&◌, ◌||◌, length, All, IfOk, OnOk};
 ghost use Rattle.std.specs.List.{list_any};
-ghost use Rattle.exam_rules.specs.Breach.{is_pair, passing, all_rules};
+ghost use Rattle.exam_rules.specs.Breach.{is_pair, passing};
 ghost use Rattle.exam_rules.specs.Places.{Fits};
 ghost use Rattle.exam_rules.specs.Breaches.{breaks, is_one_of, name_one, least_breach_of, IsLeastBreachOf};
 
-use crate::breach::{Breach, BreachRule};
+use crate::breach::{Breach, BreachRule, rules};
 use crate::exam_pair::{ExamPair, in_order, pair_if, push_some};
 use crate::line_rules::{push_afters, push_coincidences, push_exclusions};
 use crate::period_rules::{outlasts, push_clashes};
@@ -13,21 +13,6 @@ use crate::room_rules::{is_overfull, push_exclusives};
 use crate::site::Site;
 use exam_model::{Enrolments, ExamNo, Instance, Timetable};
 use std::alloc::{AllocError, Global};
-
-/// The rules, in the order of their breaches.
-pub fn rules() -> [BreachRule; 7]
-    ensures { result ≡ all_rules }
-{
-    [
-        BreachRule::Duration,
-        BreachRule::Clash,
-        BreachRule::Capacity,
-        BreachRule::After,
-        BreachRule::Coincidence,
-        BreachRule::Exclusion,
-        BreachRule::RoomExclusive,
-    ]
-}
 
 // Adds the pairs that name the exam and break the rule.
 fn push_broken(

@@ -7,9 +7,8 @@ ghost use Rattle.exam_rules.specs.Places.{Fits};
 ghost use Rattle.exam_rules.specs.Groups.{AreGroups};
 ghost use Rattle.exam_rules.specs.Breaches.{is_breach, breaches_of, pairs_breaking};
 
-use crate::breach::{Breach, BreachRule};
+use crate::breach::{Breach, BreachRule, rules};
 use crate::exam_pair::ExamPair;
-use crate::first_breach::rules;
 use crate::groups::{Group, by_period};
 use crate::line_rules::{after_pairs, coincidence_pairs, exclusion_pairs};
 use crate::period_rules::{clash_pairs, duration_pairs};

@@ -1,25 +1,14 @@
 // How many students sit in each room and period.
 ghost use Rattle.std.specs.Prelude.{◌≡◌, ◌<◌, ◌≤◌, ◌*◌, ◌^◌, if◌then◌else◌, length, slice_get, slice_index, IfOk};
 ghost use Rattle.exam_model.specs.Enrolments.{size_of};
+ghost use Rattle.exam_model.specs.Fits.{slot_of};
 ghost use Rattle.exam_model.specs.Timetable.{place_of};
 ghost use Rattle.exam_rules.specs.Places.{Fits, where_placed, is_one_place, load_at};
-ghost use Rattle.exam_rules.specs.Loads.{AreLoads, slot_of};
+ghost use Rattle.exam_rules.specs.Loads.{AreLoads};
 ghost use Rattle.exam_rules.specs.Breaches.{is_too_small};
 
 use exam_model::{Enrolments, ExamNo, Instance, Place, Timetable};
 use std::alloc::{AllocError, Global};
-
-// A place's entry in the table.
-fn slot_of(instance: &Instance, place: Place) -> usize
-    requires period { place.period < length instance.now.periods }
-    requires room { place.room < length instance.now.rooms }
-    ensures slot { result ≡ slot_of (length instance.now.rooms) place }
-    ensures within { result < length instance.now.periods * length instance.now.rooms }
-{
-    let _periods = instance.periods();
-    let (period, room) = (place.period.get() as usize, place.room.get() as usize);
-    period * instance.rooms() as usize + room
-}
 
 /// The students of each room and period, over all exams that stand there.
 pub fn loads_of(
@@ -40,7 +29,7 @@ pub fn loads_of(
         let Some(place) = timetable.get(exam) else {
             continue;
         };
-        let slot = slot_of(instance, place);
+        let slot = instance.slot_of(place);
         let load = loads[slot] + u64::from(enrolments.size(exam));
         loads[slot] = load;
     }
@@ -56,7 +45,7 @@ pub fn is_too_small(instance: &Instance, loads: &[u64], place: Place) -> bool
         (slice_index loads.now (slot_of (length instance.now.rooms) place)) }
 {
     let room = instance.room(place.room);
-    u64::from(room.capacity) < loads[slot_of(instance, place)]
+    u64::from(room.capacity) < loads[instance.slot_of(place)]
 }
 
 // The students of an exam, if it stands at the place.

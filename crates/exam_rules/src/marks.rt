@@ -1,7 +1,7 @@
 // Marks for students, by which most exams of a period are told apart without a look at the lists.
 ghost use Rattle.std.specs.Prelude.{◌≡◌, ℕ, true, ◌%◌, ◌==◌, replicate, IfOk};
 ghost use Rattle.std.specs.Int.{bit_at};
-ghost use Rattle.exam_model.specs.Enrolments.{has_student};
+ghost use Rattle.exam_model.specs.Enrolments.{has_number};
 ghost use Rattle.exam_rules.specs.Marks.{marks_of, Has};
 
 use exam_model::{ExamNo, StudentNo};
@@ -38,7 +38,7 @@ impl Marks {
 
     /// Marks an exam for these students.
     pub fn add(&mut self, students: &[StudentNo], exam: ExamNo)
-        ensures marked { (s : ℕ) → has_student students.now s ≡ true
+        ensures marked { (s : ℕ) → has_number students.now s ≡ true
             → Has (marks_of self.new s) exam }
         ensures kept { (s e : ℕ) → Has (marks_of self.old s) e → Has (marks_of self.new s) e }
     {
@@ -52,7 +52,7 @@ impl Marks {
 
     /// The exams that are marked for one of these students.
     pub fn of(&self, students: &[StudentNo]) -> u64
-        ensures { (s e : ℕ) → has_student students.now s ≡ true
+        ensures { (s e : ℕ) → has_number students.now s ≡ true
             → Has (marks_of self.now s) e → Has result e }
     {
         let mut all = 0u64;
@@ -65,7 +65,7 @@ impl Marks {
 
     /// Takes all marks of these students away, so that the next period begins with few.
     pub fn clear(&mut self, students: &[StudentNo])
-        ensures cleared { (s : ℕ) → has_student students.now s ≡ true → marks_of self.new s ≡ 0 }
+        ensures cleared { (s : ℕ) → has_number students.now s ≡ true → marks_of self.new s ≡ 0 }
         ensures kept { (s : ℕ) → marks_of self.old s ≡ 0 → marks_of self.new s ≡ 0 }
     {
         'students: for student in students {

@@ -4,10 +4,11 @@ ghost use Rattle.std.specs.List.{list_any};
 ghost use Rattle.exam_model.specs.Enrolments.{Enrolled};
 ghost use Rattle.exam_rules.specs.declared.breach.BreachRule.TheVariants.{Duration, Clash};
 ghost use Rattle.exam_rules.specs.Breach.{is_pair};
-ghost use Rattle.exam_model.specs.Enrolments.{has};
-ghost use Rattle.exam_rules.specs.Groups.{AreGroups, has_exam};
+ghost use Rattle.exam_model.specs.Enrolments.{has, has_number};
+ghost use Rattle.exam_model.specs.Fits.{Suits};
+ghost use Rattle.exam_rules.specs.Groups.{AreGroups};
 ghost use Rattle.exam_rules.specs.Marks.{marks_of, Has};
-ghost use Rattle.exam_rules.specs.Places.{Fits, PlaceExists, in_one_period, share_student};
+ghost use Rattle.exam_rules.specs.Places.{Fits, in_one_period, share_student};
 ghost use Rattle.exam_rules.specs.Breaches.{breaks, outlasts, pairs_breaking, is_one_of};
 
 use crate::exam_pair::{ExamPair, in_order, pair_if, push_some};
@@ -22,8 +23,7 @@ use std::alloc::{AllocError, Global};
 #[tactic(auto, using(crate::proofs::PlaceLemmas::place_exists))]
 pub fn outlasts(instance: &Instance, timetable: &Timetable, exam: ExamNo) -> bool
     requires exists { exam < length timetable.now }
-    requires fits { length timetable.now ≡ length instance.now.exams }
-    requires places { All (PlaceExists instance.now) timetable.now }
+    requires fits { Suits instance.now timetable.now }
     ensures { result ≡ outlasts instance.now timetable.now exam }
 {
     match timetable.get(exam) {
@@ -38,8 +38,7 @@ pub fn duration_pairs(
     instance: &Instance,
     timetable: &Timetable,
 ) -> Result<Vec<ExamPair>, AllocError>
-    requires fits { length timetable.now ≡ length instance.now.exams }
-    requires places { All (PlaceExists instance.now) timetable.now }
+    requires fits { Suits instance.now timetable.now }
     ensures { (E : Enrolled) → IfOk result (λ found. found.items
         ≡ pairs_breaking instance.now E timetable.now Duration) }
 {
@@ -73,10 +72,10 @@ fn add_clashes(
 ) -> Result<(), AllocError>
     requires exists { exam < length enrolments.now }
     requires others_exist { All (λ f. f < length enrolments.now) group.now }
-    requires near { (f : ℕ) → has_exam group.now f ≡ true
+    requires near { (f : ℕ) → has_number group.now f ≡ true
         → share_student enrolments.now exam f ≡ true → Has near f }
     ensures { OnOk result ((e f : ℕ) → list_any (is_pair e f) found.new.items
-        ≡ (list_any (is_pair e f) found.old.items || (has_exam group.now f
+        ≡ (list_any (is_pair e f) found.old.items || (has_number group.now f
         && ((exam == e) && (nat_lt e f && share_student enrolments.now e f))))) }
 {
     'others: for other in group {
@@ -89,7 +88,7 @@ fn add_clashes(
 // Marks the exams of a group for their students.
 fn mark(marks: &mut Marks, group: &[ExamNo], enrolments: &Enrolments)
     requires exist { All (λ e. e < length enrolments.now) group.now }
-    ensures { (e s : ℕ) → has_exam group.now e ≡ true → has enrolments.now s e ≡ true
+    ensures { (e s : ℕ) → has_number group.now e ≡ true → has enrolments.now s e ≡ true
         → Has (marks_of marks.new s) e }
 {
     'exams: for exam in group {
@@ -100,7 +99,7 @@ fn mark(marks: &mut Marks, group: &[ExamNo], enrolments: &Enrolments)
 // Takes the marks of a group away.
 fn unmark(marks: &mut Marks, group: &[ExamNo], enrolments: &Enrolments)
     requires exist { All (λ e. e < length enrolments.now) group.now }
-    ensures { (e s : ℕ) → has_exam group.now e ≡ true → has enrolments.now s e ≡ true
+    ensures { (e s : ℕ) → has_number group.now e ≡ true → has enrolments.now s e ≡ true
         → marks_of marks.new s ≡ 0 }
 {
     'exams: for exam in group {
@@ -127,8 +126,8 @@ fn add_group(
 ) -> Result<(), AllocError>
     requires exist { All (λ e. e < length enrolments.now) group.now }
     ensures { OnOk result ((e f : ℕ) → list_any (is_pair e f) found.new.items
-        ≡ (list_any (is_pair e f) found.old.items || ((has_exam group.now e && has_exam group.now f)
-        && (nat_lt e f && share_student enrolments.now e f)))) }
+        ≡ (list_any (is_pair e f) found.old.items || ((has_number group.now e
+        && has_number group.now f) && (nat_lt e f && share_student enrolments.now e f)))) }
 {
     mark(marks, group, enrolments);
     'exams: for exam in group {

@@ -1,12 +1,13 @@
 // The rules on rooms: Capacity and RoomExclusive.
 ghost use Rattle.std.specs.Prelude.{◌≡◌, ◌<◌, ℕ, Bool, ◌&&◌, ◌||◌, ◌==◌, not, map, length, All, IfOk, OnOk};
 ghost use Rattle.std.specs.List.{list_any};
-ghost use Rattle.exam_model.specs.Enrolments.{Enrolled};
+ghost use Rattle.exam_model.specs.Enrolments.{Enrolled, has_number};
+ghost use Rattle.exam_model.specs.Fits.{Suits};
 ghost use Rattle.exam_rules.specs.declared.breach.BreachRule.TheVariants.{Capacity, RoomExclusive};
 ghost use Rattle.exam_rules.specs.Breach.{is_pair};
 ghost use Rattle.exam_rules.specs.Lines.{is_exclusive};
-ghost use Rattle.exam_rules.specs.Groups.{AreGroups, has_exam};
-ghost use Rattle.exam_rules.specs.Places.{Fits, PlaceExists, in_one_place};
+ghost use Rattle.exam_rules.specs.Groups.{AreGroups};
+ghost use Rattle.exam_rules.specs.Places.{Fits, in_one_place};
 ghost use Rattle.exam_rules.specs.Breaches.{breaks, is_overfull, pairs_breaking, is_one_of};
 
 use crate::exam_pair::{ExamPair, in_order, pair_if, push_some};
@@ -50,7 +51,7 @@ fn named_exams(alloc: Global, lines: &[RoomRule]) -> Result<Vec<ExamNo>, AllocEr
 
 // The exams that want their rooms for themselves, each once.
 fn exclusive_exams(alloc: Global, instance: &Instance) -> Result<Vec<ExamNo>, AllocError>
-    ensures members { IfOk result (λ exams. (e : ℕ) → has_exam exams.items e
+    ensures members { IfOk result (λ exams. (e : ℕ) → has_number exams.items e
         ≡ list_any (is_exclusive e) instance.now.room_rules) }
     ensures exist { IfOk result (λ exams. All (λ e. e < length instance.now.exams) exams.items) }
 {
@@ -79,7 +80,7 @@ fn add_intruders(
     requires exists { exam < length timetable.now }
     requires others_exist { All (λ f. f < length timetable.now) group.now }
     ensures { OnOk result ((e f : ℕ) → list_any (is_pair e f) found.new.items
-        ≡ (list_any (is_pair e f) found.old.items || (has_exam group.now f
+        ≡ (list_any (is_pair e f) found.old.items || (has_number group.now f
         && ((exam == e) && (not (e == f) && in_one_place timetable.now e f))))) }
 {
     'others: for other in group {
@@ -96,8 +97,7 @@ pub fn exclusive_pairs(
     timetable: &Timetable,
     groups: &[Group],
 ) -> Result<Vec<ExamPair>, AllocError>
-    requires fits { length timetable.now ≡ length instance.now.exams }
-    requires places { All (PlaceExists instance.now) timetable.now }
+    requires fits { Suits instance.now timetable.now }
     requires grouped { AreGroups timetable.now (length instance.now.periods)
         (length timetable.now) groups.now }
     ensures { (E : Enrolled) → IfOk result (λ found. found.items

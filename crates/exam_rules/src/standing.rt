@@ -1,7 +1,7 @@
 // How two exams stand to each other.
 ghost use Rattle.std.specs.Prelude.{◌≡◌, ◌<◌, ◌&&◌, not, length};
 ghost use Rattle.std.specs.List.{list_any};
-ghost use Rattle.exam_model.specs.Enrolments.{IsAscending, has_student};
+ghost use Rattle.exam_model.specs.Enrolments.{IsAscending, has_number};
 ghost use Rattle.exam_rules.specs.Places.{in_one_period, in_two_periods, is_not_after, in_one_place, share_student};
 
 use exam_model::{Enrolments, ExamNo, StudentNo, Timetable};
@@ -63,7 +63,7 @@ pub fn share_student(enrolments: &Enrolments, exam: ExamNo, other: ExamNo) -> bo
 fn have_common(first: &[StudentNo], second: &[StudentNo]) -> bool
     requires first { IsAscending first.now }
     requires second { IsAscending second.now }
-    ensures { result ≡ list_any (λ s. has_student second.now s) first.now }
+    ensures { result ≡ list_any (λ s. has_number second.now s) first.now }
 {
     let mut left = first;
     let mut right = second;

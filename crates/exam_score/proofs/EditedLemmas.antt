@@ -8,8 +8,8 @@ use Rattle.exam_model.specs.PairCost.{cost_between}
 use Rattle.exam_model.specs.Sums.{sum_pairs}
 use Rattle.exam_model.specs.Timetable.{Placing}
 use Rattle.exam_model.proofs.SumLemmas.{cond-sum_by, sum_by-same, sum_by-add}
-use Rattle.exam_score.specs.Changes.{is_among}
-use Rattle.exam_score.specs.Folds.{cost_at, edited_cost, exams_cost}
+use Rattle.exam_model.specs.Enrolments.{has_number}
+use Rattle.exam_score.specs.EditedCosts.{cost_at, edited_cost, exams_cost}
 
 -- ---- costs by periods, where there are any
 
@@ -29,7 +29,7 @@ between_none cost nothing (Some p) = nothing p
 
 -- an exam beside all of these, if it is edited
 abbrev pub edited_beside : (ℕ → ℕ → ℕ) → Placing → List ℕ → List ℕ → ℕ → ℕ
-edited_beside cost t edited exams e = cond (is_among edited e) (sum_by (cost_at cost t edited e) exams) 0
+edited_beside cost t edited exams e = cond (has_number edited e) (sum_by (cost_at cost t edited e) exams) 0
 
 -- all pairs of places in both orders, where no place makes anything with itself
 square_by_pairs : {X : Type 0} (u : X → X → ℕ) → ((x : X) → u x x ≡ 0) → (xs : List X)
@@ -60,15 +60,15 @@ pub edited_once : (cost : ℕ → ℕ → ℕ) (t : Placing) (edited : List ℕ)
     → ((p : ℕ) → cost p p ≡ 0) → (exams : List ℕ)
     → sum_by (edited_beside cost t edited exams) exams ≡ exams_cost cost t edited exams
 edited_once cost t edited either nothing exams =
-    let u : ℕ → ℕ → ℕ = λ e f. cond (is_among edited e) (cost_at cost t edited e f) 0 in
-    sum_by-same _ _ (λ e. cond-sum_by (is_among edited e) (cost_at cost t edited e) exams) exams
-    ∙ square_by_pairs u (λ e. own_none (is_among edited e) e (cost_between cost (period_of t e) (period_of t e))) exams
+    let u : ℕ → ℕ → ℕ = λ e f. cond (has_number edited e) (cost_at cost t edited e f) 0 in
+    sum_by-same _ _ (λ e. cond-sum_by (has_number edited e) (cost_at cost t edited e) exams) exams
+    ∙ square_by_pairs u (λ e. own_none (has_number edited e) e (cost_between cost (period_of t e) (period_of t e))) exams
     ∙ (λ i. sum_pairs (λ e f. each e f i) exams)
   where
     each : (e f : ℕ)
-        → cond (is_among edited e) (cost_at cost t edited e f) 0 + cond (is_among edited f) (cost_at cost t edited f e) 0
+        → cond (has_number edited e) (cost_at cost t edited e f) 0 + cond (has_number edited f) (cost_at cost t edited f e) 0
         ≡ edited_cost cost t edited e f
     each e f =
-        either_once (is_among edited e) (is_among edited f) e f (cost_between cost (period_of t e) (period_of t f)) (cost_between cost (period_of t f) (period_of t e))
+        either_once (has_number edited e) (has_number edited f) e f (cost_between cost (period_of t e) (period_of t f)) (cost_between cost (period_of t f) (period_of t e))
         (between_swap cost either (period_of t e) (period_of t f))
         (λ same. ap (λ x. cost_between cost (period_of t e) (period_of t x)) (sym same) ∙ between_none cost nothing (period_of t e))

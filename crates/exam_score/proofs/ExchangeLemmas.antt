@@ -6,7 +6,7 @@ use Rattle.std.proofs.lemmas.Bool.{cond-false, or_parts}
 use Rattle.std.proofs.lemmas.Bool.Decides.{nat_tests}
 use Rattle.std.proofs.lemmas.List.Filters.{sum_by-filter_both}
 use Rattle.exam_terms.specs.declared.place.Place.{Place}
-use Rattle.exam_model.specs.Enrolments.{Enrolled, AreEnrolments, has}
+use Rattle.exam_model.specs.Enrolments.{Enrolled, AreEnrolments, has, has_number}
 use Rattle.exam_model.specs.Fits.{period_of}
 use Rattle.exam_model.specs.Instance.{Session, IsInstance}
 use Rattle.exam_model.specs.PairCost.{cost_between}
@@ -15,11 +15,13 @@ use Rattle.exam_model.specs.Sums.{sum_below, sum_pairs}
 use Rattle.exam_model.specs.Timetable.{Placing, place_of}
 use Rattle.exam_model.proofs.PairLemmas.{are_pairs}
 use Rattle.exam_model.proofs.SumLemmas.{IsChain, sum_by-none, sum_pairs-agree, sum_pairs-IsPermutation, each_weaker, sum_by-add, sum_by-same, sum_below-same, sum_below-within, sum_below-add}
-use Rattle.exam_score.specs.Changes.{DiffersAtMost, is_among}
+use Rattle.exam_score.specs.Changes.{DiffersAtMost}
 use Rattle.exam_score.specs.Cost.{row_cost, day_cost, spread_cost}
-use Rattle.exam_score.specs.CostLaws.{row_cost-swap, day_cost-swap, spread_cost-swap, row_cost-none, day_cost-none, spread_cost-none}
-use Rattle.exam_score.specs.Exchanges.{CannotExchange, IsExchanged, IsOfEdit, coming, going, is_touched, mixed_where, room_mixed_where, pairs_concerned, sits_among, sum_among}
-use Rattle.exam_score.specs.Folds.{Folded, StandsFor, edited_cost, personal_sum, students_cost}
+use Rattle.exam_score.specs.CostOrder.{row_cost-swap, day_cost-swap, spread_cost-swap, row_cost-none, day_cost-none, spread_cost-none}
+use Rattle.exam_score.specs.Exchanges.{CannotExchange, IsExchanged, IsOfEdit, coming, going, pairs_concerned, sits_among}
+use Rattle.exam_score.specs.Touched.{is_touched, mixed_where, room_mixed_where, sum_among}
+use Rattle.exam_score.specs.Folds.{Folded, StandsFor}
+use Rattle.exam_score.specs.EditedCosts.{edited_cost, personal_sum, students_cost}
 use Rattle.exam_score.specs.Front.{AreSizes, front_by}
 use Rattle.exam_score.specs.Penalty.{Penalty, PersonalPenalty, plus, total_of}
 use Rattle.exam_score.specs.Regrouping.{pair_part}
@@ -38,19 +40,19 @@ flip true e = sym e
 flip false e = refl
 
 -- what fails for all of a list fails for each of it
-fails_among : (test : ℕ → Bool) (exams : List ℕ) (e : ℕ) → list_any test exams ≡ false → is_among exams e ≡ true → test e ≡ false
+fails_among : (test : ℕ → Bool) (exams : List ℕ) (e : ℕ) → list_any test exams ≡ false → has_number exams e ≡ true → test e ≡ false
 fails_among test [] e none among = absurd (true≢false (sym among))
 fails_among test (k ∷ ks) e none among = go (eqb k e) refl among (fails_among test ks e (or_parts (test k) (list_any test ks) none).1)
   where
-    go : (b : Bool) → eqb k e ≡ b → (b || is_among ks e) ≡ true → (is_among ks e ≡ true → test e ≡ false) → test e ≡ false
+    go : (b : Bool) → eqb k e ≡ b → (b || has_number ks e) ≡ true → (has_number ks e ≡ true → test e ≡ false) → test e ≡ false
     go true is h more = ap test (sym (eqb-true k e is)) ∙ (or_parts (test k) (list_any test ks) none).0
     go false is h more = more h
 
 -- an exam that a student sits is none of those that she doesn't sit
-not_among : (E : Enrolled) (s e : ℕ) (exams : List ℕ) → has E s e ≡ true → sits_among E exams s ≡ false → is_among exams e ≡ false
-not_among E s e exams sits none = go (is_among exams e) refl
+not_among : (E : Enrolled) (s e : ℕ) (exams : List ℕ) → has E s e ≡ true → sits_among E exams s ≡ false → has_number exams e ≡ false
+not_among E s e exams sits none = go (has_number exams e) refl
   where
-    go : (b : Bool) → is_among exams e ≡ b → is_among exams e ≡ false
+    go : (b : Bool) → has_number exams e ≡ b → has_number exams e ≡ false
     go true is = absurd (true≢false (sym sits ∙ fails_among (λ k. has E s k) exams e none is))
     go false is = is
 
@@ -161,12 +163,12 @@ part_exchanged cost E old new edited pairs either nothing known moved same =
     let all : List Pair = pairs_of E in
     let before = by_test v (sits_among E edited) all in
     let after = by_test w (sits_among E edited) all in
-    let alone : AllByRecursion (λ p. is_among edited p.exam ≡ false) (filter (λ p. not (sits_among E edited p.student)) all)
-    = each_kept (λ p. has E p.student p.exam ≡ true) (λ p. is_among edited p.exam ≡ false) (λ p. not (sits_among E edited p.student))
+    let alone : AllByRecursion (λ p. has_number edited p.exam ≡ false) (filter (λ p. not (sits_among E edited p.student)) all)
+    = each_kept (λ p. has E p.student p.exam ≡ true) (λ p. has_number edited p.exam ≡ false) (λ p. not (sits_among E edited p.student))
     (λ p sits e. not_among E p.student p.exam edited sits (flip (sits_among E edited p.student) e)) all (sat_each E known) in
     let others : sum_pairs (later_cost w) (filter (λ p. not (sits_among E edited p.student)) all) ≡ sum_pairs (later_cost v) (filter (λ p. not (sits_among E edited p.student)) all)
     = sum_pairs-agree (later_cost w) (later_cost v) (filter (λ p. not (sits_among E edited p.student)) all)
-    (chain_of_each (λ p. is_among edited p.exam ≡ false) (λ p q. later_cost w p q ≡ later_cost v p q)
+    (chain_of_each (λ p. has_number edited p.exam ≡ false) (λ p q. later_cost w p q ≡ later_cost v p q)
     (λ p q a b. ap (λ n. cond (eqb q.student p.student) n 0) (ap₂ (cost_between cost) (period_same p.exam a) (period_same q.exam b))) (filter (λ p. not (sits_among E edited p.student)) all) alone) in
     let old_sum = any_order cost (period_of old) either nothing (pairs_concerned E edited) pairs moved in
     let new_sum = any_order cost (period_of new) either nothing (pairs_concerned E edited) pairs moved in
@@ -176,7 +178,7 @@ part_exchanged cost E old new edited pairs either nothing known moved same =
     let new_part = by_placed cost new all ∙ part_of_rows cost E new known in
     omega (arith, before, after, others, old_sum, new_sum, old_part, new_part, edits)
   where
-    period_same : (e : ℕ) → is_among edited e ≡ false → period_of new e ≡ period_of old e
+    period_same : (e : ℕ) → has_number edited e ≡ false → period_of new e ≡ period_of old e
     period_same e not_edited = ap (λ (o : Option Place). period_in o) (same e not_edited)
       where
         period_in : Option Place → Option ℕ
@@ -187,10 +189,10 @@ part_exchanged cost E old new edited pairs either nothing known moved same =
         → later_cost (λ e f. cost_between cost (period_of new e) (period_of new f)) p q + later_cost (edited_cost cost old edited) p q
         ≡ later_cost (λ e f. cost_between cost (period_of old e) (period_of old f)) p q + later_cost (edited_cost cost new edited) p q
     edits_of p q =
-        by_students (eqb q.student p.student) (is_among edited p.exam || is_among edited q.exam)
+        by_students (eqb q.student p.student) (has_number edited p.exam || has_number edited q.exam)
         (cost_between cost (period_of new p.exam) (period_of new q.exam)) (cost_between cost (period_of old p.exam) (period_of old q.exam))
-        (λ none. ap₂ (cost_between cost) (period_same p.exam (or_parts (is_among edited p.exam) (is_among edited q.exam) none).0)
-        (period_same q.exam (or_parts (is_among edited p.exam) (is_among edited q.exam) none).1))
+        (λ none. ap₂ (cost_between cost) (period_same p.exam (or_parts (has_number edited p.exam) (has_number edited q.exam) none).0)
+        (period_same q.exam (or_parts (has_number edited p.exam) (has_number edited q.exam) none).1))
       where
         by_students : (same edit : Bool) (m n : ℕ) → (edit ≡ false → m ≡ n)
             → cond same m 0 + cond same (cond edit n 0) 0 ≡ cond same n 0 + cond same (cond edit m 0) 0
@@ -217,9 +219,9 @@ sums_exchanged f g test same (suc n) =
 untouched : (s : Session) (edited : List ℕ) (old new : Placing) (p r : ℕ) → DiffersAtMost edited old new → is_touched edited old new p r ≡ false → durations s new p r ≡ durations s old p r
 untouched s edited old new p r same none =
     sum_below-same _ _ (λ m. ap (λ n. cond (nat_lt 0 n) 1 0)
-    (sum_below-same _ _ (λ e. ap (λ b. cond (b && eqb (minutes_of (slice_get s.exams e)) m) 1 0) (stays e (is_among edited e) refl)) (length s.exams))) duration_count
+    (sum_below-same _ _ (λ e. ap (λ b. cond (b && eqb (minutes_of (slice_get s.exams e)) m) 1 0) (stays e (has_number edited e) refl)) (length s.exams))) duration_count
   where
-    stays : (e : ℕ) (b : Bool) → is_among edited e ≡ b → is_at p r (place_of new e) ≡ is_at p r (place_of old e)
+    stays : (e : ℕ) (b : Bool) → has_number edited e ≡ b → is_at p r (place_of new e) ≡ is_at p r (place_of old e)
     stays e true among =
         let neither = or_parts (is_at p r (place_of old e)) (is_at p r (place_of new e)) (fails_among (λ e. is_at p r (place_of old e) || is_at p r (place_of new e)) edited e none among) in
         neither.1 ∙ sym neither.0
@@ -236,13 +238,13 @@ mixed_exchanged s edited old new same =
 front_among : (s : Session) (E : Enrolled) (t : Placing) (edited sizes : List ℕ) → AreSizes E sizes → length E ≡ length s.exams
     → sum_among s edited (λ e. front_by s sizes (place_of t e) e) ≡ sum_among s edited (exam_front s E t)
 front_among s E t edited sizes are exams =
-    sum_below-within _ _ (length s.exams) (λ e lt. ap (λ n. cond (is_among edited e) n 0) (front_by_sizes s E t sizes e are exams (omega arith)))
+    sum_below-within _ _ (length s.exams) (λ e lt. ap (λ n. cond (has_number edited e) n 0) (front_by_sizes s E t sizes e are exams (omega arith)))
 
 front_exchanged : (s : Session) (E : Enrolled) (old new : Placing) (edited sizes : List ℕ) → AreSizes E sizes → length E ≡ length s.exams → DiffersAtMost edited old new
     → front_part s E new + sum_among s edited (λ e. front_by s sizes (place_of old e) e) ≡ front_part s E old + sum_among s edited (λ e. front_by s sizes (place_of new e) e)
 front_exchanged s E old new edited sizes are exams same =
     ap (λ n. front_part s E new + n) (front_among s E old edited sizes are exams)
-    ∙ sums_exchanged (exam_front s E old) (exam_front s E new) (is_among edited)
+    ∙ sums_exchanged (exam_front s E old) (exam_front s E new) (has_number edited)
     (λ e none. ap (λ o. cond (is_largest s E e && is_late s o) s.weights.front 0) (same e none)) (length s.exams)
     ∙ ap (λ n. front_part s E old + n) (sym (front_among s E new edited sizes are exams))
 
@@ -270,8 +272,8 @@ track_exchanged fold E pairs sizes old h is =
       spread = ap (λ p. pair_part (spread_cost s.periods s.weights) E (period_of fold.later) + p.spread) before ∙ spread ∙ ap₂ (λ a b. a + b) (ap (λ p. p.spread) (sym is.scored)) (ap (λ p. p.spread) (sym after));
       mixed = mixed_exchanged s fold.edited fold.earlier fold.later is.others ∙ ap (λ p. p.mixed + (coming fold sizes).mixed) (sym is.scored);
       front = front_exchanged s E fold.earlier fold.later fold.edited sizes is.sized is.fits.enrolments is.others ∙ ap (λ p. p.front + (coming fold sizes).front) (sym is.scored);
-      period = sums_exchanged (λ e. exam_period s (place_of fold.earlier e)) (λ e. exam_period s (place_of fold.later e)) (is_among fold.edited) (λ e none. ap (exam_period s) (is.others e none)) (length s.exams) ∙ ap (λ p. p.period + (coming fold sizes).period) (sym is.scored);
-      room = sums_exchanged (λ e. exam_room s (place_of fold.earlier e)) (λ e. exam_room s (place_of fold.later e)) (is_among fold.edited) (λ e none. ap (exam_room s) (is.others e none)) (length s.exams) ∙ ap (λ p. p.room + (coming fold sizes).room) (sym is.scored);
+      period = sums_exchanged (λ e. exam_period s (place_of fold.earlier e)) (λ e. exam_period s (place_of fold.later e)) (has_number fold.edited) (λ e none. ap (exam_period s) (is.others e none)) (length s.exams) ∙ ap (λ p. p.period + (coming fold sizes).period) (sym is.scored);
+      room = sums_exchanged (λ e. exam_room s (place_of fold.earlier e)) (λ e. exam_room s (place_of fold.later e)) (has_number fold.edited) (λ e none. ap (exam_room s) (is.others e none)) (length s.exams) ∙ ap (λ p. p.room + (coming fold sizes).room) (sym is.scored);
     }
 
 -- an exchange has one outcome

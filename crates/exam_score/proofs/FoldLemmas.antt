@@ -9,7 +9,8 @@ use Rattle.exam_model.specs.Sums.{sum_pairs}
 use Rattle.exam_model.specs.Timetable.{Placing}
 use Rattle.exam_model.proofs.SumLemmas.{IsChain, chain_from_index, sum_by-none, each_weaker}
 use Rattle.exam_score.specs.Cost.{row_cost, day_cost, spread_cost}
-use Rattle.exam_score.specs.Folds.{Folded, StandsFor, CanFollow, ComesEarlier, edited_cost, exams_cost, pairs_sat, personal_at, personal_sum, students_cost}
+use Rattle.exam_score.specs.Folds.{Folded, StandsFor, CanFollow, ComesEarlier, pairs_sat}
+use Rattle.exam_score.specs.EditedCosts.{edited_cost, exams_cost, personal_at, personal_sum, students_cost}
 use Rattle.exam_score.specs.Penalty.{PersonalPenalty, plus}
 use Rattle.exam_score.proofs.RegroupingLemmas.{later_cost}
 

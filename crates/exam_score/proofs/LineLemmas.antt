@@ -7,7 +7,7 @@ use Rattle.exam_model.specs.Instance.{Session, gap, share_date}
 use Rattle.exam_model.specs.declared.parts.Period.{Period}
 use Rattle.exam_model.specs.declared.parts.Weights.{Weights}
 use Rattle.exam_score.specs.Cost.{row_cost, day_cost, spread_cost}
-use Rattle.exam_score.specs.CostLaws.{row_cost-swap, day_cost-swap, spread_cost-swap}
+use Rattle.exam_score.specs.CostOrder.{row_cost-swap, day_cost-swap, spread_cost-swap}
 use Rattle.exam_score.specs.Lines.{costs_of, IsLine}
 use Rattle.exam_score.specs.declared.lines.PairCosts.{PairCosts}
 use Rattle.exam_score.specs.declared.lines.Line.{Line}

@@ -15,8 +15,8 @@ use Rattle.exam_model.specs.declared.parts.Room.{Room}
 use Rattle.exam_terms.specs.declared.place.Place.{Place}
 use Rattle.exam_model.proofs.SumLemmas.{sum_below-le}
 use Rattle.exam_score.specs.Cost.{row_cost, day_cost, spread_cost}
-use Rattle.exam_score.specs.CostLaws.{spread_cost-small}
-use Rattle.exam_score.specs.Exchanges.{mixed_where, room_mixed_where}
+use Rattle.exam_score.specs.CostOrder.{spread_cost-small}
+use Rattle.exam_score.specs.Touched.{mixed_where, room_mixed_where}
 use Rattle.exam_score.specs.Penalty.{total_of}
 use Rattle.exam_score.specs.Track.{period_penalty, room_penalty, exam_period, exam_room, duration_count, lasting, durations, is_largest, is_late, exam_front, track}
 use Rattle.exam_score.proofs.CostLemmas.{row_cost-small, day_cost-small}

@@ -5,7 +5,8 @@ use Rattle.std.proofs.lemmas.Bool.{cases_eq, cases_lt}
 use Rattle.std.proofs.lemmas.List.{get_or-set_same, get_or-set_other, get_or_append_left, get_or_push, get_or_read, length_push}
 use Rattle.std.proofs.lemmas.List.Sums.{sum_by_push, sum_by-set}
 use Rattle.exam_score.specs.Rows.{row_at}
-use Rattle.exam_score.specs.Tallies.{tally_sum, slot_of, IsLast, AreCrowded, AreLinkedIn, AreFiled, Extends, Grows}
+use Rattle.exam_score.specs.Tallies.{tally_sum}
+use Rattle.exam_score.specs.TallyLinks.{slot_of_student, IsLast, AreCrowded, AreLinkedIn, AreFiled, Extends, Grows}
 use Rattle.exam_score.specs.declared.rows.Row.{Row}
 use Rattle.exam_score.specs.declared.tallies.Tally.{Tally}
 
@@ -16,26 +17,26 @@ last_same : (m : ℕ) (xs ys : List Tally) (slot n k : ℕ) → ((j : ℕ) (d : 
     → IsLast xs m slot n k → IsLast ys m slot n k
 last_same m xs ys slot n k same h = record {
   within = h.within;
-  here = λ d some. ap (λ s. slot_of m s) (sym (same (n - 1) d (let w = h.within in omega arith))) ∙ h.here d some;
-  none = λ j d from below is. h.none j d from below (ap (λ s. slot_of m s) (same j d below) ∙ is);
+  here = λ d some. ap (λ s. slot_of_student m s) (sym (same (n - 1) d (let w = h.within in omega arith))) ∙ h.here d some;
+  none = λ j d from below is. h.none j d from below (ap (λ s. slot_of_student m s) (same j d below) ∙ is);
 }
 
 -- one more of another slot
-last_more : (m : ℕ) (xs : List Tally) (slot n k : ℕ) → ((d : Tally) → slot_of m (get_or xs k d).student ≢ slot) → IsLast xs m slot n k → IsLast xs m slot n (k + 1)
+last_more : (m : ℕ) (xs : List Tally) (slot n k : ℕ) → ((d : Tally) → slot_of_student m (get_or xs k d).student ≢ slot) → IsLast xs m slot n k → IsLast xs m slot n (k + 1)
 last_more m xs slot n k other h = record {
   within = let w = h.within in omega arith;
   here = h.here;
   none = λ j d from below. elim (cases_eq j k) [
-    | inl last ↦ (λ is. other d (ap (λ v. slot_of m (get_or xs v d).student) (sym last) ∙ is))
+    | inl last ↦ (λ is. other d (ap (λ v. slot_of_student m (get_or xs v d).student) (sym last) ∙ is))
     | inr before ↦ h.none j d from (omega arith)
   ];
 }
 
 -- one more of this slot
-last_new : (m : ℕ) (xs : List Tally) (slot k : ℕ) → ((d : Tally) → slot_of m (get_or xs k d).student ≡ slot) → IsLast xs m slot (k + 1) (k + 1)
+last_new : (m : ℕ) (xs : List Tally) (slot k : ℕ) → ((d : Tally) → slot_of_student m (get_or xs k d).student ≡ slot) → IsLast xs m slot (k + 1) (k + 1)
 last_new m xs slot k own = record {
   within = omega arith;
-  here = λ d some. ap (λ v. slot_of m (get_or xs v d).student) (let e : k + 1 - 1 ≡ k = omega arith in e) ∙ own d;
+  here = λ d some. ap (λ v. slot_of_student m (get_or xs v d).student) (let e : k + 1 - 1 ≡ k = omega arith in e) ∙ own d;
   none = λ j d from below. absurd (omega arith);
 }
 
@@ -66,10 +67,10 @@ alike_set xs i y within student period before = record {
 linked_alike : (m : ℕ) (xs ys : List Tally) → AreAlike xs ys → AreLinkedIn xs m → AreLinkedIn ys m
 linked_alike m xs ys same h = record {
   links = λ k d lt.
-      let link : IsLast ys m (slot_of m (get_or xs k d).student) (get_or xs k d).before k
-      = last_same m xs ys (slot_of m (get_or xs k d).student) (get_or xs k d).before k (λ j e l. same.student j e) (h.links k d (let c = same.count in omega arith)) in
-      subst (λ n. IsLast ys m (slot_of m (get_or ys k d).student) n k) (same.before k d)
-      (subst (λ s. IsLast ys m (slot_of m s) (get_or xs k d).before k) (same.student k d) link);
+      let link : IsLast ys m (slot_of_student m (get_or xs k d).student) (get_or xs k d).before k
+      = last_same m xs ys (slot_of_student m (get_or xs k d).student) (get_or xs k d).before k (λ j e l. same.student j e) (h.links k d (let c = same.count in omega arith)) in
+      subst (λ n. IsLast ys m (slot_of_student m (get_or ys k d).student) n k) (same.before k d)
+      (subst (λ s. IsLast ys m (slot_of_student m s) (get_or xs k d).before k) (same.student k d) link);
   ascending = λ i j d l m.
       let le = h.ascending i j d l (let c = same.count in omega arith) in
       let a = same.period i d in
@@ -122,16 +123,16 @@ get_new xs x d = get_or_push xs x d (length xs) refl
 student_kept : (xs : List Tally) (x : Tally) (k : ℕ) → k ≤ length xs → (j : ℕ) (d : Tally) → j < k → (get_or xs j d).student ≡ (get_or (xs ++ x ∷ []) j d).student
 student_kept xs x k le j d lt = ap (λ z. z.student) (sym (get_kept xs x j d (omega arith)))
 
-linked_push : (m : ℕ) (xs : List Tally) (x : Tally) → All (λ z. z.period ≤ x.period) xs → IsLast xs m (slot_of m x.student) x.before (length xs) → AreLinkedIn xs m → AreLinkedIn (xs ++ x ∷ []) m
+linked_push : (m : ℕ) (xs : List Tally) (x : Tally) → All (λ z. z.period ≤ x.period) xs → IsLast xs m (slot_of_student m x.student) x.before (length xs) → AreLinkedIn xs m → AreLinkedIn (xs ++ x ∷ []) m
 linked_push m xs x not_later link h = record {
   links = λ k d lt. elim (cases_eq k (length xs)) [
-    | inl last ↦ subst (λ v. IsLast (xs ++ x ∷ []) m (slot_of m (get_or (xs ++ x ∷ []) v d).student) (get_or (xs ++ x ∷ []) v d).before v) (sym last)
-        (subst (λ z. IsLast (xs ++ x ∷ []) m (slot_of m z.student) z.before (length xs)) (sym (get_new xs x d))
-        (last_same m xs (xs ++ x ∷ []) (slot_of m x.student) x.before (length xs) (student_kept xs x (length xs) (omega arith)) link))
+    | inl last ↦ subst (λ v. IsLast (xs ++ x ∷ []) m (slot_of_student m (get_or (xs ++ x ∷ []) v d).student) (get_or (xs ++ x ∷ []) v d).before v) (sym last)
+        (subst (λ z. IsLast (xs ++ x ∷ []) m (slot_of_student m z.student) z.before (length xs)) (sym (get_new xs x d))
+        (last_same m xs (xs ++ x ∷ []) (slot_of_student m x.student) x.before (length xs) (student_kept xs x (length xs) (omega arith)) link))
     | inr other ↦
         (let before : k < length xs = omega (arith, length_push xs x) in
-        subst (λ z. IsLast (xs ++ x ∷ []) m (slot_of m z.student) z.before k) (sym (get_kept xs x k d before))
-        (last_same m xs (xs ++ x ∷ []) (slot_of m (get_or xs k d).student) (get_or xs k d).before k (student_kept xs x k (omega arith)) (h.links k d before)))
+        subst (λ z. IsLast (xs ++ x ∷ []) m (slot_of_student m z.student) z.before k) (sym (get_kept xs x k d before))
+        (last_same m xs (xs ++ x ∷ []) (slot_of_student m (get_or xs k d).student) (get_or xs k d).before k (student_kept xs x k (omega arith)) (h.links k d before)))
   ];
   ascending = λ i j d l m. elim (cases_eq j (length xs)) [
     | inl last ↦
@@ -148,7 +149,7 @@ linked_push m xs x not_later link h = record {
   ];
 }
 
-pub filed_push : (m : ℕ) (xs : List Tally) (last : List ℕ) (x : Tally) (slot : ℕ) → AreFiled xs last m → slot < length last → slot_of m x.student ≡ slot
+pub filed_push : (m : ℕ) (xs : List Tally) (last : List ℕ) (x : Tally) (slot : ℕ) → AreFiled xs last m → slot < length last → slot_of_student m x.student ≡ slot
     → x.before ≡ get_or last slot 0 → All (λ z. z.period ≤ x.period) xs → AreFiled (xs ++ x ∷ []) (set last slot (length xs + 1)) m
 filed_push m xs last x slot h within own before not_later = record {
   count = length-set last slot (length xs + 1) ∙ h.count;
@@ -157,17 +158,17 @@ filed_push m xs last x slot h within own before not_later = record {
         | inl same ↦
             subst (λ n. IsLast (xs ++ x ∷ []) m n (get_or (set last slot (length xs + 1)) n 0) (length xs + 1)) (sym same)
             (subst (λ n. IsLast (xs ++ x ∷ []) m slot n (length xs + 1)) (sym (get_or-set_same last slot (length xs + 1) 0 within))
-            (last_new m (xs ++ x ∷ []) slot (length xs) (λ d. ap (λ z. slot_of m z.student) (get_new xs x d) ∙ own)))
+            (last_new m (xs ++ x ∷ []) slot (length xs) (λ d. ap (λ z. slot_of_student m z.student) (get_new xs x d) ∙ own)))
         | inr other ↦
             (let differ : b ≢ slot = (λ e. omega arith) in
             let old : IsLast xs m b (get_or last b 0) (length xs) = h.lasts b (let c = length-set last slot (length xs + 1) in omega arith) in
             subst (λ n. IsLast (xs ++ x ∷ []) m b n (length xs + 1)) (sym (get_or-set_other last slot b (length xs + 1) 0 differ))
             (last_more m (xs ++ x ∷ []) b (get_or last b 0) (length xs)
-            (λ d is. differ (sym is ∙ ap (λ z. slot_of m z.student) (get_new xs x d) ∙ own))
+            (λ d is. differ (sym is ∙ ap (λ z. slot_of_student m z.student) (get_new xs x d) ∙ own))
             (last_same m xs (xs ++ x ∷ []) b (get_or last b 0) (length xs) (student_kept xs x (length xs) (omega arith)) old)))
       ]);
   linked = linked_push m xs x not_later
-      (subst (λ n. IsLast xs m (slot_of m x.student) n (length xs)) (sym before)
+      (subst (λ n. IsLast xs m (slot_of_student m x.student) n (length xs)) (sym before)
       (subst (λ b. IsLast xs m b (get_or last slot 0) (length xs)) (sym own) (h.lasts slot within))) h.linked;
 }
 

@@ -6,7 +6,8 @@ use Rattle.std.proofs.lemmas.List.Elements.{recursion_from_All}
 use Rattle.std.proofs.lemmas.List.Sums.{sum_by-take-drop, sum_by_more, sum_by-take-le, sum_by-le-sum_by, get_or-le-sum_by}
 use Rattle.std.proofs.lemmas.Nat.{mul-le}
 use Rattle.exam_model.proofs.SumLemmas.{sum_by-none, sum_by-same, sum_by-zeros, sum_by-times, sum_pairs-more, sum_pairs-le}
-use Rattle.exam_score.specs.Tallies.{tally_sum, tally_beside, tally_pair, tally_cost, row_count, slot_of, IsLast, AreLinkedIn}
+use Rattle.exam_score.specs.Tallies.{tally_sum, tally_beside, tally_pair, tally_cost, row_count}
+use Rattle.exam_score.specs.TallyLinks.{slot_of_student, IsLast, AreLinkedIn}
 use Rattle.exam_score.specs.Walk.{row_pair, cost_with}
 use Rattle.exam_score.specs.declared.rows.Row.{Row}
 use Rattle.exam_score.specs.declared.tallies.Tally.{Tally}
@@ -27,7 +28,7 @@ free_period cost y x none = ap (λ n. x.exams * cond (eqb y.student x.student) n
     picked false = refl
 
 -- the tallies between one and the next of its slot are of other students
-skipped : (m : ℕ) (cost : ℕ → ℕ → ℕ) (xs : List Tally) (y : Tally) (n k : ℕ) → IsLast xs m (slot_of m y.student) n k → k ≤ length xs
+skipped : (m : ℕ) (cost : ℕ → ℕ → ℕ) (xs : List Tally) (y : Tally) (n k : ℕ) → IsLast xs m (slot_of_student m y.student) n k → k ≤ length xs
     → sum_by (tally_beside cost y) (take k xs) ≡ sum_by (tally_beside cost y) (take n xs)
 skipped m cost xs y n k last le =
     let f : Tally → ℕ = tally_beside cost y in
@@ -42,15 +43,15 @@ skipped m cost xs y n k last le =
         let here : get_or (drop n (take k xs)) j d ≡ get_or xs (n + j) d = get_or-drop n (take k xs) j d ∙ get_or-take k xs (n + j) d within in
         let apart = last.none (n + j) d (omega arith) within in
         ap (tally_beside cost y) here
-        ∙ other_student cost y (get_or xs (n + j) d) (λ same. apart (ap (λ s. slot_of m s) (sym same)))
+        ∙ other_student cost y (get_or xs (n + j) d) (λ same. apart (ap (λ s. slot_of_student m s) (sym same)))
 
 -- ---- one step
 
-pub link_of : (m : ℕ) (xs : List Tally) (y : Tally) (k : ℕ) → AreLinkedIn xs m → k < length xs → ((d : Tally) → get_or xs k d ≡ y) → IsLast xs m (slot_of m y.student) y.before k
+pub link_of : (m : ℕ) (xs : List Tally) (y : Tally) (k : ℕ) → AreLinkedIn xs m → k < length xs → ((d : Tally) → get_or xs k d ≡ y) → IsLast xs m (slot_of_student m y.student) y.before k
 link_of m xs y k linked within here = subst_link (get_or xs k y) y (here y) (linked.links k y within)
   where
-    subst_link : (z w : Tally) → z ≡ w → IsLast xs m (slot_of m z.student) z.before k → IsLast xs m (slot_of m w.student) w.before k
-    subst_link z w e h = subst (λ v. IsLast xs m (slot_of m v.student) v.before k) e h
+    subst_link : (z w : Tally) → z ≡ w → IsLast xs m (slot_of_student m z.student) z.before k → IsLast xs m (slot_of_student m w.student) w.before k
+    subst_link z w e h = subst (λ v. IsLast xs m (slot_of_student m v.student) v.before k) e h
 
 -- before the first step
 pub walk_starts : (m : ℕ) (cost : ℕ → ℕ → ℕ) (xs : List Tally) (y : Tally) (k : ℕ) → AreLinkedIn xs m → k < length xs → ((d : Tally) → get_or xs k d ≡ y)
@@ -60,7 +61,7 @@ walk_starts m cost xs y k linked within here =
 
 -- a tally of the slot, and on to the one before it
 pub walk_on : (m : ℕ) (cost : ℕ → ℕ → ℕ) (xs : List Tally) (y x : Tally) (n : ℕ) → AreLinkedIn xs m → 0 < n → n ≤ length xs → ((d : Tally) → get_or xs (n - 1) d ≡ x)
-    → slot_of m x.student ≡ slot_of m y.student
+    → slot_of_student m x.student ≡ slot_of_student m y.student
     → sum_by (tally_beside cost y) (take n xs) ≡ tally_beside cost y x + sum_by (tally_beside cost y) (take x.before xs)
 walk_on m cost xs y x n linked some le here slot =
     let f : Tally → ℕ = tally_beside cost y in
@@ -71,8 +72,8 @@ walk_on m cost xs y x n linked some le here slot =
     omega arith
 
 -- and the next one is of the slot too
-pub slot_on : (m : ℕ) (xs : List Tally) (x : Tally) (n s : ℕ) → AreLinkedIn xs m → 0 < n → n ≤ length xs → ((d : Tally) → get_or xs (n - 1) d ≡ x) → slot_of m x.student ≡ s
-    → (d : Tally) → 0 < x.before → slot_of m (get_or xs (x.before - 1) d).student ≡ s
+pub slot_on : (m : ℕ) (xs : List Tally) (x : Tally) (n s : ℕ) → AreLinkedIn xs m → 0 < n → n ≤ length xs → ((d : Tally) → get_or xs (n - 1) d ≡ x) → slot_of_student m x.student ≡ s
+    → (d : Tally) → 0 < x.before → slot_of_student m (get_or xs (x.before - 1) d).student ≡ s
 slot_on m xs x n s linked some le here slot d before = (link_of m xs x (n - 1) linked (omega arith) here).here d before ∙ slot
 
 pub link_below : (m : ℕ) (xs : List Tally) (x : Tally) (n : ℕ) → AreLinkedIn xs m → 0 < n → n ≤ length xs → ((d : Tally) → get_or xs (n - 1) d ≡ x) → x.before < n

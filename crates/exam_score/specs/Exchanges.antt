@@ -1,48 +1,18 @@
 -- What an edit takes from a penalty, and what it brings.
-use Rattle.std.specs.Prelude.{◌≡◌, ℕ, ◌+◌, ◌-◌, ◌*◌, ◌^◌, ◌≤◌, Bool, not, ◌&&◌, ◌||◌, if◌then◌else◌, nat_lt, Option, None, Some, List, length, filter, IsPermutation}
+use Rattle.std.specs.Prelude.{◌≡◌, ℕ, ◌+◌, ◌^◌, ◌≤◌, Bool, List, filter, IsPermutation}
 use Rattle.std.specs.List.{list_any}
-use Rattle.exam_terms.specs.declared.place.Place.{Place}
 use Rattle.exam_model.specs.Enrolments.{Enrolled, AreEnrolments, has}
 use Rattle.exam_model.specs.Fits.{Fits}
 use Rattle.exam_model.specs.Instance.{Session}
 use Rattle.exam_model.specs.Pairs.{Pair, pairs_of}
-use Rattle.exam_model.specs.Sums.{sum_below}
 use Rattle.exam_model.specs.Timetable.{Placing, place_of}
-use Rattle.exam_score.specs.Changes.{DiffersAtMost, is_among}
-use Rattle.exam_score.specs.Folds.{Folded, personal_sum}
+use Rattle.exam_score.specs.Changes.{DiffersAtMost}
+use Rattle.exam_score.specs.Folds.{Folded}
+use Rattle.exam_score.specs.EditedCosts.{personal_sum}
 use Rattle.exam_score.specs.Front.{AreSizes, front_by}
 use Rattle.exam_score.specs.Penalty.{Penalty, PersonalPenalty, plus, total_of}
-use Rattle.exam_score.specs.Track.{durations, exam_period, exam_room, is_at, track}
-
--- ---- the edited exams
-
--- whether an edited exam stands in this period and room, before the edit or after it
-abbrev pub is_touched : List ℕ → Placing → Placing → ℕ → ℕ → Bool
-is_touched edited old new p r =
-    list_any (λ e. is_at p r (place_of old e) || is_at p r (place_of new e)) edited
-
--- the mixed part of one room in the periods that pass
-abbrev pub room_mixed_where : Session → Placing → (ℕ → ℕ → Bool) → ℕ → ℕ
-room_mixed_where s t touched r =
-    sum_below (length s.periods) (λ p.
-    if touched p r then (durations s t p r - 1) * s.weights.mixed else 0)
-
--- the mixed part of the periods and rooms that pass
-abbrev pub mixed_where : Session → Placing → (ℕ → ℕ → Bool) → ℕ
-mixed_where s t touched = sum_below (length s.rooms) (room_mixed_where s t touched)
-
--- what one place more makes of the mixed part of the periods and rooms that pass: nothing where it
--- is no period and room of the session, or passes already
-abbrev pub further_mixed : Session → Placing → (ℕ → ℕ → Bool) → Option Place → ℕ
-further_mixed s t touched None = 0
-further_mixed s t touched (Some at) =
-    if (nat_lt at.room (length s.rooms) && nat_lt at.period (length s.periods))
-    && not (touched at.period at.room)
-    then (durations s t at.period at.room - 1) * s.weights.mixed else 0
-
--- g summed over the exams in a list, each of them once
-abbrev pub sum_among : Session → List ℕ → (ℕ → ℕ) → ℕ
-sum_among s exams g = sum_below (length s.exams) (λ e. if is_among exams e then g e else 0)
+use Rattle.exam_score.specs.Track.{exam_period, exam_room, track}
+use Rattle.exam_score.specs.Touched.{is_touched, mixed_where, sum_among}
 
 -- ---- what is exchanged
 
@@ -50,14 +20,14 @@ sum_among s exams g = sum_below (length s.exams) (λ e. if is_among exams e then
 -- and of its exams
 abbrev pub edit_share : Session → Placing → List ℕ → (ℕ → ℕ → Bool) → List ℕ → PersonalPenalty
     → Penalty
-edit_share s t edited touched sizes students = record {
+edit_share I t edited touched sizes students = record {
   row = students.row;
   day = students.day;
   spread = students.spread;
-  mixed = mixed_where s t touched;
-  front = sum_among s edited (λ e. front_by s sizes (place_of t e) e);
-  period = sum_among s edited (λ e. exam_period s (place_of t e));
-  room = sum_among s edited (λ e. exam_room s (place_of t e));
+  mixed = mixed_where I t touched;
+  front = sum_among I edited (λ e. front_by I sizes (place_of t e) e);
+  period = sum_among I edited (λ e. exam_period I (place_of t e));
+  room = sum_among I edited (λ e. exam_room I (place_of t e));
 }
 
 -- what goes
@@ -86,7 +56,8 @@ pub record IsExchanged (old goes comes new : Penalty) : Type 0 where
 
 -- there is no such penalty, since a part would be negative, or its total reaches 2^62
 abbrev pub CannotExchange : Penalty → Penalty → Penalty → Type 0
-CannotExchange old goes comes = (new : Penalty) → IsExchanged old goes comes new → 2 ^ 62 ≤ total_of new
+CannotExchange old goes comes =
+    (new : Penalty) → IsExchanged old goes comes new → 2 ^ 62 ≤ total_of new
 
 -- ---- what an edit is folded over
 

@@ -1,41 +1,17 @@
 -- A fold over the pairs of the students whom an edit concerns, as contracts see it.
-use Rattle.std.specs.Prelude.{◌≡◌, ℕ, ◌+◌, ◌*◌, ◌<◌, ◌≤◌, ◌⊎◌, ◌==◌, ◌||◌, ◌&&◌, nat_le, if◌then◌else◌, List, [], ◌++◌, length, map, Option, Some, None, All, AllPairs}
+use Rattle.std.specs.Prelude.{◌≡◌, ℕ, ◌+◌, ◌*◌, ◌<◌, ◌≤◌, ◌⊎◌, List, [], ◌++◌, length, map, Option, Some, None, All, AllPairs}
 use Rattle.exam_terms.specs.declared.limits.TheConstants.{MAX_AMOUNT, MAX_PAIRS}
-use Rattle.exam_model.specs.Fits.{period_of}
 use Rattle.exam_model.specs.Instance.{Session}
-use Rattle.exam_model.specs.PairCost.{cost_between}
 use Rattle.exam_model.specs.Pairs.{Pair}
-use Rattle.exam_model.specs.Sums.{sum_pairs}
 use Rattle.exam_model.specs.Timetable.{Placing}
-use Rattle.exam_score.specs.Changes.{is_among}
-use Rattle.exam_score.specs.Cost.{row_cost, day_cost, spread_cost}
 use Rattle.exam_score.specs.Penalty.{PersonalPenalty}
+use Rattle.exam_score.specs.EditedCosts.{personal_sum}
 
 -- ---- what is folded
 
 -- of a smaller student, or of the same student and a smaller exam
 abbrev pub ComesEarlier : Pair → Pair → Type 0
 ComesEarlier p q = (p.student < q.student) ⊎ ((p.student ≡ q.student) × (p.exam < q.exam))
-
--- what two exams of a student cost where one of them is edited: any other two cost after an edit
--- what they did before
-abbrev pub edited_cost : (ℕ → ℕ → ℕ) → Placing → List ℕ → ℕ → ℕ → ℕ
-edited_cost cost t edited e f =
-    if is_among edited e || is_among edited f
-    then cost_between cost (period_of t e) (period_of t f) else 0
-
--- over all pairs of exams of one student
-abbrev pub students_cost : (ℕ → ℕ → ℕ) → Placing → List ℕ → List Pair → ℕ
-students_cost cost t edited pairs = sum_pairs (λ p q.
-    if q.student == p.student then edited_cost cost t edited p.exam q.exam else 0) pairs
-
--- what the edited exams make of the personal penalties of all students of these pairs, added up
-abbrev pub personal_sum : Session → Placing → List ℕ → List Pair → PersonalPenalty
-personal_sum s t edited pairs = record {
-  row = students_cost (row_cost s.periods s.weights) t edited pairs;
-  day = students_cost (day_cost s.periods s.weights) t edited pairs;
-  spread = students_cost (spread_cost s.periods s.weights) t edited pairs;
-}
 
 -- ---- what is kept
 
@@ -52,8 +28,9 @@ pub record Folded : Type 0 where
   pub current : List Pair
 
 -- of these arguments
-pub record IsFoldOf (fold : Folded) (s : Session) (old new : Placing) (edited : List ℕ) : Type 0 where
-  pub session : fold.instance ≡ s
+pub record IsFoldOf (fold : Folded) (I : Session) (old new : Placing)
+    (edited : List ℕ) : Type 0 where
+  pub session : fold.instance ≡ I
   pub before : fold.earlier ≡ old
   pub after : fold.later ≡ new
   pub exams : fold.edited ≡ edited
@@ -78,24 +55,6 @@ CanFollow fold pair = All (λ p. ComesEarlier p pair) fold.current
 abbrev pub pairs_sat : Option ℕ → List ℕ → List Pair
 pairs_sat None exams = []
 pairs_sat (Some s) exams = map (λ e. record { exam = e; student = s }) exams
-
--- what the pairs of these exams cost in which an edited one stands
-abbrev pub exams_cost : (ℕ → ℕ → ℕ) → Placing → List ℕ → List ℕ → ℕ
-exams_cost cost t edited exams = sum_pairs (edited_cost cost t edited) exams
-
--- what an edited exam costs beside another one: two edited ones cost it at the smaller
-abbrev pub cost_at : (ℕ → ℕ → ℕ) → Placing → List ℕ → ℕ → ℕ → ℕ
-cost_at cost t edited e f =
-    if is_among edited f && nat_le f e then 0
-    else cost_between cost (period_of t e) (period_of t f)
-
--- what the edited exams make of the personal penalty of a student who sits these exams
-abbrev pub personal_at : Session → Placing → List ℕ → List ℕ → PersonalPenalty
-personal_at s t edited exams = record {
-  row = exams_cost (row_cost s.periods s.weights) t edited exams;
-  day = exams_cost (day_cost s.periods s.weights) t edited exams;
-  spread = exams_cost (spread_cost s.periods s.weights) t edited exams;
-}
 
 -- ---- bounds
 

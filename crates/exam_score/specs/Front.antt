@@ -19,7 +19,7 @@ is_larger_by sizes f e =
 
 -- what an exam makes of the front load, by the sizes
 abbrev pub front_by : Session → List ℕ → Option Place → ℕ → ℕ
-front_by s sizes at e =
-    if nat_lt (count_below (length sizes) (λ f. is_larger_by sizes f e)) s.weights.front_exams
-    && is_late s at
-    then s.weights.front else 0
+front_by I sizes at e =
+    if nat_lt (count_below (length sizes) (λ f. is_larger_by sizes f e)) I.weights.front_exams
+    && is_late I at
+    then I.weights.front else 0

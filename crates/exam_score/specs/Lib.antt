@@ -1,5 +1,7 @@
 pub mod Penalty
 pub mod Cost
+pub mod TraitCosts
+pub mod CostOrder
 pub mod CostLaws
 pub mod Regrouping
 pub mod Personal
@@ -11,7 +13,10 @@ pub mod PairSums
 pub mod Front
 pub mod Stays
 pub mod Tallies
+pub mod TallyLinks
 pub mod Changes
+pub mod EditedCosts
 pub mod Folds
+pub mod Touched
 pub mod Exchanges
 pub mod Concerned

@@ -1,6 +1,6 @@
 -- The penalty of pairs of exams, and of pairs of a student's exams.
 use Rattle.std.specs.Prelude.{◌≡◌, ◌≢◌, ℕ, ◌*◌, ◌==◌, true, List, length, map, filter, filter_map, Option, All, AllPairs}
-use Rattle.exam_model.specs.Enrolments.{Enrolled, has_student, shared}
+use Rattle.exam_model.specs.Enrolments.{Enrolled, has_number, shared}
 use Rattle.exam_model.specs.PairCost.{cost_between}
 use Rattle.exam_model.specs.Pairs.{Pair, pairs_of}
 use Rattle.exam_model.specs.Sums.{sum_pairs, sum_pairs_below}
@@ -26,4 +26,4 @@ candidate_cost cost periods = sum_pairs cost periods
 -- a list of numbers that has each student of the pairs, and no number twice
 pub record AreStudentsOf (E : Enrolled) (students : List ℕ) : Type 0 where
   pub once : AllPairs (λ s t. s ≢ t) students
-  pub all : All (λ p. has_student students p.student ≡ true) (pairs_of E)
+  pub all : All (λ p. has_number students p.student ≡ true) (pairs_of E)

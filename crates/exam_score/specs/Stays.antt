@@ -11,16 +11,16 @@ abbrev pub is_stay : ℕ → ℕ → ℕ → Stay → Bool
 is_stay p r m x = ((x.period == p) && (x.room == r)) && (x.minutes == m)
 
 -- its period, room and duration exist
-pub record StayExists (s : Session) (x : Stay) : Type 0 where
-  pub period : x.period < length s.periods
-  pub room : x.room < length s.rooms
+pub record StayExists (I : Session) (x : Stay) : Type 0 where
+  pub period : x.period < length I.periods
+  pub room : x.room < length I.rooms
   pub minutes : x.minutes ≤ MAX_MINUTES
 
 -- one for each placed exam
-pub record AreStays (s : Session) (t : Placing) (stays : List Stay) : Type 0 where
-  pub counts : (p r m : ℕ) → count_by (is_stay p r m) stays ≡ lasting s t p r m
+pub record AreStays (I : Session) (t : Placing) (stays : List Stay) : Type 0 where
+  pub counts : (p r m : ℕ) → count_by (is_stay p r m) stays ≡ lasting I t p r m
   pub few : length stays ≤ MAX_EXAMS
-  pub exist : All (StayExists s) stays
+  pub exist : All (StayExists I) stays
 
 -- not after it by period, then room, then minutes
 pub record NotAfter (x y : Stay) : Type 0 where

@@ -1,6 +1,5 @@
--- How many exams each student has in each period: what tallies count, and how they are linked.
-use Rattle.std.specs.Prelude.{◌≡◌, ◌≢◌, ℕ, ◌+◌, ◌-◌, ◌*◌, ◌%◌, ◌^◌, ◌<◌, ◌≤◌, List, length, slice_index, slice_index_or, Option, Some, None, sum_by, AllPairs}
-use Rattle.exam_terms.specs.declared.limits.TheConstants.{MAX_PAIRS}
+-- How many exams each student has in each period: what tallies count.
+use Rattle.std.specs.Prelude.{◌≡◌, ℕ, ◌*◌, List, Option, Some, None, sum_by}
 use Rattle.exam_model.specs.Enrolments.{Enrolled, students}
 use Rattle.exam_model.specs.Sums.{sum_pairs}
 use Rattle.exam_score.specs.Rows.{row_at}
@@ -8,8 +7,6 @@ use Rattle.exam_score.specs.Walk.{row_pair}
 use Rattle.exam_score.specs.declared.rows.Row.{Row}
 use Rattle.exam_score.specs.declared.sittings.Sitting.{Sitting}
 use Rattle.exam_score.specs.declared.tallies.Tally.{Tally}
-
--- ---- sums
 
 -- g of the period where an exam stands, and 0 where it stands in none
 abbrev pub if_placed : (ℕ → ℕ) → Option ℕ → ℕ
@@ -44,63 +41,3 @@ tally_pair cost x y = tally_beside cost y x * y.exams
 -- over all pairs of tallies
 abbrev pub tally_cost : (ℕ → ℕ → ℕ) → List Tally → ℕ
 tally_cost cost tallies = sum_pairs (tally_pair cost) tallies
-
--- ---- links
-
--- the one of so many slots where a student's tallies are filed
-abbrev pub slot_of : ℕ → ℕ → ℕ
-slot_of slots student = student % slots
-
--- of the first k tallies the last one in a slot stands just before place n, and none where n is 0
-pub record IsLast (tallies : List Tally) (slots slot n k : ℕ) : Type 0 where
-  pub within : n ≤ k
-  pub here : (d : Tally) → 0 < n → slot_of slots (slice_index_or tallies (n - 1) d).student ≡ slot
-  pub none : (j : ℕ) (d : Tally) → n ≤ j → j < k
-      → slot_of slots (slice_index_or tallies j d).student ≢ slot
-
--- each tally leads to the one before it in its slot, and the periods ascend
-pub record AreLinkedIn (tallies : List Tally) (slots : ℕ) : Type 0 where
-  pub links : (k : ℕ) (d : Tally) → k < length tallies
-      → IsLast tallies slots (slot_of slots (slice_index_or tallies k d).student)
-      (slice_index_or tallies k d).before k
-  pub ascending : AllPairs (λ x y. x.period ≤ y.period) tallies
-
--- for some number of slots
-pub record AreLinked (tallies : List Tally) : Type 0 where
-  pub slots : ℕ
-  pub links : AreLinkedIn tallies slots
-
--- and the last tally of each slot is known
-pub record AreFiled (tallies : List Tally) (last : List ℕ) (slots : ℕ) : Type 0 where
-  pub count : length last ≡ slots
-  pub lasts : (slot : ℕ) → slot < length last
-      → IsLast tallies slots slot (slice_index last slot) (length tallies)
-  pub linked : AreLinkedIn tallies slots
-
--- how far so many tallies crowd so many slots: none has more of them, and from each tally no more
--- steps lead back along its slot than there may be pairs
-pub record AreCrowded (sizes : List ℕ) (steps slots tallies : ℕ) : Type 0 where
-  pub count : length sizes ≡ slots
-  pub each : (slot : ℕ) → slot < length sizes → slice_index sizes slot ≤ tallies
-  pub all : steps ≤ tallies * MAX_PAIRS
-
--- the tally just before place n is x
-pub record IsReached (tallies : List Tally) (n : ℕ) (x : Tally) : Type 0 where
-  pub some : 0 < n
-  pub here : (d : Tally) → slice_index_or tallies (n - 1) d ≡ x
-
--- the tally just before place n is of student s and period p, and can count one more
-pub record Extends (tallies : List Tally) (n s p : ℕ) : Type 0 where
-  pub some : 0 < n
-  pub student : (d : Tally) → (slice_index_or tallies (n - 1) d).student ≡ s
-  pub period : (d : Tally) → (slice_index_or tallies (n - 1) d).period ≡ p
-  pub room : (d : Tally) → (slice_index_or tallies (n - 1) d).exams + 1 < 2 ^ 32
-
--- new tallies, at most so many, are of period p, and the old ones keep theirs
-pub record Grows (old new : List Tally) (p most : ℕ) : Type 0 where
-  pub longer : length old ≤ length new
-  pub few : length new ≤ length old + most
-  pub kept : (k : ℕ) (d : Tally) → k < length old
-      → (slice_index_or new k d).period ≡ (slice_index_or old k d).period
-  pub added : (k : ℕ) (d : Tally) → length old ≤ k → k < length new
-      → (slice_index_or new k d).period ≡ p

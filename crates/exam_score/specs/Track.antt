@@ -28,21 +28,21 @@ room_penalty (Some r) = r.penalty
 
 -- what its period costs an exam, once for each exam that stands there
 abbrev pub exam_period : Session → Option Place → ℕ
-exam_period s None = 0
-exam_period s (Some at) = period_penalty (slice_get s.periods at.period)
+exam_period I None = 0
+exam_period I (Some at) = period_penalty (slice_get I.periods at.period)
 
 -- what its room costs an exam, once for each exam that stands there
 abbrev pub exam_room : Session → Option Place → ℕ
-exam_room s None = 0
-exam_room s (Some at) = room_penalty (slice_get s.rooms at.room)
+exam_room I None = 0
+exam_room I (Some at) = room_penalty (slice_get I.rooms at.room)
 
 -- over all exams
 abbrev pub period_part : Session → Placing → ℕ
-period_part s t = sum_below (length s.exams) (λ e. exam_period s (place_of t e))
+period_part I t = sum_below (length I.exams) (λ e. exam_period I (place_of t e))
 
 -- over all exams
 abbrev pub room_part : Session → Placing → ℕ
-room_part s t = sum_below (length s.exams) (λ e. exam_room s (place_of t e))
+room_part I t = sum_below (length I.exams) (λ e. exam_room I (place_of t e))
 
 -- ---- mixed durations
 
@@ -62,23 +62,23 @@ is_at p r (Some at) = (at.period == p) && (at.room == r)
 
 -- whether an exam stands in a period and room and lasts so many minutes
 abbrev pub lasts : Session → Placing → ℕ → ℕ → ℕ → ℕ → Bool
-lasts s t p r m e = is_at p r (place_of t e) && (minutes_of (slice_get s.exams e) == m)
+lasts I t p r m e = is_at p r (place_of t e) && (minutes_of (slice_get I.exams e) == m)
 
 -- how many exams do
 abbrev pub lasting : Session → Placing → ℕ → ℕ → ℕ → ℕ
-lasting s t p r m = count_below (length s.exams) (lasts s t p r m)
+lasting I t p r m = count_below (length I.exams) (lasts I t p r m)
 
 -- how many different durations there are in a period and room
 abbrev pub durations : Session → Placing → ℕ → ℕ → ℕ
-durations s t p r = count_below duration_count (λ m. nat_lt 0 (lasting s t p r m))
+durations I t p r = count_below duration_count (λ m. nat_lt 0 (lasting I t p r m))
 
 -- a room's share over all periods: each duration but one, and nothing where no exam stands
 abbrev pub room_mixed : Session → Placing → ℕ → ℕ
-room_mixed s t r = sum_below (length s.periods) (λ p. (durations s t p r - 1) * s.weights.mixed)
+room_mixed I t r = sum_below (length I.periods) (λ p. (durations I t p r - 1) * I.weights.mixed)
 
 -- over all rooms
 abbrev pub mixed_part : Session → Placing → ℕ
-mixed_part s t = sum_below (length s.rooms) (room_mixed s t)
+mixed_part I t = sum_below (length I.rooms) (room_mixed I t)
 
 -- ---- front load
 
@@ -88,32 +88,32 @@ is_larger E f e = nat_lt (size_of E e) (size_of E f) || ((size_of E f == size_of
 
 -- fewer exams are larger than the front load counts
 abbrev pub is_largest : Session → Enrolled → ℕ → Bool
-is_largest s E e =
-    nat_lt (count_below (length s.exams) (λ f. is_larger E f e)) s.weights.front_exams
+is_largest I E e =
+    nat_lt (count_below (length I.exams) (λ f. is_larger E f e)) I.weights.front_exams
 
 -- in one of the last periods, so many as the front load says
 abbrev pub is_late : Session → Option Place → Bool
-is_late s None = false
-is_late s (Some at) = nat_le (length s.periods) (at.period + s.weights.front_periods)
+is_late I None = false
+is_late I (Some at) = nat_le (length I.periods) (at.period + I.weights.front_periods)
 
 -- what one exam makes of it
 abbrev pub exam_front : Session → Enrolled → Placing → ℕ → ℕ
-exam_front s E t e = if is_largest s E e && is_late s (place_of t e) then s.weights.front else 0
+exam_front I E t e = if is_largest I E e && is_late I (place_of t e) then I.weights.front else 0
 
 -- over all exams
 abbrev pub front_part : Session → Enrolled → Placing → ℕ
-front_part s E t = sum_below (length s.exams) (exam_front s E t)
+front_part I E t = sum_below (length I.exams) (exam_front I E t)
 
 -- ---- the whole
 
 -- all seven parts
 abbrev pub track : Session → Enrolled → Placing → Penalty
-track s E t = record {
-  row = pair_part (row_cost s.periods s.weights) E (period_of t);
-  day = pair_part (day_cost s.periods s.weights) E (period_of t);
-  spread = pair_part (spread_cost s.periods s.weights) E (period_of t);
-  mixed = mixed_part s t;
-  front = front_part s E t;
-  period = period_part s t;
-  room = room_part s t;
+track I E t = record {
+  row = pair_part (row_cost I.periods I.weights) E (period_of t);
+  day = pair_part (day_cost I.periods I.weights) E (period_of t);
+  spread = pair_part (spread_cost I.periods I.weights) E (period_of t);
+  mixed = mixed_part I t;
+  front = front_part I E t;
+  period = period_part I t;
+  room = room_part I t;
 }

@@ -3,7 +3,8 @@ ghost use Rattle.std.specs.Prelude.{◌≡◌, ◌<◌, ◌≤◌, ◌*◌, ◌�
 ghost use Rattle.exam_terms.specs.declared.limits.TheConstants.{MAX_AMOUNT, MAX_PAIRS};
 ghost use Rattle.exam_model.specs.Enrolments.{Enrolled};
 ghost use Rattle.exam_model.specs.Pairs.{Pair};
-ghost use Rattle.exam_score.specs.Exchanges.{CannotExchange, IsExchanged, IsOfEdit, coming, edit_share, going, is_touched};
+ghost use Rattle.exam_score.specs.Exchanges.{CannotExchange, IsExchanged, IsOfEdit, coming, edit_share, going};
+ghost use Rattle.exam_score.specs.Touched.{is_touched};
 ghost use Rattle.exam_score.specs.Folds.{CanFollow, StandsFor};
 ghost use Rattle.exam_score.specs.Penalty.{personal_total};
 ghost use Rattle.exam_score.specs.Track.{track};
@@ -95,10 +96,12 @@ impl<'a> EditFold<'a> {
     pub fn row(&mut self, student: StudentNo, exam: ExamNo) -> Result<(), AllocError>
         requires few { self.old.count < MAX_PAIRS }
         requires follows { CanFollow self.old (record { exam = exam; student = student }) }
-        ensures ok { (pairs : List Pair) → StandsFor self.old pairs → OnOk result (StandsFor self.new
+        ensures ok { (pairs : List Pair) → StandsFor self.old pairs
+            → OnOk result (StandsFor self.new
             (pairs ++ record { exam = exam; student = student } ∷ [])) }
-        ensures same { (self.new.instance ≡ self.old.instance) × (self.new.earlier ≡ self.old.earlier)
-            × (self.new.later ≡ self.old.later) × (self.new.edited ≡ self.old.edited) }
+        ensures same { (self.new.instance ≡ self.old.instance)
+            × (self.new.earlier ≡ self.old.earlier) × (self.new.later ≡ self.old.later)
+            × (self.new.edited ≡ self.old.edited) }
         ensures err { OnErr result (self.new ≡ self.old) }
     {
         if is_open(self.student, student) {

@@ -2,8 +2,8 @@
 ghost use Rattle.std.specs.Prelude.{◌≡◌, ◌≤◌, ◌*◌, length};
 ghost use Rattle.exam_terms.specs.declared.limits.TheConstants.{MAX_AMOUNT, MAX_EXAMS};
 ghost use Rattle.exam_model.specs.Timetable.{place_of};
-ghost use Rattle.exam_score.specs.Changes.{is_among};
-ghost use Rattle.exam_score.specs.Exchanges.{sum_among};
+ghost use Rattle.exam_model.specs.Enrolments.{has_number};
+ghost use Rattle.exam_score.specs.Touched.{sum_among};
 ghost use Rattle.exam_score.specs.Front.{front_by};
 ghost use Rattle.exam_score.specs.Track.{exam_period, exam_room};
 
@@ -60,7 +60,7 @@ pub fn edited_front(
 }
 
 pub fn is_among(exams: &[ExamNo], exam: ExamNo) -> bool
-    ensures { result ≡ is_among exams.now exam }
+    ensures { result ≡ has_number exams.now exam }
 {
     exams.iter().any(|other| *other == exam)
 }

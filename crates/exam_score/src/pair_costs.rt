@@ -2,7 +2,8 @@
 ghost use Rattle.std.specs.Prelude.{◌≡◌, ℕ};
 ghost use Rattle.exam_model.specs.Instance.{same_day};
 ghost use Rattle.exam_score.specs.Cost.{row_cost, day_cost, spread_cost};
-ghost use Rattle.exam_score.specs.CostLaws.{row_cost_of, row_laws, day_cost_of, day_laws, spread_cost_of, spread_laws};
+ghost use Rattle.exam_score.specs.CostLaws.{row_laws, day_laws, spread_laws};
+ghost use Rattle.exam_score.specs.TraitCosts.{row_cost_of, day_cost_of, spread_cost_of};
 
 use exam_model::{Instance, PairCost, PeriodNo};
 

@@ -2,7 +2,8 @@
 ghost use Rattle.std.specs.Prelude.{◌≡◌, ◌≤◌, ◌*◌, length, sum_by};
 ghost use Rattle.exam_terms.specs.declared.limits.TheConstants.{MAX_AMOUNT, MAX_PAIRS};
 ghost use Rattle.exam_model.specs.Timetable.{place_of};
-ghost use Rattle.exam_score.specs.Folds.{cost_at, exams_cost, personal_at, IsSmall};
+ghost use Rattle.exam_score.specs.Folds.{IsSmall};
+ghost use Rattle.exam_score.specs.EditedCosts.{cost_at, exams_cost, personal_at};
 
 use crate::edited_exams::is_among;
 use crate::pair_costs::{DayCost, RowCost, SpreadCost};

@@ -3,7 +3,8 @@ ghost use Rattle.std.specs.Prelude.{◌≡◌, ℕ, ◌+◌, ◌-◌, ◌*◌, �
 ghost use Rattle.exam_terms.specs.declared.limits.TheConstants.{MAX_PAIRS};
 ghost use Rattle.exam_model.specs.Enrolments.{size_of};
 ghost use Rattle.exam_score.specs.Rows.{row_at};
-ghost use Rattle.exam_score.specs.Tallies.{tally_sum, slot_of, AreCounted, AreCrowded, AreFiled, AreLinked, Grows, Extends};
+ghost use Rattle.exam_score.specs.Tallies.{tally_sum, AreCounted};
+ghost use Rattle.exam_score.specs.TallyLinks.{slot_of_student, AreCrowded, AreFiled, AreLinked, Grows, Extends};
 ghost use Rattle.exam_score.specs.declared.rows.Row.{Row};
 
 use crate::sittings::Sitting;
@@ -164,7 +165,7 @@ fn count_one(
         (length tallies.new.items)) }
     ensures grown { OnOk result (Grows tallies.old.items tallies.new.items period 1) }
 {
-    let slot = slot_of(student, slots);
+    let slot = slot_of_student(student, slots);
     let before = last[slot];
     if extends(tallies, before, student, period) {
         let at = before as usize - 1;
@@ -199,9 +200,9 @@ fn note(crowd: &mut Crowd, slot: usize)
     crowd.sizes[slot] = size + 1;
 }
 
-fn slot_of(student: StudentNo, slots: u32) -> usize
+fn slot_of_student(student: StudentNo, slots: u32) -> usize
     requires some { 0 < slots }
-    ensures slot { result ≡ slot_of slots student }
+    ensures slot { result ≡ slot_of_student slots student }
     ensures exists { result < slots }
 {
     (student.get() % slots) as usize

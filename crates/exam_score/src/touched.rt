@@ -2,7 +2,7 @@
 ghost use Rattle.std.specs.Prelude.{◌≡◌, ◌≤◌, ◌+◌, ◌-◌, ◌*◌, ◌&&◌, false, true, if◌then◌else◌, nat_lt, ◌∷◌, length, slice_index_or, slice_set};
 ghost use Rattle.exam_terms.specs.declared.limits.TheConstants.{MAX_AMOUNT, MAX_EXAMS, MAX_MINUTES, MAX_PERIODS, MAX_ROOMS};
 ghost use Rattle.exam_model.specs.Timetable.{place_of};
-ghost use Rattle.exam_score.specs.Exchanges.{further_mixed, is_touched, mixed_where};
+ghost use Rattle.exam_score.specs.Touched.{further_mixed, is_touched, mixed_where};
 ghost use Rattle.exam_score.specs.Track.{durations, is_at};
 
 use crate::sat_exams::place_in;
@@ -85,8 +85,8 @@ fn has_place(instance: &Instance, place: &Place) -> bool
 }
 
 fn is_touched(touched: &Touched, place: &Place) -> bool
-    ensures { result ≡ is_touched touched.now.edited.now touched.now.earlier.now touched.now.later.now
-        place.now.period place.now.room }
+    ensures { result ≡ is_touched touched.now.edited.now touched.now.earlier.now
+        touched.now.later.now place.now.period place.now.room }
 {
     for exam in touched.edited {
         if stands_at(touched.earlier, *exam, place) || stands_at(touched.later, *exam, place) {
@@ -107,7 +107,8 @@ fn stands_at(timetable: &Timetable, exam: ExamNo, place: &Place) -> bool
 
 // The weight for each duration but one.
 fn mixed_at(instance: &Instance, timetable: &Timetable, place: &Place) -> u64
-    ensures part { result ≡ (durations instance.now timetable.now place.now.period place.now.room - 1)
+    ensures part { result
+        ≡ (durations instance.now timetable.now place.now.period place.now.room - 1)
         * instance.now.weights.mixed }
     ensures small { result ≤ MAX_EXAMS * MAX_AMOUNT }
 {

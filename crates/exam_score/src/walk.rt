@@ -3,7 +3,8 @@ ghost use Rattle.std.specs.Prelude.{◌≡◌, ℕ, ◌-◌, ◌≤◌, ◌<◌,
 ghost use Rattle.exam_terms.specs.declared.limits.TheConstants.{MAX_PAIRS};
 ghost use Rattle.exam_score.specs.Cost.{row_cost, day_cost, spread_cost};
 ghost use Rattle.exam_score.specs.Lines.{IsLine, IsTable, IsFirstCost};
-ghost use Rattle.exam_score.specs.Tallies.{tally_beside, tally_cost, row_count, AreLinked, IsReached};
+ghost use Rattle.exam_score.specs.Tallies.{tally_beside, tally_cost, row_count};
+ghost use Rattle.exam_score.specs.TallyLinks.{AreLinked, IsReached};
 ghost use Rattle.exam_score.specs.declared.tallies.Tally.{Tally};
 
 use crate::lines::{Line, PairCosts, costs_in};

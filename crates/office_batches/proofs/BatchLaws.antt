@@ -5,12 +5,14 @@ use Rattle.std.proofs.lemmas.Bool.{le-leb, leb-true, ne_eqb}
 use Rattle.std.proofs.lemmas.List.{append_assoc}
 use Rattle.exam_terms.specs.Refusing.{◌>>=◌, unless}
 use Rattle.exam_model.specs.declared.change.Change.{Change}
-use Rattle.office_files.specs.FirstFault.{at_line_or, fault_of}
+use Rattle.office_files.specs.Reading.{fault_of}
+use Rattle.office_files.specs.FirstFault.{at_line_or}
 use Rattle.office_files.specs.Reading.{at_line}
 use Rattle.office_files.specs.declared.fault.FaultKind.{FaultKind}
 use Rattle.office_files.specs.declared.fault.FaultKind.TheVariants.{TooLong, BadHeader}
 use Rattle.office_files.specs.declared.fault.FileFault.{FileFault}
-use Rattle.office_batches.specs.BatchText.{Record, BatchText, change_in, is_header, changes_from, records_in, batch_in}
+use Rattle.office_batches.specs.Records.{Record, change_in, is_header}
+use Rattle.office_batches.specs.BatchText.{BatchText, changes_from, records_in, batch_in}
 use Rattle.office_batches.specs.FirstFault.{first_from, first_of, first_batch_fault}
 
 -- ---- records behind the first

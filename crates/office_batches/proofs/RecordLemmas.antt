@@ -15,7 +15,8 @@ use Rattle.office_files.specs.Reading.{at_line}
 use Rattle.office_files.specs.declared.fault.FaultKind.TheVariants.{BadHeader}
 use Rattle.office_files.specs.declared.fault.FileFault.{FileFault}
 use Rattle.office_batches.proofs.TurnLemmas.{all_records}
-use Rattle.office_batches.specs.BatchText.{Record, behind, changes_from, records_in}
+use Rattle.office_batches.specs.Records.{Record}
+use Rattle.office_batches.specs.BatchText.{behind, changes_from, records_in}
 
 -- the bytes that a slice gives as a reader
 abbrev pub bytes_of : Bor (List ℕ) → Option (List ℕ)

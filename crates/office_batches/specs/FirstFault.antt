@@ -1,10 +1,12 @@
 -- The fault of each record of a batch by itself, and the first of them.
 use Rattle.std.specs.Prelude.{ℕ, ◌+◌, nat_le, if◌then◌else◌, List, [], ◌∷◌, length, Option, None, Some}
 use Rattle.exam_terms.specs.declared.limits.TheConstants.{TEXT_BYTES}
-use Rattle.office_files.specs.FirstFault.{at_line_or, fault_of}
+use Rattle.office_files.specs.Reading.{fault_of}
+use Rattle.office_files.specs.FirstFault.{at_line_or}
 use Rattle.office_files.specs.declared.fault.FaultKind.TheVariants.{TooLong, BadHeader}
 use Rattle.office_files.specs.declared.fault.FileFault.{FileFault}
-use Rattle.office_batches.specs.BatchText.{Record, change_in, is_header, records_in}
+use Rattle.office_batches.specs.Records.{Record, change_in, is_header}
+use Rattle.office_batches.specs.BatchText.{records_in}
 
 -- the first fault of records that say changes, from this number on
 abbrev pub first_from : ℕ → List Record → Option FileFault

@@ -22,10 +22,7 @@ pub fn read_batch(alloc: Global, text: &[u8]) -> Result<Vec<Change>, FileFault>
     ensures memory { IfErr result IsOfNoLine }
 {
     if text.len() > TEXT_BYTES {
-        return Err(FileFault {
-            line: 0,
-            what: FaultKind::TooLong,
-        });
+        return Err(FileFault::TOO_LONG);
     }
     changes_in(alloc, text)
 }

@@ -2,7 +2,8 @@
 ghost use Rattle.std.specs.Prelude.{◌≡◌, Ok, Err};
 ghost use Rattle.std.specs.Prelude.{codes};
 ghost use Rattle.csv.specs.Records.{fields_of};
-ghost use Rattle.office_batches.specs.BatchText.{action, change_in, field, has_three, is_header, says};
+ghost use Rattle.office_batches.specs.Records.{action, change_in, field, has_three, is_header};
+ghost use Rattle.office_batches.specs.Records.{says};
 
 use csv::ByteRecord;
 use exam_model::{Change, ExamNo, StudentNo};
@@ -11,14 +12,14 @@ use exam_terms::trimmed;
 use office_files::{FaultKind, number, same_word};
 
 /// Whether a record names the columns.
-pub fn is_header(row: &ByteRecord) -> bool
+pub(crate) fn is_header(row: &ByteRecord) -> bool
     ensures { result ≡ is_header (fields_of row.now) }
 {
     says(row, 0, b"student") && says(row, 1, b"exam") && says(row, 2, b"action") && has_three(row)
 }
 
 /// The change that a record says.
-pub fn change_in(row: &ByteRecord) -> Result<Change, FaultKind>
+pub(crate) fn change_in(row: &ByteRecord) -> Result<Change, FaultKind>
     ensures { result ≡ change_in (fields_of row.now) }
 {
     let student = StudentNo::new(number(field(row, 0), MAX_STUDENT)?);

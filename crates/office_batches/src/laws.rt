@@ -3,7 +3,7 @@ ghost use Rattle.std.specs.Prelude.{◌≡◌, ℕ, List, Ok};
 ghost use Rattle.exam_model.specs.declared.change.Change.{Change};
 ghost use Rattle.office_batches.specs.BatchText.{BatchText, batch_in};
 ghost use Rattle.office_batches.specs.FirstFault.{first_batch_fault};
-ghost use Rattle.office_files.specs.FirstFault.{fault_of};
+ghost use Rattle.office_files.specs.Reading.{fault_of};
 
 /// A text spells at most one list of changes.
 pub fn one_batch()

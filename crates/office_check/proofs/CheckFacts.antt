@@ -9,12 +9,13 @@ use Rattle.exam_rules.specs.declared.breach.Breach.{Breach}
 use Rattle.office_files.specs.FirstFault.{first_solution_fault}
 use Rattle.office_files.specs.InstanceText.{InstanceText}
 use Rattle.office_files.specs.SolutionText.{SolutionText}
-use Rattle.office_check.specs.Inputs.{RefusesFile}
-use Rattle.office_check.specs.Check.{IsRead, IsJudgement, Refuses, Reports, of_solution, report}
+use Rattle.office_files.specs.Inputs.{RefusesFile}
+use Rattle.office_check.specs.Check.{IsRead, IsJudgement, Reports, report}
+use Rattle.office_check.specs.Refusing.{Refuses, of_solution}
 use Rattle.office_check.specs.Check.{IsSomeJudgement, WritesReport, exit_status, status_of}
 use Rattle.office_check.specs.declared.checking.CheckFault.{CheckFault}
-use Rattle.office_check.specs.declared.reading.InputFault.{InputFault}
-use Rattle.office_check.specs.declared.reading.InputFault.TheVariants.{Read, File, NoMemory}
+use Rattle.office_files.specs.declared.inputs.InputFault.{InputFault}
+use Rattle.office_files.specs.declared.inputs.InputFault.TheVariants.{Read, File, NoMemory}
 
 -- a fact of two inputs, where both are known
 abbrev pub Both : Option (List ℕ) → Option (List ℕ) → (List ℕ → List ℕ → Type 0) → Type 0

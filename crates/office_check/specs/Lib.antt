@@ -1,2 +1,2 @@
 pub mod Check
-pub mod Inputs
+pub mod Refusing

@@ -7,16 +7,17 @@ ghost use Rattle.exam_model.specs.Fits.{Fits, PlaceExists};
 ghost use Rattle.office_files.specs.FirstFault.{first_fault, first_solution_fault};
 ghost use Rattle.office_files.specs.InstanceText.{InstanceText};
 ghost use Rattle.office_files.specs.SolutionText.{SolutionText};
-ghost use Rattle.office_check.specs.Inputs.{RefusesFile, TakesAtMost};
-ghost use Rattle.office_check.specs.Check.{IsJudgement, Refuses, Reports, of_instance, of_solution};
+ghost use Rattle.office_files.specs.Inputs.{RefusesFile, TakesAtMost};
+ghost use Rattle.office_check.specs.Check.{IsJudgement, Reports};
+ghost use Rattle.office_check.specs.Refusing.{Refuses, of_instance, of_solution};
 ghost use Rattle.office_check.specs.Check.{IsSomeJudgement, WritesReport, exit_status, report};
 
-use crate::reading::{InputFault, instance_text, whole_text};
 use exam_model::{Enrolments, Instance, Timetable};
 use exam_rules::breaches;
 use exam_score::score;
-use exam_terms::limits::TEXT_BYTES;
-use office_files::{FileFault, read_instance, read_solution};
+use office_files::{
+    FileFault, InputFault, instance_text, read_instance, read_solution, solution_text,
+};
 use office_reports::{penalty_report, violation_report};
 use std::alloc::{AllocError, Global};
 use std::io::{Read, Write};
@@ -38,119 +39,11 @@ pub enum CheckFault {
     NoMemory,
 }
 
-fn of_instance(fault: InputFault) -> CheckFault
-    ensures { result ≡ of_instance fault }
-{
-    match fault {
-        InputFault::Read => CheckFault::ReadInstance,
-        InputFault::File(fault) => CheckFault::Instance(fault),
-        InputFault::NoMemory => CheckFault::NoMemory,
-    }
-}
-
-fn of_solution(fault: InputFault) -> CheckFault
-    ensures { result ≡ of_solution fault }
-{
-    match fault {
-        InputFault::Read => CheckFault::ReadSolution,
-        InputFault::File(fault) => CheckFault::Solution(fault),
-        InputFault::NoMemory => CheckFault::NoMemory,
-    }
-}
-
-// The instance that the reader's text spells.
-fn instance_of<R: Read>(alloc: Global, reader: &mut R) -> Result<(Instance, Enrolments), InputFault>
-    ensures reading { IfOk result (λ read. IfSome (R.remaining reader.old)
-        (λ input. InstanceText input read.0 read.1)) }
-    ensures spelled { IfOk result (λ read. (input : List ℕ) × InstanceText input read.0 read.1) }
-    ensures refused { IfErr result (λ fault. IfSome (R.remaining reader.old)
-        (λ input. RefusesFile (first_fault input) fault)) }
-    ensures fits { IfOk result (λ read. length read.1 ≡ length read.0.exams) }
-    ensures taken { TakesAtMost (INSTANCE_BYTES + 1) (R.remaining reader.old) (R.remaining reader.new) }
-{
-    let text = instance_text(alloc, reader)?;
-    Ok(read_instance(alloc, &text)?)
-}
-
-// The timetable that the reader's text spells.
-fn solution_of<R: Read>(
-    alloc: Global,
-    reader: &mut R,
-    instance: &Instance,
-) -> Result<Timetable, InputFault>
-    ensures reading { IfOk result (λ timetable. IfSome (R.remaining reader.old)
-        (λ input. SolutionText input instance.now timetable)) }
-    ensures spelled { IfOk result (λ timetable.
-        (input : List ℕ) × SolutionText input instance.now timetable) }
-    ensures refused { IfErr result (λ fault. IfSome (R.remaining reader.old)
-        (λ input. RefusesFile (first_solution_fault instance.now input) fault)) }
-    ensures fits { IfOk result (λ timetable. length timetable ≡ length instance.now.exams) }
-    ensures exist { IfOk result (λ timetable. All (PlaceExists instance.now) timetable) }
-    ensures taken { TakesAtMost (TEXT_BYTES + 1) (R.remaining reader.old) (R.remaining reader.new) }
-{
-    let text = whole_text(alloc, reader, TEXT_BYTES)?;
-    Ok(read_solution(alloc, &text, instance)?)
-}
-
 // What is printed of a solution, and the exit status that it gives.
 #[derive(Drop)]
 struct Judgement {
     text: String,
     status: u8,
-}
-
-// A solution's breaches, then its penalty.
-fn judge(
-    alloc: Global,
-    instance: &Instance,
-    enrolments: &Enrolments,
-    timetable: &Timetable,
-) -> Result<Judgement, AllocError>
-    requires { Fits instance.now enrolments.now timetable.now }
-    ensures text { IfOk result (λ judged.
-        string_bytes judged.text ≡ report instance.now enrolments.now timetable.now) }
-    ensures status { IfOk result (λ judged.
-        judged.status ≡ exit_status instance.now enrolments.now timetable.now) }
-{
-    let found = breaches(alloc, instance, enrolments, timetable)?;
-    let parts = score(alloc, instance, enrolments, timetable)?;
-    let mut text = violation_report(alloc, &found)?;
-    text.push_str(penalty_report(alloc, parts)?.as_str())?;
-    let status = if found.is_empty() { 0 } else { 3 };
-    Ok(Judgement { text, status })
-}
-
-// The judgement on the two readers' texts.
-fn judgement_of<R: Read, Q: Read>(
-    alloc: Global,
-    instance_reader: &mut R,
-    solution_reader: &mut Q,
-) -> Result<Judgement, CheckFault>
-    ensures ok { IfOk result (λ judged. IfSome (R.remaining instance_reader.old) (λ instance.
-        IfSome (Q.remaining solution_reader.old) (λ solution.
-        IsJudgement instance solution (string_bytes judged.text) judged.status))) }
-    ensures judged { IfOk result (λ judged.
-        IsSomeJudgement (string_bytes judged.text) judged.status) }
-    ensures within { IfOk result (λ judged. (judged.status ≡ 0) ⊎ (judged.status ≡ 3)) }
-    ensures refused { IfErr result (λ fault. IfSome (R.remaining instance_reader.old) (λ instance.
-        IfSome (Q.remaining solution_reader.old) (λ solution. Refuses instance solution fault))) }
-    ensures instance_taken { TakesAtMost (INSTANCE_BYTES + 1)
-        (R.remaining instance_reader.old) (R.remaining instance_reader.new) }
-    ensures solution_taken { TakesAtMost (TEXT_BYTES + 1)
-        (Q.remaining solution_reader.old) (Q.remaining solution_reader.new) }
-{
-    let (instance, enrolments) = match instance_of(alloc, instance_reader) {
-        Ok(read) => read,
-        Err(fault) => return Err(of_instance(fault)),
-    };
-    let timetable = match solution_of(alloc, solution_reader, &instance) {
-        Ok(timetable) => timetable,
-        Err(fault) => return Err(of_solution(fault)),
-    };
-    match judge(alloc, &instance, &enrolments, &timetable) {
-        Ok(judged) => Ok(judged),
-        Err(_) => Err(CheckFault::NoMemory),
-    }
 }
 
 /// Judges the solution, and writes its report. Each reader has 5,000,000 reads; one that was
@@ -188,4 +81,113 @@ pub fn check_run<R: Read, Q: Read, W: Write>(
         Ok(()) => Ok(judged.status),
         Err(_) => Err(CheckFault::Write),
     }
+}
+
+// The judgement on the two readers' texts.
+fn judgement_of<R: Read, Q: Read>(
+    alloc: Global,
+    instance_reader: &mut R,
+    solution_reader: &mut Q,
+) -> Result<Judgement, CheckFault>
+    ensures ok { IfOk result (λ judged. IfSome (R.remaining instance_reader.old) (λ instance.
+        IfSome (Q.remaining solution_reader.old) (λ solution.
+        IsJudgement instance solution (string_bytes judged.text) judged.status))) }
+    ensures judged { IfOk result (λ judged.
+        IsSomeJudgement (string_bytes judged.text) judged.status) }
+    ensures within { IfOk result (λ judged. (judged.status ≡ 0) ⊎ (judged.status ≡ 3)) }
+    ensures refused { IfErr result (λ fault. IfSome (R.remaining instance_reader.old) (λ instance.
+        IfSome (Q.remaining solution_reader.old) (λ solution. Refuses instance solution fault))) }
+    ensures instance_taken { TakesAtMost (INSTANCE_BYTES + 1)
+        (R.remaining instance_reader.old) (R.remaining instance_reader.new) }
+    ensures solution_taken { TakesAtMost (TEXT_BYTES + 1)
+        (Q.remaining solution_reader.old) (Q.remaining solution_reader.new) }
+{
+    let (instance, enrolments) = match instance_of(alloc, instance_reader) {
+        Ok(read) => read,
+        Err(fault) => return Err(of_instance(fault)),
+    };
+    let timetable = match solution_of(alloc, solution_reader, &instance) {
+        Ok(timetable) => timetable,
+        Err(fault) => return Err(of_solution(fault)),
+    };
+    match judge(alloc, &instance, &enrolments, &timetable) {
+        Ok(judged) => Ok(judged),
+        Err(_) => Err(CheckFault::NoMemory),
+    }
+}
+
+// The instance that the reader's text spells.
+fn instance_of<R: Read>(alloc: Global, reader: &mut R) -> Result<(Instance, Enrolments), InputFault>
+    ensures reading { IfOk result (λ read. IfSome (R.remaining reader.old)
+        (λ input. InstanceText input read.0 read.1)) }
+    ensures spelled { IfOk result (λ read. (input : List ℕ) × InstanceText input read.0 read.1) }
+    ensures refused { IfErr result (λ fault. IfSome (R.remaining reader.old)
+        (λ input. RefusesFile (first_fault input) fault)) }
+    ensures fits { IfOk result (λ read. length read.1 ≡ length read.0.exams) }
+    ensures taken { TakesAtMost (INSTANCE_BYTES + 1)
+        (R.remaining reader.old) (R.remaining reader.new) }
+{
+    let text = instance_text(alloc, reader)?;
+    Ok(read_instance(alloc, &text)?)
+}
+
+fn of_instance(fault: InputFault) -> CheckFault
+    ensures { result ≡ of_instance fault }
+{
+    match fault {
+        InputFault::Read => CheckFault::ReadInstance,
+        InputFault::File(fault) => CheckFault::Instance(fault),
+        InputFault::NoMemory => CheckFault::NoMemory,
+    }
+}
+
+// The timetable that the reader's text spells.
+fn solution_of<R: Read>(
+    alloc: Global,
+    reader: &mut R,
+    instance: &Instance,
+) -> Result<Timetable, InputFault>
+    ensures reading { IfOk result (λ timetable. IfSome (R.remaining reader.old)
+        (λ input. SolutionText input instance.now timetable)) }
+    ensures spelled { IfOk result (λ timetable.
+        (input : List ℕ) × SolutionText input instance.now timetable) }
+    ensures refused { IfErr result (λ fault. IfSome (R.remaining reader.old)
+        (λ input. RefusesFile (first_solution_fault instance.now input) fault)) }
+    ensures fits { IfOk result (λ timetable. length timetable ≡ length instance.now.exams) }
+    ensures exist { IfOk result (λ timetable. All (PlaceExists instance.now) timetable) }
+    ensures taken { TakesAtMost (TEXT_BYTES + 1) (R.remaining reader.old) (R.remaining reader.new) }
+{
+    let text = solution_text(alloc, reader)?;
+    Ok(read_solution(alloc, &text, instance)?)
+}
+
+fn of_solution(fault: InputFault) -> CheckFault
+    ensures { result ≡ of_solution fault }
+{
+    match fault {
+        InputFault::Read => CheckFault::ReadSolution,
+        InputFault::File(fault) => CheckFault::Solution(fault),
+        InputFault::NoMemory => CheckFault::NoMemory,
+    }
+}
+
+// A solution's breaches, then its penalty.
+fn judge(
+    alloc: Global,
+    instance: &Instance,
+    enrolments: &Enrolments,
+    timetable: &Timetable,
+) -> Result<Judgement, AllocError>
+    requires { Fits instance.now enrolments.now timetable.now }
+    ensures text { IfOk result (λ judged.
+        string_bytes judged.text ≡ report instance.now enrolments.now timetable.now) }
+    ensures status { IfOk result (λ judged.
+        judged.status ≡ exit_status instance.now enrolments.now timetable.now) }
+{
+    let found = breaches(alloc, instance, enrolments, timetable)?;
+    let parts = score(alloc, instance, enrolments, timetable)?;
+    let mut text = violation_report(alloc, &found)?;
+    text.push_str(penalty_report(alloc, parts)?.as_str())?;
+    let status = if found.is_empty() { 0 } else { 3 };
+    Ok(Judgement { text, status })
 }

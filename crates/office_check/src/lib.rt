@@ -3,7 +3,5 @@
 #![tactic(auto)]
 
 mod checking;
-mod reading;
 
 pub use checking::{CheckFault, check_run};
-pub use reading::{InputFault, instance_text};

@@ -38,16 +38,16 @@ impl<'a, C: Clock> Pace<'a, C> {
         }
     }
 
-    fn begin(&self, awaited: Awaited) {
-        self.awaited.set(awaited);
-        self.due.set(None);
-    }
-
     // The office is about to read: behind a reply the next message is awaited.
     pub(crate) fn is_to_send(&self) {
         if self.awaited.get() == Awaited::Taking {
             self.begin(Awaited::Message);
         }
+    }
+
+    fn begin(&self, awaited: Awaited) {
+        self.awaited.set(awaited);
+        self.due.set(None);
     }
 
     // Bytes came: if they are a message's first, its rest is awaited.
@@ -74,18 +74,6 @@ impl<'a, C: Clock> Pace<'a, C> {
         self.begin(Awaited::Rest);
     }
 
-    // When the wait ends.
-    fn end(&self, now: Instant) -> Result<Instant> {
-        if let Some(end) = self.due.get() {
-            return Ok(end);
-        }
-        let Some(end) = now.checked_add(self.patience) else {
-            return Err(Error::from(ErrorKind::InvalidInput));
-        };
-        self.due.set(Some(end));
-        Ok(end)
-    }
-
     // What is left of the wait.
     pub(crate) fn left(&self) -> Result<Duration>
         ensures { IfOk result (λ left. 0 < as_nanos left) }
@@ -96,5 +84,17 @@ impl<'a, C: Clock> Pace<'a, C> {
             return Err(Error::from(ErrorKind::TimedOut));
         }
         Ok(left)
+    }
+
+    // When the wait ends.
+    fn end(&self, now: Instant) -> Result<Instant> {
+        if let Some(end) = self.due.get() {
+            return Ok(end);
+        }
+        let Some(end) = now.checked_add(self.patience) else {
+            return Err(Error::from(ErrorKind::InvalidInput));
+        };
+        self.due.set(Some(end));
+        Ok(end)
     }
 }

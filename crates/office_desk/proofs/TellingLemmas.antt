@@ -11,7 +11,8 @@ use Rattle.office_model.specs.Candidates.{Asked}
 use Rattle.office_model.specs.Commands.{Gives, draft_shown}
 use Rattle.office_model.specs.Office.{OfficeState, Publication}
 use Rattle.office_model.specs.Step.{of_published, outcome, told_to}
-use Rattle.office_model.specs.Views.{ShownView, shown_to, view_of}
+use Rattle.office_model.specs.Shown.{ShownView, shown_to}
+use Rattle.office_model.specs.Views.{view_of}
 use Rattle.office_model.specs.declared.fault.StoreFault.{StoreFault}
 use Rattle.office_model.specs.declared.fault.StoreFault.TheVariants.{BadSchema, Store}
 use Rattle.exam_model.specs.Timetable.{Placing}

@@ -11,7 +11,8 @@ use Rattle.office_policy.specs.declared.command.Body.TheVariants.{Given, Bad, Lo
 use Rattle.office_model.specs.Answers.{PlainAnswer, bad_body, long_body, unavailable}
 use Rattle.office_model.specs.Office.{OfficeState}
 use Rattle.office_model.specs.Step.{Outcome, permitted}
-use Rattle.office_model.specs.Views.{ShownView, shown_to, view_of}
+use Rattle.office_model.specs.Shown.{ShownView, shown_to}
+use Rattle.office_model.specs.Views.{view_of}
 use Rattle.office_store.specs.Running.{Now}
 use Rattle.office_desk.specs.Answers.{plain_answer}
 use Rattle.office_desk.specs.declared.answer.Answer.{Answer}

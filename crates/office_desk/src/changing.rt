@@ -2,8 +2,10 @@
 ghost use Rattle.std.specs.Prelude.{◌≤◌};
 ghost use Rattle.sqlite.specs.Held.{state};
 ghost use Rattle.sqlite.specs.State.{HasCleanDisk};
-ghost use Rattle.office_policy.specs.Commands.{IfGiven, batch, clear, drop_draft, load, move};
-ghost use Rattle.office_policy.specs.Commands.{new_draft, place, plain_text, publish, set_owner, swap};
+ghost use Rattle.office_policy.specs.CommandBodies.{IfGiven};
+ghost use Rattle.office_policy.specs.Commands.{batch, clear, drop_draft, load, move};
+ghost use Rattle.office_policy.specs.CommandBodies.{plain_text};
+ghost use Rattle.office_policy.specs.Commands.{new_draft, place, publish, set_owner, swap};
 ghost use Rattle.exam_terms.specs.declared.limits.TheConstants.{MAX_BATCH, MAX_DEPARTMENT};
 ghost use Rattle.office_model.specs.Step.{edit_outcome};
 ghost use Rattle.office_desk.specs.Performing.{IsGiven, Performs, Yields};
@@ -21,7 +23,8 @@ pub(crate) fn load<S: Alter>(
     alloc: Global,
     body: Body<&[u8]>,
 ) -> Result<Answer, Answer>
-    ensures performs { Performs S.Store (load (plain_text body.entry)) office.old office.new result }
+    ensures performs { Performs S.Store (load (plain_text body.entry))
+        office.old office.new result }
     ensures clean { HasCleanDisk (state S.Store office.new)
         → HasCleanDisk (state S.Store office.old) }
 {

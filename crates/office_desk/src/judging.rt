@@ -37,7 +37,8 @@ fn judged_by_owners<S: Alter>(
     dept: DeptNo,
     command: &Command<'_>,
 ) -> Result<Result<(), Denial>, StoreFault>
-    ensures reads { ReadsOffice S.Store (λ o. allowed_in o (Caller.Dept dept) (plain_command command.now))
+    ensures reads { ReadsOffice S.Store
+        (λ o. allowed_in o (Caller.Dept dept) (plain_command command.now))
         office.old office.new result }
     ensures clean { HasCleanDisk (state S.Store office.new)
         → HasCleanDisk (state S.Store office.old) }

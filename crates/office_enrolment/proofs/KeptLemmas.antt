@@ -6,7 +6,7 @@ use Rattle.std.proofs.lemmas.List.{get_or_past, length-set, set_past, set-get_or
 use Rattle.std.proofs.lemmas.List.Sorted.{length_permutation}
 use Rattle.std.proofs.lemmas.List.Sums.{sum_by-set}
 use Rattle.exam_model.specs.Changes.{with_student, without_student, with_pair, without_pair}
-use Rattle.exam_model.specs.Enrolments.{Enrolled, AreEnrolments, AreNumbers, IsAscending, has, has_student, pair_count, students}
+use Rattle.exam_model.specs.Enrolments.{Enrolled, AreEnrolments, AreNumbers, IsAscending, has, has_number, pair_count, students}
 use Rattle.exam_model.proofs.StudentLemmas.{ascending-none, ascending-with, ascending-without, has-with, has-without}
 use Rattle.office_enrolment.proofs.PairRowLemmas.{with_again, with_new, without_again}
 
@@ -57,13 +57,13 @@ numbers-with : (s : ℕ) (xs : List ℕ) → s ≤ 999999999 → AreNumbers xs
     → AreNumbers (with_student s xs)
 numbers-with s xs known was t is = elim (cases_eq s t) [
   | inl same ↦ subst (λ (x : ℕ). x ≤ 999999999) same known
-  | inr other ↦ was t (subst (λ b. (b || has_student xs t) ≡ true) (ne_eqb s t other)
+  | inr other ↦ was t (subst (λ b. (b || has_number xs t) ≡ true) (ne_eqb s t other)
       (sym (has-with s xs t) ∙ is))
 ]
 
 numbers-without : (s : ℕ) (xs : List ℕ) → AreNumbers xs → AreNumbers (without_student s xs)
 numbers-without s xs was t is =
-    let both = and_parts (not (s == t)) (has_student xs t) (sym (has-without s xs t) ∙ is) in
+    let both = and_parts (not (s == t)) (has_number xs t) (sym (has-without s xs t) ∙ is) in
     was t both.1
 
 pub ascend_with : (E : Enrolled) (s e : ℕ) → Ascend E → Ascend (with_pair E s e)

@@ -9,7 +9,7 @@ use Rattle.exam_model.specs.Changes.{with_pair, without_pair, with_student, with
 use Rattle.exam_model.specs.Enrolments.{Enrolled, AreEnrolments, has, pair_count, students}
 use Rattle.exam_model.specs.declared.change.Change.{Change}
 use Rattle.exam_draft.specs.declared.fault.EditFault.TheVariants.{NoSuch}
-use Rattle.office_model.specs.Batches.{acts, after_change, after_changes, counted, enrolled, no_counts}
+use Rattle.office_model.specs.BatchLines.{acts, after_change, after_changes, counted, enrolled, no_counts}
 use Rattle.office_model.specs.declared.counts.Counts.{Counts}
 use Rattle.office_model.specs.declared.fault.Refusal.TheVariants as refusal
 use Rattle.office_model.specs.declared.fault.StoreFault.TheVariants.{Refused, TooMany}

@@ -13,7 +13,8 @@ use Rattle.exam_model.specs.Timetable.{Placing}
 use Rattle.exam_model.specs.declared.change.Change.{Change}
 use Rattle.exam_draft.specs.declared.fault.EditFault.TheVariants.{NoSuch}
 use Rattle.office_files.specs.declared.fault.FileFault.{FileFault}
-use Rattle.office_model.specs.Batches.{enrolled, enrolled_by, kept_under, newly_enrolled, no_counts, same_bytes}
+use Rattle.office_model.specs.BatchLines.{enrolled, no_counts}
+use Rattle.office_model.specs.Batches.{enrolled_by, kept_under, newly_enrolled, same_bytes}
 use Rattle.office_model.specs.Commands.{Gives, named, when_loaded}
 use Rattle.office_model.specs.Office.{AreEnrolled, AreKept, AreRecords, IsKeptBatch, IsOffice, KeptBatch, OfficeState, Records}
 use Rattle.office_model.specs.declared.counts.Counts.{Counts}

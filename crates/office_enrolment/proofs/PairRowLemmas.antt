@@ -5,7 +5,7 @@ use Rattle.std.proofs.lemmas.Bool.{eq-eqb, ne_eqb, cases_eq, or_parts}
 use Rattle.std.proofs.lemmas.List.Elements.{filter-append, filter_agree}
 use Rattle.std.proofs.lemmas.List.Sorted.{IsPermutation-refl, IsPermutation-sym, IsPermutation-cons, IsPermutation-map, IsPermutation-trans, IsPermutation-middle, IsPermutation-append_left, IsPermutation-append_right}
 use Rattle.exam_model.specs.Changes.{with_student, without_student, with_pair, without_pair}
-use Rattle.exam_model.specs.Enrolments.{Enrolled, IsAscending, has_student, has}
+use Rattle.exam_model.specs.Enrolments.{Enrolled, IsAscending, has_number, has}
 use Rattle.exam_model.specs.Pairs.{Pair, is_pair, pairs_at, pairs_from}
 use Rattle.exam_model.proofs.SameSet.{same_list}
 use Rattle.exam_model.proofs.StudentLemmas.{with_cases, has-with, has-without, ascending-with, ascending-without}
@@ -14,38 +14,38 @@ use Rattle.office_enrolment.proofs.FilterLemmas.{filter-map}
 -- ---- one exam's students
 
 -- who is there is put in once: the list stays
-pub with_again : (s : ℕ) (xs : List ℕ) → IsAscending xs → has_student xs s ≡ true
+pub with_again : (s : ℕ) (xs : List ℕ) → IsAscending xs → has_number xs s ≡ true
     → with_student s xs ≡ xs
 with_again s xs up is =
     same_list (with_student s xs) xs (ascending-with s xs up) up (λ t. has-with s xs t ∙ there t)
   where
-    there : (t : ℕ) → ((s == t) || has_student xs t) ≡ has_student xs t
+    there : (t : ℕ) → ((s == t) || has_number xs t) ≡ has_number xs t
     there t = elim (cases_eq s t) [
-      | inl same ↦ subst (λ z. ((s == z) || has_student xs z) ≡ has_student xs z) same
+      | inl same ↦ subst (λ z. ((s == z) || has_number xs z) ≡ has_number xs z) same
           (rw (eq-eqb s s refl) (sym is))
       | inr other ↦ rw (ne_eqb s t other) refl
     ]
 
 -- who isn't there can't go: the list stays
-pub without_again : (s : ℕ) (xs : List ℕ) → IsAscending xs → has_student xs s ≡ false
+pub without_again : (s : ℕ) (xs : List ℕ) → IsAscending xs → has_number xs s ≡ false
     → without_student s xs ≡ xs
 without_again s xs up isnt =
     same_list (without_student s xs) xs (ascending-without s xs up) up
     (λ t. has-without s xs t ∙ absent t)
   where
-    absent : (t : ℕ) → (not (s == t) && has_student xs t) ≡ has_student xs t
+    absent : (t : ℕ) → (not (s == t) && has_number xs t) ≡ has_number xs t
     absent t = elim (cases_eq s t) [
-      | inl same ↦ subst (λ z. (not (s == z) && has_student xs z) ≡ has_student xs z) same
+      | inl same ↦ subst (λ z. (not (s == z) && has_number xs z) ≡ has_number xs z) same
           (rw (eq-eqb s s refl) (sym isnt))
       | inr other ↦ rw (ne_eqb s t other) refl
     ]
 
 -- who is new comes in beside all others
-pub with_new : (s : ℕ) (xs : List ℕ) → has_student xs s ≡ false
+pub with_new : (s : ℕ) (xs : List ℕ) → has_number xs s ≡ false
     → IsPermutation (s ∷ xs) (with_student s xs)
 with_new s [] isnt = IsPermutation-refl (s ∷ [])
 with_new s (u ∷ us) isnt =
-    let parts = or_parts (u == s) (has_student us s) isnt in
+    let parts = or_parts (u == s) (has_number us s) isnt in
     with_cases s u us (IsPermutation (s ∷ u ∷ us))
     (λ before. IsPermutation-refl (s ∷ u ∷ us))
     (λ same. absurd (cc (sym (eq-eqb u s (sym same)) ∙ parts.0)))

@@ -9,7 +9,7 @@ use Rattle.exam_model.specs.Changes.{with_pair, without_pair}
 use Rattle.exam_model.specs.Enrolments.{Enrolled, AreEnrolments, has}
 use Rattle.exam_model.specs.Pairs.{Pair, pairs_of}
 use Rattle.exam_model.specs.declared.change.Change.{Change}
-use Rattle.office_model.specs.Batches.{acts, after_change, after_changes, no_counts}
+use Rattle.office_model.specs.BatchLines.{acts, after_change, after_changes, no_counts}
 use Rattle.office_model.specs.declared.counts.Counts.{Counts}
 use Rattle.office_enrolment.specs.AfterBatch.{acting, after_batch, names_exam}
 use Rattle.office_enrolment.specs.Rows.{RowKind, after_row, after_rows, pair_of}

@@ -13,7 +13,8 @@ use Rattle.exam_model.specs.declared.change.Change.{Change}
 use Rattle.office_files.specs.Numbers.{at_most, is_number, number, read_on}
 use Rattle.office_files.specs.declared.fault.FaultKind.{FaultKind}
 use Rattle.office_files.specs.declared.fault.FaultKind.TheVariants.{BadNumber, OutOfRange, StrayText}
-use Rattle.office_batches.specs.BatchText.{BatchText, Record, action, change_in, field, has_three, records_in}
+use Rattle.office_batches.specs.Records.{Record, action, change_in, field, has_three}
+use Rattle.office_batches.specs.BatchText.{BatchText, records_in}
 
 -- ---- how many
 

@@ -6,7 +6,7 @@ use Rattle.exam_terms.specs.declared.limits.TheConstants.{MAX_PAIRS}
 use Rattle.exam_model.specs.Enrolments.{Enrolled, pair_count}
 use Rattle.exam_model.specs.declared.change.Change.{Change}
 use Rattle.exam_draft.specs.declared.fault.EditFault.TheVariants.{NoSuch}
-use Rattle.office_model.specs.Batches.{acts, after_change, enrolled, no_counts}
+use Rattle.office_model.specs.BatchLines.{acts, after_change, enrolled, no_counts}
 use Rattle.office_model.specs.declared.counts.Counts.{Counts}
 use Rattle.office_model.specs.declared.fault.Refusal.TheVariants as refusal
 use Rattle.office_model.specs.declared.fault.StoreFault.{StoreFault}

@@ -3,7 +3,7 @@ ghost use Rattle.std.specs.Prelude.{◌≡◌, ◌<◌, ◌≤◌, ◌++◌, [],
 ghost use Rattle.std.specs.List.{list_all};
 ghost use Rattle.exam_terms.specs.declared.limits.TheConstants.{TEXT_BYTES};
 ghost use Rattle.exam_model.specs.Enrolments.{AreEnrolments, Enrolled};
-ghost use Rattle.office_model.specs.Batches.{acts, counted, no_counts};
+ghost use Rattle.office_model.specs.BatchLines.{acts, counted, no_counts};
 ghost use Rattle.office_enrolment.specs.AfterBatch.{Refuses, acting, after_batch, after_line, lines_in, names_exam};
 
 use exam_draft::EditFault;

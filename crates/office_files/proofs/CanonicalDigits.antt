@@ -4,7 +4,7 @@ use Rattle.std.specs.Prelude.{decimal}
 use Rattle.std.specs.Fmt.{padded_integral, format_spec, char_count}
 use Rattle.std.proofs.lemmas.Fmt.{decimal_digit, decimal_step}
 use Rattle.std.proofs.lemmas.Bool.{cases_lt}
-use Rattle.office_files.specs.CanonicalText.{two_digits}
+use Rattle.office_files.specs.CanonicalLines.{two_digits}
 
 -- a number of two digits
 tens : (n : ℕ) → 10 ≤ n → n < 100 → decimal n ≡ two_digits n

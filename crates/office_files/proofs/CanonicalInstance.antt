@@ -8,7 +8,7 @@ use Rattle.std.proofs.lemmas.List.{append_assoc}
 use Rattle.std.proofs.lemmas.List.Concat.{flat_map-cons}
 use Rattle.std.proofs.lemmas.List.Elements.{All-head, All-tail}
 use Rattle.std.proofs.lemmas.List.Sums.{sum_by-cons, sum_by_push}
-use Rattle.exam_model.specs.Enrolments.{Enrolled, AreEnrolments, AreNumbers, IsAscending, has_student, students, pair_count}
+use Rattle.exam_model.specs.Enrolments.{Enrolled, AreEnrolments, AreNumbers, IsAscending, has_number, students, pair_count}
 use Rattle.exam_model.specs.Instance.{Session, IsInstance, PeriodRuleExists, RoomRuleExists}
 use Rattle.exam_calendar.proofs.DateLemmas.{date_ranges}
 use Rattle.exam_model.specs.Limits.{ExamInLimits, PeriodInLimits, RoomInLimits, WeightsInLimits}
@@ -19,12 +19,17 @@ use Rattle.exam_model.specs.declared.parts.Weights.{Weights}
 use Rattle.exam_model.specs.declared.rules.PeriodRule.{PeriodRule}
 use Rattle.exam_model.specs.declared.rules.PeriodRule.TheVariants.{After, Coincidence, Exclusion}
 use Rattle.exam_model.specs.declared.rules.RoomRule.{RoomRule}
-use Rattle.office_files.specs.CanonicalText.{line_of, before, header_text, section_text, exam_text, period_text, room_text, date_text, time_text}
-use Rattle.office_files.specs.CanonicalText.{period_rule_text, room_rule_text, weighting_text, weightings_of, exam_lines_of, canonical_instance}
+use Rattle.office_files.specs.CanonicalLines.{line_of, before, exam_text, period_text, room_text}
+use Rattle.office_files.specs.CanonicalLines.{date_text, time_text}
+use Rattle.office_files.specs.CanonicalText.{header_text, section_text}
+use Rattle.office_files.specs.CanonicalLines.{period_rule_text, room_rule_text, weighting_text}
+use Rattle.office_files.specs.CanonicalText.{weightings_of, exam_lines_of, canonical_instance}
 use Rattle.office_files.specs.ExamLines.{ExamLine, exam_line, exam_of, pairs_on}
-use Rattle.office_files.specs.InstanceText.{exams_heading, periods_heading, rooms_heading, period_rules_heading}
-use Rattle.office_files.specs.InstanceText.{room_rules_heading, weightings_heading, counts_of, InstanceText, instance_in}
-use Rattle.office_files.specs.Items.{period_line, room_line, period_rule_line, room_rule_line}
+use Rattle.office_files.specs.Spelled.{exams_heading, periods_heading, rooms_heading}
+use Rattle.office_files.specs.Spelled.{period_rules_heading}
+use Rattle.office_files.specs.Spelled.{room_rules_heading, weightings_heading, counts_of}
+use Rattle.office_files.specs.InstanceText.{InstanceText, instance_in}
+use Rattle.office_files.specs.ItemLines.{period_line, room_line, period_rule_line, room_rule_line}
 use Rattle.office_files.specs.Lines.{is_header}
 use Rattle.office_files.specs.Sections.{IsSection}
 use Rattle.office_files.specs.Weightings.{weighting_line}
@@ -401,8 +406,8 @@ six_lengths a b c d e f =
 numbers_each : (ss : List ℕ) → AreNumbers ss → AllByRecursion (λ s. s ≤ 999999999) ss
 numbers_each [] known = tt
 numbers_each (s ∷ ss) known = (
-  known s (or_left (eqb s s) (has_student ss s) (eq-eqb s s refl)),
-  numbers_each ss (λ t is. known t (or_right (eqb s t) (has_student ss t) is)),
+  known s (or_left (eqb s s) (has_number ss s) (eq-eqb s s refl)),
+  numbers_each ss (λ t is. known t (or_right (eqb s t) (has_number ss t) is)),
 )
 
 numbers_all : (E : Enrolled) → ((e : ℕ) → AreNumbers (students E e))

@@ -9,7 +9,7 @@ use Rattle.exam_calendar.specs.Dates.{is_civil}
 use Rattle.exam_calendar.specs.declared.date.Date.{Date}
 use Rattle.exam_calendar.proofs.DateLemmas.{date_ranges}
 use Rattle.exam_model.proofs.SameSet.{same_list}
-use Rattle.exam_model.specs.Enrolments.{IsAscending, has_student}
+use Rattle.exam_model.specs.Enrolments.{IsAscending, has_number}
 use Rattle.exam_model.specs.Instance.{PeriodRuleExists, RoomRuleExists}
 use Rattle.exam_model.specs.Limits.{PeriodInLimits, RoomInLimits, WeightsInLimits}
 use Rattle.exam_model.specs.declared.parts.Period.{Period}
@@ -18,10 +18,14 @@ use Rattle.exam_model.specs.declared.parts.Weights.{Weights}
 use Rattle.exam_model.specs.declared.rules.PeriodRule.{PeriodRule}
 use Rattle.exam_model.specs.declared.rules.PeriodRule.TheVariants.{After, Coincidence, Exclusion}
 use Rattle.exam_model.specs.declared.rules.RoomRule.{RoomRule}
-use Rattle.office_files.specs.CanonicalText.{before, two_digits, date_text, time_text, exam_text, period_text}
-use Rattle.office_files.specs.CanonicalText.{room_text, period_rule_text, room_rule_text, weighting_text, weightings_of}
+use Rattle.office_files.specs.CanonicalLines.{before, two_digits, date_text, time_text, exam_text}
+use Rattle.office_files.specs.CanonicalLines.{period_text}
+use Rattle.office_files.specs.CanonicalLines.{room_text, period_rule_text, room_rule_text}
+use Rattle.office_files.specs.CanonicalLines.{weighting_text}
+use Rattle.office_files.specs.CanonicalText.{weightings_of}
 use Rattle.office_files.specs.Dates.{date_of, time_of}
-use Rattle.office_files.specs.ExamLines.{ExamLine, exam_behind, with_students, named_in, fault_in}
+use Rattle.office_files.specs.ExamStudents.{with_students, named_in, fault_in}
+use Rattle.office_files.specs.ExamLines.{ExamLine, exam_behind}
 use Rattle.office_files.specs.Fields.{split_once}
 use Rattle.office_files.specs.Items.{period_in, room_in, period_rule_in, room_rule_in}
 use Rattle.office_files.specs.Numbers.{number}
@@ -215,7 +219,7 @@ none_before false = refl
 in_order : (ss : List ℕ) → IsAscending ss → with_students ss [] ≡ ss
 in_order ss up =
     same_list (with_students ss []) ss (ascending-students ss [] ascending-none) up
-    (λ t. has-students ss [] t ∙ none_before (has_student ss t))
+    (λ t. has-students ss [] t ∙ none_before (has_number ss t))
 
 pub exam_back : (pairs : ℕ) (e : ExamLine) → e.minutes ≤ 1440
     → AllByRecursion (λ s. s ≤ 999999999) e.students → IsAscending e.students

@@ -12,7 +12,7 @@ use Rattle.std.proofs.lemmas.List.{append_assoc}
 use Rattle.std.proofs.lemmas.List.Elements.{All-head, All-tail}
 use Rattle.std.proofs.lemmas.List.Concat.{flat_map-cons}
 use Rattle.std.proofs.lemmas.List.Folds.{list_all-append}
-use Rattle.office_files.specs.CanonicalText.{line_of, before}
+use Rattle.office_files.specs.CanonicalLines.{line_of, before}
 use Rattle.exam_terms.specs.Texts.{is_blank, before_end, trim_start, trim_end, trimmed}
 use Rattle.office_files.specs.Fields.{ended_parts, fields_of}
 use Rattle.office_files.specs.Lines.{Located, placed, located, unless_blank, without_return}

@@ -8,9 +8,11 @@ use Rattle.std.proofs.lemmas.Bool.{lt-ltb, eq-eqb}
 use Rattle.std.proofs.lemmas.List.{append_assoc, length-map}
 use Rattle.std.proofs.lemmas.List.Elements.{All-nil, All-cons, All-head, All-tail}
 use Rattle.std.proofs.lemmas.List.Folds.{list_all-append}
-use Rattle.office_files.specs.CanonicalText.{line_of, header_text, section_text}
+use Rattle.office_files.specs.CanonicalLines.{line_of}
+use Rattle.office_files.specs.CanonicalText.{header_text, section_text}
 use Rattle.office_files.specs.Lines.{Located, is_header}
-use Rattle.office_files.specs.Sections.{Heading, header_in, plain_header, counted_header, AtHeader, IsSection}
+use Rattle.office_files.specs.Headers.{Heading, header_in, plain_header, counted_header}
+use Rattle.office_files.specs.Sections.{AtHeader, IsSection}
 use Rattle.office_files.specs.declared.fault.FaultKind.{FaultKind}
 use Rattle.office_files.proofs.CanonicalItems.{split_stop}
 use Rattle.office_files.proofs.CanonicalLines.{IsField, IsLine, plain_byte, apart-append, line_alone, field_decimal, number_decimal, decimal_apart, trimmed_field, length_decimal, length_flat, rows, row_first, row_each, AreRead, read_each}

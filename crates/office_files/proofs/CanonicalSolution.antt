@@ -12,8 +12,10 @@ use Rattle.exam_model.specs.Fits.{PlaceExists}
 use Rattle.exam_model.specs.Instance.{Session}
 use Rattle.exam_model.specs.Timetable.{Placing, place_of}
 use Rattle.exam_terms.specs.declared.place.Place.{Place}
-use Rattle.office_files.specs.CanonicalText.{line_of, place_text, slot_text, canonical_solution, SuitsTimetable}
-use Rattle.office_files.specs.Items.{place_line}
+use Rattle.office_files.specs.CanonicalLines.{line_of}
+use Rattle.office_files.specs.CanonicalSolution.{place_text, slot_text, canonical_solution}
+use Rattle.office_files.specs.CanonicalSolution.{SuitsTimetable}
+use Rattle.office_files.specs.ItemLines.{place_line}
 use Rattle.office_files.specs.Lines.{lines_of}
 use Rattle.office_files.specs.Reading.{items_of}
 use Rattle.office_files.specs.SolutionText.{counts_in, SolutionText, solution_in}

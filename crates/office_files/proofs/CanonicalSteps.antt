@@ -7,7 +7,8 @@ use Rattle.std.proofs.lemmas.List.{take_all, take_more, flat_map_more}
 use Rattle.std.proofs.lemmas.Option.{get_or_from_slice_get, slice_get_cases}
 use Rattle.exam_model.specs.Enrolments.{Enrolled, students}
 use Rattle.exam_model.specs.declared.parts.Exam.{Exam}
-use Rattle.office_files.specs.CanonicalText.{line_of, before, exam_lines_of}
+use Rattle.office_files.specs.CanonicalLines.{line_of, before}
+use Rattle.office_files.specs.CanonicalText.{exam_lines_of}
 
 within : {A : Type 0} (xs : List A) (i : ℕ) (x : A) → slice_get xs i ≡ Some x → i < length xs
 within xs i x at = elim (slice_get_cases xs i).1 [

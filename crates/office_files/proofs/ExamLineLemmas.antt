@@ -9,11 +9,11 @@ use Rattle.std.specs.Ordering.{nat_cmp}
 use Rattle.std.proofs.lemmas.Bool.{eqb-true, eqb-false, or_parts, cases_lt}
 use Rattle.std.proofs.lemmas.List.Sorted.{list_any-IsPermutation}
 use Rattle.std.proofs.lemmas.Map.Keys.{IsStrictlyIncreasing-dedup}
-use Rattle.exam_model.specs.Enrolments.{IsAscending, has_student}
+use Rattle.exam_model.specs.Enrolments.{IsAscending, has_number}
 use Rattle.exam_model.specs.Changes.{with_student}
 use Rattle.exam_model.proofs.SameSet.{same_list}
 use Rattle.exam_model.proofs.StudentLemmas.{or_twice, with_cases, has-with, ascending-none, ascending-with}
-use Rattle.office_files.specs.ExamLines.{with_students}
+use Rattle.office_files.specs.ExamStudents.{with_students}
 
 or-false : (a : Bool) → (a || false) ≡ a
 or-false true = refl
@@ -36,11 +36,11 @@ length-with s (u ∷ us) =
     (λ behind. (omega arith, omega arith))
 
 -- a new student makes it longer by one
-pub length-with_new : (s : ℕ) (xs : List ℕ) → has_student xs s ≡ false →
+pub length-with_new : (s : ℕ) (xs : List ℕ) → has_number xs s ≡ false →
     length (with_student s xs) ≡ length xs + 1
 length-with_new s [] new = omega arith
 length-with_new s (u ∷ us) new =
-    let parts = or_parts (u == s) (has_student us s) new in
+    let parts = or_parts (u == s) (has_number us s) new in
     let one = length-with_new s us parts.1 in
     let other = eqb-false u s parts.0 in
     with_cases s u us (λ ys. length ys ≡ length (u ∷ us) + 1)
@@ -49,15 +49,15 @@ length-with_new s (u ∷ us) new =
     (λ behind. omega arith)
 
 -- a student who is there changes nothing
-pub with_again : (s : ℕ) (xs : List ℕ) → IsAscending xs → has_student xs s ≡ true →
+pub with_again : (s : ℕ) (xs : List ℕ) → IsAscending xs → has_number xs s ≡ true →
     with_student s xs ≡ xs
 with_again s xs up there =
     same_list (with_student s xs) xs (ascending-with s xs up) up (λ t. has-with s xs t ∙ known t)
   where
-    known : (t : ℕ) → ((s == t) || has_student xs t) ≡ has_student xs t
+    known : (t : ℕ) → ((s == t) || has_number xs t) ≡ has_number xs t
     known t =
-        elim (s == t) as (λ b. (s == t) ≡ b → (b || has_student xs t) ≡ has_student xs t) [
-          | true ↦ λ e. subst (λ z. true ≡ has_student xs z) (eqb-true s t e) (sym there)
+        elim (s == t) as (λ b. (s == t) ≡ b → (b || has_number xs t) ≡ has_number xs t) [
+          | true ↦ λ e. subst (λ z. true ≡ has_number xs z) (eqb-true s t e) (sym there)
           | false ↦ λ e. refl
         ] refl
 
@@ -68,12 +68,12 @@ ascending-students (s ∷ ss) seen up =
     ascending-students ss (with_student s seen) (ascending-with s seen up)
 
 pub has-students : (ss seen : List ℕ) (t : ℕ) →
-    has_student (with_students ss seen) t ≡ (has_student ss t || has_student seen t)
+    has_number (with_students ss seen) t ≡ (has_number ss t || has_number seen t)
 has-students [] seen t = refl
 has-students (s ∷ ss) seen t =
     has-students ss (with_student s seen) t
-    ∙ ap (λ b. has_student ss t || b) (has-with s seen t)
-    ∙ or_along (s == t) (has_student ss t) (has_student seen t)
+    ∙ ap (λ b. has_number ss t || b) (has-with s seen t)
+    ∙ or_along (s == t) (has_number ss t) (has_number seen t)
 
 pub length-students : (ss seen : List ℕ) → length seen ≤ length (with_students ss seen)
 length-students [] seen = omega arith
@@ -83,10 +83,10 @@ length-students (s ∷ ss) seen =
 
 -- the ascending list of the same students is the students put in one by one
 pub students-same : (names xs : List ℕ) → IsAscending xs →
-    ((t : ℕ) → has_student xs t ≡ has_student names t) → xs ≡ with_students names []
+    ((t : ℕ) → has_number xs t ≡ has_number names t) → xs ≡ with_students names []
 students-same names xs up same =
     same_list xs (with_students names []) up (ascending-students names [] ascending-none)
-    (λ t. same t ∙ sym (or-false (has_student names t)) ∙ sym (has-students names [] t))
+    (λ t. same t ∙ sym (or-false (has_number names t)) ∙ sym (has-students names [] t))
 
 -- where they come in ascending order, they are that list
 pub students-ascending : (names : List ℕ) → IsAscending names → names ≡ with_students names []
@@ -108,19 +108,19 @@ ascending-increasing xs up i (suc j) lt within =
     ]
 
 -- without its repeats a sorted list has the same members
-has-dedup : (xs : List ℕ) (t : ℕ) → has_student (dedup nat_eq xs) t ≡ has_student xs t
+has-dedup : (xs : List ℕ) (t : ℕ) → has_number (dedup nat_eq xs) t ≡ has_number xs t
 has-dedup [] t = refl
 has-dedup (x ∷ xs) t = from x xs
   where
-    from : (x : ℕ) (xs : List ℕ) → has_student (dedup nat_eq (x ∷ xs)) t ≡ has_student (x ∷ xs) t
+    from : (x : ℕ) (xs : List ℕ) → has_number (dedup nat_eq (x ∷ xs)) t ≡ has_number (x ∷ xs) t
     from x [] = refl
     from x (y ∷ ys) =
         let repeated = dedup nat_eq (x ∷ ys) in
         let new = x ∷ dedup nat_eq (y ∷ ys) in
         elim (nat_eq y x) as (λ b. nat_eq y x ≡ b →
-        has_student (cond b repeated new) t ≡ ((x == t) || ((y == t) || has_student ys t))) [
+        has_number (cond b repeated new) t ≡ ((x == t) || ((y == t) || has_number ys t))) [
           | true ↦ λ e.
-              from x ys ∙ rw (eqb-true y x e) (or_twice (x == t) (has_student ys t))
+              from x ys ∙ rw (eqb-true y x e) (or_twice (x == t) (has_number ys t))
           | false ↦ λ e. ap (λ b. (x == t) || b) (from y ys)
         ] refl
 
@@ -131,7 +131,7 @@ pub students-sorted : (names sorted kept : List ℕ) → IsPermutation names sor
 students-sorted names sorted kept moved up is =
     let rises : IsAscending kept = rw is (ascending-increasing (dedup nat_eq sorted) (IsStrictlyIncreasing-dedup sorted up)) in (
       students-same names kept rises (λ t.
-          ap (λ (xs : List ℕ). has_student xs t) is
+          ap (λ (xs : List ℕ). has_number xs t) is
           ∙ has-dedup sorted t
           ∙ sym (list_any-IsPermutation (λ (x : ℕ). x == t) names sorted moved)),
       rises,

@@ -6,14 +6,15 @@ use Rattle.std.specs.Prelude.{◌≢◌, ◌||◌, nat_lt}
 use Rattle.std.proofs.lemmas.Bool.{ltb-true, lt-ltb}
 use Rattle.std.proofs.lemmas.List.Sums.{sum_by-set}
 use Rattle.exam_terms.specs.Refusing.{◌>>=◌, unless}
-use Rattle.exam_model.specs.Enrolments.{Enrolled, IsAscending, RefusesAll, has_student, students}
+use Rattle.exam_model.specs.Enrolments.{Enrolled, IsAscending, RefusesAll, has_number, students}
 use Rattle.exam_model.specs.Enrolments.{pair_count}
 use Rattle.exam_model.specs.declared.fault.ModelFault.{ModelFault}
 use Rattle.exam_model.specs.declared.fault.ModelFault.TheVariants.{Range, NoSuch, NoMemory}
 use Rattle.office_files.specs.Numbers.{number}
 use Rattle.exam_model.specs.Changes.{with_student}
-use Rattle.office_files.specs.ExamLines.{IsEmptyExam, with_students, students_in}
-use Rattle.office_files.specs.ExamLines.{named_first, named_in, fault_first, fault_in}
+use Rattle.office_files.specs.ExamStudents.{with_students, students_in}
+use Rattle.office_files.specs.ExamLines.{IsEmptyExam}
+use Rattle.office_files.specs.ExamStudents.{named_first, named_in, fault_first, fault_in}
 use Rattle.office_files.specs.declared.fault.FaultKind.{FaultKind}
 use Rattle.office_files.specs.declared.fault.FaultKind.TheVariants.{OutOfRange}
 use Rattle.office_files.proofs.ExamLineLemmas.{with_again}
@@ -27,7 +28,7 @@ judged (Some what) names = Err what
 
 -- she is there, or a pair is left for her
 abbrev has_room : ℕ → List ℕ → ℕ → Bool
-has_room pairs seen s = has_student seen s || nat_lt (pairs + length seen) 200000
+has_room pairs seen s = has_number seen s || nat_lt (pairs + length seen) 200000
 
 -- the reading of fields of which the first was read
 abbrev goes_on : ℕ → List ℕ → List (List ℕ) → Result ℕ FaultKind → Result (List ℕ) FaultKind
@@ -50,7 +51,7 @@ room_for : (pairs : ℕ) (seen : List ℕ) (s : ℕ) →
     pairs + length (with_student s seen) ≤ 200000 → has_room pairs seen s ≡ true
 room_for pairs seen s within =
     let below = nat_lt (pairs + length seen) 200000 in
-    elim (has_student seen s) as (λ b. has_student seen s ≡ b → (b || below) ≡ true) [
+    elim (has_number seen s) as (λ b. has_number seen s ≡ b → (b || below) ≡ true) [
       | true ↦ λ there. refl
       | false ↦ λ new.
           let longer = length-with_new s seen new in
@@ -64,7 +65,7 @@ pub room_left : (pairs : ℕ) (seen : List ℕ) (s : ℕ) → IsAscending seen �
 room_left pairs seen s up within =
     let below = nat_lt (pairs + length seen) 200000 in
     let Fits : Type 0 = pairs + length (with_student s seen) ≤ 200000 in
-    elim (has_student seen s) as (λ b. has_student seen s ≡ b → (b || below) ≡ true → Fits) [
+    elim (has_number seen s) as (λ b. has_number seen s ≡ b → (b || below) ≡ true → Fits) [
       | true ↦ λ there room. rw (with_again s seen up there) within
       | false ↦ λ new room.
           let longer = length-with_new s seen new in

@@ -14,8 +14,9 @@ use Rattle.office_files.specs.Lines.{Located}
 use Rattle.office_files.specs.Numbers.{number}
 use Rattle.office_files.specs.Reading.{items_of}
 use Rattle.office_files.specs.ExamLines.{ExamLine, exam_line, exam_behind, exam_of, pairs_on}
-use Rattle.office_files.specs.ExamLines.{students_in, EntersLine, IsEmptyExam}
-use Rattle.office_files.specs.ExamLines.{with_students, named_in, fault_in}
+use Rattle.office_files.specs.ExamStudents.{students_in}
+use Rattle.office_files.specs.ExamLines.{EntersLine, IsEmptyExam}
+use Rattle.office_files.specs.ExamStudents.{with_students, named_in, fault_in}
 use Rattle.office_files.specs.declared.fault.FaultKind.{FaultKind}
 use Rattle.office_files.specs.declared.fault.FaultKind.TheVariants.{OutOfRange}
 use Rattle.exam_model.proofs.StudentLemmas.{ascending-none}

@@ -7,11 +7,13 @@ use Rattle.std.proofs.lemmas.Bool.{cases_Bool}
 use Rattle.std.proofs.lemmas.List.{append-nil, append_assoc, length-append}
 use Rattle.exam_terms.specs.Refusing.{◌>>=◌}
 use Rattle.office_files.specs.Fields.{fields_of}
-use Rattle.office_files.specs.FirstFault.{fault_of, fault_behind, Standing, behind, header_fault}
-use Rattle.office_files.specs.FirstFault.{item_fault, line_fault, at_line_or, first_from}
+use Rattle.office_files.specs.Reading.{fault_of, fault_behind}
+use Rattle.office_files.specs.LineFaults.{Standing, behind, header_fault, item_fault, line_fault}
+use Rattle.office_files.specs.FirstFault.{at_line_or, first_from}
 use Rattle.office_files.specs.Lines.{Located, is_header, section_size}
 use Rattle.office_files.specs.Reading.{at_line, items_of}
-use Rattle.office_files.specs.Sections.{Heading, header_in, section_in, AtHeader}
+use Rattle.office_files.specs.Headers.{Heading, header_in}
+use Rattle.office_files.specs.Sections.{section_in, AtHeader}
 use Rattle.office_files.specs.declared.fault.FaultKind.{FaultKind}
 use Rattle.office_files.specs.declared.fault.FileFault.{FileFault}
 use Rattle.office_files.proofs.LineLemmas.{size_head, size_line}

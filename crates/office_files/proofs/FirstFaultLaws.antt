@@ -11,14 +11,16 @@ use Rattle.exam_model.specs.Timetable.{Placing}
 use Rattle.exam_terms.specs.declared.place.Place.{Place}
 use Rattle.office_files.specs.ExamLines.{ExamLine, exam_line}
 use Rattle.office_files.specs.Fields.{fields_of}
-use Rattle.office_files.specs.FirstFault.{fault_of, first_from, at_start, first_fault}
+use Rattle.office_files.specs.Reading.{fault_of}
+use Rattle.office_files.specs.LineFaults.{at_start}
+use Rattle.office_files.specs.FirstFault.{first_from, first_fault}
 use Rattle.office_files.specs.FirstFault.{first_place_fault, first_solution_fault}
-use Rattle.office_files.specs.InstanceText.{exams_heading, periods_heading, rooms_heading}
-use Rattle.office_files.specs.InstanceText.{period_rules_heading, room_rules_heading}
-use Rattle.office_files.specs.InstanceText.{weightings_heading, session_of, enrolled_of, no_more}
-use Rattle.office_files.specs.InstanceText.{later_sections, instance_in}
-use Rattle.office_files.specs.Items.{period_line, room_line, period_rule_line, room_rule_line}
-use Rattle.office_files.specs.Items.{place_line}
+use Rattle.office_files.specs.Spelled.{exams_heading, periods_heading, rooms_heading}
+use Rattle.office_files.specs.Spelled.{period_rules_heading, room_rules_heading}
+use Rattle.office_files.specs.Spelled.{weightings_heading, session_of, enrolled_of}
+use Rattle.office_files.specs.InstanceText.{no_more, later_sections, instance_in}
+use Rattle.office_files.specs.ItemLines.{period_line, room_line, period_rule_line, room_rule_line}
+use Rattle.office_files.specs.ItemLines.{place_line}
 use Rattle.office_files.specs.Lines.{Located, is_header, lines_of, line_count}
 use Rattle.office_files.specs.Reading.{at_line, items_of, Gives}
 use Rattle.office_files.specs.Sections.{section_in, AtHeader}

@@ -13,11 +13,15 @@ use Rattle.exam_model.specs.declared.parts.Room.{Room}
 use Rattle.exam_model.specs.declared.rules.PeriodRule.{PeriodRule}
 use Rattle.exam_model.specs.declared.rules.RoomRule.{RoomRule}
 use Rattle.office_files.specs.ExamLines.{ExamLine, exam_line, exam_of}
-use Rattle.office_files.specs.InstanceText.{exams_heading, periods_heading, rooms_heading, period_rules_heading, room_rules_heading, weightings_heading, counts_of, Spelled, session_of, enrolled_of, InstanceText, no_more, later_sections, instance_in}
-use Rattle.office_files.specs.Items.{period_line, room_line, period_rule_line, room_rule_line}
+use Rattle.office_files.specs.Spelled.{exams_heading, periods_heading, rooms_heading}
+use Rattle.office_files.specs.Spelled.{period_rules_heading, room_rules_heading, weightings_heading}
+use Rattle.office_files.specs.Spelled.{counts_of, Spelled, session_of, enrolled_of}
+use Rattle.office_files.specs.InstanceText.{InstanceText, no_more, later_sections, instance_in}
+use Rattle.office_files.specs.ItemLines.{period_line, room_line, period_rule_line, room_rule_line}
 use Rattle.office_files.specs.Lines.{Located, lines_of, line_count}
 use Rattle.office_files.specs.Reading.{at_line}
-use Rattle.office_files.specs.Sections.{Heading, section_in, IsSection}
+use Rattle.office_files.specs.Headers.{Heading}
+use Rattle.office_files.specs.Sections.{section_in, IsSection}
 use Rattle.office_files.specs.Weightings.{weighting_line}
 use Rattle.office_files.specs.declared.weightings.Weighting.{Weighting}
 use Rattle.office_files.specs.declared.fault.FaultKind.{FaultKind}
@@ -156,13 +160,26 @@ read_is_text b I E e =
       enrolled = both.1;
     }
 
+-- the sections that are read in a text that is short enough are its reading
+pub sections_are_read : (b : List ℕ) (exams : List ExamLine) (behind : List Located)
+    (said : Spelled) → length b ≤ 4194304 →
+    section_in exams_heading exam_line (line_count b + 1) (lines_of b) ≡ Ok (exams, behind) →
+    later_sections (line_count b + 1) exams behind ≡ Ok said →
+    instance_in b ≡ Ok (session_of said, enrolled_of said)
+sections_are_read b exams behind said within first later =
+    let short = nat_le (length b) 4194304 in
+    let end = line_count b + 1 in
+    let passed = ok_unless short TooLong (le-leb (length b) 4194304 within) in
+    let read : Session × Enrolled = (session_of said, enrolled_of said) in
+    ok_bind (at_line 0 (unless short TooLong)) _ tt read (ok_at_line 0 _ tt passed)
+    (ok_bind (section_in exams_heading exam_line end (lines_of b)) _ (exams, behind) read first
+    (ok_bind (later_sections end exams behind) _ said read later refl))
+
 -- and what is spelled is read
 pub text_is_read : (b : List ℕ) (I : Session) (E : Enrolled) → InstanceText b I E →
     instance_in b ≡ Ok (I, E)
 text_is_read b I E t =
-    let short = nat_le (length b) 4194304 in
     let end = line_count b + 1 in
-    let passed = ok_unless short TooLong (le-leb (length b) 4194304 t.within) in
     let exams = is_section _ _ end (lines_of b) t.said.exams t.behind_exams t.exams in
     let later = are_later end t.behind_exams t.said (record {
       behind_periods = t.behind_periods;
@@ -175,11 +192,8 @@ text_is_read b I E t =
       room_rules = t.room_rules;
       weightings = t.weightings;
     }) in
-    ok_bind (at_line 0 (unless short TooLong)) _ tt (I, E) (ok_at_line 0 _ tt passed)
-    (ok_bind (section_in exams_heading exam_line end (lines_of b)) _
-    (t.said.exams, t.behind_exams) (I, E) exams
-    (ok_bind (later_sections end t.said.exams t.behind_exams) _ t.said (I, E) later
-    (rw (t.session, t.enrolled) refl)))
+    rw (t.session, t.enrolled)
+    (sections_are_read b t.said.exams t.behind_exams t.said t.within exams later)
 
 -- a text spells one session and one set of enrolments
 pub one_reading : (b : List ℕ) (I J : Session) (E F : Enrolled) →

@@ -17,11 +17,15 @@ use Rattle.exam_model.specs.declared.parts.Weights.{Weights}
 use Rattle.exam_model.specs.declared.rules.PeriodRule.{PeriodRule}
 use Rattle.exam_model.specs.declared.rules.RoomRule.{RoomRule}
 use Rattle.office_files.specs.Dates.{or_fault, digits_of, date_if_any, date_of, time_of}
-use Rattle.office_files.specs.ExamLines.{ExamLine, exam_line, exam_of, students_in, pairs_on}
+use Rattle.office_files.specs.ExamStudents.{students_in}
+use Rattle.office_files.specs.ExamLines.{ExamLine, exam_line, exam_of, pairs_on}
 use Rattle.office_files.specs.Fields.{first, rest, ended, split_once}
-use Rattle.office_files.specs.Items.{period_in, room_in, rule_word, rule_by, period_rule_line, room_rule_line, place_line}
+use Rattle.office_files.specs.Items.{period_in, room_in, rule_word, rule_by}
+use Rattle.office_files.specs.ItemLines.{period_rule_line, room_rule_line, place_line}
 use Rattle.office_files.specs.Numbers.{number}
-use Rattle.office_files.specs.Weightings.{weight_word, has_word, amount_in, front_in, weighting_by, weighting_line, with_weighting, with_weightings, no_weights}
+use Rattle.office_files.specs.Weightings.{weight_word, has_word, amount_in, front_in, weighting_by}
+use Rattle.office_files.specs.Weightings.{weighting_line}
+use Rattle.office_files.specs.Weights.{with_weighting, with_weightings, no_weights}
 use Rattle.office_files.specs.declared.counts.Counts.{Counts}
 use Rattle.office_files.specs.declared.rule_word.RuleWord.{RuleWord}
 use Rattle.office_files.specs.declared.rule_word.RuleWord.TheVariants as rule

@@ -5,11 +5,13 @@ use Rattle.exam_model.specs.declared.parts.Room.{Room}
 use Rattle.exam_model.specs.declared.rules.PeriodRule.{PeriodRule}
 use Rattle.exam_model.specs.declared.rules.RoomRule.{RoomRule}
 use Rattle.office_files.specs.ExamLines.{ExamLine}
-use Rattle.office_files.specs.Items.{period_line, room_line, period_rule_line, room_rule_line}
+use Rattle.office_files.specs.ItemLines.{period_line, room_line, period_rule_line, room_rule_line}
 use Rattle.office_files.specs.Lines.{Located}
 use Rattle.office_files.specs.Sections.{section_in}
 use Rattle.office_files.specs.Weightings.{weighting_line}
-use Rattle.office_files.specs.InstanceText.{periods_heading, rooms_heading, period_rules_heading, room_rules_heading, weightings_heading, later_sections, no_more}
+use Rattle.office_files.specs.Spelled.{periods_heading, rooms_heading, period_rules_heading}
+use Rattle.office_files.specs.Spelled.{room_rules_heading, weightings_heading}
+use Rattle.office_files.specs.InstanceText.{later_sections, no_more}
 use Rattle.office_files.specs.declared.counts.Counts.{Counts}
 use Rattle.office_files.specs.declared.weightings.Weighting.{Weighting}
 use Rattle.office_files.specs.declared.fault.FileFault.{FileFault}

@@ -7,14 +7,16 @@ use Rattle.std.proofs.lemmas.List.Sums.{sum_by-cons, sum_by_more}
 use Rattle.std.proofs.lemmas.Option.{get_or_from_slice_get, slice_get-get_or, slice_get-map}
 use Rattle.exam_terms.specs.Refusing.{unless}
 use Rattle.exam_model.specs.Changes.{with_student}
-use Rattle.exam_model.specs.Enrolments.{AreEnrolments, AreNumbers, Enrolled, IsAscending, has_student, pair_count, students}
+use Rattle.exam_model.specs.Enrolments.{AreEnrolments, AreNumbers, Enrolled, IsAscending, has_number, pair_count, students}
 use Rattle.exam_model.specs.Fits.{Suits}
 use Rattle.exam_model.specs.Instance.{IsInstance, Session}
 use Rattle.exam_model.specs.Timetable.{Placing}
 use Rattle.exam_model.proofs.StudentLemmas.{ascending-none, ascending-with, has-with}
-use Rattle.office_files.specs.ExamLines.{ExamLine, exam_line, exam_of, pairs_on, students_in}
+use Rattle.office_files.specs.ExamStudents.{students_in}
+use Rattle.office_files.specs.ExamLines.{ExamLine, exam_line, exam_of, pairs_on}
 use Rattle.office_files.specs.Fields.{fields_of, first, rest}
-use Rattle.office_files.specs.InstanceText.{InstanceText, exams_heading}
+use Rattle.office_files.specs.Spelled.{exams_heading}
+use Rattle.office_files.specs.InstanceText.{InstanceText}
 use Rattle.office_files.specs.Lines.{Located, lines_of}
 use Rattle.office_files.specs.Numbers.{number}
 use Rattle.office_files.specs.Reading.{Spell, at_line}
@@ -38,7 +40,7 @@ record AreSitters (pairs : ℕ) (xs : List ℕ) : Type 0 where
 numbers_with : (s : ℕ) (xs : List ℕ) → s ≤ 999999999 → AreNumbers xs
     → AreNumbers (with_student s xs)
 numbers_with s xs small known t there =
-    elim (s == t) as (λ b. (s == t) ≡ b → (b || has_student xs t) ≡ true → t ≤ 999999999) [
+    elim (s == t) as (λ b. (s == t) ≡ b → (b || has_number xs t) ≡ true → t ≤ 999999999) [
       | true ↦ λ same any. let is = eqb-true s t same in omega arith
       | false ↦ λ other here. known t here
     ] refl (sym (has-with s xs t) ∙ there)
@@ -53,7 +55,7 @@ sitters_read pairs seen [] out were is =
     subst (AreSitters pairs) same were
 sitters_read pairs seen (f ∷ fs) out were is =
     let one = bind_ok (number 999999999 f) _ out is in
-    let room = has_student seen one.0 || nat_lt (pairs + length seen) 200000 in
+    let room = has_number seen one.0 || nat_lt (pairs + length seen) 200000 in
     let two = bind_ok (unless room OutOfRange) _ out one.2 in
     sitters_read pairs (with_student one.0 seen) fs out (record {
       ascending = ascending-with one.0 seen were.ascending;

@@ -5,10 +5,11 @@ use Rattle.std.proofs.lemmas.List.{get_or_append_left, length-map}
 use Rattle.std.proofs.lemmas.Option.{get_or_from_slice_get, slice_get-get_or, slice_get-map}
 use Rattle.exam_terms.specs.Refusing.{unless}
 use Rattle.exam_model.specs.Changes.{with_student}
-use Rattle.exam_model.specs.Enrolments.{Enrolled, has, has_student}
+use Rattle.exam_model.specs.Enrolments.{Enrolled, has, has_number}
 use Rattle.exam_model.specs.Instance.{Session}
 use Rattle.exam_model.proofs.StudentLemmas.{has-with}
-use Rattle.office_files.specs.ExamLines.{ExamLine, exam_line, exam_of, pairs_on, students_in}
+use Rattle.office_files.specs.ExamStudents.{students_in}
+use Rattle.office_files.specs.ExamLines.{ExamLine, exam_line, exam_of, pairs_on}
 use Rattle.office_files.specs.Names.{named_as, name_student}
 use Rattle.office_files.specs.Fields.{fields_of, first, rest}
 use Rattle.office_files.specs.InstanceText.{InstanceText}
@@ -29,25 +30,25 @@ or_moved false b r = refl
 -- the students of a line are those seen before, and those whom its fields name
 named : (pairs : ℕ) (seen : List ℕ) (fields : List (List ℕ)) (out : List ℕ)
     → students_in pairs seen fields ≡ Ok out
-    → (t : ℕ) → has_student out t ≡ (has_student seen t || name_student fields t)
+    → (t : ℕ) → has_number out t ≡ (has_number seen t || name_student fields t)
 named pairs seen [] out is t =
     let same : seen ≡ out = cc in
-    ap (λ xs. has_student xs t) (sym same) ∙ or-false (has_student seen t)
+    ap (λ xs. has_number xs t) (sym same) ∙ or-false (has_number seen t)
 named pairs seen (f ∷ fs) out is t =
     let one = bind_ok (number 999999999 f) _ out is in
-    let two = bind_ok (unless (has_student seen one.0 || nat_lt (pairs + length seen) 200000) OutOfRange) _ out one.2 in
+    let two = bind_ok (unless (has_number seen one.0 || nat_lt (pairs + length seen) 200000) OutOfRange) _ out one.2 in
     named pairs (with_student one.0 seen) fs out two.2 t
     ∙ ap (λ b. b || name_student fs t) (has-with one.0 seen t)
-    ∙ or_moved (one.0 == t) (has_student seen t) (name_student fs t)
-    ∙ ap (λ r. has_student seen t || (named_as r t || name_student fs t)) (sym one.1)
+    ∙ or_moved (one.0 == t) (has_number seen t) (name_student fs t)
+    ∙ ap (λ r. has_number seen t || (named_as r t || name_student fs t)) (sym one.1)
 
 line_named : (before : List ExamLine) (fields : List (List ℕ)) (item : ExamLine) (t : ℕ)
-    → exam_line before fields ≡ Ok item → has_student item.students t ≡ name_student (rest fields) t
+    → exam_line before fields ≡ Ok item → has_number item.students t ≡ name_student (rest fields) t
 line_named before fields item t is =
     let minutes = bind_ok (number 1440 (first fields)) _ item is in
     let students = bind_ok (students_in (pairs_on before) [] (rest fields)) _ item minutes.2 in
     let made : ◌≡◌ {A = ExamLine} (record { minutes = minutes.0; students = students.0 }) item = cc in
-    ap (λ (x : ExamLine). has_student x.students t) (sym made)
+    ap (λ (x : ExamLine). has_number x.students t) (sym made)
     ∙ named (pairs_on before) [] (rest fields) students.0 students.1 t
 
 -- a line behind the first is one of the others
@@ -78,5 +79,5 @@ sits_as_named b I E s e line t lt at =
     = ap (λ (xs : Enrolled). slice_index_or xs e []) t.enrolled
     ∙ get_or_from_slice_get (map (λ (x : ExamLine). x.students) items) e item.students []
     (slice_get-map (λ (x : ExamLine). x.students) items e ∙ ap (λ o. option_map (λ (x : ExamLine). x.students) o) here) in
-    ap (λ (xs : List ℕ). has_student xs s) listed
+    ap (λ (xs : List ℕ). has_number xs s) listed
     ∙ line_named (take e items) (fields_of line.text) item s read

@@ -11,7 +11,7 @@ use Rattle.exam_terms.specs.Refusing.{unless}
 use Rattle.exam_model.specs.Timetable.{Placing}
 use Rattle.office_files.specs.ExamLines.{ExamLine, exam_of}
 use Rattle.office_files.specs.InstanceText.{InstanceText, instance_in}
-use Rattle.office_files.specs.Items.{place_line}
+use Rattle.office_files.specs.ItemLines.{place_line}
 use Rattle.office_files.specs.Lines.{lines_of, line_count}
 use Rattle.office_files.specs.Reading.{Gives, at_line, items_of}
 use Rattle.office_files.specs.SolutionText.{SolutionText, solution_in, timetable_in}

@@ -11,7 +11,8 @@ use Rattle.office_files.specs.Fields.{split_once}
 use Rattle.office_files.specs.Lines.{Located, is_header, section_size}
 use Rattle.office_files.specs.Numbers.{number}
 use Rattle.office_files.specs.Reading.{at_line, items_of}
-use Rattle.office_files.specs.Sections.{Heading, header_in, counted_header, inside_of, section_in, AtHeader, IsSection}
+use Rattle.office_files.specs.Headers.{Heading, header_in, counted_header, inside_of}
+use Rattle.office_files.specs.Sections.{section_in, AtHeader, IsSection}
 use Rattle.office_files.specs.declared.fault.FaultKind.{FaultKind}
 use Rattle.office_files.specs.declared.fault.FaultKind.TheVariants.{MissingSection, OutOfRange, CountMismatch}
 use Rattle.office_files.proofs.LineLemmas.{size_head, size_line}

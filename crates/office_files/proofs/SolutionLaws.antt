@@ -6,7 +6,7 @@ use Rattle.exam_terms.specs.Refusing.{unless}
 use Rattle.exam_model.specs.Instance.{Session}
 use Rattle.exam_model.specs.Timetable.{Placing}
 use Rattle.exam_terms.specs.declared.place.Place.{Place}
-use Rattle.office_files.specs.Items.{place_line}
+use Rattle.office_files.specs.ItemLines.{place_line}
 use Rattle.office_files.specs.Lines.{Located, lines_of, line_count}
 use Rattle.office_files.specs.Reading.{at_line, items_of}
 use Rattle.office_files.specs.SolutionText.{counts_in, SolutionText, solution_in}

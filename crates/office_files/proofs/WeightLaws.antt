@@ -11,13 +11,16 @@ use Rattle.exam_model.specs.Enrolments.{Enrolled}
 use Rattle.exam_model.specs.Instance.{Session}
 use Rattle.exam_model.specs.declared.parts.Weights.{Weights}
 use Rattle.office_files.specs.Fields.{fields_of, first, rest}
-use Rattle.office_files.specs.InstanceText.{InstanceText, counts_of}
+use Rattle.office_files.specs.Spelled.{counts_of}
+use Rattle.office_files.specs.InstanceText.{InstanceText}
 use Rattle.office_files.specs.Lines.{Located, is_header, lines_of}
 use Rattle.office_files.specs.Numbers.{number}
 use Rattle.office_files.specs.Reading.{at_line, items_of}
 use Rattle.office_files.specs.SaidWeights.{last_section, field_behind, begins_with, number_behind, Says, Weighs}
-use Rattle.office_files.specs.Sections.{Heading, AtHeader, IsSection}
-use Rattle.office_files.specs.Weightings.{weight_word, has_word, weighting_by, weighting_line, with_weighting, with_weightings, no_weights}
+use Rattle.office_files.specs.Headers.{Heading}
+use Rattle.office_files.specs.Sections.{AtHeader, IsSection}
+use Rattle.office_files.specs.Weightings.{weight_word, has_word, weighting_by, weighting_line}
+use Rattle.office_files.specs.Weights.{with_weighting, with_weightings, no_weights}
 use Rattle.office_files.specs.declared.counts.Counts.{Counts}
 use Rattle.office_files.specs.declared.fault.FaultKind.{FaultKind}
 use Rattle.office_files.specs.declared.weightings.Weighting.{Weighting}

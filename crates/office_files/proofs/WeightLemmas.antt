@@ -9,7 +9,9 @@ use Rattle.exam_model.specs.declared.parts.Weights.{Weights}
 use Rattle.office_files.specs.Fields.{first, rest, ended}
 use Rattle.office_files.specs.Numbers.{number}
 use Rattle.office_files.specs.SaidWeights.{field_behind}
-use Rattle.office_files.specs.Weightings.{weight_word, has_word, amount_in, front_in, weighting_by, weighting_line, with_weighting, with_weightings}
+use Rattle.office_files.specs.Weightings.{weight_word, has_word, amount_in, front_in, weighting_by}
+use Rattle.office_files.specs.Weightings.{weighting_line}
+use Rattle.office_files.specs.Weights.{with_weighting, with_weightings}
 use Rattle.office_files.specs.declared.counts.Counts.{Counts}
 use Rattle.office_files.specs.declared.fault.FaultKind.{FaultKind}
 use Rattle.office_files.specs.declared.fault.FaultKind.TheVariants.{BadWord, Repeated}

@@ -1,75 +1,20 @@
 -- What an instance file spells, and how it is read (ITC 2007, input format).
-use Rattle.std.specs.Prelude.{◌≡◌, ℕ, ◌+◌, ◌≤◌, nat_le, List, [], ◌∷◌, map, length, codes, None, Some, Result, Ok, Err}
-use Rattle.exam_terms.specs.declared.limits.TheConstants.{INSTANCE_BYTES, MAX_EXAMS, MAX_PERIODS, MAX_ROOMS}
+use Rattle.std.specs.Prelude.{◌≡◌, ℕ, ◌+◌, ◌≤◌, nat_le, List, [], ◌∷◌, length, Result, Ok, Err}
+use Rattle.exam_terms.specs.declared.limits.TheConstants.{INSTANCE_BYTES}
 use Rattle.exam_terms.specs.Refusing.{◌>>=◌, unless}
 use Rattle.exam_model.specs.Enrolments.{Enrolled}
 use Rattle.exam_model.specs.Instance.{Session}
-use Rattle.exam_model.specs.declared.parts.Period.{Period}
-use Rattle.exam_model.specs.declared.parts.Room.{Room}
-use Rattle.exam_model.specs.declared.rules.PeriodRule.{PeriodRule}
-use Rattle.exam_model.specs.declared.rules.RoomRule.{RoomRule}
-use Rattle.office_files.specs.ExamLines.{ExamLine, exam_line, exam_of}
-use Rattle.office_files.specs.Items.{period_line, room_line, period_rule_line, room_rule_line}
+use Rattle.office_files.specs.ExamLines.{ExamLine, exam_line}
+use Rattle.office_files.specs.ItemLines.{period_line, room_line, period_rule_line, room_rule_line}
 use Rattle.office_files.specs.Lines.{Located, lines_of, line_count}
 use Rattle.office_files.specs.Reading.{at_line}
-use Rattle.office_files.specs.Sections.{Heading, IsSection, section_in}
-use Rattle.office_files.specs.Weightings.{weighting_line, with_weightings, no_weights}
-use Rattle.office_files.specs.declared.counts.Counts.{Counts}
-use Rattle.office_files.specs.declared.weightings.Weighting.{Weighting}
+use Rattle.office_files.specs.Sections.{IsSection, section_in}
+use Rattle.office_files.specs.Weightings.{weighting_line}
+use Rattle.office_files.specs.Spelled.{exams_heading, periods_heading, rooms_heading}
+use Rattle.office_files.specs.Spelled.{period_rules_heading, room_rules_heading, weightings_heading}
+use Rattle.office_files.specs.Spelled.{counts_of, Spelled, session_of, enrolled_of}
 use Rattle.office_files.specs.declared.fault.FaultKind.TheVariants.{TooLong, StrayText}
 use Rattle.office_files.specs.declared.fault.FileFault.{FileFault}
-
--- how the section of the exams begins: its word, then how many lines it has
-abbrev pub exams_heading : Heading
-exams_heading = record { word = codes "Exams"; limit = Some MAX_EXAMS }
-
--- how that of the periods begins
-abbrev pub periods_heading : Heading
-periods_heading = record { word = codes "Periods"; limit = Some MAX_PERIODS }
-
--- how that of the rooms begins
-abbrev pub rooms_heading : Heading
-rooms_heading = record { word = codes "Rooms"; limit = Some MAX_ROOMS }
-
--- how that of the rules on periods begins: its word alone
-abbrev pub period_rules_heading : Heading
-period_rules_heading = record { word = codes "PeriodHardConstraints"; limit = None }
-
--- how that of the rules on rooms begins
-abbrev pub room_rules_heading : Heading
-room_rules_heading = record { word = codes "RoomHardConstraints"; limit = None }
-
--- how that of the weightings begins
-abbrev pub weightings_heading : Heading
-weightings_heading = record { word = codes "InstitutionalWeightings"; limit = None }
-
--- what the lines of the later sections are judged by: the number of exams
-abbrev pub counts_of : List ExamLine → Counts
-counts_of exams = record { exams = length exams; periods = 0; rooms = 0 }
-
--- the six sections of a file, one behind the other
-pub record Spelled : Type 0 where
-  pub exams : List ExamLine
-  pub periods : List Period
-  pub rooms : List Room
-  pub period_rules : List PeriodRule
-  pub room_rules : List RoomRule
-  pub weightings : List Weighting
-
--- the session that the sections spell
-abbrev pub session_of : Spelled → Session
-session_of s = record {
-  exams = map exam_of s.exams;
-  periods = s.periods;
-  rooms = s.rooms;
-  period_rules = s.period_rules;
-  room_rules = s.room_rules;
-  weights = with_weightings no_weights s.weightings;
-}
-
--- the enrolments that they spell
-abbrev pub enrolled_of : Spelled → Enrolled
-enrolled_of s = map (λ line. line.students) s.exams
 
 -- a text that is short enough spells a session and enrolments: its lines are the six sections in
 -- their order, and nothing behind them
@@ -82,11 +27,16 @@ pub record InstanceText (b : List ℕ) (I : Session) (E : Enrolled) : Type 0 whe
   pub behind_period_rules : List Located
   pub behind_room_rules : List Located
   pub exams : IsSection exams_heading exam_line (lines_of b) said.exams behind_exams
-  pub periods : IsSection periods_heading (period_line (counts_of said.exams)) behind_exams said.periods behind_periods
-  pub rooms : IsSection rooms_heading (room_line (counts_of said.exams)) behind_periods said.rooms behind_rooms
-  pub period_rules : IsSection period_rules_heading (period_rule_line (counts_of said.exams)) behind_rooms said.period_rules behind_period_rules
-  pub room_rules : IsSection room_rules_heading (room_rule_line (counts_of said.exams)) behind_period_rules said.room_rules behind_room_rules
-  pub weightings : IsSection weightings_heading (weighting_line (counts_of said.exams)) behind_room_rules said.weightings []
+  pub periods : IsSection periods_heading (period_line (counts_of said.exams))
+      behind_exams said.periods behind_periods
+  pub rooms : IsSection rooms_heading (room_line (counts_of said.exams))
+      behind_periods said.rooms behind_rooms
+  pub period_rules : IsSection period_rules_heading (period_rule_line (counts_of said.exams))
+      behind_rooms said.period_rules behind_period_rules
+  pub room_rules : IsSection room_rules_heading (room_rule_line (counts_of said.exams))
+      behind_period_rules said.room_rules behind_room_rules
+  pub weightings : IsSection weightings_heading (weighting_line (counts_of said.exams))
+      behind_room_rules said.weightings []
   pub session : I ≡ session_of said
   pub enrolled : E ≡ enrolled_of said
 

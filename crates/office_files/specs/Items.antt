@@ -1,7 +1,7 @@
--- What the lines of the sections say (ITC 2007, input format), and those of a solution.
-use Rattle.std.specs.Prelude.{ℕ, ◌-◌, nat_lt, if◌then◌else◌, List, length, codes, Result, Ok, Err}
+-- What the fields of a line say (ITC 2007, input format), and those of a line of a solution.
+use Rattle.std.specs.Prelude.{ℕ, ◌-◌, if◌then◌else◌, List, codes, Result, Ok, Err}
 use Rattle.std.specs.Str.{str_eq_ignore_ascii_case}
-use Rattle.exam_terms.specs.declared.limits.TheConstants.{MAX_AMOUNT, MAX_MINUTES, MAX_RULES}
+use Rattle.exam_terms.specs.declared.limits.TheConstants.{MAX_AMOUNT, MAX_MINUTES}
 use Rattle.exam_terms.specs.Refusing.{◌>>=◌, unless}
 use Rattle.exam_model.specs.declared.parts.Period.{Period}
 use Rattle.exam_terms.specs.declared.place.Place.{Place}
@@ -16,7 +16,7 @@ use Rattle.office_files.specs.declared.rule_word.RuleWord.{RuleWord}
 use Rattle.office_files.specs.declared.rule_word.RuleWord.TheVariants as word
 use Rattle.office_files.specs.declared.counts.Counts.{Counts}
 use Rattle.office_files.specs.declared.fault.FaultKind.{FaultKind}
-use Rattle.office_files.specs.declared.fault.FaultKind.TheVariants.{BadWord, OutOfRange, CountMismatch}
+use Rattle.office_files.specs.declared.fault.FaultKind.TheVariants.{BadWord}
 
 -- date, time, length, penalty
 abbrev pub period_in : List (List ℕ) → Result Period FaultKind
@@ -74,29 +74,3 @@ place_in counts fields = do
   room ← number (counts.rooms - 1) (first (rest fields))
   _ ← ended (rest (rest fields))
   Ok (record { period = period; room = room })
-
--- a line of the section of periods
-abbrev pub period_line : Counts → List Period → List (List ℕ) → Result Period FaultKind
-period_line counts before fields = period_in fields
-
--- a line of the section of rooms
-abbrev pub room_line : Counts → List Room → List (List ℕ) → Result Room FaultKind
-room_line counts before fields = room_in fields
-
--- a line of the rules on periods, of which there are at most so many
-abbrev pub period_rule_line : Counts → List PeriodRule → List (List ℕ) → Result PeriodRule FaultKind
-period_rule_line counts before fields = do
-  _ ← unless (nat_lt (length before) MAX_RULES) OutOfRange
-  period_rule_in counts.exams fields
-
--- a line of the rules on rooms, of which there are at most as many
-abbrev pub room_rule_line : Counts → List RoomRule → List (List ℕ) → Result RoomRule FaultKind
-room_rule_line counts before fields = do
-  _ ← unless (nat_lt (length before) MAX_RULES) OutOfRange
-  room_rule_in counts.exams fields
-
--- a line of a solution: the place of the next exam, where there is one
-abbrev pub place_line : Counts → List Place → List (List ℕ) → Result Place FaultKind
-place_line counts before fields = do
-  _ ← unless (nat_lt (length before) counts.exams) CountMismatch
-  place_in counts fields

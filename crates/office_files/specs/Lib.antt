@@ -1,4 +1,5 @@
 pub mod Faults
+pub mod Inputs
 pub mod Fields
 pub mod Numbers
 pub mod Digits
@@ -7,12 +8,20 @@ pub mod Lines
 pub mod Tokens
 pub mod Reading
 pub mod Items
+pub mod ItemLines
 pub mod Weightings
+pub mod Weights
+pub mod ExamStudents
 pub mod ExamLines
 pub mod Names
+pub mod Headers
 pub mod Sections
+pub mod Spelled
 pub mod InstanceText
 pub mod SaidWeights
 pub mod SolutionText
+pub mod LineFaults
 pub mod FirstFault
+pub mod CanonicalLines
 pub mod CanonicalText
+pub mod CanonicalSolution

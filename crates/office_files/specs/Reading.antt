@@ -1,5 +1,6 @@
--- How lines are read one after another: each by its own fields and the items of the lines before it.
-use Rattle.std.specs.Prelude.{◌≡◌, ◌≢◌, ℕ, List, [], ◌∷◌, ◌++◌, length, take, slice_get, Some, Result, Ok, Err}
+-- How lines are read one after another: each by its fields and the items of the lines before it.
+use Rattle.std.specs.Prelude.{◌≡◌, ◌≢◌, ℕ, List, [], ◌∷◌, ◌++◌, length, take, slice_get, Some}
+use Rattle.std.specs.Prelude.{Result, Ok, Err, Option, None}
 use Rattle.exam_terms.specs.Refusing.{◌>>=◌}
 use Rattle.office_files.specs.Fields.{fields_of}
 use Rattle.office_files.specs.Lines.{Located}
@@ -13,17 +14,20 @@ at_line line (Ok x) = Ok x
 at_line line (Err what) = Err (record { line = line; what = what })
 
 -- the items of lines behind those before them, or the fault of the first faulty line
-abbrev pub items_of : {A : Type 0} → (List A → List (List ℕ) → Result A FaultKind) → List A → List Located → Result (List A) FileFault
+abbrev pub items_of : {A : Type 0} → (List A → List (List ℕ) → Result A FaultKind) → List A
+    → List Located → Result (List A) FileFault
 items_of read before [] = Ok before
 items_of read before (line ∷ lines) =
     at_line line.line (read before (fields_of line.text)) >>= λ item.
     items_of read (before ++ item ∷ []) lines
 
--- there are as many items as lines, and each line spells its item behind those of the lines before it
-pub record Spell {A : Type 0} (read : List A → List (List ℕ) → Result A FaultKind) (lines : List Located) (items : List A) : Type 0 where
+-- there are as many items as lines, and each line spells its item behind those of the lines
+-- before it
+pub record Spell {A : Type 0} (read : List A → List (List ℕ) → Result A FaultKind)
+    (lines : List Located) (items : List A) : Type 0 where
   pub as_many : length items ≡ length lines
-  pub each : (i : ℕ) (line : Located) (item : A) → slice_get lines i ≡ Some line → slice_get items i ≡ Some item
-      → read (take i items) (fields_of line.text) ≡ Ok item
+  pub each : (i : ℕ) (line : Located) (item : A) → slice_get lines i ≡ Some line
+      → slice_get items i ≡ Some item → read (take i items) (fields_of line.text) ≡ Ok item
 
 -- a call answered what the reading gives
 abbrev pub Reads : {X Y : Type 0} → (X → Y) → Result X FaultKind → Result Y FaultKind → Type 0
@@ -34,3 +38,19 @@ Reads view (Err what) reading = reading ≡ Err what
 abbrev pub Gives : {X Y : Type 0} → (X → Y) → Result X FileFault → Result Y FileFault → Type 0
 Gives view (Ok x) reading = reading ≡ Ok (view x)
 Gives view (Err fault) reading = fault.what ≢ NoMemory → reading ≡ Err fault
+
+-- the fault of a reading, if it has one
+abbrev pub fault_of : {A F : Type 0} → Result A F → Option F
+fault_of (Ok x) = None
+fault_of (Err what) = Some what
+
+-- the fault of a line behind these items, where the lines before it have no fault
+abbrev pub fault_by : {A : Type 0} → (List A → List (List ℕ) → Result A FaultKind)
+    → Result (List A) FileFault → Located → Option FaultKind
+fault_by read (Ok items) line = fault_of (read items (fields_of line.text))
+fault_by read (Err fault) line = None
+
+-- the fault of a line by the lines before it in its section
+abbrev pub fault_behind : {A : Type 0} → (List A → List (List ℕ) → Result A FaultKind)
+    → List Located → Located → Option FaultKind
+fault_behind read before line = fault_by read (items_of read [] before) line

@@ -1,10 +1,10 @@
 -- What the lines of the last section weigh (ITC 2007, institutional weightings).
-use Rattle.std.specs.Prelude.{ℕ, Bool, true, false, not, if◌then◌else◌, List, [], ◌∷◌, codes, Result, Ok, Err}
+use Rattle.std.specs.Prelude.{ℕ, Bool, true, false, not, if◌then◌else◌, List, codes, Result, Ok}
+use Rattle.std.specs.Prelude.{Err}
 use Rattle.std.specs.List.{list_any}
 use Rattle.std.specs.Str.{str_eq_ignore_ascii_case}
 use Rattle.exam_terms.specs.declared.limits.TheConstants.{MAX_AMOUNT}
 use Rattle.exam_terms.specs.Refusing.{◌>>=◌, unless}
-use Rattle.exam_model.specs.declared.parts.Weights.{Weights}
 use Rattle.office_files.specs.Fields.{first, rest, ended}
 use Rattle.office_files.specs.Numbers.{number}
 use Rattle.office_files.specs.declared.counts.Counts.{Counts}
@@ -64,20 +64,3 @@ weighting_line counts before fields = do
   word ← weight_word (first fields)
   _ ← unless (not (list_any (has_word word) before)) Repeated
   weighting_by word (rest fields)
-
--- the weights with what one line says
-abbrev pub with_weighting : Weights → Weighting → Weights
-with_weighting w (said.Row n) = record w { row = n }
-with_weighting w (said.Day n) = record w { day = n }
-with_weighting w (said.Spread n) = record w { spread = n }
-with_weighting w (said.Mixed n) = record w { mixed = n }
-with_weighting w (said.Front n k v) = record w { front_exams = n; front_periods = k; front = v }
-
--- the weights with what all lines say
-abbrev pub with_weightings : Weights → List Weighting → Weights
-with_weightings w [] = w
-with_weightings w (s ∷ ss) = with_weightings (with_weighting w s) ss
-
--- what is not weighed counts as zero
-abbrev pub no_weights : Weights
-no_weights = record { row = 0; day = 0; spread = 0; mixed = 0; front_exams = 0; front_periods = 0; front = 0 }

@@ -8,7 +8,7 @@ use crate::words::split_once;
 use exam_calendar::Date;
 
 /// The day that a field says, if the calendar has it.
-pub fn date_of(text: &[u8]) -> Result<Date, FaultKind>
+pub(crate) fn date_of(text: &[u8]) -> Result<Date, FaultKind>
     ensures { result ≡ date_of text.now }
 {
     let (day, others) = split_once(text, b':').ok_or(FaultKind::BadDate)?;
@@ -20,7 +20,7 @@ pub fn date_of(text: &[u8]) -> Result<Date, FaultKind>
 }
 
 /// The time of day that a field says: hours, minutes, seconds.
-pub fn time_of(text: &[u8]) -> Result<(u8, u8, u8), FaultKind>
+pub(crate) fn time_of(text: &[u8]) -> Result<(u8, u8, u8), FaultKind>
     ensures { result ≡ time_of text.now }
 {
     let (hour, others) = split_once(text, b':').ok_or(FaultKind::BadTime)?;

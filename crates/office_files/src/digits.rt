@@ -11,7 +11,7 @@ const ZERO: u32 = 48;
 
 /// The line without the space at its start, where there is one.
 #[inline]
-pub fn behind_space(line: &[u8]) -> &[u8]
+pub(crate) fn behind_space(line: &[u8]) -> &[u8]
     ensures { result.now ≡ without_space line.now }
 {
     match line.split_first() {
@@ -20,40 +20,10 @@ pub fn behind_space(line: &[u8]) -> &[u8]
     }
 }
 
-// The number that the digits at the front say, and how many they are.
-#[inline(always)]
-fn digits(text: &[u8]) -> (u32, usize)
-    requires { length text.now ≤ 9 }
-    ensures front { Says text.now result.0 result.1 }
-    ensures whole { NoDigitAt text.now result.1 }
-{
-    let mut value: u32 = 0;
-    for (i, byte) in text.iter().enumerate() {
-        let digit = u32::from(*byte) ^ ZERO; // any other byte is above 9 then
-        if digit > 9 {
-            return (value, i);
-        }
-        value = 10 * value + digit;
-    }
-    (value, text.len())
-}
-
-// The same of a line, of which no more than nine bytes are looked at.
-#[inline(always)]
-fn front_digits(line: &[u8]) -> (u32, usize)
-    ensures { IsFront line.now result.0 result.1 }
-{
-    if line.len() > MOST_DIGITS {
-        digits(&line[..MOST_DIGITS])
-    } else {
-        digits(line)
-    }
-}
-
 /// The number that a line says up to its first comma, or to its end, and what is left behind that,
 /// where these are one to nine digits alone.
 #[inline(always)]
-pub fn first_digits(line: &[u8]) -> Option<(u32, &[u8])>
+pub(crate) fn first_digits(line: &[u8]) -> Option<(u32, &[u8])>
     ensures value { option_map (λ read. read.0) result
         ≡ few_digits (first (ended_parts 44 line.now)) }
     ensures behind { IfSome result (λ read.
@@ -71,4 +41,35 @@ pub fn first_digits(line: &[u8]) -> Option<(u32, &[u8])>
         return None;
     }
     Some((value, behind))
+}
+
+// The number that the digits at the front of a line say, and how many they are: of the line no
+// more than nine bytes are looked at.
+#[inline(always)]
+fn front_digits(line: &[u8]) -> (u32, usize)
+    ensures { IsFront line.now result.0 result.1 }
+{
+    if line.len() > MOST_DIGITS {
+        digits(&line[..MOST_DIGITS])
+    } else {
+        digits(line)
+    }
+}
+
+// The same of a text of nine bytes at most.
+#[inline(always)]
+fn digits(text: &[u8]) -> (u32, usize)
+    requires { length text.now ≤ 9 }
+    ensures front { Says text.now result.0 result.1 }
+    ensures whole { NoDigitAt text.now result.1 }
+{
+    let mut value: u32 = 0;
+    for (i, byte) in text.iter().enumerate() {
+        let digit = u32::from(*byte) ^ ZERO; // any other byte is above 9 then
+        if digit > 9 {
+            return (value, i);
+        }
+        value = 10 * value + digit;
+    }
+    (value, text.len())
 }

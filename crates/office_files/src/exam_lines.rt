@@ -8,8 +8,9 @@ ghost use Rattle.office_files.specs.Fields.{fields_of, first, rest};
 ghost use Rattle.office_files.specs.Numbers.{number};
 ghost use Rattle.office_files.specs.Reading.{items_of};
 ghost use Rattle.office_files.specs.ExamLines.{exam_line, exam_behind, SaysExams};
-ghost use Rattle.office_files.specs.ExamLines.{IsEmptyExam, EntersLine, with_students};
-ghost use Rattle.office_files.specs.ExamLines.{named_in, fault_in};
+ghost use Rattle.office_files.specs.ExamStudents.{with_students};
+ghost use Rattle.office_files.specs.ExamLines.{IsEmptyExam, EntersLine};
+ghost use Rattle.office_files.specs.ExamStudents.{named_in, fault_in};
 
 use crate::fault::{FaultKind, FileFault};
 use crate::fields::Fields;
@@ -18,16 +19,6 @@ use exam_model::{Enrolments, Exam, ExamNo, ModelFault, StudentNo};
 use exam_terms::limits::{MAX_MINUTES, MAX_STUDENT};
 use std::alloc::{AllocError, Global};
 
-// The student whom the next field names.
-#[inline]
-fn next_student(fields: &mut Fields<'_>) -> Result<StudentNo, FaultKind>
-    ensures student { result ≡ number MAX_STUDENT (first fields.old) }
-    ensures left { fields.new ≡ rest fields.old }
-{
-    let value = fields.next_number(MAX_STUDENT)?;
-    StudentNo::new(value).ok_or(FaultKind::OutOfRange)
-}
-
 // What the fields of students told beside their names.
 #[derive(Clone, Copy)]
 struct Gathered {
@@ -35,53 +26,36 @@ struct Gathered {
     fault: Option<FaultKind>,
 }
 
-// Lists the students of the fields up to the first fault.
-fn gather(mut fields: Fields<'_>, named: &mut Vec<StudentNo>) -> Result<Gathered, AllocError>
-    ensures names { OnOk result (named.new.items ≡ named_in fields.entry) }
-    ensures fault { IfOk result (λ told. told.fault ≡ fault_in fields.entry) }
-    ensures ascending { IfOk result (λ told. told.ascending ≡ true → IsAscending named.new.items) }
+/// The exams of the next lines, of which there are so many, and who sits them.
+pub(crate) fn exam_lines(
+    alloc: Global,
+    lines: &mut Lines<'_>,
+    count: u32,
+) -> Result<(Vec<Exam>, Enrolments), FileFault>
+    requires some { 1 ≤ count }
+    requires most { count ≤ MAX_EXAMS }
+    requires there { count ≤ length lines.old }
+    ensures found { IfOk result (λ read. SaysExams (take count lines.old) read.0.items read.1) }
+    ensures fault { IfErr result (λ fault. fault.what ≢ FaultKind.NoMemory
+        → items_of exam_line [] (take count lines.old) ≡ Err fault) }
+    ensures memory { IfErr result IsOfNoLine }
+    ensures left { OnOk result (lines.new ≡ drop count lines.old) }
 {
-    named.clear();
-    let mut ascending = true;
-    let mut least: u32 = 0;
-    'fields: while !fields.is_empty() {
-        match next_student(&mut fields) {
-            Ok(student) => {
-                ascending = ascending && least <= student.get();
-                least = student.get() + 1;
-                named.push(student)?;
-            }
-            Err(what) => {
-                let fault = Some(what);
-                return Ok(Gathered { ascending, fault });
-            }
+    let Ok(mut enrolments) = Enrolments::new(alloc, count) else {
+        return Err(FileFault::NO_MEMORY);
+    };
+    let mut exams: Vec<Exam> = Vec::new(alloc);
+    let mut named: Vec<StudentNo> = Vec::new(alloc);
+    'lines: for exam in 0..count {
+        let Some(row) = lines.next() else {
+            unreachable!();
+        };
+        match exam_line(row.text, ExamNo::new(exam), &mut enrolments, &mut named) {
+            Ok(exam) => exams.push(exam)?,
+            Err(what) => return Err(FileFault::at(row.line, what)),
         }
     }
-    let fault = None;
-    Ok(Gathered { ascending, fault })
-}
-
-// Brings the students into ascending order, each once; where they have it, nothing is moved.
-fn put_in_order(named: &mut Vec<StudentNo>, ascending: bool)
-    requires { ascending ≡ true → IsAscending named.old.items }
-    ensures all { named.new.items ≡ with_students named.old.items [] }
-    ensures ascending { IsAscending named.new.items }
-{
-    if !ascending {
-        named.sort_unstable();
-        named.dedup();
-    }
-}
-
-// What is wrong with a line whose students are refused.
-fn kind_of(fault: ModelFault) -> FaultKind
-    ensures memory { fault ≡ ModelFault.NoMemory → result ≡ FaultKind.NoMemory }
-    ensures range { fault ≢ ModelFault.NoMemory → result ≡ FaultKind.OutOfRange }
-{
-    match fault {
-        ModelFault::NoMemory => FaultKind::NoMemory,
-        _ => FaultKind::OutOfRange,
-    }
+    Ok((exams, enrolments))
 }
 
 // What a line says, behind the pairs that are there.
@@ -113,34 +87,61 @@ fn exam_line(
     }
 }
 
-/// The exams of the next lines, of which there are so many, and who sits them.
-pub fn exam_lines(
-    alloc: Global,
-    lines: &mut Lines<'_>,
-    count: u32,
-) -> Result<(Vec<Exam>, Enrolments), FileFault>
-    requires some { 1 ≤ count }
-    requires most { count ≤ MAX_EXAMS }
-    requires there { count ≤ length lines.old }
-    ensures found { IfOk result (λ read. SaysExams (take count lines.old) read.0.items read.1) }
-    ensures fault { IfErr result (λ fault. fault.what ≢ FaultKind.NoMemory
-        → items_of exam_line [] (take count lines.old) ≡ Err fault) }
-    ensures memory { IfErr result IsOfNoLine }
-    ensures left { OnOk result (lines.new ≡ drop count lines.old) }
+// Lists the students of the fields up to the first fault.
+fn gather(mut fields: Fields<'_>, named: &mut Vec<StudentNo>) -> Result<Gathered, AllocError>
+    ensures names { OnOk result (named.new.items ≡ named_in fields.entry) }
+    ensures fault { IfOk result (λ told. told.fault ≡ fault_in fields.entry) }
+    ensures ascending { IfOk result (λ told. told.ascending ≡ true → IsAscending named.new.items) }
 {
-    let Ok(mut enrolments) = Enrolments::new(alloc, count) else {
-        return Err(FileFault::NO_MEMORY);
-    };
-    let mut exams: Vec<Exam> = Vec::new(alloc);
-    let mut named: Vec<StudentNo> = Vec::new(alloc);
-    'lines: for exam in 0..count {
-        let Some(row) = lines.next() else {
-            unreachable!();
-        };
-        match exam_line(row.text, ExamNo::new(exam), &mut enrolments, &mut named) {
-            Ok(exam) => exams.push(exam)?,
-            Err(what) => return Err(FileFault::at(row.line, what)),
+    named.clear();
+    let mut ascending = true;
+    let mut least: u32 = 0;
+    'fields: while !fields.is_empty() {
+        match next_student(&mut fields) {
+            Ok(student) => {
+                ascending = ascending && least <= student.get();
+                least = student.get() + 1;
+                named.push(student)?;
+            }
+            Err(what) => {
+                let fault = Some(what);
+                return Ok(Gathered { ascending, fault });
+            }
         }
     }
-    Ok((exams, enrolments))
+    let fault = None;
+    Ok(Gathered { ascending, fault })
+}
+
+// The student whom the next field names.
+#[inline]
+fn next_student(fields: &mut Fields<'_>) -> Result<StudentNo, FaultKind>
+    ensures student { result ≡ number MAX_STUDENT (first fields.old) }
+    ensures left { fields.new ≡ rest fields.old }
+{
+    let value = fields.next_number(MAX_STUDENT)?;
+    StudentNo::new(value).ok_or(FaultKind::OutOfRange)
+}
+
+// Brings the students into ascending order, each once; where they have it, nothing is moved.
+fn put_in_order(named: &mut Vec<StudentNo>, ascending: bool)
+    requires { ascending ≡ true → IsAscending named.old.items }
+    ensures all { named.new.items ≡ with_students named.old.items [] }
+    ensures ascending { IsAscending named.new.items }
+{
+    if !ascending {
+        named.sort_unstable();
+        named.dedup();
+    }
+}
+
+// What is wrong with a line whose students are refused.
+fn kind_of(fault: ModelFault) -> FaultKind
+    ensures memory { fault ≡ ModelFault.NoMemory → result ≡ FaultKind.NoMemory }
+    ensures range { fault ≢ ModelFault.NoMemory → result ≡ FaultKind.OutOfRange }
+{
+    match fault {
+        ModelFault::NoMemory => FaultKind::NoMemory,
+        _ => FaultKind::OutOfRange,
+    }
 }

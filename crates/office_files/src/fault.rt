@@ -53,6 +53,12 @@ impl FileFault {
         what: FaultKind::NoMemory,
     };
 
+    /// The file has more bytes than are read.
+    pub const TOO_LONG: FileFault = FileFault {
+        line: 0,
+        what: FaultKind::TooLong,
+    };
+
     /// The fault of a line; out of memory is no line's.
     pub fn at(line: u32, what: FaultKind) -> FileFault
         ensures kind { result.what ≡ what }

@@ -11,7 +11,7 @@ use std::marker::Model;
 
 /// The bytes before the first mark, and those behind it; without a mark the text is the first part.
 #[tactic(auto, using(crate::proofs::FieldLemmas::part_facts))]
-pub fn cut(text: &[u8], mark: u8) -> (&[u8], &[u8])
+pub(crate) fn cut(text: &[u8], mark: u8) -> (&[u8], &[u8])
     requires { 0 < length text.now }
     ensures parts { ended_parts mark text.now ≡ result.0.now ∷ ended_parts mark result.1.now }
     ensures shorter { length result.1.now < length text.now }
@@ -100,7 +100,7 @@ fn other_number(line: &[u8], limit: u32) -> (Result<u32, FaultKind>, &[u8])
 
 /// Refuses the fields that are left, where there are any.
 #[inline]
-pub fn ended(fields: Fields<'_>) -> Result<(), FaultKind>
+pub(crate) fn ended(fields: Fields<'_>) -> Result<(), FaultKind>
     ensures { result ≡ ended fields.entry }
 {
     if fields.is_empty() {

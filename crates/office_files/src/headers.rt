@@ -2,20 +2,37 @@
 ghost use Rattle.std.specs.Prelude.{◌≡◌, ◌<◌, ℕ, length};
 ghost use Rattle.office_files.specs.Lines.{is_header};
 ghost use Rattle.office_files.specs.Reading.{Reads};
-ghost use Rattle.office_files.specs.Sections.{inside_of, closed, plain_header, counted_header, header_by};
+ghost use Rattle.office_files.specs.Headers.{inside_of, closed, plain_header, counted_header};
+ghost use Rattle.office_files.specs.Headers.{header_by};
 
 use crate::fault::FaultKind;
 use crate::numbers::number;
 use crate::words::{same_word, split_once};
 use exam_terms::trimmed;
 
-fn is_header(text: &[u8]) -> bool
-    ensures { result ≡ is_header text.now }
+/// Judges a header: its word and, where the section has a limit, the number of its lines.
+pub(crate) fn header(
+    word: &[u8],
+    limit: Option<u32>,
+    lines: usize,
+    text: &[u8],
+) -> Result<(), FaultKind>
+    ensures { result ≡ header_by word.now limit lines text.now }
 {
-    match text.first() {
-        Some(first) => *first == b'[',
-        None => false,
+    match limit {
+        None => plain_header(word, text),
+        Some(limit) => counted_header(word, limit, lines, text),
     }
+}
+
+fn plain_header(word: &[u8], text: &[u8]) -> Result<(), FaultKind>
+    ensures { result ≡ plain_header word.now text.now }
+{
+    let (inside, behind) = inside_of(text)?;
+    if !same_word(trimmed(inside), word) {
+        return Err(FaultKind::MissingSection);
+    }
+    closed(behind)
 }
 
 // What stands between a header's brackets, and what behind them.
@@ -31,6 +48,15 @@ fn inside_of(text: &[u8]) -> Result<(&[u8], &[u8]), FaultKind>
     }
 }
 
+fn is_header(text: &[u8]) -> bool
+    ensures { result ≡ is_header text.now }
+{
+    match text.first() {
+        Some(first) => *first == b'[',
+        None => false,
+    }
+}
+
 fn closed(behind: &[u8]) -> Result<(), FaultKind>
     ensures { result ≡ closed behind.now }
 {
@@ -39,16 +65,6 @@ fn closed(behind: &[u8]) -> Result<(), FaultKind>
     } else {
         Err(FaultKind::StrayText)
     }
-}
-
-fn plain_header(word: &[u8], text: &[u8]) -> Result<(), FaultKind>
-    ensures { result ≡ plain_header word.now text.now }
-{
-    let (inside, behind) = inside_of(text)?;
-    if !same_word(trimmed(inside), word) {
-        return Err(FaultKind::MissingSection);
-    }
-    closed(behind)
 }
 
 fn counted_header(word: &[u8], limit: u32, lines: usize, text: &[u8]) -> Result<(), FaultKind>
@@ -67,14 +83,4 @@ fn counted_header(word: &[u8], limit: u32, lines: usize, text: &[u8]) -> Result<
         return Err(FaultKind::CountMismatch);
     }
     closed(behind)
-}
-
-/// Judges a header: its word and, where the section has a limit, the number of its lines.
-pub fn header(word: &[u8], limit: Option<u32>, lines: usize, text: &[u8]) -> Result<(), FaultKind>
-    ensures { result ≡ header_by word.now limit lines text.now }
-{
-    match limit {
-        None => plain_header(word, text),
-        Some(limit) => counted_header(word, limit, lines, text),
-    }
 }

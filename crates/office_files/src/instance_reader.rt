@@ -9,15 +9,16 @@ ghost use Rattle.office_files.specs.FirstFault.{first_fault};
 ghost use Rattle.office_files.specs.Lines.{line_count};
 ghost use Rattle.office_files.specs.Reading.{Gives};
 ghost use Rattle.office_files.specs.Sections.{section_in};
-ghost use Rattle.office_files.specs.Weightings.{with_weightings, no_weights};
-ghost use Rattle.office_files.specs.InstanceText.{exams_heading, later_sections, instance_in, InstanceText};
+ghost use Rattle.office_files.specs.Weights.{with_weightings, no_weights};
+ghost use Rattle.office_files.specs.Spelled.{exams_heading};
+ghost use Rattle.office_files.specs.InstanceText.{later_sections, instance_in, InstanceText};
 
 use crate::counts::Counts;
 use crate::exam_lines::exam_lines;
 use crate::fault::{FaultKind, FileFault};
 use crate::sections::Sections;
 use crate::weightings::{Weighting, weights_of};
-use exam_model::{Enrolments, Exam, Instance, ModelFault, Period, PeriodRule, Room, RoomRule};
+use exam_model::{Enrolments, Exam, Instance, Period, PeriodRule, Room, RoomRule};
 use exam_terms::limits::{INSTANCE_BYTES, MAX_EXAMS, MAX_PERIODS, MAX_ROOMS};
 use std::alloc::Global;
 
@@ -29,6 +30,46 @@ struct Said {
     period_rules: Vec<PeriodRule>,
     room_rules: Vec<RoomRule>,
     weightings: Vec<Weighting>,
+}
+
+/// The instance and the enrolments that a file spells (ITC 2007, input format). A fault is that of
+/// the first faulty line, and in it that of the first faulty field; `TooLong` (above 4,194,304
+/// bytes) and `NoMemory` have line 0.
+pub fn read_instance(alloc: Global, source: &[u8]) -> Result<(Instance, Enrolments), FileFault>
+    // What is answered is spelled so.
+    ensures reading { IfOk result (λ read. InstanceText source.now read.0 read.1) }
+    // What is refused, but for out of memory, spells nothing, and no text spells two instances.
+    ensures only { IfErr result (λ fault. fault.what ≢ FaultKind.NoMemory
+        → (I : Session) (E : Enrolled) → InstanceText source.now I E → ⊥) }
+    ensures one { IfOk result (λ read. (I : Session) (E : Enrolled) → InstanceText source.now I E
+        → (I ≡ read.0) × (E ≡ read.1)) }
+    ensures fits { IfOk result (λ read. length read.1 ≡ length read.0.exams) }
+
+    // A fault is the first one of the text, and a text that is read has none.
+    ensures first { IfErr result (λ fault. fault.what ≢ FaultKind.NoMemory
+        → first_fault source.now ≡ Some fault) }
+    ensures faultless { IfOk result (λ _. first_fault source.now ≡ None) }
+
+    // The answer is that of the reading of the text from the top, faults included.
+    ensures exact { Gives (λ read. (read.0, read.1)) result (instance_in source.now) }
+    ensures memory { IfErr result IsOfNoLine }
+{
+    if source.len() > INSTANCE_BYTES {
+        return Err(FileFault::TOO_LONG);
+    }
+    instance_in(alloc, source)
+}
+
+// The instance of a file that is not too long.
+fn instance_in(alloc: Global, source: &[u8]) -> Result<(Instance, Enrolments), FileFault>
+    requires within { length source.now ≤ INSTANCE_BYTES }
+    ensures exact { Gives (λ r. (r.0, r.1)) result (instance_in source.now) }
+    ensures memory { IfErr result IsOfNoLine }
+{
+    let mut sections = Sections::new(source);
+    let (exams, enrolments) = exams_section(alloc, &mut sections)?;
+    let said = later_sections(alloc, &mut sections, exams.len() as u32)?;
+    Ok((instance_of(exams, said), enrolments))
 }
 
 // The section of exams.
@@ -64,8 +105,8 @@ fn later_sections(alloc: Global, sections: &mut Sections<'_>, exams: u32) -> Res
           room_rules = said.room_rules.items;
           weightings = said.weightings.items;
         })) }
-    ensures fault { (exam_lines : List ExamLine) → length exam_lines ≡ exams → IfErr result (λ fault.
-        fault.what ≢ FaultKind.NoMemory
+    ensures fault { (exam_lines : List ExamLine) → length exam_lines ≡ exams
+        → IfErr result (λ fault. fault.what ≢ FaultKind.NoMemory
         → later_sections (line_count sections.old.source.now + 1) exam_lines sections.old.lines
         ≡ Err fault) }
     ensures memory { IfErr result IsOfNoLine }
@@ -100,82 +141,32 @@ fn later_sections(alloc: Global, sections: &mut Sections<'_>, exams: u32) -> Res
     })
 }
 
-// The instance of what was read.
-fn instance_of(alloc: Global, exams: &[Exam], said: &Said) -> Result<Instance, FileFault>
+// The instance of what was read, whose limits were judged line by line.
+fn instance_of(exams: Vec<Exam>, said: Said) -> Instance
     requires kept { IsInstance (record {
-      exams = exams.now;
-      periods = said.now.periods.items;
-      rooms = said.now.rooms.items;
-      period_rules = said.now.period_rules.items;
-      room_rules = said.now.room_rules.items;
-      weights = with_weightings no_weights said.now.weightings.items;
+      exams = exams.items;
+      periods = said.periods.items;
+      rooms = said.rooms.items;
+      period_rules = said.period_rules.items;
+      room_rules = said.room_rules.items;
+      weights = with_weightings no_weights said.weightings.items;
     }) }
-    ensures made { IfOk result (λ made. made ≡ record {
-      exams = exams.now;
-      periods = said.now.periods.items;
-      rooms = said.now.rooms.items;
-      period_rules = said.now.period_rules.items;
-      room_rules = said.now.room_rules.items;
-      weights = with_weightings no_weights said.now.weightings.items;
-    }) }
-    ensures memory { IfErr result (λ fault. (fault.what ≡ FaultKind.NoMemory) × (fault.line ≡ 0)) }
+    ensures made { result ≡ record {
+      exams = exams.items;
+      periods = said.periods.items;
+      rooms = said.rooms.items;
+      period_rules = said.period_rules.items;
+      room_rules = said.room_rules.items;
+      weights = with_weightings no_weights said.weightings.items;
+    } }
 {
-    let weights = weights_of(&said.weightings);
-    match Instance::new(
-        alloc,
-        exams,
-        &said.periods,
-        &said.rooms,
-        &said.period_rules,
-        &said.room_rules,
-        weights,
-    ) {
-        Ok(instance) => Ok(instance),
-        Err(ModelFault::NoMemory) => Err(FileFault::NO_MEMORY),
-        Err(_) => unreachable!(),
-    }
-}
-
-// The instance of a file that is not too long.
-fn instance_in(alloc: Global, source: &[u8]) -> Result<(Instance, Enrolments), FileFault>
-    requires within { length source.now ≤ INSTANCE_BYTES }
-    ensures exact { Gives (λ r. (r.0, r.1)) result (instance_in source.now) }
-    ensures memory { IfErr result IsOfNoLine }
-{
-    let mut sections = Sections::new(source);
-    let (exams, enrolments) = exams_section(alloc, &mut sections)?;
-    let said = later_sections(alloc, &mut sections, exams.len() as u32)?;
-    let instance = instance_of(alloc, &exams, &said)?;
-    Ok((instance, enrolments))
-}
-
-/// The instance and the enrolments that a file spells (ITC 2007, input format). A fault is that of
-/// the first faulty line, and in it that of the first faulty field; `TooLong` (above 4,194,304
-/// bytes) and `NoMemory` have line 0.
-pub fn read_instance(alloc: Global, source: &[u8]) -> Result<(Instance, Enrolments), FileFault>
-    // What is answered is spelled so.
-    ensures reading { IfOk result (λ read. InstanceText source.now read.0 read.1) }
-    // What is refused, but for out of memory, spells nothing, and no text spells two instances.
-    ensures only { IfErr result (λ fault. fault.what ≢ FaultKind.NoMemory
-        → (I : Session) (E : Enrolled) → InstanceText source.now I E → ⊥) }
-    ensures one { IfOk result (λ read. (I : Session) (E : Enrolled) → InstanceText source.now I E
-        → (I ≡ read.0) × (E ≡ read.1)) }
-    ensures fits { IfOk result (λ read. length read.1 ≡ length read.0.exams) }
-
-    // A fault is the first one of the text, and a text that is read has none.
-    ensures first { IfErr result (λ fault. fault.what ≢ FaultKind.NoMemory
-        → first_fault source.now ≡ Some fault) }
-    ensures faultless { IfOk result (λ _. first_fault source.now ≡ None) }
-
-    // The answer is that of the reading of the text from the top, faults included.
-    ensures exact { Gives (λ read. (read.0, read.1)) result (instance_in source.now) }
-    ensures memory { IfErr result IsOfNoLine }
-{
-    if source.len() > INSTANCE_BYTES {
-        return Err(FileFault {
-            line: 0,
-            what: FaultKind::TooLong,
-        });
-    }
-    instance_in(alloc, source)
+    let Said {
+        periods,
+        rooms,
+        period_rules,
+        room_rules,
+        weightings,
+    } = said;
+    let weights = weights_of(&weightings);
+    Instance::of(exams, periods, rooms, period_rules, room_rules, weights)
 }

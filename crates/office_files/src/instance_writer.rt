@@ -1,11 +1,14 @@
 // Writing an instance file.
 ghost use Rattle.std.specs.Prelude.{◌≡◌, ◌++◌, ◌∷◌, ◌<◌, ◌≤◌, ℕ, [], All, Ok, length, IfOk, IfErr, OnOk, string_bytes};
-ghost use Rattle.office_files.specs.CanonicalText.{section_text, exam_text, period_text, room_text};
-ghost use Rattle.office_files.specs.CanonicalText.{period_rule_text, room_rule_text, weighting_text};
+ghost use Rattle.office_files.specs.CanonicalLines.{exam_text, period_text, room_text};
+ghost use Rattle.office_files.specs.CanonicalText.{section_text};
+ghost use Rattle.office_files.specs.CanonicalLines.{period_rule_text, room_rule_text};
+ghost use Rattle.office_files.specs.CanonicalLines.{weighting_text};
 ghost use Rattle.office_files.specs.CanonicalText.{exam_lines_of, weightings_of, canonical_instance};
-ghost use Rattle.office_files.specs.InstanceText.{exams_heading, periods_heading, rooms_heading};
-ghost use Rattle.office_files.specs.InstanceText.{period_rules_heading, room_rules_heading};
-ghost use Rattle.office_files.specs.InstanceText.{weightings_heading, InstanceText, instance_in};
+ghost use Rattle.office_files.specs.Spelled.{exams_heading, periods_heading, rooms_heading};
+ghost use Rattle.office_files.specs.Spelled.{period_rules_heading, room_rules_heading};
+ghost use Rattle.office_files.specs.Spelled.{weightings_heading};
+ghost use Rattle.office_files.specs.InstanceText.{InstanceText, instance_in};
 
 use crate::fault::{FaultKind, FileFault};
 use crate::line_writers::{
@@ -14,6 +17,35 @@ use crate::line_writers::{
 use crate::weightings::Weighting;
 use exam_model::{Enrolments, ExamNo, Instance, PeriodNo, RoomNo};
 use std::alloc::{AllocError, Global};
+
+/// The canonical text of an instance and its enrolments (ITC 2007, input format).
+pub fn write_instance(
+    alloc: Global,
+    instance: &Instance,
+    enrolments: &Enrolments,
+) -> Result<Vec<u8>, FileFault>
+    requires fits { length enrolments.now ≡ length instance.now.exams }
+    ensures text { IfOk result (λ text.
+        text.items ≡ canonical_instance instance.now enrolments.now) }
+    ensures memory { IfErr result (λ fault. (fault.what ≡ FaultKind.NoMemory) × (fault.line ≡ 0)) }
+
+    // What is written reads back as the same.
+    ensures spells { IfOk result (λ text.
+        InstanceText text.items instance.now enrolments.now) }
+    ensures same { IfOk result (λ text.
+        instance_in text.items ≡ Ok (instance.now, enrolments.now)) }
+{
+    let _exams = instance.exams(); // read for what every instance keeps
+    let _pairs = enrolments.pairs(); // and every set of enrolments
+    let mut text = String::new(alloc);
+    add_exams(&mut text, instance, enrolments)?;
+    add_periods(&mut text, instance)?;
+    add_rooms(&mut text, instance)?;
+    add_period_rules(&mut text, instance)?;
+    add_room_rules(&mut text, instance)?;
+    add_weightings(&mut text, instance)?;
+    Ok(text.into_bytes())
+}
 
 fn add_exams(
     text: &mut String,
@@ -95,33 +127,4 @@ fn add_weightings(text: &mut String, instance: &Instance) -> Result<(), AllocErr
     add_weighting(text, Weighting::Mixed(weights.mixed))?;
     add_weighting(text, Weighting::Front(exams, periods, weights.front))?;
     Ok(())
-}
-
-/// The canonical text of an instance and its enrolments (ITC 2007, input format).
-pub fn write_instance(
-    alloc: Global,
-    instance: &Instance,
-    enrolments: &Enrolments,
-) -> Result<Vec<u8>, FileFault>
-    requires fits { length enrolments.now ≡ length instance.now.exams }
-    ensures text { IfOk result (λ text.
-        text.items ≡ canonical_instance instance.now enrolments.now) }
-    ensures memory { IfErr result (λ fault. (fault.what ≡ FaultKind.NoMemory) × (fault.line ≡ 0)) }
-
-    // What is written reads back as the same.
-    ensures spells { IfOk result (λ text.
-        InstanceText text.items instance.now enrolments.now) }
-    ensures same { IfOk result (λ text.
-        instance_in text.items ≡ Ok (instance.now, enrolments.now)) }
-{
-    let _exams = instance.exams(); // read for what every instance keeps
-    let _pairs = enrolments.pairs(); // and every set of enrolments
-    let mut text = String::new(alloc);
-    add_exams(&mut text, instance, enrolments)?;
-    add_periods(&mut text, instance)?;
-    add_rooms(&mut text, instance)?;
-    add_period_rules(&mut text, instance)?;
-    add_room_rules(&mut text, instance)?;
-    add_weightings(&mut text, instance)?;
-    Ok(text.into_bytes())
 }

@@ -22,7 +22,7 @@ pub trait LineItem: Sized {
 }
 
 impl LineItem for Period {
-    ghost use Rattle.office_files.specs.Items.{period_line};
+    ghost use Rattle.office_files.specs.ItemLines.{period_line};
 
     ghost reading = { period_line };
 
@@ -45,7 +45,7 @@ impl LineItem for Period {
 }
 
 impl LineItem for Room {
-    ghost use Rattle.office_files.specs.Items.{room_line};
+    ghost use Rattle.office_files.specs.ItemLines.{room_line};
 
     ghost reading = { room_line };
 
@@ -59,7 +59,7 @@ impl LineItem for Room {
 }
 
 impl LineItem for PeriodRule {
-    ghost use Rattle.office_files.specs.Items.{period_rule_line};
+    ghost use Rattle.office_files.specs.ItemLines.{period_rule_line};
 
     ghost reading = { period_rule_line };
 
@@ -78,7 +78,7 @@ impl LineItem for PeriodRule {
 }
 
 impl LineItem for RoomRule {
-    ghost use Rattle.office_files.specs.Items.{room_rule_line};
+    ghost use Rattle.office_files.specs.ItemLines.{room_rule_line};
 
     ghost reading = { room_rule_line };
 
@@ -97,7 +97,7 @@ impl LineItem for RoomRule {
 }
 
 impl LineItem for Place {
-    ghost use Rattle.office_files.specs.Items.{place_line};
+    ghost use Rattle.office_files.specs.ItemLines.{place_line};
 
     ghost reading = { place_line };
 

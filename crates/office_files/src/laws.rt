@@ -4,11 +4,12 @@ ghost use Rattle.exam_model.specs.Enrolments.{AreEnrolments, Enrolled, has};
 ghost use Rattle.exam_model.specs.Fits.{Suits};
 ghost use Rattle.exam_model.specs.Instance.{IsInstance, Session};
 ghost use Rattle.exam_model.specs.Timetable.{Placing, place_of};
-ghost use Rattle.office_files.specs.CanonicalText.{canonical_instance, canonical_solution};
-ghost use Rattle.office_files.specs.CanonicalText.{SuitsTimetable};
+ghost use Rattle.office_files.specs.CanonicalText.{canonical_instance};
+ghost use Rattle.office_files.specs.CanonicalSolution.{canonical_solution, SuitsTimetable};
 ghost use Rattle.office_files.specs.Names.{name_student};
 ghost use Rattle.office_files.specs.Fields.{fields_of, rest};
-ghost use Rattle.office_files.specs.FirstFault.{fault_of, first_fault, first_solution_fault};
+ghost use Rattle.office_files.specs.Reading.{fault_of};
+ghost use Rattle.office_files.specs.FirstFault.{first_fault, first_solution_fault};
 ghost use Rattle.office_files.specs.InstanceText.{InstanceText, instance_in};
 ghost use Rattle.office_files.specs.Lines.{Located, lines_of};
 ghost use Rattle.office_files.specs.SaidWeights.{Weighs, last_section};
@@ -37,7 +38,8 @@ pub fn weighs_as_said()
 
 /// What a text spells is in its limits: an instance, and enrolments of its exams.
 pub fn spelled_in_limits()
-    ensures session { (b : List ℕ) (I : Session) (E : Enrolled) → InstanceText b I E → IsInstance I }
+    ensures session { (b : List ℕ) (I : Session) (E : Enrolled) → InstanceText b I E
+        → IsInstance I }
     ensures enrolments { (b : List ℕ) (I : Session) (E : Enrolled) → InstanceText b I E
         → AreEnrolments E }
     ensures exams { (b : List ℕ) (I : Session) (E : Enrolled) → InstanceText b I E

@@ -8,6 +8,7 @@ mod exam_lines;
 mod fault;
 mod fields;
 mod headers;
+mod inputs;
 mod instance_reader;
 mod instance_writer;
 mod items;
@@ -24,12 +25,13 @@ mod weightings;
 mod words;
 
 pub use fault::{FaultKind, FileFault};
+pub use inputs::{InputFault, instance_text, solution_text};
 pub use instance_reader::read_instance;
 pub use instance_writer::write_instance;
 pub use laws::{
     canonical_instance_reads_back, canonical_solution_reads_back, instance_readings_agree,
     one_instance, one_timetable, sits_as_named, solution_readings_agree, spelled_in_limits,
-    spelled_timetable_suits,
+    spelled_timetable_suits, weighs_as_said,
 };
 pub use lines::Token;
 pub use numbers::number;

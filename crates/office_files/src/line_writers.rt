@@ -2,15 +2,37 @@
 ghost use Rattle.std.specs.Prelude.{◌≡◌, ◌<◌, ◌≤◌, ◌++◌, ◌∷◌, [], All, IsTrue, OnOk, decimal, string_bytes};
 ghost use Rattle.exam_calendar.specs.Dates.{is_civil};
 ghost use Rattle.exam_model.specs.Limits.{PeriodInLimits};
-ghost use Rattle.office_files.specs.CanonicalText.{line_of, before, two_digits, date_text, time_text};
-ghost use Rattle.office_files.specs.CanonicalText.{exam_text, period_text};
-ghost use Rattle.office_files.specs.CanonicalText.{period_rule_text, room_rule_text, weighed};
-ghost use Rattle.office_files.specs.CanonicalText.{weighting_text};
+ghost use Rattle.office_files.specs.CanonicalLines.{line_of, before, two_digits, date_text};
+ghost use Rattle.office_files.specs.CanonicalLines.{time_text, exam_text, period_text};
+ghost use Rattle.office_files.specs.CanonicalLines.{period_rule_text, room_rule_text, weighed};
+ghost use Rattle.office_files.specs.CanonicalLines.{weighting_text};
 
 use crate::weightings::Weighting;
 use exam_calendar::Date;
 use exam_model::{Exam, ExamNo, Period, PeriodRule, RoomRule, StudentNo};
 use std::alloc::AllocError;
+
+/// Adds a line of two numbers.
+pub(crate) fn add_pair(text: &mut String, one: u32, other: u32) -> Result<(), AllocError>
+    ensures { OnOk result (string_bytes text.new
+        ≡ string_bytes text.old ++ line_of (before (decimal one) (decimal other))) }
+{
+    write!(text, "{one}, {other}\r\n")
+}
+
+/// Adds the line of a period.
+pub(crate) fn add_period(text: &mut String, period: &Period) -> Result<(), AllocError>
+    requires { PeriodInLimits period.now }
+    ensures { OnOk result
+        (string_bytes text.new ≡ string_bytes text.old ++ line_of (period_text period.now)) }
+{
+    add_date(text, period.date)?;
+    text.push_str(", ")?;
+    add_time(text, period)?;
+    text.push_str(", ")?;
+    add_pair(text, period.length, period.penalty)?;
+    Ok(())
+}
 
 #[tactic(auto, using(crate::proofs::CanonicalDigits::digit_facts, exam_calendar::proofs::DateLemmas::date_ranges))]
 fn add_date(text: &mut String, date: Date) -> Result<(), AllocError>
@@ -31,30 +53,12 @@ fn add_time(text: &mut String, period: &Period) -> Result<(), AllocError>
     write!(text, "{hour:02}:{minute:02}:{second:02}")
 }
 
-/// Adds a line of two numbers.
-pub fn add_pair(text: &mut String, one: u32, other: u32) -> Result<(), AllocError>
-    ensures { OnOk result (string_bytes text.new
-        ≡ string_bytes text.old ++ line_of (before (decimal one) (decimal other))) }
-{
-    write!(text, "{one}, {other}\r\n")
-}
-
-/// Adds the line of a period.
-pub fn add_period(text: &mut String, period: &Period) -> Result<(), AllocError>
-    requires { PeriodInLimits period.now }
-    ensures { OnOk result
-        (string_bytes text.new ≡ string_bytes text.old ++ line_of (period_text period.now)) }
-{
-    add_date(text, period.date)?;
-    text.push_str(", ")?;
-    add_time(text, period)?;
-    text.push_str(", ")?;
-    add_pair(text, period.length, period.penalty)?;
-    Ok(())
-}
-
 /// Adds the line of an exam and those who sit it.
-pub fn add_exam(text: &mut String, exam: Exam, students: &[StudentNo]) -> Result<(), AllocError>
+pub(crate) fn add_exam(
+    text: &mut String,
+    exam: Exam,
+    students: &[StudentNo],
+) -> Result<(), AllocError>
     ensures { OnOk result (string_bytes text.new ≡ string_bytes text.old
         ++ line_of (exam_text (record { minutes = exam.minutes; students = students.now }))) }
 {
@@ -67,6 +71,18 @@ pub fn add_exam(text: &mut String, exam: Exam, students: &[StudentNo]) -> Result
     text.push_str("\r\n")
 }
 
+/// Adds the line of a rule on the periods of two exams.
+pub(crate) fn add_period_rule(text: &mut String, rule: PeriodRule) -> Result<(), AllocError>
+    ensures { OnOk result
+        (string_bytes text.new ≡ string_bytes text.old ++ line_of (period_rule_text rule)) }
+{
+    match rule {
+        PeriodRule::After(one, other) => add_rule(text, one, "AFTER", other),
+        PeriodRule::Coincidence(one, other) => add_rule(text, one, "EXAM_COINCIDENCE", other),
+        PeriodRule::Exclusion(one, other) => add_rule(text, one, "EXCLUSION", other),
+    }
+}
+
 // Adds the line of a word between two exams.
 fn add_rule(text: &mut String, one: ExamNo, word: &str, other: ExamNo) -> Result<(), AllocError>
     ensures { OnOk result (string_bytes text.new ≡ string_bytes text.old
@@ -77,16 +93,12 @@ fn add_rule(text: &mut String, one: ExamNo, word: &str, other: ExamNo) -> Result
     write!(text, "{one}, {word}, {other}\r\n")
 }
 
-/// Adds the line of a rule on the periods of two exams.
-pub fn add_period_rule(text: &mut String, rule: PeriodRule) -> Result<(), AllocError>
+/// Adds the line of a rule on the room of an exam.
+pub(crate) fn add_room_rule(text: &mut String, rule: RoomRule) -> Result<(), AllocError>
     ensures { OnOk result
-        (string_bytes text.new ≡ string_bytes text.old ++ line_of (period_rule_text rule)) }
+        (string_bytes text.new ≡ string_bytes text.old ++ line_of (room_rule_text rule)) }
 {
-    match rule {
-        PeriodRule::After(one, other) => add_rule(text, one, "AFTER", other),
-        PeriodRule::Coincidence(one, other) => add_rule(text, one, "EXAM_COINCIDENCE", other),
-        PeriodRule::Exclusion(one, other) => add_rule(text, one, "EXCLUSION", other),
-    }
+    add_word(text, rule.0, "ROOM_EXCLUSIVE")
 }
 
 // Adds the line of a word behind an exam.
@@ -98,24 +110,8 @@ fn add_word(text: &mut String, exam: ExamNo, word: &str) -> Result<(), AllocErro
     write!(text, "{exam}, {word}\r\n")
 }
 
-/// Adds the line of a rule on the room of an exam.
-pub fn add_room_rule(text: &mut String, rule: RoomRule) -> Result<(), AllocError>
-    ensures { OnOk result
-        (string_bytes text.new ≡ string_bytes text.old ++ line_of (room_rule_text rule)) }
-{
-    add_word(text, rule.0, "ROOM_EXCLUSIVE")
-}
-
-// Adds the line of a word and its number.
-fn add_weighed(text: &mut String, word: &str, number: u32) -> Result<(), AllocError>
-    ensures { OnOk result
-        (string_bytes text.new ≡ string_bytes text.old ++ line_of (weighed word.now number)) }
-{
-    write!(text, "{word},{number}\r\n")
-}
-
 /// Adds the line of a weighting.
-pub fn add_weighting(text: &mut String, said: Weighting) -> Result<(), AllocError>
+pub(crate) fn add_weighting(text: &mut String, said: Weighting) -> Result<(), AllocError>
     ensures { OnOk result
         (string_bytes text.new ≡ string_bytes text.old ++ line_of (weighting_text said)) }
 {
@@ -128,4 +124,12 @@ pub fn add_weighting(text: &mut String, said: Weighting) -> Result<(), AllocErro
             write!(text, "FRONTLOAD,{exams},{periods},{weight}\r\n")
         }
     }
+}
+
+// Adds the line of a word and its number.
+fn add_weighed(text: &mut String, word: &str, number: u32) -> Result<(), AllocError>
+    ensures { OnOk result
+        (string_bytes text.new ≡ string_bytes text.old ++ line_of (weighed word.now number)) }
+{
+    write!(text, "{word},{number}\r\n")
 }

@@ -24,6 +24,20 @@ pub struct Token<'a> {
     pub text: &'a [u8],
 }
 
+/// How many lines a text has, the blank ones too.
+pub(crate) fn line_count(source: &[u8]) -> u32
+    requires { length source.now ≤ INSTANCE_BYTES }
+    ensures { result ≡ line_count source.now }
+{
+    let mut left = source;
+    let mut lines: u32 = 0;
+    while !left.is_empty() {
+        left = cut_line(left).1;
+        lines += 1;
+    }
+    lines
+}
+
 // A text up to its first line feed, and what is behind that.
 #[inline]
 #[tactic(auto, using(crate::proofs::FieldLemmas::part_facts))]
@@ -41,36 +55,9 @@ fn cut_line(text: &[u8]) -> (&[u8], &[u8])
     }
 }
 
-/// How many lines a text has, the blank ones too.
-pub fn line_count(source: &[u8]) -> u32
-    requires { length source.now ≤ INSTANCE_BYTES }
-    ensures { result ≡ line_count source.now }
-{
-    let mut left = source;
-    let mut lines: u32 = 0;
-    while !left.is_empty() {
-        left = cut_line(left).1;
-        lines += 1;
-    }
-    lines
-}
-
-// One carriage return at the end is dropped.
-#[inline]
-#[tactic(auto, using(crate::proofs::LineLemmas::return_facts))]
-fn without_return(line: &[u8]) -> &[u8]
-    ensures text { result.now ≡ without_return line.now }
-    ensures within { length result.now ≤ length line.now }
-{
-    match line.split_last() {
-        Some((b'\r', others)) => others,
-        _ => line,
-    }
-}
-
 /// A piece of a line, which starts at that place of the text, without the blanks around it.
 #[inline]
-pub fn located(line: u32, start: usize, text: &[u8]) -> Token<'_>
+pub(crate) fn located(line: u32, start: usize, text: &[u8]) -> Token<'_>
     requires { start + length text.now ≤ INSTANCE_BYTES + 1 }
     ensures token { token_of result ≡ located line (record { start = start; text = text.now }) }
     ensures within { result.end ≤ start + length text.now }
@@ -155,5 +142,18 @@ impl<'a> Lines<'a> {
             lines += 1;
         }
         lines
+    }
+}
+
+// One carriage return at the end is dropped.
+#[inline]
+#[tactic(auto, using(crate::proofs::LineLemmas::return_facts))]
+fn without_return(line: &[u8]) -> &[u8]
+    ensures text { result.now ≡ without_return line.now }
+    ensures within { length result.now ≤ length line.now }
+{
+    match line.split_last() {
+        Some((b'\r', others)) => others,
+        _ => line,
     }
 }

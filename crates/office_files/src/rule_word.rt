@@ -30,7 +30,7 @@ pub fn rule_word(text: &[u8]) -> Result<RuleWord, FaultKind>
 }
 
 /// The rule of that word on two exams.
-pub fn rule_by(word: RuleWord, one: u32, other: u32) -> PeriodRule
+pub(crate) fn rule_by(word: RuleWord, one: u32, other: u32) -> PeriodRule
     ensures { result ≡ rule_by word one other }
 {
     let (one, other) = (ExamNo::new(one), ExamNo::new(other));

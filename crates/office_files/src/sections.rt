@@ -4,7 +4,8 @@ ghost use Rattle.exam_terms.specs.declared.limits.TheConstants.{INSTANCE_BYTES};
 ghost use Rattle.office_files.specs.Faults.{IsOfNoLine};
 ghost use Rattle.office_files.specs.Lines.{Located, lines_of, line_count, section_size};
 ghost use Rattle.office_files.specs.Reading.{Gives, items_of};
-ghost use Rattle.office_files.specs.Sections.{Heading, opened, section_in};
+ghost use Rattle.office_files.specs.Headers.{Heading};
+ghost use Rattle.office_files.specs.Sections.{opened, section_in};
 ghost use Rattle.office_files.specs.InstanceText.{no_more};
 ghost use Rattle.office_files.specs.Tokens.{token_of};
 
@@ -15,23 +16,17 @@ use crate::items::LineItem;
 use crate::lines::{Lines, Token, line_count};
 use std::alloc::Global;
 
-/// The items of the next lines, of which there are so many.
-pub fn items<T: LineItem + Drop>(
+/// The items of all lines that are left.
+pub(crate) fn all_items<T: LineItem + Drop>(
     alloc: Global,
-    lines: &mut Lines<'_>,
-    count: usize,
+    mut lines: Lines<'_>,
     counts: Counts,
 ) -> Result<Vec<T>, FileFault>
-    requires there { count ≤ length lines.old }
-    ensures exact { Gives (λ v. v.items) result (items_of (T.reading counts) [] (take count lines.old)) }
-    ensures left { OnOk result (lines.new ≡ drop count lines.old) }
+    ensures exact { Gives (λ v. v.items) result (items_of (T.reading counts) [] lines.entry) }
     ensures memory { IfErr result IsOfNoLine }
 {
     let mut items: Vec<T> = Vec::new(alloc);
-    'lines: for _ in 0..count {
-        let Some(line) = lines.next() else {
-            unreachable!();
-        };
+    'lines: while let Some(line) = lines.next() {
         add_item(&mut items, line, counts)?;
     }
     Ok(items)
@@ -54,22 +49,6 @@ fn add_item<T: LineItem + Drop>(
         Ok(item) => Ok(items.push(item)?),
         Err(what) => Err(FileFault::at(line.line, what)),
     }
-}
-
-/// The items of all lines that are left.
-pub fn all_items<T: LineItem + Drop>(
-    alloc: Global,
-    mut lines: Lines<'_>,
-    counts: Counts,
-) -> Result<Vec<T>, FileFault>
-    ensures exact { Gives (λ v. v.items) result (items_of (T.reading counts) [] lines.entry) }
-    ensures memory { IfErr result IsOfNoLine }
-{
-    let mut items: Vec<T> = Vec::new(alloc);
-    'lines: while let Some(line) = lines.next() {
-        add_item(&mut items, line, counts)?;
-    }
-    Ok(items)
 }
 
 /// The sections of a file that are still to come.
@@ -100,7 +79,8 @@ impl<'a> Sections<'a> {
             (line_count self.old.source.now + 1) self.old.lines ≡ Ok self.new.lines) }
         ensures size { IfOk result (λ size. size ≡ section_size self.new.lines) }
         ensures there { IfOk result (λ size. size ≤ length self.new.lines) }
-        ensures fault { IfErr result (λ fault. fault.what ≢ FaultKind.NoMemory → opened (record { word = word.now; limit = limit })
+        ensures fault { IfErr result (λ fault. fault.what ≢ FaultKind.NoMemory
+            → opened (record { word = word.now; limit = limit })
             (line_count self.old.source.now + 1) self.old.lines ≡ Err fault) }
         ensures same { self.new.source.now ≡ self.old.source.now }
         ensures memory { IfErr result IsOfNoLine }
@@ -153,4 +133,27 @@ impl<'a> Sections<'a> {
             }),
         }
     }
+}
+
+// The items of the next lines, of which there are so many.
+fn items<T: LineItem + Drop>(
+    alloc: Global,
+    lines: &mut Lines<'_>,
+    count: usize,
+    counts: Counts,
+) -> Result<Vec<T>, FileFault>
+    requires there { count ≤ length lines.old }
+    ensures exact { Gives (λ v. v.items) result
+        (items_of (T.reading counts) [] (take count lines.old)) }
+    ensures left { OnOk result (lines.new ≡ drop count lines.old) }
+    ensures memory { IfErr result IsOfNoLine }
+{
+    let mut items: Vec<T> = Vec::new(alloc);
+    'lines: for _ in 0..count {
+        let Some(line) = lines.next() else {
+            unreachable!();
+        };
+        add_item(&mut items, line, counts)?;
+    }
+    Ok(items)
 }

@@ -17,19 +17,51 @@ use exam_model::{ExamNo, Instance, Place, Timetable};
 use exam_terms::limits::TEXT_BYTES;
 use std::alloc::Global;
 
-// The complete timetable of these places.
-#[tactic(auto, using(crate::proofs::SolutionLemmas::all_placed))]
-fn timetable_of(alloc: Global, places: &[Place]) -> Result<Timetable, FileFault>
-    requires some { 1 ≤ length places.now }
-    requires most { length places.now ≤ MAX_EXAMS }
-    ensures made { IfOk result (λ made. made ≡ map Some places.now) }
-    ensures memory { IfErr result (λ fault. (fault.what ≡ FaultKind.NoMemory) × (fault.line ≡ 0)) }
+/// The complete timetable that a file spells for an instance (ITC 2007, output format). A fault is
+/// that of the first faulty line, and in it that of the first faulty field; the end of the file
+/// counts as one line more. `TooLong` (above 1,048,576 bytes) and `NoMemory` have line 0.
+pub fn read_solution(
+    alloc: Global,
+    source: &[u8],
+    instance: &Instance,
+) -> Result<Timetable, FileFault>
+    // What is answered is spelled so.
+    ensures reading { IfOk result (λ read. SolutionText source.now instance.now read) }
+    // What is refused, but for out of memory, spells nothing, and no text spells two timetables.
+    ensures only { IfErr result (λ fault. fault.what ≢ FaultKind.NoMemory
+        → (T : Placing) → SolutionText source.now instance.now T → ⊥) }
+    ensures one { IfOk result (λ read. (T : Placing) → SolutionText source.now instance.now T
+        → T ≡ read) }
+    ensures fits { IfOk result (λ read. length read ≡ length instance.now.exams) }
+    ensures exist { IfOk result (λ read. All (PlaceExists instance.now) read) }
+
+    // A fault is the first one of the text, and a text that is read has none.
+    ensures first { IfErr result (λ fault. fault.what ≢ FaultKind.NoMemory
+        → first_solution_fault instance.now source.now ≡ Some fault) }
+    ensures faultless { IfOk result (λ _. first_solution_fault instance.now source.now ≡ None) }
+
+    // The answer is that of the reading of the text from the top, faults included.
+    ensures exact { Gives (λ read. read) result (solution_in instance.now source.now) }
+    ensures memory { IfErr result IsOfNoLine }
 {
-    let mut timetable = Timetable::new(alloc, places.len() as u32)?;
-    for (exam, place) in places.iter().enumerate() {
-        timetable.set(ExamNo::new(exam as u32), *place);
+    solution_in(alloc, source, instance)
+}
+
+// The timetable of a file for an instance.
+fn solution_in(alloc: Global, source: &[u8], instance: &Instance) -> Result<Timetable, FileFault>
+    ensures exact { Gives (λ read. read) result (solution_in instance.now source.now) }
+    ensures exist { IfOk result (λ read. All (PlaceExists instance.now) read) }
+    ensures memory { IfErr result IsOfNoLine }
+{
+    if source.len() > TEXT_BYTES {
+        return Err(FileFault::TOO_LONG);
     }
-    Ok(timetable)
+    let counts = Counts {
+        exams: instance.exams(),
+        periods: instance.periods(),
+        rooms: instance.rooms(),
+    };
+    timetable_in(alloc, source, counts)
 }
 
 // The timetable of a file that is not too long.
@@ -51,51 +83,17 @@ fn timetable_in(alloc: Global, source: &[u8], counts: Counts) -> Result<Timetabl
     timetable_of(alloc, &places)
 }
 
-// The timetable of a file for an instance.
-fn solution_in(alloc: Global, source: &[u8], instance: &Instance) -> Result<Timetable, FileFault>
-    ensures exact { Gives (λ read. read) result (solution_in instance.now source.now) }
-    ensures exist { IfOk result (λ read. All (PlaceExists instance.now) read) }
-    ensures memory { IfErr result IsOfNoLine }
+// The complete timetable of these places.
+#[tactic(auto, using(crate::proofs::SolutionLemmas::all_placed))]
+fn timetable_of(alloc: Global, places: &[Place]) -> Result<Timetable, FileFault>
+    requires some { 1 ≤ length places.now }
+    requires most { length places.now ≤ MAX_EXAMS }
+    ensures made { IfOk result (λ made. made ≡ map Some places.now) }
+    ensures memory { IfErr result (λ fault. (fault.what ≡ FaultKind.NoMemory) × (fault.line ≡ 0)) }
 {
-    if source.len() > TEXT_BYTES {
-        return Err(FileFault {
-            line: 0,
-            what: FaultKind::TooLong,
-        });
+    let mut timetable = Timetable::new(alloc, places.len() as u32)?;
+    for (exam, place) in places.iter().enumerate() {
+        timetable.set(ExamNo::new(exam as u32), *place);
     }
-    let counts = Counts {
-        exams: instance.exams(),
-        periods: instance.periods(),
-        rooms: instance.rooms(),
-    };
-    timetable_in(alloc, source, counts)
-}
-
-/// The complete timetable that a file spells for an instance (ITC 2007, output format). A fault is
-/// that of the first faulty line, and in it that of the first faulty field; the end of the file
-/// counts as one line more. `TooLong` (above 1,048,576 bytes) and `NoMemory` have line 0.
-pub fn read_solution(
-    alloc: Global,
-    source: &[u8],
-    instance: &Instance,
-) -> Result<Timetable, FileFault>
-    // What is answered is spelled so.
-    ensures reading { IfOk result (λ read. SolutionText source.now instance.now read) }
-    // What is refused, but for out of memory, spells nothing, and no text spells two timetables.
-    ensures only { IfErr result (λ fault. fault.what ≢ FaultKind.NoMemory
-        → (T : Placing) → SolutionText source.now instance.now T → ⊥) }
-    ensures one { IfOk result (λ read. (T : Placing) → SolutionText source.now instance.now T → T ≡ read) }
-    ensures fits { IfOk result (λ read. length read ≡ length instance.now.exams) }
-    ensures exist { IfOk result (λ read. All (PlaceExists instance.now) read) }
-
-    // A fault is the first one of the text, and a text that is read has none.
-    ensures first { IfErr result (λ fault. fault.what ≢ FaultKind.NoMemory
-        → first_solution_fault instance.now source.now ≡ Some fault) }
-    ensures faultless { IfOk result (λ _. first_solution_fault instance.now source.now ≡ None) }
-
-    // The answer is that of the reading of the text from the top, faults included.
-    ensures exact { Gives (λ read. read) result (solution_in instance.now source.now) }
-    ensures memory { IfErr result IsOfNoLine }
-{
-    solution_in(alloc, source, instance)
+    Ok(timetable)
 }

@@ -2,7 +2,8 @@
 ghost use Rattle.std.specs.Prelude.{◌≡◌, ◌≢◌, ◌<◌, ℕ, length, Ok, IfOk, IfErr, IsSome, string_bytes};
 ghost use Rattle.exam_model.specs.Instance.{Session};
 ghost use Rattle.exam_model.specs.Timetable.{place_of};
-ghost use Rattle.office_files.specs.CanonicalText.{canonical_solution, SuitsTimetable, IsIncomplete};
+ghost use Rattle.office_files.specs.CanonicalSolution.{canonical_solution, SuitsTimetable};
+ghost use Rattle.office_files.specs.CanonicalSolution.{IsIncomplete};
 ghost use Rattle.office_files.specs.Faults.{IsOfNoLine};
 ghost use Rattle.office_files.specs.SolutionText.{solution_in, SolutionText};
 
@@ -10,19 +11,6 @@ use crate::fault::{FaultKind, FileFault};
 use crate::line_writers::add_pair;
 use exam_model::{ExamNo, Timetable};
 use std::alloc::{AllocError, Global};
-
-// The text of a timetable, in which an exam without a place has no line.
-fn solution_text(alloc: Global, timetable: &Timetable) -> Result<String, AllocError>
-    ensures { IfOk result (λ text. string_bytes text ≡ canonical_solution timetable.now) }
-{
-    let mut text = String::new(alloc);
-    for exam in 0..timetable.exams() {
-        if let Some(place) = timetable.get(ExamNo::new(exam)) {
-            add_pair(&mut text, place.period.get(), place.room.get())?;
-        }
-    }
-    Ok(text)
-}
 
 /// The canonical text of a complete timetable (ITC 2007, output format), of at most 24,000 bytes.
 /// `Incomplete` has the line of the smallest exam that is not placed, counted from 1, and comes
@@ -55,4 +43,17 @@ pub fn write_solution(alloc: Global, timetable: &Timetable) -> Result<Vec<u8>, F
     }
     let text = solution_text(alloc, timetable)?;
     Ok(text.into_bytes())
+}
+
+// The text of a timetable, in which an exam without a place has no line.
+fn solution_text(alloc: Global, timetable: &Timetable) -> Result<String, AllocError>
+    ensures { IfOk result (λ text. string_bytes text ≡ canonical_solution timetable.now) }
+{
+    let mut text = String::new(alloc);
+    for exam in 0..timetable.exams() {
+        if let Some(place) = timetable.get(ExamNo::new(exam)) {
+            add_pair(&mut text, place.period.get(), place.room.get())?;
+        }
+    }
+    Ok(text)
 }

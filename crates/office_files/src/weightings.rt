@@ -3,7 +3,7 @@ ghost use Rattle.std.specs.Prelude.{◌≡◌, ℕ, List, Result};
 ghost use Rattle.std.specs.List.{list_any};
 ghost use Rattle.office_files.specs.Fields.{fields_of};
 ghost use Rattle.office_files.specs.Weightings.{weight_word, has_word, amount_in, front_in, weighting_by};
-ghost use Rattle.office_files.specs.Weightings.{with_weighting, with_weightings, no_weights};
+ghost use Rattle.office_files.specs.Weights.{with_weighting, with_weightings, no_weights};
 
 use crate::counts::Counts;
 use crate::fault::FaultKind;
@@ -34,6 +34,21 @@ pub enum Weighting {
     Front(u32, u32, u32),
 }
 
+impl LineItem for Weighting {
+    ghost use Rattle.office_files.specs.Weightings.{weighting_line};
+
+    ghost reading = { weighting_line };
+
+    fn read(_counts: Counts, before: &[Weighting], line: &[u8]) -> Result<Weighting, FaultKind> {
+        let mut fields = Fields::new(line);
+        let word = weight_word(fields.next())?;
+        if is_said(word, before) {
+            return Err(FaultKind::Repeated);
+        }
+        weighting_by(word, fields)
+    }
+}
+
 fn weight_word(text: &[u8]) -> Result<WeightWord, FaultKind>
     ensures { result ≡ weight_word text.now }
 {
@@ -52,6 +67,12 @@ fn weight_word(text: &[u8]) -> Result<WeightWord, FaultKind>
     }
 }
 
+fn is_said(word: WeightWord, before: &[Weighting]) -> bool
+    ensures { result ≡ list_any (has_word word) before.now }
+{
+    before.iter().any(|said| has_word(word, said))
+}
+
 fn has_word(word: WeightWord, said: &Weighting) -> bool
     ensures { result ≡ has_word word said.now }
 {
@@ -65,10 +86,17 @@ fn has_word(word: WeightWord, said: &Weighting) -> bool
     )
 }
 
-fn is_said(word: WeightWord, before: &[Weighting]) -> bool
-    ensures { result ≡ list_any (has_word word) before.now }
+// What the numbers behind a word say.
+fn weighting_by(word: WeightWord, fields: Fields<'_>) -> Result<Weighting, FaultKind>
+    ensures { result ≡ weighting_by word fields.entry }
 {
-    before.iter().any(|said| has_word(word, said))
+    match word {
+        WeightWord::Row => Ok(Weighting::Row(amount_in(fields)?)),
+        WeightWord::Day => Ok(Weighting::Day(amount_in(fields)?)),
+        WeightWord::Spread => Ok(Weighting::Spread(amount_in(fields)?)),
+        WeightWord::Mixed => Ok(Weighting::Mixed(amount_in(fields)?)),
+        WeightWord::Front => front_in(fields),
+    }
 }
 
 // The one number behind a word.
@@ -90,32 +118,23 @@ fn front_in(mut fields: Fields<'_>) -> Result<Weighting, FaultKind>
     Ok(Weighting::Front(exams, periods, weight))
 }
 
-// What the numbers behind a word say.
-fn weighting_by(word: WeightWord, fields: Fields<'_>) -> Result<Weighting, FaultKind>
-    ensures { result ≡ weighting_by word fields.entry }
+/// The weights that these lines say; what is not weighed counts as zero.
+pub(crate) fn weights_of(said: &[Weighting]) -> Weights
+    ensures { result ≡ with_weightings no_weights said.now }
 {
-    match word {
-        WeightWord::Row => Ok(Weighting::Row(amount_in(fields)?)),
-        WeightWord::Day => Ok(Weighting::Day(amount_in(fields)?)),
-        WeightWord::Spread => Ok(Weighting::Spread(amount_in(fields)?)),
-        WeightWord::Mixed => Ok(Weighting::Mixed(amount_in(fields)?)),
-        WeightWord::Front => front_in(fields),
+    let mut weights = Weights {
+        row: 0,
+        day: 0,
+        spread: 0,
+        mixed: 0,
+        front_exams: 0,
+        front_periods: 0,
+        front: 0,
+    };
+    for one in said {
+        weights = with_weighting(weights, *one);
     }
-}
-
-impl LineItem for Weighting {
-    ghost use Rattle.office_files.specs.Weightings.{weighting_line};
-
-    ghost reading = { weighting_line };
-
-    fn read(_counts: Counts, before: &[Weighting], line: &[u8]) -> Result<Weighting, FaultKind> {
-        let mut fields = Fields::new(line);
-        let word = weight_word(fields.next())?;
-        if is_said(word, before) {
-            return Err(FaultKind::Repeated);
-        }
-        weighting_by(word, fields)
-    }
+    weights
 }
 
 // The weights with what one line says.
@@ -133,25 +152,6 @@ fn with_weighting(weights: Weights, said: Weighting) -> Weights
             weights.front_periods = periods;
             weights.front = weight;
         }
-    }
-    weights
-}
-
-/// The weights that these lines say; what is not weighed counts as zero.
-pub fn weights_of(said: &[Weighting]) -> Weights
-    ensures { result ≡ with_weightings no_weights said.now }
-{
-    let mut weights = Weights {
-        row: 0,
-        day: 0,
-        spread: 0,
-        mixed: 0,
-        front_exams: 0,
-        front_periods: 0,
-        front: 0,
-    };
-    for one in said {
-        weights = with_weighting(weights, *one);
     }
     weights
 }

@@ -5,7 +5,7 @@ ghost use Rattle.office_files.specs.Fields.{split_once};
 
 /// The bytes before the first mark, and those behind it.
 #[tactic(auto, using(crate::proofs::SplitLemmas::split_facts))]
-pub fn split_once(text: &[u8], mark: u8) -> Option<(&[u8], &[u8])>
+pub(crate) fn split_once(text: &[u8], mark: u8) -> Option<(&[u8], &[u8])>
     ensures { option_map (λ p. (p.0.now, p.1.now)) result ≡ split_once mark text.now }
 {
     for (i, byte) in text.iter().enumerate() {

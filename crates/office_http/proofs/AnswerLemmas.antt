@@ -1,7 +1,8 @@
 -- From what the desk answers to what is replied.
 use Rattle.std.proofs.Common.{◌≡◌, Result, Ok, Err, refl, sym, subst, inl, inr}
 use Rattle.office_messages.specs.Reply.{PlainReply}
-use Rattle.office_requests.specs.Requests.{PlainAsked, GivesAsked, refusal_reply}
+use Rattle.office_requests.specs.Requests.{PlainAsked}
+use Rattle.office_requests.specs.Answering.{GivesAsked, refusal_reply}
 use Rattle.office_requests.specs.declared.requests.Refusal.{Refusal}
 use Rattle.office_requests.specs.declared.requests.Refusal.TheVariants as refusal
 use Rattle.office_model.specs.Answers as answers

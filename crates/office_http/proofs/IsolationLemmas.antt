@@ -8,7 +8,8 @@ use Rattle.sqlite.specs.Held.{Held}
 use Rattle.sqlite.specs.Store.{Ghosts}
 use Rattle.office_messages.specs.Form.{form_of}
 use Rattle.office_messages.specs.Reply.{PlainReply, fault_reply, reply_text, unavailable}
-use Rattle.office_messages.specs.Serve.{Item, asks, fails, Serves, Told}
+use Rattle.office_messages.specs.Messages.{Item, asks, fails}
+use Rattle.office_messages.specs.Serve.{Serves, Told}
 use Rattle.office_messages.specs.Stream.{PlainRequest}
 use Rattle.office_messages.specs.declared.connection.ServeFault.{ServeFault}
 use Rattle.office_messages.specs.declared.connection.Served.{Served}
@@ -26,7 +27,9 @@ use Rattle.office_model.specs.Views.{View, view_of}
 use Rattle.office_model.proofs.ChangeLemmas.{alike}
 use Rattle.office_model.proofs.QuietLemmas.{quiet_one}
 use Rattle.office_model.proofs.ToldLemmas as model
-use Rattle.office_http.specs.Isolation.{AreAlike, AreAvailable, AreFrom, AreToldAlike, AreToldByView, AsksTheSame, Entry, IsFrom, IsHersOrQuiet, IsQuietFor, IsToldAlike, LeavesPublication, ServesByView, TellsHerView, TellsView, asked_in, bytes_of, changes_by, entry, her_changes, her_output, her_reply, transcript}
+use Rattle.office_http.specs.HerMessages.{AreAlike, AreFrom, AsksTheSame, IsFrom, bytes_of, her_output, her_reply}
+use Rattle.office_http.specs.Isolation.{AreAvailable, AreToldAlike, AreToldByView, IsHersOrQuiet, IsQuietFor, IsToldAlike, LeavesPublication, TellsView, changes_by, her_changes}
+use Rattle.office_http.specs.Transcripts.{Entry, ServesByView, TellsHerView, asked_in, entry, transcript}
 use Rattle.office_http.specs.Replying.{Answered, Replies, RepliesTo, her_text}
 use Rattle.office_http.specs.Serving.{Leads}
 use Rattle.office_http.proofs.CandidateLemmas.{her_reading, said_by, tells}

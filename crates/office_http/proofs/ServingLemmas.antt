@@ -7,7 +7,8 @@ use Rattle.sqlite.specs.Store.{Ghosts}
 use Rattle.office_messages.specs.declared.connection.Served.{Served}
 use Rattle.office_messages.specs.declared.connection.ServeFault.{ServeFault}
 use Rattle.office_messages.specs.declared.connection.ServeFault.TheVariants.{Read, Write, TooMany, NoMemory}
-use Rattle.office_messages.specs.Serve.{Item, asks, fails, Begins, BreaksOff, Told, Serves, ServesFront}
+use Rattle.office_messages.specs.Messages.{Item, asks, fails, Begins}
+use Rattle.office_messages.specs.Serve.{BreaksOff, Told, Serves, ServesFront}
 use Rattle.office_messages.proofs.RunLemmas.{told_kept}
 use Rattle.office_model.specs.Office.{OfficeState}
 use Rattle.office_store.specs.Running.{Now}

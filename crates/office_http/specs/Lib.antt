@@ -1,3 +1,5 @@
 pub mod Replying
 pub mod Serving
+pub mod Transcripts
+pub mod HerMessages
 pub mod Isolation

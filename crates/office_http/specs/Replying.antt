@@ -9,7 +9,8 @@ use Rattle.office_policy.specs.Commands.{PlainCommand}
 use Rattle.office_policy.specs.declared.callers.Caller.TheVariants.{Cand}
 use Rattle.office_policy.specs.declared.policy.Denial.TheVariants.{P1}
 use Rattle.office_requests.specs.Methods.{verb_of}
-use Rattle.office_requests.specs.Requests.{PlainAsked, caller_in, her_command, reading, refusal_reply}
+use Rattle.office_requests.specs.Requests.{PlainAsked, caller_in, her_command, reading}
+use Rattle.office_requests.specs.Answering.{refusal_reply}
 use Rattle.office_requests.specs.Texts.{error_reply}
 use Rattle.office_requests.specs.declared.texts.FixedError.TheVariants.{Denied}
 use Rattle.office_requests.specs.declared.requests.Refusal.{Refusal}

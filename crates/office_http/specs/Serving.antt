@@ -4,7 +4,8 @@ use Rattle.std.specs.Io.KnownBytes.{Appends}
 use Rattle.sqlite.specs.Held.{Held, state}
 use Rattle.sqlite.specs.State.{HasCleanDisk}
 use Rattle.sqlite.specs.Store.{Ghosts}
-use Rattle.office_messages.specs.Serve.{Item, Begins, BreaksOff, Told}
+use Rattle.office_messages.specs.Messages.{Item, Begins}
+use Rattle.office_messages.specs.Serve.{BreaksOff, Told}
 use Rattle.office_messages.specs.declared.connection.ServeFault.{ServeFault}
 use Rattle.office_messages.specs.declared.connection.ServeFault.TheVariants.{Write}
 use Rattle.office_model.specs.Office.{OfficeState}

@@ -1,30 +1,15 @@
 //! Laws of the office's connections: functions with no code, whose contracts are the laws.
 ghost use Rattle.std.specs.Prelude.{◌≡◌, ℕ, List, All, Option};
 ghost use Rattle.office_messages.specs.Reply.{PlainReply};
-ghost use Rattle.office_messages.specs.Serve.{Item, Serves, Told};
+ghost use Rattle.office_messages.specs.Messages.{Item};
+ghost use Rattle.office_messages.specs.Serve.{Serves, Told};
 ghost use Rattle.office_messages.specs.Stream.{PlainRequest};
 ghost use Rattle.office_messages.specs.declared.connection.Served.{Served};
 ghost use Rattle.office_model.specs.Office.{OfficeState};
 ghost use Rattle.office_model.specs.Views.{view_of};
-ghost use Rattle.office_http.specs.Isolation.{
-  AreAlike,
-  AreAvailable,
-  AreFrom,
-  AreToldAlike,
-  AreToldByView,
-  IsFrom,
-  IsHersOrQuiet,
-  IsQuietFor,
-  LeavesPublication,
-  TellsHerView,
-  TellsView,
-  entries,
-  entry,
-  her_changes,
-  her_output,
-  said_in,
-  transcript,
-};
+ghost use Rattle.office_http.specs.HerMessages.{AreAlike, AreFrom, IsFrom, her_output};
+ghost use Rattle.office_http.specs.Isolation.{AreAvailable, AreToldAlike, AreToldByView, IsHersOrQuiet, IsQuietFor, LeavesPublication, TellsView, her_changes};
+ghost use Rattle.office_http.specs.Transcripts.{TellsHerView, entries, entry, said_in, transcript};
 ghost use Rattle.office_http.specs.Replying.{Replies, TellsCandidate};
 
 /// A candidate's message is replied the text of her view in the office that it comes to, or that
@@ -85,9 +70,9 @@ pub fn quiet_messages()
 {}
 
 /// Two connections to two offices: where the offices that a candidate's two messages come to agree
-/// on her view, she gets the same bytes for the same question, unless one of the replies is that the
-/// office is unavailable. They do so throughout if they agree at the start, and others' messages are
-/// quiet for her.
+/// on her view, she gets the same bytes for the same question, unless one of the replies is that
+/// the office is unavailable. They do so throughout if they agree at the start, and others'
+/// messages are quiet for her.
 ///
 /// It is not promised that a connection stays open, or that two of the same messages are both
 /// answered: another's message may end a connection, and a hundred messages do.
@@ -130,8 +115,8 @@ pub fn same_view_same_output()
 /// accepted batches make the same changes to a candidate in the same order, her views are equal: so
 /// her messages get the same bytes.
 ///
-/// Which batches are newly accepted may depend on others' requests (a number that is taken, too many
-/// pairs), so the law speaks of the changes that were made.
+/// Which batches are newly accepted may depend on others' requests (a number that is taken, too
+/// many pairs), so the law speaks of the changes that were made.
 pub fn same_changes_same_view()
     ensures view { (s : ℕ) (old one other : OfficeState) (items others : List Item)
         (output text : List ℕ) → (first : Told Replies items old output one)

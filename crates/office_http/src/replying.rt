@@ -45,7 +45,8 @@ fn asked_reply<S: Alter>(alloc: Global, desk: &mut Desk<S>, asked: &Asked<'_>) -
     requires { HasSmallNumbers (plain_command asked.now.command) }
     ensures step { HasCleanDisk (state S.Store desk.new) → (office : OfficeState)
         → Now (state S.Store desk.old) office
-        → (next : OfficeState) × RepliesTo (Ok (plain_asked asked.now)) office (plain_reply result) next
+        → (next : OfficeState)
+        × RepliesTo (Ok (plain_asked asked.now)) office (plain_reply result) next
         × Now (state S.Store desk.new) next }
     ensures clean { HasCleanDisk (state S.Store desk.new)
         → HasCleanDisk (state S.Store desk.old) }

@@ -3,7 +3,7 @@ ghost use Rattle.std.specs.Prelude.{◌≡◌, ◌≤◌, IfErr, IfOk};
 ghost use Rattle.sqlite.specs.Held.{state};
 ghost use Rattle.sqlite.specs.State.{HasCleanDisk};
 ghost use Rattle.office_messages.specs.Serve.{Serves};
-ghost use Rattle.office_http.specs.Isolation.{ServesByView};
+ghost use Rattle.office_http.specs.Transcripts.{ServesByView};
 ghost use Rattle.office_http.specs.Replying.{Replies};
 ghost use Rattle.office_http.specs.Serving.{AnswersFront, Leads};
 
@@ -55,8 +55,8 @@ pub fn serve<R: Read, W: Write, S: Alter>(
         (λ office next. ServesByView (R.remaining reader.old) (W.contents writer.old)
         (W.contents writer.new) office next served) desk.old desk.new) }
     ensures err { IfErr result (λ fault. Leads S.Store
-        (AnswersFront (R.remaining reader.old) (W.contents writer.old) (W.contents writer.new) fault)
-        desk.old desk.new) }
+        (AnswersFront (R.remaining reader.old) (W.contents writer.old) (W.contents writer.new)
+        fault) desk.old desk.new) }
     ensures clean { HasCleanDisk (state S.Store desk.new) → HasCleanDisk (state S.Store desk.old) }
     ensures spent { IfErr result (λ fault. fault ≡ ServeFault.TooMany → turns.new ≡ 0) }
     ensures turns { turns.new ≤ turns.old }

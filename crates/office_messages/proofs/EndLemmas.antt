@@ -18,7 +18,7 @@ use Rattle.httparse.specs.Grammar.{print_field, print_section, print_version, is
 use Rattle.httparse.specs.Grammar.{is_token_byte, is_uri_byte, IsToken, RequestHead, IsRequestHead}
 use Rattle.httparse.specs.Grammar.{print_request, HasNoRequest, MayBecomeRequest}
 use Rattle.httparse.proofs.GrammarLemmas.{cons-append}
-use Rattle.office_messages.specs.Stream.{before_end, ends_in_line, ends_as_head, HasEnd}
+use Rattle.office_messages.specs.HeadEnds.{before_end, ends_in_line, ends_as_head, HasEnd}
 
 -- neither LF nor CR
 abbrev IsPlain : ℕ → Type 0

@@ -16,8 +16,8 @@ use Rattle.httparse.specs.Ascii.{crlf_bytes}
 use Rattle.httparse.specs.Grammar.{LineEnd, crlf, lf, print_end, print_blank, Field, IsField}
 use Rattle.httparse.specs.Grammar.{print_field, is_value_byte, AllPass, RequestHead, IsRequestHead}
 use Rattle.httparse.specs.Grammar.{print_request}
-use Rattle.office_messages.specs.Stream.{LacksHead, HasEnd, before_end, ends_in_line}
-use Rattle.office_messages.specs.Stream.{ends_as_head}
+use Rattle.office_messages.specs.StreamFaults.{LacksHead}
+use Rattle.office_messages.specs.HeadEnds.{HasEnd, before_end, ends_in_line, ends_as_head}
 
 -- the bytes end with a plain byte and a line end
 pub record EndsLine (bytes : List ℕ) : Type 0 where

@@ -16,7 +16,8 @@ use Rattle.std.proofs.lemmas.Bool.Decides.{nat_tests}
 use Rattle.std.proofs.lemmas.List.Elements.{All-weaker}
 use Rattle.std.proofs.lemmas.Str.{IsUtf8-from_ascii}
 use Rattle.std.proofs.lemmas.Str.Ascii.{IsAscii-from_all}
-use Rattle.office_messages.specs.Stream.{PlainRequest, HasHead, LacksHead, RequestAt, caller_of}
+use Rattle.office_messages.specs.Stream.{PlainRequest, HasHead, RequestAt, caller_of}
+use Rattle.office_messages.specs.StreamFaults.{LacksHead}
 use Rattle.office_messages.specs.Stream.{request_of}
 use Rattle.office_messages.specs.Heads.{Covers, CallerAt, IsHeadOf, HeadAt}
 use Rattle.office_messages.specs.declared.head.Head.{Head}

@@ -6,7 +6,8 @@ use Rattle.std.proofs.Math.Seq.{take-append_seam}
 use Rattle.httparse.specs.Grammar.{RequestHead, print_request}
 use Rattle.office_messages.specs.declared.framing.Fault.{Fault}
 use Rattle.office_messages.specs.declared.form.Form.{Form}
-use Rattle.office_messages.specs.Stream.{HasHead, LacksHead, HeadFault, FaultAt, PlainRequest}
+use Rattle.office_messages.specs.Stream.{HasHead, PlainRequest}
+use Rattle.office_messages.specs.StreamFaults.{LacksHead, HeadFault, FaultAt}
 use Rattle.office_messages.specs.Stream.{RequestAt, request_of}
 use Rattle.office_messages.proofs.HeadLemmas.{reads_more}
 

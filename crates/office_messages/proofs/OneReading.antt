@@ -13,10 +13,13 @@ use Rattle.office_messages.specs.declared.connection.End.TheVariants.{Closed, Cu
 use Rattle.office_messages.specs.declared.connection.End.TheVariants.{Limit}
 use Rattle.office_messages.specs.Framing.{framing}
 use Rattle.office_messages.specs.Form.{form_of}
-use Rattle.office_messages.specs.Stream.{PlainRequest, HasHead, RequestAt, HeadFault, FaultAt}
-use Rattle.office_messages.specs.Stream.{HasEnd, Unfinished, fields_of, request_of, closes}
-use Rattle.office_messages.specs.Serve.{Item, asks, fails, Ends, Messages, Begins, Differs}
-use Rattle.office_messages.specs.Serve.{Agree}
+use Rattle.office_messages.specs.Stream.{PlainRequest, HasHead, RequestAt}
+use Rattle.office_messages.specs.StreamFaults.{HeadFault, FaultAt}
+use Rattle.office_messages.specs.Stream.{fields_of, request_of, closes}
+use Rattle.office_messages.specs.HeadEnds.{HasEnd}
+use Rattle.office_messages.specs.StreamFaults.{Unfinished}
+use Rattle.office_messages.specs.Messages.{Item, asks, fails, Ends, Messages, Begins, Differs}
+use Rattle.office_messages.specs.Messages.{Agree}
 use Rattle.office_messages.proofs.HeadEndLemmas.{no_end_lacks}
 use Rattle.office_messages.proofs.HeadLemmas.{nothing_lacks}
 

@@ -5,7 +5,8 @@ use Rattle.office_messages.specs.declared.connection.Served.{Served}
 use Rattle.office_messages.specs.declared.connection.ServeFault.{ServeFault}
 use Rattle.office_messages.specs.Reply.{PlainReply}
 use Rattle.office_messages.specs.Stream.{PlainRequest}
-use Rattle.office_messages.specs.Serve.{Item, asks, fails, Told, Serves, ServesFront, BreaksOff}
+use Rattle.office_messages.specs.Messages.{Item, asks, fails}
+use Rattle.office_messages.specs.Serve.{Told, Serves, ServesFront, BreaksOff}
 
 -- ---- along a map of states that carries each answer
 

@@ -16,11 +16,13 @@ use Rattle.office_messages.specs.declared.connection.ServeFault.TheVariants as s
 use Rattle.office_messages.specs.declared.look.Stage.{Stage}
 use Rattle.office_messages.specs.declared.look.Stage.TheVariants.{Searching, Reading}
 use Rattle.office_messages.specs.Form.{form_of}
-use Rattle.office_messages.specs.Heads.{Knows}
+use Rattle.office_messages.specs.Looks.{Knows}
 use Rattle.office_messages.specs.Reply.{PlainReply, fault_reply, reply_text}
-use Rattle.office_messages.specs.Stream.{PlainRequest, RequestAt, FaultAt, Unfinished, HasEnd}
-use Rattle.office_messages.specs.Serve.{Item, asks, fails, Messages, Begins, Told, Serves}
-use Rattle.office_messages.specs.Serve.{ServesFront, SendsFront}
+use Rattle.office_messages.specs.Stream.{PlainRequest, RequestAt}
+use Rattle.office_messages.specs.StreamFaults.{FaultAt, Unfinished}
+use Rattle.office_messages.specs.HeadEnds.{HasEnd}
+use Rattle.office_messages.specs.Messages.{Item, asks, fails, Messages, Begins}
+use Rattle.office_messages.specs.Serve.{Told, Serves, ServesFront, SendsFront}
 use Rattle.office_messages.proofs.HeadEndLemmas.{no_end}
 use Rattle.office_messages.proofs.HeadLemmas.{head_at_more}
 use Rattle.office_messages.proofs.MoreLemmas.{request_more, fault_more}

@@ -1,5 +1,5 @@
 -- What the code knows of a message that is coming.
-use Rattle.std.specs.Prelude.{◌≡◌, ℕ, ◌-◌, ◌<◌, ◌≤◌, List, [], ◌∷◌, length, take, drop, Option, Some}
+use Rattle.std.specs.Prelude.{◌≡◌, ℕ, ◌-◌, ◌≤◌, List, [], ◌∷◌, length, drop, Option, Some}
 use Rattle.std.specs.Prelude.{None, Ok, Err, option_copied, codes}
 use Rattle.httparse.specs.Grammar.{RequestHead, print_request}
 use Rattle.httparse.specs.Spans.{IsWithin, span_bytes}
@@ -7,17 +7,12 @@ use Rattle.httparse.specs.declared.spans.Span.{Span}
 use Rattle.office_messages.specs.Fields.{Header, values_named}
 use Rattle.office_messages.specs.Form.{form_of}
 use Rattle.office_messages.specs.Framing.{framing}
-use Rattle.office_messages.specs.Stream.{PlainRequest, HasHead, HasEnd, Unfinished, FaultAt}
-use Rattle.office_messages.specs.Stream.{fields_of, caller_of, closes, max_head}
+use Rattle.office_messages.specs.Stream.{PlainRequest, HasHead, fields_of, caller_of, closes}
 use Rattle.office_messages.specs.declared.fields.Seen.{Seen}
 use Rattle.office_messages.specs.declared.fields.Seen.TheVariants.{Absent, Once, Repeated}
 use Rattle.office_messages.specs.declared.framing.FramingFields.{FramingFields}
 use Rattle.office_messages.specs.declared.head.BadHead.{BadHead}
 use Rattle.office_messages.specs.declared.head.Head.{Head}
-use Rattle.office_messages.specs.declared.look.Beginning.{Beginning}
-use Rattle.office_messages.specs.declared.look.Beginning.TheVariants.{Whole, More, Faulty}
-use Rattle.office_messages.specs.declared.look.Stage.{Stage}
-use Rattle.office_messages.specs.declared.look.Stage.TheVariants.{Searching, Reading}
 use Rattle.office_messages.specs.declared.request.Request.{Request}
 
 -- the span lies in the bytes and covers this part of them
@@ -79,14 +74,3 @@ plain_request r = record {
   caller = option_copied r.caller;
   body = r.body.now;
 }
-
--- what is known of the message at the front of the bytes, before they are looked at
-abbrev pub Knows : List ℕ → Stage → Type 0
-Knows bytes (Searching n) = (n ≤ length bytes) × (n < max_head) × ¬ (HasEnd (take n bytes))
-Knows bytes (Reading x) = HeadAt bytes x
-
--- what a look at the bytes says of them
-abbrev pub Shows : List ℕ → Beginning → Type 0
-Shows bytes (Whole x) = HeadAt bytes x × (x.body.end ≤ length bytes)
-Shows bytes (More stage) = Unfinished bytes × Knows bytes stage
-Shows bytes (Faulty bad) = FaultAt bad.fault bad.form bytes

@@ -5,5 +5,9 @@ pub mod Form
 pub mod Statuses
 pub mod Reply
 pub mod Stream
+pub mod HeadEnds
+pub mod StreamFaults
+pub mod Messages
 pub mod Serve
 pub mod Heads
+pub mod Looks

@@ -1,7 +1,7 @@
 -- Names, and lists of names between commas.
 use Rattle.std.specs.Prelude.{ℕ, Bool, List, [], ◌∷◌, map, Option, Some, None, if◌then◌else◌, ◌==◌}
 use Rattle.std.specs.Prelude.{bytes_eq}
-use Rattle.std.specs.List.{list_any}
+use Rattle.std.specs.List.{list_any, onto_first}
 use Rattle.std.specs.Char.{to_ascii_lowercase}
 use Rattle.std.specs.Borrow.{Bor}
 use Rattle.httparse.specs.Ascii.{comma}
@@ -12,17 +12,12 @@ use Rattle.office_messages.specs.declared.names.Names.{Names}
 unfoldable pub same_name : List ℕ → List ℕ → Bool
 same_name a b = bytes_eq (map to_ascii_lowercase a) (map to_ascii_lowercase b)
 
--- the pieces, with a byte added to the front of the first
-abbrev pub add_to_first : ℕ → List (List ℕ) → List (List ℕ)
-add_to_first b [] = (b ∷ []) ∷ []
-add_to_first b (piece ∷ pieces) = (b ∷ piece) ∷ pieces
-
 -- the pieces between commas
 abbrev pub pieces_of : List ℕ → List (List ℕ)
 pieces_of [] = [] ∷ []
 pieces_of (b ∷ bs) =
     let pieces = pieces_of bs in
-    if b == comma then [] ∷ pieces else add_to_first b pieces
+    if b == comma then [] ∷ pieces else onto_first b pieces
 
 -- the pieces without the blanks around each (RFC 9110, section 5.6.1)
 unfoldable pub names_of : List ℕ → List (List ℕ)

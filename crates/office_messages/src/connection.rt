@@ -91,136 +91,6 @@ const MOST_INTERRUPTIONS: u32 = 1_000;
 // Room for a head, and for most bodies behind it, so that both go out in one write.
 const REPLY_ROOM: usize = 4096;
 
-// One read, whose bytes go to the end of the buffer, if there is a turn left for it.
-fn receive<R: Read>(
-    reader: &mut R,
-    piece: &mut [u8; PIECE],
-    buffer: &mut Vec<u8>,
-    turns: &mut u64,
-) -> Result<Received, ServeFault>
-    ensures taken { (bytes : List ℕ)
-        × Consumes (R.remaining reader.old) (R.remaining reader.new) bytes
-        × (buffer.new.items ≡ buffer.old.items ++ bytes) }
-    ensures end { IfOk result (λ r. r ≡ Received.End
-        → IsAtEnd (R.remaining reader.new) × (buffer.new.items ≡ buffer.old.items)) }
-    ensures turn { OnOk result (turns.new + 1 ≡ turns.old) }
-    ensures spent { IfErr result (λ fault. fault ≡ ServeFault.TooMany → turns.old ≡ 0) }
-    ensures kept { turns.new ≤ turns.old }
-    ensures err { IfErr result (λ fault. fault ≢ ServeFault.Write) }
-{
-    if *turns == 0 {
-        return Err(ServeFault::TooMany);
-    }
-    *turns -= 1;
-    if buffer.reserve(PIECE).is_err() {
-        return Err(ServeFault::NoMemory);
-    }
-    match reader.read(piece) {
-        Ok(0) => Ok(Received::End),
-        Ok(n) => {
-            buffer.extend_from_slice(&piece[..n]).unwrap();
-            Ok(Received::Bytes)
-        }
-        Err(e) => {
-            if e.kind() == ErrorKind::Interrupted {
-                Ok(Received::Nothing)
-            } else {
-                Err(ServeFault::Read)
-            }
-        }
-    }
-}
-
-// Takes the first bytes of the buffer away.
-fn drop_front(buffer: &mut Vec<u8>, n: usize)
-    requires { n ≤ length buffer.old.items }
-    ensures { buffer.new.items ≡ drop n buffer.old.items }
-{
-    buffer.drain(..n);
-}
-
-// Writes all of the bytes: a short write goes on, and an interrupted one is tried again.
-fn write<W: Write>(writer: &mut W, bytes: &[u8]) -> Result<(), ServeFault>
-    ensures ok { OnOk result (Appends (W.contents writer.old) (W.contents writer.new) bytes.now) }
-    ensures err { IfErr result (λ fault. (fault ≡ ServeFault.Write)
-        × SendsFront (W.contents writer.old) (W.contents writer.new) bytes.now) }
-{
-    let mut rest = bytes;
-    let mut interruptions = 0;
-    while !rest.is_empty() {
-        match writer.write(rest) {
-            Ok(0) => return Err(ServeFault::Write),
-            Ok(n) => rest = &rest[n..],
-            Err(e) => {
-                if e.kind() != ErrorKind::Interrupted || interruptions == MOST_INTERRUPTIONS {
-                    return Err(ServeFault::Write);
-                }
-                interruptions += 1;
-            }
-        }
-    }
-    Ok(())
-}
-
-// What goes out behind the head.
-fn sent_body(reply: &Reply, form: Form) -> &[u8]
-    ensures { result.now ≡ sent_body form (plain_reply reply.now).body }
-{
-    match form {
-        Form::Full => reply.body.bytes(),
-        Form::Bare => &[],
-    }
-}
-
-// Writes a reply, in one piece where the room takes its body too.
-#[tactic(auto, unfolding(crate::specs::Reply::reply_text))]
-fn send<W: Write>(
-    writer: &mut W,
-    room: &mut Vec<u8>,
-    reply: &Reply,
-    form: Form,
-) -> Result<(), ServeFault>
-    requires { HEAD_ROOM ≤ vec_capacity room.old }
-    ensures ok { OnOk result (Appends (W.contents writer.old) (W.contents writer.new)
-        (reply_text form (plain_reply reply.now))) }
-    ensures err { IfErr result (λ fault. (fault ≡ ServeFault.Write)
-        × SendsFront (W.contents writer.old) (W.contents writer.new)
-        (reply_text form (plain_reply reply.now))) }
-    ensures room { HEAD_ROOM ≤ vec_capacity room.new }
-{
-    put_head(room, reply, form);
-    let body = sent_body(reply, form);
-    if body.len() <= room.capacity() - room.len() {
-        room.extend_from_slice(body).unwrap();
-        return write(writer, room);
-    }
-    write(writer, room)?;
-    write(writer, body)
-}
-
-// Answers one message.
-fn answer<W: Write, M: Machine>(
-    alloc: Global,
-    writer: &mut W,
-    room: &mut Vec<u8>,
-    machine: &mut M,
-    request: &Request<'_>,
-) -> Result<(), ServeFault>
-    requires { HEAD_ROOM ≤ vec_capacity room.old }
-    ensures step { (reply : PlainReply)
-        × M.Answers machine.old (plain_request request.now) reply machine.new
-        × OnOk result (Appends (W.contents writer.old) (W.contents writer.new)
-        (reply_text (form_of request.now.method.now) reply))
-        × IfErr result (λ fault. (fault ≡ ServeFault.Write)
-        × SendsFront (W.contents writer.old) (W.contents writer.new)
-        (reply_text (form_of request.now.method.now) reply)) }
-    ensures room { HEAD_ROOM ≤ vec_capacity room.new }
-{
-    let reply = machine.answer(alloc, request);
-    let form = Form::of(request.method.as_bytes());
-    send(writer, room, &reply, form)
-}
-
 /// Serves one connection: reads its messages, has the machine answer them one after another, and
 /// writes each reply before it reads on. It never flushes: a writer that keeps bytes back is its
 /// caller's to flush. A turn is one call of `read`, also of an interrupted one, which is tried
@@ -280,4 +150,134 @@ pub fn serve<R: Read, W: Write, M: Machine>(
         }
     }
     Served::at(answered, End::Limit)
+}
+
+// Answers one message.
+fn answer<W: Write, M: Machine>(
+    alloc: Global,
+    writer: &mut W,
+    room: &mut Vec<u8>,
+    machine: &mut M,
+    request: &Request<'_>,
+) -> Result<(), ServeFault>
+    requires { HEAD_ROOM ≤ vec_capacity room.old }
+    ensures step { (reply : PlainReply)
+        × M.Answers machine.old (plain_request request.now) reply machine.new
+        × OnOk result (Appends (W.contents writer.old) (W.contents writer.new)
+        (reply_text (form_of request.now.method.now) reply))
+        × IfErr result (λ fault. (fault ≡ ServeFault.Write)
+        × SendsFront (W.contents writer.old) (W.contents writer.new)
+        (reply_text (form_of request.now.method.now) reply)) }
+    ensures room { HEAD_ROOM ≤ vec_capacity room.new }
+{
+    let reply = machine.answer(alloc, request);
+    let form = Form::of(request.method.as_bytes());
+    send(writer, room, &reply, form)
+}
+
+// Writes a reply, in one piece where the room takes its body too.
+#[tactic(auto, unfolding(crate::specs::Reply::reply_text))]
+fn send<W: Write>(
+    writer: &mut W,
+    room: &mut Vec<u8>,
+    reply: &Reply,
+    form: Form,
+) -> Result<(), ServeFault>
+    requires { HEAD_ROOM ≤ vec_capacity room.old }
+    ensures ok { OnOk result (Appends (W.contents writer.old) (W.contents writer.new)
+        (reply_text form (plain_reply reply.now))) }
+    ensures err { IfErr result (λ fault. (fault ≡ ServeFault.Write)
+        × SendsFront (W.contents writer.old) (W.contents writer.new)
+        (reply_text form (plain_reply reply.now))) }
+    ensures room { HEAD_ROOM ≤ vec_capacity room.new }
+{
+    put_head(room, reply, form);
+    let body = sent_body(reply, form);
+    if body.len() <= room.capacity() - room.len() {
+        room.extend_from_slice(body).unwrap();
+        return write(writer, room);
+    }
+    write(writer, room)?;
+    write(writer, body)
+}
+
+// What goes out behind the head.
+fn sent_body(reply: &Reply, form: Form) -> &[u8]
+    ensures { result.now ≡ sent_body form (plain_reply reply.now).body }
+{
+    match form {
+        Form::Full => reply.body.bytes(),
+        Form::Bare => &[],
+    }
+}
+
+// Writes all of the bytes: a short write goes on, and an interrupted one is tried again.
+fn write<W: Write>(writer: &mut W, bytes: &[u8]) -> Result<(), ServeFault>
+    ensures ok { OnOk result (Appends (W.contents writer.old) (W.contents writer.new) bytes.now) }
+    ensures err { IfErr result (λ fault. (fault ≡ ServeFault.Write)
+        × SendsFront (W.contents writer.old) (W.contents writer.new) bytes.now) }
+{
+    let mut rest = bytes;
+    let mut interruptions = 0;
+    while !rest.is_empty() {
+        match writer.write(rest) {
+            Ok(0) => return Err(ServeFault::Write),
+            Ok(n) => rest = &rest[n..],
+            Err(e) => {
+                if e.kind() != ErrorKind::Interrupted || interruptions == MOST_INTERRUPTIONS {
+                    return Err(ServeFault::Write);
+                }
+                interruptions += 1;
+            }
+        }
+    }
+    Ok(())
+}
+
+// Takes the first bytes of the buffer away.
+fn drop_front(buffer: &mut Vec<u8>, n: usize)
+    requires { n ≤ length buffer.old.items }
+    ensures { buffer.new.items ≡ drop n buffer.old.items }
+{
+    buffer.drain(..n);
+}
+
+// One read, whose bytes go to the end of the buffer, if there is a turn left for it.
+fn receive<R: Read>(
+    reader: &mut R,
+    piece: &mut [u8; PIECE],
+    buffer: &mut Vec<u8>,
+    turns: &mut u64,
+) -> Result<Received, ServeFault>
+    ensures taken { (bytes : List ℕ)
+        × Consumes (R.remaining reader.old) (R.remaining reader.new) bytes
+        × (buffer.new.items ≡ buffer.old.items ++ bytes) }
+    ensures end { IfOk result (λ r. r ≡ Received.End
+        → IsAtEnd (R.remaining reader.new) × (buffer.new.items ≡ buffer.old.items)) }
+    ensures turn { OnOk result (turns.new + 1 ≡ turns.old) }
+    ensures spent { IfErr result (λ fault. fault ≡ ServeFault.TooMany → turns.old ≡ 0) }
+    ensures kept { turns.new ≤ turns.old }
+    ensures err { IfErr result (λ fault. fault ≢ ServeFault.Write) }
+{
+    if *turns == 0 {
+        return Err(ServeFault::TooMany);
+    }
+    *turns -= 1;
+    if buffer.reserve(PIECE).is_err() {
+        return Err(ServeFault::NoMemory);
+    }
+    match reader.read(piece) {
+        Ok(0) => Ok(Received::End),
+        Ok(n) => {
+            buffer.extend_from_slice(&piece[..n]).unwrap();
+            Ok(Received::Bytes)
+        }
+        Err(e) => {
+            if e.kind() == ErrorKind::Interrupted {
+                Ok(Received::Nothing)
+            } else {
+                Err(ServeFault::Read)
+            }
+        }
+    }
 }

@@ -29,6 +29,19 @@ impl Seen {
     }
 }
 
+/// The fields with this name, in any ASCII case.
+pub(crate) fn find(bytes: &[u8], headers: &[HeaderSpan], name: &[u8]) -> Seen
+    requires { All (IsHeaderWithin (length bytes.now)) headers.now }
+    ensures { Sees bytes.now (values_named name.now (map (header_bytes bytes.now) headers.now))
+        result }
+{
+    let mut seen = Seen::Absent;
+    for header in headers {
+        seen = with_header(bytes, *header, name, seen);
+    }
+    seen
+}
+
 // The values seen so far, and this header's where it has the name.
 fn with_header(bytes: &[u8], header: HeaderSpan, name: &[u8], seen: Seen) -> Seen
     requires { IsHeaderWithin (length bytes.now) header }
@@ -43,19 +56,6 @@ fn with_header(bytes: &[u8], header: HeaderSpan, name: &[u8], seen: Seen) -> See
     }
 }
 
-/// The fields with this name, in any ASCII case.
-pub(crate) fn find(bytes: &[u8], headers: &[HeaderSpan], name: &[u8]) -> Seen
-    requires { All (IsHeaderWithin (length bytes.now)) headers.now }
-    ensures { Sees bytes.now (values_named name.now (map (header_bytes bytes.now) headers.now))
-        result }
-{
-    let mut seen = Seen::Absent;
-    for header in headers {
-        seen = with_header(bytes, *header, name, seen);
-    }
-    seen
-}
-
 /// The one value, where there is just one.
 pub(crate) fn only(seen: Seen) -> Option<Span>
     ensures { (bytes : List ℕ) (values : List (List ℕ)) → Sees bytes values seen
@@ -65,14 +65,6 @@ pub(crate) fn only(seen: Seen) -> Option<Span>
         Seen::Once(value) => Some(value),
         _ => None,
     }
-}
-
-// Whether the header is Connection, and lists `close`.
-fn asks_to_close(bytes: &[u8], header: HeaderSpan) -> bool
-    requires { IsHeaderWithin (length bytes.now) header }
-    ensures { result ≡ asks_to_close (header_bytes bytes.now header) }
-{
-    is_same_name(header.name.of(bytes), b"connection") && lists(header.value.of(bytes), b"close")
 }
 
 /// Whether `close` is among the names of Connection, in any ASCII case.
@@ -86,4 +78,12 @@ pub(crate) fn any_asks_to_close(bytes: &[u8], headers: &[HeaderSpan]) -> bool
         }
     }
     false
+}
+
+// Whether the header is Connection, and lists `close`.
+fn asks_to_close(bytes: &[u8], header: HeaderSpan) -> bool
+    requires { IsHeaderWithin (length bytes.now) header }
+    ensures { result ≡ asks_to_close (header_bytes bytes.now header) }
+{
+    is_same_name(header.name.of(bytes), b"connection") && lists(header.value.of(bytes), b"close")
 }

@@ -27,54 +27,6 @@ pub enum Fault {
 /// The longest body, in bytes.
 pub(crate) const MAX_BODY: usize = 4_194_304;
 
-// Whether each byte is a digit.
-fn are_digits(bytes: &[u8]) -> bool
-    ensures { result ≡ list_all is_ascii_digit bytes.now }
-{
-    bytes.iter().all(|b| b.is_ascii_digit())
-}
-
-// The number that the digits write, or one above `MAX_BODY` where it is greater than that.
-fn saturated(digits: &[u8]) -> usize
-    requires { list_all is_ascii_digit digits.now ≡ true }
-    ensures { result ≡ min (digits_value 10 digits.now) (MAX_BODY + 1) }
-{
-    let mut n = 0;
-    for digit in digits {
-        n = (n * 10 + usize::from(*digit - b'0')).min(MAX_BODY + 1);
-    }
-    n
-}
-
-// The body's length, by the value of the one Content-Length.
-fn length_of(value: &[u8]) -> Result<usize, Fault>
-    ensures length { result ≡ length_of value.now }
-    ensures within { IfOk result (λ n. n ≤ MAX_BODY) }
-{
-    if value.is_empty() || !are_digits(value) {
-        return Err(Fault::Length);
-    }
-    let n = saturated(value);
-    if n > MAX_BODY {
-        return Err(Fault::TooLong);
-    }
-    Ok(n)
-}
-
-// The body's length, by the fields Content-Length.
-fn body_length(bytes: &[u8], lengths: Seen) -> Result<usize, Fault>
-    requires { (values : List (List ℕ)) × Sees bytes.now values lengths }
-    ensures length { (values : List (List ℕ)) → Sees bytes.now values lengths
-        → result ≡ body_length values }
-    ensures within { IfOk result (λ n. n ≤ MAX_BODY) }
-{
-    match lengths {
-        Seen::Absent => Ok(0),
-        Seen::Repeated => Err(Fault::Length),
-        Seen::Once(value) => length_of(value.of(bytes)),
-    }
-}
-
 /// The fields that frame a message.
 #[derive(Clone, Copy)]
 pub(crate) struct FramingFields {
@@ -100,4 +52,52 @@ pub(crate) fn framing(bytes: &[u8], minor: u8, seen: FramingFields) -> Result<us
         return Err(Fault::Transfer);
     }
     body_length(bytes, seen.lengths)
+}
+
+// The body's length, by the fields Content-Length.
+fn body_length(bytes: &[u8], lengths: Seen) -> Result<usize, Fault>
+    requires { (values : List (List ℕ)) × Sees bytes.now values lengths }
+    ensures length { (values : List (List ℕ)) → Sees bytes.now values lengths
+        → result ≡ body_length values }
+    ensures within { IfOk result (λ n. n ≤ MAX_BODY) }
+{
+    match lengths {
+        Seen::Absent => Ok(0),
+        Seen::Repeated => Err(Fault::Length),
+        Seen::Once(value) => length_of(value.of(bytes)),
+    }
+}
+
+// The body's length, by the value of the one Content-Length.
+fn length_of(value: &[u8]) -> Result<usize, Fault>
+    ensures length { result ≡ length_of value.now }
+    ensures within { IfOk result (λ n. n ≤ MAX_BODY) }
+{
+    if value.is_empty() || !are_digits(value) {
+        return Err(Fault::Length);
+    }
+    let n = saturated(value);
+    if n > MAX_BODY {
+        return Err(Fault::TooLong);
+    }
+    Ok(n)
+}
+
+// Whether each byte is a digit.
+fn are_digits(bytes: &[u8]) -> bool
+    ensures { result ≡ list_all is_ascii_digit bytes.now }
+{
+    bytes.iter().all(|b| b.is_ascii_digit())
+}
+
+// The number that the digits write, or one above `MAX_BODY` where it is greater than that.
+fn saturated(digits: &[u8]) -> usize
+    requires { list_all is_ascii_digit digits.now ≡ true }
+    ensures { result ≡ min (digits_value 10 digits.now) (MAX_BODY + 1) }
+{
+    let mut n = 0;
+    for digit in digits {
+        n = (n * 10 + usize::from(*digit - b'0')).min(MAX_BODY + 1);
+    }
+    n
 }

@@ -70,6 +70,23 @@ pub(crate) fn head_of(
     }
 }
 
+impl Head {
+    /// The request, once its body has come.
+    pub(crate) fn request(self, bytes: &[u8]) -> Request<'_>
+        requires at { HeadAt bytes.now self }
+        requires whole { self.body.end ≤ length bytes.now }
+        ensures { RequestAt (plain_request result) self.closes bytes.now
+            (drop self.body.end bytes.now) }
+    {
+        Request {
+            method: text(bytes, self.method),
+            target: text(bytes, self.target),
+            caller: bytes_at(bytes, self.caller),
+            body: self.body.of(bytes),
+        }
+    }
+}
+
 // The text that the span covers.
 fn text(bytes: &[u8], span: Span) -> &str
     requires within { (span.start ≤ span.end) × (span.end ≤ length bytes.now) }
@@ -88,22 +105,5 @@ fn bytes_at(bytes: &[u8], span: Option<Span>) -> Option<&[u8]>
     match span {
         Some(span) => Some(span.of(bytes)),
         None => None,
-    }
-}
-
-impl Head {
-    /// The request, once its body has come.
-    pub(crate) fn request(self, bytes: &[u8]) -> Request<'_>
-        requires at { HeadAt bytes.now self }
-        requires whole { self.body.end ≤ length bytes.now }
-        ensures { RequestAt (plain_request result) self.closes bytes.now
-            (drop self.body.end bytes.now) }
-    {
-        Request {
-            method: text(bytes, self.method),
-            target: text(bytes, self.target),
-            caller: bytes_at(bytes, self.caller),
-            body: self.body.of(bytes),
-        }
     }
 }

@@ -1,40 +1,6 @@
 //! Where a head can end, told before it is parsed.
 ghost use Rattle.std.specs.Prelude.{◌≡◌, ℕ, ◌<◌, ◌≤◌, length, take, true, false, option_copied};
-ghost use Rattle.office_messages.specs.Stream.{before_end, ends_in_line, ends_as_head};
-
-// The bytes before the line end that they end with.
-fn before_end(bytes: &[u8]) -> Option<&[u8]>
-    ensures { option_copied result ≡ before_end bytes.now }
-{
-    if bytes.ends_with(b"\r\n") {
-        Some(&bytes[..bytes.len() - 2])
-    } else if bytes.ends_with(b"\n") {
-        Some(&bytes[..bytes.len() - 1])
-    } else {
-        None
-    }
-}
-
-// Whether they end within a line that isn't empty.
-fn ends_in_line(bytes: &[u8]) -> bool
-    ensures { result ≡ ends_in_line bytes.now }
-{
-    !bytes.is_empty() && !bytes.ends_with(b"\n")
-}
-
-// Whether they end with a line that isn't empty, and an empty one.
-#[tactic(auto, unfolding(crate::specs::Stream::ends_as_head))]
-fn ends_as_head(bytes: &[u8]) -> bool
-    ensures { result ≡ ends_as_head bytes.now }
-{
-    match before_end(bytes) {
-        Some(lines) => match before_end(lines) {
-            Some(line) => ends_in_line(line),
-            None => false,
-        },
-        None => false,
-    }
-}
+ghost use Rattle.office_messages.specs.HeadEnds.{before_end, ends_in_line, ends_as_head};
 
 /// Whether a head can end behind the first `searched` bytes.
 pub(crate) fn may_hold_end(bytes: &[u8], searched: usize) -> bool
@@ -50,4 +16,38 @@ pub(crate) fn may_hold_end(bytes: &[u8], searched: usize) -> bool
         }
     }
     false
+}
+
+// Whether the bytes end with a line that isn't empty, and an empty one.
+#[tactic(auto, unfolding(crate::specs::HeadEnds::ends_as_head))]
+fn ends_as_head(bytes: &[u8]) -> bool
+    ensures { result ≡ ends_as_head bytes.now }
+{
+    match before_end(bytes) {
+        Some(lines) => match before_end(lines) {
+            Some(line) => ends_in_line(line),
+            None => false,
+        },
+        None => false,
+    }
+}
+
+// The bytes before the line end that they end with.
+fn before_end(bytes: &[u8]) -> Option<&[u8]>
+    ensures { option_copied result ≡ before_end bytes.now }
+{
+    if bytes.ends_with(b"\r\n") {
+        Some(&bytes[..bytes.len() - 2])
+    } else if bytes.ends_with(b"\n") {
+        Some(&bytes[..bytes.len() - 1])
+    } else {
+        None
+    }
+}
+
+// Whether the bytes end within a line that isn't empty.
+fn ends_in_line(bytes: &[u8]) -> bool
+    ensures { result ≡ ends_in_line bytes.now }
+{
+    !bytes.is_empty() && !bytes.ends_with(b"\n")
 }

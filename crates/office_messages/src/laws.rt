@@ -1,7 +1,8 @@
 //! Laws of streams, and of runs of machines.
 ghost use Rattle.std.specs.Prelude.{◌≡◌, ℕ, Bool, true, List, ◌++◌};
 ghost use Rattle.office_messages.specs.Reply.{PlainReply};
-ghost use Rattle.office_messages.specs.Serve.{Item, Messages, Begins, Agree, Told};
+ghost use Rattle.office_messages.specs.Messages.{Item, Messages, Begins, Agree};
+ghost use Rattle.office_messages.specs.Serve.{Told};
 ghost use Rattle.office_messages.specs.Stream.{PlainRequest};
 ghost use Rattle.office_messages.specs.declared.connection.End.{End};
 

@@ -1,7 +1,8 @@
 //! What the bytes that have come begin with.
 ghost use Rattle.std.specs.Prelude.{◌≡◌, ◌<◌, ◌≤◌, length, take};
-ghost use Rattle.office_messages.specs.Heads.{Knows, Shows, HeadAt};
-ghost use Rattle.office_messages.specs.Stream.{HasEnd};
+ghost use Rattle.office_messages.specs.Heads.{HeadAt};
+ghost use Rattle.office_messages.specs.Looks.{Knows, Shows};
+ghost use Rattle.office_messages.specs.HeadEnds.{HasEnd};
 
 use crate::form::Form;
 use crate::framing::Fault;
@@ -39,23 +40,21 @@ const FAULTY_HEAD: Beginning = Beginning::Faulty(BadHead {
     form: Form::Full,
 });
 
-// The first n bytes, or all where there are fewer.
-fn first(bytes: &[u8], n: usize) -> &[u8]
-    ensures front { result.now ≡ take n bytes.now }
-    ensures short { length result.now ≤ n }
-{
-    if n < bytes.len() { &bytes[..n] } else { bytes }
-}
-
-// No head has come to its end.
-fn without_head(bytes: &[u8]) -> Beginning
-    requires { ¬ (HasEnd bytes.now) }
+/// What the bytes begin with. A head is parsed once it is whole, and each byte of it is looked at
+/// once before that.
+pub(crate) fn look(bytes: &[u8], stage: Stage) -> Beginning
+    requires { Knows bytes.now stage }
     ensures { Shows bytes.now result }
 {
-    if bytes.len() < MAX_HEAD {
-        Beginning::More(Stage::Searching(bytes.len()))
-    } else {
-        FAULTY_HEAD
+    match stage {
+        Stage::Reading(head) => with_head(bytes, head),
+        Stage::Searching(searched) => {
+            if may_hold_end(first(bytes, MAX_HEAD), searched) {
+                parse(bytes)
+            } else {
+                without_head(bytes)
+            }
+        }
     }
 }
 
@@ -69,6 +68,14 @@ fn with_head(bytes: &[u8], head: Head) -> Beginning
     } else {
         Beginning::More(Stage::Reading(head))
     }
+}
+
+// The first n bytes, or all where there are fewer.
+fn first(bytes: &[u8], n: usize) -> &[u8]
+    ensures front { result.now ≡ take n bytes.now }
+    ensures short { length result.now ≤ n }
+{
+    if n < bytes.len() { &bytes[..n] } else { bytes }
 }
 
 // Parses the head that seems to be whole: behind its end httparse waits for no more of it.
@@ -89,20 +96,14 @@ fn parse(bytes: &[u8]) -> Beginning
     }
 }
 
-/// What the bytes begin with. A head is parsed once it is whole, and each byte of it is looked at
-/// once before that.
-pub(crate) fn look(bytes: &[u8], stage: Stage) -> Beginning
-    requires { Knows bytes.now stage }
+// No head has come to its end.
+fn without_head(bytes: &[u8]) -> Beginning
+    requires { ¬ (HasEnd bytes.now) }
     ensures { Shows bytes.now result }
 {
-    match stage {
-        Stage::Reading(head) => with_head(bytes, head),
-        Stage::Searching(searched) => {
-            if may_hold_end(first(bytes, MAX_HEAD), searched) {
-                parse(bytes)
-            } else {
-                without_head(bytes)
-            }
-        }
+    if bytes.len() < MAX_HEAD {
+        Beginning::More(Stage::Searching(bytes.len()))
+    } else {
+        FAULTY_HEAD
     }
 }

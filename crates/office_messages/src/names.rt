@@ -57,15 +57,11 @@ impl<'a> Iterator for Names<'a> {
     }
 }
 
-fn trimmed_start(mut text: &[u8]) -> &[u8]
-    ensures { result.now ≡ skip_ows text.now }
+#[tactic(auto, unfolding(httparse::specs::Grammar::trim_ows))]
+fn trimmed(text: &[u8]) -> &[u8]
+    ensures { result.now ≡ trim_ows text.now }
 {
-    while let [first, rest @ ..] = text
-        && is_space_or_tab(*first)
-    {
-        text = rest;
-    }
-    text
+    trimmed_end(trimmed_start(text))
 }
 
 fn trimmed_end(mut text: &[u8]) -> &[u8]
@@ -79,9 +75,13 @@ fn trimmed_end(mut text: &[u8]) -> &[u8]
     text
 }
 
-#[tactic(auto, unfolding(httparse::specs::Grammar::trim_ows))]
-fn trimmed(text: &[u8]) -> &[u8]
-    ensures { result.now ≡ trim_ows text.now }
+fn trimmed_start(mut text: &[u8]) -> &[u8]
+    ensures { result.now ≡ skip_ows text.now }
 {
-    trimmed_end(trimmed_start(text))
+    while let [first, rest @ ..] = text
+        && is_space_or_tab(*first)
+    {
+        text = rest;
+    }
+    text
 }

@@ -23,7 +23,8 @@ use Rattle.office_model.specs.Office.{OfficeState, Records, KeptBatch, set_at}
 use Rattle.office_model.specs.Views.{view_of, view_from}
 use Rattle.office_model.specs.Publishing.{rows_now}
 use Rattle.office_model.specs.Commands.{named, when_loaded, owned, draft_made, draft_dropped, draft_edited, is_draft_number, first_timetable}
-use Rattle.office_model.specs.Batches.{after_change, changes_to, enrolled, counted, no_counts, newly_enrolled, enrolled_by, batch_enrolled, lines_if_new, kept_in, kept_under, same_bytes}
+use Rattle.office_model.specs.BatchLines.{after_change, enrolled, counted, no_counts}
+use Rattle.office_model.specs.Batches.{changes_to, newly_enrolled, enrolled_by, batch_enrolled, lines_if_new, kept_in, kept_under, same_bytes}
 
 -- what holds of a judgement's result, if each part before it allows it
 pub bind : {A B F : Type 0} (P : A → Type 0) (m : Result B F) (f : B → Result A F)

@@ -15,7 +15,8 @@ use Rattle.office_model.specs.declared.counts.Counts.{Counts}
 use Rattle.office_model.specs.declared.fault.StoreFault.TheVariants.{TooMany, Refused, BatchDiffers}
 use Rattle.office_model.specs.declared.fault.Refusal.TheVariants as refusal
 use Rattle.office_model.specs.Commands.{named}
-use Rattle.office_model.specs.Batches.{after_change, after_changes, changes_to, enrolled, counted, no_counts, newly_enrolled, enrolled_by, batch_enrolled, lines_if_new, kept_in, kept_under, same_bytes}
+use Rattle.office_model.specs.BatchLines.{after_change, after_changes, enrolled, counted, no_counts}
+use Rattle.office_model.specs.Batches.{changes_to, newly_enrolled, enrolled_by, batch_enrolled, lines_if_new, kept_in, kept_under, same_bytes}
 use Rattle.office_model.specs.Office.{OfficeState, Records, KeptBatch}
 use Rattle.office_model.specs.Publishing.{rows_now}
 use Rattle.office_model.specs.Views.{view_of, view_from}

@@ -1,14 +1,13 @@
 -- What a command makes of records of an office are such records again.
-use Rattle.std.proofs.Common.{◌≡◌, ◌≢◌, ℕ, ◌<◌, ◌≤◌, Bool, true, false, not, cond, eqb, List, [], ◌∷◌, length, get_or, Option, Some, None, Ok, inl, inr, refl, sym, subst, ◌∙◌, arith}
+use Rattle.std.proofs.Common.{◌≡◌, ◌≢◌, ℕ, ◌<◌, ◌≤◌, Bool, true, false, not, cond, eqb, List, [], ◌∷◌, length, Option, Some, None, Ok, inl, inr, refl, sym, subst, ◌∙◌, arith}
 use Rattle.std.specs.Prelude.{◌==◌, ◌&&◌, IsSome, nat_lt, slice_set}
-use Rattle.std.proofs.lemmas.Bool.{cases_lt, eq-eqb, ltb-true}
+use Rattle.std.proofs.lemmas.Bool.{cases_lt, ltb-true}
 use Rattle.std.proofs.lemmas.Bool.Decides.{nat_tests}
 use Rattle.std.proofs.lemmas.List.{get_or_past, length-set}
 use Rattle.std.proofs.lemmas.List.Elements.{All-get_or, All-set}
-use Rattle.std.proofs.lemmas.List.Folds.{list_any_at}
 use Rattle.exam_terms.specs.Refusing.{unless}
 use Rattle.exam_terms.specs.declared.place.Place.{Place}
-use Rattle.exam_model.specs.Enrolments.{Enrolled, AreEnrolments, students}
+use Rattle.exam_model.specs.Enrolments.{Enrolled, AreEnrolments}
 use Rattle.exam_model.specs.Fits.{Fits, PlaceExists}
 use Rattle.exam_model.specs.Instance.{Session, IsInstance}
 use Rattle.exam_model.specs.Timetable.{Placing, place_of}
@@ -38,10 +37,6 @@ pub are_enrolled : (I : Session) (E : Enrolled) → AreEnrolments E → length E
 are_enrolled I E set same = record {
   set = set;
   exams = same;
-  students = λ e exists k d within.
-      let xs : List ℕ = students E e in
-      let s : ℕ = get_or xs k d in
-      set.numbers e s (list_any_at (λ t. t == s) xs k d within (eq-eqb s s refl));
 }
 
 -- ---- load

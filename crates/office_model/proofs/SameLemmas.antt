@@ -8,9 +8,9 @@ use Rattle.std.proofs.lemmas.List.{length-set, set_past}
 use Rattle.std.proofs.lemmas.List.Elements.{filter_agree}
 use Rattle.exam_model.specs.declared.change.Change.{Change}
 use Rattle.exam_model.specs.Changes.{with_student, without_student, with_pair, without_pair, exams_sat}
-use Rattle.exam_model.specs.Enrolments.{Enrolled, has, has_student, students}
+use Rattle.exam_model.specs.Enrolments.{Enrolled, has, has_number, students}
 use Rattle.exam_model.proofs.StudentLemmas.{has-with, has-without}
-use Rattle.office_model.specs.Batches.{after_change, after_changes}
+use Rattle.office_model.specs.BatchLines.{after_change, after_changes}
 
 -- of two enrolments for one number of exams a student sits the same exams in both
 pub record AreSame (s : ℕ) (E F : Enrolled) : Type 0 where
@@ -27,7 +27,7 @@ same_sat s E F h =
 
 -- lists of one exam that say the same of her, in their places
 own_in : (E F : Enrolled) (e s : ℕ) (one other : List ℕ) → AreSame s E F
-    → has_student one s ≡ has_student other s → (f : ℕ)
+    → has_number one s ≡ has_number other s → (f : ℕ)
     → has (set E e one) s f ≡ has (set F e other) s f
 own_in E F e s one other h same f = elim (cases_lt e (length E)) [
   | inl lt ↦ elim (cases_eq f e) [
@@ -39,7 +39,7 @@ own_in E F e s one other h same f = elim (cases_lt e (length E)) [
 
 -- a list of one exam that says the same of her as before
 set_same : (E : Enrolled) (e s : ℕ) (new : List ℕ)
-    → has_student new s ≡ has_student (students E e) s → AreSame s (set E e new) E
+    → has_number new s ≡ has_number (students E e) s → AreSame s (set E e new) E
 set_same E e s new same = record {
   exams = length-set E e new;
   sat = λ f. elim (cases_lt e (length E)) [

@@ -11,7 +11,8 @@ use Rattle.exam_publish.specs.declared.seat_row.SeatRow.{SeatRow}
 use Rattle.exam_publish.proofs.ListLemmas.{any_map, has_ascending}
 use Rattle.office_model.specs.Office.{Publication}
 use Rattle.office_model.specs.ViewRows.{AreOfPublication, place_in, place_of_seat, places_in, seat_in, view_row}
-use Rattle.office_model.specs.Views.{her_exams, published_place, shown_exam, shown_exams, shown_from, view_from}
+use Rattle.office_model.specs.Shown.{shown_exam, shown_exams, shown_from}
+use Rattle.office_model.specs.Views.{her_exams, published_place, view_from}
 
 -- ---- one exam's place
 

@@ -4,7 +4,8 @@ use Rattle.std.specs.List.{find}
 use Rattle.office_policy.specs.Commands.{PlainCommand, me, my_exam, my_penalty}
 use Rattle.office_policy.specs.declared.policy.Denial.TheVariants.{P1}
 use Rattle.office_model.specs.Answers.{PlainAnswer, my_exams, my_one, my_cost, not_mine, denied}
-use Rattle.office_model.specs.Views.{View, shown_exams, shown_penalty}
+use Rattle.office_model.specs.Shown.{shown_exams, shown_penalty}
+use Rattle.office_model.specs.Views.{View}
 use Rattle.office_model.specs.declared.views.ViewRow.{ViewRow}
 
 -- what a candidate can ask for: all of her exams, one of them, or what they cost her

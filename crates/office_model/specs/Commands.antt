@@ -63,7 +63,8 @@ SpellsSession bytes counts =
 
 -- a text that is refused has this fault first
 abbrev pub NamesFirstFault : List ℕ → StoreFault → Type 0
-NamesFirstFault bytes fault = (f : FileFault) → fault ≡ Refused (refusal.File f) → first_fault bytes ≡ Some f
+NamesFirstFault bytes fault =
+    (f : FileFault) → fault ≡ Refused (refusal.File f) → first_fault bytes ≡ Some f
 
 -- a session is loaded where there is none: the file's fault comes first
 abbrev pub loaded : List ℕ → OfficeState → Gives counts.Loaded

@@ -1,8 +1,10 @@
 pub mod Office
 pub mod Numbers
 pub mod Commands
+pub mod BatchLines
 pub mod Batches
 pub mod Publishing
+pub mod Shown
 pub mod Views
 pub mod ViewRows
 pub mod Answers

@@ -1,7 +1,7 @@
 -- The office: nothing, or the records of one examination session.
 use Rattle.std.specs.Prelude.{◌≡◌, ◌≢◌, ℕ, ◌<◌, ◌≤◌, ◌==◌, if◌then◌else◌, List, length, All, AllPairs, Option, Some, None, IsSome}
-use Rattle.exam_terms.specs.declared.limits.TheConstants.{MAX_BATCH, MAX_BATCHES, MAX_DEPARTMENT, MAX_DRAFTS, MAX_STUDENT, TEXT_BYTES}
-use Rattle.exam_model.specs.Enrolments.{Enrolled, AreEnrolments, students}
+use Rattle.exam_terms.specs.declared.limits.TheConstants.{MAX_BATCH, MAX_BATCHES, MAX_DEPARTMENT, MAX_DRAFTS, TEXT_BYTES}
+use Rattle.exam_model.specs.Enrolments.{Enrolled, AreEnrolments}
 use Rattle.exam_model.specs.Fits.{Fits}
 use Rattle.exam_model.specs.Instance.{Session, IsInstance}
 use Rattle.exam_model.specs.Timetable.{Placing}
@@ -46,11 +46,10 @@ published_enrolments I p = enrolled_in (length I.exams) p.rows
 
 -- ---- what every office keeps
 
--- enrolments of this session's exams; a student's number has at most nine digits
+-- enrolments of this session's exams
 pub record AreEnrolled (I : Session) (E : Enrolled) : Type 0 where
   pub set : AreEnrolments E
   pub exams : length E ≡ length I.exams
-  pub students : (e : ℕ) → e < length E → All (λ s. s ≤ MAX_STUDENT) (students E e)
 
 -- each exam has a place, no rule is broken with the enrolments of the rows, each row is at its
 -- exam's place, and each seat is one of its room and nobody else's

@@ -42,6 +42,7 @@ abbrev pub draft_published : ℕ → OfficeState → Gives counts.Published
 draft_published d office = do
   r ← when_loaded office
   T ← else_err NoDraft (r.draft d)
-  _ ← named (λ f. Refused (refusal.Publish f)) (unless_refused (publish_refusal r.session r.enrolments T))
+  _ ← named (λ f. Refused (refusal.Publish f))
+      (unless_refused (publish_refusal r.session r.enrolments T))
   let new = published_as r T
   Ok (publication_counts r new, Some (record r { published = Some new }))

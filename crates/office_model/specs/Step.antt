@@ -9,7 +9,8 @@ use Rattle.exam_draft.specs.declared.edit.Edit.TheVariants as edit
 use Rattle.exam_rules.specs.Breaches.{breaches_of}
 use Rattle.exam_score.specs.Penalty.{total_of}
 use Rattle.exam_score.specs.Track.{track}
-use Rattle.office_files.specs.CanonicalText.{canonical_instance, canonical_solution}
+use Rattle.office_files.specs.CanonicalText.{canonical_instance}
+use Rattle.office_files.specs.CanonicalSolution.{canonical_solution}
 use Rattle.office_policy.specs.Commands.{PlainCommand, me, my_exam, my_penalty, load, instance}
 use Rattle.office_policy.specs.Commands.{set_owner, new_draft, draft, draft_penalty}
 use Rattle.office_policy.specs.Commands.{draft_violations, drop_draft, place, move, clear, swap}
@@ -125,7 +126,8 @@ permitted old caller publication_penalty =
 permitted old caller publication_rooms =
     (old, of_published (λ I p. rooms_text I p.timetable p.rows) (publication_in old))
 permitted old caller (batch number body) =
-    with_body old (λ bytes. outcome (now_enrolled number) old (batch_enrolled number bytes old)) body
+    with_body old (λ bytes. outcome (now_enrolled number) old (batch_enrolled number bytes old))
+    body
 
 -- the owners of the exams that a command edits, 0 where it edits none
 abbrev pub owners_in : OfficeState → PlainCommand → ℕ × ℕ

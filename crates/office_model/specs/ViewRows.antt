@@ -6,7 +6,8 @@ use Rattle.exam_model.specs.declared.parts.Period.{Period}
 use Rattle.exam_publish.specs.Rows.{row_place}
 use Rattle.exam_publish.specs.declared.seat_row.SeatRow.{SeatRow}
 use Rattle.office_model.specs.Office.{Publication}
-use Rattle.office_model.specs.Views.{published_place, shown_place}
+use Rattle.office_model.specs.Shown.{shown_place}
+use Rattle.office_model.specs.Views.{published_place}
 use Rattle.office_model.specs.declared.views.ViewRow.{ViewRow}
 
 -- the published places of exams, each beside its exam

@@ -6,7 +6,8 @@ ghost use Rattle.exam_publish.specs.Changed.{ascending};
 ghost use Rattle.office_model.specs.Office.{Publication};
 ghost use Rattle.office_model.specs.ViewRows.{AreOfPublication, place_in, place_of_seat, seat_in};
 ghost use Rattle.office_model.specs.ViewRows.{view_row};
-ghost use Rattle.office_model.specs.Views.{her_exams, shown_exams, shown_place, view_from};
+ghost use Rattle.office_model.specs.Shown.{shown_exams, shown_place};
+ghost use Rattle.office_model.specs.Views.{her_exams, view_from};
 
 use exam_calendar::Date;
 use exam_model::{ExamNo, Instance, PeriodNo, Place, RoomNo, StudentNo};
@@ -46,7 +47,7 @@ pub struct CandidateView {
 }
 
 impl Model for CandidateView {
-    ghost use Rattle.office_model.specs.Views.{ShownView};
+    ghost use Rattle.office_model.specs.Shown.{ShownView};
 
     ghost Value = { ShownView };
 
@@ -192,6 +193,19 @@ fn is_among(exams: &[ExamNo], exam: ExamNo) -> bool
     exams.contains(&exam)
 }
 
+// Where her seat in an exam is; without one the place that is known.
+fn published_at(places: &[(ExamNo, Place)], seats: &[SeatRow], exam: ExamNo) -> Option<Place>
+    ensures { result ≡ place_of_seat (seat_in seats.now exam) (place_in places.now exam) }
+{
+    match seat_in(seats, exam) {
+        Some(row) => Some(Place {
+            period: row.period,
+            room: row.room,
+        }),
+        None => place_in(places, exam),
+    }
+}
+
 fn seat_in(seats: &[SeatRow], exam: ExamNo) -> Option<SeatRow>
     ensures { result ≡ seat_in seats.now exam }
 {
@@ -208,19 +222,6 @@ fn place_in(places: &[(ExamNo, Place)], exam: ExamNo) -> Option<Place>
 {
     let found = places.iter().find(|found| found.0 == exam)?;
     Some(found.1)
-}
-
-// Where her seat in an exam is; without one the place that is known.
-fn published_at(places: &[(ExamNo, Place)], seats: &[SeatRow], exam: ExamNo) -> Option<Place>
-    ensures { result ≡ place_of_seat (seat_in seats.now exam) (place_in places.now exam) }
-{
-    match seat_in(seats, exam) {
-        Some(row) => Some(Place {
-            period: row.period,
-            room: row.room,
-        }),
-        None => place_in(places, exam),
-    }
 }
 
 // Her seat's number in an exam, if she has a seat there.

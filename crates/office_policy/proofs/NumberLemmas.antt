@@ -6,8 +6,7 @@ use Rattle.std.specs.List.{list_all}
 use Rattle.std.specs.Char.{is_ascii_digit}
 use Rattle.std.specs.Str.Parse.{digits_value}
 use Rattle.std.proofs.lemmas.Bool.Decides.{nat_tests}
-use Rattle.office_policy.specs.Commands.{IsSmall}
-use Rattle.office_policy.specs.Numbers.{number_of}
+use Rattle.office_policy.specs.Numbers.{IsSmall, number_of}
 use Rattle.office_policy.proofs.DigitLemmas.{nine}
 
 few_digits : (n : ℕ) → nat_le n 9 ≡ true → n ≤ 9

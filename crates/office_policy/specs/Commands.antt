@@ -1,10 +1,10 @@
 -- What is asked, without where its texts lie in memory.
-use Rattle.std.specs.Prelude.{◌≡◌, ℕ, ◌≤◌, List}
-use Rattle.std.specs.Borrow.{Bor}
-use Rattle.exam_terms.specs.declared.limits.TheConstants.{MAX_NUMBER, MAX_DEPARTMENT}
+use Rattle.std.specs.Prelude.{ℕ, ◌≤◌, List}
+use Rattle.exam_terms.specs.declared.limits.TheConstants.{MAX_DEPARTMENT}
 use Rattle.exam_terms.specs.declared.place.Place.{Place}
+use Rattle.office_policy.specs.CommandBodies.{plain_text, IfGiven}
+use Rattle.office_policy.specs.Numbers.{IsSmall, IsSmallPlace}
 use Rattle.office_policy.specs.declared.command.Body.{Body}
-use Rattle.office_policy.specs.declared.command.Body.TheVariants.{Given, Bad, Long}
 use Rattle.office_policy.specs.declared.command.Command.{Command}
 use Rattle.office_policy.specs.declared.command.Command.TheVariants as command
 
@@ -31,12 +31,6 @@ pub data PlainCommand : Type 0 where
   publication_rooms : PlainCommand
   batch : ℕ → Body (List ℕ) → PlainCommand
 
--- what a body says, as bytes
-abbrev pub plain_text : Body (Bor (List ℕ)) → Body (List ℕ)
-plain_text (Given text) = Given text.now
-plain_text Bad = Bad
-plain_text Long = Long
-
 -- the command that the program holds
 abbrev pub plain_command : Command → PlainCommand
 plain_command command.Me = me
@@ -59,27 +53,6 @@ plain_command command.Publication = publication
 plain_command command.PublicationPenalty = publication_penalty
 plain_command command.PublicationRooms = publication_rooms
 plain_command (command.Batch n text) = batch n (plain_text text)
-
--- what a body gives, if anything, is so
-abbrev pub IfGiven : {A : Type 0} → Body A → (A → Type 0) → Type 0
-IfGiven (Given x) P = P x
-IfGiven Bad P = Unit {0}
-IfGiven Long P = Unit {0}
-
--- the text that the command holds, if it has one, is this very one in memory
-abbrev pub HoldsText : Bor (List ℕ) → Command → Type 0
-HoldsText text (command.Load body) = IfGiven body (λ held. held ≡ text)
-HoldsText text (command.NewDraft d body) = IfGiven body (λ held. held ≡ text)
-HoldsText text (command.Batch n body) = IfGiven body (λ held. held ≡ text)
-HoldsText text _ = Unit {0}
-
--- a number of at most nine digits
-abbrev pub IsSmall : ℕ → Type 0
-IsSmall n = n ≤ MAX_NUMBER
-
--- both numbers of a place are
-abbrev pub IsSmallPlace : Place → Type 0
-IsSmallPlace at = IsSmall at.period × IsSmall at.room
 
 -- each number of the command is in its limit
 abbrev pub HasSmallNumbers : PlainCommand → Type 0

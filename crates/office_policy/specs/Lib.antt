@@ -1,4 +1,5 @@
 pub mod Numbers
 pub mod Callers
+pub mod CommandBodies
 pub mod Commands
 pub mod Policy

@@ -4,7 +4,7 @@ use Rattle.std.specs.Io.KnownBytes.{Appends}
 use Rattle.sqlite.specs.State.{State}
 use Rattle.exam_model.specs.Instance.{Session}
 use Rattle.exam_model.specs.Timetable.{Placing}
-use Rattle.office_files.specs.CanonicalText.{canonical_solution}
+use Rattle.office_files.specs.CanonicalSolution.{canonical_solution}
 use Rattle.office_model.specs.Office.{OfficeState, Publication}
 use Rattle.office_model.specs.Step.{publication_in}
 use Rattle.office_model.specs.declared.fault.StoreFault.TheVariants as store

@@ -1,6 +1,9 @@
+pub mod CommandLine
+pub mod ServeLine
 pub mod Program
 pub mod Load
 pub mod Export
+pub mod TaskFaults
 pub mod FaultLines
 pub mod Serve
 pub mod LongWork

@@ -17,4 +17,5 @@ RepliesByView old request reply new =
 -- while it is open, it stands for an office that this one comes to by replying to some requests
 abbrev pub ComesTo : OfficeState → State → Type 0
 ComesTo there s =
-    (next : OfficeState) × Reaches RepliesByView there next × (IsTrue s.is_open → IsOfficeOf s.now next)
+    (next : OfficeState) × Reaches RepliesByView there next
+    × (IsTrue s.is_open → IsOfficeOf s.now next)

@@ -4,7 +4,7 @@ use Rattle.office_check.specs.Check.{WritesReport}
 use Rattle.office_program.specs.Export.{PrintsSolution}
 use Rattle.office_program.specs.Load.{PrintsCounts}
 use Rattle.office_connections.specs.Lines.{PrintsPort}
-use Rattle.office_program.specs.FaultLines.{IsOfCheck, IsOfExport, IsOfLoad, IsOfServe}
+use Rattle.office_program.specs.TaskFaults.{IsOfCheck, IsOfExport, IsOfLoad, IsOfServe}
 use Rattle.office_program.specs.declared.faults.ProgramFault.{ProgramFault}
 use Rattle.office_program.specs.declared.words.Task.{Task}
 use Rattle.office_program.specs.declared.words.Task.TheVariants.{Check, Export, Load, Serve}
@@ -19,7 +19,8 @@ Prints (Export database) old new = PrintsSolution old new
 
 -- the fault shows as one of the files that the task names
 abbrev pub IsOfTask : Task → ProgramFault → Type 0
-IsOfTask (Check instance solution) shown = IsOfCheck (string_bytes instance) (string_bytes solution) shown
+IsOfTask (Check instance solution) shown =
+    IsOfCheck (string_bytes instance) (string_bytes solution) shown
 IsOfTask (Load database instance) shown = IsOfLoad (string_bytes instance) shown
 IsOfTask (Serve database terms) shown = IsOfServe shown
 IsOfTask (Export database) shown = IsOfExport shown

@@ -4,13 +4,13 @@ ghost use Rattle.std.specs.Io.KnownBytes.{Keeps};
 ghost use Rattle.sqlite.specs.Held.{state};
 ghost use Rattle.sqlite.specs.State.{HasCleanDisk};
 ghost use Rattle.exam_model.specs.Timetable.{Placing};
-ghost use Rattle.office_files.specs.CanonicalText.{canonical_solution};
+ghost use Rattle.office_files.specs.CanonicalSolution.{canonical_solution};
 ghost use Rattle.office_model.specs.Office.{OfficeState};
 ghost use Rattle.office_records.specs.Stands.{IsKept};
 ghost use Rattle.office_store.specs.Running.{Now};
 ghost use Rattle.office_program.specs.Export.{Exports, PrintsSolution, RefusesExport};
 ghost use Rattle.office_program.specs.Export.{published_solution};
-ghost use Rattle.office_program.specs.FaultLines.{IsOfExport};
+ghost use Rattle.office_program.specs.TaskFaults.{IsOfExport};
 
 use crate::faults::{ProgramFault, fault_of_export, fault_of_open};
 use crate::telling::{LongWork, tell};
@@ -33,7 +33,7 @@ pub enum ExportFault {
 }
 
 // `export`. The database holds an office: none is made.
-pub fn export<'a, W: Write>(
+pub(crate) fn export<'a, W: Write>(
     rt: &HostRuntime,
     database: &str,
     out: &mut W,
@@ -47,26 +47,13 @@ pub fn export<'a, W: Write>(
         Ok(conn) => conn,
         Err(error) => return Err(fault_of_open(error)),
     };
-    let (conn, done) = export_and_keep(rt.alloc(), conn, out);
+    let (conn, done) = match export_run(rt.alloc(), conn, out) {
+        Ok(conn) => (conn, Ok(0)),
+        Err((fault, conn)) => (conn, Err(fault_of_export(fault))),
+    };
     // A log that can't be copied into the file stays beside it, and is read there.
     let _ = conn.close();
     done
-}
-
-// Writes what the office of a database has published; the connection comes back.
-fn export_and_keep<'a, S: Alter, W: Write>(
-    alloc: Global,
-    conn: Connection<S>,
-    out: &mut W,
-) -> (Connection<S>, Result<u8, ProgramFault<'a>>)
-    ensures status { IfOk result.1 (λ status. status ≡ 0) }
-    ensures printed { IfOk result.1 (λ _. PrintsSolution (W.contents out.old) (W.contents out.new)) }
-    ensures fault { IfErr result.1 IsOfExport }
-{
-    match export_run(alloc, conn, out) {
-        Ok(conn) => (conn, Ok(0)),
-        Err((fault, conn)) => (conn, Err(fault_of_export(fault))),
-    }
 }
 
 /// Writes the solution that the office of a database has published. The connection comes back.

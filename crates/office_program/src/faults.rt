@@ -1,15 +1,15 @@
 // What ends the program with status 1, and the line that it is printed as.
 ghost use Rattle.std.specs.Prelude.{◌≡◌};
-ghost use Rattle.office_program.specs.FaultLines.{check_line, export_line, fault_line, input_line};
-ghost use Rattle.office_program.specs.FaultLines.{load_line, number_of, open_line, run_line};
-ghost use Rattle.office_program.specs.FaultLines.{store_number_of};
+ghost use Rattle.office_program.specs.FaultLines.{fault_line, input_line, open_line};
+ghost use Rattle.office_program.specs.TaskFaults.{check_line, export_line, load_line, run_line};
 
 use crate::exporting::ExportFault;
 use crate::loading::LoadFault;
-use office_check::{CheckFault, InputFault};
+use office_check::CheckFault;
 use office_connections::RunFault;
-use office_files::{FaultKind, FileFault};
+use office_files::{FileFault, InputFault};
 use office_http::{Refusal, StoreFault};
+use office_model::kind_number;
 use sqlite::{Error, ErrorCode};
 use std::fmt;
 
@@ -27,30 +27,6 @@ pub enum ProgramFault<'a> {
     NoMemory,
 }
 
-// The number by which a fault of a file is printed.
-fn number_of(what: FaultKind) -> u8
-    ensures { result ≡ number_of what }
-{
-    what as u8
-}
-
-// The number by which a refusal of the office is printed.
-fn store_number_of(fault: StoreFault) -> u8
-    ensures { result ≡ store_number_of fault }
-{
-    match fault {
-        StoreFault::Loaded => 1,
-        StoreFault::NotLoaded => 2,
-        StoreFault::NoDraft => 3,
-        StoreFault::DraftTaken => 4,
-        StoreFault::BatchDiffers => 5,
-        StoreFault::TooMany => 6,
-        StoreFault::Refused(_) => 7,
-        StoreFault::Store => 8,
-        StoreFault::BadSchema => 9,
-    }
-}
-
 impl fmt::Display for ProgramFault<'_> {
     ghost use Rattle.std.specs.Prelude.{Some};
     ghost use Rattle.office_program.specs.FaultLines.{fault_line};
@@ -61,16 +37,16 @@ impl fmt::Display for ProgramFault<'_> {
         match self {
             ProgramFault::CannotRead(path) => write!(f, "examoffice: cannot read {path}"),
             ProgramFault::Instance(FileFault { line, what }) => {
-                let number = number_of(*what);
+                let number = kind_number(*what);
                 write!(f, "examoffice: instance line {line}: fault {number}")
             }
             ProgramFault::Solution(FileFault { line, what }) => {
-                let number = number_of(*what);
+                let number = kind_number(*what);
                 write!(f, "examoffice: solution line {line}: fault {number}")
             }
             ProgramFault::CannotOpen => write!(f, "examoffice: cannot open database"),
             ProgramFault::Store(fault) => {
-                let number = store_number_of(*fault);
+                let number = fault.number();
                 write!(f, "examoffice: store fault {number}")
             }
             ProgramFault::NoPublication => write!(f, "examoffice: no publication"),
@@ -82,7 +58,11 @@ impl fmt::Display for ProgramFault<'_> {
 }
 
 // What a fault of `check` on two files is to the program.
-pub fn fault_on<'a>(fault: CheckFault, instance: &'a str, solution: &'a str) -> ProgramFault<'a>
+pub(crate) fn fault_on<'a>(
+    fault: CheckFault,
+    instance: &'a str,
+    solution: &'a str,
+) -> ProgramFault<'a>
     ensures { fault_line result ≡ check_line instance.now solution.now fault }
 {
     match fault {
@@ -96,7 +76,7 @@ pub fn fault_on<'a>(fault: CheckFault, instance: &'a str, solution: &'a str) -> 
 }
 
 // What a fault of the instance's input is to the program.
-pub fn fault_of_input<'a>(fault: InputFault, path: &'a str) -> ProgramFault<'a>
+pub(crate) fn fault_of_input<'a>(fault: InputFault, path: &'a str) -> ProgramFault<'a>
     ensures { fault_line result ≡ input_line path.now fault }
 {
     match fault {
@@ -107,7 +87,7 @@ pub fn fault_of_input<'a>(fault: InputFault, path: &'a str) -> ProgramFault<'a>
 }
 
 // What a fault of `load` is to the program.
-pub fn fault_of_load<'a>(fault: LoadFault) -> ProgramFault<'a>
+pub(crate) fn fault_of_load<'a>(fault: LoadFault) -> ProgramFault<'a>
     ensures { fault_line result ≡ load_line fault }
 {
     match fault {
@@ -120,7 +100,7 @@ pub fn fault_of_load<'a>(fault: LoadFault) -> ProgramFault<'a>
 }
 
 // What a fault of `export` is to the program.
-pub fn fault_of_export<'a>(fault: ExportFault) -> ProgramFault<'a>
+pub(crate) fn fault_of_export<'a>(fault: ExportFault) -> ProgramFault<'a>
     ensures { fault_line result ≡ export_line fault }
 {
     match fault {
@@ -132,7 +112,7 @@ pub fn fault_of_export<'a>(fault: ExportFault) -> ProgramFault<'a>
 }
 
 // What a fault of a server's run is to the program.
-pub fn fault_of_run<'a>(fault: RunFault) -> ProgramFault<'a>
+pub(crate) fn fault_of_run<'a>(fault: RunFault) -> ProgramFault<'a>
     ensures { fault_line result ≡ run_line fault }
 {
     match fault {
@@ -142,7 +122,7 @@ pub fn fault_of_run<'a>(fault: RunFault) -> ProgramFault<'a>
 }
 
 // What a database that can't be opened is to the program.
-pub fn fault_of_open<'a>(error: Error) -> ProgramFault<'a>
+pub(crate) fn fault_of_open<'a>(error: Error) -> ProgramFault<'a>
     ensures { fault_line result ≡ open_line error }
 {
     match error {

@@ -48,47 +48,6 @@ impl fmt::Display for LoadedLine {
     }
 }
 
-// Writes how much was loaded.
-fn print_loaded<W: Write>(loaded: Loaded, writer: &mut W) -> io::Result<()>
-    ensures { OnOk result
-        (Appends (W.contents writer.old) (W.contents writer.new) (loaded_text loaded)) }
-{
-    let line = LoadedLine { loaded };
-    writeln!(writer, "{line}")
-}
-
-// Loads the text into the office, and writes how much was loaded.
-fn load_into<S: Alter, W: Write>(
-    alloc: Global,
-    office: &mut Office<S>,
-    text: &[u8],
-    writer: &mut W,
-) -> Result<(), LoadFault>
-    ensures done { HasCleanDisk (state S.Store office.new) → (there : OfficeState)
-        → Now (state S.Store office.old) there
-        → OnOk result (Loads text.now there (state S.Store office.new)
-        (W.contents writer.old) (W.contents writer.new)) }
-    ensures printed { OnOk result
-        (PrintsCounts text.now (W.contents writer.old) (W.contents writer.new)) }
-    ensures refused { HasCleanDisk (state S.Store office.new) → (there : OfficeState)
-        → Now (state S.Store office.old) there
-        → IfErr result (RefusesLoad text.now there (state S.Store office.new)) }
-    ensures unwritten { IfErr result (λ fault. fault ≢ LoadFault.Write
-        → Keeps (W.contents writer.old) (W.contents writer.new)) }
-    ensures first { IfErr result (NamesTextFault text.now) }
-    ensures clean { HasCleanDisk (state S.Store office.new)
-        → HasCleanDisk (state S.Store office.old) }
-{
-    let loaded = match office.load(alloc, text) {
-        Ok(loaded) => loaded,
-        Err(fault) => return Err(LoadFault::Store(fault)),
-    };
-    match print_loaded(loaded, writer) {
-        Ok(()) => Ok(()),
-        Err(_) => Err(LoadFault::Write),
-    }
-}
-
 /// Loads the session of an instance's text into the office of a database, which is made where
 /// the database has no table, index or view; then writes how much was loaded. The connection
 /// comes back.
@@ -123,4 +82,45 @@ pub fn load_run<S: Alter, W: Write>(
         Ok(()) => Ok(office.release()),
         Err(fault) => Err((fault, office.release())),
     }
+}
+
+// Loads the text into the office, and writes how much was loaded.
+fn load_into<S: Alter, W: Write>(
+    alloc: Global,
+    office: &mut Office<S>,
+    text: &[u8],
+    writer: &mut W,
+) -> Result<(), LoadFault>
+    ensures done { HasCleanDisk (state S.Store office.new) → (there : OfficeState)
+        → Now (state S.Store office.old) there
+        → OnOk result (Loads text.now there (state S.Store office.new)
+        (W.contents writer.old) (W.contents writer.new)) }
+    ensures printed { OnOk result
+        (PrintsCounts text.now (W.contents writer.old) (W.contents writer.new)) }
+    ensures refused { HasCleanDisk (state S.Store office.new) → (there : OfficeState)
+        → Now (state S.Store office.old) there
+        → IfErr result (RefusesLoad text.now there (state S.Store office.new)) }
+    ensures unwritten { IfErr result (λ fault. fault ≢ LoadFault.Write
+        → Keeps (W.contents writer.old) (W.contents writer.new)) }
+    ensures first { IfErr result (NamesTextFault text.now) }
+    ensures clean { HasCleanDisk (state S.Store office.new)
+        → HasCleanDisk (state S.Store office.old) }
+{
+    let loaded = match office.load(alloc, text) {
+        Ok(loaded) => loaded,
+        Err(fault) => return Err(LoadFault::Store(fault)),
+    };
+    match print_loaded(loaded, writer) {
+        Ok(()) => Ok(()),
+        Err(_) => Err(LoadFault::Write),
+    }
+}
+
+// Writes how much was loaded.
+fn print_loaded<W: Write>(loaded: Loaded, writer: &mut W) -> io::Result<()>
+    ensures { OnOk result
+        (Appends (W.contents writer.old) (W.contents writer.new) (loaded_text loaded)) }
+{
+    let line = LoadedLine { loaded };
+    writeln!(writer, "{line}")
 }

@@ -9,9 +9,10 @@ ghost use Rattle.clap.specs.Faults.{fault_of};
 ghost use Rattle.clap.specs.declared.error.kind.ErrorKind.TheVariants as kind;
 ghost use Rattle.exam_terms.specs.declared.limits.TheConstants.{INSTANCE_BYTES};
 ghost use Rattle.office_check.specs.Check.{WritesReport};
-ghost use Rattle.office_program.specs.FaultLines.{IsOfCheck, IsOfLoad, IsOfOffice, fault_line, not_text_line};
+ghost use Rattle.office_program.specs.FaultLines.{fault_line, not_text_line};
 ghost use Rattle.office_program.specs.Load.{PrintsCounts};
 ghost use Rattle.office_program.specs.Program.{AreAnswered, IsMistake, IsTask, program};
+ghost use Rattle.office_program.specs.TaskFaults.{IsOfCheck, IsOfLoad, IsOfOffice};
 ghost use Rattle.office_program.specs.Tasks.{IsOfTask, Prints};
 ghost use Rattle.office_program.specs.declared.words.Task.{Task};
 
@@ -23,189 +24,12 @@ use crate::telling::{LongWork, tell};
 use crate::words::{Task, read_words};
 use clap::Error;
 use clap::error::ErrorKind;
-use office_check::{InputFault, check_run, instance_text};
-use office_http::{Alter, Connection};
-use std::alloc::Global;
+use office_check::check_run;
+use office_files::{InputFault, instance_text};
+use office_http::Connection;
 use std::io::Write;
 use std::rt::Files;
 use std::{fs, io};
-
-// `check`. Both files are open before either is read.
-fn check<'a, R: Files + AllocGlobal, W: Write>(
-    rt: &R,
-    instance: &'a str,
-    solution: &'a str,
-    out: &mut W,
-) -> Result<u8, ProgramFault<'a>>
-    ensures status { IfOk result (λ status. (status ≡ 0) ⊎ (status ≡ 3)) }
-    ensures reported { IfOk result (WritesReport (W.contents out.old) (W.contents out.new)) }
-
-    // A line that names a file names one of the two.
-    ensures fault { IfErr result (IsOfCheck instance.now solution.now) }
-{
-    let Ok(mut instance_file) = fs::open(rt, instance) else {
-        return Err(ProgramFault::CannotRead(instance));
-    };
-    let Ok(mut solution_file) = fs::open(rt, solution) else {
-        return Err(ProgramFault::CannotRead(solution));
-    };
-    match check_run(rt.alloc(), &mut instance_file, &mut solution_file, out) {
-        Ok(status) => Ok(status),
-        Err(fault) => Err(fault_on(fault, instance, solution)),
-    }
-}
-
-// The whole text of an instance's file.
-fn text_at<R: Files + AllocGlobal>(rt: &R, path: &str) -> Result<Vec<u8>, InputFault>
-    ensures short { IfOk result (λ text. length text.items ≤ INSTANCE_BYTES) }
-{
-    let Ok(mut file) = fs::open(rt, path) else {
-        return Err(InputFault::Read);
-    };
-    instance_text(rt.alloc(), &mut file)
-}
-
-// Loads an instance's text into the office of a database, whose connection comes back.
-fn load_and_keep<'a, S: Alter, W: Write>(
-    alloc: Global,
-    conn: Connection<S>,
-    text: &[u8],
-    out: &mut W,
-) -> (Connection<S>, Result<u8, ProgramFault<'a>>)
-    ensures status { IfOk result.1 (λ status. status ≡ 0) }
-    ensures printed { IfOk result.1 (λ _.
-        PrintsCounts text.now (W.contents out.old) (W.contents out.new)) }
-    ensures fault { IfErr result.1 (IsOfOffice text.now) }
-{
-    match load_run(alloc, conn, text, out) {
-        Ok(conn) => (conn, Ok(0)),
-        Err((fault, conn)) => (conn, Err(fault_of_load(fault))),
-    }
-}
-
-// Loads an instance's text into the office of a database's file.
-fn load_text<'a, W: Write>(
-    rt: &HostRuntime,
-    database: &str,
-    text: &[u8],
-    out: &mut W,
-) -> Result<u8, ProgramFault<'a>>
-    ensures status { IfOk result (λ status. status ≡ 0) }
-    ensures printed { IfOk result (λ _.
-        PrintsCounts text.now (W.contents out.old) (W.contents out.new)) }
-    ensures fault { IfErr result (IsOfOffice text.now) }
-{
-    tell(rt, LongWork::Opening(database));
-    let conn = match Connection::open(rt, database) {
-        Ok(conn) => conn,
-        Err(error) => return Err(fault_of_open(error)),
-    };
-    let (conn, done) = load_and_keep(rt.alloc(), conn, text, out);
-    // A log that can't be copied into the file stays beside it, and is read there.
-    let _ = conn.close();
-    done
-}
-
-// `load`. The instance's file is read before the database is opened.
-fn load<'a, W: Write>(
-    rt: &HostRuntime,
-    database: &str,
-    instance: &'a str,
-    out: &mut W,
-) -> Result<u8, ProgramFault<'a>>
-    ensures status { IfOk result (λ status. status ≡ 0) }
-    ensures printed { IfOk result (λ _. (text : List ℕ)
-        × PrintsCounts text (W.contents out.old) (W.contents out.new)) }
-
-    // A line that names a file names the instance's.
-    ensures fault { IfErr result (IsOfLoad instance.now) }
-{
-    tell(rt, LongWork::Loading(instance));
-    match text_at(rt, instance) {
-        Ok(text) => load_text(rt, database, &text, out),
-        Err(fault) => Err(fault_of_input(fault, instance)),
-    }
-}
-
-// Does a task.
-fn run_task<'a, W: Write, E: Write>(
-    rt: &HostRuntime,
-    task: &'a Task,
-    out: &mut W,
-    err: &mut E,
-) -> Result<u8, ProgramFault<'a>>
-    ensures status { IfOk result (λ status. (status ≡ 0) ⊎ (status ≡ 3)) }
-    ensures broken { IfOk result (λ status. status ≡ 3
-        → WritesReport (W.contents out.old) (W.contents out.new) 3) }
-    ensures done { IfOk result (λ status. status ≡ 0
-        → Prints task.now (W.contents out.old) (W.contents out.new)) }
-
-    // A line that names a file names one of the task's.
-    ensures fault { IfErr result (IsOfTask task.now) }
-{
-    match task {
-        Task::Check(instance, solution) => check(rt, instance, solution, out),
-        Task::Load(database, instance) => load(rt, database, instance, out),
-        Task::Serve(database, terms) => serve(rt, database, *terms, out, err),
-        Task::Export(database) => export(rt, database, out),
-    }
-}
-
-// Prints the line of a fault.
-fn print_fault<W: Write>(fault: &ProgramFault<'_>, err: &mut W) -> io::Result<()>
-    ensures { OnOk result
-        (Appends (W.contents err.old) (W.contents err.new) (fault_line fault.now ++ 10 ∷ [])) }
-{
-    writeln!(err, "{fault}")
-}
-
-// Where the line of a fault can't be printed, nothing more can be done.
-fn complain<W: Write>(fault: &ProgramFault<'_>, err: &mut W) -> u8
-    ensures { result ≡ 1 }
-{
-    let _ = print_fault(fault, err);
-    1
-}
-
-// Answers words that are no command: a mistake in them, or a call for help.
-fn refuse_words<O: Write, E: Write>(error: &Error, out: &mut O, err: &mut E) -> u8
-    ensures within { result ≤ 2 }
-    ensures help { result ≡ 0 → (kind_of error.now ≡ kind.DisplayHelp)
-        ⊎ (kind_of error.now ≡ kind.DisplayVersion) }
-    ensures mistake { (result ≡ 2) ↔ IsMistake (kind_of error.now) }
-{
-    if error.kind() == ErrorKind::OutOfMemory {
-        return complain(&ProgramFault::NoMemory, err);
-    }
-    if error.use_stderr() {
-        let _ = write!(err, "{error}");
-        return 2;
-    }
-    match write!(out, "{error}") {
-        Ok(()) => 0,
-        Err(_) => complain(&ProgramFault::CannotWrite, err),
-    }
-}
-
-// Prints the line for words that are no texts.
-fn print_not_text<W: Write>(err: &mut W) -> io::Result<()>
-    ensures { OnOk result
-        (Appends (W.contents err.old) (W.contents err.new) (not_text_line ++ 10 ∷ [])) }
-{
-    writeln!(err, "error: the words are not all UTF-8")
-}
-
-/// Answers a command line that is no list of texts, and gives the exit status.
-pub fn refuse_arguments<E: Write>(fault: &io::Error, err: &mut E) -> u8
-    ensures within { (result ≡ 1) ⊎ (result ≡ 2) }
-    ensures memory { (result ≡ 1) ↔ (error_kind fault.now ≡ failure.OutOfMemory) }
-{
-    if fault.kind() == io::ErrorKind::OutOfMemory {
-        return complain(&ProgramFault::NoMemory, err);
-    }
-    let _ = print_not_text(err);
-    2
-}
 
 /// Does what the words say, of which the first is the program's name, and answers the exit
 /// status: 0 done, 1 a fault of a file, an office, a port, `out` or memory, 2 a mistake in the
@@ -241,4 +65,166 @@ pub fn run_program<O: Write, E: Write>(
         Ok(status) => status,
         Err(fault) => complain(&fault, err),
     }
+}
+
+// Does a task.
+fn run_task<'a, W: Write, E: Write>(
+    rt: &HostRuntime,
+    task: &'a Task,
+    out: &mut W,
+    err: &mut E,
+) -> Result<u8, ProgramFault<'a>>
+    ensures status { IfOk result (λ status. (status ≡ 0) ⊎ (status ≡ 3)) }
+    ensures broken { IfOk result (λ status. status ≡ 3
+        → WritesReport (W.contents out.old) (W.contents out.new) 3) }
+    ensures done { IfOk result (λ status. status ≡ 0
+        → Prints task.now (W.contents out.old) (W.contents out.new)) }
+
+    // A line that names a file names one of the task's.
+    ensures fault { IfErr result (IsOfTask task.now) }
+{
+    match task {
+        Task::Check(instance, solution) => check(rt, instance, solution, out),
+        Task::Load(database, instance) => load(rt, database, instance, out),
+        Task::Serve(database, terms) => serve(rt, database, *terms, out, err),
+        Task::Export(database) => export(rt, database, out),
+    }
+}
+
+// `check`. Both files are open before either is read.
+fn check<'a, R: Files + AllocGlobal, W: Write>(
+    rt: &R,
+    instance: &'a str,
+    solution: &'a str,
+    out: &mut W,
+) -> Result<u8, ProgramFault<'a>>
+    ensures status { IfOk result (λ status. (status ≡ 0) ⊎ (status ≡ 3)) }
+    ensures reported { IfOk result (WritesReport (W.contents out.old) (W.contents out.new)) }
+
+    // A line that names a file names one of the two.
+    ensures fault { IfErr result (IsOfCheck instance.now solution.now) }
+{
+    let Ok(mut instance_file) = fs::open(rt, instance) else {
+        return Err(ProgramFault::CannotRead(instance));
+    };
+    let Ok(mut solution_file) = fs::open(rt, solution) else {
+        return Err(ProgramFault::CannotRead(solution));
+    };
+    match check_run(rt.alloc(), &mut instance_file, &mut solution_file, out) {
+        Ok(status) => Ok(status),
+        Err(fault) => Err(fault_on(fault, instance, solution)),
+    }
+}
+
+// `load`. The instance's file is read before the database is opened.
+fn load<'a, W: Write>(
+    rt: &HostRuntime,
+    database: &str,
+    instance: &'a str,
+    out: &mut W,
+) -> Result<u8, ProgramFault<'a>>
+    ensures status { IfOk result (λ status. status ≡ 0) }
+    ensures printed { IfOk result (λ _. (text : List ℕ)
+        × PrintsCounts text (W.contents out.old) (W.contents out.new)) }
+
+    // A line that names a file names the instance's.
+    ensures fault { IfErr result (IsOfLoad instance.now) }
+{
+    tell(rt, LongWork::Loading(instance));
+    match text_at(rt, instance) {
+        Ok(text) => load_text(rt, database, &text, out),
+        Err(fault) => Err(fault_of_input(fault, instance)),
+    }
+}
+
+// The whole text of an instance's file.
+fn text_at<R: Files + AllocGlobal>(rt: &R, path: &str) -> Result<Vec<u8>, InputFault>
+    ensures short { IfOk result (λ text. length text.items ≤ INSTANCE_BYTES) }
+{
+    let Ok(mut file) = fs::open(rt, path) else {
+        return Err(InputFault::Read);
+    };
+    instance_text(rt.alloc(), &mut file)
+}
+
+// Loads an instance's text into the office of a database's file.
+fn load_text<'a, W: Write>(
+    rt: &HostRuntime,
+    database: &str,
+    text: &[u8],
+    out: &mut W,
+) -> Result<u8, ProgramFault<'a>>
+    ensures status { IfOk result (λ status. status ≡ 0) }
+    ensures printed { IfOk result (λ _.
+        PrintsCounts text.now (W.contents out.old) (W.contents out.new)) }
+    ensures fault { IfErr result (IsOfOffice text.now) }
+{
+    tell(rt, LongWork::Opening(database));
+    let conn = match Connection::open(rt, database) {
+        Ok(conn) => conn,
+        Err(error) => return Err(fault_of_open(error)),
+    };
+    let (conn, done) = match load_run(rt.alloc(), conn, text, out) {
+        Ok(conn) => (conn, Ok(0)),
+        Err((fault, conn)) => (conn, Err(fault_of_load(fault))),
+    };
+    // A log that can't be copied into the file stays beside it, and is read there.
+    let _ = conn.close();
+    done
+}
+
+// Answers words that are no command: a mistake in them, or a call for help.
+fn refuse_words<O: Write, E: Write>(error: &Error, out: &mut O, err: &mut E) -> u8
+    ensures within { result ≤ 2 }
+    ensures help { result ≡ 0 → (kind_of error.now ≡ kind.DisplayHelp)
+        ⊎ (kind_of error.now ≡ kind.DisplayVersion) }
+    ensures mistake { (result ≡ 2) ↔ IsMistake (kind_of error.now) }
+{
+    if error.kind() == ErrorKind::OutOfMemory {
+        return complain(&ProgramFault::NoMemory, err);
+    }
+    if error.use_stderr() {
+        let _ = write!(err, "{error}");
+        return 2;
+    }
+    match write!(out, "{error}") {
+        Ok(()) => 0,
+        Err(_) => complain(&ProgramFault::CannotWrite, err),
+    }
+}
+
+// Where the line of a fault can't be printed, nothing more can be done.
+fn complain<W: Write>(fault: &ProgramFault<'_>, err: &mut W) -> u8
+    ensures { result ≡ 1 }
+{
+    let _ = print_fault(fault, err);
+    1
+}
+
+// Prints the line of a fault.
+fn print_fault<W: Write>(fault: &ProgramFault<'_>, err: &mut W) -> io::Result<()>
+    ensures { OnOk result
+        (Appends (W.contents err.old) (W.contents err.new) (fault_line fault.now ++ 10 ∷ [])) }
+{
+    writeln!(err, "{fault}")
+}
+
+/// Answers a command line that is no list of texts, and gives the exit status.
+pub fn refuse_arguments<E: Write>(fault: &io::Error, err: &mut E) -> u8
+    ensures within { (result ≡ 1) ⊎ (result ≡ 2) }
+    ensures memory { (result ≡ 1) ↔ (error_kind fault.now ≡ failure.OutOfMemory) }
+{
+    if fault.kind() == io::ErrorKind::OutOfMemory {
+        return complain(&ProgramFault::NoMemory, err);
+    }
+    let _ = print_not_text(err);
+    2
+}
+
+// Prints the line for words that are no texts.
+fn print_not_text<W: Write>(err: &mut W) -> io::Result<()>
+    ensures { OnOk result
+        (Appends (W.contents err.old) (W.contents err.new) (not_text_line ++ 10 ∷ [])) }
+{
+    writeln!(err, "error: the words are not all UTF-8")
 }

@@ -7,8 +7,8 @@ ghost use Rattle.office_connections.specs.Reaches.{Reaches};
 ghost use Rattle.office_http.specs.Serving.{Leads};
 ghost use Rattle.office_model.specs.Office.{OfficeState};
 ghost use Rattle.office_store.specs.Opening.{IsOfficeOf};
-ghost use Rattle.office_program.specs.FaultLines.{IsOfServe};
 ghost use Rattle.office_program.specs.Serve.{ComesTo, RepliesByView};
+ghost use Rattle.office_program.specs.TaskFaults.{IsOfServe};
 
 use crate::faults::{ProgramFault, fault_of_open, fault_of_run};
 use crate::telling::{LongWork, TellingMachine, tell};
@@ -20,7 +20,7 @@ use std::io::Write;
 use std::time::Duration;
 
 // `serve`. The database is opened, and its office found or made, before anything is listened on.
-pub fn serve<'a, O: Write, E: Write>(
+pub(crate) fn serve<'a, O: Write, E: Write>(
     rt: &HostRuntime,
     database: &str,
     terms: Terms,

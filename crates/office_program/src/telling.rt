@@ -45,7 +45,7 @@ impl fmt::Display for LongWork<'_> {
 const LARGE: u64 = 2_000_000;
 
 // Says on standard error what is begun, where that is a terminal and the file is large.
-pub fn tell(rt: &HostRuntime, work: LongWork<'_>) {
+pub(crate) fn tell(rt: &HostRuntime, work: LongWork<'_>) {
     let mut terminal = rt.stderr();
     if terminal.is_terminal() && is_large(rt, path_of(work)) {
         // Work that can't be told is done all the same.

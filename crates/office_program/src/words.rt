@@ -10,12 +10,13 @@ ghost use Rattle.clap.specs.Faults.{fault_of};
 ghost use Rattle.clap.specs.declared.builder.texts.Texts.TheVariants.{One};
 ghost use Rattle.clap.specs.declared.error.kind.ErrorKind.TheVariants.{OutOfMemory};
 ghost use Rattle.clap.specs.Words.{first_of};
-ghost use Rattle.office_program.specs.Program.{AddsShape, HasCheckValues, HasExportValues};
-ghost use Rattle.office_program.specs.Program.{HasLoadValues, HasNumber, HasServeValues, HasTerms};
-ghost use Rattle.office_program.specs.Program.{IsTask, check_app, connections_rule, export_app};
-ghost use Rattle.office_program.specs.Program.{load_app, named_rule};
-ghost use Rattle.office_program.specs.Program.{patience_rule, port_rule, program, required_rule};
-ghost use Rattle.office_program.specs.Program.{serve_app};
+ghost use Rattle.office_program.specs.CommandLine.{HasCheckValues, HasExportValues, HasLoadValues};
+ghost use Rattle.office_program.specs.CommandLine.{check_app, export_app, load_app, named_rule};
+ghost use Rattle.office_program.specs.CommandLine.{required_rule};
+ghost use Rattle.office_program.specs.Program.{AddsShape, IsTask, program};
+ghost use Rattle.office_program.specs.ServeLine.{HasNumber, HasServeValues, HasTerms};
+ghost use Rattle.office_program.specs.ServeLine.{connections_rule, patience_rule, port_rule};
+ghost use Rattle.office_program.specs.ServeLine.{serve_app};
 
 use crate::helps;
 use clap::{Arg, ArgMatches, Command, Error, value_parser};
@@ -62,27 +63,47 @@ pub fn words_of(alloc: Global, args: Args) -> io::Result<Vec<String>>
     Ok(args.collect(alloc)?)
 }
 
-// An argument that has to be there.
-fn required<'a>(alloc: Global, id: &'a str, name: &'a str, help: &'a str) -> Arg<'a>
-    ensures rule { rule_of result ≡ required_rule id.now }
-    ensures local { result.global ≡ false }
-    ensures name { result.val_names ≡ One name.entry }
-    ensures help { result.help ≡ Some help.entry }
+/// The command that the words give, of which the first is the program's name. An error shows as
+/// the text for the user: a mistake in the words, a call for help, or out of memory.
+pub fn read_words(alloc: Global, words: &[String]) -> Result<Task, Error>
+    ensures task { IfOk result (IsTask (map string_bytes words.now)) }
+    ensures kinds { FailsBy (fault_of program (map string_bytes words.now)) result }
 {
-    Arg::new(alloc, id)
-        .value_name(name)
-        .help(help)
-        .required(true)
+    let found = matches(alloc, words)?;
+    if let Some(values) = found.subcommand_matches("check") {
+        return check_task(alloc, values);
+    }
+    if let Some(values) = found.subcommand_matches("load") {
+        return load_task(alloc, values);
+    }
+    if let Some(values) = found.subcommand_matches("serve") {
+        return serve_task(alloc, values);
+    }
+    match found.subcommand_matches("export") {
+        Some(values) => export_task(alloc, values),
+        None => Err(Error::from(AllocError)),
+    }
 }
 
-// An option that has to be there, with a value.
-fn named<'a>(alloc: Global, id: &'a str, name: &'a str, help: &'a str) -> Arg<'a>
-    ensures rule { rule_of result ≡ named_rule id.now }
-    ensures local { result.global ≡ false }
-    ensures name { result.val_names ≡ One name.entry }
-    ensures help { result.help ≡ Some help.entry }
+// What clap finds in the words.
+fn matches(alloc: Global, words: &[String]) -> Result<ArgMatches<'_>, Error>
+    ensures found { IfOk result (λ m.
+        subcommand_rows_of m ≡ subcommand_of program (map string_bytes words.now)) }
+    ensures kinds { FailsBy (fault_of program (map string_bytes words.now)) result }
 {
-    required(alloc, id, name, help).long(id)
+    let check = check_command(alloc)?;
+    let load = load_command(alloc)?;
+    let serve = serve_command(alloc)?;
+    let export = export_command(alloc)?;
+    let whole = Command::new(alloc, "examoffice")
+        .about("The office of an examination session, by the rules of ITC 2007")
+        .after_help(helps::PROGRAM)
+        .subcommand_required(true)
+        .subcommand(check)?
+        .subcommand(load)?
+        .subcommand(serve)?
+        .subcommand(export)?;
+    whole.try_get_matches_from(words)
 }
 
 // The command `check`.
@@ -98,6 +119,19 @@ fn check_command<'a>(alloc: Global) -> Result<Command<'a>, AllocError>
         .arg(solution)
 }
 
+// An argument that has to be there.
+fn required<'a>(alloc: Global, id: &'a str, name: &'a str, help: &'a str) -> Arg<'a>
+    ensures rule { rule_of result ≡ required_rule id.now }
+    ensures local { result.global ≡ false }
+    ensures name { result.val_names ≡ One name.entry }
+    ensures help { result.help ≡ Some help.entry }
+{
+    Arg::new(alloc, id)
+        .value_name(name)
+        .help(help)
+        .required(true)
+}
+
 // The command `load`.
 fn load_command<'a>(alloc: Global) -> Result<Command<'a>, AllocError>
     ensures { IfOk result (λ c. AddsShape c load_app.top) }
@@ -111,17 +145,28 @@ fn load_command<'a>(alloc: Global) -> Result<Command<'a>, AllocError>
         .arg(instance)
 }
 
-// The option that says how patient the office is.
-fn patience_option<'a>(alloc: Global) -> Arg<'a>
-    ensures rule { rule_of result ≡ patience_rule }
+// An option that has to be there, with a value.
+fn named<'a>(alloc: Global, id: &'a str, name: &'a str, help: &'a str) -> Arg<'a>
+    ensures rule { rule_of result ≡ named_rule id.now }
     ensures local { result.global ≡ false }
+    ensures name { result.val_names ≡ One name.entry }
+    ensures help { result.help ≡ Some help.entry }
 {
-    Arg::new(alloc, "patience")
-        .long("patience")
-        .value_name("SECONDS")
-        .help("How long a client may take for a message, and for a reply")
-        .default_value("30")
-        .value_parser(value_parser!(u32).range(1..=i64::from(MAX_PATIENCE)))
+    required(alloc, id, name, help).long(id)
+}
+
+// The command `serve`.
+fn serve_command<'a>(alloc: Global) -> Result<Command<'a>, AllocError>
+    ensures { IfOk result (λ c. AddsShape c serve_app.top) }
+{
+    let database = named(alloc, "db", "FILE", "The file of the office's database");
+    Command::new(alloc, "serve")
+        .about("Serves an office over HTTP, one connection after another")
+        .after_help(helps::SERVE)
+        .arg(database)?
+        .arg(port_option(alloc))?
+        .arg(connections_option(alloc))?
+        .arg(patience_option(alloc))
 }
 
 // The option that says on which port the office listens.
@@ -150,18 +195,17 @@ fn connections_option<'a>(alloc: Global) -> Arg<'a>
         .value_parser(value_parser!(u32).range(1..=i64::from(MAX_CONNECTIONS)))
 }
 
-// The command `serve`.
-fn serve_command<'a>(alloc: Global) -> Result<Command<'a>, AllocError>
-    ensures { IfOk result (λ c. AddsShape c serve_app.top) }
+// The option that says how patient the office is.
+fn patience_option<'a>(alloc: Global) -> Arg<'a>
+    ensures rule { rule_of result ≡ patience_rule }
+    ensures local { result.global ≡ false }
 {
-    let database = named(alloc, "db", "FILE", "The file of the office's database");
-    Command::new(alloc, "serve")
-        .about("Serves an office over HTTP, one connection after another")
-        .after_help(helps::SERVE)
-        .arg(database)?
-        .arg(port_option(alloc))?
-        .arg(connections_option(alloc))?
-        .arg(patience_option(alloc))
+    Arg::new(alloc, "patience")
+        .long("patience")
+        .value_name("SECONDS")
+        .help("How long a client may take for a message, and for a reply")
+        .default_value("30")
+        .value_parser(value_parser!(u32).range(1..=i64::from(MAX_PATIENCE)))
 }
 
 // The command `export`.
@@ -175,25 +219,14 @@ fn export_command<'a>(alloc: Global) -> Result<Command<'a>, AllocError>
         .arg(database)
 }
 
-// What clap finds in the words.
-fn matches(alloc: Global, words: &[String]) -> Result<ArgMatches<'_>, Error>
-    ensures found { IfOk result (λ m.
-        subcommand_rows_of m ≡ subcommand_of program (map string_bytes words.now)) }
-    ensures kinds { FailsBy (fault_of program (map string_bytes words.now)) result }
+// The task of `check` with these values.
+fn check_task(alloc: Global, values: &ArgMatches<'_>) -> Result<Task, Error>
+    ensures ok { IfOk result (HasCheckValues (rows_of (found_of values.now))) }
+    ensures err { IfErr result (λ e. kind_of e ≡ OutOfMemory) }
 {
-    let check = check_command(alloc)?;
-    let load = load_command(alloc)?;
-    let serve = serve_command(alloc)?;
-    let export = export_command(alloc)?;
-    let whole = Command::new(alloc, "examoffice")
-        .about("The office of an examination session, by the rules of ITC 2007")
-        .after_help(helps::PROGRAM)
-        .subcommand_required(true)
-        .subcommand(check)?
-        .subcommand(load)?
-        .subcommand(serve)?
-        .subcommand(export)?;
-    whole.try_get_matches_from(words)
+    let instance = value_of(alloc, values, "instance")?;
+    let solution = value_of(alloc, values, "solution")?;
+    Ok(Task::Check(instance, solution))
 }
 
 // The value that was found. Clap has seen to it that it is there, but its contract says so of no
@@ -209,29 +242,6 @@ fn value_of(alloc: Global, values: &ArgMatches<'_>, id: &str) -> Result<String, 
     }
 }
 
-// The number that was found, within these bounds. Clap has seen to them too, but its contract says
-// so of no subcommand: a number beyond them would be answered as out of memory.
-fn number_of(values: &ArgMatches<'_>, id: &str, least: u32, most: u32) -> Result<u32, Error>
-    ensures ok { IfOk result (λ n. HasNumber id.now (rows_of (found_of values.now)) n
-        × (least ≤ n) × (n ≤ most)) }
-    ensures err { IfErr result (λ e. kind_of e ≡ OutOfMemory) }
-{
-    match values.get_one::<u32>(id) {
-        Some(number) if least <= number && number <= most => Ok(number),
-        _ => Err(Error::from(AllocError)),
-    }
-}
-
-// The task of `check` with these values.
-fn check_task(alloc: Global, values: &ArgMatches<'_>) -> Result<Task, Error>
-    ensures ok { IfOk result (HasCheckValues (rows_of (found_of values.now))) }
-    ensures err { IfErr result (λ e. kind_of e ≡ OutOfMemory) }
-{
-    let instance = value_of(alloc, values, "instance")?;
-    let solution = value_of(alloc, values, "solution")?;
-    Ok(Task::Check(instance, solution))
-}
-
 // The task of `load` with these values.
 fn load_task(alloc: Global, values: &ArgMatches<'_>) -> Result<Task, Error>
     ensures ok { IfOk result (HasLoadValues (rows_of (found_of values.now))) }
@@ -240,6 +250,15 @@ fn load_task(alloc: Global, values: &ArgMatches<'_>) -> Result<Task, Error>
     let database = value_of(alloc, values, "db")?;
     let instance = value_of(alloc, values, "instance")?;
     Ok(Task::Load(database, instance))
+}
+
+// The task of `serve` with these values.
+fn serve_task(alloc: Global, values: &ArgMatches<'_>) -> Result<Task, Error>
+    ensures ok { IfOk result (HasServeValues (rows_of (found_of values.now))) }
+    ensures err { IfErr result (λ e. kind_of e ≡ OutOfMemory) }
+{
+    let database = value_of(alloc, values, "db")?;
+    Ok(Task::Serve(database, terms_of(values)?))
 }
 
 // The terms of `serve` with these values.
@@ -257,13 +276,17 @@ fn terms_of(values: &ArgMatches<'_>) -> Result<Terms, Error>
     })
 }
 
-// The task of `serve` with these values.
-fn serve_task(alloc: Global, values: &ArgMatches<'_>) -> Result<Task, Error>
-    ensures ok { IfOk result (HasServeValues (rows_of (found_of values.now))) }
+// The number that was found, within these bounds. Clap has seen to them too, but its contract says
+// so of no subcommand: a number beyond them would be answered as out of memory.
+fn number_of(values: &ArgMatches<'_>, id: &str, least: u32, most: u32) -> Result<u32, Error>
+    ensures ok { IfOk result (λ n. HasNumber id.now (rows_of (found_of values.now)) n
+        × (least ≤ n) × (n ≤ most)) }
     ensures err { IfErr result (λ e. kind_of e ≡ OutOfMemory) }
 {
-    let database = value_of(alloc, values, "db")?;
-    Ok(Task::Serve(database, terms_of(values)?))
+    match values.get_one::<u32>(id) {
+        Some(number) if least <= number && number <= most => Ok(number),
+        _ => Err(Error::from(AllocError)),
+    }
 }
 
 // The task of `export` with these values.
@@ -273,26 +296,4 @@ fn export_task(alloc: Global, values: &ArgMatches<'_>) -> Result<Task, Error>
 {
     let database = value_of(alloc, values, "db")?;
     Ok(Task::Export(database))
-}
-
-/// The command that the words give, of which the first is the program's name. An error shows as
-/// the text for the user: a mistake in the words, a call for help, or out of memory.
-pub fn read_words(alloc: Global, words: &[String]) -> Result<Task, Error>
-    ensures task { IfOk result (IsTask (map string_bytes words.now)) }
-    ensures kinds { FailsBy (fault_of program (map string_bytes words.now)) result }
-{
-    let found = matches(alloc, words)?;
-    if let Some(values) = found.subcommand_matches("check") {
-        return check_task(alloc, values);
-    }
-    if let Some(values) = found.subcommand_matches("load") {
-        return load_task(alloc, values);
-    }
-    if let Some(values) = found.subcommand_matches("serve") {
-        return serve_task(alloc, values);
-    }
-    match found.subcommand_matches("export") {
-        Some(values) => export_task(alloc, values),
-        None => Err(Error::from(AllocError)),
-    }
 }

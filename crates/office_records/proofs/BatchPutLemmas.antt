@@ -8,10 +8,10 @@ use Rattle.exam_model.specs.Instance.{Session}
 use Rattle.exam_model.specs.Timetable.{Placing}
 use Rattle.exam_model.specs.declared.change.Change.{Change}
 use Rattle.exam_score.specs.Track.{track}
-use Rattle.office_tables.specs.Records.{FitsBatch}
+use Rattle.office_tables.specs.Batch.{FitsBatch}
 use Rattle.office_tables.specs.Tables.{Tables, Batch}
-use Rattle.office_tables.specs.declared.rows.DraftRow.{DraftRow}
-use Rattle.office_tables.specs.declared.rows.SlotRow.{SlotRow}
+use Rattle.office_tables.specs.declared.draft.DraftRow.{DraftRow}
+use Rattle.office_tables.specs.declared.slot.SlotRow.{SlotRow}
 use Rattle.office_model.specs.Office.{AreRecords, Records}
 use Rattle.office_model.specs.declared.counts.Counts.{Counts}
 use Rattle.office_enrolment.specs.AfterBatch.{acting, after_batch, lines_in}

@@ -8,11 +8,11 @@ use Rattle.std.proofs.lemmas.List.{get_or-map, length-map}
 use Rattle.std.proofs.lemmas.List.Elements.{All-from_recursion, recursion_from_All}
 use Rattle.std.proofs.lemmas.List.Sorted.{IsPermutation-refl, IsPermutation-sym, length_permutation}
 use Rattle.sqlite_trees.proofs.ListLemmas.{all-map, all-permutation, all_both, all_from_map, all_weaker}
-use Rattle.office_tables.specs.Records.{counts_of, FitsBatch}
+use Rattle.office_tables.specs.Batch.{counts_of, FitsBatch}
 use Rattle.office_tables.specs.Tables.{Batch, Tables}
-use Rattle.office_tables.specs.declared.rows.BatchCountsRow.{BatchCountsRow}
+use Rattle.office_tables.specs.declared.batch.BatchCountsRow.{BatchCountsRow}
 use Rattle.office_model.specs.Office.{AreKept, IsKeptBatch, IsOffice, KeptBatch, OfficeState}
-use Rattle.office_records.specs.Found.{AreBatchRows, AreFoundBatches, IsBatchRow, IsShort}
+use Rattle.office_records.specs.FoundBatches.{AreBatchRows, AreFoundBatches, IsBatchRow, IsShort}
 use Rattle.office_records.specs.Stands.{StandsForOffice, StandsBatches, stored_batch}
 
 -- a stored batch as the office keeps it

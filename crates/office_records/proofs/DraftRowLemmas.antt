@@ -13,8 +13,8 @@ use Rattle.exam_model.specs.Enrolments.{Enrolled}
 use Rattle.exam_model.specs.Instance.{Session}
 use Rattle.exam_model.specs.Timetable.{Placing}
 use Rattle.exam_score.specs.Track.{track}
-use Rattle.office_tables.specs.declared.rows.DraftRow.{DraftRow}
-use Rattle.office_tables.specs.declared.rows.SlotRow.{SlotRow}
+use Rattle.office_tables.specs.declared.draft.DraftRow.{DraftRow}
+use Rattle.office_tables.specs.declared.slot.SlotRow.{SlotRow}
 use Rattle.office_records.specs.Found.{AreDrafts, AreSlots}
 use Rattle.office_model.specs.Office.{set_at}
 use Rattle.office_records.specs.Stands.{drafts_at, slots_at, slot_rows, once, parts_of}

@@ -1,20 +1,19 @@
 -- Rows of enrolments, one after another.
-use Rattle.std.proofs.Common.{◌≡◌, ◌≢◌, ℕ, ◌<◌, ◌≤◌, Bool, true, false, ◌&&◌, ◌||◌, eqb, ltb, Decides, List, [], ◌∷◌, ◌++◌, map, length, get_or, take, refl, sym, ◌∙◌, ap, ap₂, arith, subst, inl, inr}
+use Rattle.std.proofs.Common.{◌≡◌, ◌≢◌, ℕ, ◌<◌, Bool, true, false, ◌&&◌, ◌||◌, eqb, ltb, Decides, List, [], ◌∷◌, ◌++◌, map, length, get_or, take, refl, sym, ◌∙◌, ap, ap₂, arith, subst, inl, inr}
 use Rattle.std.specs.Prelude.{All, AllPairs, Contains}
 use Rattle.std.specs.List.{list_any}
 use Rattle.std.proofs.lemmas.Bool.{and_from, and_parts, both_ways, ltb-true, ltb-false, eq-eqb, eqb-true, false_from_ne_true}
 use Rattle.std.proofs.lemmas.Bool.Decides.{Decides-like, same_from_decides}
 use Rattle.std.proofs.lemmas.List.{get_or_default, length_push, get_or-map, get_or-take, get_or_past, length-map, length-take}
-use Rattle.std.proofs.lemmas.List.Elements.{All-contains, All-push}
 use Rattle.std.proofs.lemmas.List.Folds.{Any-from_list_any, list_any-append, list_any_at}
 use Rattle.std.proofs.lemmas.List.Sorted.{IsPermutation-sym, length_permutation, list_any-IsPermutation}
 use Rattle.std.proofs.lemmas.Map.Keys.{IsDistinct-IsPermutation}
 use Rattle.std.proofs.lemmas.Map.Made.{AllPairs-from_IsDistinct, IsDistinct-from_AllPairs}
-use Rattle.exam_model.specs.Enrolments.{Adds, Enrolled, AreEnrolments, has, pair_count, students}
+use Rattle.exam_model.specs.Enrolments.{Adds, Enrolled, AreEnrolments, has, pair_count}
 use Rattle.exam_model.specs.Instance.{Session}
 use Rattle.exam_model.specs.Pairs.{Pair, pairs_of, ComesBefore}
 use Rattle.exam_model.proofs.PairLemmas.{any_map, are_pairs}
-use Rattle.office_tables.specs.declared.rows.EnrolRow.{EnrolRow}
+use Rattle.office_tables.specs.declared.enrol.EnrolRow.{EnrolRow}
 use Rattle.office_records.proofs.ReorderLemmas.{reordered}
 use Rattle.office_records.specs.Found.{AreEnrolRows}
 use Rattle.office_records.specs.NextRow.{IsNewPair}
@@ -90,7 +89,6 @@ pub record AreTaken (n : ℕ) (done : List EnrolRow) (E : Enrolled) : Type 0 whe
   pub exams : length E ≡ n
   pub pairs : pair_count E ≡ length done
   pub members : (s e : ℕ) → has E s e ≡ list_any (is_row s e) done
-  pub students : All (λ r. r.student ≤ 999999999) done
 
 or_flip : (a b : Bool) → (a || b) ≡ (b || (a || false))
 or_flip true true = refl
@@ -110,7 +108,6 @@ taken_more n done E F row taken fresh adds is = record {
   members = λ s e. adds.members s e ∙ or_flip (is_row s e row) (has E s e)
       ∙ ap (λ b. b || (is_row s e row || false)) (taken.members s e)
       ∙ sym (list_any-append (is_row s e) done (row ∷ []));
-  students = All-push (λ r. r.student ≤ 999999999) done row taken.students fresh.student;
 }
 
 -- the rows are those of the enrolments
@@ -120,12 +117,6 @@ rows_taken I rows E taken = record {
   enrolled = record {
     set = taken.set;
     exams = taken.exams;
-    students = λ e exists k d within.
-        let s = get_or (students E e) k d in
-        let sits = list_any_at (λ t. eqb t s) (students E e) k d within (eq-eqb s s refl) in
-        let row : EnrolRow = record { student = s; exam = e } in
-        All-contains (λ r. r.student ≤ 999999999) rows row taken.students
-        (contains_row s e rows (sym (taken.members s e) ∙ sits));
   };
   rows = reordered (rows_of E) rows (omega (arith, as_many E taken.set, taken.pairs))
       (rows_apart E taken.set) inside;
@@ -173,14 +164,6 @@ module _ (I : Session) (rows : List EnrolRow) (F : Enrolled) (are : AreEnrolRows
       let none = get_or_past F e [] (ltb-false e (length F) is) in
       absurd (both_ways (has F s e) (ap (λ l. list_any (λ t. eqb t s) l) none) sits)
 
-  pair_within : (s e : ℕ) → has F s e ≡ true → e < length F → s ≤ 999999999
-  pair_within s e sits exists =
-      let found = Any-from_list_any (λ t. eqb t s) (students F e) sits in
-      let same = eqb-true found.1 s found.4 in
-      let few = are.enrolled.students e exists found.0 found.1 found.2 in
-      let at = found.3 in
-      omega arith
-
   -- each row is a new pair after those before it
   pub row_new : (i : ℕ) (d : EnrolRow) (E : Enrolled) → i < length rows
       → AreTaken (length I.exams) (take i rows) E → IsNewPair E (get_or rows i d)
@@ -192,7 +175,7 @@ module _ (I : Session) (rows : List EnrolRow) (F : Enrolled) (are : AreEnrolRows
       let pairs = length_permutation rows (rows_of F) are.rows in
       record {
         exam = omega (arith, exists, taken.exams, are.enrolled.exams);
-        student = pair_within row.student row.exam sits exists;
+        student = are.enrolled.set.numbers row.exam row.student sits;
         lacking = taken.members row.student row.exam
             ∙ false_from_ne_true (list_any (is_row row.student row.exam) (take i rows))
             (λ some. comes_once i d within

@@ -17,8 +17,12 @@ use Rattle.exam_model.proofs.SameSet.{same_set}
 use Rattle.office_files.specs.CanonicalText.{canonical_instance}
 use Rattle.office_files.specs.InstanceText.{instance_in}
 use Rattle.office_files.proofs.CanonicalInstance.{instance_same}
-use Rattle.office_tables.specs.Tables.{Tables, Stands, Holds, Meta, meta_columns, flag, keyed, keyless, enrol_columns}
-use Rattle.office_tables.specs.declared.rows.EnrolRow.{EnrolRow}
+use Rattle.office_tables.specs.Tables.{Tables, Meta}
+use Rattle.office_tables.specs.Standing.{Stands}
+use Rattle.office_tables.specs.Stored.{Holds, keyed, keyless}
+use Rattle.office_tables.specs.Meta.{meta_columns, flag}
+use Rattle.office_tables.specs.Enrol.{enrol_columns}
+use Rattle.office_tables.specs.declared.enrol.EnrolRow.{EnrolRow}
 use Rattle.office_model.specs.Office.{OfficeState, Records, AreRecords, AreEnrolled}
 use Rattle.office_records.specs.Memory.{memory_of}
 use Rattle.office_records.specs.Stands.{IsKept, StandsForOffice, StandsLoaded, enrol_row, meta_row}

@@ -5,7 +5,7 @@ use Rattle.std.proofs.lemmas.Bool.{eq-eqb, ltb-true, ltb-false, eqb-true, eqb-fa
 use Rattle.std.proofs.lemmas.List.{length-append, get_or_past, map-append}
 use Rattle.std.proofs.lemmas.List.Elements.{filter-append}
 use Rattle.exam_model.specs.Instance.{Session}
-use Rattle.office_tables.specs.declared.rows.OwnerRow.{OwnerRow}
+use Rattle.office_tables.specs.declared.owner.OwnerRow.{OwnerRow}
 use Rattle.office_records.specs.Found.{AreOwners}
 use Rattle.office_records.specs.NextRow.{IsFirstOwner}
 use Rattle.office_records.specs.Stands.{owners_at, some_dept}

@@ -6,8 +6,8 @@ use Rattle.std.proofs.lemmas.List.Elements.{All-from_recursion, recursion_from_A
 use Rattle.exam_publish.specs.AddUp.{AreSmall}
 use Rattle.exam_publish.specs.Shares.{Sharing}
 use Rattle.exam_publish.specs.declared.share_lists.RoomShare.{RoomShare}
-use Rattle.office_tables.specs.Amounts.{ArePartAmounts}
-use Rattle.office_tables.specs.declared.rows.PartShareRow.{PartShareRow}
+use Rattle.office_tables.specs.SharePart.{ArePartAmounts}
+use Rattle.office_tables.specs.declared.share_part.PartShareRow.{PartShareRow}
 use Rattle.office_records.specs.SharesStored.{part_rows, plain_rows, room_rows}
 
 abbrev pub no_row : PartShareRow

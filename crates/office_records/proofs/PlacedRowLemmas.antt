@@ -6,8 +6,8 @@ use Rattle.std.proofs.lemmas.List.Sorted.{IsPermutation-map}
 use Rattle.exam_model.specs.Instance.{Session}
 use Rattle.exam_model.specs.Timetable.{Placing}
 use Rattle.exam_terms.specs.declared.place.Place.{Place}
-use Rattle.office_tables.specs.declared.rows.PlacedRow.{PlacedRow}
-use Rattle.office_tables.specs.declared.rows.SlotRow.{SlotRow}
+use Rattle.office_tables.specs.declared.placed.PlacedRow.{PlacedRow}
+use Rattle.office_tables.specs.declared.slot.SlotRow.{SlotRow}
 use Rattle.office_records.specs.Found.{AreSlots}
 use Rattle.office_records.specs.Publications.{ArePlaces, placed_from, placed_row, placed_slot}
 use Rattle.office_records.specs.Stands.{slots_at, slots_from}

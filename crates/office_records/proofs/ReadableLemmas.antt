@@ -1,18 +1,19 @@
 -- The tables of an office have numbers of 32 bits, so none is passed over as foreign.
 use Rattle.std.proofs.Common.{◌≡◌, ℕ, suc, ◌+◌, ◌<◌, ◌≤◌, Bool, true, false, List, [], ◌∷◌, map}
 use Rattle.std.proofs.Common.{filter, length, Some, None, Option, refl, sym, arith, subst, eqb}
-use Rattle.std.proofs.Common.{cond}
-use Rattle.std.specs.Prelude.{◌^◌, ◌++◌, All, IsSome, is_some, nat_lt, slice_get}
+use Rattle.std.proofs.Common.{cond, get_or}
+use Rattle.std.specs.Prelude.{◌^◌, ◌++◌, IsSome, is_some, slice_get}
 use Rattle.std.specs.List.{AllByRecursion, range_with_len}
 use Rattle.std.proofs.lemmas.Bool.{eq-eqb}
 use Rattle.std.proofs.lemmas.Bool.Decides.{nat_tests}
 use Rattle.std.proofs.lemmas.List.Sorted.{IsPermutation-sym}
 use Rattle.std.proofs.lemmas.List.Elements.{All-from_recursion, recursion_from_All}
+use Rattle.std.proofs.lemmas.List.Folds.{list_any_at}
 use Rattle.std.proofs.lemmas.List.FromFn.{length-map-range_with_len}
 use Rattle.sqlite.specs.Effect.{Database}
 use Rattle.sqlite_trees.proofs.ListLemmas.{all-permutation, all_weaker, all_both, all-map}
 use Rattle.sqlite_trees.proofs.ListLemmas.{all-append, all_from_map, all-slice_get}
-use Rattle.exam_model.specs.Enrolments.{Enrolled, students}
+use Rattle.exam_model.specs.Enrolments.{Enrolled, AreNumbers, students}
 use Rattle.exam_model.specs.Fits.{PlaceExists}
 use Rattle.exam_model.specs.Pairs.{pairs_at, pairs_from, pairs_of}
 use Rattle.exam_model.specs.Timetable.{Placing}
@@ -20,8 +21,9 @@ use Rattle.exam_terms.specs.declared.place.Place.{Place}
 use Rattle.exam_model.specs.Instance.{Session, IsInstance}
 use Rattle.exam_model.specs.Limits.{RoomInLimits}
 use Rattle.exam_model.specs.declared.parts.Room.{Room}
+use Rattle.exam_model.proofs.StudentLemmas.{each_with}
 use Rattle.exam_model.proofs.SumLemmas.{chain_from_index}
-use Rattle.exam_publish.specs.Changed.{ascending, rows_of, students_of, with_number}
+use Rattle.exam_publish.specs.Changed.{ascending, rows_of, students_of}
 use Rattle.exam_publish.specs.Rows.{AreNumbered, IsAtExam, RowBefore, row_place}
 use Rattle.exam_publish.specs.Seats.{HasSeat, IsSeatOf}
 use Rattle.exam_publish.specs.Shares.{share_of, shares_of, student_shares}
@@ -31,12 +33,18 @@ use Rattle.exam_publish.proofs.PlaceLemmas.{row_exists, rows_exist}
 use Rattle.exam_publish.proofs.RowLemmas.{pairs_in, rows_numbered}
 use Rattle.exam_score.specs.Penalty.{PersonalPenalty}
 use Rattle.office_tables.specs.Adopting.{AreReadable, IsForeign}
-use Rattle.office_tables.specs.Records.{FitsOwner, FitsEnrol, FitsDraft, FitsSlot, FitsPlacement}
-use Rattle.office_tables.specs.Records.{FitsSeat, FitsStudentShare, FitsPartShare}
+use Rattle.office_tables.specs.Owner.{FitsOwner}
+use Rattle.office_tables.specs.Enrol.{FitsEnrol}
+use Rattle.office_tables.specs.Draft.{FitsDraft}
+use Rattle.office_tables.specs.Slot.{FitsSlot}
+use Rattle.office_tables.specs.Placed.{FitsPlacement}
+use Rattle.office_tables.specs.Seat.{FitsSeat}
+use Rattle.office_tables.specs.ShareStudent.{FitsStudentShare}
+use Rattle.office_tables.specs.SharePart.{FitsPartShare}
 use Rattle.office_tables.specs.Tables.{Tables}
-use Rattle.office_tables.specs.declared.rows.OwnerRow.{OwnerRow}
-use Rattle.office_tables.specs.declared.rows.DraftRow.{DraftRow}
-use Rattle.office_tables.specs.declared.rows.SlotRow.{SlotRow}
+use Rattle.office_tables.specs.declared.owner.OwnerRow.{OwnerRow}
+use Rattle.office_tables.specs.declared.draft.DraftRow.{DraftRow}
+use Rattle.office_tables.specs.declared.slot.SlotRow.{SlotRow}
 use Rattle.office_model.specs.Office.{OfficeState, Records, Publication, AreRecords, IsOffice}
 use Rattle.office_model.specs.Office.{IsPublication, published_enrolments}
 use Rattle.office_model.specs.Publishing.{rows_now}
@@ -148,30 +156,23 @@ module _ (r : Records) (is : AreRecords r) where
       (pairs_fit (k + 1) E (omega arith) all.1)
 
 -- what holds of numbers holds of them in order, each once
-each_with : (P : ℕ → Type 0) (s : ℕ) (ts : List ℕ) → P s → AllByRecursion P ts
-    → AllByRecursion P (with_number s ts)
-each_with P s [] p a = (p, tt)
-each_with P s (t ∷ ts) p a = go (eqb s t) (nat_lt s t) (each_with P s ts p a.1)
-  where
-    go : (b c : Bool) → AllByRecursion P (with_number s ts)
-        → AllByRecursion P (cond b (t ∷ ts) (cond c (s ∷ t ∷ ts) (t ∷ with_number s ts)))
-    go true c more = a
-    go false true more = (p, a)
-    go false false more = (a.0, more)
-
 each_ascending : (P : ℕ → Type 0) (ss : List ℕ) → AllByRecursion P ss
     → AllByRecursion P (ascending ss)
 each_ascending P [] a = tt
 each_ascending P (s ∷ ss) a = each_with P s (ascending ss) a.0 (each_ascending P ss a.1)
 
+-- the students of one exam
+each_number : (ss : List ℕ) → AreNumbers ss → AllByRecursion (λ s. s ≤ 999999999) ss
+each_number ss h =
+    recursion_from_All (λ s. s ≤ 999999999) ss (λ k d within.
+    let s : ℕ = get_or ss k d in
+    h s (list_any_at (λ t. eqb t s) ss k d within (eq-eqb s s refl)))
+
 -- the students of every exam
-each_exam : (E : Enrolled) → ((e : ℕ) → e < length E → All (λ s. s ≤ 999999999) (students E e))
+each_exam : (E : Enrolled) → ((e : ℕ) → AreNumbers (students E e))
     → AllByRecursion (AllByRecursion (λ s. s ≤ 999999999)) E
 each_exam [] h = tt
-each_exam (ss ∷ E) h = (
-  recursion_from_All (λ s. s ≤ 999999999) ss (h 0 (omega arith)),
-  each_exam E (λ e lt. h (suc e) (omega arith)),
-)
+each_exam (ss ∷ E) h = (each_number ss (h 0), each_exam E (λ e. h (suc e)))
 
 -- ---- a publication
 
@@ -334,7 +335,7 @@ are_readable t (Some r) stands sound is = record {
   enrol = all-permutation FitsEnrol _ _ (IsPermutation-sym _ _ stands.enrol)
       (all-map FitsEnrol enrol_row (pairs_of r.enrolments) (pairs_fit r is 0 r.enrolments
       (omega (arith, is.enrolled.exams, is.session.limits.counts.0.1))
-      (each_exam r.enrolments is.enrolled.students)));
+      (each_exam r.enrolments is.enrolled.set.numbers)));
   draft = each_key (λ (x : DraftRow). x.no) FitsDraft t.draft
       (λ d. drafts_fit r is d _ (stands.draft d));
   slot = each_key (λ (x : SlotRow). x.draft) FitsSlot t.slot

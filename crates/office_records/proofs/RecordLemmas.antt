@@ -7,11 +7,13 @@ use Rattle.exam_model.specs.Enrolments.{Enrolled}
 use Rattle.exam_model.specs.Instance.{Session}
 use Rattle.exam_model.specs.Timetable.{Placing}
 use Rattle.office_tables.specs.Adopting.{tables_of}
-use Rattle.office_tables.specs.Records.{counts_of, meta_from}
+use Rattle.office_tables.specs.Batch.{counts_of}
+use Rattle.office_tables.specs.Meta.{meta_from}
 use Rattle.office_tables.specs.Tables.{Tables, Meta, Batch, empty_tables}
 use Rattle.office_tables.specs.declared.found.Found.{Found}
-use Rattle.office_tables.specs.declared.rows.EnrolRow.{EnrolRow}
-use Rattle.office_records.specs.Found.{AreBatchRows, AreFoundBatches, AreDrafts, AreEnrolRows}
+use Rattle.office_tables.specs.declared.enrol.EnrolRow.{EnrolRow}
+use Rattle.office_records.specs.Found.{AreDrafts, AreEnrolRows}
+use Rattle.office_records.specs.FoundBatches.{AreBatchRows, AreFoundBatches}
 use Rattle.office_records.specs.Found.{AreOwners, ArePublication, IsSessionRow, IsUnloaded}
 use Rattle.office_model.specs.Office.{OfficeState, Publication, Records, AreKept, AreRecords, IsOffice, IsPublication}
 use Rattle.office_records.specs.Publications.{ArePublished}

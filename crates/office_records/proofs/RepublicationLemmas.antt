@@ -5,7 +5,7 @@ use Rattle.std.specs.Prelude.{IsPermutation}
 use Rattle.std.proofs.lemmas.Bool.{and_parts}
 use Rattle.std.proofs.lemmas.List.Sorted.{IsPermutation-trans, IsPermutation-sym, IsPermutation-append_right, IsPermutation-filter_both, IsPermutation-map}
 use Rattle.sqlite_trees.proofs.ListLemmas.{IsPermutation-filter, filter-map, map-map}
-use Rattle.exam_model.specs.Enrolments.{IsAscending, has_student}
+use Rattle.exam_model.specs.Enrolments.{IsAscending, has_number}
 use Rattle.exam_model.specs.Instance.{Session}
 use Rattle.exam_model.proofs.SameSet.{same_list}
 use Rattle.exam_publish.specs.declared.seat_row.SeatRow.{SeatRow}
@@ -14,8 +14,8 @@ use Rattle.exam_publish.specs.Shares.{share_of, student_shares}
 use Rattle.exam_publish.proofs.ChangedLemmas.{changed_has_row}
 use Rattle.exam_publish.proofs.ListLemmas.{any_map, ascending_from_chain, chain_ascending, chain_filter, has_ascending, has_filter}
 use Rattle.exam_publish.proofs.ShareLemmas.{same_share}
-use Rattle.office_tables.specs.declared.rows.SeatRow as tables
-use Rattle.office_tables.specs.declared.rows.StudentShareRow.{StudentShareRow}
+use Rattle.office_tables.specs.declared.seat.SeatRow as tables
+use Rattle.office_tables.specs.declared.share_student.StudentShareRow.{StudentShareRow}
 use Rattle.office_model.specs.Office.{Publication}
 use Rattle.office_model.specs.Publishing.{rows_now}
 use Rattle.office_records.specs.Publications.{stored_seat}
@@ -72,7 +72,7 @@ twice_not : (b : Bool) → not (not b) ≡ true → b ≡ true
 twice_not true h = refl
 twice_not false h = h
 
-is_seated : (rows : List SeatRow) (s : ℕ) → has_student (students_of rows) s ≡ has_row rows s
+is_seated : (rows : List SeatRow) (s : ℕ) → has_number (students_of rows) s ≡ has_row rows s
 is_seated rows s =
     has_ascending (map (λ (row : SeatRow). row.student) rows) s
     ∙ any_map (λ t. eqb t s) (λ (row : SeatRow). row.student) rows
@@ -82,7 +82,7 @@ module _ (old new : List SeatRow) where
   changed = changed_students old new
 
   abbrev has_changed : ℕ → Bool
-  has_changed s = has_student changed s
+  has_changed s = has_number changed s
 
   is_listed : (s : ℕ) → has_changed s ≡ is_changed old new s
   is_listed s =
@@ -101,7 +101,7 @@ module _ (old new : List SeatRow) where
   others rows = filter (λ s. not (has_changed s)) (students_of rows)
 
   has_others : (rows : List SeatRow) (s : ℕ)
-      → has_student (others rows) s ≡ (not (is_changed old new s) && has_row rows s)
+      → has_number (others rows) s ≡ (not (is_changed old new s) && has_row rows s)
   has_others rows s =
       has_filter (λ t. not (has_changed t)) (students_of rows) s
       ∙ ap₂ (λ a b. not a && b) (is_listed s) (is_seated rows s)

@@ -9,9 +9,9 @@ use Rattle.exam_model.specs.Enrolments.{Enrolled}
 use Rattle.exam_model.specs.Instance.{Session}
 use Rattle.exam_model.specs.Timetable.{Placing}
 use Rattle.exam_score.specs.Track.{track}
-use Rattle.office_tables.specs.Amounts.{AreAmounts}
-use Rattle.office_tables.specs.declared.rows.DraftRow.{DraftRow}
-use Rattle.office_tables.specs.declared.rows.SlotRow.{SlotRow}
+use Rattle.office_tables.specs.Draft.{AreAmounts}
+use Rattle.office_tables.specs.declared.draft.DraftRow.{DraftRow}
+use Rattle.office_tables.specs.declared.slot.SlotRow.{SlotRow}
 use Rattle.office_records.specs.BatchRows.{IsRescored}
 use Rattle.office_records.specs.Found.{AreDrafts, AreSlots}
 use Rattle.office_records.specs.Stands.{drafts_at, parts_of, slot_rows, slots_at}

@@ -1,10 +1,10 @@
 -- What `==` says of two rows of shares.
 use Rattle.std.proofs.Common.{◌≡◌, ℕ, Bool, true, false, eqb, ◌&&◌, Decides, refl, ap₂, subst}
 use Rattle.std.proofs.lemmas.Bool.{eq-eqb, eqb-true}
-use Rattle.office_tables.specs.declared.rows.PartShareRow.{PartShareRow}
-use Rattle.office_tables.specs.declared.rows.StudentShareRow.{StudentShareRow}
-use Rattle.office_tables.specs.contracts.rows.StudentShareRowPartialEq.TheImpl as student
-use Rattle.office_tables.specs.contracts.rows.PartShareRowPartialEq.TheImpl as part
+use Rattle.office_tables.specs.declared.share_part.PartShareRow.{PartShareRow}
+use Rattle.office_tables.specs.declared.share_student.StudentShareRow.{StudentShareRow}
+use Rattle.office_tables.specs.contracts.share_student.StudentShareRowPartialEq.TheImpl as student
+use Rattle.office_tables.specs.contracts.share_part.PartShareRowPartialEq.TheImpl as part
 
 each_true : (p q r s : Bool) → (p && (q && (r && s))) ≡ true
     → (p ≡ true) × (q ≡ true) × (r ≡ true) × (s ≡ true)

@@ -8,15 +8,22 @@ use Rattle.std.proofs.lemmas.List.Sorted.{length_permutation}
 use Rattle.sqlite_value.specs.Order.{Row}
 use Rattle.sqlite.specs.Effect.{Database}
 use Rattle.sqlite_trees.proofs.ListLemmas.{IsPermutation-filter, all-permutation}
-use Rattle.office_tables.specs.Records.{FitsBatch}
-use Rattle.office_tables.specs.Tables.{Tables, Meta, Holds, Stands, keyed, keyless}
-use Rattle.office_tables.specs.Tables.{empty_tables}
-use Rattle.office_tables.specs.Tables.{owner_columns, enrol_columns, draft_columns, slot_columns}
-use Rattle.office_tables.specs.Tables.{placed_columns, seat_columns, share_student_columns, share_part_columns}
-use Rattle.office_tables.specs.Tables.{batch_columns, meta_columns}
-use Rattle.office_tables.specs.declared.rows.OwnerRow.{OwnerRow}
-use Rattle.office_tables.specs.declared.rows.DraftRow.{DraftRow}
-use Rattle.office_tables.specs.declared.rows.SlotRow.{SlotRow}
+use Rattle.office_tables.specs.Batch.{FitsBatch, batch_columns}
+use Rattle.office_tables.specs.Tables.{Tables, Meta, empty_tables}
+use Rattle.office_tables.specs.Stored.{Holds, keyed, keyless}
+use Rattle.office_tables.specs.Standing.{Stands}
+use Rattle.office_tables.specs.Owner.{owner_columns}
+use Rattle.office_tables.specs.Enrol.{enrol_columns}
+use Rattle.office_tables.specs.Draft.{draft_columns}
+use Rattle.office_tables.specs.Slot.{slot_columns}
+use Rattle.office_tables.specs.Placed.{placed_columns}
+use Rattle.office_tables.specs.Seat.{seat_columns}
+use Rattle.office_tables.specs.ShareStudent.{share_student_columns}
+use Rattle.office_tables.specs.SharePart.{share_part_columns}
+use Rattle.office_tables.specs.Meta.{meta_columns}
+use Rattle.office_tables.specs.declared.owner.OwnerRow.{OwnerRow}
+use Rattle.office_tables.specs.declared.draft.DraftRow.{DraftRow}
+use Rattle.office_tables.specs.declared.slot.SlotRow.{SlotRow}
 use Rattle.office_model.specs.Office.{OfficeState, Records}
 use Rattle.office_tables.proofs.RecordsBack.{owner_of, enrol_of, draft_of, slot_of, placement_of}
 use Rattle.office_tables.proofs.RecordsBack.{seat_of, student_share_of, part_share_of, batch_of}

@@ -8,11 +8,11 @@ use Rattle.std.proofs.lemmas.List.{get_or-map, get_or_default, length-map}
 use Rattle.std.proofs.lemmas.List.Folds.{list_any_at, list_any_none}
 use Rattle.std.proofs.lemmas.List.Sorted.{searched}
 use Rattle.sqlite_keyed.proofs.ListLemmas.{ascending-map}
-use Rattle.exam_model.specs.Enrolments.{IsAscending, has_student}
+use Rattle.exam_model.specs.Enrolments.{IsAscending, has_number}
 use Rattle.exam_model.proofs.SumLemmas.{IsChain}
 use Rattle.exam_publish.proofs.ListLemmas.{chain_from_ascending}
 use Rattle.exam_score.specs.Penalty.{PersonalPenalty}
-use Rattle.office_tables.specs.declared.rows.StudentShareRow.{StudentShareRow}
+use Rattle.office_tables.specs.declared.share_student.StudentShareRow.{StudentShareRow}
 use Rattle.office_records.specs.SharesStored.{IsShare, student_share_row}
 use Rattle.office_records.proofs.OrderLemmas.{one_order}
 
@@ -84,7 +84,7 @@ rise xs up i j le lt = grind (arith, up i j, λ (same : i ≡ j). ap (λ k. get_
 
 -- a search tells whether a student is there
 pub has_searched : (xs : List ℕ) (x : ℕ) (r : Result ℕ ℕ) → IsAscending xs
-    → IsBinarySearchResult (λ y. nat_cmp y x) xs r → is_ok r ≡ has_student xs x
+    → IsBinarySearchResult (λ y. nat_cmp y x) xs r → is_ok r ≡ has_number xs x
 has_searched xs x (Ok at) up is =
     let found = searched xs x (Ok at) is (rise xs up) in
     sym (list_any_at (λ t. eqb t x) xs at 0 found.0 (eq-eqb _ _ found.1))

@@ -1,5 +1,5 @@
 -- The shares of a publication, read back from rows.
-use Rattle.std.proofs.Common.{◌≡◌, ℕ, ◌+◌, ◌<◌, ◌≤◌, ◌^◌, Bool, true, false, cond, eqb, ltb, List, [], ◌∷◌, ◌++◌, length, map, take, drop, All, Result, Ok, Err, Some, sym, ◌∙◌, ap₂, subst, arith, take-append-drop}
+use Rattle.std.proofs.Common.{◌≡◌, ℕ, ◌+◌, ◌<◌, ◌≤◌, ◌^◌, List, [], ◌∷◌, ◌++◌, length, map, take, drop, All, Result, Ok, Err, Some, sym, ◌∙◌, ap₂, subst, arith, take-append-drop}
 use Rattle.std.specs.List.{AllByRecursion}
 use Rattle.std.specs.Prelude.{IfErr, IsPermutation}
 use Rattle.std.specs.Result.{IsErrAnd}
@@ -7,17 +7,18 @@ use Rattle.std.proofs.lemmas.List.Elements.{All-from_recursion, recursion_from_A
 use Rattle.std.proofs.lemmas.List.FromFn.{length-map-range_with_len}
 use Rattle.exam_model.specs.Enrolments.{IsAscending}
 use Rattle.exam_model.specs.Instance.{IsInstance, Session}
+use Rattle.exam_model.proofs.StudentLemmas.{each_with}
 use Rattle.exam_score.specs.Penalty.{PersonalPenalty, personal_total}
 use Rattle.exam_publish.specs.AddUp.{AreSmall}
-use Rattle.exam_publish.specs.Changed.{rows_of, students_of, with_number}
+use Rattle.exam_publish.specs.Changed.{rows_of, students_of}
 use Rattle.exam_publish.specs.Shares.{Sharing, enrolled_in, period_share, room_share, share_of, shares_of, student_shares}
 use Rattle.exam_publish.specs.declared.seat_row.SeatRow.{SeatRow}
 use Rattle.exam_publish.proofs.AddUpLemmas.{adds_up}
 use Rattle.exam_publish.proofs.ShareLemmas.{published_small, shares_ascend}
 use Rattle.exam_model.specs.Timetable.{Placing}
 use Rattle.exam_score.specs.Track.{exam_front}
-use Rattle.office_tables.specs.declared.rows.PartShareRow.{PartShareRow}
-use Rattle.office_tables.specs.declared.rows.StudentShareRow.{StudentShareRow}
+use Rattle.office_tables.specs.declared.share_part.PartShareRow.{PartShareRow}
+use Rattle.office_tables.specs.declared.share_student.StudentShareRow.{StudentShareRow}
 use Rattle.office_model.specs.Office.{IsPublication, Publication}
 use Rattle.office_records.specs.declared.fault.RecordFault.{RecordFault}
 use Rattle.office_records.specs.declared.fault.RecordFault.TheVariants.{BadRows}
@@ -51,17 +52,6 @@ module _ (I : Session) (rows : List SeatRow) (T : Placing) where
   }
 
 -- ---- numbers and amounts
-
-each_with : (P : ℕ → Type 0) (s : ℕ) (xs : List ℕ) → P s → AllByRecursion P xs
-    → AllByRecursion P (with_number s xs)
-each_with P s [] h a = (h, tt)
-each_with P s (x ∷ xs) h a = go (eqb s x) (ltb s x) (each_with P s xs h a.1)
-  where
-    go : (e l : Bool) → AllByRecursion P (with_number s xs)
-        → AllByRecursion P (cond e (x ∷ xs) (cond l (s ∷ x ∷ xs) (x ∷ with_number s xs)))
-    go true l more = a
-    go false true more = (h, a)
-    go false false more = (a.0, more)
 
 each_student : (P : ℕ → Type 0) (rows : List SeatRow)
     → AllByRecursion (λ (row : SeatRow). P row.student) rows → AllByRecursion P (students_of rows)

@@ -12,8 +12,9 @@ use Rattle.exam_model.specs.Fits.{PlaceExists}
 use Rattle.exam_model.specs.Instance.{Session}
 use Rattle.exam_model.specs.Timetable.{Placing}
 use Rattle.exam_terms.specs.declared.place.Place.{Place}
-use Rattle.office_tables.specs.declared.rows.SlotRow.{SlotRow}
-use Rattle.office_records.specs.Found.{AreSlots, IsFree, IsPut}
+use Rattle.office_tables.specs.declared.slot.SlotRow.{SlotRow}
+use Rattle.office_records.specs.Found.{AreSlots}
+use Rattle.office_records.specs.NextRow.{IsFree, IsPut}
 use Rattle.office_records.specs.Stands.{slots_at, slots_from, slot_row}
 
 -- ---- the rows of a timetable

@@ -1,26 +1,24 @@
 -- When rows that were found are those of an office's records, table by table.
-use Rattle.std.specs.Prelude.{◌≡◌, ◌≢◌, ℕ, ◌<◌, ◌≤◌, Bool, List, [], map, length, All, AllPairs, Option, Some, None, IsSome, is_some, slice_set, IsPermutation}
+use Rattle.std.specs.Prelude.{◌≡◌, ◌≢◌, ℕ, ◌<◌, ◌≤◌, Bool, List, [], map, length, All, Option, Some, IsSome, is_some, IsPermutation}
 use Rattle.std.specs.List.{AllByRecursion}
-use Rattle.exam_terms.specs.declared.limits.TheConstants.{MAX_BATCH, MAX_BATCHES, MAX_DEPARTMENT, MAX_DRAFTS, TEXT_BYTES}
+use Rattle.exam_terms.specs.declared.limits.TheConstants.{MAX_DEPARTMENT, MAX_DRAFTS}
 use Rattle.exam_model.specs.Enrolments.{Enrolled}
 use Rattle.exam_model.specs.Fits.{Fits, PlaceExists}
 use Rattle.exam_model.specs.Instance.{Session, IsInstance}
 use Rattle.exam_model.specs.Pairs.{pairs_of}
-use Rattle.exam_model.specs.Timetable.{Placing, place_of}
+use Rattle.exam_model.specs.Timetable.{Placing}
 use Rattle.exam_score.specs.Track.{track}
 use Rattle.office_tables.specs.Adopting.{tables_of}
-use Rattle.office_tables.specs.Records.{counts_of, FitsCounts}
-use Rattle.office_tables.specs.Tables.{Meta, Batch, empty_tables}
+use Rattle.office_tables.specs.Tables.{Meta, empty_tables}
 use Rattle.office_tables.specs.declared.found.Found.{Found}
-use Rattle.office_tables.specs.declared.rows.BatchCountsRow.{BatchCountsRow}
-use Rattle.office_tables.specs.declared.rows.OwnerRow.{OwnerRow}
-use Rattle.office_tables.specs.declared.rows.EnrolRow.{EnrolRow}
-use Rattle.office_tables.specs.declared.rows.DraftRow.{DraftRow}
-use Rattle.office_tables.specs.declared.rows.SlotRow.{SlotRow}
-use Rattle.office_tables.specs.declared.rows.PartShareRow.{PartShareRow}
-use Rattle.office_tables.specs.declared.rows.PlacedRow.{PlacedRow}
-use Rattle.office_tables.specs.declared.rows.SeatRow.{SeatRow}
-use Rattle.office_tables.specs.declared.rows.StudentShareRow.{StudentShareRow}
+use Rattle.office_tables.specs.declared.owner.OwnerRow.{OwnerRow}
+use Rattle.office_tables.specs.declared.enrol.EnrolRow.{EnrolRow}
+use Rattle.office_tables.specs.declared.draft.DraftRow.{DraftRow}
+use Rattle.office_tables.specs.declared.slot.SlotRow.{SlotRow}
+use Rattle.office_tables.specs.declared.share_part.PartShareRow.{PartShareRow}
+use Rattle.office_tables.specs.declared.placed.PlacedRow.{PlacedRow}
+use Rattle.office_tables.specs.declared.seat.SeatRow.{SeatRow}
+use Rattle.office_tables.specs.declared.share_student.StudentShareRow.{StudentShareRow}
 use Rattle.office_model.specs.Office.{AreEnrolled, Publication}
 use Rattle.office_records.specs.Publications.{ArePublicationRows, ArePublished}
 use Rattle.office_records.specs.SharesStored.{AreShared}
@@ -73,43 +71,7 @@ pub record HasNoPublication (found : Found) : Type 0 where
   pub student_shares : found.student_shares.items ≡ []
   pub part_shares : found.part_shares.items ≡ []
 
--- ---- batches, which are found without their bytes
-
--- the row of a batch whose number is one that it may have
-pub record IsBatchRow (row : BatchCountsRow) : Type 0 where
-  pub number : row.no ≤ MAX_BATCH
-  pub fits : FitsCounts row
-
--- these rows are of batches that may be kept
-pub record AreBatchRows (rows : List BatchCountsRow) : Type 0 where
-  pub few : length rows ≤ MAX_BATCHES
-  pub each : All IsBatchRow rows
-
--- a batch with no more bytes than a text may have
-abbrev pub IsShort : Batch → Type 0
-IsShort b = length b.bytes ≤ TEXT_BYTES
-
--- these batches have the rows that were found, no two have one number, and none is too long
-pub record AreFoundBatches (found : List BatchCountsRow) (batches : List Batch) : Type 0 where
-  pub rows : map counts_of batches ≡ found
-  pub apart : AllPairs (λ b c. b.no ≢ c.no) batches
-  pub short : All IsShort batches
-
 -- what is found before a load
 pub record IsUnloaded (found : Found) : Type 0 where
   pub batches : found.batches.items ≡ []
   pub tables : tables_of found [] ≡ empty_tables
-
--- ---- one row more
-
--- the exam and the place of a row exist, and the exam stands nowhere yet
-pub record IsFree (I : Session) (row : SlotRow) (T : Placing) : Type 0 where
-  pub exam : row.exam < length I.exams
-  pub period : row.period < length I.periods
-  pub room : row.room < length I.rooms
-  pub nowhere : place_of T row.exam ≡ None
-
--- it stands there then
-pub record IsPut (I : Session) (row : SlotRow) (old new : Placing) : Type 0 where
-  pub free : IsFree I row old
-  pub set : new ≡ slice_set old row.exam (Some (record { period = row.period; room = row.room }))

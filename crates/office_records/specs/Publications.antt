@@ -8,10 +8,10 @@ use Rattle.exam_model.specs.Timetable.{Placing}
 use Rattle.exam_publish.specs.Rows.{AreNumbered, ArePublishedRows, IsAtExam}
 use Rattle.exam_publish.specs.Seats.{AreSeated, HasSeat}
 use Rattle.exam_publish.specs.declared.seat_row.SeatRow as publish
-use Rattle.office_tables.specs.declared.rows.EnrolRow.{EnrolRow}
-use Rattle.office_tables.specs.declared.rows.PlacedRow.{PlacedRow}
-use Rattle.office_tables.specs.declared.rows.SeatRow.{SeatRow}
-use Rattle.office_tables.specs.declared.rows.SlotRow.{SlotRow}
+use Rattle.office_tables.specs.declared.enrol.EnrolRow.{EnrolRow}
+use Rattle.office_tables.specs.declared.placed.PlacedRow.{PlacedRow}
+use Rattle.office_tables.specs.declared.seat.SeatRow.{SeatRow}
+use Rattle.office_tables.specs.declared.slot.SlotRow.{SlotRow}
 use Rattle.office_model.specs.Office.{Publication, IsPublication}
 use Rattle.office_model.specs.Publishing.{rows_now}
 

@@ -1,13 +1,13 @@
 -- The rows of the shares of a publication, and those that a republication rewrites.
 use Rattle.std.specs.Prelude.{ℕ, ◌+◌, ◌<◌, ◌≤◌, ◌^◌, not, List, [], ◌∷◌, ◌++◌, map, filter, length, Option, Some, None, IsPermutation}
 use Rattle.exam_terms.specs.declared.limits.TheConstants.{MAX_EXAMS, MAX_PERIODS, MAX_ROOMS, MAX_STUDENT}
-use Rattle.exam_model.specs.Enrolments.{has_student}
+use Rattle.exam_model.specs.Enrolments.{has_number}
 use Rattle.exam_model.specs.Instance.{Session}
 use Rattle.exam_score.specs.Penalty.{PersonalPenalty, personal_total}
 use Rattle.exam_publish.specs.Shares.{Sharing, shares_of, student_shares}
 use Rattle.exam_publish.specs.declared.share_lists.RoomShare.{RoomShare}
-use Rattle.office_tables.specs.declared.rows.PartShareRow.{PartShareRow}
-use Rattle.office_tables.specs.declared.rows.StudentShareRow.{StudentShareRow}
+use Rattle.office_tables.specs.declared.share_part.PartShareRow.{PartShareRow}
+use Rattle.office_tables.specs.declared.share_student.StudentShareRow.{StudentShareRow}
 use Rattle.office_model.specs.Office.{Publication}
 use Rattle.office_records.specs.declared.part_shares.PartKind.{PartKind}
 use Rattle.office_records.specs.declared.part_shares.PartKind.TheVariants.{Exam, Period, Room}
@@ -69,11 +69,11 @@ pub record AreShared (I : Session) (published : Option Publication)
 
 -- the rows of these candidates
 abbrev pub share_rows_of : List ℕ → List StudentShareRow → List StudentShareRow
-share_rows_of students rows = filter (λ row. has_student students row.student) rows
+share_rows_of students rows = filter (λ row. has_number students row.student) rows
 
 -- the rows of all but these candidates
 abbrev pub share_rows_without : List ℕ → List StudentShareRow → List StudentShareRow
-share_rows_without students rows = filter (λ row. not (has_student students row.student)) rows
+share_rows_without students rows = filter (λ row. not (has_number students row.student)) rows
 
 -- new rows of these candidates in place of those that are stored
 abbrev pub student_shares_put : List ℕ → List StudentShareRow → List StudentShareRow

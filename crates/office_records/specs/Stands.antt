@@ -10,13 +10,13 @@ use Rattle.exam_terms.specs.declared.place.Place.{Place}
 use Rattle.exam_score.specs.Penalty.{Penalty}
 use Rattle.exam_score.specs.Track.{track}
 use Rattle.office_files.specs.CanonicalText.{canonical_instance}
-use Rattle.office_tables.specs.Tables as tables
-use Rattle.office_tables.specs.Records.{FitsBatch}
+use Rattle.office_tables.specs.Standing as tables
+use Rattle.office_tables.specs.Batch.{FitsBatch}
 use Rattle.office_tables.specs.Tables.{Tables, Meta, Batch, empty_tables}
-use Rattle.office_tables.specs.declared.rows.OwnerRow.{OwnerRow}
-use Rattle.office_tables.specs.declared.rows.EnrolRow.{EnrolRow}
-use Rattle.office_tables.specs.declared.rows.DraftRow.{DraftRow}
-use Rattle.office_tables.specs.declared.rows.SlotRow.{SlotRow}
+use Rattle.office_tables.specs.declared.owner.OwnerRow.{OwnerRow}
+use Rattle.office_tables.specs.declared.enrol.EnrolRow.{EnrolRow}
+use Rattle.office_tables.specs.declared.draft.DraftRow.{DraftRow}
+use Rattle.office_tables.specs.declared.slot.SlotRow.{SlotRow}
 use Rattle.office_model.specs.Office.{OfficeState, Records, KeptBatch, IsOffice}
 use Rattle.office_records.specs.Publications.{StandsPublished}
 use Rattle.office_records.specs.SharesStored.{AreShared}

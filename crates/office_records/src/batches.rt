@@ -1,14 +1,14 @@
 // Rows of the batches that were accepted, without their bytes.
 ghost use Rattle.std.specs.Prelude.{◌≡◌, ◌↔◌, All, IfErr, IsTrue, OnErr, OnOk};
-ghost use Rattle.office_records.specs.Found.{AreBatchRows, IsBatchRow};
+ghost use Rattle.office_records.specs.FoundBatches.{AreBatchRows, IsBatchRow};
 
 use crate::fault::RecordFault;
 use exam_terms::limits::{MAX_BATCH, MAX_BATCHES};
 use office_tables::BatchCountsRow;
 
-/// Whether these rows are of batches that an office may keep, whatever their bytes. `BadRows`:
-/// there are too many, or a number is beyond the limit.
-pub fn check_batches(rows: &[BatchCountsRow]) -> Result<(), RecordFault>
+// Whether these rows are of batches that an office may keep, whatever their bytes. `BadRows`:
+// there are too many, or a number is beyond the limit.
+pub(crate) fn check_batches(rows: &[BatchCountsRow]) -> Result<(), RecordFault>
     ensures are { OnOk result (AreBatchRows rows.now) }
     ensures none { OnErr result (AreBatchRows rows.now → ⊥) }
     ensures fault { IfErr result (λ e. e ≡ RecordFault.BadRows) }

@@ -5,7 +5,7 @@ ghost use Rattle.std.specs.List.{list_all, list_any};
 ghost use Rattle.exam_terms.specs.declared.limits.TheConstants.{MAX_DRAFTS};
 ghost use Rattle.exam_model.specs.Timetable.{Placing};
 ghost use Rattle.exam_score.specs.Track.{track};
-ghost use Rattle.office_tables.specs.Amounts.{AreAmounts};
+ghost use Rattle.office_tables.specs.Draft.{AreAmounts};
 ghost use Rattle.office_records.specs.Found.{AreDrafts, AreSlots};
 ghost use Rattle.office_records.specs.Stands.{parts_of};
 
@@ -17,9 +17,9 @@ use exam_terms::limits::MAX_DRAFTS;
 use office_tables::{DraftRow, SlotRow};
 use std::alloc::Global;
 
-/// Whether these rows are drafts with their places, and their penalties are right. `BadRows`: they
-/// aren't.
-pub fn check_drafts(
+// Whether these rows are drafts with their places, and their penalties are right. `BadRows`: they
+// aren't.
+pub(crate) fn check_drafts(
     alloc: Global,
     instance: &Instance,
     enrolments: &Enrolments,
@@ -47,7 +47,8 @@ pub fn check_drafts(
 
 // Whether a draft after these may have this number.
 fn is_next(no: u32, earlier: &[DraftRow]) -> bool
-    ensures { IsTrue result ↔ ((1 ≤ no) × (no ≤ MAX_DRAFTS) × All (λ row. row.no ≢ no) earlier.now) }
+    ensures { IsTrue result
+        ↔ ((1 ≤ no) × (no ≤ MAX_DRAFTS) × All (λ row. row.no ≢ no) earlier.now) }
 {
     let exists = 1 <= no && no <= MAX_DRAFTS;
     exists && earlier.iter().all(|row| row.no != no)

@@ -9,8 +9,8 @@ use exam_model::{Enrolments, ExamNo, Instance, ModelFault, StudentNo};
 use office_tables::EnrolRow;
 use std::alloc::Global;
 
-/// The enrolments of a session's exams that have these rows. `BadRows`: none have.
-pub fn enrolments_of(
+// The enrolments of a session's exams that have these rows. `BadRows`: none have.
+pub(crate) fn enrolments_of(
     alloc: Global,
     instance: &Instance,
     rows: &[EnrolRow],

@@ -8,8 +8,8 @@ use exam_model::{DeptNo, Instance};
 use office_tables::OwnerRow;
 use std::alloc::Global;
 
-/// Whether these rows name owners of a session's exams. `BadRows`: they don't.
-pub fn check_owners(
+// Whether these rows name owners of a session's exams. `BadRows`: they don't.
+pub(crate) fn check_owners(
     alloc: Global,
     instance: &Instance,
     rows: &[OwnerRow],

@@ -4,7 +4,7 @@ ghost use Rattle.exam_terms.specs.declared.limits.TheConstants.{MAX_EXAMS};
 ghost use Rattle.exam_publish.specs.AddUp.{AreSmall};
 ghost use Rattle.exam_publish.specs.Shares.{Sharing};
 ghost use Rattle.exam_publish.specs.declared.share_lists.RoomShare.{RoomShare};
-ghost use Rattle.office_tables.specs.Amounts.{ArePartAmounts};
+ghost use Rattle.office_tables.specs.SharePart.{ArePartAmounts};
 ghost use Rattle.office_records.specs.SharesStored.{HasFewParts, part_kind_number, part_rows, plain_rows, room_rows};
 
 use crate::fault::RecordFault;
@@ -92,8 +92,11 @@ fn push_rooms(rows: &mut Vec<PartShareRow>, shares: &[RoomShare]) -> Result<(), 
     Ok(())
 }
 
-/// The rows in the order of their kinds, and of their numbers in each.
-pub fn parts_in_order(alloc: Global, rows: &[PartShareRow]) -> Result<Vec<PartShareRow>, AllocError>
+// The rows in the order of their kinds, and of their numbers in each.
+pub(crate) fn parts_in_order(
+    alloc: Global,
+    rows: &[PartShareRow],
+) -> Result<Vec<PartShareRow>, AllocError>
     ensures same { IfOk result (λ sorted. IsPermutation rows.now sorted.items) }
     ensures only { IfOk result (λ sorted. (shares : Sharing)
         → IsPermutation rows.now (part_rows shares) → sorted.items ≡ part_rows shares) }
@@ -103,13 +106,14 @@ pub fn parts_in_order(alloc: Global, rows: &[PartShareRow]) -> Result<Vec<PartSh
     Ok(sorted)
 }
 
-/// The shares that rows of a kind are, by their numbers. `BadRows`: they are none.
-pub fn plain_shares(
+// The shares that rows of a kind are, by their numbers. `BadRows`: they are none.
+pub(crate) fn plain_shares(
     alloc: Global,
     rows: &[PartShareRow],
     kind: PartKind,
 ) -> Result<Vec<u64>, RecordFault>
-    ensures are { IfOk result (λ shares. plain_rows (part_kind_number kind) 0 shares.items ≡ rows.now) }
+    ensures are { IfOk result (λ shares.
+        plain_rows (part_kind_number kind) 0 shares.items ≡ rows.now) }
     ensures none { IfErr result (λ e. e ≡ RecordFault.BadRows → (shares : List ℕ)
         → plain_rows (part_kind_number kind) 0 shares ≡ rows.now → ⊥) }
 {
@@ -123,8 +127,11 @@ pub fn plain_shares(
     Ok(shares)
 }
 
-/// The shares of rooms that rows are, by their numbers. `BadRows`: they are none.
-pub fn room_shares(alloc: Global, rows: &[PartShareRow]) -> Result<Vec<RoomShare>, RecordFault>
+// The shares of rooms that rows are, by their numbers. `BadRows`: they are none.
+pub(crate) fn room_shares(
+    alloc: Global,
+    rows: &[PartShareRow],
+) -> Result<Vec<RoomShare>, RecordFault>
     ensures are { IfOk result (λ shares. room_rows 0 shares.items ≡ rows.now) }
     ensures none { IfErr result (λ e. e ≡ RecordFault.BadRows → (shares : List RoomShare)
         → room_rows 0 shares ≡ rows.now → ⊥) }

@@ -10,9 +10,9 @@ use exam_publish::SeatRow;
 use exam_terms::limits::MAX_PAIRS;
 use std::alloc::{AllocError, Global};
 
-/// Whether each exam has a place, and each row is at its exam's place, with a seat of its own in
-/// the room.
-pub fn have_places_and_seats(
+// Whether each exam has a place, and each row is at its exam's place, with a seat of its own in
+// the room.
+pub(crate) fn have_places_and_seats(
     alloc: Global,
     instance: &Instance,
     timetable: &Timetable,
@@ -29,8 +29,8 @@ pub fn have_places_and_seats(
     Ok(complete && few && own && are_in_order(rows) && are_seated(instance, timetable, rows))
 }
 
-/// Reads the students' numbers for their limit, and does nothing.
-pub fn tell_numbers(rows: &[SeatRow])
+// Reads the students' numbers for their limit, and does nothing.
+pub(crate) fn tell_numbers(rows: &[SeatRow])
     ensures { AreNumbered rows.now }
 {
     'rows: for row in rows {

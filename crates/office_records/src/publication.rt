@@ -32,10 +32,11 @@ pub fn publication_of(
 
     // No other publication has these rows.
     ensures only { IfOk result (λ found. (published : Option Publication)
-        → ArePublicationRows mark places.now seats.now published → ArePublished instance.now published
-        → publication_from found ≡ published) }
+        → ArePublicationRows mark places.now seats.now published
+        → ArePublished instance.now published → publication_from found ≡ published) }
     ensures none { IfErr result (λ e. e ≡ RecordFault.BadRows → (published : Option Publication)
-        → ArePublicationRows mark places.now seats.now published → ArePublished instance.now published → ⊥) }
+        → ArePublicationRows mark places.now seats.now published
+        → ArePublished instance.now published → ⊥) }
 {
     if !mark {
         return no_publication(places, seats);

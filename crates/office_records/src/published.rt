@@ -12,9 +12,13 @@ use exam_model::Instance;
 use office_tables::{Found, PartShareRow, StudentShareRow};
 use std::alloc::Global;
 
-/// Whether the rows of a publication and its shares are what is published of a session. `BadRows`:
-/// they aren't.
-pub fn check_published(alloc: Global, instance: &Instance, found: &Found) -> Result<(), RecordFault>
+// Whether the rows of a publication and its shares are what is published of a session. `BadRows`:
+// they aren't.
+pub(crate) fn check_published(
+    alloc: Global,
+    instance: &Instance,
+    found: &Found,
+) -> Result<(), RecordFault>
     ensures are { OnOk result ((published : Option Publication)
         × ArePublication instance.now found.now.meta.published found.now.placements.items
         found.now.seats.items found.now.student_shares.items found.now.part_shares.items

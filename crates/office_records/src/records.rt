@@ -1,10 +1,11 @@
 // The records that rows stand for.
 ghost use Rattle.std.specs.Prelude.{◌≡◌, ◌↔◌, IfErr, IfOk, IsTrue, List, map};
 ghost use Rattle.office_tables.specs.Adopting.{tables_of};
-ghost use Rattle.office_tables.specs.Records.{counts_of};
+ghost use Rattle.office_tables.specs.Batch.{counts_of};
 ghost use Rattle.office_tables.specs.Tables.{Batch};
 ghost use Rattle.office_model.specs.Office.{IsOffice, OfficeState};
-ghost use Rattle.office_records.specs.Found.{AreFoundBatches, HasNoPublication, IsUnloaded};
+ghost use Rattle.office_records.specs.Found.{HasNoPublication, IsUnloaded};
+ghost use Rattle.office_records.specs.FoundBatches.{AreFoundBatches};
 ghost use Rattle.office_records.specs.Memory.{AreTogether, memory_of};
 ghost use Rattle.office_records.specs.Stands.{IsSound, StandsForOffice};
 

@@ -2,7 +2,7 @@
 ghost use Rattle.std.specs.Prelude.{◌≡◌, ℕ, All, IfErr, IfOk, Option, length};
 ghost use Rattle.exam_model.specs.Enrolments.{Enrolled};
 ghost use Rattle.exam_model.specs.Timetable.{Placing};
-ghost use Rattle.office_tables.specs.Amounts.{AreAmounts};
+ghost use Rattle.office_tables.specs.Draft.{AreAmounts};
 ghost use Rattle.office_records.specs.Found.{AreDrafts, AreSlots};
 ghost use Rattle.office_records.specs.BatchRows.{IsRescored};
 

@@ -46,9 +46,12 @@ fn stored_seat(row: publish::SeatRow) -> SeatRow
     }
 }
 
-/// The seats in the order of their exams, and of their students in each. `BadRows`: a student's
-/// number is beyond the limit.
-pub fn seats_in_order(alloc: Global, rows: &[SeatRow]) -> Result<Vec<publish::SeatRow>, RecordFault>
+// The seats in the order of their exams, and of their students in each. `BadRows`: a student's
+// number is beyond the limit.
+pub(crate) fn seats_in_order(
+    alloc: Global,
+    rows: &[SeatRow],
+) -> Result<Vec<publish::SeatRow>, RecordFault>
     ensures same { IfOk result (λ seats. IsPermutation rows.now (map stored_seat seats.items)) }
     ensures only { IfOk result (λ seats. (own : List published.SeatRow) → RowsInOrder own
         → IsPermutation rows.now (map stored_seat own) → seats.items ≡ own) }

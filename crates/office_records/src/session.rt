@@ -1,7 +1,7 @@
 // The row of a session.
 ghost use Rattle.std.specs.Prelude.{◌≡◌, IfErr, IfOk};
 ghost use Rattle.exam_model.specs.Instance.{IsInstance, Session};
-ghost use Rattle.office_tables.specs.Records.{meta_from};
+ghost use Rattle.office_tables.specs.Meta.{meta_from};
 ghost use Rattle.office_records.specs.Found.{IsSessionRow};
 ghost use Rattle.office_records.specs.Stands.{session_text};
 
@@ -27,9 +27,9 @@ pub fn text_of(alloc: Global, instance: &Instance) -> Result<Vec<u8>, RecordFaul
     }
 }
 
-/// The session whose row this is, whether something is published of it or not. `BadRows`: it is
-/// the row of none.
-pub fn session_of(alloc: Global, row: &MetaRow) -> Result<Instance, RecordFault>
+// The session whose row this is, whether something is published of it or not. `BadRows`: it is
+// the row of none.
+pub(crate) fn session_of(alloc: Global, row: &MetaRow) -> Result<Instance, RecordFault>
     ensures is { IfOk result (IsSessionRow (meta_from row.now)) }
     ensures none { IfErr result (λ e. e ≡ RecordFault.BadRows
         → (I : Session) → IsSessionRow (meta_from row.now) I → ⊥) }

@@ -1,8 +1,8 @@
 // Rows of the shares of candidates.
 ghost use Rattle.std.specs.Prelude.{◌≡◌, ℕ, List, map, All, IfErr, IfNone, IfOk, IfSome, IsPermutation};
-ghost use Rattle.exam_model.specs.Enrolments.{IsAscending, has_student};
+ghost use Rattle.exam_model.specs.Enrolments.{IsAscending, has_number};
 ghost use Rattle.exam_score.specs.Penalty.{PersonalPenalty};
-ghost use Rattle.office_tables.specs.Amounts.{AreStudentAmounts};
+ghost use Rattle.office_tables.specs.ShareStudent.{AreStudentAmounts};
 ghost use Rattle.office_records.specs.SharesStored.{IsShare, share_rows_of, student_share_row};
 
 use crate::fault::RecordFault;
@@ -66,13 +66,13 @@ fn share_row(share: (StudentNo, PersonalParts)) -> StudentShareRow
 // Whether a student is one of these.
 pub(crate) fn is_among(students: &[StudentNo], student: StudentNo) -> bool
     requires { IsAscending students.now }
-    ensures { result ≡ has_student students.now student }
+    ensures { result ≡ has_number students.now student }
 {
     students.binary_search(&student).is_ok()
 }
 
-/// The rows in the order of their candidates.
-pub fn students_in_order(
+// The rows in the order of their candidates.
+pub(crate) fn students_in_order(
     alloc: Global,
     rows: &[StudentShareRow],
 ) -> Result<Vec<StudentShareRow>, AllocError>
@@ -87,8 +87,8 @@ pub fn students_in_order(
     Ok(sorted)
 }
 
-/// The shares that rows are, in their order. `BadRows`: a number or an amount is beyond its limit.
-pub fn personal_shares(
+// The shares that rows are, in their order. `BadRows`: a number or an amount is beyond its limit.
+pub(crate) fn personal_shares(
     alloc: Global,
     rows: &[StudentShareRow],
 ) -> Result<Vec<(StudentNo, PersonalParts)>, RecordFault>

@@ -1,14 +1,16 @@
 // Rows of the places of a draft.
 ghost use Rattle.std.specs.Prelude.{◌≡◌, IfErr, IfOk, OnErr, OnOk, length};
 ghost use Rattle.exam_model.specs.Timetable.{Placing};
-ghost use Rattle.office_records.specs.Found.{AreSlots, IsFree, IsPut};
+ghost use Rattle.office_records.specs.Found.{AreSlots};
+ghost use Rattle.office_records.specs.NextRow.{IsFree, IsPut};
 
 use crate::fault::RecordFault;
 use exam_model::{ExamNo, Instance, PeriodNo, Place, RoomNo, Timetable};
 use office_tables::SlotRow;
 use std::alloc::Global;
 
-/// The timetable of a draft whose places these are, among those of others. `BadRows`: there is none.
+/// The timetable of a draft whose places these are, among those of others. `BadRows`: there is
+/// none.
 pub fn timetable_of(
     alloc: Global,
     instance: &Instance,

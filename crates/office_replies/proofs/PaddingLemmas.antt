@@ -2,7 +2,7 @@
 use Rattle.std.proofs.Common.{◌≡◌, ℕ, ◌-◌, ◌^◌, ◌++◌, ◌∷◌, [], List, false, length, append-nil, append_assoc, arith, ◌∙◌}
 use Rattle.std.specs.Prelude.{decimal}
 use Rattle.std.specs.Fmt.{padded_integral, format_spec, char_count, styled_decimal}
-use Rattle.office_replies.specs.CandidateViews.{zero_padded}
+use Rattle.office_replies.specs.DayTexts.{zero_padded}
 
 two_padded : (n : ℕ)
     → padded_integral (format_spec 32 0 4 2 (2 ^ 64 - 1)) false [] (decimal n) ≡ zero_padded 2 n

@@ -1,30 +1,13 @@
 -- What a candidate is shown, as JSON.
-use Rattle.std.specs.Prelude.{ℕ, ◌-◌, ◌++◌, Bool, true, false, List, map, length, replicate, codes, decimal, Option, Some, None, option_map}
+use Rattle.std.specs.Prelude.{ℕ, Bool, true, false, List, map, codes, Option, Some, None, option_map}
 use Rattle.serde_json.specs.Data.{Data, null, string, array, object, member, no_members}
 use Rattle.serde_json.specs.Written.{compact_text}
-use Rattle.exam_calendar.specs.declared.date.Date.{Date}
 use Rattle.exam_score.specs.Penalty.{PersonalPenalty, personal_total}
-use Rattle.office_model.specs.declared.views.ShownPlace.{ShownPlace}
 use Rattle.office_model.specs.declared.views.ViewRow.{ViewRow}
 use Rattle.serde_json.specs.View.{items_of, view}
 use Rattle.office_replies.specs.Views.{counted, or_null}
 use Rattle.office_replies.specs.declared.candidates.RowMembers.{RowMembers}
-
--- a number in at least so many digits, with zeros in front
-abbrev pub zero_padded : ℕ → ℕ → List ℕ
-zero_padded width n = replicate (width - length (decimal n)) 48 ++ decimal n
-
--- YYYY-MM-DD
-abbrev pub date_text : Date → List ℕ
-date_text d =
-    zero_padded 4 d.year ++ codes "-" ++ zero_padded 2 d.month ++ codes "-"
-    ++ zero_padded 2 d.day
-
--- HH:MM:SS
-abbrev pub start_text : ShownPlace → List ℕ
-start_text at =
-    zero_padded 2 at.hour ++ codes ":" ++ zero_padded 2 at.minute ++ codes ":"
-    ++ zero_padded 2 at.second
+use Rattle.office_replies.specs.DayTexts.{date_text, start_text}
 
 -- a text, or null where there is none
 abbrev pub text_or_null : Option (List ℕ) → Data

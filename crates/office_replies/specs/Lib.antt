@@ -1,4 +1,7 @@
 pub mod Objects
 pub mod Views
+pub mod DayTexts
 pub mod CandidateViews
+pub mod Refusals
+pub mod ChangeTexts
 pub mod Replies

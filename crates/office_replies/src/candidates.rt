@@ -3,9 +3,9 @@ ghost use Rattle.std.specs.Prelude.{◌≡◌, IfOk, map, option_map, string_byt
 ghost use Rattle.serde_json.specs.View.{view};
 ghost use Rattle.office_messages.specs.Reply.{plain_reply, json_reply};
 ghost use Rattle.office_replies.specs.CandidateViews.{candidate_data, candidate_text, cost_data};
-ghost use Rattle.office_replies.specs.CandidateViews.{cost_text, date_text, exam_data, exam_text};
-ghost use Rattle.office_replies.specs.CandidateViews.{row_data, start_text, state_text};
-ghost use Rattle.office_replies.specs.CandidateViews.{text_or_null};
+ghost use Rattle.office_replies.specs.CandidateViews.{cost_text, exam_data, exam_text};
+ghost use Rattle.office_replies.specs.CandidateViews.{row_data, state_text, text_or_null};
+ghost use Rattle.office_replies.specs.DayTexts.{date_text, start_text};
 ghost use Rattle.office_replies.specs.Views.{or_null};
 
 use crate::views::{or_null, shown_reply};

@@ -1,8 +1,8 @@
 // Replies to changes that were made: they take no memory but the room that was made before.
 ghost use Rattle.std.specs.Prelude.{◌≡◌, ◌≤◌, vec_capacity};
 ghost use Rattle.office_messages.specs.Reply.{plain_reply, json_reply};
-ghost use Rattle.office_replies.specs.Replies.{dropped_text, enrolled_text, loaded_text, owner_text};
-ghost use Rattle.office_replies.specs.Replies.{penalty_text, published_text};
+ghost use Rattle.office_replies.specs.ChangeTexts.{dropped_text, enrolled_text, loaded_text, owner_text};
+ghost use Rattle.office_replies.specs.ChangeTexts.{penalty_text, published_text};
 
 use crate::objects::{REPLY_ROOM, number, object_reply};
 use exam_terms::ExamNo;

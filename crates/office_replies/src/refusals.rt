@@ -1,8 +1,8 @@
 // Replies to refusals of commands: they take no memory but the room that was made before.
 ghost use Rattle.std.specs.Prelude.{◌≡◌, ◌≤◌, vec_capacity};
 ghost use Rattle.office_messages.specs.Reply.{plain_reply, json_reply};
-ghost use Rattle.office_replies.specs.Replies.{broken_text, edit_reply, fault_reply_of, file_text};
-ghost use Rattle.office_replies.specs.Replies.{publish_reply, refused_reply, unplaced_text};
+ghost use Rattle.office_replies.specs.Refusals.{broken_text, edit_reply, fault_reply_of, file_text};
+ghost use Rattle.office_replies.specs.Refusals.{publish_reply, refused_reply, unplaced_text};
 
 use crate::objects::{REPLY_ROOM, number, object_reply, word};
 use exam_draft::EditFault;

@@ -8,13 +8,12 @@ use Rattle.std.proofs.lemmas.List.Sums.{count_by_more_yes, count_by_more_no}
 use Rattle.std.proofs.lemmas.Nat.{same_from_place}
 use Rattle.exam_terms.specs.declared.place.Place.{Place}
 use Rattle.exam_model.specs.Instance.{Session}
-use Rattle.exam_model.specs.Fits.{PlaceExists}
+use Rattle.exam_model.specs.Fits.{PlaceExists, slot_of}
 use Rattle.exam_model.specs.Timetable.{Placing, place_of}
+use Rattle.exam_model.proofs.PlaceLemmas.{slot_within}
 use Rattle.exam_publish.specs.Rows.{row_place}
 use Rattle.exam_publish.specs.declared.seat_row.SeatRow.{SeatRow}
-use Rattle.exam_rules.specs.Loads.{slot_of}
 use Rattle.exam_rules.specs.Places.{is_one_place, where_placed}
-use Rattle.exam_rules.proofs.LoadLemmas.{slot_within}
 use Rattle.office_reports.specs.Rooms.{capacity_of, exams_in, line_with, period_lines, place, place_line, seats_in}
 use Rattle.office_reports.specs.Slots.{IsTable, entry_line, entry_lines, exams_below}
 use Rattle.office_reports.proofs.RoomLemmas.{failed_more, passed_more, same_lines}

@@ -23,7 +23,8 @@ place p r = record { period = p; room = r }
 
 -- the exams that stand in a place, ascending
 abbrev pub exams_in : Placing → Place → List ℕ
-exams_in T at = filter (λ e. where_placed (is_one_place at) (place_of T e)) (range_with_len 0 (length T))
+exams_in T at =
+    filter (λ e. where_placed (is_one_place at) (place_of T e)) (range_with_len 0 (length T))
 
 -- how many of the seats are in a place
 abbrev pub seats_in : List SeatRow → Place → ℕ

@@ -2,9 +2,9 @@
 use Rattle.std.specs.Prelude.{◌≡◌, ℕ, ◌*◌, ◌<◌, [], List, length, filter, slice_get, slice_index, slice_index_or}
 use Rattle.std.specs.List.{flat_map, range_with_len}
 use Rattle.exam_terms.specs.declared.place.Place.{Place}
+use Rattle.exam_model.specs.Fits.{slot_of}
 use Rattle.exam_model.specs.Instance.{Session}
 use Rattle.exam_model.specs.Timetable.{Placing, place_of}
-use Rattle.exam_rules.specs.Loads.{slot_of}
 use Rattle.exam_rules.specs.Places.{is_one_place, where_placed}
 use Rattle.office_reports.specs.Rooms.{capacity_of, line_with, place}
 

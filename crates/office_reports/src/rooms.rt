@@ -5,7 +5,7 @@ ghost use Rattle.office_reports.specs.Rooms.{room_line, rooms_text};
 ghost use Rattle.office_reports.specs.Slots.{entry_line, entry_lines};
 
 use crate::exam_list::ExamList;
-use crate::slots::{exams_by_slot, seats_by_slot, slot_of};
+use crate::slots::{exams_by_slot, seats_by_slot};
 use exam_model::{Instance, Timetable};
 use exam_publish::SeatRow;
 use exam_terms::{ExamNo, PeriodNo, Place, RoomNo};
@@ -67,7 +67,7 @@ fn add_place(
     ensures { OnOk result (string_bytes text.new ≡ string_bytes text.old
         ++ entry_line instance.now exams.now used.now place.now) }
 {
-    let slot = slot_of(instance, place);
+    let slot = instance.slot_of(*place);
     let here = exams[slot].as_slice();
     if here.is_empty() {
         return Ok(());

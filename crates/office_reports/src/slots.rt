@@ -1,8 +1,7 @@
 // What is in each room and period: tables with an entry for each, made in one pass.
-ghost use Rattle.std.specs.Prelude.{◌≡◌, ◌↔◌, ◌<◌, ◌*◌, [], length, IsTrue, Some, IfOk};
+ghost use Rattle.std.specs.Prelude.{◌≡◌, ◌↔◌, ◌*◌, [], length, IsTrue, Some, IfOk};
 ghost use Rattle.exam_model.specs.Fits.{PlaceExists};
 ghost use Rattle.exam_publish.specs.Rows.{row_place};
-ghost use Rattle.exam_rules.specs.Loads.{slot_of};
 ghost use Rattle.office_reports.specs.Rooms.{exams_in, seats_in};
 ghost use Rattle.office_reports.specs.Slots.{IsTable};
 
@@ -28,7 +27,7 @@ pub fn exams_by_slot(
             continue;
         };
         if has_place(instance, &place) {
-            lists[slot_of(instance, &place)].push(exam)?;
+            lists[instance.slot_of(place)].push(exam)?;
         }
     }
     Ok(lists)
@@ -48,18 +47,6 @@ fn has_place(instance: &Instance, place: &Place) -> bool
     place.period.get() < instance.periods() && place.room.get() < instance.rooms()
 }
 
-/// A place's entry in the tables.
-pub fn slot_of(instance: &Instance, place: &Place) -> usize
-    requires { PlaceExists instance.now (Some place.now) }
-    ensures slot { result ≡ slot_of (length instance.now.rooms) place.now }
-    ensures within { result < length instance.now.periods * length instance.now.rooms }
-{
-    let _periods = instance.periods(); // read for its limit of periods
-    let period = place.period.get() as usize;
-    let room = place.room.get() as usize;
-    period * instance.rooms() as usize + room
-}
-
 /// How many of the seats are in each room and period.
 pub fn seats_by_slot(
     alloc: Global,
@@ -72,7 +59,7 @@ pub fn seats_by_slot(
     'seats: for seat in seats {
         let place = place_of(seat);
         if has_place(instance, &place) {
-            let slot = slot_of(instance, &place);
+            let slot = instance.slot_of(place);
             let count = counts[slot] + 1;
             counts[slot] = count;
         }

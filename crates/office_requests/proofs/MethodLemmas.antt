@@ -11,8 +11,9 @@ use Rattle.office_policy.specs.Commands.{draft_violations, place, move, clear, s
 use Rattle.office_policy.specs.Commands.{publication, publication_penalty, publication_rooms}
 use Rattle.office_policy.specs.Commands.{batch}
 use Rattle.office_requests.specs.Bodies.{dept_body, place_body, text_body}
-use Rattle.office_requests.specs.Commands.{by_get, by_put, by_post, by_delete, of_instance}
-use Rattle.office_requests.specs.Commands.{of_draft, asks_at}
+use Rattle.office_requests.specs.ByMethod.{by_get, by_put, by_post, by_delete, of_instance}
+use Rattle.office_requests.specs.ByMethod.{of_draft}
+use Rattle.office_requests.specs.Commands.{asks_at}
 use Rattle.office_requests.specs.Methods.{verb_of, allow_of, is_listed}
 use Rattle.office_requests.specs.Pages.{page_of}
 use Rattle.office_requests.specs.Paths.{number_in}

@@ -11,8 +11,7 @@ use Rattle.std.proofs.lemmas.Fmt.{decimal_is_IsNumeral, length-decimal-le}
 use Rattle.std.proofs.lemmas.Str.Parse.{digit_from_value}
 use Rattle.matchit.specs.Rows.{param_token}
 use Rattle.matchit.specs.Seek.{slash}
-use Rattle.office_policy.specs.Commands.{IsSmall}
-use Rattle.office_policy.specs.Numbers.{number_of}
+use Rattle.office_policy.specs.Numbers.{IsSmall, number_of}
 use Rattle.office_requests.specs.Paths.{first_segment, behind_slash}
 use Rattle.office_requests.specs.Patterns.{takes, rest_of_segment}
 use Rattle.office_requests.proofs.Plain.{EndsSegment}

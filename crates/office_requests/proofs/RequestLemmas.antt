@@ -7,7 +7,7 @@ use Rattle.office_policy.specs.Commands.{PlainCommand}
 use Rattle.office_requests.specs.Commands.{HasJson}
 use Rattle.office_requests.specs.Methods.{verb_of}
 use Rattle.office_requests.specs.Requests.{PlainAsked, caller_in, asked_by, reading}
-use Rattle.office_requests.specs.Requests.{GivesCommand, GivesAsked}
+use Rattle.office_requests.specs.Answering.{GivesCommand, GivesAsked}
 use Rattle.office_requests.specs.declared.requests.Refusal.{Refusal}
 use Rattle.office_requests.specs.declared.requests.Refusal.TheVariants as refusal
 

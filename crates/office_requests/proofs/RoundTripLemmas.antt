@@ -5,7 +5,8 @@ use Rattle.std.specs.Prelude.{codes, decimal, option_map, option_and_then}
 use Rattle.matchit.specs.Rows.{param_token}
 use Rattle.matchit.specs.Seek.{slash}
 use Rattle.exam_terms.specs.declared.place.Place.{Place}
-use Rattle.office_policy.specs.Commands.{PlainCommand, IsSmall, HasSmallNumbers}
+use Rattle.office_policy.specs.Numbers.{IsSmall}
+use Rattle.office_policy.specs.Commands.{PlainCommand, HasSmallNumbers}
 use Rattle.office_policy.specs.Commands.{me, my_exam, my_penalty, load, instance}
 use Rattle.office_policy.specs.Commands.{set_owner, new_draft, draft, draft_penalty}
 use Rattle.office_policy.specs.Commands.{draft_violations, drop_draft, place, move, clear, swap}
@@ -16,14 +17,15 @@ use Rattle.office_policy.specs.declared.callers.Caller.{Caller}
 use Rattle.office_policy.specs.declared.callers.Caller.TheVariants.{Office, Dept, Cand}
 use Rattle.office_policy.specs.declared.command.Body.{Body}
 use Rattle.office_requests.specs.Bodies.{dept_body, place_body, text_body}
-use Rattle.office_requests.specs.Commands.{by_get, by_put, by_post, by_delete, of_instance}
-use Rattle.office_requests.specs.Commands.{of_draft, asks_at, with_two}
+use Rattle.office_requests.specs.ByMethod.{by_get, by_put, by_post, by_delete, of_instance}
+use Rattle.office_requests.specs.ByMethod.{of_draft, with_two}
+use Rattle.office_requests.specs.Commands.{asks_at}
 use Rattle.office_requests.specs.Methods.{verb_of}
 use Rattle.office_requests.specs.Pages.{IsIn, pages, page_of}
 use Rattle.office_requests.specs.Paths.{first_segment, behind_slash}
 use Rattle.office_requests.specs.Patterns.{takes}
-use Rattle.office_requests.specs.Printing.{path_of, method_of, SaysBody}
-use Rattle.office_requests.specs.Printing.{ComesWith}
+use Rattle.office_requests.specs.Printing.{path_of, method_of}
+use Rattle.office_requests.specs.PrintedBodies.{SaysBody, ComesWith}
 use Rattle.office_requests.specs.Requests.{caller_in, her_page, candidate_command, staff_command}
 use Rattle.office_requests.specs.Requests.{asked_by, reading}
 use Rattle.office_requests.specs.declared.methods.Verb.{Verb}

@@ -5,8 +5,9 @@ use Rattle.std.specs.Prelude.{nat_le, nat_lt, ◌==◌, length, IfSome, IfOk, if
 use Rattle.std.specs.Prelude.{option_map, option_and_then}
 use Rattle.std.proofs.lemmas.Bool.Decides.{nat_tests}
 use Rattle.exam_terms.specs.Refusing.{◌>>=◌, else_err}
-use Rattle.office_policy.specs.Commands.{IsSmall, IsSmallPlace, IfGiven}
-use Rattle.office_policy.specs.Commands.{HasSmallNumbers, PlainCommand, me, my_exam, my_penalty}
+use Rattle.office_policy.specs.CommandBodies.{IfGiven}
+use Rattle.office_policy.specs.Numbers.{IsSmall, IsSmallPlace}
+use Rattle.office_policy.specs.Commands.{PlainCommand, me, my_exam, my_penalty, HasSmallNumbers}
 use Rattle.office_policy.specs.Commands.{set_owner, draft_penalty, draft_violations, place, move}
 use Rattle.office_policy.specs.Commands.{clear, swap, publish, publication, publication_penalty}
 use Rattle.office_policy.specs.Commands.{publication_rooms, batch}
@@ -20,8 +21,9 @@ use Rattle.serde_json.specs.Find.{get, as_number, as_u64}
 use Rattle.office_requests.specs.Bodies.{at_most, number_at, of_members, members_count, place_in}
 use Rattle.office_requests.specs.Bodies.{dept_in, json_in, given_or_bad, unless_long, place_body}
 use Rattle.office_requests.specs.Bodies.{dept_body, text_body}
-use Rattle.office_requests.specs.Commands.{by_get, by_put, by_post, by_delete, of_instance}
-use Rattle.office_requests.specs.Commands.{of_draft, with_one, with_two, with_three, asks_at}
+use Rattle.office_requests.specs.ByMethod.{by_get, by_put, by_post, by_delete, of_instance}
+use Rattle.office_requests.specs.ByMethod.{of_draft, with_one, with_two, with_three}
+use Rattle.office_requests.specs.Commands.{asks_at}
 use Rattle.office_requests.specs.Pages.{page_of}
 use Rattle.office_requests.specs.Paths.{segment, number_in}
 use Rattle.office_requests.specs.Requests.{her_page, her_command, staff_command, asked_by}

@@ -1,68 +1,19 @@
 -- What a method asks for on a page, with the numbers in the path and what the body says.
-use Rattle.std.specs.Prelude.{◌≡◌, ℕ, Bool, true, false, List, Option, Some, None}
-use Rattle.std.specs.Prelude.{option_map, option_and_then, Result}
+use Rattle.std.specs.Prelude.{◌≡◌, ℕ, Bool, true, false, List, Option, Some, Result}
 use Rattle.exam_terms.specs.Refusing.{◌>>=◌, else_err}
-use Rattle.office_policy.specs.declared.command.Body.TheVariants.{Given}
-use Rattle.office_policy.specs.Commands.{PlainCommand, me, my_exam, my_penalty, load, instance}
-use Rattle.office_policy.specs.Commands.{set_owner, new_draft, draft, draft_penalty}
-use Rattle.office_policy.specs.Commands.{draft_violations, drop_draft, place, move, clear, swap}
+use Rattle.office_policy.specs.Commands.{PlainCommand, me, my_exam, my_penalty}
+use Rattle.office_policy.specs.Commands.{set_owner, draft_penalty}
+use Rattle.office_policy.specs.Commands.{draft_violations, place, move, clear, swap}
 use Rattle.office_policy.specs.Commands.{publish, publication, publication_penalty}
 use Rattle.office_policy.specs.Commands.{publication_rooms, batch}
 use Rattle.office_requests.specs.Bodies.{text_body, place_body, dept_body}
-use Rattle.office_requests.specs.Paths.{number_in}
+use Rattle.office_requests.specs.ByMethod.{by_get, by_put, by_post, by_delete, of_instance}
+use Rattle.office_requests.specs.ByMethod.{of_draft, with_one, with_two, with_three}
 use Rattle.office_requests.specs.declared.methods.Verb.{Verb}
-use Rattle.office_requests.specs.declared.methods.Verb.TheVariants.{Get, Put, Post, Delete}
 use Rattle.office_requests.specs.declared.pages.Page.{Page}
 use Rattle.office_requests.specs.declared.pages.Page.TheVariants as page
 use Rattle.office_requests.specs.declared.requests.Refusal.{Refusal}
 use Rattle.office_requests.specs.declared.requests.Refusal.TheVariants as refusal
-
--- what is asked for where GET alone asks for something
-abbrev pub by_get : PlainCommand → Verb → Option PlainCommand
-by_get c Get = Some c
-by_get c _ = None
-
--- where PUT alone does
-abbrev pub by_put : PlainCommand → Verb → Option PlainCommand
-by_put c Put = Some c
-by_put c _ = None
-
--- where POST alone does
-abbrev pub by_post : PlainCommand → Verb → Option PlainCommand
-by_post c Post = Some c
-by_post c _ = None
-
--- where DELETE alone does
-abbrev pub by_delete : PlainCommand → Verb → Option PlainCommand
-by_delete c Delete = Some c
-by_delete c _ = None
-
--- of the instance; its text is never too long
-abbrev pub of_instance : List ℕ → Verb → Option PlainCommand
-of_instance body Get = Some instance
-of_instance body Put = Some (load (Given body))
-of_instance body _ = None
-
--- of a draft
-abbrev pub of_draft : ℕ → List ℕ → Verb → Option PlainCommand
-of_draft d body Get = Some (draft d)
-of_draft d body Put = Some (new_draft d (text_body body))
-of_draft d body Delete = Some (drop_draft d)
-of_draft d body _ = None
-
--- with the number that a segment of the path is
-abbrev pub with_one : {A : Type 0} → ℕ → (ℕ → A) → List ℕ → Option A
-with_one k made path = option_map (λ n. made n) (number_in k path)
-
--- with the numbers of a draft and of an exam in it
-abbrev pub with_two : {A : Type 0} → (ℕ → ℕ → A) → List ℕ → Option A
-with_two made path = option_and_then (λ d. with_one 4 (made d) path) (number_in 2 path)
-
--- with these two and that of another exam
-abbrev pub with_three : {A : Type 0} → (ℕ → ℕ → ℕ → A) → List ℕ → Option A
-with_three made path =
-    option_and_then (λ d. option_and_then (λ a. with_one 5 (made d a) path) (number_in 4 path))
-    (number_in 2 path)
 
 -- what each method of the page asks for; nothing where a number in the path isn't one
 abbrev pub asks_at : Page → List ℕ → List ℕ → Option (Verb → Option PlainCommand)

@@ -1,6 +1,6 @@
 -- Methods, and those that each page has.
 use Rattle.std.specs.Prelude.{ℕ, Bool, ◌==◌, List, [], ◌∷◌, codes, bytes_eq, if◌then◌else◌}
-use Rattle.std.specs.List.{list_any}
+use Rattle.std.specs.List.{list_any, onto_first}
 use Rattle.office_requests.specs.declared.methods.Verb.{Verb}
 use Rattle.office_requests.specs.declared.methods.Verb.TheVariants.{Get, Put, Post, Delete, Other}
 use Rattle.office_requests.specs.declared.pages.Page.{Page}
@@ -33,11 +33,6 @@ allow_of page.Publication = codes "GET"
 allow_of page.PublicationPenalty = codes "GET"
 allow_of page.PublicationRooms = codes "GET"
 allow_of page.Batch = codes "PUT"
-
--- one byte more in front of the first name
-abbrev pub onto_first : ℕ → List (List ℕ) → List (List ℕ)
-onto_first b [] = (b ∷ []) ∷ []
-onto_first b (name ∷ names) = (b ∷ name) ∷ names
 
 -- the names in a field's list: commas part them, and blanks are no part of them
 abbrev pub names_in : List ℕ → List (List ℕ)

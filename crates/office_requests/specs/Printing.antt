@@ -1,16 +1,11 @@
--- The request that asks for a command: its method, its path, and what its body has to say.
-use Rattle.std.specs.Prelude.{◌≡◌, ℕ, List, [], ◌∷◌, ◌++◌, codes, decimal, Ok}
+-- The request that asks for a command: its method and its path.
+use Rattle.std.specs.Prelude.{ℕ, List, [], ◌∷◌, ◌++◌, codes, decimal}
 use Rattle.matchit.specs.Seek.{slash}
-use Rattle.office_policy.specs.declared.command.Body.TheVariants.{Given}
 use Rattle.office_policy.specs.Commands.{PlainCommand, me, my_exam, my_penalty, load, instance}
 use Rattle.office_policy.specs.Commands.{set_owner, new_draft, draft, draft_penalty}
 use Rattle.office_policy.specs.Commands.{draft_violations, drop_draft, place, move, clear, swap}
 use Rattle.office_policy.specs.Commands.{publish, publication, publication_penalty}
 use Rattle.office_policy.specs.Commands.{publication_rooms, batch}
-use Rattle.office_policy.specs.Policy.{permits}
-use Rattle.office_policy.specs.declared.callers.Caller.{Caller}
-use Rattle.office_policy.specs.declared.callers.Caller.TheVariants.{Cand}
-use Rattle.office_requests.specs.Bodies.{text_body, place_body, dept_body}
 
 -- a path of these segments, each behind a slash
 abbrev pub path_from : List (List ℕ) → List ℕ
@@ -74,18 +69,3 @@ method_of publication = codes "GET"
 method_of publication_penalty = codes "GET"
 method_of publication_rooms = codes "GET"
 method_of (batch n text) = codes "PUT"
-
--- the bytes of a body say what the command's body says, where it has one
-abbrev pub SaysBody : List ℕ → PlainCommand → Type 0
-SaysBody bytes (load text) = Given bytes ≡ text
-SaysBody bytes (set_owner e dept) = dept_body bytes ≡ dept
-SaysBody bytes (new_draft d text) = text_body bytes ≡ text
-SaysBody bytes (place d e at) = place_body bytes ≡ at
-SaysBody bytes (move d e to) = place_body bytes ≡ to
-SaysBody bytes (batch n text) = text_body bytes ≡ text
-SaysBody bytes _ = Unit {0}
-
--- a candidate comes with what she may ask for, all others with any command
-abbrev pub ComesWith : Caller → PlainCommand → Type 0
-ComesWith (Cand n) c = permits (Cand n) c 0 0 ≡ Ok tt
-ComesWith _ c = Unit {0}

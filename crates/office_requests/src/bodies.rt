@@ -2,7 +2,7 @@
 ghost use Rattle.std.specs.Prelude.{◌≡◌, IfOk};
 ghost use Rattle.std.specs.Prelude.{option_map};
 ghost use Rattle.serde_json.specs.View.{view};
-ghost use Rattle.office_policy.specs.Commands.{plain_text, IfGiven};
+ghost use Rattle.office_policy.specs.CommandBodies.{plain_text, IfGiven};
 ghost use Rattle.office_requests.specs.Bodies.{json_in, members_count, number_at, place_in, dept_in};
 ghost use Rattle.office_requests.specs.Bodies.{text_body, place_body, dept_body};
 

@@ -2,14 +2,16 @@
 ghost use Rattle.std.specs.Prelude.{◌≡◌, ℕ, List, IfOk};
 ghost use Rattle.std.specs.Borrow.{Bor};
 ghost use Rattle.exam_terms.specs.Refusing.{else_err};
-ghost use Rattle.office_policy.specs.Commands.{HoldsText, me, my_exam, my_penalty, set_owner};
+ghost use Rattle.office_policy.specs.CommandBodies.{HoldsText};
+ghost use Rattle.office_policy.specs.Commands.{me, my_exam, my_penalty, set_owner};
 ghost use Rattle.office_policy.specs.Commands.{draft_penalty, draft_violations, place, move};
 ghost use Rattle.office_policy.specs.Commands.{clear, swap, publish, publication};
 ghost use Rattle.office_policy.specs.Commands.{publication_penalty, publication_rooms, batch};
 ghost use Rattle.office_requests.specs.Bodies.{dept_body, place_body, text_body};
-ghost use Rattle.office_requests.specs.Commands.{by_get, by_put, by_post, by_delete};
-ghost use Rattle.office_requests.specs.Commands.{of_instance, of_draft, command_at};
-ghost use Rattle.office_requests.specs.Requests.{GivesCommand};
+ghost use Rattle.office_requests.specs.ByMethod.{by_get, by_put, by_post, by_delete};
+ghost use Rattle.office_requests.specs.ByMethod.{of_instance, of_draft};
+ghost use Rattle.office_requests.specs.Commands.{command_at};
+ghost use Rattle.office_requests.specs.Answering.{GivesCommand};
 ghost use Rattle.office_requests.specs.declared.pages.Page.TheVariants as page;
 ghost use Rattle.office_requests.specs.declared.requests.Refusal.TheVariants as refusal;
 
@@ -150,7 +152,8 @@ fn of_draft_penalty<'a>(verb: Verb, draft: u32) -> Result<Command<'a>, Refusal>
 
 fn of_draft_violations<'a>(verb: Verb, draft: u32) -> Result<Command<'a>, Refusal>
     ensures asked { GivesCommand
-        (else_err (refusal.Method page.DraftViolations) (by_get (draft_violations draft) verb)) result }
+        (else_err (refusal.Method page.DraftViolations) (by_get (draft_violations draft) verb))
+        result }
     ensures lent { (text : Bor (List ℕ)) → IfOk result (HoldsText text) }
 {
     match verb {
@@ -250,7 +253,8 @@ fn of_publication<'a>(verb: Verb) -> Result<Command<'a>, Refusal>
 
 fn of_publication_penalty<'a>(verb: Verb) -> Result<Command<'a>, Refusal>
     ensures asked { GivesCommand
-        (else_err (refusal.Method page.PublicationPenalty) (by_get publication_penalty verb)) result }
+        (else_err (refusal.Method page.PublicationPenalty) (by_get publication_penalty verb))
+        result }
     ensures lent { (text : Bor (List ℕ)) → IfOk result (HoldsText text) }
 {
     match verb {

@@ -2,12 +2,13 @@
 ghost use Rattle.std.specs.Prelude.{◌≡◌, ℕ, List, IfOk, IfSome, option_copied, option_map};
 ghost use Rattle.std.specs.Borrow.{Bor};
 ghost use Rattle.office_messages.specs.Reply.{plain_reply};
-ghost use Rattle.office_policy.specs.Commands.{plain_command, HoldsText, HasSmallNumbers};
+ghost use Rattle.office_policy.specs.CommandBodies.{HoldsText};
+ghost use Rattle.office_policy.specs.Commands.{plain_command, HasSmallNumbers};
 ghost use Rattle.office_requests.specs.Methods.{verb_of};
 ghost use Rattle.office_requests.specs.Requests.{caller_in, her_page, her_command};
-ghost use Rattle.office_requests.specs.Requests.{staff_command, asked_by};
-ghost use Rattle.office_requests.specs.Requests.{reading, GivesAsked, GivesCommand};
-ghost use Rattle.office_requests.specs.Requests.{not_allowed, refusal_reply};
+ghost use Rattle.office_requests.specs.Requests.{staff_command, asked_by, reading};
+ghost use Rattle.office_requests.specs.Answering.{GivesAsked, GivesCommand};
+ghost use Rattle.office_requests.specs.Answering.{not_allowed, refusal_reply};
 
 use crate::commands::command_at;
 use crate::methods::{Verb, allow};

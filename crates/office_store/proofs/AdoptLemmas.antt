@@ -10,13 +10,14 @@ use Rattle.sqlite.specs.Held.{Held, state}
 use Rattle.sqlite.specs.State.{State, IsUnchanged}
 use Rattle.sqlite.specs.Store.{Ghosts}
 use Rattle.office_tables.specs.Adopting.{tables_of}
-use Rattle.office_tables.specs.Records.{counts_of}
+use Rattle.office_tables.specs.Batch.{counts_of, batch_columns}
 use Rattle.office_tables.specs.Steps.{Keeps}
-use Rattle.office_tables.specs.Tables.{Batch, Tables, batch_columns, Stands}
+use Rattle.office_tables.specs.Tables.{Batch, Tables}
+use Rattle.office_tables.specs.Standing.{Stands}
 use Rattle.office_tables.specs.declared.found.Found.{Found}
 use Rattle.office_tables.proofs.TableLemmas.{keys_once}
 use Rattle.office_model.specs.Office.{OfficeState, IsOffice}
-use Rattle.office_records.specs.Found.{AreFoundBatches, IsShort}
+use Rattle.office_records.specs.FoundBatches.{AreFoundBatches, IsShort}
 use Rattle.office_records.specs.Stands.{IsKept, IsSound, StandsForOffice}
 use Rattle.office_records.proofs.BatchRowLemmas.{stored_short}
 use Rattle.office_records.proofs.SameTables.{same_sound, same_stands}

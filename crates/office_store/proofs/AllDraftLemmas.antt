@@ -12,8 +12,8 @@ use Rattle.sqlite_trees.proofs.ListLemmas.{IsPermutation-filter, all-append, all
 use Rattle.sqlite_trees.proofs.ListLemmas.{all-permutation, filter-filter}
 use Rattle.exam_model.specs.Timetable.{Placing}
 use Rattle.office_tables.specs.Tables.{Tables}
-use Rattle.office_tables.specs.declared.rows.DraftRow.{DraftRow}
-use Rattle.office_tables.specs.declared.rows.SlotRow.{SlotRow}
+use Rattle.office_tables.specs.declared.draft.DraftRow.{DraftRow}
+use Rattle.office_tables.specs.declared.slot.SlotRow.{SlotRow}
 use Rattle.office_model.specs.Office.{AreRecords, Records}
 use Rattle.office_records.specs.Found.{AreDrafts}
 use Rattle.office_records.specs.Stands.{IsScoredRow, IsSound, StandsLoaded, drafts_at, once, slot_rows, slots_at}

@@ -15,12 +15,15 @@ use Rattle.sqlite.specs.State.{HasCleanDisk}
 use Rattle.sqlite.specs.Store.{Ghosts}
 use Rattle.office_batches.specs.BatchText.{batch_in}
 use Rattle.office_tables.specs.Alterations.{after_all}
-use Rattle.office_tables.specs.Changes.{no_drafts, with_batch, with_draft, with_enrol, without_enrol}
-use Rattle.office_tables.specs.Tables.{Batch, Tables, Stands}
-use Rattle.office_tables.specs.declared.drafts.InsertDraft.{InsertDraft}
-use Rattle.office_tables.specs.declared.rows.DraftRow.{DraftRow}
-use Rattle.office_tables.specs.declared.rows.EnrolRow.{EnrolRow}
-use Rattle.office_tables.specs.declared.rows.SlotRow.{SlotRow}
+use Rattle.office_tables.specs.Draft.{no_drafts, with_draft}
+use Rattle.office_tables.specs.Batch.{with_batch}
+use Rattle.office_tables.specs.Enrol.{with_enrol, without_enrol}
+use Rattle.office_tables.specs.Tables.{Batch, Tables}
+use Rattle.office_tables.specs.Standing.{Stands}
+use Rattle.office_tables.specs.declared.draft.InsertDraft.{InsertDraft}
+use Rattle.office_tables.specs.declared.draft.DraftRow.{DraftRow}
+use Rattle.office_tables.specs.declared.enrol.EnrolRow.{EnrolRow}
+use Rattle.office_tables.specs.declared.slot.SlotRow.{SlotRow}
 use Rattle.office_tables.proofs.AlterationLemmas.{drafts_put}
 use Rattle.office_enrolment.specs.AfterBatch.{after_batch, lines_in}
 use Rattle.office_enrolment.specs.Keeping as keeping

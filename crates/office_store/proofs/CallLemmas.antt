@@ -11,16 +11,18 @@ use Rattle.exam_score.specs.Penalty.{Penalty, total_of}
 use Rattle.office_files.specs.SolutionText.{solution_in}
 use Rattle.office_files.specs.declared.fault.FileFault.{FileFault}
 use Rattle.office_tables.specs.Alterations.{after_all}
-use Rattle.office_tables.specs.Changes.{with_draft, with_slot}
-use Rattle.office_tables.specs.Tables.{Tables, Stands}
-use Rattle.office_tables.specs.declared.rows.DraftRow.{DraftRow}
-use Rattle.office_tables.specs.declared.rows.SlotRow.{SlotRow}
-use Rattle.office_tables.specs.declared.slots.InsertSlot.{InsertSlot}
+use Rattle.office_tables.specs.Draft.{with_draft}
+use Rattle.office_tables.specs.Slot.{with_slot}
+use Rattle.office_tables.specs.Tables.{Tables}
+use Rattle.office_tables.specs.Standing.{Stands}
+use Rattle.office_tables.specs.declared.draft.DraftRow.{DraftRow}
+use Rattle.office_tables.specs.declared.slot.SlotRow.{SlotRow}
+use Rattle.office_tables.specs.declared.slot.InsertSlot.{InsertSlot}
 use Rattle.office_tables.proofs.AlterationLemmas.{slots_put}
 use Rattle.office_model.specs.Office.{OfficeState, Records, set_at}
 use Rattle.office_records.specs.Memory.{Memory, memory_of}
 use Rattle.office_records.specs.Stands.{IsKept, once, parts_of}
-use Rattle.office_store.specs.Beginning.{Begins}
+use Rattle.office_store.specs.NewDraft.{Begins}
 use Rattle.office_store.specs.Changes.{draft_put, draft_removed}
 use Rattle.office_model.specs.Commands.{Gives, draft_dropped, draft_in, draft_made, first_timetable, is_draft_number, named, penalty_now}
 use Rattle.office_store.specs.Running.{IsFault}

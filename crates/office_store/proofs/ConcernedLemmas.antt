@@ -7,7 +7,7 @@ use Rattle.std.proofs.lemmas.List.Elements.{All-from_recursion, filter_agree, re
 use Rattle.std.proofs.lemmas.List.Folds.{list_any-append}
 use Rattle.std.proofs.lemmas.List.Sorted.{IsPermutation-append_left, IsPermutation-append_right, IsPermutation-cons, IsPermutation-refl, IsPermutation-sym, IsPermutation-to_front, IsPermutation-trans, length_permutation}
 use Rattle.exam_model.specs.Changes.{exams_sat}
-use Rattle.exam_model.specs.Enrolments.{AreEnrolments, Enrolled, IsAscending, has, has_student, students}
+use Rattle.exam_model.specs.Enrolments.{AreEnrolments, Enrolled, IsAscending, has, has_number, students}
 use Rattle.exam_model.specs.Pairs.{Pair, pairs_of}
 use Rattle.exam_model.proofs.PairLemmas.{are_pairs}
 use Rattle.exam_model.proofs.SumLemmas.{IsChain, each_weaker}
@@ -48,11 +48,11 @@ none_pass (x ∷ xs) = none_pass xs
 
 -- a number below all of a list is not in it
 not_above : (c s : ℕ) (ss : List ℕ) → AllByRecursion (λ t. c < t) ss → eqb c s ≡ true
-    → has_student ss s ≡ false
+    → has_number ss s ≡ false
 not_above c s [] above is = refl
 not_above c s (t ∷ ss) above is =
     let other : eqb t s ≡ false = let h = above.0 in grind (arith, nat_tests, h, is) in
-    ap (λ b. b || has_student ss s) other ∙ not_above c s ss above.1 is
+    ap (λ b. b || has_number ss s) other ∙ not_above c s ss above.1 is
 
 -- ---- the pairs of students
 
@@ -62,14 +62,14 @@ hers pairs s = filter (λ p. eqb p.student s) pairs
 
 -- in whatever order pairs are, those of some students are each student's
 pub gathered : (pairs : List Pair) (ss : List ℕ) → IsChain (λ x y. x < y) ss
-    → IsPermutation (filter (λ p. has_student ss p.student) pairs) (flat_map (hers pairs) ss)
+    → IsPermutation (filter (λ p. has_number ss p.student) pairs) (flat_map (hers pairs) ss)
 gathered pairs [] h =
     subst (λ l. IsPermutation l []) (sym (none_pass pairs)) (IsPermutation-refl [])
 gathered pairs (s ∷ ss) h =
-    subst (λ l. IsPermutation (filter (λ p. has_student (s ∷ ss) p.student) pairs)
+    subst (λ l. IsPermutation (filter (λ p. has_number (s ∷ ss) p.student) pairs)
     (l ++ flat_map (hers pairs) ss)) (filter_agree (λ (p : Pair). eqb s p.student) (λ p. eqb p.student s) (λ p. turned s p.student) pairs)
     (IsPermutation-trans _ _ _
-    (apart (λ p. eqb s p.student) (λ p. has_student ss p.student) pairs
+    (apart (λ p. eqb s p.student) (λ p. has_number ss p.student) pairs
     (λ p is. not_above s p.student ss h.0 is))
     (IsPermutation-append_right (filter (λ p. eqb s p.student) pairs) _ _ (gathered pairs ss h.1)))
   where
@@ -83,16 +83,16 @@ module _ (E : Enrolled) (known : AreEnrolments E)
   each_own (s ∷ ss) = ap₂ (λ a b. a ++ b) (own s) (each_own ss)
 
   of_students : (ss : List ℕ) → IsChain (λ x y. x < y) ss
-      → IsPermutation (filter (λ p. has_student ss p.student) (pairs_of E)) (pairs_of_students E ss)
+      → IsPermutation (filter (λ p. has_number ss p.student) (pairs_of E)) (pairs_of_students E ss)
   of_students ss h =
-      subst (IsPermutation (filter (λ p. has_student ss p.student) (pairs_of E))) (each_own ss)
+      subst (IsPermutation (filter (λ p. has_number ss p.student) (pairs_of E))) (each_own ss)
       (gathered (pairs_of E) ss h)
 
   -- no more than there are
   pub students_few : (ss : List ℕ) → IsAscending ss → length (pairs_of_students E ss) ≤ 200000
   students_few ss h =
       let moved = length_permutation _ _ (of_students ss (chain_from_ascending ss h)) in
-      let few = filter_few (λ p. has_student ss p.student) (pairs_of E) in
+      let few = filter_few (λ p. has_number ss p.student) (pairs_of E) in
       let all = (are_pairs E known).count in
       let most = known.pairs in
       omega (arith, moved, few, all, most)
@@ -106,7 +106,7 @@ module _ (E : Enrolled) (known : AreEnrolments E)
 
   -- those who sit an edited exam
   who_sits : (exams : List ℕ) (s : ℕ)
-      → sits_among E exams s ≡ has_student (flat_map (students E) exams) s
+      → sits_among E exams s ≡ has_number (flat_map (students E) exams) s
   who_sits [] s = refl
   who_sits (e ∷ exams) s =
       ap (λ b. has E s e || b) (who_sits exams s)
@@ -117,7 +117,7 @@ module _ (E : Enrolled) (known : AreEnrolments E)
   concerned exams h =
       subst (λ l. IsPermutation l (pairs_of_students E (students_of_exams E exams)))
       (sym (filter_agree (λ (p : Pair). sits_among E exams p.student)
-      (λ p. has_student (students_of_exams E exams) p.student)
+      (λ p. has_number (students_of_exams E exams) p.student)
       (λ p. who_sits exams p.student ∙ sym (has_ascending (flat_map (students E) exams) p.student))
       (pairs_of E)))
       (of_students (students_of_exams E exams) (chain_from_ascending _ h))

@@ -16,13 +16,14 @@ use Rattle.exam_score.specs.Track.{track}
 use Rattle.exam_draft.specs.Edits.{Edited, IsEditedAt, edited, edited_exams}
 use Rattle.exam_draft.specs.declared.edit.Edit.{Edit}
 use Rattle.office_tables.specs.Alterations.{after_all}
-use Rattle.office_tables.specs.Changes.{with_draft, without_draft}
-use Rattle.office_tables.specs.Tables.{Tables, Stands}
+use Rattle.office_tables.specs.Draft.{with_draft, without_draft}
+use Rattle.office_tables.specs.Tables.{Tables}
+use Rattle.office_tables.specs.Standing.{Stands}
 use Rattle.office_tables.specs.declared.altering.Both.{Both}
-use Rattle.office_tables.specs.declared.rows.DraftRow.{DraftRow}
-use Rattle.office_tables.specs.declared.rows.SlotRow.{SlotRow}
-use Rattle.office_tables.specs.declared.slots.DeleteSlot.{DeleteSlot}
-use Rattle.office_tables.specs.declared.slots.InsertSlot.{InsertSlot}
+use Rattle.office_tables.specs.declared.draft.DraftRow.{DraftRow}
+use Rattle.office_tables.specs.declared.slot.SlotRow.{SlotRow}
+use Rattle.office_tables.specs.declared.slot.DeleteSlot.{DeleteSlot}
+use Rattle.office_tables.specs.declared.slot.InsertSlot.{InsertSlot}
 use Rattle.office_model.specs.Commands.{draft_edited, draft_in, draft_shown, named, penalty_now}
 use Rattle.office_model.specs.Office.{AreRecords, IsOffice, OfficeState, Records, set_at}
 use Rattle.office_model.specs.declared.fault.Refusal.TheVariants as refusal
@@ -39,7 +40,7 @@ use Rattle.office_store.specs.Changes.{edit_put, new_place}
 use Rattle.office_store.specs.Editing.{Edits, IsEdited, IsJudged, Judges}
 use Rattle.office_store.specs.Folding.{IsEditOf}
 use Rattle.office_store.specs.Pricing.{draft_priced}
-use Rattle.office_store.specs.Reading.{AreRowsOf, AreScored}
+use Rattle.office_store.specs.OfficeRows.{AreRowsOf, AreScored}
 use Rattle.office_store.specs.Running.{Does, IsAtRest, IsAwake, IsFault, IsStill}
 use Rattle.office_store.specs.declared.editing.Judged.{Judged}
 use Rattle.office_store.proofs.CommandLemmas.{Moves}

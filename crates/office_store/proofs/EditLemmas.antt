@@ -15,9 +15,10 @@ use Rattle.exam_rules.specs.Breaches.{least_breach_of}
 use Rattle.exam_score.specs.Changes.{DiffersAtMost}
 use Rattle.exam_score.specs.Track.{track}
 use Rattle.exam_draft.specs.Edits.{exam_exists, place_exists, is_placed, unless_broken}
-use Rattle.office_tables.specs.Tables.{Tables, Stands}
-use Rattle.office_tables.specs.Changes.{with_draft, without_draft}
-use Rattle.office_tables.specs.declared.rows.DraftRow.{DraftRow}
+use Rattle.office_tables.specs.Tables.{Tables}
+use Rattle.office_tables.specs.Standing.{Stands}
+use Rattle.office_tables.specs.Draft.{with_draft, without_draft}
+use Rattle.office_tables.specs.declared.draft.DraftRow.{DraftRow}
 use Rattle.office_store.specs.Changes.{edit_put}
 use Rattle.exam_draft.specs.Edits.{edited, edited_exams}
 use Rattle.exam_draft.specs.declared.edit.Edit.{Edit}

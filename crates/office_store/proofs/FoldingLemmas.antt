@@ -27,11 +27,13 @@ use Rattle.exam_score.proofs.ConcernedLemmas.{edit_is, track_is}
 use Rattle.office_model.specs.declared.fault.StoreFault.TheVariants.{BadSchema}
 use Rattle.office_records.specs.Stands.{IsKept}
 use Rattle.office_records.proofs.ReadableLemmas.{are_readable}
-use Rattle.office_tables.specs.Records.{FitsEnrol}
-use Rattle.office_tables.specs.Selections.{HerEnrolsRise, IsInOrder}
-use Rattle.office_tables.specs.Tables.{Tables, Stands}
-use Rattle.office_tables.specs.declared.rows.EnrolRow.{EnrolRow}
-use Rattle.office_store.specs.Folding.{CanTake, HadEnrolments, HasRead, HasTaken, IsEditOf, IsSame, pairs_of_students, students_of_exams}
+use Rattle.office_tables.specs.Enrol.{FitsEnrol, HerEnrolsRise}
+use Rattle.office_tables.specs.Selections.{IsInOrder}
+use Rattle.office_tables.specs.Tables.{Tables}
+use Rattle.office_tables.specs.Standing.{Stands}
+use Rattle.office_tables.specs.declared.enrol.EnrolRow.{EnrolRow}
+use Rattle.office_store.specs.FoldReads.{HadEnrolments, HasRead, IsSame}
+use Rattle.office_store.specs.Folding.{CanTake, HasTaken, IsEditOf, pairs_of_students, students_of_exams}
 use Rattle.office_store.specs.Running.{Tells}
 use Rattle.office_store.specs.declared.editing.Judged.{Judged}
 use Rattle.office_store.specs.Viewing.{her_row}

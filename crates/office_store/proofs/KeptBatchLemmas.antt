@@ -9,11 +9,11 @@ use Rattle.std.proofs.lemmas.List.{length-map}
 use Rattle.std.proofs.lemmas.List.Sorted.{IsPermutation-sym, length_permutation}
 use Rattle.sqlite_trees.proofs.ListLemmas.{IsPermutation-filter, filter-map}
 use Rattle.exam_model.proofs.SumLemmas.{IsChain, chain_from_index}
-use Rattle.office_tables.specs.Records.{batch_from}
+use Rattle.office_tables.specs.Batch.{batch_from}
 use Rattle.office_tables.specs.Tables.{Batch, Tables}
-use Rattle.office_tables.specs.declared.rows.BatchRow.{BatchRow}
-use Rattle.office_tables.specs.declared.rows.DraftRow.{DraftRow}
-use Rattle.office_tables.specs.declared.rows.SlotRow.{SlotRow}
+use Rattle.office_tables.specs.declared.batch.BatchRow.{BatchRow}
+use Rattle.office_tables.specs.declared.draft.DraftRow.{DraftRow}
+use Rattle.office_tables.specs.declared.slot.SlotRow.{SlotRow}
 use Rattle.exam_terms.specs.Refusing.{◌>>=◌, unless}
 use Rattle.exam_model.specs.declared.change.Change.{Change}
 use Rattle.office_batches.specs.BatchText.{batch_in}

@@ -9,12 +9,15 @@ use Rattle.exam_model.specs.Pairs.{pairs_at, pairs_from, pairs_of}
 use Rattle.sqlite.specs.Effect.{Database}
 use Rattle.office_files.specs.CanonicalText.{canonical_instance}
 use Rattle.office_files.specs.ExamLines.{ExamLine}
-use Rattle.office_files.specs.InstanceText.{InstanceText, instance_in, session_of}
+use Rattle.office_files.specs.Spelled.{session_of}
+use Rattle.office_files.specs.InstanceText.{InstanceText, instance_in}
 use Rattle.office_tables.specs.Alterations.{after_all}
-use Rattle.office_tables.specs.Changes.{no_meta, with_enrol, with_meta}
-use Rattle.office_tables.specs.Tables.{Tables, Stands, empty_tables}
-use Rattle.office_tables.specs.declared.enrolments.InsertEnrol.{InsertEnrol}
-use Rattle.office_tables.specs.declared.rows.EnrolRow.{EnrolRow}
+use Rattle.office_tables.specs.Meta.{no_meta, with_meta}
+use Rattle.office_tables.specs.Enrol.{with_enrol}
+use Rattle.office_tables.specs.Tables.{Tables, empty_tables}
+use Rattle.office_tables.specs.Standing.{Stands}
+use Rattle.office_tables.specs.declared.enrol.InsertEnrol.{InsertEnrol}
+use Rattle.office_tables.specs.declared.enrol.EnrolRow.{EnrolRow}
 use Rattle.office_tables.proofs.AlterationLemmas.{enrols_put}
 use Rattle.office_store.specs.Changes.{session_put}
 use Rattle.office_model.specs.Commands.{fresh, loaded_of, loaded}

@@ -10,13 +10,14 @@ use Rattle.exam_model.specs.Enrolments.{Enrolled, pair_count}
 use Rattle.exam_model.specs.Instance.{Session}
 use Rattle.exam_model.specs.declared.change.Change.{Change}
 use Rattle.exam_draft.specs.declared.fault.EditFault.TheVariants.{NoSuch}
-use Rattle.office_tables.specs.Amounts.{AreAmounts}
-use Rattle.office_tables.specs.declared.drafts.InsertDraft.{InsertDraft}
-use Rattle.office_tables.specs.declared.rows.DraftRow.{DraftRow}
+use Rattle.office_tables.specs.Draft.{AreAmounts}
+use Rattle.office_tables.specs.declared.draft.InsertDraft.{InsertDraft}
+use Rattle.office_tables.specs.declared.draft.DraftRow.{DraftRow}
 use Rattle.office_enrolment.specs.AfterBatch.{Refuses, after_batch, names_exam}
 use Rattle.office_enrolment.specs.Keeping.{batch_kept}
 use Rattle.office_enrolment.proofs.OfficeLemmas.{as_office}
-use Rattle.office_model.specs.Batches.{after_change, counted, enrolled, newly_enrolled, no_counts}
+use Rattle.office_model.specs.BatchLines.{after_change, counted, enrolled, no_counts}
+use Rattle.office_model.specs.Batches.{newly_enrolled}
 use Rattle.office_model.specs.Commands.{Gives}
 use Rattle.office_model.specs.Office.{Records}
 use Rattle.office_model.specs.declared.counts.Counts.{Counts}

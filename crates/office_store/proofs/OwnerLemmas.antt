@@ -5,10 +5,11 @@ use Rattle.std.specs.Prelude.{Option, Some, None, length, IsPermutation}
 use Rattle.std.proofs.lemmas.List.Sorted.{IsPermutation-map, length_permutation}
 use Rattle.sqlite.specs.Effect.{Database}
 use Rattle.office_tables.specs.Alterations.{after_some}
-use Rattle.office_tables.specs.Tables.{Tables, Stands}
-use Rattle.office_tables.specs.Changes.{without_owner, with_owner}
-use Rattle.office_tables.specs.declared.owners.InsertOwner.{InsertOwner}
-use Rattle.office_tables.specs.declared.rows.OwnerRow.{OwnerRow}
+use Rattle.office_tables.specs.Tables.{Tables}
+use Rattle.office_tables.specs.Standing.{Stands}
+use Rattle.office_tables.specs.Owner.{without_owner, with_owner}
+use Rattle.office_tables.specs.declared.owner.InsertOwner.{InsertOwner}
+use Rattle.office_tables.specs.declared.owner.OwnerRow.{OwnerRow}
 use Rattle.office_store.specs.Changes.{new_owner, owner_put}
 use Rattle.exam_model.specs.Enrolments.{Enrolled}
 use Rattle.exam_model.specs.Instance.{Session}

@@ -9,31 +9,33 @@ use Rattle.std.proofs.lemmas.List.{append-nil}
 use Rattle.std.proofs.lemmas.List.Sorted.{IsPermutation-append, IsPermutation-refl}
 use Rattle.std.proofs.lemmas.List.Sorted.{IsPermutation-reverse, IsPermutation-sym, IsPermutation-trans}
 use Rattle.sqlite.specs.Effect.{Database}
-use Rattle.exam_model.specs.Enrolments.{Enrolled, has_student}
+use Rattle.exam_model.specs.Enrolments.{Enrolled, has_number}
 use Rattle.exam_model.specs.Fits.{Fits}
 use Rattle.exam_model.specs.Instance.{Session}
 use Rattle.exam_model.specs.Timetable.{Placing}
 use Rattle.exam_publish.specs.Changed.{changed_students}
 use Rattle.exam_publish.specs.Permit.{publish_refusal}
 use Rattle.office_tables.specs.Alterations.{after_all}
-use Rattle.office_tables.specs.Changes.{no_meta, no_part_shares, no_placements, with_meta}
-use Rattle.office_tables.specs.Changes.{with_part_share, with_placement, with_seat}
-use Rattle.office_tables.specs.Changes.{with_student_share, without_student_seats}
-use Rattle.office_tables.specs.Changes.{without_student_share}
-use Rattle.office_tables.specs.Tables.{Tables, Stands}
+use Rattle.office_tables.specs.Meta.{no_meta, with_meta}
+use Rattle.office_tables.specs.SharePart.{no_part_shares, with_part_share}
+use Rattle.office_tables.specs.Placed.{no_placements, with_placement}
+use Rattle.office_tables.specs.Seat.{with_seat, without_student_seats}
+use Rattle.office_tables.specs.ShareStudent.{with_student_share, without_student_share}
+use Rattle.office_tables.specs.Tables.{Tables}
+use Rattle.office_tables.specs.Standing.{Stands}
 use Rattle.office_tables.proofs.AlterationLemmas.{part_shares_put, placements_put, seats_put}
 use Rattle.office_tables.proofs.AlterationLemmas.{student_seats_gone, student_shares_gone}
 use Rattle.office_tables.proofs.AlterationLemmas.{student_shares_put}
-use Rattle.office_tables.specs.declared.placing.InsertPlacement.{InsertPlacement}
-use Rattle.office_tables.specs.declared.rows.DraftRow.{DraftRow}
-use Rattle.office_tables.specs.declared.rows.PlacedRow.{PlacedRow}
-use Rattle.office_tables.specs.declared.rows.SeatRow.{SeatRow}
-use Rattle.office_tables.specs.declared.rows.SlotRow.{SlotRow}
-use Rattle.office_tables.specs.declared.seating.DeleteStudentSeats.{DeleteStudentSeats}
-use Rattle.office_tables.specs.declared.seating.InsertSeat.{InsertSeat}
-use Rattle.office_tables.specs.declared.sharing.DeleteStudentShare.{DeleteStudentShare}
-use Rattle.office_tables.specs.declared.sharing.InsertPartShare.{InsertPartShare}
-use Rattle.office_tables.specs.declared.sharing.InsertStudentShare.{InsertStudentShare}
+use Rattle.office_tables.specs.declared.placed.InsertPlacement.{InsertPlacement}
+use Rattle.office_tables.specs.declared.draft.DraftRow.{DraftRow}
+use Rattle.office_tables.specs.declared.placed.PlacedRow.{PlacedRow}
+use Rattle.office_tables.specs.declared.seat.SeatRow.{SeatRow}
+use Rattle.office_tables.specs.declared.slot.SlotRow.{SlotRow}
+use Rattle.office_tables.specs.declared.seat.DeleteStudentSeats.{DeleteStudentSeats}
+use Rattle.office_tables.specs.declared.seat.InsertSeat.{InsertSeat}
+use Rattle.office_tables.specs.declared.share_student.DeleteStudentShare.{DeleteStudentShare}
+use Rattle.office_tables.specs.declared.share_part.InsertPartShare.{InsertPartShare}
+use Rattle.office_tables.specs.declared.share_student.InsertStudentShare.{InsertStudentShare}
 use Rattle.office_model.specs.Office.{AreRecords, IsOffice, OfficeState}
 use Rattle.office_model.specs.Office.{Publication, Records}
 use Rattle.office_model.specs.Publishing.{draft_published, publication_counts, published_as, rows_now}
@@ -46,9 +48,9 @@ use Rattle.office_records.specs.SharesStored.{part_share_rows, share_rows_of, sh
 use Rattle.office_records.specs.SharesStored.{student_share_rows}
 use Rattle.office_records.specs.Stands.{IsKept, IsSound, StandsLoaded}
 use Rattle.office_records.proofs.RepublicationLemmas as republication
-use Rattle.office_store.specs.Changes.{places_put, publication_put, shares_put}
+use Rattle.office_store.specs.PublicationChanges.{places_put, publication_put, shares_put}
 use Rattle.office_store.specs.NewPublications.{ArePutIn, Publishes}
-use Rattle.office_store.specs.Reading.{AreRowsOf, published_in}
+use Rattle.office_store.specs.OfficeRows.{AreRowsOf, published_in}
 use Rattle.office_store.specs.Running.{IsFault}
 use Rattle.office_store.specs.declared.new_publication.NewPublication.{NewPublication}
 use Rattle.office_store.proofs.CommandLemmas.{Denies, Moves}
@@ -57,7 +59,7 @@ use Rattle.office_store.proofs.CommandLemmas.{Denies, Moves}
 
 -- a candidate is among those whose rows go
 among : {X : Type 0} (student : X → ℕ) (s : ℕ) (its : List X)
-    → list_any (λ it. eqb s (student it)) its ≡ has_student (map student its) s
+    → list_any (λ it. eqb s (student it)) its ≡ has_number (map student its) s
 among student s [] = refl
 among student s (it ∷ its) =
     ap₂ (λ a b. a || b) (turned s (student it)) (among student s its)

@@ -15,10 +15,10 @@ use Rattle.exam_publish.specs.Shares.{Sharing, exam_shares, shares_of}
 use Rattle.exam_publish.proofs.AddUpLemmas.{adds_up}
 use Rattle.sqlite.specs.Effect.{Database}
 use Rattle.office_tables.specs.Tables.{Tables}
-use Rattle.office_tables.specs.declared.rows.PartShareRow.{PartShareRow}
-use Rattle.office_tables.specs.declared.rows.PlacedRow.{PlacedRow}
-use Rattle.office_tables.specs.declared.rows.SeatRow.{SeatRow}
-use Rattle.office_tables.specs.declared.rows.StudentShareRow.{StudentShareRow}
+use Rattle.office_tables.specs.declared.share_part.PartShareRow.{PartShareRow}
+use Rattle.office_tables.specs.declared.placed.PlacedRow.{PlacedRow}
+use Rattle.office_tables.specs.declared.seat.SeatRow.{SeatRow}
+use Rattle.office_tables.specs.declared.share_student.StudentShareRow.{StudentShareRow}
 use Rattle.office_model.specs.Office.{AreRecords, IsOffice, IsPublication, OfficeState}
 use Rattle.office_model.specs.Office.{Publication, Records}
 use Rattle.office_model.specs.Publishing.{rows_now}
@@ -36,8 +36,8 @@ use Rattle.office_records.specs.declared.fault.RecordFault.TheVariants.{BadRows,
 use Rattle.exam_publish.specs.declared.seat_row.SeatRow as publish
 use Rattle.office_store.specs.Publications.{AddUpIn, Shown, StoredAddUp, plain}
 use Rattle.office_store.specs.Publications.{publication_shown, shares_in}
-use Rattle.office_store.specs.Reading.{AreShareRowsOf, part_rows_in, published_in}
-use Rattle.office_store.specs.Reading.{student_rows_in}
+use Rattle.office_store.specs.OfficeRows.{AreShareRowsOf, part_rows_in, published_in}
+use Rattle.office_store.specs.OfficeRows.{student_rows_in}
 use Rattle.office_store.specs.Running.{Shows, Tells}
 use Rattle.office_store.proofs.RunLemmas.{kept_of, nothing_kept}
 

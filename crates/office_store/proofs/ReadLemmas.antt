@@ -10,8 +10,8 @@ use Rattle.exam_model.specs.Timetable.{Placing}
 use Rattle.exam_score.specs.Penalty.{Penalty}
 use Rattle.exam_score.specs.Track.{track}
 use Rattle.office_tables.specs.Tables.{Tables}
-use Rattle.office_tables.specs.declared.rows.DraftRow.{DraftRow}
-use Rattle.office_tables.specs.declared.rows.SlotRow.{SlotRow}
+use Rattle.office_tables.specs.declared.draft.DraftRow.{DraftRow}
+use Rattle.office_tables.specs.declared.slot.SlotRow.{SlotRow}
 use Rattle.office_records.specs.Found.{AreSlots}
 use Rattle.office_model.specs.Office.{OfficeState, Records, AreRecords, IsOffice}
 use Rattle.office_records.specs.Memory.{memory_of}
@@ -22,7 +22,7 @@ use Rattle.office_model.specs.declared.fault.StoreFault.{StoreFault}
 use Rattle.office_model.specs.Commands.{Gives, draft_in, draft_shown, session_shown}
 use Rattle.office_records.specs.Faults.{store_fault}
 use Rattle.office_store.specs.Running.{Does, IsFault}
-use Rattle.office_store.specs.Reading.{AreRowsOf, AreScored}
+use Rattle.office_store.specs.OfficeRows.{AreRowsOf, AreScored}
 use Rattle.office_store.proofs.DraftLemmas.{slots_are}
 
 -- the rows of a draft that are read have its penalty

@@ -11,14 +11,15 @@ use Rattle.std.proofs.lemmas.List.Sorted.{IsPermutation-refl, IsPermutation-sym,
 use Rattle.sqlite_trees.proofs.ListLemmas.{IsPermutation-filter, filter-filter}
 use Rattle.exam_model.specs.Timetable.{Placing, place_of}
 use Rattle.exam_terms.specs.declared.place.Place.{Place}
-use Rattle.exam_score.specs.Changes.{DiffersAtMost, is_among}
-use Rattle.office_tables.specs.Changes.{with_slot, without_slot}
+use Rattle.exam_model.specs.Enrolments.{has_number}
+use Rattle.exam_score.specs.Changes.{DiffersAtMost}
+use Rattle.office_tables.specs.Slot.{with_slot, without_slot}
 use Rattle.office_tables.specs.Alterations.{after_all, after_some}
 use Rattle.office_tables.specs.Tables.{Tables}
 use Rattle.office_tables.specs.declared.altering.Both.{Both}
-use Rattle.office_tables.specs.declared.rows.SlotRow.{SlotRow}
-use Rattle.office_tables.specs.declared.slots.DeleteSlot.{DeleteSlot}
-use Rattle.office_tables.specs.declared.slots.InsertSlot.{InsertSlot}
+use Rattle.office_tables.specs.declared.slot.SlotRow.{SlotRow}
+use Rattle.office_tables.specs.declared.slot.DeleteSlot.{DeleteSlot}
+use Rattle.office_tables.specs.declared.slot.InsertSlot.{InsertSlot}
 use Rattle.office_store.specs.Changes.{moved, new_place, slot_put, slots_put}
 use Rattle.office_records.specs.Stands.{slots_at, slots_from, slot_row}
 
@@ -182,7 +183,7 @@ module _ (d : ℕ) (new : Placing) where
           let same : x ≡ e = grind (arith, nat_tests, f) in
           ap (place_of new) same ∙ sym (get_or-set_at T e x (place_of new e) None same lt)
       go false f =
-          differs x (ap (λ b. b || is_among exams x) f ∙ none)
+          differs x (ap (λ b. b || has_number exams x) f ∙ none)
           ∙ sym (get_or-set_other T e x (place_of new e) None (grind (arith, nat_tests, f)))
 
   pub places_put : (exams : List ℕ) (T : Placing) (t : Tables) → length T ≡ length new

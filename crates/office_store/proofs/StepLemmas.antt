@@ -6,7 +6,8 @@ use Rattle.sqlite.specs.Held.{Held, state}
 use Rattle.sqlite.specs.State.{HasCleanDisk}
 use Rattle.sqlite.specs.Store.{Ghosts}
 use Rattle.office_tables.specs.Steps.{Changes, Makes, Within}
-use Rattle.office_tables.specs.Tables.{Tables, Stands}
+use Rattle.office_tables.specs.Tables.{Tables}
+use Rattle.office_tables.specs.Standing.{Stands}
 use Rattle.office_tables.proofs.Inside.{clean_before, makes_then}
 
 pub changes_then : {S : Type 0} (g : Ghosts S) (f h : Tables → Tables) (a b c : Held S)

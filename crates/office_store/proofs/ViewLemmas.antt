@@ -12,22 +12,24 @@ use Rattle.sqlite_trees.proofs.ListLemmas.{IsPermutation-filter, IsPermutation-f
 use Rattle.sqlite_trees.proofs.ListLemmas.{IsPermutation-flat_map_each, all_weaker, flat_map-map}
 use Rattle.exam_terms.specs.declared.place.Place.{Place}
 use Rattle.exam_model.specs.Changes.{exams_sat}
-use Rattle.exam_model.specs.Enrolments.{AreEnrolments, Enrolled, has, has_student, students}
+use Rattle.exam_model.specs.Enrolments.{AreEnrolments, Enrolled, has, has_number, students}
 use Rattle.exam_model.specs.Enrolments as rising
 use Rattle.exam_model.specs.Pairs.{Pair, pairs_at, pairs_from, pairs_of}
 use Rattle.exam_model.specs.Timetable.{Placing, place_of}
 use Rattle.exam_model.proofs.SumLemmas.{IsChain}
 use Rattle.exam_publish.proofs.ListLemmas.{chain_from_ascending}
-use Rattle.office_tables.specs.Selections.{HerEnrolsRise, IsInOrder, PlacementsRise, placed_of}
+use Rattle.office_tables.specs.Enrol.{HerEnrolsRise}
+use Rattle.office_tables.specs.Selections.{IsInOrder}
+use Rattle.office_tables.specs.Placed.{PlacementsRise, placed_of}
 use Rattle.office_tables.specs.Tables.{Tables}
-use Rattle.office_tables.specs.declared.rows.EnrolRow.{EnrolRow}
-use Rattle.office_tables.specs.declared.rows.PlacedRow.{PlacedRow}
+use Rattle.office_tables.specs.declared.enrol.EnrolRow.{EnrolRow}
+use Rattle.office_tables.specs.declared.placed.PlacedRow.{PlacedRow}
 use Rattle.office_model.specs.Office.{AreRecords, IsOffice, OfficeState, Publication, Records}
 use Rattle.office_model.specs.Views.{published_place}
 use Rattle.office_model.specs.ViewRows.{AreOfPublication, places_in}
 use Rattle.office_records.specs.Publications.{placed_from, placed_row, placed_rows}
 use Rattle.office_records.specs.Stands.{StandsForOffice, enrol_row, once}
-use Rattle.office_store.specs.Reading.{published_in}
+use Rattle.office_store.specs.OfficeRows.{published_in}
 use Rattle.office_store.specs.Viewing.{exams_in, her_row, place_in_row}
 use Rattle.std.specs.Prelude.{◌^◌, All}
 use Rattle.std.proofs.Common.{inl, inr}
@@ -45,19 +47,20 @@ use Rattle.exam_publish.specs.declared.seat_row.SeatRow as publish
 use Rattle.exam_publish.proofs.AddUpLemmas.{adds_up}
 use Rattle.exam_publish.proofs.ListLemmas.{any_map, chain_ascending, chain_filter, has_ascending}
 use Rattle.exam_publish.proofs.ShareLemmas.{published_small}
-use Rattle.office_tables.specs.Selections.{HerSeatsRise}
-use Rattle.office_tables.specs.declared.rows.SeatRow.{SeatRow}
-use Rattle.office_tables.specs.declared.rows.StudentShareRow.{StudentShareRow}
+use Rattle.office_tables.specs.Seat.{HerSeatsRise}
+use Rattle.office_tables.specs.declared.seat.SeatRow.{SeatRow}
+use Rattle.office_tables.specs.declared.share_student.StudentShareRow.{StudentShareRow}
 use Rattle.office_model.specs.Office.{IsPublication}
 use Rattle.office_model.specs.Publishing.{rows_now}
-use Rattle.office_model.specs.Views.{ShownView, no_view, shown_exams, shown_to, view_from, view_of}
+use Rattle.office_model.specs.Shown.{ShownView, shown_exams, shown_to}
+use Rattle.office_model.specs.Views.{no_view, view_from, view_of}
 use Rattle.office_model.specs.declared.views.ViewRow.{ViewRow}
 use Rattle.office_records.specs.Publications.{stored_seat}
 use Rattle.office_records.specs.SharesStored.{student_share_row, student_share_rows}
 use Rattle.office_records.specs.Stands.{IsSound}
 use Rattle.office_records.proofs.SameTables.{same_few}
 use Rattle.office_records.proofs.ReadableLemmas.{are_numbered}
-use Rattle.office_store.specs.Reading.{student_rows_in}
+use Rattle.office_store.specs.OfficeRows.{student_rows_in}
 use Rattle.office_store.specs.Running.{Tells}
 use Rattle.office_model.specs.declared.fault.StoreFault.{StoreFault}
 use Rattle.office_records.specs.Memory.{Memory, memory_of}
@@ -76,13 +79,13 @@ none_above c (t ∷ ss) a =
 
 -- it is there once, or not at all
 pub found_once : (c : ℕ) (ss : List ℕ) → IsChain (λ x y. x < y) ss
-    → filter (λ s. eqb s c) ss ≡ once (has_student ss c) c
+    → filter (λ s. eqb s c) ss ≡ once (has_number ss c) c
 found_once c [] h = refl
 found_once c (s ∷ ss) h = go (eqb s c) refl (found_once c ss h.1)
   where
-    go : (b : Bool) → eqb s c ≡ b → filter (λ s. eqb s c) ss ≡ once (has_student ss c) c
+    go : (b : Bool) → eqb s c ≡ b → filter (λ s. eqb s c) ss ≡ once (has_number ss c) c
         → cond b (s ∷ filter (λ s. eqb s c) ss) (filter (λ s. eqb s c) ss)
-        ≡ once (b || has_student ss c) c
+        ≡ once (b || has_number ss c) c
     go true e more =
         let same : s ≡ c = grind (arith, nat_tests, e) in
         ap (λ l. s ∷ l) (none_above c ss (subst (λ n. AllByRecursion (λ t. n < t) ss) same h.0))
@@ -94,7 +97,7 @@ found_once c (s ∷ ss) h = go (eqb s c) refl (found_once c ss h.1)
 -- the exams from a number on where she is enrolled
 abbrev exams_from : ℕ → Enrolled → ℕ → List ℕ
 exams_from k [] c = []
-exams_from k (ss ∷ E) c = once (has_student ss c) k ++ exams_from (k + 1) E c
+exams_from k (ss ∷ E) c = once (has_number ss c) k ++ exams_from (k + 1) E c
 
 once_before : (b : Bool) (k : ℕ) (xs : List ℕ) → cond b (k ∷ xs) xs ≡ once b k ++ xs
 once_before true k xs = refl
@@ -122,9 +125,9 @@ sat_from D (ss ∷ E) c =
     (range_with_len (length (D ++ ss ∷ [])) (length E)) ≡ exams_from (length (D ++ ss ∷ [])) E c)
     (append_assoc D (ss ∷ []) E) (sat_from (D ++ ss ∷ []) E c)) in
     let rest = filter (λ e. has (D ++ (ss ∷ E)) c e) (range_with_len (length D + 1) (length E)) in
-    ap (λ l. cond (has_student l c) (length D ∷ rest) rest) (students_at D ss E)
-    ∙ once_before (has_student ss c) (length D) rest
-    ∙ ap (λ l. once (has_student ss c) (length D) ++ l) more
+    ap (λ l. cond (has_number l c) (length D ∷ rest) rest) (students_at D ss E)
+    ∙ once_before (has_number ss c) (length D) rest
+    ∙ ap (λ l. once (has_number ss c) (length D) ++ l) more
 
 sat_is : (E : Enrolled) (c : ℕ) → exams_sat E c ≡ exams_from 0 E c
 sat_is E c = sat_from [] E c
@@ -133,7 +136,7 @@ sat_is E c = sat_from [] E c
 from_least : (m k : ℕ) (E : Enrolled) (c : ℕ) → m ≤ k
     → AllByRecursion (λ e. m ≤ e) (exams_from k E c)
 from_least m k [] c low = tt
-from_least m k (ss ∷ E) c low = go (has_student ss c) (from_least m (k + 1) E c (omega arith))
+from_least m k (ss ∷ E) c low = go (has_number ss c) (from_least m (k + 1) E c (omega arith))
   where
     go : (b : Bool) → AllByRecursion (λ e. m ≤ e) (exams_from (k + 1) E c)
         → AllByRecursion (λ e. m ≤ e) (once b k ++ exams_from (k + 1) E c)
@@ -142,7 +145,7 @@ from_least m k (ss ∷ E) c low = go (has_student ss c) (from_least m (k + 1) E 
 
 exams_rise : (k : ℕ) (E : Enrolled) (c : ℕ) → IsAscending (λ x y. x < y) (exams_from k E c)
 exams_rise k [] c = tt
-exams_rise k (ss ∷ E) c = go (has_student ss c) (exams_rise (k + 1) E c)
+exams_rise k (ss ∷ E) c = go (has_number ss c) (exams_rise (k + 1) E c)
   where
     go : (b : Bool) → IsAscending (λ x y. x < y) (exams_from (k + 1) E c)
         → IsAscending (λ x y. x < y) (once b k ++ exams_from (k + 1) E c)
@@ -189,9 +192,9 @@ her_pairs k (ss ∷ E) c h =
     (map enrol_row (pairs_from (k + 1) E))
     ∙ ap₂ (λ a b. a ++ b)
     (one_exam c k ss ∙ ap (map (λ s. her_row s k)) (found_once c ss h.0)
-    ∙ once_row (has_student ss c) c k)
+    ∙ once_row (has_number ss c) c k)
     (her_pairs (k + 1) E c h.1)
-    ∙ sym (map-append (her_row c) (once (has_student ss c) k) (exams_from (k + 1) E c))
+    ∙ sym (map-append (her_row c) (once (has_number ss c) k) (exams_from (k + 1) E c))
 
 each_chain : (E : Enrolled) → ((e : ℕ) → e < length E → rising.IsAscending (students E e))
     → AllByRecursion (IsChain (λ x y. x < y)) E
@@ -483,7 +486,7 @@ module _ (I : Session) (p : Publication) (c : ℕ) where
   share_row s = student_share_row (s, share_at s)
 
   hers_are : filter (λ (x : StudentShareRow). eqb x.student c) (student_share_rows I (Some p))
-      ≡ map share_row (once (has_student (students_of p.rows) c) c)
+      ≡ map share_row (once (has_number (students_of p.rows) c) c)
   hers_are =
       ap (filter (λ (x : StudentShareRow). eqb x.student c))
       (map-map student_share_row (λ s. (s, share_at s)) (students_of p.rows))
@@ -492,14 +495,14 @@ module _ (I : Session) (p : Publication) (c : ℕ) where
       (found_once c (students_of p.rows)
       (chain_ascending (map (λ (row : publish.SeatRow). row.student) p.rows)))
 
-  seated : has_student (students_of p.rows) c
+  seated : has_number (students_of p.rows) c
       ≡ list_any (λ (row : publish.SeatRow). eqb row.student c) p.rows
   seated =
       has_ascending (map (λ (row : publish.SeatRow). row.student) p.rows) c
       ∙ any_map (λ t. eqb t c) (λ (row : publish.SeatRow). row.student) p.rows
 
   small_at : AreSmall (shares_of I p.rows p.timetable)
-      → has_student (students_of p.rows) c ≡ true → personal_total (share_at c) < 2 ^ 62
+      → has_number (students_of p.rows) c ≡ true → personal_total (share_at c) < 2 ^ 62
   small_at small there =
       let each : AllByRecursion (λ s. personal_total (share_at s) < 2 ^ 62) (students_of p.rows)
       = all_from_map (λ (share : ℕ × PersonalPenalty). personal_total share.1 < 2 ^ 62)
@@ -517,10 +520,10 @@ module _ (I : Session) (p : Publication) (c : ℕ) where
       → IsPermutation (filter (λ (x : StudentShareRow). eqb x.student c)
       (student_share_rows I (Some p))) shares → IsHerShare shares (share_at c)
   her_share small shares same =
-      go (has_student (students_of p.rows) c) refl
+      go (has_number (students_of p.rows) c) refl
       (subst (λ l. IsPermutation l shares) hers_are same)
     where
-      go : (b : Bool) → has_student (students_of p.rows) c ≡ b
+      go : (b : Bool) → has_number (students_of p.rows) c ≡ b
           → IsPermutation (map share_row (once b c)) shares → IsHerShare shares (share_at c)
       go true there same =
           one (share_row c) (same_few (share_row c ∷ []) shares (omega arith) same) refl

@@ -1,20 +1,21 @@
 -- What the transaction of each command makes of the tables.
-use Rattle.std.specs.Prelude.{ℕ, ◌++◌, map, reverse, true, false, ◌==◌, if◌then◌else◌, List, [], ◌∷◌, Option, Some, None, option_map}
+use Rattle.std.specs.Prelude.{ℕ, false, ◌==◌, if◌then◌else◌, List, [], ◌∷◌, Option, Some, None, option_map}
 use Rattle.exam_model.specs.Timetable.{Placing, place_of}
 use Rattle.exam_terms.specs.declared.place.Place.{Place}
-use Rattle.office_tables.specs.Changes.{with_meta, no_meta, with_owner, without_owner, with_enrols, with_draft, without_draft, with_slot, with_slots, without_slot, without_slots}
+use Rattle.office_tables.specs.Meta.{with_meta, no_meta}
+use Rattle.office_tables.specs.Owner.{with_owner, without_owner}
+use Rattle.office_tables.specs.Enrol.{with_enrols}
+use Rattle.office_tables.specs.Draft.{with_draft, without_draft}
+use Rattle.office_tables.specs.Slot.{with_slot, with_slots, without_slot, without_slots}
 use Rattle.office_tables.specs.Tables.{Tables}
 use Rattle.office_tables.specs.declared.altering.Both.{Both}
-use Rattle.office_tables.specs.declared.owners.InsertOwner.{InsertOwner}
-use Rattle.office_tables.specs.declared.rows.DraftRow.{DraftRow}
-use Rattle.office_tables.specs.declared.rows.EnrolRow.{EnrolRow}
-use Rattle.office_tables.specs.declared.rows.SlotRow.{SlotRow}
-use Rattle.office_tables.specs.declared.slots.DeleteSlot.{DeleteSlot}
-use Rattle.office_tables.specs.declared.slots.InsertSlot.{InsertSlot}
-use Rattle.office_records.specs.SeatsStored.{seat_rows_without}
-use Rattle.office_records.specs.SharesStored.{share_rows_without}
+use Rattle.office_tables.specs.declared.owner.InsertOwner.{InsertOwner}
+use Rattle.office_tables.specs.declared.draft.DraftRow.{DraftRow}
+use Rattle.office_tables.specs.declared.enrol.EnrolRow.{EnrolRow}
+use Rattle.office_tables.specs.declared.slot.SlotRow.{SlotRow}
+use Rattle.office_tables.specs.declared.slot.DeleteSlot.{DeleteSlot}
+use Rattle.office_tables.specs.declared.slot.InsertSlot.{InsertSlot}
 use Rattle.office_records.specs.Stands.{slot_row}
-use Rattle.office_store.specs.declared.new_publication.NewPublication.{NewPublication}
 
 -- a session is put in, with its enrolments
 abbrev pub session_put : List ℕ → List EnrolRow → Tables → Tables
@@ -63,25 +64,3 @@ new_place d T e = moved d e (place_of T e)
 -- a draft in place of another, where these exams stand elsewhere
 abbrev pub edit_put : DraftRow → Placing → List ℕ → Tables → Tables
 edit_put row T exams t = slots_put row.no T exams (with_draft row (without_draft row.no t))
-
--- something is published of the session: these places, and no others; of the candidates' seats some
--- go and some come
-abbrev pub places_put : NewPublication → Tables → Tables
-places_put new t = record t {
-  meta = record { published = true; instance = new.text.items } ∷ [];
-  placed = reverse (map (λ it. it.row) new.placements.items);
-  seat = reverse (map (λ it. it.row) new.seats.items)
-      ++ seat_rows_without (map (λ it. it.student) new.seats_gone.items) t.seat;
-}
-
--- of the candidates' shares some go and some come; those of exams, periods and rooms come anew
-abbrev pub shares_put : NewPublication → Tables → Tables
-shares_put new t = record t {
-  share_student = reverse (map (λ it. it.row) new.students.items)
-      ++ share_rows_without (map (λ it. it.student) new.shares_gone.items) t.share_student;
-  share_part = reverse (map (λ it. it.row) new.parts.items);
-}
-
--- a publication in place of another, with its shares
-abbrev pub publication_put : NewPublication → Tables → Tables
-publication_put new t = shares_put new (places_put new t)

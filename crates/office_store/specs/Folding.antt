@@ -1,7 +1,6 @@
 -- What an edit makes of a draft's penalty, by rows that are read of the file.
-use Rattle.std.specs.Prelude.{◌≡◌, ℕ, ◌+◌, ◌<◌, ◌≤◌, IsTrue, false, List, ◌++◌, length, flat_map, All, Some}
-use Rattle.sqlite.specs.Held.{Held, state}
-use Rattle.sqlite.specs.State.{HasCleanDisk, IsUnchanged}
+use Rattle.std.specs.Prelude.{◌≡◌, ℕ, ◌+◌, ◌<◌, ◌≤◌, List, ◌++◌, length, flat_map, All, Some}
+use Rattle.sqlite.specs.Held.{Held}
 use Rattle.sqlite.specs.Store.{Ghosts}
 use Rattle.exam_terms.specs.declared.limits.TheConstants.{MAX_PAIRS}
 use Rattle.exam_model.specs.Changes.{exams_sat}
@@ -13,11 +12,8 @@ use Rattle.exam_publish.specs.Changed.{ascending}
 use Rattle.exam_score.specs.Changes.{DiffersAtMost}
 use Rattle.exam_score.specs.Folds.{Folded, StandsFor, pairs_sat}
 use Rattle.exam_score.specs.Track.{track}
-use Rattle.office_model.specs.Office.{Records}
-use Rattle.office_records.specs.Stands.{IsKept}
-use Rattle.office_tables.specs.Steps.{LeavesCommitted, OpensNone}
-use Rattle.office_tables.specs.Tables.{Tables, Stands}
 use Rattle.office_store.specs.declared.editing.Judged.{Judged}
+use Rattle.office_store.specs.FoldReads.{HadEnrolments}
 
 -- ---- the students of an edit
 
@@ -28,30 +24,6 @@ students_of_exams E exams = ascending (flat_map (students E) exams)
 -- the pairs of these students, one student's after another's, and each one's by exam
 abbrev pub pairs_of_students : Enrolled → List ℕ → List Pair
 pairs_of_students E all = flat_map (λ s. pairs_sat (Some s) (exams_sat E s)) all
-
--- ---- a connection that reads
-
--- whatever is answered: nothing is changed, but for what was not committed
-pub record HasRead {S : Type 0} (store : Ghosts S) (old new : Held S) : Type 0 where
-  pub clean : HasCleanDisk (state store new) → HasCleanDisk (state store old)
-  pub was_open : OpensNone store old new
-  pub kept : LeavesCommitted store old new
-  pub mode : old.in_transaction ≡ false → new.in_transaction ≡ false
-
--- over a clean disk, where the tables stand, everything is as it was
-abbrev pub IsSame : {S : Type 0} → Ghosts S → Held S → Held S → Type 0
-IsSame store old new =
-    HasCleanDisk (state store new) → (t : Tables) → Stands (state store old).now t
-    → IsTrue (state store old).is_open → IsUnchanged (state store old) (state store new)
-
--- over a clean disk, an office with these enrolments stood there, in a file that was open
-pub record HadEnrolments {S : Type 0} (store : Ghosts S) (old new : Held S) (E : Enrolled)
-    : Type 0 where
-  pub clean : HasCleanDisk (state store new)
-  pub opened : IsTrue (state store old).is_open
-  pub records : Records
-  pub kept : IsKept (state store old).now (Some records)
-  pub enrolments : records.enrolments ≡ E
 
 -- ---- a fold
 

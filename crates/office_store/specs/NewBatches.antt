@@ -3,13 +3,13 @@ use Rattle.std.specs.Prelude.{◌≡◌, ◌<◌, ℕ, if◌then◌else◌, List
 use Rattle.exam_terms.specs.Refusing.{◌>>=◌, unless}
 use Rattle.exam_terms.specs.declared.limits.TheConstants.{MAX_BATCHES}
 use Rattle.exam_model.specs.declared.change.Change.{Change}
-use Rattle.office_tables.specs.Changes.{with_enrol, without_enrol}
-use Rattle.office_tables.specs.Records.{batch_from}
+use Rattle.office_tables.specs.Enrol.{with_enrol, without_enrol}
+use Rattle.office_tables.specs.Batch.{batch_from}
 use Rattle.office_tables.specs.Tables.{Batch, Tables}
-use Rattle.office_tables.specs.declared.drafts.InsertDraft.{InsertDraft}
-use Rattle.office_tables.specs.declared.rows.BatchRow.{BatchRow}
-use Rattle.office_tables.specs.declared.rows.DraftRow.{DraftRow}
-use Rattle.office_tables.specs.declared.rows.SlotRow.{SlotRow}
+use Rattle.office_tables.specs.declared.draft.InsertDraft.{InsertDraft}
+use Rattle.office_tables.specs.declared.batch.BatchRow.{BatchRow}
+use Rattle.office_tables.specs.declared.draft.DraftRow.{DraftRow}
+use Rattle.office_tables.specs.declared.slot.SlotRow.{SlotRow}
 use Rattle.office_enrolment.specs.AfterBatch.{acting, after_batch}
 use Rattle.office_enrolment.specs.Rows.{pair_of}
 use Rattle.office_model.specs.Batches.{newly_enrolled, same_bytes}
@@ -45,7 +45,8 @@ pub record IsNewFor (changes : List Change) (slots : List SlotRow) (r : Records)
   pub after : after_batch changes r.enrolments ≡ Ok (new.counts, new.enrolments)
   pub room : length r.batches < MAX_BATCHES
   pub lines : map (λ it. it.change) new.lines.items ≡ acting changes r.enrolments
-  pub drafts : AreDrafts r.session new.enrolments (map (λ it. it.row) new.drafts.items) slots r.draft
+  pub drafts : AreDrafts r.session new.enrolments (map (λ it. it.row) new.drafts.items)
+      slots r.draft
 
 -- that, or the refusal of such a batch, whatever its number and its bytes
 abbrev pub Enrols : List Change → List SlotRow → Records → Result NewBatch StoreFault → Type 0

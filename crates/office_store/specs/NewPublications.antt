@@ -7,17 +7,8 @@ use Rattle.exam_publish.specs.Permit.{publish_refusal}
 use Rattle.exam_publish.specs.Shares.{shares_of, student_shares}
 use Rattle.exam_publish.specs.declared.seat_row.SeatRow.{SeatRow}
 use Rattle.exam_score.specs.Penalty.{Penalty}
-use Rattle.office_tables.specs.Amounts.{ArePartAmounts, AreStudentAmounts}
-use Rattle.office_tables.specs.declared.placing.InsertPlacement.{InsertPlacement}
-use Rattle.office_tables.specs.declared.rows.PartShareRow.{PartShareRow}
-use Rattle.office_tables.specs.declared.rows.PlacedRow.{PlacedRow}
-use Rattle.office_tables.specs.declared.rows.SeatRow as stored
-use Rattle.office_tables.specs.declared.rows.StudentShareRow.{StudentShareRow}
-use Rattle.office_tables.specs.declared.seating.DeleteStudentSeats.{DeleteStudentSeats}
-use Rattle.office_tables.specs.declared.seating.InsertSeat.{InsertSeat}
-use Rattle.office_tables.specs.declared.sharing.DeleteStudentShare.{DeleteStudentShare}
-use Rattle.office_tables.specs.declared.sharing.InsertPartShare.{InsertPartShare}
-use Rattle.office_tables.specs.declared.sharing.InsertStudentShare.{InsertStudentShare}
+use Rattle.office_tables.specs.SharePart.{ArePartAmounts}
+use Rattle.office_tables.specs.ShareStudent.{AreStudentAmounts}
 use Rattle.office_model.specs.Office.{Records}
 use Rattle.office_model.specs.Publishing.{draft_published, published_as, rows_now}
 use Rattle.office_model.specs.Commands.{penalty_now}
@@ -28,32 +19,7 @@ use Rattle.office_records.specs.SharesStored.{part_rows, share_rows_of, student_
 use Rattle.office_records.specs.Stands.{session_text}
 use Rattle.office_store.specs.Running.{IsFault}
 use Rattle.office_store.specs.declared.new_publication.NewPublication.{NewPublication}
-
--- ---- rows as parts of a transaction
-
--- the row of a published place is put in
-abbrev pub placement_put : PlacedRow → InsertPlacement
-placement_put row = record { row = row }
-
--- a candidate's seats are taken out
-abbrev pub her_seats_gone : ℕ → DeleteStudentSeats
-her_seats_gone student = record { student = student }
-
--- the row of a seat is put in
-abbrev pub seat_put : stored.SeatRow → InsertSeat
-seat_put row = record { row = row }
-
--- a candidate's share is taken out
-abbrev pub share_gone : ℕ → DeleteStudentShare
-share_gone student = record { student = student }
-
--- the row of a candidate's share is put in
-abbrev pub student_share_put : StudentShareRow → InsertStudentShare
-student_share_put row = record { row = row }
-
--- the row of an exam's, a period's or a room's share is put in
-abbrev pub part_share_put : PartShareRow → InsertPartShare
-part_share_put row = record { row = row }
+use Rattle.office_store.specs.RowPuts.{placement_put, her_seats_gone, seat_put, share_gone, student_share_put, part_share_put}
 
 -- ---- a publication that is put in
 

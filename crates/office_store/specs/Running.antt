@@ -21,7 +21,8 @@ IsFault gives BadSchema = ⊥
 IsFault gives fault = gives ≡ Err fault
 
 -- it gave what the command gives and that office stands now, or it was refused and the old one does
-abbrev pub Does : {A : Type 0} → Gives A → OfficeState → (OfficeState → Type 0) → Result A StoreFault → Type 0
+abbrev pub Does : {A : Type 0} → Gives A → OfficeState → (OfficeState → Type 0)
+    → Result A StoreFault → Type 0
 Does gives old Stays (Ok x) = (new : OfficeState) × (gives ≡ Ok (x, new)) × Stays new
 Does gives old Stays (Err fault) = IsFault gives fault × Stays old
 
@@ -38,7 +39,8 @@ Tells says (Ok x) = x ≡ says
 Tells says (Err fault) = fault ≡ Store
 
 -- a call that only reads answers what the office says, or a statement failed; the office stays
-abbrev pub Shows : {A : Type 0} → A → OfficeState → (OfficeState → Type 0) → Result A StoreFault → Type 0
+abbrev pub Shows : {A : Type 0} → A → OfficeState → (OfficeState → Type 0)
+    → Result A StoreFault → Type 0
 Shows says office Stays (Ok x) = (x ≡ says) × Stays office
 Shows says office Stays (Err fault) = (fault ≡ Store) × Stays office
 

@@ -4,15 +4,15 @@ use Rattle.exam_model.specs.Changes.{exams_sat}
 use Rattle.exam_publish.specs.Changed.{rows_of}
 use Rattle.exam_score.specs.Penalty.{PersonalPenalty}
 use Rattle.exam_terms.specs.declared.place.Place.{Place}
-use Rattle.office_tables.specs.declared.rows.EnrolRow.{EnrolRow}
-use Rattle.office_tables.specs.declared.rows.PlacedRow.{PlacedRow}
-use Rattle.office_tables.specs.declared.rows.SeatRow.{SeatRow}
-use Rattle.office_tables.specs.declared.rows.StudentShareRow.{StudentShareRow}
+use Rattle.office_tables.specs.declared.enrol.EnrolRow.{EnrolRow}
+use Rattle.office_tables.specs.declared.placed.PlacedRow.{PlacedRow}
+use Rattle.office_tables.specs.declared.seat.SeatRow.{SeatRow}
+use Rattle.office_tables.specs.declared.share_student.StudentShareRow.{StudentShareRow}
 use Rattle.office_model.specs.Office.{OfficeState}
 use Rattle.office_model.specs.Publishing.{rows_now}
 use Rattle.office_model.specs.ViewRows.{places_in}
 use Rattle.office_records.specs.Publications.{stored_seat}
-use Rattle.office_store.specs.Reading.{published_in, student_rows_in}
+use Rattle.office_store.specs.OfficeRows.{published_in, student_rows_in}
 
 -- the exams where she is enrolled, ascending
 abbrev pub exams_in : ℕ → OfficeState → List ℕ

@@ -10,8 +10,8 @@ ghost use Rattle.office_records.specs.Stands.{IsKept};
 ghost use Rattle.office_model.specs.Commands.{draft_edited, named};
 ghost use Rattle.office_store.specs.Changes.{moved, new_place};
 ghost use Rattle.office_store.specs.Editing.{Edits, Judges};
-ghost use Rattle.office_store.specs.Folding.{HasRead, IsSame};
-ghost use Rattle.office_store.specs.Reading.{AreRowsOf};
+ghost use Rattle.office_store.specs.FoldReads.{HasRead, IsSame};
+ghost use Rattle.office_store.specs.OfficeRows.{AreRowsOf};
 ghost use Rattle.office_store.specs.Running.{IsAwake, IsStill, Runs};
 
 use crate::folding::penalty_after;

@@ -11,7 +11,7 @@ ghost use Rattle.office_model.specs.Office.{OfficeState};
 ghost use Rattle.office_records.specs.Stands.{IsKept};
 ghost use Rattle.office_store.specs.NewBatches.{AreBatchRowsOf, IsRowOf, answered_again};
 ghost use Rattle.office_store.specs.Running.{IsAwake, IsStill, Runs};
-ghost use Rattle.office_tables.specs.Records.{batch_from};
+ghost use Rattle.office_tables.specs.Batch.{batch_from};
 
 use crate::batch_rows::{BatchRows, batch_rows};
 use crate::fault::Failed;
@@ -29,9 +29,9 @@ impl<S: Alter> Office<S> {
     /// Carries out a batch of changes of enrolments, its lines in file order, and answers what they
     /// did; all drafts are scored anew, and what is published stays. A batch acts once: the same
     /// bytes under a number that is kept are answered as at first. `Refused`: the file is faulty;
-    /// then `NotLoaded`; then `BatchDiffers`: other bytes are kept under the number; then `Refused`:
-    /// a line names an exam that isn't there; then `TooMany`: at some line there would be more than
-    /// 200,000 pairs, or there are 10,000 batches.
+    /// then `NotLoaded`; then `BatchDiffers`: other bytes are kept under the number; then
+    /// `Refused`: a line names an exam that isn't there; then `TooMany`: at some line there would
+    /// be more than 200,000 pairs, or there are 10,000 batches.
     pub fn enrol_batch(
         &mut self,
         alloc: Global,

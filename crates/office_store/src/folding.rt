@@ -8,7 +8,8 @@ ghost use Rattle.exam_publish.specs.Changed.{ascending};
 ghost use Rattle.exam_score.specs.Folds.{IsFoldOf, StandsFor, pairs_sat};
 ghost use Rattle.exam_score.specs.Front.{AreSizes};
 ghost use Rattle.exam_score.specs.Track.{track};
-ghost use Rattle.office_store.specs.Folding.{CanTake, HadEnrolments, HasRead, IsEditOf, IsSame};
+ghost use Rattle.office_store.specs.FoldReads.{HadEnrolments, HasRead, IsSame};
+ghost use Rattle.office_store.specs.Folding.{CanTake, IsEditOf};
 ghost use Rattle.office_store.specs.Folding.{pairs_of_students, students_of_exams};
 ghost use Rattle.office_store.specs.Running.{Tells};
 ghost use Rattle.office_store.specs.Viewing.{her_row};
@@ -142,8 +143,8 @@ fn fold_exams(fold: &mut EditFold, student: StudentNo, exams: &[ExamNo]) -> Resu
     Ok(())
 }
 
-// The exams that the file has of a student, ascending. `BadSchema`: a row of hers has no reading, or
-// they are out of order.
+// The exams that the file has of a student, ascending. `BadSchema`: a row of hers has no reading,
+// or they are out of order.
 fn read_exams<S: Alter>(
     alloc: Global,
     conn: &mut Connection<S>,

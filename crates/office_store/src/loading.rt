@@ -20,15 +20,16 @@ use sqlite::Alter;
 use std::alloc::{AllocError, Global};
 
 impl<S: Alter> Office<S> {
-    /// Loads the session of an instance file with its enrolments, once. `Refused`: the file is faulty;
-    /// then `Loaded`: there is a session already.
+    /// Loads the session of an instance file with its enrolments, once. `Refused`: the file is
+    /// faulty; then `Loaded`: there is a session already.
     pub fn load(&mut self, alloc: Global, text: &[u8]) -> Result<Loaded, StoreFault>
         ensures runs { Runs S.Store (loaded text.now) self.old self.new result }
         // Over any disk it is how much the text spells.
         ensures counts { IfOk result (SpellsSession text.now) }
         // Over any disk a text that is refused has the fault first that is named.
         ensures first { IfErr result (NamesFirstFault text.now) }
-        ensures clean { HasCleanDisk (state S.Store self.new) → HasCleanDisk (state S.Store self.old) }
+        ensures clean { HasCleanDisk (state S.Store self.new)
+            → HasCleanDisk (state S.Store self.old) }
     {
         let (instance, enrolments) = match read_instance(alloc, text) {
             Ok(read) => read,
@@ -74,6 +75,19 @@ fn counts_of(instance: &Instance, enrolments: &Enrolments) -> Loaded
     }
 }
 
+// The rows of the pairs, by exam and then by student.
+fn enrol_rows(alloc: Global, enrolments: &Enrolments) -> Result<Vec<InsertEnrol>, AllocError>
+    ensures { IfOk result (λ rows. map (λ it. it.row) rows.items
+        ≡ map enrol_row (pairs_of enrolments.now)) }
+{
+    let mut rows = Vec::new(alloc);
+    for number in 0..enrolments.exams() {
+        let students = enrolments.students(ExamNo::new(number));
+        add_rows(&mut rows, number, students)?;
+    }
+    Ok(rows)
+}
+
 fn add_rows(
     rows: &mut Vec<InsertEnrol>,
     exam: u32,
@@ -90,17 +104,4 @@ fn add_rows(
         rows.push(InsertEnrol { row })?;
     }
     Ok(())
-}
-
-// The rows of the pairs, by exam and then by student.
-fn enrol_rows(alloc: Global, enrolments: &Enrolments) -> Result<Vec<InsertEnrol>, AllocError>
-    ensures { IfOk result (λ rows. map (λ it. it.row) rows.items
-        ≡ map enrol_row (pairs_of enrolments.now)) }
-{
-    let mut rows = Vec::new(alloc);
-    for number in 0..enrolments.exams() {
-        let students = enrolments.students(ExamNo::new(number));
-        add_rows(&mut rows, number, students)?;
-    }
-    Ok(rows)
 }

@@ -4,7 +4,7 @@ ghost use Rattle.sqlite.specs.Held.{state};
 ghost use Rattle.sqlite.specs.State.{HasCleanDisk};
 ghost use Rattle.exam_terms.specs.declared.limits.TheConstants.{TEXT_BYTES};
 ghost use Rattle.office_tables.specs.Alterations.{Changed, Undone};
-ghost use Rattle.office_tables.specs.Amounts.{AreAmounts};
+ghost use Rattle.office_tables.specs.Draft.{AreAmounts};
 ghost use Rattle.office_model.specs.Office.{IsOffice, Records};
 ghost use Rattle.office_records.specs.Found.{AreDrafts};
 ghost use Rattle.office_records.specs.Memory.{memory_of};

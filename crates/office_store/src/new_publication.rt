@@ -17,11 +17,12 @@ ghost use Rattle.office_records.specs.SharesStored.{HasFewParts, part_rows, shar
 ghost use Rattle.office_records.specs.SharesStored.{student_share_row};
 ghost use Rattle.office_store.specs.Judging.{listed};
 ghost use Rattle.office_store.specs.NewPublications.{ArePutIn, AreSmallShares, Permits, Publishes};
-ghost use Rattle.office_store.specs.NewPublications.{her_seats_gone, part_share_put, placement_put};
-ghost use Rattle.office_store.specs.NewPublications.{seat_put, share_gone, student_share_put};
-ghost use Rattle.office_store.specs.Reading.{AreRowsOf};
+ghost use Rattle.office_store.specs.OfficeRows.{AreRowsOf};
+ghost use Rattle.office_store.specs.RowPuts.{her_seats_gone, part_share_put, placement_put};
+ghost use Rattle.office_store.specs.RowPuts.{seat_put, share_gone, student_share_put};
 ghost use Rattle.office_store.specs.Running.{Tells};
-ghost use Rattle.office_tables.specs.Amounts.{ArePartAmounts, AreStudentAmounts};
+ghost use Rattle.office_tables.specs.SharePart.{ArePartAmounts};
+ghost use Rattle.office_tables.specs.ShareStudent.{AreStudentAmounts};
 
 use crate::publications::published_of;
 use crate::published_rows::PublishedRows;

@@ -72,11 +72,13 @@ impl<S: Alter> Office<S> {
 
     /// Looks whether the file can still be read; what is at hand is then what it says.
     pub fn look(&mut self) -> Result<(), StoreFault>
-        ensures awake { HasCleanDisk (state S.Store self.new) → OnOk result (IsAwake (state S.Store self.new)) }
+        ensures awake { HasCleanDisk (state S.Store self.new)
+            → OnOk result (IsAwake (state S.Store self.new)) }
         ensures still { HasCleanDisk (state S.Store self.new)
             → IsStill (state S.Store self.old) (state S.Store self.new) }
         ensures fault { IfErr result (λ e. e ≡ StoreFault.Store) }
-        ensures clean { HasCleanDisk (state S.Store self.new) → HasCleanDisk (state S.Store self.old) }
+        ensures clean { HasCleanDisk (state S.Store self.new)
+            → HasCleanDisk (state S.Store self.old) }
     {
         let _at_rest = self.conn.is_autocommit(); // read for what it says of the last commit
         match look(&mut self.conn) {

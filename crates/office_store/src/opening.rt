@@ -15,9 +15,9 @@ use sqlite::{Alter, Connection};
 use std::alloc::Global;
 
 impl<S: Alter> Office<S> {
-    /// The office of a database: a new one where there is no table, index or view. `BadSchema`: what
-    /// is there is no office. `Store`: a statement failed, memory was refused, or a transaction is
-    /// open. A refusal hands the connection back.
+    /// The office of a database: a new one where there is no table, index or view. `BadSchema`:
+    /// what is there is no office. `Store`: a statement failed, memory was refused, or a
+    /// transaction is open. A refusal hands the connection back.
     pub fn open(
         alloc: Global,
         conn: Connection<S>,

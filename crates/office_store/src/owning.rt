@@ -20,12 +20,13 @@ use sqlite::Alter;
 use std::alloc::Global;
 
 impl<S: Alter> Office<S> {
-    /// Makes a department, 1 to 999, the owner of an exam; 0 takes the owner away. `NotLoaded`: there
-    /// is no session; then `Refused` with `NoSuch`: there is no such exam.
+    /// Makes a department, 1 to 999, the owner of an exam; 0 takes the owner away. `NotLoaded`:
+    /// there is no session; then `Refused` with `NoSuch`: there is no such exam.
     pub fn set_owner(&mut self, exam: ExamNo, dept: u32) -> Result<(), StoreFault>
         requires dept { dept ≤ MAX_DEPARTMENT }
         ensures runs { Runs S.Store (owned exam dept) self.old self.new result }
-        ensures clean { HasCleanDisk (state S.Store self.new) → HasCleanDisk (state S.Store self.old) }
+        ensures clean { HasCleanDisk (state S.Store self.new)
+            → HasCleanDisk (state S.Store self.old) }
     {
         self.look()?;
         let Some((instance, _)) = &self.kept else {
@@ -49,7 +50,8 @@ impl<S: Alter> Office<S> {
         // What is at hand is then what the file says.
         ensures awake { HasCleanDisk (state S.Store self.new)
             → OnOk result (IsAwake (state S.Store self.new)) }
-        ensures clean { HasCleanDisk (state S.Store self.new) → HasCleanDisk (state S.Store self.old) }
+        ensures clean { HasCleanDisk (state S.Store self.new)
+            → HasCleanDisk (state S.Store self.old) }
     {
         let rows = self.owners(alloc, exam)?;
         match rows.as_slice() {
@@ -63,12 +65,14 @@ impl<S: Alter> Office<S> {
     fn owners(&mut self, alloc: Global, exam: ExamNo) -> Result<Vec<OwnerRow>, Failed>
         ensures rows { HasCleanDisk (state S.Store self.new) → (office : OfficeState)
             → Now (state S.Store self.old) office
-            → IfOk result (λ rows. map (λ r. r.dept) rows.items ≡ some_dept (owner_in exam office)) }
+            → IfOk result (λ rows.
+            map (λ r. r.dept) rows.items ≡ some_dept (owner_in exam office)) }
         ensures still { HasCleanDisk (state S.Store self.new) → (office : OfficeState)
             → Now (state S.Store self.old) office → Now (state S.Store self.new) office }
         ensures awake { HasCleanDisk (state S.Store self.new)
             → OnOk result (IsAwake (state S.Store self.new)) }
-        ensures clean { HasCleanDisk (state S.Store self.new) → HasCleanDisk (state S.Store self.old) }
+        ensures clean { HasCleanDisk (state S.Store self.new)
+            → HasCleanDisk (state S.Store self.old) }
     {
         let _at_rest = self.conn.is_autocommit(); // read for what it says of the last commit
         let rows = owners_of(alloc, &mut self.conn, exam.get())?;

@@ -7,8 +7,8 @@ ghost use Rattle.office_model.specs.Commands.{draft_in};
 ghost use Rattle.office_model.specs.Office.{IsOffice, OfficeState};
 ghost use Rattle.office_records.specs.Memory.{memory_of};
 ghost use Rattle.office_records.specs.Stands.{once, parts_of};
+ghost use Rattle.office_store.specs.OfficeRows.{AreScored};
 ghost use Rattle.office_store.specs.Pricing.{draft_priced};
-ghost use Rattle.office_store.specs.Reading.{AreScored};
 ghost use Rattle.office_store.specs.Running.{Does, Runs};
 
 use crate::office::Office;
@@ -19,8 +19,8 @@ use sqlite::Alter;
 use std::alloc::Global;
 
 impl<S: Alter> Office<S> {
-    /// What a draft costs: the stored penalty, for which its timetable isn't read. `NotLoaded`, then
-    /// `NoDraft`: there is none of this number.
+    /// What a draft costs: the stored penalty, for which its timetable isn't read. `NotLoaded`,
+    /// then `NoDraft`: there is none of this number.
     pub fn penalty(&mut self, alloc: Global, number: u32) -> Result<Parts, StoreFault>
         ensures runs { Runs S.Store (draft_priced number) self.old self.new result }
         ensures clean { HasCleanDisk (state S.Store self.new)

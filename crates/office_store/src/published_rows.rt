@@ -6,8 +6,8 @@ ghost use Rattle.office_model.specs.Office.{OfficeState};
 ghost use Rattle.office_model.specs.Publishing.{rows_now};
 ghost use Rattle.office_records.specs.Publications.{StandsPublished, placed_rows, stored_seat};
 ghost use Rattle.office_records.specs.Stands.{IsKept};
-ghost use Rattle.office_store.specs.Reading.{AreShareRowsOf, part_rows_in, published_in};
-ghost use Rattle.office_store.specs.Reading.{student_rows_in};
+ghost use Rattle.office_store.specs.OfficeRows.{AreShareRowsOf, part_rows_in, published_in};
+ghost use Rattle.office_store.specs.OfficeRows.{student_rows_in};
 ghost use Rattle.office_store.specs.Running.{IsAwake, IsStill};
 
 use crate::fault::Failed;
@@ -88,7 +88,8 @@ impl<S: Alter> Office<S> {
     fn seats(&mut self, alloc: Global) -> Result<Vec<SeatRow>, Failed>
         ensures rows { HasCleanDisk (state S.Store self.new) → (office : OfficeState)
             → IsKept (state S.Store self.new).now office
-            → IfOk result (λ rows. IsPermutation rows.items (map stored_seat (rows_now (published_in office)))) }
+            → IfOk result (λ rows. IsPermutation rows.items
+            (map stored_seat (rows_now (published_in office)))) }
         ensures still { HasCleanDisk (state S.Store self.new)
             → IsStill (state S.Store self.old) (state S.Store self.new) }
         ensures awake { HasCleanDisk (state S.Store self.new)

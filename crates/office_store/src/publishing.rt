@@ -6,8 +6,8 @@ ghost use Rattle.office_model.specs.Office.{OfficeState};
 ghost use Rattle.office_model.specs.Publishing.{draft_published};
 ghost use Rattle.office_records.specs.Publications.{StandsPublished};
 ghost use Rattle.office_records.specs.Stands.{IsKept};
+ghost use Rattle.office_store.specs.OfficeRows.{AreRowsOf, published_in};
 ghost use Rattle.office_store.specs.Publications.{StoredAddUp};
-ghost use Rattle.office_store.specs.Reading.{AreRowsOf, published_in};
 ghost use Rattle.office_store.specs.Running.{IsAwake, Now, Runs};
 
 use crate::fault::Failed;

@@ -4,7 +4,7 @@ ghost use Rattle.sqlite.specs.Held.{state};
 ghost use Rattle.sqlite.specs.State.{HasCleanDisk};
 ghost use Rattle.office_tables.specs.Alterations.{Changed, Undone};
 ghost use Rattle.office_tables.specs.Steps.{Changes, Within};
-ghost use Rattle.office_store.specs.Changes.{places_put, publication_put, shares_put};
+ghost use Rattle.office_store.specs.PublicationChanges.{places_put, publication_put, shares_put};
 ghost use Rattle.office_store.specs.NewPublications.{AreSmallShares};
 
 use crate::fault::Failed;

@@ -9,7 +9,7 @@ ghost use Rattle.office_records.specs.Memory.{memory_of};
 ghost use Rattle.office_model.specs.Commands.{draft_in, draft_shown, session_shown};
 ghost use Rattle.office_records.specs.Stands.{IsKept, slot_rows};
 ghost use Rattle.office_store.specs.Judging.{draft_judged, listed};
-ghost use Rattle.office_store.specs.Reading.{AreRowsOf, shown};
+ghost use Rattle.office_store.specs.OfficeRows.{AreRowsOf, shown};
 ghost use Rattle.office_store.specs.Running.{Does, IsAwake, IsStill, Now, Runs};
 
 use crate::fault::Failed;
@@ -55,7 +55,8 @@ impl<S: Alter> Office<S> {
         // What is at hand is then what the file says.
         ensures awake { HasCleanDisk (state S.Store self.new)
             → OnOk result (IsAwake (state S.Store self.new)) }
-        ensures clean { HasCleanDisk (state S.Store self.new) → HasCleanDisk (state S.Store self.old) }
+        ensures clean { HasCleanDisk (state S.Store self.new)
+            → HasCleanDisk (state S.Store self.old) }
     {
         let found = self.draft_rows(alloc, number)?;
         let Some((instance, enrolments)) = &self.kept else {
@@ -68,7 +69,8 @@ impl<S: Alter> Office<S> {
     /// number.
     pub fn breaches(&mut self, alloc: Global, number: u32) -> Result<Vec<Breach>, StoreFault>
         ensures runs { Runs S.Store (draft_judged number) self.old self.new (listed result) }
-        ensures clean { HasCleanDisk (state S.Store self.new) → HasCleanDisk (state S.Store self.old) }
+        ensures clean { HasCleanDisk (state S.Store self.new)
+            → HasCleanDisk (state S.Store self.old) }
     {
         let rows = self.draft_rows(alloc, number)?;
         let Some((instance, enrolments)) = &self.kept else {
@@ -86,7 +88,8 @@ impl<S: Alter> Office<S> {
             → Now (state S.Store self.old) office → Now (state S.Store self.new) office }
         ensures awake { HasCleanDisk (state S.Store self.new)
             → OnOk result (IsAwake (state S.Store self.new)) }
-        ensures clean { HasCleanDisk (state S.Store self.new) → HasCleanDisk (state S.Store self.old) }
+        ensures clean { HasCleanDisk (state S.Store self.new)
+            → HasCleanDisk (state S.Store self.old) }
     {
         let rows = self.drafts(alloc, number)?;
         let slots = self.slots(alloc, number)?;
@@ -103,7 +106,8 @@ impl<S: Alter> Office<S> {
             → IsStill (state S.Store self.old) (state S.Store self.new) }
         ensures awake { HasCleanDisk (state S.Store self.new)
             → OnOk result (IsAwake (state S.Store self.new)) }
-        ensures clean { HasCleanDisk (state S.Store self.new) → HasCleanDisk (state S.Store self.old) }
+        ensures clean { HasCleanDisk (state S.Store self.new)
+            → HasCleanDisk (state S.Store self.old) }
     {
         let _at_rest = self.conn.is_autocommit(); // read for what it says of the last commit
         let rows = slots_of(alloc, &mut self.conn, number)?;

@@ -4,8 +4,9 @@ ghost use Rattle.sqlite.specs.Held.{state};
 ghost use Rattle.sqlite.specs.State.{HasCleanDisk};
 ghost use Rattle.office_tables.specs.Alterations.{Changed, Undone};
 ghost use Rattle.office_tables.specs.Schema.{no_schema, IsBlank};
-ghost use Rattle.office_tables.specs.Tables.{Stands, empty_tables};
-ghost use Rattle.office_store.specs.Turning.{Turned};
+ghost use Rattle.office_tables.specs.Standing.{Stands};
+ghost use Rattle.office_tables.specs.Tables.{empty_tables};
+ghost use Rattle.office_store.specs.Transactions.{Turned};
 
 use crate::fault::Failed;
 use office_tables::{Alteration, create_tables, transact};

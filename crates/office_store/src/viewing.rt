@@ -8,14 +8,15 @@ ghost use Rattle.exam_score.specs.Penalty.{personal_total};
 ghost use Rattle.office_model.specs.Office.{AreRecords, OfficeState, Records};
 ghost use Rattle.office_model.specs.Publishing.{rows_now};
 ghost use Rattle.office_model.specs.ViewRows.{places_in};
-ghost use Rattle.office_model.specs.Views.{no_view, shown_to, view_of};
+ghost use Rattle.office_model.specs.Shown.{shown_to};
+ghost use Rattle.office_model.specs.Views.{no_view, view_of};
 ghost use Rattle.office_records.specs.Publications.{stored_seat};
 ghost use Rattle.office_records.specs.Stands.{IsKept};
-ghost use Rattle.office_store.specs.Reading.{published_in, student_rows_in};
+ghost use Rattle.office_store.specs.OfficeRows.{published_in, student_rows_in};
 ghost use Rattle.office_store.specs.Running.{IsAwake, IsStill, ReadsOffice, Tells};
 ghost use Rattle.office_store.specs.Viewing.{AreHerRows, exams_in, no_share, place_in_row};
 ghost use Rattle.office_store.specs.Viewing.{share_in_row};
-ghost use Rattle.office_tables.specs.declared.rows.StudentShareRow.{StudentShareRow as ShareRow};
+ghost use Rattle.office_tables.specs.declared.share_student.StudentShareRow.{StudentShareRow as ShareRow};
 
 use crate::fault::Failed;
 use crate::office::Office;
@@ -47,8 +48,8 @@ impl<S: Alter> Office<S> {
         alloc: Global,
         student: StudentNo,
     ) -> Result<CandidateView, StoreFault>
-        ensures reads { ReadsOffice S.Store (λ o. shown_to student (view_of student o)) self.old self.new
-            result }
+        ensures reads { ReadsOffice S.Store (λ o. shown_to student (view_of student o))
+            self.old self.new result }
         ensures clean { HasCleanDisk (state S.Store self.new)
             → HasCleanDisk (state S.Store self.old) }
     {
@@ -211,8 +212,8 @@ fn place_in(row: &PlacedRow) -> (ExamNo, Place)
 // no share has.
 fn personal_in(rows: &[StudentShareRow]) -> Result<PersonalParts, StoreFault>
     ensures none { rows.now ≡ [] → result ≡ Ok no_share }
-    ensures one { (row : ShareRow) → rows.now ≡ row ∷ [] → personal_total (share_in_row row) < 2 ^ 62
-        → result ≡ Ok (share_in_row row) }
+    ensures one { (row : ShareRow) → rows.now ≡ row ∷ []
+        → personal_total (share_in_row row) < 2 ^ 62 → result ≡ Ok (share_in_row row) }
 {
     match share_in(rows) {
         Some(share) => Ok(share),
@@ -222,8 +223,8 @@ fn personal_in(rows: &[StudentShareRow]) -> Result<PersonalParts, StoreFault>
 
 fn share_in(rows: &[StudentShareRow]) -> Option<PersonalParts>
     ensures none { rows.now ≡ [] → result ≡ Some no_share }
-    ensures one { (row : ShareRow) → rows.now ≡ row ∷ [] → personal_total (share_in_row row) < 2 ^ 62
-        → result ≡ Some (share_in_row row) }
+    ensures one { (row : ShareRow) → rows.now ≡ row ∷ []
+        → personal_total (share_in_row row) < 2 ^ 62 → result ≡ Some (share_in_row row) }
 {
     match rows {
         [] => PersonalParts::new(0, 0, 0),

@@ -5,25 +5,34 @@ use Rattle.std.specs.declared.alloc.Global.{Global}
 use Rattle.sqlite.specs.Effect.{Database, IsDatabase}
 use Rattle.sqlite.specs.State.{State, HasCleanDisk, IsUnchanged}
 use Rattle.sqlite.proofs.StateLemmas.{survives_then}
-use Rattle.office_tables.specs.Adopting.{IsFoundSession, IsFoundDrafts, IsFoundPublication, IsFoundBatches, IsAdopted, IsSession, IsDrafts, HasAllOfPublication, IsWhole}
+use Rattle.office_tables.specs.Adopting.{IsFoundSession, IsFoundDrafts, IsFoundPublication, IsAdopted, IsSession, IsDrafts, HasAllOfPublication, IsWhole}
+use Rattle.office_tables.specs.Batch.{IsFoundBatches}
 use Rattle.office_tables.specs.declared.found.Found.{Found}
 use Rattle.office_tables.specs.declared.found.FoundDrafts.{FoundDrafts}
 use Rattle.office_tables.specs.declared.found.FoundPublication.{FoundPublication}
 use Rattle.office_tables.specs.declared.found.FoundSession.{FoundSession}
-use Rattle.office_tables.specs.declared.rows.BatchCountsRow.{BatchCountsRow}
-use Rattle.office_tables.specs.declared.rows.MetaRow.{MetaRow}
-use Rattle.office_tables.specs.declared.rows.OwnerRow.{OwnerRow}
-use Rattle.office_tables.specs.declared.rows.EnrolRow.{EnrolRow}
-use Rattle.office_tables.specs.declared.rows.DraftRow.{DraftRow}
-use Rattle.office_tables.specs.declared.rows.SlotRow.{SlotRow}
-use Rattle.office_tables.specs.declared.rows.PlacedRow.{PlacedRow}
-use Rattle.office_tables.specs.declared.rows.SeatRow.{SeatRow}
-use Rattle.office_tables.specs.declared.rows.StudentShareRow.{StudentShareRow}
-use Rattle.office_tables.specs.declared.rows.PartShareRow.{PartShareRow}
-use Rattle.office_tables.specs.Readings.{IsFound, IsFoundMeta, HasTables, Looks}
-use Rattle.office_tables.specs.Records.{FitsOwner, FitsEnrol, FitsDraft, FitsSlot, FitsPlacement, FitsSeat, FitsStudentShare, FitsPartShare}
+use Rattle.office_tables.specs.declared.batch.BatchCountsRow.{BatchCountsRow}
+use Rattle.office_tables.specs.declared.meta.MetaRow.{MetaRow}
+use Rattle.office_tables.specs.declared.owner.OwnerRow.{OwnerRow}
+use Rattle.office_tables.specs.declared.enrol.EnrolRow.{EnrolRow}
+use Rattle.office_tables.specs.declared.draft.DraftRow.{DraftRow}
+use Rattle.office_tables.specs.declared.slot.SlotRow.{SlotRow}
+use Rattle.office_tables.specs.declared.placed.PlacedRow.{PlacedRow}
+use Rattle.office_tables.specs.declared.seat.SeatRow.{SeatRow}
+use Rattle.office_tables.specs.declared.share_student.StudentShareRow.{StudentShareRow}
+use Rattle.office_tables.specs.declared.share_part.PartShareRow.{PartShareRow}
+use Rattle.office_tables.specs.Readings.{IsFound, HasTables, Looks}
+use Rattle.office_tables.specs.Meta.{IsFoundMeta, meta_columns}
+use Rattle.office_tables.specs.Owner.{FitsOwner, owner_columns}
+use Rattle.office_tables.specs.Enrol.{FitsEnrol, enrol_columns}
+use Rattle.office_tables.specs.Draft.{FitsDraft, draft_columns}
+use Rattle.office_tables.specs.Slot.{FitsSlot, slot_columns}
+use Rattle.office_tables.specs.Placed.{FitsPlacement, placed_columns}
+use Rattle.office_tables.specs.Seat.{FitsSeat, seat_columns}
+use Rattle.office_tables.specs.ShareStudent.{FitsStudentShare, share_student_columns}
+use Rattle.office_tables.specs.SharePart.{FitsPartShare, share_part_columns}
 use Rattle.office_schema.specs.Schema.{office_schema}
-use Rattle.office_tables.specs.Tables.{Holds, keyed, keyless, meta_columns, owner_columns, enrol_columns, draft_columns, slot_columns, placed_columns, seat_columns, share_student_columns, share_part_columns}
+use Rattle.office_tables.specs.Stored.{Holds, keyed, keyless}
 use Rattle.office_tables.proofs.Reading.{keeps_after}
 
 -- ---- readers in a row

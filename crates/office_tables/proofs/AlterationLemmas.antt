@@ -3,17 +3,23 @@ use Rattle.std.proofs.Common.{◌≡◌, List, [], ◌∷◌, ◌++◌, map, rev
 use Rattle.std.specs.List.{list_any}
 use Rattle.std.proofs.lemmas.List.{reverse-append}
 use Rattle.office_tables.specs.Alterations.{after_all}
-use Rattle.office_tables.specs.Changes.{with_draft, with_enrol, with_enrols, with_placement, with_seat, without_student_seats, with_slot, with_slots, with_student_share, without_student_share, with_part_share}
+use Rattle.office_tables.specs.Draft.{with_draft}
+use Rattle.office_tables.specs.Enrol.{with_enrol, with_enrols}
+use Rattle.office_tables.specs.Placed.{with_placement}
+use Rattle.office_tables.specs.Seat.{with_seat, without_student_seats}
+use Rattle.office_tables.specs.SharePart.{with_part_share}
+use Rattle.office_tables.specs.ShareStudent.{with_student_share, without_student_share}
+use Rattle.office_tables.specs.Slot.{with_slot, with_slots}
 use Rattle.office_tables.specs.Tables.{Tables}
-use Rattle.office_tables.specs.declared.drafts.InsertDraft.{InsertDraft}
-use Rattle.office_tables.specs.declared.enrolments.InsertEnrol.{InsertEnrol}
-use Rattle.office_tables.specs.declared.placing.InsertPlacement.{InsertPlacement}
-use Rattle.office_tables.specs.declared.seating.DeleteStudentSeats.{DeleteStudentSeats}
-use Rattle.office_tables.specs.declared.seating.InsertSeat.{InsertSeat}
-use Rattle.office_tables.specs.declared.sharing.DeleteStudentShare.{DeleteStudentShare}
-use Rattle.office_tables.specs.declared.sharing.InsertPartShare.{InsertPartShare}
-use Rattle.office_tables.specs.declared.sharing.InsertStudentShare.{InsertStudentShare}
-use Rattle.office_tables.specs.declared.slots.InsertSlot.{InsertSlot}
+use Rattle.office_tables.specs.declared.draft.InsertDraft.{InsertDraft}
+use Rattle.office_tables.specs.declared.enrol.InsertEnrol.{InsertEnrol}
+use Rattle.office_tables.specs.declared.placed.InsertPlacement.{InsertPlacement}
+use Rattle.office_tables.specs.declared.seat.DeleteStudentSeats.{DeleteStudentSeats}
+use Rattle.office_tables.specs.declared.seat.InsertSeat.{InsertSeat}
+use Rattle.office_tables.specs.declared.share_part.InsertPartShare.{InsertPartShare}
+use Rattle.office_tables.specs.declared.share_student.DeleteStudentShare.{DeleteStudentShare}
+use Rattle.office_tables.specs.declared.share_student.InsertStudentShare.{InsertStudentShare}
+use Rattle.office_tables.specs.declared.slot.InsertSlot.{InsertSlot}
 
 -- a row that comes before others comes last of their reverse
 first_last : {X : Type 0} (x : X) (xs ys : List X)

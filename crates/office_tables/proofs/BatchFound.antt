@@ -14,11 +14,11 @@ use Rattle.sqlite_value.specs.declared.value.Value.TheVariants.{Null, Int, Real,
 use Rattle.sqlite_value.specs.Order.{Row, column}
 use Rattle.sqlite.specs.Effect.{Database, IsDatabase}
 use Rattle.office_schema.specs.Schema.{office_schema, int, blob, batch_table}
-use Rattle.office_tables.specs.Adopting.{IsFoundBatches}
+use Rattle.office_tables.specs.Batch.{IsFoundBatches, counts_of, counts_columns, FitsCounts}
 use Rattle.office_tables.specs.Readings.{IsFound}
-use Rattle.office_tables.specs.Records.{counts_of, counts_columns, FitsCounts}
-use Rattle.office_tables.specs.Tables.{keyed, batch_columns}
-use Rattle.office_tables.specs.declared.rows.BatchCountsRow.{BatchCountsRow}
+use Rattle.office_tables.specs.Stored.{keyed}
+use Rattle.office_tables.specs.Batch.{batch_columns}
+use Rattle.office_tables.specs.declared.batch.BatchCountsRow.{BatchCountsRow}
 use Rattle.office_tables.proofs.AskLemmas.{unmapped}
 use Rattle.office_tables.proofs.ListTexts.{counts_shown}
 use Rattle.office_tables.proofs.Queries.{column_later, id_map, map_agree}

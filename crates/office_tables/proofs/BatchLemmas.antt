@@ -12,7 +12,10 @@ use Rattle.sqlite.specs.Term.{Term, lit, col}
 use Rattle.sqlite.proofs.Callers.{IsPlain, command_of}
 use Rattle.sqlite_tied.specs.Compute.{everything}
 use Rattle.office_schema.specs.Schema.{office_schema, batch_table}
-use Rattle.office_tables.specs.Tables.{Tables, Stands, Batch, keyed, batch_columns}
+use Rattle.office_tables.specs.Tables.{Tables, Batch}
+use Rattle.office_tables.specs.Standing.{Stands}
+use Rattle.office_tables.specs.Stored.{keyed}
+use Rattle.office_tables.specs.Batch.{batch_columns}
 use Rattle.office_tables.proofs.Casts.{cast_int, cast_null}
 use Rattle.office_tables.proofs.Frames.{batch_changed}
 use Rattle.office_tables.proofs.Statements.{inserts}

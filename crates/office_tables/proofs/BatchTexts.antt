@@ -17,10 +17,13 @@ use Rattle.sqlite.proofs.Callers.{one_permutation}
 use Rattle.sqlite_tied.specs.Compute.{everything}
 use Rattle.office_schema.specs.Schema.{office_schema}
 use Rattle.office_tables.specs.Asking.{asks, IsReadOf, Means}
-use Rattle.office_tables.specs.Records.{batch_from, number_columns}
+use Rattle.office_tables.specs.Batch.{batch_from, batch_columns}
+use Rattle.office_tables.specs.Records.{number_columns}
 use Rattle.office_tables.specs.Selections.{NumbersRise}
-use Rattle.office_tables.specs.Tables.{Tables, Stands, Batch, keyed, batch_columns}
-use Rattle.office_tables.specs.declared.rows.BatchRow.{BatchRow}
+use Rattle.office_tables.specs.Tables.{Tables, Batch}
+use Rattle.office_tables.specs.Standing.{Stands}
+use Rattle.office_tables.specs.Stored.{keyed}
+use Rattle.office_tables.specs.declared.batch.BatchRow.{BatchRow}
 use Rattle.office_tables.proofs.OrderLemmas.{Rises, numbers_cmp, read, rising, table_shown, typed}
 use Rattle.office_tables.proofs.Queries.{column_later, equal_numbers, equals, every, matched, passes}
 use Rattle.office_tables.proofs.RecordsBack.{batch_of, number}

@@ -11,9 +11,12 @@ use Rattle.sqlite.specs.State.{State, Executes}
 use Rattle.sqlite.specs.Term.{Term, lit, col}
 use Rattle.sqlite.proofs.Callers.{IsPlain, command_of}
 use Rattle.sqlite_tied.specs.Compute.{everything}
-use Rattle.office_tables.specs.declared.rows.DraftRow.{DraftRow}
+use Rattle.office_tables.specs.declared.draft.DraftRow.{DraftRow}
 use Rattle.office_schema.specs.Schema.{office_schema, draft_table}
-use Rattle.office_tables.specs.Tables.{Tables, Stands, keyed, draft_columns}
+use Rattle.office_tables.specs.Tables.{Tables}
+use Rattle.office_tables.specs.Standing.{Stands}
+use Rattle.office_tables.specs.Stored.{keyed}
+use Rattle.office_tables.specs.Draft.{draft_columns}
 use Rattle.office_tables.proofs.Casts.{cast_int, cast_null}
 use Rattle.office_tables.proofs.Frames.{draft_changed, holds_none}
 use Rattle.office_tables.proofs.Statements.{inserts, deletes}

@@ -11,9 +11,12 @@ use Rattle.sqlite.specs.State.{State, Executes}
 use Rattle.sqlite.specs.Term.{Term, lit, col}
 use Rattle.sqlite.proofs.Callers.{IsPlain, command_of}
 use Rattle.sqlite_tied.specs.Compute.{everything}
-use Rattle.office_tables.specs.declared.rows.EnrolRow.{EnrolRow}
+use Rattle.office_tables.specs.declared.enrol.EnrolRow.{EnrolRow}
 use Rattle.office_schema.specs.Schema.{office_schema, enrol_table}
-use Rattle.office_tables.specs.Tables.{Tables, Stands, keyless, enrol_columns}
+use Rattle.office_tables.specs.Tables.{Tables}
+use Rattle.office_tables.specs.Standing.{Stands}
+use Rattle.office_tables.specs.Stored.{keyless}
+use Rattle.office_tables.specs.Enrol.{enrol_columns}
 use Rattle.office_tables.proofs.Casts.{cast_int, cast_null}
 use Rattle.office_tables.proofs.Frames.{enrol_changed}
 use Rattle.office_tables.proofs.Statements.{inserts, deletes}

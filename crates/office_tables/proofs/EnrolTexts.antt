@@ -17,10 +17,12 @@ use Rattle.sqlite_tied.specs.Compute.{everything}
 use Rattle.office_schema.specs.Schema.{office_schema}
 use Rattle.office_tables.specs.Asking.{asks, IsReadOf, Means}
 use Rattle.office_tables.specs.Readings.{IsReadAnswer}
-use Rattle.office_tables.specs.Records.{FitsEnrol}
-use Rattle.office_tables.specs.Selections.{HerEnrolsRise, IsInOrder}
-use Rattle.office_tables.specs.declared.rows.EnrolRow.{EnrolRow}
-use Rattle.office_tables.specs.Tables.{Tables, Stands, keyless, enrol_columns}
+use Rattle.office_tables.specs.Enrol.{FitsEnrol, HerEnrolsRise, enrol_columns}
+use Rattle.office_tables.specs.Selections.{IsInOrder}
+use Rattle.office_tables.specs.declared.enrol.EnrolRow.{EnrolRow}
+use Rattle.office_tables.specs.Tables.{Tables}
+use Rattle.office_tables.specs.Standing.{Stands}
+use Rattle.office_tables.specs.Stored.{keyless}
 use Rattle.office_tables.proofs.OrderLemmas.{Rises, columns_shown, in_this_order, one_less, read, rising, table_shown}
 use Rattle.office_tables.proofs.Queries.{column_less, equal_numbers, equals, passes}
 use Rattle.office_tables.proofs.RecordsBack.{enrol_of}

@@ -7,7 +7,8 @@ use Rattle.sqlite.specs.State.{State, HasCleanDisk, Executes, ExecutesInside, Ke
 use Rattle.std.proofs.lemmas.Result.{on_ok_weaker}
 use Rattle.sqlite.proofs.StateLemmas.{survives_then}
 use Rattle.office_tables.specs.Alterations.{after_all}
-use Rattle.office_tables.specs.Tables.{Tables, Stands}
+use Rattle.office_tables.specs.Tables.{Tables}
+use Rattle.office_tables.specs.Standing.{Stands}
 use Rattle.office_tables.specs.Steps.{Within, HasRun, Makes}
 
 -- what answers `Ok` was inside

@@ -16,10 +16,13 @@ use Rattle.sqlite.specs.Term.{Term, col, op2, eval_all, holds}
 use Rattle.sqlite_tied.specs.Compute.{everything}
 use Rattle.office_schema.specs.Schema.{office_schema}
 use Rattle.office_tables.specs.Asking.{asks, IsReadOf, Means}
-use Rattle.office_tables.specs.declared.rows.EnrolRow.{EnrolRow}
-use Rattle.office_tables.specs.declared.rows.PlacedRow.{PlacedRow}
-use Rattle.office_tables.specs.Selections.{placed_of}
-use Rattle.office_tables.specs.Tables.{Tables, Stands, keyed, keyless, enrol_columns, placed_columns}
+use Rattle.office_tables.specs.declared.enrol.EnrolRow.{EnrolRow}
+use Rattle.office_tables.specs.declared.placed.PlacedRow.{PlacedRow}
+use Rattle.office_tables.specs.Placed.{placed_of, placed_columns}
+use Rattle.office_tables.specs.Tables.{Tables}
+use Rattle.office_tables.specs.Standing.{Stands}
+use Rattle.office_tables.specs.Stored.{keyed, keyless}
+use Rattle.office_tables.specs.Enrol.{enrol_columns}
 use Rattle.office_tables.proofs.OrderLemmas.{Rises, read, rising}
 use Rattle.office_tables.proofs.Queries.{column_less, column_later, equal_pairs, equals, map_agree}
 use Rattle.office_tables.proofs.RecordsBack.{placement_of}

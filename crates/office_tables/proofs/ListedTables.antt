@@ -20,7 +20,7 @@ use Rattle.office_tables.specs.Readings.{IsRead, IsFound, ColumnRises, one_table
 use Rattle.office_tables.specs.Records.{columns_from}
 use Rattle.office_schema.specs.Schema.{office_schema}
 use Rattle.office_tables.specs.Steps.{Keeps}
-use Rattle.office_tables.specs.Tables.{HasRowids}
+use Rattle.office_tables.specs.Stored.{HasRowids}
 use Rattle.office_tables.proofs.AskLemmas.{arranged, command_is, overlay_none}
 use Rattle.office_tables.proofs.Queries.{every, matched, passes}
 use Rattle.office_tables.proofs.Reading.{kept_failed, kept_unchanged, shown_same}

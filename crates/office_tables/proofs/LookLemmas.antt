@@ -8,7 +8,8 @@ use Rattle.sqlite.specs.State.{State, Shown, ShowsRows}
 use Rattle.sqlite.proofs.Callers.{IsPlain}
 use Rattle.sqlite_tied.specs.Compute.{everything}
 use Rattle.office_schema.specs.Schema.{office_schema}
-use Rattle.office_tables.specs.Tables.{Tables, Stands}
+use Rattle.office_tables.specs.Standing.{Stands}
+use Rattle.office_tables.specs.Tables.{Tables}
 
 open_rows : (old new : State) (sql : List ℕ) (c : Compiled) (params : Row) (rows : List Row) (r : Option Returning)
     → ShowsRows old new sql c params rows r → IsTrue old.is_open

@@ -7,11 +7,12 @@ use Rattle.sqlite_trees.specs.View.{is_int}
 use Rattle.sqlite_trees.proofs.ListLemmas.{all_from_map, all-map, all_of, all-permutation}
 use Rattle.sqlite_value.specs.Order.{Row}
 use Rattle.sqlite.specs.Effect.{Database, IsDatabase}
-use Rattle.office_tables.specs.declared.rows.MetaRow.{MetaRow}
-use Rattle.office_tables.specs.Readings.{IsReadMeta, IsFoundMeta, listed}
-use Rattle.office_tables.specs.Records.{meta_from}
+use Rattle.office_tables.specs.declared.meta.MetaRow.{MetaRow}
+use Rattle.office_tables.specs.Meta.{IsReadMeta, IsFoundMeta, meta_from, meta_columns}
+use Rattle.office_tables.specs.Readings.{listed}
 use Rattle.office_schema.specs.Schema.{office_schema}
-use Rattle.office_tables.specs.Tables.{Meta, HasRowids, Holds, keyed, meta_columns}
+use Rattle.office_tables.specs.Tables.{Meta}
+use Rattle.office_tables.specs.Stored.{HasRowids, Holds, keyed}
 use Rattle.office_tables.proofs.ListedTables.{same_map}
 use Rattle.office_tables.proofs.ListTexts.{meta_terms, meta_whole}
 use Rattle.office_tables.proofs.WholeRows.{dropped}

@@ -14,7 +14,10 @@ use Rattle.sqlite.proofs.Callers.{IsPlain, command_of}
 use Rattle.sqlite_tied.specs.Compute.{everything}
 use Rattle.office_schema.specs.Schema.{office_schema, meta_table}
 use Rattle.office_tables.specs.Schema.{IsBlank}
-use Rattle.office_tables.specs.Tables.{Tables, Stands, Meta, empty_tables, flag, keyed, keyless, meta_columns}
+use Rattle.office_tables.specs.Tables.{Tables, Meta, empty_tables}
+use Rattle.office_tables.specs.Standing.{Stands}
+use Rattle.office_tables.specs.Meta.{flag, meta_columns}
+use Rattle.office_tables.specs.Stored.{keyed, keyless}
 use Rattle.office_tables.proofs.Casts.{cast_int, cast_null}
 use Rattle.office_tables.proofs.Frames.{meta_changed, holds_none}
 use Rattle.office_tables.proofs.Statements.{inserts, deletes}

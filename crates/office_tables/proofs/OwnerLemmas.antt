@@ -11,9 +11,12 @@ use Rattle.sqlite.specs.State.{State, Executes}
 use Rattle.sqlite.specs.Term.{Term, lit, col}
 use Rattle.sqlite.proofs.Callers.{IsPlain, command_of}
 use Rattle.sqlite_tied.specs.Compute.{everything}
-use Rattle.office_tables.specs.declared.rows.OwnerRow.{OwnerRow}
+use Rattle.office_tables.specs.declared.owner.OwnerRow.{OwnerRow}
 use Rattle.office_schema.specs.Schema.{office_schema, owner_table}
-use Rattle.office_tables.specs.Tables.{Tables, Stands, keyed, owner_columns}
+use Rattle.office_tables.specs.Tables.{Tables}
+use Rattle.office_tables.specs.Standing.{Stands}
+use Rattle.office_tables.specs.Stored.{keyed}
+use Rattle.office_tables.specs.Owner.{owner_columns}
 use Rattle.office_tables.proofs.Casts.{cast_int, cast_null}
 use Rattle.office_tables.proofs.Frames.{owner_changed}
 use Rattle.office_tables.proofs.Statements.{inserts, deletes}

@@ -9,8 +9,11 @@ use Rattle.sqlite.specs.Term.{Term, col}
 use Rattle.sqlite_tied.specs.Compute.{everything}
 use Rattle.office_schema.specs.Schema.{office_schema}
 use Rattle.office_tables.specs.Asking.{asks, IsReadOf, Means}
-use Rattle.office_tables.specs.declared.rows.OwnerRow.{OwnerRow}
-use Rattle.office_tables.specs.Tables.{Tables, Stands, keyed, owner_columns}
+use Rattle.office_tables.specs.declared.owner.OwnerRow.{OwnerRow}
+use Rattle.office_tables.specs.Tables.{Tables}
+use Rattle.office_tables.specs.Standing.{Stands}
+use Rattle.office_tables.specs.Stored.{keyed}
+use Rattle.office_tables.specs.Owner.{owner_columns}
 use Rattle.office_tables.proofs.OrderLemmas.{read, rising, table_shown}
 use Rattle.office_tables.proofs.Queries.{column_later, equal_numbers, equals, passes}
 use Rattle.office_tables.proofs.RecordsBack.{owner_of}

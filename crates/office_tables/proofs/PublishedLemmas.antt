@@ -15,10 +15,14 @@ use Rattle.sqlite.specs.State.{State, Executes}
 use Rattle.sqlite.specs.Term.{Term, lit, col}
 use Rattle.sqlite.proofs.Callers.{IsPlain, command_of}
 use Rattle.sqlite_tied.specs.Compute.{everything}
-use Rattle.office_tables.specs.declared.rows.PlacedRow.{PlacedRow}
-use Rattle.office_tables.specs.declared.rows.SeatRow.{SeatRow}
+use Rattle.office_tables.specs.declared.placed.PlacedRow.{PlacedRow}
+use Rattle.office_tables.specs.declared.seat.SeatRow.{SeatRow}
 use Rattle.office_schema.specs.Schema.{office_schema, placed_table, seat_table}
-use Rattle.office_tables.specs.Tables.{Tables, Stands, keyed, keyless, placed_columns, seat_columns}
+use Rattle.office_tables.specs.Tables.{Tables}
+use Rattle.office_tables.specs.Standing.{Stands}
+use Rattle.office_tables.specs.Stored.{keyed, keyless}
+use Rattle.office_tables.specs.Placed.{placed_columns}
+use Rattle.office_tables.specs.Seat.{seat_columns}
 use Rattle.office_tables.proofs.Casts.{cast_int, cast_null}
 use Rattle.office_tables.proofs.Frames.{holds_none, placed_changed, seat_changed}
 use Rattle.office_tables.proofs.Statements.{inserts, deletes}

@@ -19,7 +19,7 @@ use Rattle.sqlite_rules.proofs.ListLemmas.{all_has, all_from, some_has, some_fro
 use Rattle.sqlite_rules.proofs.TableLemmas.{int_is}
 use Rattle.sqlite_rules.proofs.ProbeLemmas.{mapped_has}
 use Rattle.std.proofs.lemmas.Int.{ints}
-use Rattle.office_tables.specs.Tables.{HasRowids}
+use Rattle.office_tables.specs.Stored.{HasRowids}
 pub use Rattle.office_tables.specs.Readings.{one_table}
 use Rattle.office_tables.proofs.TableLemmas.{rowid_once}
 use Rattle.sqlite_value.specs.declared.keys.Collation.TheVariants.{Binary}

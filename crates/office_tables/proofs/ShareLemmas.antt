@@ -11,10 +11,14 @@ use Rattle.sqlite.specs.State.{State, Executes}
 use Rattle.sqlite.specs.Term.{Term, lit, col}
 use Rattle.sqlite.proofs.Callers.{IsPlain, command_of}
 use Rattle.sqlite_tied.specs.Compute.{everything}
-use Rattle.office_tables.specs.declared.rows.StudentShareRow.{StudentShareRow}
-use Rattle.office_tables.specs.declared.rows.PartShareRow.{PartShareRow}
+use Rattle.office_tables.specs.declared.share_student.StudentShareRow.{StudentShareRow}
+use Rattle.office_tables.specs.declared.share_part.PartShareRow.{PartShareRow}
 use Rattle.office_schema.specs.Schema.{office_schema, share_student_table, share_part_table}
-use Rattle.office_tables.specs.Tables.{Tables, Stands, keyed, keyless, share_student_columns, share_part_columns}
+use Rattle.office_tables.specs.Tables.{Tables}
+use Rattle.office_tables.specs.Standing.{Stands}
+use Rattle.office_tables.specs.Stored.{keyed, keyless}
+use Rattle.office_tables.specs.ShareStudent.{share_student_columns}
+use Rattle.office_tables.specs.SharePart.{share_part_columns}
 use Rattle.office_tables.proofs.Casts.{cast_int, cast_null}
 use Rattle.office_tables.proofs.Frames.{holds_none, share_student_changed, share_part_changed}
 use Rattle.office_tables.proofs.Statements.{inserts, deletes}

@@ -9,9 +9,13 @@ use Rattle.sqlite.specs.Term.{Term, col, eval_all}
 use Rattle.sqlite_tied.specs.Compute.{everything}
 use Rattle.office_schema.specs.Schema.{office_schema}
 use Rattle.office_tables.specs.Asking.{asks, IsReadOf, Means}
-use Rattle.office_tables.specs.declared.rows.StudentShareRow.{StudentShareRow}
-use Rattle.office_tables.specs.declared.rows.PartShareRow.{PartShareRow}
-use Rattle.office_tables.specs.Tables.{Tables, Stands, keyed, keyless, share_student_columns, share_part_columns}
+use Rattle.office_tables.specs.declared.share_student.StudentShareRow.{StudentShareRow}
+use Rattle.office_tables.specs.declared.share_part.PartShareRow.{PartShareRow}
+use Rattle.office_tables.specs.Tables.{Tables}
+use Rattle.office_tables.specs.Standing.{Stands}
+use Rattle.office_tables.specs.Stored.{keyed, keyless}
+use Rattle.office_tables.specs.ShareStudent.{share_student_columns}
+use Rattle.office_tables.specs.SharePart.{share_part_columns}
 use Rattle.office_tables.proofs.OrderLemmas.{Rises, read, rising, table_shown}
 use Rattle.office_tables.proofs.Queries.{column_less, column_later, equal_numbers, equals, every, passes}
 use Rattle.office_tables.proofs.RecordsBack.{student_share_of, part_share_of}

@@ -10,7 +10,7 @@ use Rattle.sqlite_trees.specs.Tree.{IsAscending, rowid, put_row}
 use Rattle.sqlite_trees.specs.View.{is_int}
 use Rattle.sqlite_trees.proofs.ListLemmas.{along_permutation, all-permutation, all-filter, all-map, all_of, ascending-filter, ascending-map, ascending_from_map, ascending_weaker}
 use Rattle.sqlite_rules.specs.Edit.{is_taken, are_fresh}
-use Rattle.office_tables.specs.Tables.{HasRowids, Holds, keyed}
+use Rattle.office_tables.specs.Stored.{HasRowids, Holds, keyed}
 use Rattle.std.proofs.lemmas.Bool.{and_parts, not-true}
 use Rattle.std.proofs.lemmas.Cmp.{tied_itself}
 use Rattle.sqlite_value.specs.declared.value.Value.{Value}

@@ -6,8 +6,9 @@ use Rattle.sqlite.specs.Held.{Held, state}
 use Rattle.sqlite.specs.State.{HasCleanDisk, Survives, Shows, KeepsCounts}
 use Rattle.sqlite.specs.Store.{Ghosts}
 use Rattle.office_tables.specs.Alterations.{Changed}
+use Rattle.office_tables.specs.Standing.{Stands}
 use Rattle.office_tables.specs.Steps.{Within, Makes}
-use Rattle.office_tables.specs.Tables.{Tables, Stands}
+use Rattle.office_tables.specs.Tables.{Tables}
 
 module _ {S : Type 0} (g : Ghosts S) (old begun last end : Held S)
     (begins : begun ≡ record old { in_transaction = true })

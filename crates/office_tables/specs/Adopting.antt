@@ -7,18 +7,29 @@ use Rattle.office_tables.specs.declared.found.Found.{Found}
 use Rattle.office_tables.specs.declared.found.FoundDrafts.{FoundDrafts}
 use Rattle.office_tables.specs.declared.found.FoundPublication.{FoundPublication}
 use Rattle.office_tables.specs.declared.found.FoundSession.{FoundSession}
-use Rattle.office_tables.specs.declared.rows.BatchCountsRow.{BatchCountsRow}
-use Rattle.office_tables.specs.declared.rows.PlacedRow.{PlacedRow}
-use Rattle.office_tables.specs.declared.rows.SeatRow.{SeatRow}
-use Rattle.office_tables.specs.declared.rows.StudentShareRow.{StudentShareRow}
-use Rattle.office_tables.specs.declared.rows.PartShareRow.{PartShareRow}
-use Rattle.office_tables.specs.declared.rows.OwnerRow.{OwnerRow}
-use Rattle.office_tables.specs.declared.rows.EnrolRow.{EnrolRow}
-use Rattle.office_tables.specs.declared.rows.DraftRow.{DraftRow}
-use Rattle.office_tables.specs.declared.rows.SlotRow.{SlotRow}
-use Rattle.office_tables.specs.declared.rows.MetaRow.{MetaRow}
-use Rattle.office_tables.specs.Records.{counts_of, meta_from, FitsOwner, FitsEnrol, FitsDraft, FitsSlot, FitsPlacement, FitsSeat, FitsStudentShare, FitsPartShare, FitsBatch}
-use Rattle.office_tables.specs.Tables.{Tables, Meta, Batch, Stands, Holds, keyed, keyless, meta_columns, owner_columns, enrol_columns, draft_columns, slot_columns, placed_columns, seat_columns, share_student_columns, share_part_columns, batch_columns}
+use Rattle.office_tables.specs.declared.batch.BatchCountsRow.{BatchCountsRow}
+use Rattle.office_tables.specs.declared.placed.PlacedRow.{PlacedRow}
+use Rattle.office_tables.specs.declared.seat.SeatRow.{SeatRow}
+use Rattle.office_tables.specs.declared.share_student.StudentShareRow.{StudentShareRow}
+use Rattle.office_tables.specs.declared.share_part.PartShareRow.{PartShareRow}
+use Rattle.office_tables.specs.declared.owner.OwnerRow.{OwnerRow}
+use Rattle.office_tables.specs.declared.enrol.EnrolRow.{EnrolRow}
+use Rattle.office_tables.specs.declared.draft.DraftRow.{DraftRow}
+use Rattle.office_tables.specs.declared.slot.SlotRow.{SlotRow}
+use Rattle.office_tables.specs.declared.meta.MetaRow.{MetaRow}
+use Rattle.office_tables.specs.Batch.{counts_of, FitsBatch}
+use Rattle.office_tables.specs.Draft.{draft_columns, FitsDraft}
+use Rattle.office_tables.specs.Enrol.{enrol_columns, FitsEnrol}
+use Rattle.office_tables.specs.Meta.{meta_columns, meta_from}
+use Rattle.office_tables.specs.Owner.{owner_columns, FitsOwner}
+use Rattle.office_tables.specs.Placed.{placed_columns, FitsPlacement}
+use Rattle.office_tables.specs.Seat.{seat_columns, FitsSeat}
+use Rattle.office_tables.specs.SharePart.{share_part_columns, FitsPartShare}
+use Rattle.office_tables.specs.ShareStudent.{share_student_columns, FitsStudentShare}
+use Rattle.office_tables.specs.Slot.{slot_columns, FitsSlot}
+use Rattle.office_tables.specs.Standing.{Stands}
+use Rattle.office_tables.specs.Stored.{keyed, keyless, Holds}
+use Rattle.office_tables.specs.Tables.{Tables, Meta, Batch}
 
 -- the tables of an office, whose numbers the program's types hold
 pub record AreReadable (t : Tables) : Type 0 where
@@ -70,15 +81,6 @@ IsFoundDrafts db None = IsForeign db
 abbrev pub IsFoundPublication : Database → Option FoundPublication → Type 0
 IsFoundPublication db (Some found) = HoldsPublication db found
 IsFoundPublication db None = IsForeign db
-
--- the table holds batches, and this is found of each but its bytes; or it holds none that fit
-abbrev pub IsFoundBatches : Database → Option (Vec BatchCountsRow Global) → Type 0
-IsFoundBatches db (Some found) =
-    (batches : List Batch) × (map counts_of batches ≡ found.items)
-    × Holds keyed (map batch_columns batches) (db.trees 14)
-IsFoundBatches db None =
-    (batches : List Batch) → AllByRecursion FitsBatch batches
-    → Holds keyed (map batch_columns batches) (db.trees 14) → ⊥
 
 -- what was found, with the bytes of the batches
 abbrev pub tables_of : Found → List Batch → Tables

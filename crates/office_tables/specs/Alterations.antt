@@ -1,7 +1,8 @@
 -- What a transaction makes of the tables.
 use Rattle.std.specs.Prelude.{◌≡◌, IsTrue, List, [], ◌∷◌, Option, None, Some}
 use Rattle.sqlite.specs.State.{State}
-use Rattle.office_tables.specs.Tables.{Tables, Stands}
+use Rattle.office_tables.specs.Tables.{Tables}
+use Rattle.office_tables.specs.Standing.{Stands}
 
 -- it was open, and the tables have changed so
 pub record Changed (f : Tables → Tables) (old new : State) : Type 0 where

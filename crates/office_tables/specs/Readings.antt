@@ -18,10 +18,9 @@ use Rattle.sqlite.specs.Store.{Ghosts}
 use Rattle.sqlite.specs.Term.{Term, lit, eval_all}
 use Rattle.office_schema.specs.Schema.{office_schema}
 use Rattle.office_tables.specs.Asking.{asks, Means}
+use Rattle.office_tables.specs.Records.{columns_from}
 use Rattle.office_tables.specs.Steps.{Keeps}
-use Rattle.office_tables.specs.Tables.{Meta, Holds, keyed, meta_columns}
-use Rattle.office_tables.specs.Records.{columns_from, meta_from}
-use Rattle.office_tables.specs.declared.rows.MetaRow.{MetaRow}
+use Rattle.office_tables.specs.Stored.{Holds}
 
 -- ---- the text of a query
 
@@ -90,6 +89,8 @@ pub record Looks (old new : State) : Type 0 where
   pub mode : old.in_transaction ≡ false → new.in_transaction ≡ false
   pub survives : Survives old new (λ _. HasTables old → ⊥)
 
+-- ---- what is read of rows
+
 -- a column holds integers, each below those of all later rows
 abbrev pub ColumnRises : ℕ → List Row → Type 0
 ColumnRises at rows =
@@ -129,18 +130,6 @@ abbrev pub IsReadAnswer : {X : Type 0} → (X → Type 0) → (X → Row) → �
     → Option (Vec X Global) → Type 0
 IsReadAnswer fits row_of width params q trees found =
     (rows : List Row) × IsRead fits row_of width rows found × IsAnswer q trees params rows
-
--- ---- the row about the office
-
--- the first columns are those of this row; or, if there are enough, of no such row
-abbrev pub IsReadMeta : Row → Option MetaRow → Type 0
-IsReadMeta row (Some read) = columns_from 0 4 row ≡ meta_columns (meta_from read)
-IsReadMeta row None = 4 ≤ length row → (m : Meta) → columns_from 0 4 row ≢ meta_columns m
-
--- the table holds this row alone; or there is none that it holds alone
-abbrev pub IsFoundMeta : List Row → Option MetaRow → Type 0
-IsFoundMeta stored (Some found) = Holds keyed (meta_columns (meta_from found) ∷ []) stored
-IsFoundMeta stored None = (m : Meta) → Holds keyed (meta_columns m ∷ []) stored → ⊥
 
 -- a column reads as a value of this form; or, if the row has it, as none
 abbrev pub IsColumn : {X : Type 0} → (X → Value) → Row → ℕ → Option X → Type 0

@@ -8,7 +8,8 @@ use Rattle.sqlite.specs.Effect.{Database}
 use Rattle.sqlite.specs.Held.{Held, state}
 use Rattle.sqlite.specs.State.{State, Executes, HasCleanDisk, Survives, KeepsCommit, IsUnchanged}
 use Rattle.sqlite.specs.Store.{Ghosts}
-use Rattle.office_tables.specs.Tables.{Tables, Stands}
+use Rattle.office_tables.specs.Tables.{Tables}
+use Rattle.office_tables.specs.Standing.{Stands}
 
 -- ---- inside a transaction
 

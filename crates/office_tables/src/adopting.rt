@@ -6,16 +6,17 @@ ghost use Rattle.office_tables.specs.Adopting.{IsAdopted, IsDrafts, IsFoundDraft
 ghost use Rattle.office_tables.specs.Readings.{Finds, Leaves, Looks};
 ghost use Rattle.office_tables.specs.Steps.{Keeps};
 
-use crate::adopted_rows::{
-    adopt_batches, adopt_drafts, adopt_enrols, adopt_owners, adopt_part_shares, adopt_placements,
-    adopt_seats, adopt_slots, adopt_student_shares,
-};
+use crate::batch::{BatchCountsRow, adopt_batches};
+use crate::draft::{DraftRow, adopt_drafts};
+use crate::enrol::{EnrolRow, adopt_enrols};
 use crate::found::{Found, FoundDrafts, FoundPublication, FoundSession};
-use crate::meta::adopt_meta;
-use crate::rows::{
-    BatchCountsRow, DraftRow, EnrolRow, MetaRow, OwnerRow, PartShareRow, PlacedRow, SeatRow,
-    SlotRow, StudentShareRow,
-};
+use crate::meta::{MetaRow, adopt_meta};
+use crate::owner::{OwnerRow, adopt_owners};
+use crate::placed::{PlacedRow, adopt_placements};
+use crate::seat::{SeatRow, adopt_seats};
+use crate::share_part::{PartShareRow, adopt_part_shares};
+use crate::share_student::{StudentShareRow, adopt_student_shares};
+use crate::slot::{SlotRow, adopt_slots};
 use office_schema::is_office_schema;
 use sqlite::{Alter, Connection, Error};
 use std::alloc::Global;

@@ -3,14 +3,20 @@ ghost use Rattle.std.specs.Prelude.{◌≡◌, ◌↔◌, IsTrue};
 ghost use Rattle.sqlite.specs.Held.{state};
 ghost use Rattle.office_tables.specs.Schema.{no_schema, schema_3, schema_5, schema_9, IsBlank};
 ghost use Rattle.office_tables.specs.Steps.{Grows, Within};
-ghost use Rattle.office_tables.specs.Tables.{Stands, empty_tables};
+ghost use Rattle.office_tables.specs.Standing.{Stands};
+ghost use Rattle.office_tables.specs.Tables.{empty_tables};
 
 use crate::altering::Alteration;
-use crate::meta::InsertMeta;
-use crate::schema::{
-    create_batch, create_draft, create_enrol, create_meta, create_owner, create_placed,
-    create_seat, create_share_part, create_share_student, create_slot,
-};
+use crate::batch::create_batch;
+use crate::draft::create_draft;
+use crate::enrol::create_enrol;
+use crate::meta::{InsertMeta, create_meta};
+use crate::owner::create_owner;
+use crate::placed::create_placed;
+use crate::seat::create_seat;
+use crate::share_part::create_share_part;
+use crate::share_student::create_share_student;
+use crate::slot::create_slot;
 use sqlite::{Alter, Connection, Error, Transaction};
 
 /// Whether the database has no table, no index and no view.

@@ -1,8 +1,14 @@
 // What is found in the tables when an office is taken over.
-use crate::rows::{
-    BatchCountsRow, DraftRow, EnrolRow, MetaRow, OwnerRow, PartShareRow, PlacedRow, SeatRow,
-    SlotRow, StudentShareRow,
-};
+use crate::batch::BatchCountsRow;
+use crate::draft::DraftRow;
+use crate::enrol::EnrolRow;
+use crate::meta::MetaRow;
+use crate::owner::OwnerRow;
+use crate::placed::PlacedRow;
+use crate::seat::SeatRow;
+use crate::share_part::PartShareRow;
+use crate::share_student::StudentShareRow;
+use crate::slot::SlotRow;
 
 /// All rows of the tables, in no order that counts; of the batches all but their bytes.
 #[derive(Drop)]

@@ -1,16 +1,39 @@
 // The office's one row.
-ghost use Rattle.std.specs.Prelude.{◌≡◌};
+ghost use Rattle.std.specs.Prelude.{◌≡◌, ◌↔◌, ◌<◌, length, pos, option_map, IfErr, IfOk, IsTrue};
+ghost use Rattle.sqlite_value.specs.declared.value.Value.TheVariants.{Blob, Int};
+ghost use Rattle.sqlite_value.specs.Order.{column};
 ghost use Rattle.sqlite.specs.Held.{state};
-ghost use Rattle.office_tables.specs.Changes.{with_meta, no_meta};
-ghost use Rattle.office_tables.specs.Readings.{Finds, IsFoundMeta, Leaves, Looks};
-ghost use Rattle.office_tables.specs.Tables.{flag};
+ghost use Rattle.office_tables.specs.Meta.{flag, no_meta, with_meta, IsFoundMeta, IsReadMeta};
+ghost use Rattle.office_tables.specs.Readings.{Finds, IsColumn, Leaves, Looks};
+ghost use Rattle.office_tables.specs.Schema.{no_schema, schema_1, IsBlank};
+ghost use Rattle.office_tables.specs.Steps.{Grows, Within};
 
 use crate::altering::Alteration;
-use crate::listing::list_rows;
-use crate::meta_row::read_meta;
-use crate::rows::MetaRow;
+use crate::listing::{is_out_of_memory, list_rows};
 use crate::running::run;
-use sqlite::{Alter, Connection, Error, Transaction, params};
+use sqlite::{Alter, Connection, Error, ErrorCode, Row, Transaction, params};
+
+/// The row about the office: whether there is a publication, and the canonical text of the instance,
+/// or nothing before a load.
+#[derive(Drop)]
+pub struct MetaRow {
+    pub published: bool,
+    pub instance: Vec<u8>,
+}
+
+// The table of the office.
+pub fn create_meta<S: Alter>(tx: &mut Transaction<'_, S>) -> Result<(), Error>
+    ensures same_reference { tx.new.conn.ghost_name ≡ tx.old.conn.ghost_name }
+    ensures makes { Grows S.Store (IsBlank no_schema) (IsBlank schema_1) tx.old.conn.now tx.new.conn.now result }
+    ensures within { Within (state S.Store tx.old.conn.now) (state S.Store tx.new.conn.now) }
+{
+    run(
+        tx,
+        "CREATE TABLE meta (id INTEGER NOT NULL PRIMARY KEY, version INTEGER NOT NULL, published \
+         INTEGER NOT NULL, instance BLOB NOT NULL) STRICT",
+        &[],
+    )
+}
 
 /// Puts the row in.
 #[derive(Clone, Copy)]
@@ -33,6 +56,13 @@ impl Alteration for InsertMeta<'_> {
     }
 }
 
+// SQLite has no type for it.
+fn flag_of(is: bool) -> u32
+    ensures { result ≡ flag is }
+{
+    if is { 1 } else { 0 }
+}
+
 /// Takes the row out.
 #[derive(Clone, Copy)]
 pub struct DeleteMeta;
@@ -47,13 +77,6 @@ impl Alteration for DeleteMeta {
     }
 }
 
-// SQLite has no type for it.
-fn flag_of(is: bool) -> u32
-    ensures { result ≡ flag is }
-{
-    if is { 1 } else { 0 }
-}
-
 // The row as it is found when an office is taken over, where the table holds it alone.
 pub fn adopt_meta<S: Alter>(conn: &mut Connection<S>) -> Result<Option<MetaRow>, Error>
     ensures found { Finds S.Store (λ db. IsFoundMeta (db.trees 0)) conn.old conn.new result }
@@ -65,4 +88,78 @@ pub fn adopt_meta<S: Alter>(conn: &mut Connection<S>) -> Result<Option<MetaRow>,
         return Ok(None);
     }
     read_meta(&rows[0])
+}
+
+// The row, if it is one of version 1 under the key 0.
+fn read_meta(row: &Row) -> Result<Option<MetaRow>, Error>
+    ensures ok { IfOk result (IsReadMeta row.now) }
+    ensures memory { IfErr result (λ e. e ≡ Error.SqliteFailure ErrorCode.OutOfMemory) }
+{
+    if !is_number(row, 0, 0)? || !is_number(row, 1, 1)? {
+        return Ok(None);
+    }
+    let Some(published) = flag_at(row, 2)? else {
+        return Ok(None);
+    };
+    let Some(instance) = bytes_at(row, 3)? else {
+        return Ok(None);
+    };
+    Ok(Some(MetaRow {
+        published,
+        instance,
+    }))
+}
+
+fn is_number(row: &Row, at: usize, number: u64) -> Result<bool, Error>
+    ensures ok { IfOk result (λ is. at < length row.now → (IsTrue is ↔ (column row.now at ≡ Int (pos number)))) }
+    ensures memory { IfErr result (λ e. e ≡ Error.SqliteFailure ErrorCode.OutOfMemory) }
+{
+    let Some(found) = number_at(row, at)? else {
+        return Ok(false);
+    };
+    Ok(found == number)
+}
+
+fn flag_at(row: &Row, at: usize) -> Result<Option<bool>, Error>
+    ensures ok { IfOk result (IsColumn (λ b. Int (pos (flag b))) row.now at) }
+    ensures memory { IfErr result (λ e. e ≡ Error.SqliteFailure ErrorCode.OutOfMemory) }
+{
+    let Some(number) = number_at(row, at)? else {
+        return Ok(None);
+    };
+    match number {
+        0 => Ok(Some(false)),
+        1 => Ok(Some(true)),
+        _ => Ok(None),
+    }
+}
+
+fn number_at(row: &Row, at: usize) -> Result<Option<u64>, Error>
+    ensures ok { IfOk result (IsColumn (λ n. Int (pos n)) row.now at) }
+    ensures memory { IfErr result (λ e. e ≡ Error.SqliteFailure ErrorCode.OutOfMemory) }
+{
+    match row.get(at) {
+        Ok(number) => Ok(Some(number)),
+        Err(error) => {
+            if is_out_of_memory(error) {
+                return Err(error);
+            }
+            Ok(None)
+        }
+    }
+}
+
+fn bytes_at(row: &Row, at: usize) -> Result<Option<Vec<u8>>, Error>
+    ensures ok { IfOk result (λ found. IsColumn Blob row.now at (option_map (λ bytes. bytes.items) found)) }
+    ensures memory { IfErr result (λ e. e ≡ Error.SqliteFailure ErrorCode.OutOfMemory) }
+{
+    match row.get(at) {
+        Ok(bytes) => Ok(Some(bytes)),
+        Err(error) => {
+            if is_out_of_memory(error) {
+                return Err(error);
+            }
+            Ok(None)
+        }
+    }
 }

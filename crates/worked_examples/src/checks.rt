@@ -1,6 +1,6 @@
 // Checks over devices that fail or are interrupted.
-use office_check::{CheckFault, InputFault, check_run, instance_text};
-use office_files::{FaultKind, FileFault};
+use office_check::{CheckFault, check_run};
+use office_files::{FaultKind, FileFault, InputFault, instance_text};
 use std::io::{self, ErrorKind, Read, Write};
 
 const SMALL_EXAM: &str = "[Exams:4]\n120, 1, 2\n90, 2, 3\n120, 3\n60, 1\n\

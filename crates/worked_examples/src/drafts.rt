@@ -248,7 +248,8 @@ fn enrolled_anew<'a>(
     enrolments: &'a Enrolments,
     fewer: &'a Enrolments,
 ) -> Result<Draft<'a>, Fail>
-    ensures { IfOk result (λ made. (made.instance ≡ instance.now) × (made.enrolments ≡ fewer.now)) }
+    ensures { IfOk result (λ made. (made.instance ≡ instance.now)
+        × (made.enrolments ≡ fewer.now)) }
 {
     if fewer.exams() != instance.exams() {
         return Err("enrolments of other exams")?;

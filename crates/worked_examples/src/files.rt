@@ -15,9 +15,6 @@ const SMALL: &str = "[Exams:4]\r\n120, 1, 2\r\n90, 2, 3\r\n120, 3\r\n60, 1\r\n\
 // What is read of a text, written.
 fn written_again(alloc: Global, text: &[u8]) -> Result<Vec<u8>, Fail> {
     let (instance, enrolments) = read_instance(alloc, text)?;
-    if enrolments.exams() != instance.exams() {
-        return Err("enrolments of other exams")?;
-    }
     Ok(write_instance(alloc, &instance, &enrolments)?)
 }
 

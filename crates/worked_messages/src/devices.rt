@@ -198,7 +198,8 @@ fn agrees(
 }
 
 /// Whether the stream has this outcome, and these bytes are written, in every cutting into two
-/// pieces, and into equal ones of 1 to 79 bytes, or of 1 to 3 where the stream is above 1,000 bytes.
+/// pieces, and into equal ones of 1 to 79 bytes, or of 1 to 3 where the stream is above 1,000
+/// bytes.
 pub(crate) fn is_served_so(alloc: Global, stream: &[u8], served: Served, replies: &[u8]) -> bool {
     let sizes: usize = if stream.len() > 1_000 { 4 } else { 80 };
     for size in 1..sizes {

@@ -1,5 +1,6 @@
 // The tables of a publication, over a database in memory.
-ghost use Rattle.office_tables.specs.Amounts.{ArePartAmounts, AreStudentAmounts};
+ghost use Rattle.office_tables.specs.SharePart.{ArePartAmounts};
+ghost use Rattle.office_tables.specs.ShareStudent.{AreStudentAmounts};
 
 use crate::given::assert_same;
 use crate::tables::created;

@@ -1,5 +1,5 @@
 use Rattle.std.proofs.Common.{◌≡◌, ℕ, ◌++◌, map, take}
-use Rattle.exam_publish.specs.Seats.{entrant}
+use Rattle.exam_publish.specs.Entrants.{entrant}
 use Rattle.exam_publish.proofs.entrants.add_entrants.Given as goal
 
 -- the students so far

@@ -1,7 +1,7 @@
 use Rattle.std.proofs.Common.{◌≡◌, ◌<◌, ◌++◌, None, Some, length, map, ap, ap₂, sym, ◌∙◌, arith, ℕ}
 use Rattle.exam_model.specs.Enrolments.{students}
 use Rattle.exam_model.specs.Timetable.{place_of}
-use Rattle.exam_publish.specs.Seats.{entrant}
+use Rattle.exam_publish.specs.Entrants.{entrant}
 use Rattle.exam_publish.proofs.EntrantLemmas.{exam_more, exam_nowhere}
 use Rattle.exam_publish.proofs.entrants.entrants_of.Goals as goal
 

@@ -1,6 +1,6 @@
 use Rattle.std.proofs.Common.{◌≡◌, take}
 use Rattle.exam_model.specs.Pairs.{pairs_of}
-use Rattle.exam_publish.specs.Seats.{entrants}
+use Rattle.exam_publish.specs.Entrants.{entrants}
 use Rattle.exam_publish.proofs.entrants.entrants_of.Given as goal
 
 -- the entrants of the exams so far

@@ -1,6 +1,6 @@
 use Rattle.std.proofs.Common.{map, ap, ◌∙◌, arith}
 use Rattle.std.proofs.lemmas.List.{take_all}
-use Rattle.exam_publish.specs.Seats.{kept_rows}
+use Rattle.exam_publish.specs.Entrants.{kept_rows}
 use Rattle.exam_publish.proofs.HeldLemmas.{row_seat, held_more, held_same, are_held}
 use Rattle.exam_publish.proofs.held.held_seats.Goals as goal
 

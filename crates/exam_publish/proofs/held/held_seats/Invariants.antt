@@ -1,5 +1,5 @@
 use Rattle.std.proofs.Common.{◌≡◌, map, take}
-use Rattle.exam_publish.specs.Seats.{kept_rows}
+use Rattle.exam_publish.specs.Entrants.{kept_rows}
 use Rattle.exam_publish.proofs.HeldLemmas.{row_seat}
 use Rattle.exam_publish.proofs.held.held_seats.Given as goal
 

@@ -1,7 +1,8 @@
 use Rattle.std.proofs.Common.{◌≡◌, ◌+◌, ◌*◌, ◌<◌, ◌++◌, ◌∷◌, [], length, get_or, ap, ap₂, sym, subst, ◌∙◌, arith}
 use Rattle.std.specs.Prelude.{slice_set, slice_index}
 use Rattle.std.proofs.lemmas.List.{get_or_read}
-use Rattle.exam_publish.specs.Seating.{slot_of, EntrantExists}
+use Rattle.exam_model.specs.Fits.{slot_of}
+use Rattle.exam_publish.specs.Seating.{EntrantExists}
 use Rattle.exam_publish.specs.declared.entrants.Entrant.{Entrant}
 use Rattle.exam_publish.proofs.GivingLemmas.{AreGiven, none_given, new_given, last_small}
 use Rattle.exam_publish.proofs.seating.seat_all.Goals as goal

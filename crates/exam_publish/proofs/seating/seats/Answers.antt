@@ -3,7 +3,8 @@ use Rattle.exam_model.specs.Pairs.{pairs_of}
 use Rattle.exam_publish.specs.declared.seat_row.SeatRow.{SeatRow}
 use Rattle.exam_publish.specs.declared.entrants.Entrant.{Entrant}
 use Rattle.exam_publish.specs.Rows.{ArePublishedRows, row_pair}
-use Rattle.exam_publish.specs.Seats.{AreSeated, entrants, kept_rows, rows_for, seat_rows}
+use Rattle.exam_publish.specs.Seats.{AreSeated, rows_for, seat_rows}
+use Rattle.exam_publish.specs.Entrants.{entrants, kept_rows}
 use Rattle.exam_publish.specs.Seating.{AreHeld, EntrantExists, KeepsSmallSeat}
 use Rattle.exam_publish.proofs.EntrantLemmas.{entrants_few, entrants_exist, entrants_keep}
 use Rattle.exam_publish.proofs.SeatLemmas.{are_seats}

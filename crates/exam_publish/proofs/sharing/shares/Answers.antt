@@ -1,5 +1,5 @@
 use Rattle.std.proofs.Common.{◌≡◌, ℕ, length, map, sym, subst, ap, ◌∙◌}
-use Rattle.exam_model.specs.Enrolments.{IsAscending, has_student}
+use Rattle.exam_model.specs.Enrolments.{IsAscending, has_number}
 use Rattle.exam_score.specs.Penalty.{PersonalPenalty}
 use Rattle.exam_score.specs.Track.{track}
 use Rattle.exam_publish.specs.AddUp.{AddUpTo, AreSmall}
@@ -34,4 +34,4 @@ returns-clause-ascending c =
 pub returns-clause-seated : goal.returns-clause-seated
 returns-clause-seated c s =
     let is = ap (λ (shares : Sharing). shares.students) c.of.ensures ∙ c.in_ok-students.ensures in
-    ap (λ xs. has_student (map (λ (share : ℕ × PersonalPenalty). share.0) xs) s) is ∙ shares_seated c.args.instance.now c.args.rows.now s
+    ap (λ xs. has_number (map (λ (share : ℕ × PersonalPenalty). share.0) xs) s) is ∙ shares_seated c.args.instance.now c.args.rows.now s

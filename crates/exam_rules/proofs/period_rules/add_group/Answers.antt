@@ -1,7 +1,7 @@
 use Rattle.std.specs.List.{list_any}
 use Rattle.std.proofs.Common.{ℕ, Bool, ◌&&◌, ◌||◌, ◌==◌, nat_lt, ◌∙◌, ap}
 use Rattle.exam_rules.specs.Breach.{is_pair}
-use Rattle.exam_rules.specs.Groups.{has_exam}
+use Rattle.exam_model.specs.Enrolments.{has_number}
 use Rattle.exam_rules.specs.Places.{share_student}
 use Rattle.exam_rules.proofs.FindingLemmas.{found_none, found_more, found_all}
 use Rattle.exam_rules.proofs.MarkLemmas.{and_assoc}
@@ -19,10 +19,10 @@ exams-preserved c =
     let x : ℕ = c.exam-item.result in
     let test : ℕ → ℕ → Bool = λ e f. nat_lt e f && share_student c.args.enrolments.now e f in
     found_more c.exams.invariant c.exams-test.true c.exam-item.is c.in_ok-add_clashes.ensures
-    (λ e f. and_swap (has_exam c.args.group.now f) (x == e) (test e f))
+    (λ e f. and_swap (has_number c.args.group.now f) (x == e) (test e f))
 
 pub returns : goal.returns
 returns c e f =
     found_all c.exams.invariant c.exams-test.false e f
     ∙ ap (λ b. list_any (is_pair e f) c.args.found.now.items || b)
-    (and_assoc (has_exam c.args.group.now e) (has_exam c.args.group.now f) (nat_lt e f && share_student c.args.enrolments.now e f))
+    (and_assoc (has_number c.args.group.now e) (has_number c.args.group.now f) (nat_lt e f && share_student c.args.enrolments.now e f))

@@ -1,7 +1,7 @@
 use Rattle.std.proofs.lemmas.List.{get_or_read}
 use Rattle.std.proofs.Common.{ℕ, [], ◌&&◌, nat_lt, ◌∙◌, ap, arith, refl}
 use Rattle.exam_rules.specs.declared.breach.BreachRule.TheVariants.{Clash}
-use Rattle.exam_rules.specs.Groups.{has_exam}
+use Rattle.exam_model.specs.Enrolments.{has_number}
 use Rattle.exam_rules.specs.Places.{share_student, in_one_period}
 use Rattle.exam_rules.specs.Breaches.{breaks}
 use Rattle.exam_rules.proofs.FindingLemmas.{found_none, found_more, found_all}
@@ -25,7 +25,7 @@ add_group-requires c =
 pub groups-preserved : goal.groups-preserved
 groups-preserved c =
     found_more c.groups.invariant c.groups-test.true c.group-item.is c.in_ok-add_group.ensures
-    (λ e f. ap (λ g. (has_exam g e && has_exam g f) && (nat_lt e f && share_student c.args.enrolments.now e f)) c.as_slice.ensures)
+    (λ e f. ap (λ g. (has_number g e && has_number g f) && (nat_lt e f && share_student c.args.enrolments.now e f)) c.as_slice.ensures)
 
 pub returns : goal.returns
 returns c =

@@ -19,4 +19,4 @@ pub returns : goal.returns
 returns c E =
     c.in_order.ensures (breaks c.args.instance.now E c.args.timetable.now Duration) _
     (below_all c.exams.invariant (omega arith)
-    (breaking_exist c.args.instance.now E c.args.timetable.now Duration _ c.requires.fits))
+    (breaking_exist c.args.instance.now E c.args.timetable.now Duration _ c.requires.fits.exams))

@@ -1,5 +1,5 @@
 use Rattle.std.proofs.Common.{ℕ, inl, inr, subst, ap, ◌∙◌}
-use Rattle.exam_model.specs.Enrolments.{has, has_student}
+use Rattle.exam_model.specs.Enrolments.{has, has_number}
 use Rattle.exam_rules.specs.Marks.{marks_of, Has}
 use Rattle.exam_rules.proofs.MarkLemmas.{before_or_here}
 use Rattle.exam_rules.proofs.period_rules.mark.Goals as goal
@@ -11,6 +11,6 @@ exams-preserved c e s among sits =
     as (λ _. Has (marks_of c.add.new.self s) e) [
       | inl before ↦ c.add.ensures.kept s e (c.exams.invariant e s before sits)
       | inr same ↦ subst (Has (marks_of c.add.new.self s)) same
-          (c.add.ensures.marked s (ap (λ xs. has_student xs s) c.students.ensures.all
+          (c.add.ensures.marked s (ap (λ xs. has_number xs s) c.students.ensures.all
           ∙ ap (has c.args.enrolments.now s) same ∙ sits))
     ]

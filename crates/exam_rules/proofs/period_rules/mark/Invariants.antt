@@ -1,10 +1,9 @@
 use Rattle.std.proofs.Common.{◌≡◌, ℕ, true, take}
-use Rattle.exam_model.specs.Enrolments.{has}
-use Rattle.exam_rules.specs.Groups.{has_exam}
+use Rattle.exam_model.specs.Enrolments.{has, has_number}
 use Rattle.exam_rules.specs.Marks.{marks_of, Has}
 use Rattle.exam_rules.proofs.period_rules.mark.Given as goal
 
 abbrev pub invariant-exams : goal.invariant-exams
 invariant-exams l =
-    (e s : ℕ) → has_exam (take l.exam-index l.group) e ≡ true → has l.enrolments s e ≡ true
+    (e s : ℕ) → has_number (take l.exam-index l.group) e ≡ true → has l.enrolments s e ≡ true
     → Has (marks_of l.marks s) e

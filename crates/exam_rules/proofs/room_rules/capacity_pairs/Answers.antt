@@ -1,8 +1,8 @@
 use Rattle.std.proofs.Common.{◌≡◌, ℕ, ◌&&◌, ◌==◌, length, get_or, ◌∙◌, ap, ap₂, sym, arith}
 use Rattle.std.specs.Prelude.{slice_get}
+use Rattle.exam_model.specs.Fits.{slot_of}
 use Rattle.exam_rules.specs.declared.breach.BreachRule.TheVariants.{Capacity}
 use Rattle.exam_rules.specs.Places.{where_placed, load_at, load_below}
-use Rattle.exam_rules.specs.Loads.{slot_of}
 use Rattle.exam_rules.specs.Breaches.{breaks, is_too_small, is_overfull}
 use Rattle.exam_rules.proofs.FindingLemmas.{below_more, below_all, twice}
 use Rattle.exam_rules.proofs.PlaceLemmas.{its_place_exists, breaking_exist}

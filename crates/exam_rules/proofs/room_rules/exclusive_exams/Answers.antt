@@ -4,7 +4,7 @@ use Rattle.std.proofs.lemmas.List.Elements.{All-map}
 use Rattle.std.proofs.lemmas.List.Filters.{dedup_is, All-dedup}
 use Rattle.std.proofs.lemmas.List.Sorted.{All-permutation, list_any-IsPermutation}
 use Rattle.exam_model.specs.declared.rules.RoomRule.{RoomRule}
-use Rattle.exam_rules.specs.Groups.{has_exam}
+use Rattle.exam_model.specs.Enrolments.{has_number}
 use Rattle.exam_model.proofs.PairLemmas.{any_map}
 use Rattle.exam_rules.proofs.MemberLemmas.{any_dedup}
 use Rattle.exam_rules.proofs.room_rules.exclusive_exams.Goals as goal
@@ -14,10 +14,10 @@ returns-clause-members c e =
     let lines : List RoomRule = c.args.instance.now.room_rules in
     let is = dedup_is _ _ _ c.dedup.ensures.filtered in
     let named = rw c.room_rules.ensures.rules at c.in_ok-exams.ensures in
-    ap (λ xs. has_exam xs e) is
+    ap (λ xs. has_number xs e) is
     ∙ any_dedup (λ k. k == e) _
     ∙ sym (list_any-IsPermutation (λ k. k == e) _ _ c.sort_unstable.ensures.permutation)
-    ∙ ap (λ xs. has_exam xs e) named
+    ∙ ap (λ xs. has_number xs e) named
     ∙ any_map (λ k. k == e) (λ line. line.0) lines
 
 pub returns-clause-exist : goal.returns-clause-exist

@@ -2,7 +2,7 @@ use Rattle.std.proofs.Common.{ℕ, ◌&&◌, ◌==◌, not, ◌∙◌, ap, sym, 
 use Rattle.std.specs.List.{list_any}
 use Rattle.exam_rules.specs.declared.breach.BreachRule.TheVariants.{RoomExclusive}
 use Rattle.exam_rules.specs.Breach.{is_pair}
-use Rattle.exam_rules.specs.Groups.{has_exam}
+use Rattle.exam_model.specs.Enrolments.{has_number}
 use Rattle.exam_rules.specs.Places.{in_one_place}
 use Rattle.exam_rules.specs.Breaches.{breaks}
 use Rattle.exam_rules.proofs.FindingLemmas.{found_none, found_more, found_all, or_false}
@@ -23,16 +23,16 @@ exams-preserved-in_default c =
 pub add_intruders-requires-clause-others_exist : goal.add_intruders-requires-clause-others_exist
 add_intruders-requires-clause-others_exist c =
     let there = sym c.get.ensures ∙ c.in-Some.is in
-    let within = its_place_exists c.args.instance.now _ _ _ c.requires.places there in
+    let within = its_place_exists c.args.instance.now _ _ _ c.requires.fits.places there in
     rw c.group_of.ensures (group_exists c.requires.grouped c.in-Some.place.period within.0)
 
 pub exams-preserved : goal.exams-preserved
 exams-preserved c =
     let k : ℕ = c.exam-item.result in
     let there = sym c.get.ensures ∙ c.in-Some.is in
-    let within = its_place_exists c.args.instance.now _ _ _ c.requires.places there in
+    let within = its_place_exists c.args.instance.now _ _ _ c.requires.fits.places there in
     found_more c.exams.invariant c.exams-test.true c.exam-item.is c.in_ok-add_intruders.ensures
-    (λ e f. ap (λ g. has_exam g f && ((k == e) && (not (e == f) && in_one_place c.args.timetable.now e f))) c.group_of.ensures
+    (λ e f. ap (λ g. has_number g f && ((k == e) && (not (e == f) && in_one_place c.args.timetable.now e f))) c.group_of.ensures
     ∙ one_place_group c.requires.grouped (omega arith) k c.in-Some.place there within.0 e f)
 
 pub returns : goal.returns
@@ -42,6 +42,6 @@ returns c E =
       members = λ e f.
           found_all c.exams.invariant c.exams-test.false e f
           ∙ ap (λ b. b && (not (e == f) && in_one_place c.args.timetable.now e f))
-          (ap (λ xs. has_exam xs e) c.deref-exam-items.ensures.value ∙ c.in_ok-exclusive.ensures.members e);
-      exist = breaking_exist c.args.instance.now E c.args.timetable.now RoomExclusive _ c.requires.fits;
+          (ap (λ xs. has_number xs e) c.deref-exam-items.ensures.value ∙ c.in_ok-exclusive.ensures.members e);
+      exist = breaking_exist c.args.instance.now E c.args.timetable.now RoomExclusive _ c.requires.fits.exams;
     })

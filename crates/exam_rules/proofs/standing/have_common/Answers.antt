@@ -1,7 +1,7 @@
 use Rattle.std.specs.List.{list_any}
 use Rattle.std.proofs.Common.{◌≡◌, ◌<◌, [], ap, sym, ◌∙◌, arith}
 use Rattle.std.proofs.lemmas.Bool.Decides.{nat_tests}
-use Rattle.exam_model.specs.Enrolments.{has_student}
+use Rattle.exam_model.specs.Enrolments.{has_number}
 use Rattle.exam_rules.proofs.CommonLemmas.{step_left, step_right, none_common, empty_list}
 use Rattle.exam_rules.proofs.standing.have_common.Goals as goal
 
@@ -19,4 +19,4 @@ pub returns-in_default-split_first : goal.returns-in_default-split_first
 returns-in_default-split_first c =
     let left = c.walk.left.now in
     let none : c.walk.right.now ≡ [] = empty_list _ c.in_default-split_first.ensures.cases in
-    sym (none_common left) ∙ ap (λ ys. list_any (λ s. has_student ys s) left) (sym none) ∙ c.walk.invariant.same
+    sym (none_common left) ∙ ap (λ ys. list_any (λ s. has_number ys s) left) (sym none) ∙ c.walk.invariant.same

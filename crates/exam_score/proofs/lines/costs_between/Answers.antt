@@ -1,4 +1,4 @@
-use Rattle.exam_score.specs.CostLaws.{spread_cost-small}
+use Rattle.exam_score.specs.CostOrder.{spread_cost-small}
 use Rattle.exam_score.proofs.CostLemmas.{capped_fits, one_fits}
 use Rattle.exam_score.proofs.lines.costs_between.Goals as goal
 

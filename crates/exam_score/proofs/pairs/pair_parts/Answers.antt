@@ -1,6 +1,6 @@
 use Rattle.std.proofs.Common.{◌≤◌, ℕ, arith, ◌∙◌, ap, subst}
 use Rattle.exam_score.specs.Cost.{row_cost, day_cost, spread_cost}
-use Rattle.exam_score.specs.CostLaws.{spread_cost-small, row_cost-swap, row_cost-none, day_cost-swap, day_cost-none, spread_cost-swap, spread_cost-none}
+use Rattle.exam_score.specs.CostOrder.{spread_cost-small, row_cost-swap, row_cost-none, day_cost-swap, day_cost-none, spread_cost-swap, spread_cost-none}
 use Rattle.exam_score.specs.Tallies.{tally_cost, AreCounted}
 use Rattle.exam_score.proofs.CostLemmas.{row_cost-small, day_cost-small}
 use Rattle.exam_score.proofs.PairsLemmas.{is_part, tallied_rows, few_seats, few_tallied}

@@ -1,5 +1,5 @@
 use Rattle.std.proofs.Common.{◌≡◌, ◌≤◌, ◌*◌, take, sum_by}
-use Rattle.exam_score.specs.Folds.{cost_at}
+use Rattle.exam_score.specs.EditedCosts.{cost_at}
 use Rattle.exam_score.proofs.sat_exams.cost_beside.Given as goal
 
 -- what the exams seen so far cost, and a bound on it

@@ -1,6 +1,6 @@
 use Rattle.std.proofs.Common.{◌≡◌, ◌∙◌, ℕ, ap}
 use Rattle.exam_score.specs.Cost.{row_cost, day_cost, spread_cost}
-use Rattle.exam_score.specs.Folds.{exams_cost}
+use Rattle.exam_score.specs.EditedCosts.{exams_cost}
 use Rattle.exam_score.proofs.CostLemmas.{row_uncapped, day_uncapped}
 use Rattle.exam_score.proofs.sat_exams.personal_at.Goals as goal
 

@@ -1,7 +1,8 @@
 use Rattle.std.proofs.Common.{◌≡◌, ◌+◌, ◌-◌, ◌<◌, ◌++◌, ◌∷◌, [], length, length-set, get_or, set, sum_by, sym, subst, ◌∙◌, ap, ap₂, arith}
 use Rattle.std.proofs.lemmas.List.{get_or_read, get_or_default, length_push}
 use Rattle.exam_score.specs.Rows.{row_at}
-use Rattle.exam_score.specs.Tallies.{tally_sum, AreCrowded, AreFiled, Extends}
+use Rattle.exam_score.specs.Tallies.{tally_sum}
+use Rattle.exam_score.specs.TallyLinks.{AreCrowded, AreFiled, Extends}
 use Rattle.exam_score.specs.declared.tallies.Tally.{Tally}
 use Rattle.exam_score.proofs.TallyLemmas.{place_within, alike_set, crowd_more, filed_alike, counted_set, filed_push}
 use Rattle.exam_score.proofs.tallies.count_one.Goals as goal
@@ -12,7 +13,7 @@ returns-then-extends-clause-counted c =
     let n = c.index-before.result.now in
     let x = c.index-tally.result.now in
     let last : Extends xs n c.args.student c.args.period = subst (λ ys. Extends ys n c.args.student c.args.period) c.deref.ensures.value (c.extends.ensures.0 c.if-extends.true) in
-    let within : n - 1 < length xs = place_within c.args.slots xs c.args.last.now.items c.slot_of-slot.result n c.args.student c.args.period c.requires.filed c.slot_of-slot.ensures.exists c.index-before.ensures last in
+    let within : n - 1 < length xs = place_within c.args.slots xs c.args.last.now.items c.slot_of_student-slot.result n c.args.student c.args.period c.requires.filed c.slot_of_student-slot.ensures.exists c.index-before.ensures last in
     let student : x.student ≡ c.args.student = ap (λ z. z.student) c.index-tally.ensures ∙ last.student x in
     let period : x.period ≡ c.args.period = ap (λ z. z.period) c.index-tally.ensures ∙ last.period x in
     λ f. counted_set f xs (n - 1) x within c.index-tally.ensures
@@ -24,7 +25,7 @@ returns-then-extends-clause-filed c =
     let n = c.index-before.result.now in
     let x = c.index-tally.result.now in
     let last : Extends xs n c.args.student c.args.period = subst (λ ys. Extends ys n c.args.student c.args.period) c.deref.ensures.value (c.extends.ensures.0 c.if-extends.true) in
-    let within : n - 1 < length xs = place_within c.args.slots xs c.args.last.now.items c.slot_of-slot.result n c.args.student c.args.period c.requires.filed c.slot_of-slot.ensures.exists c.index-before.ensures last in
+    let within : n - 1 < length xs = place_within c.args.slots xs c.args.last.now.items c.slot_of_student-slot.result n c.args.student c.args.period c.requires.filed c.slot_of_student-slot.ensures.exists c.index-before.ensures last in
     let y : Tally = record { student = x.student; period = x.period; exams = x.exams + 1; before = x.before } in
     filed_alike c.args.slots xs (set xs (n - 1) y) c.args.last.now.items
     (alike_set xs (n - 1) y within
@@ -37,14 +38,14 @@ pub returns-clause-filed : goal.returns-clause-filed
 returns-clause-filed c =
     let xs = c.args.tallies.now.items in
     let last = c.args.last.now.items in
-    let slot = c.slot_of-slot.result in
+    let slot = c.slot_of_student-slot.result in
     let y : Tally = record { student = c.args.student; period = c.args.period; exams = 1; before = c.index-before.result.now } in
-    let within : slot < length last = omega (arith, c.slot_of-slot.ensures.exists, c.requires.filed.count) in
+    let within : slot < length last = omega (arith, c.slot_of_student-slot.ensures.exists, c.requires.filed.count) in
     let items : c.push.new.self.items ≡ xs ++ y ∷ [] = c.in_ok-push.ensures.items in
     let long : c.len.result ≡ length xs + 1 = omega (arith, c.len.ensures, c.push.new.self.ok.0, ap length items, length_push xs y) in
     subst (λ zs. AreFiled zs (set last slot c.len.result) c.args.slots) (sym items)
     (subst (λ n. AreFiled (xs ++ y ∷ []) (set last slot n) c.args.slots) (sym long)
-    (filed_push c.args.slots xs last y slot c.requires.filed within (sym c.slot_of-slot.ensures.slot)
+    (filed_push c.args.slots xs last y slot c.requires.filed within (sym c.slot_of_student-slot.ensures.slot)
     (get_or_read last slot c.index-before.result.now within c.index-before.ensures 0) c.requires.not_later))
 
 pub returns-then-extends-clause-crowded : goal.returns-then-extends-clause-crowded
@@ -56,10 +57,10 @@ returns-then-extends-clause-crowded c =
 
 pub note-requires : goal.note-requires
 note-requires c =
-    let exists : c.slot_of-slot.result < length c.args.crowd.now.sizes.items = omega (arith, c.slot_of-slot.ensures.exists, c.requires.crowded.count) in
+    let exists : c.slot_of_student-slot.result < length c.args.crowd.now.sizes.items = omega (arith, c.slot_of_student-slot.ensures.exists, c.requires.crowded.count) in
     record {
       exists = exists;
-      few = omega (arith, c.requires.crowded.each c.slot_of-slot.result exists, c.requires.few);
+      few = omega (arith, c.requires.crowded.each c.slot_of_student-slot.result exists, c.requires.few);
       few_steps = omega (arith, c.requires.crowded.all, c.requires.few);
     }
 
@@ -68,10 +69,10 @@ returns-clause-crowded c =
     let xs = c.args.tallies.now.items in
     let sizes = c.args.crowd.now.sizes.items in
     let steps = c.args.crowd.now.steps in
-    let slot = c.slot_of-slot.result in
+    let slot = c.slot_of_student-slot.result in
     let y : Tally = record { student = c.args.student; period = c.args.period; exams = 1; before = c.index-before.result.now } in
     let long : length c.push.new.self.items ≡ length xs + 1 = ap length c.in_ok-push.ensures.items ∙ length_push xs y in
-    let more = crowd_more sizes steps c.args.slots (length xs) slot c.slot_of-slot.ensures.exists c.requires.few c.requires.crowded in
+    let more = crowd_more sizes steps c.args.slots (length xs) slot c.slot_of_student-slot.ensures.exists c.requires.few c.requires.crowded in
     subst (AreCrowded c.note.new.crowd.sizes.items c.note.new.crowd.steps c.args.slots) (sym long)
     (subst (λ n. AreCrowded c.note.new.crowd.sizes.items n c.args.slots (length xs + 1)) (sym c.note.ensures.steps)
     (subst (λ zs. AreCrowded zs (steps + get_or sizes slot 0) c.args.slots (length xs + 1)) (sym c.note.ensures.sizes) more))

@@ -1,6 +1,7 @@
 use Rattle.std.proofs.Common.{◌≡◌, ◌+◌, ℕ, length, sum_by, take}
 use Rattle.exam_score.specs.Rows.{row_at}
-use Rattle.exam_score.specs.Tallies.{tally_sum, AreCrowded, AreFiled, Grows}
+use Rattle.exam_score.specs.Tallies.{tally_sum}
+use Rattle.exam_score.specs.TallyLinks.{AreCrowded, AreFiled, Grows}
 use Rattle.exam_score.specs.declared.rows.Row.{Row}
 use Rattle.exam_score.proofs.tallies.count_students.Given as goal
 

@@ -1,6 +1,7 @@
 use Rattle.std.proofs.Common.{◌≤◌, ◌<◌, ℕ, sum_by, take, length, get_or}
 use Rattle.exam_model.specs.Enrolments.{size_of}
-use Rattle.exam_score.specs.Tallies.{AreCounted, AreCrowded, AreFiled}
+use Rattle.exam_score.specs.Tallies.{AreCounted}
+use Rattle.exam_score.specs.TallyLinks.{AreCrowded, AreFiled}
 use Rattle.exam_score.specs.declared.sittings.Sitting.{Sitting}
 use Rattle.exam_score.specs.declared.tallies.Tally.{Tally}
 use Rattle.exam_score.proofs.tallies.file_all.Given as goal

@@ -1,4 +1,5 @@
-use Rattle.exam_score.specs.Tallies.{AreCounted, AreLinked}
+use Rattle.exam_score.specs.Tallies.{AreCounted}
+use Rattle.exam_score.specs.TallyLinks.{AreLinked}
 use Rattle.exam_score.proofs.tallies.tallies_of.Given as goal
 
 -- the best filing so far counts all

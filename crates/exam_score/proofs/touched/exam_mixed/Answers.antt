@@ -1,6 +1,6 @@
 use Rattle.std.proofs.Common.{◌≡◌, ◌∙◌, ◌+◌, None, true, false, add-zero, ap, ap₂, sym}
 use Rattle.exam_model.specs.Timetable.{place_of}
-use Rattle.exam_score.specs.Exchanges.{further_mixed, is_touched, mixed_where}
+use Rattle.exam_score.specs.Touched.{further_mixed, is_touched, mixed_where}
 use Rattle.exam_score.proofs.FurtherLemmas.{earlier_place, later_place}
 use Rattle.exam_score.proofs.touched.exam_mixed.Goals as goal
 

@@ -1,5 +1,5 @@
 use Rattle.std.proofs.Common.{◌≡◌, false, take}
-use Rattle.exam_score.specs.Exchanges.{is_touched}
+use Rattle.exam_score.specs.Touched.{is_touched}
 use Rattle.exam_score.proofs.touched.is_touched.Given as goal
 
 -- none of the exams so far stands there

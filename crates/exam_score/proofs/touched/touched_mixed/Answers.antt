@@ -1,6 +1,6 @@
 use Rattle.std.proofs.Common.{◌≡◌, ◌∙◌, ◌+◌, [], sym, ap, arith, add-zero}
 use Rattle.std.proofs.lemmas.List.{nil_from_length}
-use Rattle.exam_score.specs.Exchanges.{is_touched, mixed_where}
+use Rattle.exam_score.specs.Touched.{is_touched, mixed_where}
 use Rattle.exam_score.proofs.FurtherLemmas.{mixed_none}
 use Rattle.exam_score.proofs.SmallLemmas.{mixed_where_small}
 use Rattle.exam_score.proofs.touched.touched_mixed.Goals as goal

@@ -1,5 +1,5 @@
 use Rattle.std.proofs.Common.{◌≡◌, ◌+◌, length}
-use Rattle.exam_score.specs.Exchanges.{is_touched, mixed_where}
+use Rattle.exam_score.specs.Touched.{is_touched, mixed_where}
 use Rattle.exam_score.proofs.touched.touched_mixed.Given as goal
 
 -- what is counted, and what the exams that are left touch, make the whole

@@ -1,7 +1,7 @@
 use Rattle.std.proofs.Common.{◌≡◌, ◌≤◌, ℕ, length, zero-add, sym, ◌∙◌, ap, arith}
 use Rattle.exam_score.specs.Cost.{row_cost, day_cost, spread_cost}
-use Rattle.exam_score.specs.CostLaws.{spread_cost-small}
-use Rattle.exam_score.specs.Tallies.{slot_of}
+use Rattle.exam_score.specs.CostOrder.{spread_cost-small}
+use Rattle.exam_score.specs.TallyLinks.{slot_of_student}
 use Rattle.exam_score.proofs.CostLemmas.{row_cost-small, day_cost-small}
 use Rattle.exam_score.proofs.WalkLemmas.{link_of, link_below, slot_on, walk_starts, walk_on, walk_ends, beside_small}
 use Rattle.exam_score.proofs.walk.along.Goals as goal
@@ -38,12 +38,12 @@ loop-other-preserved c =
     let n = c.loop-other.next in
     let found = c.in-Some.ensures.some in
     let le : n ≤ length xs = omega (arith, c.loop-other.invariant.within, c.requires.within) in
-    let slot : slot_of c.loop-other.invariant.linked.slots x.student ≡ slot_of c.loop-other.invariant.linked.slots y.student = ap (λ z. slot_of c.loop-other.invariant.linked.slots z.student) (sym (found.here x)) ∙ c.loop-other.invariant.slot x found.some in
+    let slot : slot_of_student c.loop-other.invariant.linked.slots x.student ≡ slot_of_student c.loop-other.invariant.linked.slots y.student = ap (λ z. slot_of_student c.loop-other.invariant.linked.slots z.student) (sym (found.here x)) ∙ c.loop-other.invariant.slot x found.some in
     let below = link_below c.loop-other.invariant.linked.slots xs x n c.loop-other.invariant.linked.links found.some le found.here in
     record {
       within = omega (arith, below, c.loop-other.invariant.within);
       linked = c.loop-other.invariant.linked;
-      slot = slot_on c.loop-other.invariant.linked.slots xs x n (slot_of c.loop-other.invariant.linked.slots y.student) c.loop-other.invariant.linked.links found.some le found.here slot;
+      slot = slot_on c.loop-other.invariant.linked.slots xs x n (slot_of_student c.loop-other.invariant.linked.slots y.student) c.loop-other.invariant.linked.links found.some le found.here slot;
       row =
           let step = walk_on c.loop-other.invariant.linked.slots (row_cost s.periods s.weights) xs y x n c.loop-other.invariant.linked.links found.some le found.here slot in
           let was = c.loop-other.invariant.row in
@@ -70,7 +70,7 @@ overflow_add-sums c =
     let n = c.loop-other.next in
     let found = c.in-Some.ensures.some in
     let le : n ≤ length xs = omega (arith, c.loop-other.invariant.within, c.requires.within) in
-    let slot : slot_of c.loop-other.invariant.linked.slots x.student ≡ slot_of c.loop-other.invariant.linked.slots y.student = ap (λ z. slot_of c.loop-other.invariant.linked.slots z.student) (sym (found.here x)) ∙ c.loop-other.invariant.slot x found.some in
+    let slot : slot_of_student c.loop-other.invariant.linked.slots x.student ≡ slot_of_student c.loop-other.invariant.linked.slots y.student = ap (λ z. slot_of_student c.loop-other.invariant.linked.slots z.student) (sym (found.here x)) ∙ c.loop-other.invariant.slot x found.some in
     let step = walk_on c.loop-other.invariant.linked.slots (row_cost s.periods s.weights) xs y x n c.loop-other.invariant.linked.links found.some le found.here slot in
     let was = c.loop-other.invariant.row in
     let more = c.between-more.ensures.row in
@@ -86,7 +86,7 @@ overflow_add-sums-in-Some c =
     let n = c.loop-other.next in
     let found = c.in-Some.ensures.some in
     let le : n ≤ length xs = omega (arith, c.loop-other.invariant.within, c.requires.within) in
-    let slot : slot_of c.loop-other.invariant.linked.slots x.student ≡ slot_of c.loop-other.invariant.linked.slots y.student = ap (λ z. slot_of c.loop-other.invariant.linked.slots z.student) (sym (found.here x)) ∙ c.loop-other.invariant.slot x found.some in
+    let slot : slot_of_student c.loop-other.invariant.linked.slots x.student ≡ slot_of_student c.loop-other.invariant.linked.slots y.student = ap (λ z. slot_of_student c.loop-other.invariant.linked.slots z.student) (sym (found.here x)) ∙ c.loop-other.invariant.slot x found.some in
     let step = walk_on c.loop-other.invariant.linked.slots (day_cost s.periods s.weights) xs y x n c.loop-other.invariant.linked.links found.some le found.here slot in
     let was = c.loop-other.invariant.day in
     let more = c.between-more.ensures.day in
@@ -102,7 +102,7 @@ overflow_add-sums-in-Some-2 c =
     let n = c.loop-other.next in
     let found = c.in-Some.ensures.some in
     let le : n ≤ length xs = omega (arith, c.loop-other.invariant.within, c.requires.within) in
-    let slot : slot_of c.loop-other.invariant.linked.slots x.student ≡ slot_of c.loop-other.invariant.linked.slots y.student = ap (λ z. slot_of c.loop-other.invariant.linked.slots z.student) (sym (found.here x)) ∙ c.loop-other.invariant.slot x found.some in
+    let slot : slot_of_student c.loop-other.invariant.linked.slots x.student ≡ slot_of_student c.loop-other.invariant.linked.slots y.student = ap (λ z. slot_of_student c.loop-other.invariant.linked.slots z.student) (sym (found.here x)) ∙ c.loop-other.invariant.slot x found.some in
     let step = walk_on c.loop-other.invariant.linked.slots (spread_cost s.periods s.weights) xs y x n c.loop-other.invariant.linked.links found.some le found.here slot in
     let was = c.loop-other.invariant.spread in
     let more = c.between-more.ensures.spread in

@@ -1,6 +1,7 @@
 use Rattle.std.proofs.Common.{◌≡◌, ◌≤◌, ◌<◌, ◌+◌, ◌-◌, sum_by, take, get_or}
 use Rattle.exam_score.specs.Cost.{row_cost, day_cost, spread_cost}
-use Rattle.exam_score.specs.Tallies.{tally_beside, slot_of, AreLinked}
+use Rattle.exam_score.specs.Tallies.{tally_beside}
+use Rattle.exam_score.specs.TallyLinks.{slot_of_student, AreLinked}
 use Rattle.exam_score.specs.declared.tallies.Tally.{Tally}
 use Rattle.exam_score.proofs.walk.along.Given as goal
 
@@ -10,7 +11,7 @@ invariant-loop-other l = record {
   within : l.next ≤ l.at;
   linked : AreLinked l.tallies;
   slot : (d : Tally) → 0 < l.next
-      → slot_of linked.slots (get_or l.tallies (l.next - 1) d).student ≡ slot_of linked.slots l.tally.student;
+      → slot_of_student linked.slots (get_or l.tallies (l.next - 1) d).student ≡ slot_of_student linked.slots l.tally.student;
   row : l.sums.row + sum_by (tally_beside (row_cost l.instance.periods l.instance.weights) l.tally) (take l.next l.tallies)
       ≡ sum_by (tally_beside (row_cost l.instance.periods l.instance.weights) l.tally) (take l.at l.tallies);
   day : l.sums.day + sum_by (tally_beside (day_cost l.instance.periods l.instance.weights) l.tally) (take l.next l.tallies)

@@ -2,7 +2,7 @@ use Rattle.std.proofs.Common.{◌≡◌, ◌≤◌, ◌+◌, ◌*◌, take, arit
 use Rattle.std.proofs.lemmas.List.{get_or_default}
 use Rattle.exam_score.specs.Cost.{row_cost, day_cost, spread_cost}
 use Rattle.exam_score.specs.Tallies.{row_count}
-use Rattle.exam_score.specs.CostLaws.{spread_cost-small}
+use Rattle.exam_score.specs.CostOrder.{spread_cost-small}
 use Rattle.exam_score.proofs.CostLemmas.{row_cost-small, day_cost-small}
 use Rattle.exam_score.proofs.WalkLemmas.{beside_small, pairs_more, small_more, small_within}
 use Rattle.exam_score.proofs.walk.sums_of_pairs.Goals as goal

@@ -1,6 +1,6 @@
 use Rattle.std.specs.Prelude.{◌≡◌, ◌++◌, drop, length}
 use Rattle.exam_model.specs.Enrolments.{AreEnrolments}
-use Rattle.office_model.specs.Batches.{enrolled, no_counts}
+use Rattle.office_model.specs.BatchLines.{enrolled, no_counts}
 use Rattle.office_enrolment.specs.AfterBatch.{acting, lines_in}
 use Rattle.office_enrolment.proofs.batch.after_batch.Given as goal
 

@@ -1,5 +1,5 @@
 use Rattle.std.proofs.Common.{arith}
-use Rattle.office_model.specs.Batches.{no_counts}
+use Rattle.office_model.specs.BatchLines.{no_counts}
 use Rattle.office_enrolment.proofs.LineLemmas.{accepted, all_counted}
 use Rattle.office_enrolment.proofs.TextLemmas.{few_changes}
 use Rattle.office_enrolment.proofs.laws.lines_are_counted.Goals as goal

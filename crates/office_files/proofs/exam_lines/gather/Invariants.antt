@@ -1,5 +1,5 @@
 use Rattle.std.proofs.Common.{◌≡◌, ◌++◌, true, length}
-use Rattle.office_files.specs.ExamLines.{named_in, fault_in}
+use Rattle.office_files.specs.ExamStudents.{named_in, fault_in}
 use Rattle.office_files.proofs.ExamLineLemmas.{IsUpTo}
 use Rattle.office_files.proofs.exam_lines.gather.Given as goal
 

@@ -2,9 +2,10 @@ use Rattle.std.proofs.Common.{◌≡◌, ◌∙◌, ◌++◌, ℕ, List, ap, sym
 use Rattle.std.specs.List.{flat_map}
 use Rattle.std.specs.Prelude.{slice_get}
 use Rattle.exam_model.specs.Enrolments.{students}
-use Rattle.office_files.specs.CanonicalText.{line_of, header_text, exam_text, exam_lines_of}
+use Rattle.office_files.specs.CanonicalLines.{line_of, exam_text}
+use Rattle.office_files.specs.CanonicalText.{header_text, exam_lines_of}
 use Rattle.office_files.specs.ExamLines.{ExamLine}
-use Rattle.office_files.specs.InstanceText.{exams_heading}
+use Rattle.office_files.specs.Spelled.{exams_heading}
 use Rattle.office_files.proofs.CanonicalSteps.{step, whole, line_at, length_lines}
 use Rattle.office_files.proofs.instance_writer.add_exams.Goals as goal
 

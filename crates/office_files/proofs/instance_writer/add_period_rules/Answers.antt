@@ -1,6 +1,7 @@
 use Rattle.std.proofs.Common.{length, string_bytes, ap, arith}
-use Rattle.office_files.specs.CanonicalText.{line_of, header_text, period_rule_text}
-use Rattle.office_files.specs.InstanceText.{period_rules_heading}
+use Rattle.office_files.specs.CanonicalLines.{line_of, period_rule_text}
+use Rattle.office_files.specs.CanonicalText.{header_text}
+use Rattle.office_files.specs.Spelled.{period_rules_heading}
 use Rattle.office_files.proofs.CanonicalSteps.{whole}
 use Rattle.office_files.proofs.instance_writer.add_period_rules.Goals as goal
 

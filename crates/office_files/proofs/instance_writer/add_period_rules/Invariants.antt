@@ -1,7 +1,8 @@
 use Rattle.std.proofs.Common.{◌≡◌, ◌++◌, length, string_bytes, take}
 use Rattle.std.specs.List.{flat_map}
-use Rattle.office_files.specs.CanonicalText.{line_of, header_text, period_rule_text}
-use Rattle.office_files.specs.InstanceText.{period_rules_heading}
+use Rattle.office_files.specs.CanonicalLines.{line_of, period_rule_text}
+use Rattle.office_files.specs.CanonicalText.{header_text}
+use Rattle.office_files.specs.Spelled.{period_rules_heading}
 use Rattle.office_files.proofs.instance_writer.add_period_rules.Given as goal
 
 abbrev pub invariant-loop-rule : goal.invariant-loop-rule

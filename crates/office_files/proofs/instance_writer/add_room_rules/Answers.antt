@@ -1,6 +1,7 @@
 use Rattle.std.proofs.Common.{length, string_bytes, ap, arith}
-use Rattle.office_files.specs.CanonicalText.{line_of, header_text, room_rule_text}
-use Rattle.office_files.specs.InstanceText.{room_rules_heading}
+use Rattle.office_files.specs.CanonicalLines.{line_of, room_rule_text}
+use Rattle.office_files.specs.CanonicalText.{header_text}
+use Rattle.office_files.specs.Spelled.{room_rules_heading}
 use Rattle.office_files.proofs.CanonicalSteps.{whole}
 use Rattle.office_files.proofs.instance_writer.add_room_rules.Goals as goal
 

@@ -1,7 +1,8 @@
 use Rattle.std.proofs.Common.{◌++◌, ◌∙◌, ap, sym, length, string_bytes}
 use Rattle.std.specs.Prelude.{slice_get}
-use Rattle.office_files.specs.CanonicalText.{line_of, header_text, room_text}
-use Rattle.office_files.specs.InstanceText.{rooms_heading}
+use Rattle.office_files.specs.CanonicalLines.{line_of, room_text}
+use Rattle.office_files.specs.CanonicalText.{header_text}
+use Rattle.office_files.specs.Spelled.{rooms_heading}
 use Rattle.office_files.proofs.CanonicalSteps.{step}
 use Rattle.office_files.proofs.instance_writer.add_rooms.Goals as goal
 

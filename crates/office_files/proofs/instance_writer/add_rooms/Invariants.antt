@@ -1,7 +1,8 @@
 use Rattle.std.proofs.Common.{◌≡◌, ◌++◌, length, string_bytes, take}
 use Rattle.std.specs.List.{flat_map}
-use Rattle.office_files.specs.CanonicalText.{line_of, header_text, room_text}
-use Rattle.office_files.specs.InstanceText.{rooms_heading}
+use Rattle.office_files.specs.CanonicalLines.{line_of, room_text}
+use Rattle.office_files.specs.CanonicalText.{header_text}
+use Rattle.office_files.specs.Spelled.{rooms_heading}
 use Rattle.office_files.proofs.instance_writer.add_rooms.Given as goal
 
 abbrev pub invariant-loop-number : goal.invariant-loop-number

@@ -1,6 +1,7 @@
 use Rattle.std.proofs.Common.{string_bytes}
-use Rattle.office_files.specs.CanonicalText.{line_of, weighting_text, header_text}
-use Rattle.office_files.specs.InstanceText.{weightings_heading}
+use Rattle.office_files.specs.CanonicalLines.{line_of, weighting_text}
+use Rattle.office_files.specs.CanonicalText.{header_text}
+use Rattle.office_files.specs.Spelled.{weightings_heading}
 use Rattle.office_files.specs.declared.weightings.Weighting.TheVariants.{Row, Day, Spread, Mixed, Front}
 use Rattle.office_files.proofs.CanonicalSteps.{five_written}
 use Rattle.office_files.proofs.instance_writer.add_weightings.Goals as goal

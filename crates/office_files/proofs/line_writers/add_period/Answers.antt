@@ -1,4 +1,4 @@
-use Rattle.office_files.specs.CanonicalText.{before, date_text, time_text}
+use Rattle.office_files.specs.CanonicalLines.{before, date_text, time_text}
 use Rattle.std.specs.Prelude.{decimal}
 use Rattle.office_files.proofs.CanonicalSteps.{period_written}
 use Rattle.office_files.proofs.line_writers.add_period.Goals as goal

@@ -1,5 +1,5 @@
 use Rattle.std.proofs.Common.{◌≡◌, string_bytes, take}
-use Rattle.office_files.specs.CanonicalText.{canonical_solution}
+use Rattle.office_files.specs.CanonicalSolution.{canonical_solution}
 use Rattle.office_files.proofs.solution_writer.solution_text.Given as goal
 
 abbrev pub invariant-loop-exam : goal.invariant-loop-exam

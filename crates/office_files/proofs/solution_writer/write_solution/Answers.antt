@@ -1,5 +1,5 @@
 use Rattle.std.proofs.Common.{◌≡◌, ◌∙◌, List, ℕ, Vec, Global, ap, sym, subst}
-use Rattle.office_files.specs.CanonicalText.{canonical_solution}
+use Rattle.office_files.specs.CanonicalSolution.{canonical_solution}
 use Rattle.office_files.specs.SolutionText.{SolutionText, solution_in}
 use Rattle.office_files.proofs.CanonicalSolution.{solution_spelled, solution_same}
 use Rattle.office_files.proofs.solution_writer.write_solution.Goals as goal

@@ -1,5 +1,5 @@
 use Rattle.std.proofs.Common.{◌≡◌, drop}
-use Rattle.office_files.specs.Weightings.{with_weightings, no_weights}
+use Rattle.office_files.specs.Weights.{with_weightings, no_weights}
 use Rattle.office_files.proofs.weightings.weights_of.Given as goal
 
 abbrev pub invariant-loop-one : goal.invariant-loop-one

@@ -1,5 +1,5 @@
 use Rattle.office_http.proofs.IsolationLemmas.{all_by_view, both_quiet, each_told}
-use Rattle.office_http.specs.Isolation.{entries}
+use Rattle.office_http.specs.Transcripts.{entries}
 use Rattle.office_http.proofs.laws.same_view_same_replies.Goals as goal
 
 pub returns-clause-agree : goal.returns-clause-agree

@@ -1,7 +1,8 @@
 use Rattle.std.proofs.Common.{option_copied, subst, sym}
 use Rattle.office_messages.specs.Heads.{plain_request}
 use Rattle.office_messages.specs.Reply.{PlainReply, plain_reply}
-use Rattle.office_requests.specs.Requests.{GivesAsked, reading}
+use Rattle.office_requests.specs.Requests.{reading}
+use Rattle.office_requests.specs.Answering.{GivesAsked}
 use Rattle.office_http.specs.Replying.{RepliesTo}
 use Rattle.office_http.proofs.AnswerLemmas.{refused}
 use Rattle.office_http.proofs.CandidateLemmas.{tells}

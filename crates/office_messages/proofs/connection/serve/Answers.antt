@@ -2,8 +2,10 @@ use Rattle.std.proofs.Common.{ℕ, Bool, false, List, [], ◌++◌, drop, refl, 
 use Rattle.std.proofs.KnownBytes.{Consumes-trans, Consumes-nil}
 use Rattle.std.proofs.lemmas.Result.{err_from_is_err_and}
 use Rattle.std.proofs.lemmas.List.{nil_from_length}
-use Rattle.office_messages.specs.Heads.{Knows, plain_request}
-use Rattle.office_messages.specs.Stream.{RequestAt, FaultAt, Unfinished}
+use Rattle.office_messages.specs.Heads.{plain_request}
+use Rattle.office_messages.specs.Looks.{Knows}
+use Rattle.office_messages.specs.Stream.{RequestAt}
+use Rattle.office_messages.specs.StreamFaults.{FaultAt, Unfinished}
 use Rattle.office_messages.proofs.ServeLemmas.{Progress, start, grown, answered, asked, refused}
 use Rattle.office_messages.proofs.ServeLemmas.{limit, closed, cut, front, unsent, unrefused}
 use Rattle.office_messages.proofs.ServeLemmas.{knows_more, knows_nothing}

@@ -1,6 +1,6 @@
 use Rattle.std.proofs.Common.{◌-◌, ◌+◌, ◌≤◌}
 use Rattle.std.specs.Prelude.{vec_capacity}
-use Rattle.office_messages.specs.Heads.{Knows}
+use Rattle.office_messages.specs.Looks.{Knows}
 use Rattle.office_messages.proofs.ServeLemmas.{Progress}
 use Rattle.office_messages.proofs.connection.serve.Given as goal
 

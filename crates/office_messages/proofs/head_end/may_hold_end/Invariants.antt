@@ -1,5 +1,5 @@
 use Rattle.std.proofs.Common.{◌≡◌, ℕ, ◌<◌, ◌≤◌, take, false}
-use Rattle.office_messages.specs.Stream.{ends_as_head}
+use Rattle.office_messages.specs.HeadEnds.{ends_as_head}
 use Rattle.office_messages.proofs.head_end.may_hold_end.Given as goal
 
 abbrev pub invariant-loop-last : goal.invariant-loop-last

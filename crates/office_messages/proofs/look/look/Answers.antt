@@ -1,6 +1,6 @@
 use Rattle.std.proofs.Common.{◌≡◌, ◌<◌, ◌≤◌, ℕ, List, length, take, length-take, true, false, arith, ap}
 use Rattle.std.proofs.Common.{subst}
-use Rattle.office_messages.specs.Stream.{ends_as_head}
+use Rattle.office_messages.specs.HeadEnds.{ends_as_head}
 use Rattle.office_messages.proofs.HeadEndLemmas.{searched_none, found_end}
 use Rattle.office_messages.proofs.look.look.Goals as goal
 

@@ -3,8 +3,9 @@ use Rattle.std.proofs.lemmas.Result.{IfOk-weaker}
 use Rattle.clap.specs.Words.{FailsBy, app_of, is_simple, new_app, subcommand_of, with_subcommand}
 use Rattle.clap.specs.Faults.{fault_of, is_simple_and_free}
 use Rattle.clap.specs.Simple.{app_of_fields}
-use Rattle.office_program.specs.Program.{check_app, export_app, load_app, program, serve_app}
-use Rattle.office_program.specs.Program.{wants_subcommand}
+use Rattle.office_program.specs.CommandLine.{check_app, export_app, load_app}
+use Rattle.office_program.specs.Program.{program, wants_subcommand}
+use Rattle.office_program.specs.ServeLine.{serve_app}
 use Rattle.office_program.proofs.words.matches.Goals as goal
 
 -- the command that is built is the program

@@ -1,7 +1,7 @@
 use Rattle.std.proofs.Common.{refl, subst, arith}
 use Rattle.std.specs.Prelude.{All}
 use Rattle.std.proofs.lemmas.List.{take_all}
-use Rattle.office_records.specs.Found.{IsBatchRow}
+use Rattle.office_records.specs.FoundBatches.{IsBatchRow}
 use Rattle.office_records.proofs.BatchRowLemmas.{no_row}
 use Rattle.office_records.proofs.PlacedSeatLemmas.{pushed}
 use Rattle.office_records.proofs.batches.are_batches.Goals as goal

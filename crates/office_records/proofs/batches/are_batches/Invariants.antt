@@ -1,5 +1,5 @@
 use Rattle.std.specs.Prelude.{All, take}
-use Rattle.office_records.specs.Found.{IsBatchRow}
+use Rattle.office_records.specs.FoundBatches.{IsBatchRow}
 use Rattle.office_records.proofs.batches.are_batches.Given as goal
 
 abbrev pub invariant-rows : goal.invariant-rows

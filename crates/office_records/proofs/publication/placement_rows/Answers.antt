@@ -1,6 +1,6 @@
 use Rattle.std.proofs.Common.{ℕ, ◌<◌, ◌++◌, List, [], ◌∷◌, Global, Vec, length, sym, ◌∙◌, ap, ap₂, arith}
 use Rattle.exam_model.specs.Timetable.{place_of}
-use Rattle.office_tables.specs.declared.rows.PlacedRow.{PlacedRow}
+use Rattle.office_tables.specs.declared.placed.PlacedRow.{PlacedRow}
 use Rattle.office_records.specs.Publications.{placed_row}
 use Rattle.office_records.proofs.PlacedRowLemmas.{placed_more, placed_same}
 use Rattle.office_records.proofs.publication.placement_rows.Goals as goal

@@ -4,10 +4,11 @@ use Rattle.std.specs.Prelude.{IfErr, Option}
 use Rattle.std.specs.Result.{IsErrAnd}
 use Rattle.exam_model.specs.Timetable.{Placing}
 use Rattle.office_tables.specs.Adopting.{tables_of}
-use Rattle.office_tables.specs.Records.{counts_of}
+use Rattle.office_tables.specs.Batch.{counts_of}
 use Rattle.office_tables.specs.Tables.{Batch}
 use Rattle.office_tables.specs.declared.found.Found.{Found}
-use Rattle.office_records.specs.Found.{AreBatchRows, AreDrafts, AreEnrolRows, AreOwners, IsUnloaded}
+use Rattle.office_records.specs.Found.{AreDrafts, AreEnrolRows, AreOwners, IsUnloaded}
+use Rattle.office_records.specs.FoundBatches.{AreBatchRows}
 use Rattle.office_model.specs.Office.{OfficeState, Records, AreRecords, IsOffice}
 use Rattle.office_records.specs.Stands.{IsSound, StandsForOffice, StandsLoaded}
 use Rattle.office_records.specs.declared.fault.RecordFault.{RecordFault}

@@ -1,7 +1,7 @@
 use Rattle.std.proofs.Common.{◌≡◌, ◌+◌, ◌++◌, ◌∷◌, [], List, rules, sym, subst, take}
 use Rattle.std.proofs.lemmas.List.{take_all}
 use Rattle.std.proofs.lemmas.Result.{err_from_is_err_and}
-use Rattle.office_tables.specs.declared.rows.DraftRow.{DraftRow}
+use Rattle.office_tables.specs.declared.draft.DraftRow.{DraftRow}
 use Rattle.office_records.proofs.DraftRowLemmas.{scored_row}
 use Rattle.office_records.proofs.RescoredLemmas.{AreRescored, rescored_more, same_drafts}
 use Rattle.office_records.proofs.rescoring.rescored.Goals as goal

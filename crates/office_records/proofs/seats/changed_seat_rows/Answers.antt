@@ -1,9 +1,9 @@
 use Rattle.std.proofs.Common.{◌≡◌, ◌+◌, ◌<◌, ◌++◌, ◌∷◌, [], ◌∙◌, ℕ, Bool, cond, List, ap, ap₂, get_or, length, map, sym, take}
 use Rattle.std.proofs.lemmas.List.{append-nil, map-append, take_more}
 use Rattle.std.proofs.lemmas.List.Elements.{filter-append}
-use Rattle.exam_model.specs.Enrolments.{has_student}
+use Rattle.exam_model.specs.Enrolments.{has_number}
 use Rattle.exam_publish.specs.declared.seat_row.SeatRow as publish
-use Rattle.office_tables.specs.declared.rows.SeatRow.{SeatRow}
+use Rattle.office_tables.specs.declared.seat.SeatRow.{SeatRow}
 use Rattle.office_records.specs.Publications.{stored_seat}
 use Rattle.office_records.specs.SeatsStored.{seat_rows_of}
 use Rattle.office_records.proofs.seats.changed_seat_rows.Goals as goal
@@ -14,11 +14,11 @@ more : (who : List ℕ) (rows : List publish.SeatRow) (i : ℕ) (row : publish.S
     → i < length rows → row ≡ get_or rows i row
     → seat_rows_of who (map stored_seat (take (i + 1) rows))
     ≡ seat_rows_of who (map stored_seat (take i rows))
-    ++ cond (has_student who row.student) (stored_seat row ∷ []) []
+    ++ cond (has_number who row.student) (stored_seat row ∷ []) []
 more who rows i row within is =
     ap (λ l. seat_rows_of who (map stored_seat l)) (take_more rows i row within)
     ∙ ap (seat_rows_of who) (map-append stored_seat (take i rows) (get_or rows i row ∷ []))
-    ∙ filter-append (λ (r : SeatRow). has_student who r.student) (map stored_seat (take i rows))
+    ∙ filter-append (λ (r : SeatRow). has_number who r.student) (map stored_seat (take i rows))
     (stored_seat (get_or rows i row) ∷ [])
     ∙ ap (λ r. seat_rows_of who (map stored_seat (take i rows))
     ++ seat_rows_of who (stored_seat r ∷ [])) (sym is)

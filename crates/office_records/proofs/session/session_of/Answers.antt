@@ -8,7 +8,7 @@ use Rattle.exam_model.specs.Instance.{Session}
 use Rattle.office_files.specs.declared.fault.FaultKind.TheVariants.{NoMemory}
 use Rattle.office_files.specs.declared.fault.FileFault.{FileFault}
 use Rattle.office_files.specs.InstanceText.{instance_in}
-use Rattle.office_tables.specs.Records.{meta_from}
+use Rattle.office_tables.specs.Meta.{meta_from}
 use Rattle.office_tables.specs.Tables.{Meta}
 use Rattle.office_records.specs.Found.{IsSessionRow}
 use Rattle.office_records.specs.Stands.{session_text}

@@ -1,6 +1,6 @@
 use Rattle.std.proofs.Common.{◌≡◌, map, take}
 use Rattle.std.specs.Prelude.{All}
-use Rattle.office_tables.specs.Amounts.{AreStudentAmounts}
+use Rattle.office_tables.specs.ShareStudent.{AreStudentAmounts}
 use Rattle.office_records.specs.SharesStored.{share_rows_of, student_share_row}
 use Rattle.office_records.proofs.student_shares.changed_share_rows.Given as goal
 

@@ -10,6 +10,12 @@ exams-preserved-in_default c =
     exam_unplaced c.args.timetable.now c.exams.number c.exams.invariant
     (sym (rw c.new-exam.ensures at c.get.ensures) ∙ c.in_default.is)
 
+pub slot_of-requires-clause-period : goal.slot_of-requires-clause-period
+slot_of-requires-clause-period c = (c.has_place.ensures.0 c.if-has_place.true).0
+
+pub slot_of-requires-clause-room : goal.slot_of-requires-clause-room
+slot_of-requires-clause-room c = (c.has_place.ensures.0 c.if-has_place.true).1
+
 pub exams-preserved : goal.exams-preserved
 exams-preserved c =
     let T = c.args.timetable.now in

@@ -5,6 +5,12 @@ use Rattle.office_reports.proofs.SlotLemmas.{seat_outside, seat_put}
 use Rattle.office_reports.proofs.slots.seats_by_slot.Goals as goal
 use Rattle.office_reports.proofs.slots.seats_by_slot.Goals.{then-has_place, else-has_place}
 
+pub slot_of-slot-requires-clause-period : goal.slot_of-slot-requires-clause-period
+slot_of-slot-requires-clause-period c = (c.has_place.ensures.0 c.if-has_place.true).0
+
+pub slot_of-slot-requires-clause-room : goal.slot_of-slot-requires-clause-room
+slot_of-slot-requires-clause-room c = (c.has_place.ensures.0 c.if-has_place.true).1
+
 pub seats-preserved : goal.seats-preserved
 seats-preserved c =
     let rows = c.args.seats.now in

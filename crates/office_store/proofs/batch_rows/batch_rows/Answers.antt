@@ -3,8 +3,8 @@ use Rattle.std.specs.Prelude.{IsPermutation}
 use Rattle.std.proofs.lemmas.List.Sorted.{IsPermutation-refl}
 use Rattle.sqlite.specs.Held.{state}
 use Rattle.sqlite.specs.State.{HasCleanDisk}
-use Rattle.office_tables.specs.declared.rows.DraftRow.{DraftRow}
-use Rattle.office_tables.specs.declared.rows.SlotRow.{SlotRow}
+use Rattle.office_tables.specs.declared.draft.DraftRow.{DraftRow}
+use Rattle.office_tables.specs.declared.slot.SlotRow.{SlotRow}
 use Rattle.office_store.proofs.AdoptLemmas.{held_still, keeps_still, kept_by, unchanged_then}
 use Rattle.office_store.proofs.AllDraftLemmas.{drafts_read, first, first_more}
 use Rattle.office_store.proofs.batch_rows.batch_rows.Goals as goal

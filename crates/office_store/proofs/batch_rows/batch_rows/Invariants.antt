@@ -1,9 +1,10 @@
 use Rattle.std.specs.Prelude.{◌≡◌, IsPermutation, IsTrue, false, map}
 use Rattle.sqlite.specs.Held.{state}
 use Rattle.sqlite.specs.State.{HasCleanDisk, IsUnchanged}
-use Rattle.office_tables.specs.Tables.{Tables, Stands}
-use Rattle.office_tables.specs.declared.rows.DraftRow.{DraftRow}
-use Rattle.office_tables.specs.declared.rows.SlotRow.{SlotRow}
+use Rattle.office_tables.specs.Tables.{Tables}
+use Rattle.office_tables.specs.Standing.{Stands}
+use Rattle.office_tables.specs.declared.draft.DraftRow.{DraftRow}
+use Rattle.office_tables.specs.declared.slot.SlotRow.{SlotRow}
 use Rattle.office_store.proofs.AllDraftLemmas.{first}
 use Rattle.office_store.proofs.batch_rows.batch_rows.Given as goal
 

@@ -1,7 +1,8 @@
 use Rattle.std.proofs.Common.{length}
 use Rattle.exam_model.specs.Enrolments.{IsAscending}
 use Rattle.exam_score.specs.Folds.{IsFoldOf}
-use Rattle.office_store.specs.Folding.{HasRead, HasTaken, IsSame}
+use Rattle.office_store.specs.FoldReads.{HasRead, IsSame}
+use Rattle.office_store.specs.Folding.{HasTaken}
 use Rattle.office_store.proofs.folding.fold_students.Given as goal
 
 -- the students before the rest are taken in

@@ -3,7 +3,7 @@ use Rattle.std.proofs.lemmas.List.Filters.{dedup_is}
 use Rattle.std.proofs.lemmas.List.Kept.{AllPairs-from_increasing}
 use Rattle.std.proofs.lemmas.List.Sorted.{list_any-IsPermutation}
 use Rattle.std.proofs.lemmas.Map.Keys.{IsStrictlyIncreasing-dedup}
-use Rattle.exam_model.specs.Enrolments.{has_student}
+use Rattle.exam_model.specs.Enrolments.{has_number}
 use Rattle.exam_publish.proofs.ListLemmas.{is_ascending, has_dedup}
 use Rattle.office_store.proofs.folding.in_order.Goals as goal
 
@@ -13,4 +13,4 @@ returns c =
     let sorted = c.sort_unstable.new.self.items in
     is_ascending c.args.found.items c.dedup.new.self.items
     (rw is (λ i j l m. AllPairs-from_increasing _ (IsStrictlyIncreasing-dedup sorted c.sort_unstable.ensures.sorted) i j 0 l m))
-    (λ t. ap (λ xs. has_student xs t) is ∙ has_dedup sorted t ∙ sym (list_any-IsPermutation (λ x. eqb x t) c.args.found.items sorted c.sort_unstable.ensures.permutation))
+    (λ t. ap (λ xs. has_number xs t) is ∙ has_dedup sorted t ∙ sym (list_any-IsPermutation (λ x. eqb x t) c.args.found.items sorted c.sort_unstable.ensures.permutation))

@@ -7,7 +7,7 @@ use Rattle.sqlite_trees.proofs.ListLemmas.{all-filter}
 use Rattle.office_tables.specs.Tables.{Batch}
 use Rattle.office_model.specs.declared.fault.StoreFault.{StoreFault}
 use Rattle.office_model.specs.declared.fault.StoreFault.TheVariants.{BadSchema}
-use Rattle.office_records.specs.Found.{IsShort}
+use Rattle.office_records.specs.FoundBatches.{IsShort}
 use Rattle.office_store.proofs.kept_bytes.check_batch.Goals as goal
 
 -- what is refused for what is not so

@@ -2,8 +2,8 @@ use Rattle.std.proofs.Common.{◌≡◌, inl, All, Err, filter, eqb, refl, rules
 use Rattle.std.specs.List.{AllByRecursion}
 use Rattle.std.proofs.lemmas.List.{take_all}
 use Rattle.office_tables.specs.Tables.{Batch}
-use Rattle.office_tables.specs.declared.rows.BatchCountsRow.{BatchCountsRow}
-use Rattle.office_records.specs.Found.{IsShort}
+use Rattle.office_tables.specs.declared.batch.BatchCountsRow.{BatchCountsRow}
+use Rattle.office_records.specs.FoundBatches.{IsShort}
 use Rattle.office_records.proofs.BatchRowLemmas.{no_row, short_by_rows}
 use Rattle.office_records.proofs.PlacedSeatLemmas.{pushed}
 use Rattle.office_store.proofs.AdoptLemmas.{held_still, keeps_still, kept_by, same_then}

@@ -2,9 +2,10 @@ use Rattle.std.specs.Prelude.{◌≡◌, ◌⊎◌, ◌==◌, All, false, filter
 use Rattle.std.specs.List.{AllByRecursion}
 use Rattle.sqlite.specs.Held.{state}
 use Rattle.sqlite.specs.State.{HasCleanDisk, IsUnchanged}
-use Rattle.office_tables.specs.Tables.{Tables, Stands}
-use Rattle.office_tables.specs.declared.rows.BatchCountsRow.{BatchCountsRow}
-use Rattle.office_records.specs.Found.{IsShort}
+use Rattle.office_tables.specs.Tables.{Tables}
+use Rattle.office_tables.specs.Standing.{Stands}
+use Rattle.office_tables.specs.declared.batch.BatchCountsRow.{BatchCountsRow}
+use Rattle.office_records.specs.FoundBatches.{IsShort}
 use Rattle.office_store.proofs.kept_bytes.check_bytes.Given as goal
 
 abbrev pub invariant-batches : goal.invariant-batches

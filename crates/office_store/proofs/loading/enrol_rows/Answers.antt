@@ -1,7 +1,7 @@
 use Rattle.std.proofs.Common.{rules, ◌≡◌, ◌<◌, List, length, ◌++◌, map, take, ◌∙◌, ap}
 use Rattle.exam_model.specs.Enrolments.{students}
 use Rattle.exam_model.specs.Pairs.{pairs_at, pairs_of}
-use Rattle.office_tables.specs.declared.rows.EnrolRow.{EnrolRow}
+use Rattle.office_tables.specs.declared.enrol.EnrolRow.{EnrolRow}
 use Rattle.office_records.specs.Stands.{enrol_row}
 use Rattle.office_store.proofs.LoadLemmas.{exam_added}
 use Rattle.office_store.proofs.loading.enrol_rows.Goals as goal

@@ -2,10 +2,10 @@ use Rattle.std.proofs.Common.{◌≡◌, ◌≤◌, Err, List, length, map, arit
 use Rattle.std.specs.Prelude.{All}
 use Rattle.exam_model.specs.Enrolments.{Enrolled}
 use Rattle.exam_model.specs.Instance.{Session}
-use Rattle.office_tables.specs.Amounts.{AreAmounts}
-use Rattle.office_tables.specs.declared.drafts.InsertDraft.{InsertDraft}
-use Rattle.office_tables.specs.declared.rows.DraftRow.{DraftRow}
-use Rattle.office_tables.specs.declared.rows.SlotRow.{SlotRow}
+use Rattle.office_tables.specs.Draft.{AreAmounts}
+use Rattle.office_tables.specs.declared.draft.InsertDraft.{InsertDraft}
+use Rattle.office_tables.specs.declared.draft.DraftRow.{DraftRow}
+use Rattle.office_tables.specs.declared.slot.SlotRow.{SlotRow}
 use Rattle.office_enrolment.specs.AfterBatch.{Refuses, acting, after_batch}
 use Rattle.office_enrolment.proofs.OfficeLemmas.{exams_after}
 use Rattle.office_records.specs.Faults.{store_fault}

@@ -1,6 +1,6 @@
 use Rattle.std.proofs.Common.{subst}
 use Rattle.sqlite.specs.Held.{state}
-use Rattle.office_tables.specs.Tables.{Stands}
+use Rattle.office_tables.specs.Standing.{Stands}
 use Rattle.office_store.proofs.BatchPuttingLemmas.{batch_made}
 use Rattle.office_store.proofs.new_batch.put_batch.Goals as goal
 

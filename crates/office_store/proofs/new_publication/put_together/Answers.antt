@@ -4,8 +4,8 @@ use Rattle.exam_publish.specs.Shares.{Sharing}
 use Rattle.office_records.specs.Publications.{stored_seat}
 use Rattle.office_records.specs.SeatsStored.{seat_rows_of}
 use Rattle.office_records.specs.SharesStored.{HasFewParts, part_rows, share_rows_of, student_share_row}
-use Rattle.office_store.specs.NewPublications.{her_seats_gone, part_share_put, seat_put}
-use Rattle.office_store.specs.NewPublications.{share_gone, student_share_put}
+use Rattle.office_store.specs.RowPuts.{her_seats_gone, part_share_put, seat_put}
+use Rattle.office_store.specs.RowPuts.{share_gone, student_share_put}
 use Rattle.office_store.proofs.NewPublicationLemmas.{few_parts}
 use Rattle.office_store.proofs.new_publication.put_together.Goals as goal
 

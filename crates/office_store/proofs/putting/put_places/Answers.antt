@@ -1,7 +1,7 @@
 use Rattle.std.proofs.Common.{Ok, subst}
 use Rattle.sqlite.specs.Held.{state}
-use Rattle.office_tables.specs.Tables.{Stands}
-use Rattle.office_store.specs.Changes.{places_put}
+use Rattle.office_tables.specs.Standing.{Stands}
+use Rattle.office_store.specs.PublicationChanges.{places_put}
 use Rattle.office_store.proofs.PublishLemmas.{places_made}
 use Rattle.office_store.proofs.StepLemmas.{changes_as, changes_then}
 use Rattle.office_store.proofs.putting.put_places.Goals as goal

@@ -1,7 +1,7 @@
 use Rattle.std.proofs.Common.{subst}
 use Rattle.sqlite.specs.Held.{state}
-use Rattle.office_tables.specs.Tables.{Stands}
-use Rattle.office_store.specs.Changes.{shares_put}
+use Rattle.office_tables.specs.Standing.{Stands}
+use Rattle.office_store.specs.PublicationChanges.{shares_put}
 use Rattle.office_store.proofs.PublishLemmas.{shares_made}
 use Rattle.office_store.proofs.StepLemmas.{changes_as, changes_then}
 use Rattle.office_store.proofs.putting.put_shares.Goals as goal

@@ -1,5 +1,5 @@
 use Rattle.std.proofs.Common.{rules, ◌≡◌, ap, map, Err, Ok, sym, ◌∙◌}
-use Rattle.office_tables.specs.declared.rows.EnrolRow.{EnrolRow}
+use Rattle.office_tables.specs.declared.enrol.EnrolRow.{EnrolRow}
 use Rattle.office_store.specs.Viewing.{place_in_row}
 use Rattle.office_store.proofs.PublishedReadLemmas.{told_fault}
 use Rattle.office_store.proofs.ViewLemmas.{not_bad, personal_is, share_of_hers}

@@ -1,5 +1,6 @@
 use Rattle.sqlite.specs.Held.{state}
-use Rattle.office_tables.specs.Adopting.{IsFoundBatches, IsFoundDrafts, IsFoundPublication}
+use Rattle.office_tables.specs.Batch.{IsFoundBatches}
+use Rattle.office_tables.specs.Adopting.{IsFoundDrafts, IsFoundPublication}
 use Rattle.office_tables.proofs.AdoptLemmas.{clean_before, found_after, looks_then, stays_then, rows_found}
 use Rattle.office_tables.proofs.adopting.adopt_rows.Goals as goal
 

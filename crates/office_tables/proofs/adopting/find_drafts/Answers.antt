@@ -1,7 +1,7 @@
 use Rattle.sqlite.specs.Held.{state}
 use Rattle.office_tables.specs.Readings.{IsFound}
-use Rattle.office_tables.specs.Records.{FitsSlot}
-use Rattle.office_tables.specs.Tables.{keyless, slot_columns}
+use Rattle.office_tables.specs.Slot.{FitsSlot, slot_columns}
+use Rattle.office_tables.specs.Stored.{keyless}
 use Rattle.office_tables.proofs.AdoptLemmas.{clean_before, found_after, looks_then, stays_then, drafts_found}
 use Rattle.office_tables.proofs.adopting.find_drafts.Goals as goal
 

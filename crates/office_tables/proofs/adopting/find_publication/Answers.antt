@@ -1,7 +1,9 @@
 use Rattle.sqlite.specs.Held.{state}
 use Rattle.office_tables.specs.Readings.{IsFound}
-use Rattle.office_tables.specs.Records.{FitsSeat, FitsStudentShare, FitsPartShare}
-use Rattle.office_tables.specs.Tables.{keyed, keyless, seat_columns, share_student_columns, share_part_columns}
+use Rattle.office_tables.specs.Seat.{FitsSeat, seat_columns}
+use Rattle.office_tables.specs.ShareStudent.{FitsStudentShare, share_student_columns}
+use Rattle.office_tables.specs.SharePart.{FitsPartShare, share_part_columns}
+use Rattle.office_tables.specs.Stored.{keyed, keyless}
 use Rattle.office_tables.proofs.AdoptLemmas.{clean_before, found_after, looks_then, stays_then, publication_found}
 use Rattle.office_tables.proofs.adopting.find_publication.Goals as goal
 

@@ -1,7 +1,8 @@
 use Rattle.sqlite.specs.Held.{state}
 use Rattle.office_tables.specs.Readings.{IsFound}
-use Rattle.office_tables.specs.Records.{FitsOwner, FitsEnrol}
-use Rattle.office_tables.specs.Tables.{keyed, keyless, owner_columns, enrol_columns}
+use Rattle.office_tables.specs.Owner.{FitsOwner, owner_columns}
+use Rattle.office_tables.specs.Enrol.{FitsEnrol, enrol_columns}
+use Rattle.office_tables.specs.Stored.{keyed, keyless}
 use Rattle.office_tables.proofs.AdoptLemmas.{clean_before, found_after, looks_then, stays_then, session_found}
 use Rattle.office_tables.proofs.adopting.find_session.Goals as goal
 

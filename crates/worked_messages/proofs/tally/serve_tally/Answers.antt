@@ -1,7 +1,8 @@
 use Rattle.std.proofs.Common.{◌≡◌, ℕ, ◌≤◌, List, Option, Result, Ok, Err, IfOk, IfErr, arith}
 use Rattle.office_messages.specs.declared.connection.Served.{Served}
 use Rattle.office_messages.specs.declared.connection.ServeFault.{ServeFault}
-use Rattle.office_messages.specs.Serve.{Item, Told, Serves, ServesFront}
+use Rattle.office_messages.specs.Messages.{Item}
+use Rattle.office_messages.specs.Serve.{Told, Serves, ServesFront}
 use Rattle.office_messages.proofs.RunLemmas.{lent_serves, lent_serves_front, told_keeps}
 use Rattle.worked_messages.specs.declared.tally.Tally.{Tally}
 use Rattle.worked_messages.specs.Tallies.{Tallies}

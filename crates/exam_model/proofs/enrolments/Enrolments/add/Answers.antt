@@ -1,5 +1,5 @@
 use Rattle.std.proofs.Common.{◌≡◌, ◌∙◌, ◌<◌, false, sym, arith}
-use Rattle.exam_model.specs.Enrolments.{has_student}
+use Rattle.exam_model.specs.Enrolments.{has_number}
 use Rattle.exam_model.proofs.CountLemmas.{set_again, counted_again, one_more_fits, new_absent, old_present, is_has, full_refuses, adds_entered, pair_entered, counted_new, counted_old, on_err}
 use Rattle.exam_model.proofs.enrolments.Enrolments.add.Goals.{else-full-via-then-full+else-not-has, else-full-via-else-full}
 use Rattle.exam_model.proofs.enrolments.Enrolments.add.Goals as goal
@@ -57,7 +57,7 @@ overflow_add-self c = one_more_fits c.self.inside.rolls.items c.self.inside.pair
 -- no pair is added where 200,000 are there: the student would have to be there too
 pub invariant_of-self-then-fresh : goal.invariant_of-self-then-fresh
 invariant_of-self-then-fresh c =
-    let absent : has_student c.in-Some.roll.now c.args.student ≡ false =
+    let absent : has_number c.in-Some.roll.now c.args.student ≡ false =
     new_absent c.in_ok-fresh.fresh _ c.in_ok-fresh.ensures.fresh c.if-fresh.true in
     let room : c.self.inside.pairs < 200000 = elim c.else-full.branch [
       | else-full-via-then-full+else-not-has w ↦

@@ -1,7 +1,9 @@
 use Rattle.std.proofs.Common.{◌≡◌, ◌∙◌, IfSome, IfNone, ap, subst}
 use Rattle.exam_model.specs.Instance.{IsInstance}
-use Rattle.exam_score.specs.Exchanges.{CannotExchange, IsExchanged, coming, edit_share, going, is_touched}
-use Rattle.exam_score.specs.Folds.{Folded, pairs_sat, personal_at, personal_sum}
+use Rattle.exam_score.specs.Exchanges.{CannotExchange, IsExchanged, coming, edit_share, going}
+use Rattle.exam_score.specs.Touched.{is_touched}
+use Rattle.exam_score.specs.Folds.{Folded, pairs_sat}
+use Rattle.exam_score.specs.EditedCosts.{personal_at, personal_sum}
 use Rattle.exam_score.specs.Penalty.{plus}
 use Rattle.exam_score.proofs.ExchangeLemmas.{exchange_scores}
 use Rattle.exam_score.proofs.FoldLemmas.{sum_of_student}

@@ -1,7 +1,8 @@
 use Rattle.std.proofs.Common.{◌≡◌, ◌∙◌, ◌+◌, [], ◌∷◌, ◌++◌, Some, sym, ap, subst, true≢false}
 use Rattle.exam_model.specs.Pairs.{Pair}
 use Rattle.exam_score.specs.Penalty.{PersonalPenalty, plus}
-use Rattle.exam_score.specs.Folds.{CanFollow, Folded, StandsFor, pairs_sat, personal_at, personal_sum}
+use Rattle.exam_score.specs.Folds.{CanFollow, Folded, StandsFor, pairs_sat}
+use Rattle.exam_score.specs.EditedCosts.{personal_at, personal_sum}
 use Rattle.exam_score.proofs.FoldLemmas.{none_open, stands_on, stands_turn, sum_of_student}
 use Rattle.exam_score.proofs.edit_fold.EditFold.row.Goals as goal
 

@@ -1,8 +1,8 @@
 use Rattle.std.proofs.Common.{◌≡◌, true, false, rules, subst}
 use Rattle.sqlite.specs.Held.{state}
-use Rattle.office_tables.specs.Changes.{with_enrol, without_enrol}
-use Rattle.office_tables.specs.Tables.{Stands}
-use Rattle.office_tables.specs.declared.rows.EnrolRow.{EnrolRow}
+use Rattle.office_tables.specs.Enrol.{with_enrol, without_enrol}
+use Rattle.office_tables.specs.Standing.{Stands}
+use Rattle.office_tables.specs.declared.enrol.EnrolRow.{EnrolRow}
 use Rattle.office_store.specs.NewBatches.{line_put}
 use Rattle.office_store.proofs.BatchPuttingLemmas.{line_comes, line_goes}
 use Rattle.office_store.proofs.StepLemmas.{changes_as}

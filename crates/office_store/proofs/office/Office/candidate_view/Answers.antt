@@ -1,4 +1,5 @@
-use Rattle.office_model.specs.Views.{shown_to, view_of}
+use Rattle.office_model.specs.Shown.{shown_to}
+use Rattle.office_model.specs.Views.{view_of}
 use Rattle.office_store.proofs.CommandLemmas.{stays_by, tells}
 use Rattle.office_store.proofs.ViewLemmas.{nothing_told, view_told}
 use Rattle.office_store.proofs.office.Office.candidate_view.Goals as goal

@@ -3,7 +3,7 @@ use Rattle.sqlite.specs.Held.{state}
 use Rattle.exam_publish.specs.Changed.{rows_of}
 use Rattle.office_model.specs.Publishing.{rows_now}
 use Rattle.office_records.specs.Publications.{stored_seat}
-use Rattle.office_store.specs.Reading.{published_in}
+use Rattle.office_store.specs.OfficeRows.{published_in}
 use Rattle.office_store.proofs.RunLemmas.{kept_read, rest_read}
 use Rattle.office_store.proofs.ViewLemmas.{her_seats_read}
 use Rattle.office_store.proofs.office.Office.her_seats.Goals as goal

@@ -1,7 +1,7 @@
 use Rattle.std.proofs.Common.{◌==◌, ap, arith, filter, not, subst, IsPermutation, ◌∙◌}
 use Rattle.sqlite.specs.Held.{state}
-use Rattle.office_tables.specs.declared.rows.StudentShareRow.{StudentShareRow}
-use Rattle.office_store.specs.Reading.{student_rows_in}
+use Rattle.office_tables.specs.declared.share_student.StudentShareRow.{StudentShareRow}
+use Rattle.office_store.specs.OfficeRows.{student_rows_in}
 use Rattle.office_store.proofs.RunLemmas.{kept_read, rest_read}
 use Rattle.office_store.proofs.ViewLemmas.{her_shares_read}
 use Rattle.office_store.proofs.office.Office.her_shares.Goals as goal

@@ -1,7 +1,7 @@
 use Rattle.std.proofs.Common.{ap, arith, not, ◌∙◌, ◌==◌, filter, subst, sym, IsTrue}
 use Rattle.sqlite.specs.Held.{state}
 use Rattle.std.specs.Prelude.{IsPermutation}
-use Rattle.office_tables.specs.declared.rows.OwnerRow.{OwnerRow}
+use Rattle.office_tables.specs.declared.owner.OwnerRow.{OwnerRow}
 use Rattle.office_records.specs.Stands.{IsKept}
 use Rattle.office_store.proofs.OwnerLemmas.{owner_read}
 use Rattle.office_store.proofs.RunLemmas.{rest_read}

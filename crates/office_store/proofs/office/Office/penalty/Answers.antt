@@ -1,7 +1,7 @@
 use Rattle.std.proofs.Common.{◌∙◌, ap, map, refl, subst, sym}
 use Rattle.office_model.specs.declared.fault.StoreFault.TheVariants.{NotLoaded}
 use Rattle.office_store.specs.Pricing.{draft_priced}
-use Rattle.office_store.specs.Reading.{AreScored}
+use Rattle.office_store.specs.OfficeRows.{AreScored}
 use Rattle.office_store.proofs.CommandLemmas.{not_loaded, refuses, shows}
 use Rattle.office_store.proofs.office.Office.penalty.Goals as goal
 

@@ -1,4 +1,4 @@
-use Rattle.office_store.specs.Changes.{places_put, shares_put}
+use Rattle.office_store.specs.PublicationChanges.{places_put, shares_put}
 use Rattle.office_store.proofs.StepLemmas.{changes_then}
 use Rattle.office_store.proofs.putting.NewPublicationAlteration.apply.Goals as goal
 

@@ -2,7 +2,7 @@ use Rattle.std.proofs.Common.{refl, sym, subst, ap, ◌∙◌}
 use Rattle.std.proofs.lemmas.List.{take_all}
 use Rattle.sqlite.specs.Held.{state}
 use Rattle.office_tables.specs.Alterations.{after_all}
-use Rattle.office_tables.specs.Tables.{Stands}
+use Rattle.office_tables.specs.Standing.{Stands}
 use Rattle.office_tables.proofs.Inside.{within_then, within_same, clean_before, after_more}
 use Rattle.office_tables.proofs.altering.EachAlteration.apply.Goals as goal
 

@@ -1,0 +1,32 @@
+-- Who is to have a seat, and who keeps an old one: where the exam stands as before.
+use Rattle.std.specs.Prelude.{Bool, ◌&&◌, List, filter_map, option_map}
+use Rattle.std.specs.List.{find}
+use Rattle.exam_terms.specs.declared.place.Place.{Place}
+use Rattle.exam_model.specs.Pairs.{Pair, is_pair}
+use Rattle.exam_model.specs.Timetable.{Placing, place_of}
+use Rattle.exam_rules.specs.Places.{is_one_place}
+use Rattle.exam_publish.specs.declared.entrants.Entrant.{Entrant}
+use Rattle.exam_publish.specs.declared.seat_row.SeatRow.{SeatRow}
+use Rattle.exam_publish.specs.Rows.{row_place}
+
+-- whether a row is the pair's, in this room and period
+abbrev pub is_row_at : Pair → Place → SeatRow → Bool
+is_row_at p at row = is_pair row.student row.exam p && is_one_place at (row_place row)
+
+-- a pair, where its exam stands now, and its old row if that is there
+abbrev pub entrant : List SeatRow → Pair → Place → Entrant
+entrant old p at = record {
+  student = p.student;
+  exam = p.exam;
+  place = at;
+  kept = find (is_row_at p at) old;
+}
+
+-- the entrants of the pairs whose exams have places, in order
+abbrev pub entrants : List Pair → Placing → List SeatRow → List Entrant
+entrants pairs T old =
+    filter_map (λ p. option_map (entrant old p) (place_of T p.exam)) pairs
+
+-- the rows that entrants keep
+abbrev pub kept_rows : List Entrant → List SeatRow
+kept_rows xs = filter_map (λ x. x.kept) xs

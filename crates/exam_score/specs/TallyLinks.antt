@@ -1,0 +1,63 @@
+-- How the tallies of students are linked: each leads to the one before it in its slot.
+use Rattle.std.specs.Prelude.{◌≡◌, ◌≢◌, ℕ, ◌+◌, ◌-◌, ◌*◌, ◌%◌, ◌^◌, ◌<◌, ◌≤◌, List, length, slice_index, slice_index_or, AllPairs}
+use Rattle.exam_terms.specs.declared.limits.TheConstants.{MAX_PAIRS}
+use Rattle.exam_score.specs.declared.tallies.Tally.{Tally}
+
+-- the one of so many slots where a student's tallies are filed
+abbrev pub slot_of_student : ℕ → ℕ → ℕ
+slot_of_student slots student = student % slots
+
+-- of the first k tallies the last one in a slot stands just before place n, and none where n is 0
+pub record IsLast (tallies : List Tally) (slots slot n k : ℕ) : Type 0 where
+  pub within : n ≤ k
+  pub here : (d : Tally) → 0 < n
+      → slot_of_student slots (slice_index_or tallies (n - 1) d).student ≡ slot
+  pub none : (j : ℕ) (d : Tally) → n ≤ j → j < k
+      → slot_of_student slots (slice_index_or tallies j d).student ≢ slot
+
+-- each tally leads to the one before it in its slot, and the periods ascend
+pub record AreLinkedIn (tallies : List Tally) (slots : ℕ) : Type 0 where
+  pub links : (k : ℕ) (d : Tally) → k < length tallies
+      → IsLast tallies slots (slot_of_student slots (slice_index_or tallies k d).student)
+      (slice_index_or tallies k d).before k
+  pub ascending : AllPairs (λ x y. x.period ≤ y.period) tallies
+
+-- for some number of slots
+pub record AreLinked (tallies : List Tally) : Type 0 where
+  pub slots : ℕ
+  pub links : AreLinkedIn tallies slots
+
+-- and the last tally of each slot is known
+pub record AreFiled (tallies : List Tally) (last : List ℕ) (slots : ℕ) : Type 0 where
+  pub count : length last ≡ slots
+  pub lasts : (slot : ℕ) → slot < length last
+      → IsLast tallies slots slot (slice_index last slot) (length tallies)
+  pub linked : AreLinkedIn tallies slots
+
+-- how far so many tallies crowd so many slots: none has more of them, and from each tally no more
+-- steps lead back along its slot than there may be pairs
+pub record AreCrowded (sizes : List ℕ) (steps slots tallies : ℕ) : Type 0 where
+  pub count : length sizes ≡ slots
+  pub each : (slot : ℕ) → slot < length sizes → slice_index sizes slot ≤ tallies
+  pub all : steps ≤ tallies * MAX_PAIRS
+
+-- the tally just before place n is x
+pub record IsReached (tallies : List Tally) (n : ℕ) (x : Tally) : Type 0 where
+  pub some : 0 < n
+  pub here : (d : Tally) → slice_index_or tallies (n - 1) d ≡ x
+
+-- the tally just before place n is of student s and period p, and can count one more
+pub record Extends (tallies : List Tally) (n s p : ℕ) : Type 0 where
+  pub some : 0 < n
+  pub student : (d : Tally) → (slice_index_or tallies (n - 1) d).student ≡ s
+  pub period : (d : Tally) → (slice_index_or tallies (n - 1) d).period ≡ p
+  pub room : (d : Tally) → (slice_index_or tallies (n - 1) d).exams + 1 < 2 ^ 32
+
+-- new tallies, at most so many, are of period p, and the old ones keep theirs
+pub record Grows (old new : List Tally) (p most : ℕ) : Type 0 where
+  pub longer : length old ≤ length new
+  pub few : length new ≤ length old + most
+  pub kept : (k : ℕ) (d : Tally) → k < length old
+      → (slice_index_or new k d).period ≡ (slice_index_or old k d).period
+  pub added : (k : ℕ) (d : Tally) → length old ≤ k → k < length new
+      → (slice_index_or new k d).period ≡ p

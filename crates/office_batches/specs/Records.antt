@@ -1,0 +1,49 @@
+-- The records of a batch, field by field: the columns, and the change that a record says.
+use Rattle.std.specs.Prelude.{ℕ, ◌-◌, Bool, true, false, ◌&&◌, ◌||◌, ◌==◌, nat_le, if◌then◌else◌}
+use Rattle.std.specs.Prelude.{List, [], length, codes, slice_index_or, Result, Ok, Err}
+use Rattle.std.specs.Str.{str_eq_ignore_ascii_case}
+use Rattle.exam_terms.specs.declared.limits.TheConstants.{MAX_EXAMS, MAX_STUDENT}
+use Rattle.exam_terms.specs.Refusing.{◌>>=◌, unless}
+use Rattle.exam_model.specs.declared.change.Change.{Change}
+use Rattle.exam_terms.specs.Texts.{trimmed}
+use Rattle.office_files.specs.Numbers.{number}
+use Rattle.office_files.specs.declared.fault.FaultKind.{FaultKind}
+use Rattle.office_files.specs.declared.fault.FaultKind.TheVariants.{BadWord, StrayText}
+
+-- a record, field by field
+abbrev pub Record : Type 0
+Record = List (List ℕ)
+
+-- a field of a record, trimmed; a missing field is judged as an empty one
+abbrev pub field : Record → ℕ → List ℕ
+field fields i = trimmed (slice_index_or fields i [])
+
+-- whether a field is this word, in small or capital letters
+abbrev pub says : Record → ℕ → List ℕ → Bool
+says fields i word = str_eq_ignore_ascii_case (field fields i) word
+
+-- whether nothing stands behind the third field, but for one empty field at the end
+abbrev pub has_three : Record → Bool
+has_three fields =
+    nat_le (length fields) 3 || ((length fields == 4) && (length (field fields 3) == 0))
+
+-- whether a record names the columns
+abbrev pub is_header : Record → Bool
+is_header fields =
+    says fields 0 (codes "student") && (says fields 1 (codes "exam")
+    && (says fields 2 (codes "action") && has_three fields))
+
+-- whether a field says that the student is added
+abbrev pub action : Record → Result Bool FaultKind
+action fields =
+    if says fields 2 (codes "add") then Ok true
+    else (if says fields 2 (codes "drop") then Ok false else Err BadWord)
+
+-- the change that a record says: the student, the exam, and what is done
+abbrev pub change_in : Record → Result Change FaultKind
+change_in fields = do
+  student ← number MAX_STUDENT (field fields 0)
+  exam ← number (MAX_EXAMS - 1) (field fields 1)
+  add ← action fields
+  _ ← unless (has_three fields) StrayText
+  Ok (record { student = student; exam = exam; add = add })

@@ -1,8 +1,0 @@
-use Rattle.std.proofs.Common.{◌≡◌, ◌++◌, length}
-use Rattle.office_check.proofs.reading.append.Given as goal
-
-abbrev pub invariant-parts : goal.invariant-parts
-invariant-parts l = l.text.items ++ l.left ≡ l.initial.text.items ++ l.initial.left
-
-abbrev pub decreases-parts : goal.decreases-parts
-decreases-parts l = length l.left

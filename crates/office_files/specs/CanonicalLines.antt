@@ -1,0 +1,71 @@
+-- The lines of the canonical text of an instance, field by field.
+use Rattle.std.specs.Prelude.{ℕ, ◌+◌, ◌/◌, ◌%◌, ◌++◌, codes, List, [], ◌∷◌, decimal}
+use Rattle.std.specs.List.{flat_map}
+use Rattle.exam_model.specs.declared.parts.Period.{Period}
+use Rattle.exam_model.specs.declared.parts.Room.{Room}
+use Rattle.exam_model.specs.declared.rules.PeriodRule.{PeriodRule}
+use Rattle.exam_model.specs.declared.rules.PeriodRule.TheVariants.{After, Coincidence, Exclusion}
+use Rattle.exam_model.specs.declared.rules.RoomRule.{RoomRule}
+use Rattle.exam_calendar.specs.declared.date.Date.{Date}
+use Rattle.office_files.specs.ExamLines.{ExamLine}
+use Rattle.office_files.specs.declared.weightings.Weighting.{Weighting}
+use Rattle.office_files.specs.declared.weightings.Weighting.TheVariants.{Row, Day, Spread, Mixed, Front}
+
+-- a line and its end, a carriage return and a line feed
+abbrev pub line_of : List ℕ → List ℕ
+line_of text = text ++ 13 ∷ 10 ∷ []
+
+-- a field before the others of a line: a comma and a space stand between
+abbrev pub before : List ℕ → List ℕ → List ℕ
+before field others = field ++ 44 ∷ 32 ∷ others
+
+-- a number below 100 in two digits
+abbrev pub two_digits : ℕ → List ℕ
+two_digits n = (48 + n / 10) ∷ (48 + n % 10) ∷ []
+
+-- DD:MM:YYYY
+abbrev pub date_text : Date → List ℕ
+date_text d =
+    two_digits d.day ++ 58 ∷ (two_digits d.month ++ 58 ∷ (
+    two_digits (d.year / 100) ++ two_digits (d.year % 100)))
+
+-- HH:MM:SS
+abbrev pub time_text : Period → List ℕ
+time_text p =
+    two_digits p.hour ++ 58 ∷ (two_digits p.minute ++ 58 ∷ two_digits p.second)
+
+-- duration, students
+abbrev pub exam_text : ExamLine → List ℕ
+exam_text e = decimal e.minutes ++ flat_map (λ s. 44 ∷ 32 ∷ decimal s) e.students
+
+-- date, time, length, penalty
+abbrev pub period_text : Period → List ℕ
+period_text p =
+    before (date_text p.date) (before (time_text p) (before (decimal p.length) (decimal p.penalty)))
+
+-- capacity, penalty
+abbrev pub room_text : Room → List ℕ
+room_text r = before (decimal r.capacity) (decimal r.penalty)
+
+-- exam, word, exam
+abbrev pub period_rule_text : PeriodRule → List ℕ
+period_rule_text (After a b) = before (decimal a) (before (codes "AFTER") (decimal b))
+period_rule_text (Coincidence a b) =
+    before (decimal a) (before (codes "EXAM_COINCIDENCE") (decimal b))
+period_rule_text (Exclusion a b) = before (decimal a) (before (codes "EXCLUSION") (decimal b))
+
+-- exam, word
+abbrev pub room_rule_text : RoomRule → List ℕ
+room_rule_text r = before (decimal r.0) (codes "ROOM_EXCLUSIVE")
+
+-- a word and its number, a comma alone between them
+abbrev pub weighed : List ℕ → ℕ → List ℕ
+weighed word n = word ++ 44 ∷ decimal n
+
+-- a weighting; a comma alone stands between its fields
+abbrev pub weighting_text : Weighting → List ℕ
+weighting_text (Row w) = weighed (codes "TWOINAROW") w
+weighting_text (Day w) = weighed (codes "TWOINADAY") w
+weighting_text (Spread g) = weighed (codes "PERIODSPREAD") g
+weighting_text (Mixed w) = weighed (codes "NONMIXEDDURATIONS") w
+weighting_text (Front n k w) = weighed (codes "FRONTLOAD") n ++ 44 ∷ (decimal k ++ 44 ∷ decimal w)

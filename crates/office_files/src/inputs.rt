@@ -1,0 +1,179 @@
+// The whole text of a reader, within a limit of bytes and a number of reads.
+ghost use Rattle.std.specs.Prelude.{◌≡◌, ◌<◌, ◌≤◌, ◌+◌, ◌++◌, ℕ, length, IfErr, IfOk, IfSome, OnOk};
+ghost use Rattle.exam_terms.specs.declared.limits.TheConstants.{INSTANCE_BYTES, TEXT_BYTES};
+ghost use Rattle.office_files.specs.Inputs.{RefusesText, StaysUnread, TakesAtMost};
+
+use crate::fault::{FaultKind, FileFault};
+use exam_terms::limits::{INSTANCE_BYTES, TEXT_BYTES};
+use std::alloc::{AllocError, Global};
+use std::io::{ErrorKind, Read};
+
+/// Why an input gives nothing.
+#[derive(Clone, Copy, Debug, PartialEq, Eq)]
+pub enum InputFault {
+    /// The reader failed, or showed no end in 5,000,000 reads.
+    Read,
+    /// The text is faulty, or longer than the limit of its kind of file (line 0).
+    File(FileFault),
+    /// Memory ran out.
+    NoMemory,
+}
+
+impl From<AllocError> for InputFault {
+    ghost use Rattle.std.specs.Prelude.{◌≡◌};
+    ghost use Rattle.office_files.specs.declared.inputs.InputFault.TheVariants.{NoMemory};
+
+    ghost from_gives = { λ _ e. e ≡ NoMemory };
+
+    fn from(_error: AllocError) -> InputFault {
+        InputFault::NoMemory
+    }
+}
+
+impl From<FileFault> for InputFault {
+    ghost use Rattle.office_files.specs.Inputs.{ComesOf};
+
+    ghost from_gives = { ComesOf };
+
+    fn from(fault: FileFault) -> InputFault {
+        match fault.what {
+            FaultKind::NoMemory => InputFault::NoMemory,
+            _ => InputFault::File(fault),
+        }
+    }
+}
+
+// Why a reader's text is not taken whole.
+#[derive(Clone, Copy, Debug, PartialEq, Eq)]
+enum Unread {
+    // The reader failed, and was not only interrupted.
+    Failed,
+    // No read is left.
+    Spent,
+    // There is more than the limit.
+    TooLong,
+    NoMemory,
+}
+
+impl From<AllocError> for Unread {
+    ghost use Rattle.std.specs.Prelude.{◌≡◌};
+    ghost use Rattle.office_files.specs.declared.inputs.Unread.TheVariants.{NoMemory};
+
+    ghost from_gives = { λ _ e. e ≡ NoMemory };
+
+    fn from(_error: AllocError) -> Unread {
+        Unread::NoMemory
+    }
+}
+
+impl From<Unread> for InputFault {
+    ghost use Rattle.office_files.specs.Inputs.{ComesOfReads};
+
+    ghost from_gives = { ComesOfReads };
+
+    fn from(why: Unread) -> InputFault {
+        match why {
+            Unread::Failed | Unread::Spent => InputFault::Read,
+            Unread::TooLong => InputFault::File(FileFault::TOO_LONG),
+            Unread::NoMemory => InputFault::NoMemory,
+        }
+    }
+}
+
+// How many reads a reader has. An interrupted one counts, and is tried again.
+const READS: u32 = 5_000_000;
+
+// So few bytes are copied by plain moves, which are fewer instructions than the processor's own
+// copying of long runs takes.
+const COPIED_AT_ONCE: usize = 2048;
+
+/// The whole text of an instance file's reader, at most 4,194,304 bytes. The reader has 5,000,000
+/// reads; one that was interrupted counts, and is tried again.
+pub fn instance_text<R: Read>(alloc: Global, reader: &mut R) -> Result<Vec<u8>, InputFault>
+    ensures whole { IfOk result (λ text. IfSome (R.remaining reader.old)
+        (λ input. input ≡ text.items)) }
+    ensures short { IfOk result (λ text. length text.items ≤ INSTANCE_BYTES) }
+    ensures refused { IfErr result (λ fault. IfSome (R.remaining reader.old)
+        (λ input. RefusesText INSTANCE_BYTES input fault)) }
+    // The reader is read no further than one byte past the limit.
+    ensures taken { TakesAtMost (INSTANCE_BYTES + 1)
+        (R.remaining reader.old) (R.remaining reader.new) }
+{
+    whole_text(alloc, reader, INSTANCE_BYTES)
+}
+
+/// The whole text of a solution file's reader, at most 1,048,576 bytes, in as many reads.
+pub fn solution_text<R: Read>(alloc: Global, reader: &mut R) -> Result<Vec<u8>, InputFault>
+    ensures whole { IfOk result (λ text. IfSome (R.remaining reader.old)
+        (λ input. input ≡ text.items)) }
+    ensures short { IfOk result (λ text. length text.items ≤ TEXT_BYTES) }
+    ensures refused { IfErr result (λ fault. IfSome (R.remaining reader.old)
+        (λ input. RefusesText TEXT_BYTES input fault)) }
+    // The reader is read no further than one byte past the limit.
+    ensures taken { TakesAtMost (TEXT_BYTES + 1) (R.remaining reader.old) (R.remaining reader.new) }
+{
+    whole_text(alloc, reader, TEXT_BYTES)
+}
+
+// All that is left of the reader, which is read no further than one byte past the limit.
+fn whole_text<R: Read>(alloc: Global, reader: &mut R, limit: usize) -> Result<Vec<u8>, InputFault>
+    requires { limit ≤ INSTANCE_BYTES }
+    ensures whole { IfOk result (λ text. IfSome (R.remaining reader.old)
+        (λ input. input ≡ text.items)) }
+    ensures short { IfOk result (λ text. length text.items ≤ limit) }
+    ensures refused { IfErr result (λ fault. IfSome (R.remaining reader.old)
+        (λ input. RefusesText limit input fault)) }
+    ensures taken { TakesAtMost (limit + 1) (R.remaining reader.old) (R.remaining reader.new) }
+{
+    let mut reads = READS;
+    Ok(text_in(alloc, reader, limit, &mut reads)?)
+}
+
+// The same in the reads that are left, each of which is counted.
+fn text_in<R: Read>(
+    alloc: Global,
+    reader: &mut R,
+    limit: usize,
+    reads: &mut u32,
+) -> Result<Vec<u8>, Unread>
+    requires { limit ≤ INSTANCE_BYTES }
+    ensures whole { IfOk result (λ text. IfSome (R.remaining reader.old)
+        (λ input. input ≡ text.items)) }
+    ensures short { IfOk result (λ text. length text.items ≤ limit) }
+    // The reader failed, or no read is left, or there is more than the limit, or memory ran out.
+    ensures refused { IfErr result (StaysUnread limit reads.new (R.remaining reader.old)) }
+    ensures taken { TakesAtMost (limit + 1) (R.remaining reader.old) (R.remaining reader.new) }
+{
+    let mut text: Vec<u8> = Vec::new(alloc);
+    let mut piece = [0u8; 16_384];
+    'reads: while *reads > 0 {
+        *reads -= 1;
+        let most = (limit + 1 - text.len()).min(piece.len());
+        match reader.read(&mut piece[..most]) {
+            Ok(0) => return Ok(text),
+            Ok(n) => append(&mut text, &piece[..n])?,
+            Err(fault) => {
+                if fault.kind() != ErrorKind::Interrupted {
+                    return Err(Unread::Failed);
+                }
+            }
+        }
+        if text.len() > limit {
+            return Err(Unread::TooLong);
+        }
+    }
+    Err(Unread::Spent)
+}
+
+// Puts a piece behind the text.
+fn append(text: &mut Vec<u8>, piece: &[u8]) -> Result<(), AllocError>
+    ensures { OnOk result (text.new.items ≡ text.old.items ++ piece.now) }
+{
+    let mut left = piece;
+    'parts: while left.len() > COPIED_AT_ONCE {
+        let (part, others) = left.split_at(COPIED_AT_ONCE);
+        text.extend_from_slice(part)?;
+        left = others;
+    }
+    text.extend_from_slice(left)
+}

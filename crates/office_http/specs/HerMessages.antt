@@ -1,0 +1,47 @@
+-- A candidate's messages, and what she is replied by her view alone.
+use Rattle.std.specs.Prelude.{◌≡◌, ◌⊎◌, ℕ, List, [], ◌∷◌, ◌++◌, Some}
+use Rattle.office_messages.specs.Form.{form_of}
+use Rattle.office_messages.specs.Reply.{PlainReply, fault_reply, reply_text, unavailable}
+use Rattle.office_messages.specs.Messages.{Item, asks, fails}
+use Rattle.office_messages.specs.Stream.{PlainRequest}
+use Rattle.office_policy.specs.declared.callers.Caller.TheVariants.{Cand}
+use Rattle.office_requests.specs.Methods.{verb_of}
+use Rattle.office_requests.specs.Requests.{caller_in, her_command}
+use Rattle.office_model.specs.Views.{View}
+use Rattle.office_http.specs.Replying.{her_text}
+
+-- the message comes from the candidate s
+abbrev pub IsFrom : ℕ → PlainRequest → Type 0
+IsFrom s request = caller_in request.caller ≡ Some (Cand s)
+
+-- each message is hers
+abbrev pub AreFrom : ℕ → List Item → Type 0
+AreFrom s [] = Unit {0}
+AreFrom s (fails fault form ∷ items) = AreFrom s items
+AreFrom s (asks request ∷ items) = IsFrom s request × AreFrom s items
+
+-- what she is replied by her view alone
+abbrev pub her_reply : ℕ → PlainRequest → View → PlainReply
+her_reply s request view = her_text s (her_command (verb_of request.method) request.target) view
+
+-- a message with its reply, as bytes
+abbrev pub bytes_of : PlainRequest × PlainReply → List ℕ
+bytes_of said = reply_text (form_of (said.0).method) said.1
+
+-- the bytes of a connection of hers by her view alone
+abbrev pub her_output : ℕ → View → List Item → List ℕ
+her_output s view [] = []
+her_output s view (fails fault form ∷ items) =
+    reply_text form (fault_reply fault) ++ her_output s view items
+her_output s view (asks request ∷ items) =
+    bytes_of (request, her_reply s request view) ++ her_output s view items
+
+-- two messages ask for the same page by the same method
+pub record AsksTheSame (one other : PlainRequest) : Type 0 where
+  pub method : one.method ≡ other.method
+  pub target : one.target ≡ other.target
+
+-- two messages got the same bytes, unless one of the replies says that the office is unavailable
+abbrev pub AreAlike : PlainRequest × PlainReply → PlainRequest × PlainReply → Type 0
+AreAlike one other =
+    (bytes_of one ≡ bytes_of other) ⊎ ((one.1 ≡ unavailable) ⊎ (other.1 ≡ unavailable))

@@ -1,0 +1,68 @@
+-- What a run of messages leaves behind: each message with its reply, in the office that it came to.
+use Rattle.std.specs.Prelude.{ℕ, List, [], ◌∷◌, All, Option, Some, None, Result, Ok, Err}
+use Rattle.office_messages.specs.Reply.{PlainReply}
+use Rattle.office_messages.specs.Messages.{Item, asks, fails}
+use Rattle.office_messages.specs.Serve.{Serves, Told}
+use Rattle.office_messages.specs.Stream.{PlainRequest}
+use Rattle.office_messages.specs.declared.connection.Served.{Served}
+use Rattle.office_requests.specs.Requests.{PlainAsked, reading}
+use Rattle.office_requests.specs.declared.requests.Refusal.{Refusal}
+use Rattle.office_model.specs.Office.{OfficeState}
+use Rattle.office_model.specs.Runs.{Exchange}
+use Rattle.office_http.specs.Replying.{Replies, RepliesTo, TellsCandidate}
+
+-- a message with its reply, in the office that it came to; a message that isn't refused unread asks
+-- for a command, and is answered
+pub record Entry : Type 0 where
+  pub office : OfficeState
+  pub request : PlainRequest
+  pub asked : Option Exchange
+  pub reply : PlainReply
+
+-- the command and its answer
+abbrev pub asked_in : (said : Result PlainAsked Refusal) (old : OfficeState) (reply : PlainReply)
+    (new : OfficeState) → RepliesTo said old reply new → Option Exchange
+asked_in (Ok asked) old reply new told =
+    Some (record { caller = asked.caller; command = asked.command; answer = told.0 })
+asked_in (Err refusal) old reply new told = None
+
+-- what a transcript keeps of one message that was replied to
+abbrev pub entry : (old : OfficeState) (request : PlainRequest) (reply : PlainReply)
+    (new : OfficeState) → Replies old request reply new → Entry
+entry old request reply new told = record {
+  office = old;
+  request = request;
+  asked = asked_in (reading request.method request.target request.caller request.body) old reply
+      new told;
+  reply = reply;
+}
+
+-- the messages of a run in their order; those that are faulty in head or framing come to no office
+abbrev pub transcript : (items : List Item) (old : OfficeState) (output : List ℕ)
+    (new : OfficeState) → Told Replies items old output new → List Entry
+transcript [] old output new told = []
+transcript (fails fault form ∷ items) old output new (rest, is, told) =
+    transcript items old rest new told
+transcript (asks request ∷ items) old output new (mid, reply, rest, step, is, told) =
+    entry old request reply mid step ∷ transcript items mid rest new told
+
+-- those of a connection
+abbrev pub entries : {input before after : Option (List ℕ)} {old new : OfficeState}
+    {served : Served} → Serves Replies input before after old new served → List Entry
+entries {input} {before} {after} {old} {new} {served} run =
+    transcript run.items old run.output new run.told
+
+-- a message and its reply
+abbrev pub said_in : Entry → PlainRequest × PlainReply
+said_in e = (e.request, e.reply)
+
+-- whoever the candidate is that a message comes from, she is told the text of her view in the
+-- office that it came to, or that the office is unavailable
+abbrev pub TellsHerView : Entry → Type 0
+TellsHerView e = TellsCandidate e.office e.request e.reply
+
+-- a connection is served, and each candidate is told so in it
+abbrev pub ServesByView : (input before after : Option (List ℕ)) (old new : OfficeState)
+    (served : Served) → Type 0
+ServesByView input before after old new served =
+    (run : Serves Replies input before after old new served) × All TellsHerView (entries run)

@@ -1,0 +1,21 @@
+-- What a look at the bytes of a message that is coming says of them.
+use Rattle.std.specs.Prelude.{ℕ, ◌<◌, ◌≤◌, List, length, take}
+use Rattle.office_messages.specs.HeadEnds.{HasEnd}
+use Rattle.office_messages.specs.StreamFaults.{Unfinished, FaultAt}
+use Rattle.office_messages.specs.Stream.{max_head}
+use Rattle.office_messages.specs.Heads.{HeadAt}
+use Rattle.office_messages.specs.declared.look.Beginning.{Beginning}
+use Rattle.office_messages.specs.declared.look.Beginning.TheVariants.{Whole, More, Faulty}
+use Rattle.office_messages.specs.declared.look.Stage.{Stage}
+use Rattle.office_messages.specs.declared.look.Stage.TheVariants.{Searching, Reading}
+
+-- what is known of the message at the front of the bytes, before they are looked at
+abbrev pub Knows : List ℕ → Stage → Type 0
+Knows bytes (Searching n) = (n ≤ length bytes) × (n < max_head) × ¬ (HasEnd (take n bytes))
+Knows bytes (Reading x) = HeadAt bytes x
+
+-- what a look at the bytes says of them
+abbrev pub Shows : List ℕ → Beginning → Type 0
+Shows bytes (Whole x) = HeadAt bytes x × (x.body.end ≤ length bytes)
+Shows bytes (More stage) = Unfinished bytes × Knows bytes stage
+Shows bytes (Faulty bad) = FaultAt bad.fault bad.form bytes

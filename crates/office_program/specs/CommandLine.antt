@@ -1,0 +1,54 @@
+-- The command line of `check`, `load` and `export`, in clap's own words: what each takes, and which
+-- values are those of its task.
+use Rattle.std.specs.Prelude.{◌≡◌, List, Some, codes, string_bytes, true}
+use Rattle.clap.specs.Words.{App, Row, Rule, Text, first_of, new_app, new_rule, with_rule}
+use Rattle.office_program.specs.declared.words.Task.{Task}
+use Rattle.office_program.specs.declared.words.Task.TheVariants.{Check, Export, Load, Serve}
+
+-- an argument that has to be there, and has one value
+abbrev pub required_rule : Text → Rule
+required_rule id = record (new_rule id) { required = true; value_names = 1 }
+
+-- the command `check INSTANCE SOLUTION`
+abbrev pub check_app : App
+check_app = with_rule (with_rule (new_app (codes "check")) (required_rule (codes "instance")))
+    (required_rule (codes "solution"))
+
+-- the values found for `check` are those of the task
+abbrev pub HasCheckValues : List Row → Task → Type 0
+HasCheckValues rows (Check instance solution) =
+    (first_of (codes "instance") rows ≡ Some (string_bytes instance))
+    × (first_of (codes "solution") rows ≡ Some (string_bytes solution))
+HasCheckValues rows (Load database instance) = ⊥
+HasCheckValues rows (Serve database terms) = ⊥
+HasCheckValues rows (Export database) = ⊥
+
+-- an option that has to be there, and has one value
+abbrev pub named_rule : Text → Rule
+named_rule id = record (required_rule id) { long = Some id }
+
+-- the command `load --db FILE INSTANCE`
+abbrev pub load_app : App
+load_app = with_rule (with_rule (new_app (codes "load")) (named_rule (codes "db")))
+    (required_rule (codes "instance"))
+
+-- the values found for `load` are those of the task
+abbrev pub HasLoadValues : List Row → Task → Type 0
+HasLoadValues rows (Check instance solution) = ⊥
+HasLoadValues rows (Load database instance) =
+    (first_of (codes "db") rows ≡ Some (string_bytes database))
+    × (first_of (codes "instance") rows ≡ Some (string_bytes instance))
+HasLoadValues rows (Serve database terms) = ⊥
+HasLoadValues rows (Export database) = ⊥
+
+-- the command `export --db FILE`
+abbrev pub export_app : App
+export_app = with_rule (new_app (codes "export")) (named_rule (codes "db"))
+
+-- the values found for `export` are those of the task
+abbrev pub HasExportValues : List Row → Task → Type 0
+HasExportValues rows (Check instance solution) = ⊥
+HasExportValues rows (Load database instance) = ⊥
+HasExportValues rows (Serve database terms) = ⊥
+HasExportValues rows (Export database) =
+    first_of (codes "db") rows ≡ Some (string_bytes database)

@@ -1,0 +1,60 @@
+-- The command line of `serve`: its options, and which values are those of its task.
+use Rattle.std.specs.Prelude.{◌≡◌, ◌≤◌, ℕ, [], ◌∷◌, List, Some, codes, pos, string_bytes}
+use Rattle.std.specs.Str.Parse.{IsNumeral, digits_value, without_leading_plus}
+use Rattle.clap.specs.Words.{App, Row, Rule, Text, first_of}
+use Rattle.clap.specs.Words.{new_app, new_rule, one_of, with_rule}
+use Rattle.clap.specs.declared.builder.value_parser.ValueParser.TheVariants.{Signed}
+use Rattle.office_connections.specs.declared.listening.TheConstants.{MAX_PORT}
+use Rattle.office_program.specs.declared.words.Task.{Task}
+use Rattle.office_program.specs.declared.words.Task.TheVariants.{Check, Export, Load, Serve}
+use Rattle.office_program.specs.declared.words.Terms.{Terms}
+use Rattle.office_program.specs.declared.words.TheConstants.{MAX_CONNECTIONS, MAX_PATIENCE}
+use Rattle.office_program.specs.CommandLine.{named_rule}
+
+-- an option whose value is a whole number within these bounds
+abbrev pub numbered : Rule → ℕ → ℕ → Rule
+numbered rule least most = record rule { parser = Some (Signed (pos least) (pos most)) }
+
+-- the option of the port, which has to be there
+abbrev pub port_rule : Rule
+port_rule = numbered (named_rule (codes "port")) 0 MAX_PORT
+
+-- the option of the number of connections, which has to be there
+abbrev pub connections_rule : Rule
+connections_rule = numbered (named_rule (codes "connections")) 1 MAX_CONNECTIONS
+
+-- the option of the patience, which is 30 where it is not given
+abbrev pub patience_rule : Rule
+patience_rule = record (numbered (new_rule (codes "patience")) 1 MAX_PATIENCE) {
+  long = Some (codes "patience");
+  value_names = 1;
+  defaults = codes "30" ∷ [];
+}
+
+-- the command `serve --db FILE --port N --connections K [--patience SECONDS]`
+abbrev pub serve_app : App
+serve_app = with_rule (with_rule (with_rule (with_rule (new_app (codes "serve"))
+    (named_rule (codes "db"))) port_rule) connections_rule) patience_rule
+
+-- the value found under this name spells the number in decimal digits, behind a plus or none
+abbrev pub HasNumber : Text → List Row → ℕ → Type 0
+HasNumber name rows n =
+    (text : Text) × (one_of name rows ≡ Some text) × IsNumeral 10 (without_leading_plus text)
+    × (n ≡ digits_value 10 (without_leading_plus text))
+
+-- the numbers found for `serve` are those of the terms, each within its bounds
+abbrev pub HasTerms : List Row → Terms → Type 0
+HasTerms rows terms =
+    HasNumber (codes "port") rows terms.port × (terms.port ≤ MAX_PORT)
+    × HasNumber (codes "connections") rows terms.connections
+    × (1 ≤ terms.connections) × (terms.connections ≤ MAX_CONNECTIONS)
+    × HasNumber (codes "patience") rows terms.patience
+    × (1 ≤ terms.patience) × (terms.patience ≤ MAX_PATIENCE)
+
+-- the values found for `serve` are those of the task
+abbrev pub HasServeValues : List Row → Task → Type 0
+HasServeValues rows (Check instance solution) = ⊥
+HasServeValues rows (Load database instance) = ⊥
+HasServeValues rows (Serve database terms) =
+    (first_of (codes "db") rows ≡ Some (string_bytes database)) × HasTerms rows terms
+HasServeValues rows (Export database) = ⊥

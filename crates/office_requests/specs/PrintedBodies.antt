@@ -1,0 +1,24 @@
+-- What the request for a command has besides its path: what its body says, and who sends it.
+use Rattle.std.specs.Prelude.{◌≡◌, ℕ, List, Ok}
+use Rattle.office_policy.specs.declared.command.Body.TheVariants.{Given}
+use Rattle.office_policy.specs.Commands.{PlainCommand, load, set_owner, new_draft, place, move}
+use Rattle.office_policy.specs.Commands.{batch}
+use Rattle.office_policy.specs.Policy.{permits}
+use Rattle.office_policy.specs.declared.callers.Caller.{Caller}
+use Rattle.office_policy.specs.declared.callers.Caller.TheVariants.{Cand}
+use Rattle.office_requests.specs.Bodies.{text_body, place_body, dept_body}
+
+-- the bytes of a body say what the command's body says, where it has one
+abbrev pub SaysBody : List ℕ → PlainCommand → Type 0
+SaysBody bytes (load text) = Given bytes ≡ text
+SaysBody bytes (set_owner e dept) = dept_body bytes ≡ dept
+SaysBody bytes (new_draft d text) = text_body bytes ≡ text
+SaysBody bytes (place d e at) = place_body bytes ≡ at
+SaysBody bytes (move d e to) = place_body bytes ≡ to
+SaysBody bytes (batch n text) = text_body bytes ≡ text
+SaysBody bytes _ = Unit {0}
+
+-- a candidate comes with what she may ask for, all others with any command
+abbrev pub ComesWith : Caller → PlainCommand → Type 0
+ComesWith (Cand n) c = permits (Cand n) c 0 0 ≡ Ok tt
+ComesWith _ c = Unit {0}

@@ -1,0 +1,33 @@
+-- What a connection that reads the rows of a fold leaves as it was.
+use Rattle.std.specs.Prelude.{◌≡◌, IsTrue, false, Some}
+use Rattle.sqlite.specs.Held.{Held, state}
+use Rattle.sqlite.specs.State.{HasCleanDisk, IsUnchanged}
+use Rattle.sqlite.specs.Store.{Ghosts}
+use Rattle.exam_model.specs.Enrolments.{Enrolled}
+use Rattle.office_model.specs.Office.{Records}
+use Rattle.office_records.specs.Stands.{IsKept}
+use Rattle.office_tables.specs.Steps.{LeavesCommitted, OpensNone}
+use Rattle.office_tables.specs.Tables.{Tables}
+use Rattle.office_tables.specs.Standing.{Stands}
+
+-- whatever is answered: nothing is changed, but for what was not committed
+pub record HasRead {S : Type 0} (store : Ghosts S) (old new : Held S) : Type 0 where
+  pub clean : HasCleanDisk (state store new) → HasCleanDisk (state store old)
+  pub was_open : OpensNone store old new
+  pub kept : LeavesCommitted store old new
+  pub mode : old.in_transaction ≡ false → new.in_transaction ≡ false
+
+-- over a clean disk, where the tables stand, everything is as it was
+abbrev pub IsSame : {S : Type 0} → Ghosts S → Held S → Held S → Type 0
+IsSame store old new =
+    HasCleanDisk (state store new) → (t : Tables) → Stands (state store old).now t
+    → IsTrue (state store old).is_open → IsUnchanged (state store old) (state store new)
+
+-- over a clean disk, an office with these enrolments stood there, in a file that was open
+pub record HadEnrolments {S : Type 0} (store : Ghosts S) (old new : Held S) (E : Enrolled)
+    : Type 0 where
+  pub clean : HasCleanDisk (state store new)
+  pub opened : IsTrue (state store old).is_open
+  pub records : Records
+  pub kept : IsKept (state store old).now (Some records)
+  pub enrolments : records.enrolments ≡ E

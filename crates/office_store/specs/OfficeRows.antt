@@ -1,0 +1,52 @@
+-- What the rows that are read say of an office.
+use Rattle.std.specs.Prelude.{◌≡◌, ℕ, List, [], map, Option, Some, None, is_some, Result, Ok, Err, IsPermutation}
+use Rattle.std.specs.Borrow.{Bor}
+use Rattle.std.specs.List.{AllByRecursion}
+use Rattle.office_tables.specs.declared.draft.DraftRow.{DraftRow}
+use Rattle.office_tables.specs.declared.slot.SlotRow.{SlotRow}
+use Rattle.office_tables.specs.declared.share_part.PartShareRow.{PartShareRow}
+use Rattle.office_tables.specs.declared.share_student.StudentShareRow.{StudentShareRow}
+use Rattle.office_model.specs.Office.{OfficeState, Publication}
+use Rattle.office_records.specs.SharesStored.{part_share_rows, student_share_rows}
+use Rattle.office_records.specs.Stands.{IsScoredRow, once, slot_rows}
+use Rattle.office_model.specs.Commands.{draft_in}
+
+-- each row of a draft has the penalty of its timetable
+abbrev pub AreScored : List DraftRow → OfficeState → Type 0
+AreScored rows None = Unit {0}
+AreScored rows (Some r) = AllByRecursion (IsScoredRow r) rows
+
+-- the rows that an office has of a draft, and of its places
+pub record AreRowsOf (office : OfficeState) (d : ℕ) (rows : List DraftRow) (slots : List SlotRow)
+    : Type 0 where
+  pub numbers : map (λ row. row.no) rows ≡ once (is_some (draft_in d office)) d
+  pub scored : AreScored rows office
+  pub places : IsPermutation slots (slot_rows d (draft_in d office))
+
+-- ---- what is published
+
+-- what an office has published, if it has
+abbrev pub published_in : OfficeState → Option Publication
+published_in None = None
+published_in (Some r) = r.published
+
+-- the rows of the shares of what it has published
+abbrev pub student_rows_in : OfficeState → List StudentShareRow
+student_rows_in None = []
+student_rows_in (Some r) = student_share_rows r.session r.published
+
+-- the share rows of exams, periods and rooms in an office; none where nothing is loaded
+abbrev pub part_rows_in : OfficeState → List PartShareRow
+part_rows_in None = []
+part_rows_in (Some r) = part_share_rows r.session r.published
+
+-- the rows that an office has of those shares
+pub record AreShareRowsOf (office : OfficeState) (students : List StudentShareRow)
+    (parts : List PartShareRow) : Type 0 where
+  pub of_students : IsPermutation students (student_rows_in office)
+  pub of_parts : IsPermutation parts (part_rows_in office)
+
+-- the values behind two references
+abbrev pub shown : {X Y F : Type 0} → Result (Bor X × Bor Y) F → Result (X × Y) F
+shown (Ok pair) = Ok (pair.0.now, pair.1.now)
+shown (Err fault) = Err fault

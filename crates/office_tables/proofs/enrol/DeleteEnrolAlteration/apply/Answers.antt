@@ -1,0 +1,12 @@
+use Rattle.sqlite.specs.Held.{state}
+use Rattle.office_tables.proofs.Inside.{changes_by}
+use Rattle.office_tables.proofs.EnrolLemmas.{deleted}
+use Rattle.office_tables.proofs.enrol.DeleteEnrolAlteration.apply.Goals as goal
+
+pub returns-clause-makes : goal.returns-clause-makes
+returns-clause-makes g c clean inside =
+    let old = state g.S.Store c.args.tx.now.conn.now in
+    let new = state g.S.Store c.run.new.tx.conn.now in
+    let it = c.args.self.now in
+    changes_by _ _ _ old new c.run.result (deleted old new it.student it.exam)
+    (rw (c.params-to_sql.ensures, c.params-to_sql-2.ensures) at (c.run.ensures.ran clean inside))

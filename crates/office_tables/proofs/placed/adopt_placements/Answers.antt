@@ -1,0 +1,12 @@
+use Rattle.office_tables.specs.Stored.{keyed}
+use Rattle.office_tables.proofs.ListTexts.{placed_lists}
+use Rattle.office_tables.proofs.placed.adopt_placements.Goals as goal
+
+pub returns-clause-found : goal.returns-clause-found
+returns-clause-found g c = c.read_table.ensures.found 7 keyed placed_lists
+
+pub returns-clause-same : goal.returns-clause-same
+returns-clause-same g c = c.read_table.ensures.same 7 keyed placed_lists
+
+pub returns-clause-looks : goal.returns-clause-looks
+returns-clause-looks g c = c.read_table.ensures.looks 7 keyed placed_lists

@@ -1,0 +1,11 @@
+use Rattle.sqlite.specs.Held.{state}
+use Rattle.office_tables.proofs.Inside.{changes_by}
+use Rattle.office_tables.proofs.SlotLemmas.{added}
+use Rattle.office_tables.proofs.slot.InsertSlotAlteration.apply.Goals as goal
+
+pub returns-clause-makes : goal.returns-clause-makes
+returns-clause-makes g c clean inside =
+    let old = state g.S.Store c.args.tx.now.conn.now in
+    let new = state g.S.Store c.run.new.tx.conn.now in
+    changes_by _ _ _ old new c.run.result (added old new c.args.self.now.row)
+    (rw (c.params-to_sql.ensures, c.params-to_sql-2.ensures, c.params-to_sql-3.ensures, c.params-to_sql-4.ensures) at (c.run.ensures.ran clean inside))

@@ -1,0 +1,12 @@
+use Rattle.office_tables.specs.Stored.{keyless}
+use Rattle.office_tables.proofs.ListTexts.{slot_lists}
+use Rattle.office_tables.proofs.slot.adopt_slots.Goals as goal
+
+pub returns-clause-found : goal.returns-clause-found
+returns-clause-found g c = c.read_table.ensures.found 5 keyless slot_lists
+
+pub returns-clause-same : goal.returns-clause-same
+returns-clause-same g c = c.read_table.ensures.same 5 keyless slot_lists
+
+pub returns-clause-looks : goal.returns-clause-looks
+returns-clause-looks g c = c.read_table.ensures.looks 5 keyless slot_lists

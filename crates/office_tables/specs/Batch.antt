@@ -1,0 +1,58 @@
+-- The table batch: its columns, what statements make of it, its rows with and without their bytes,
+-- and what is found of them.
+use Rattle.std.specs.Prelude.{◌≡◌, pos, List, [], ◌∷◌, map, Option, None, Some, Vec}
+use Rattle.std.specs.List.{AllByRecursion}
+use Rattle.std.specs.declared.alloc.Global.{Global}
+use Rattle.sqlite_value.specs.declared.value.Value.TheVariants.{Int, Blob}
+use Rattle.sqlite_value.specs.Order.{Row}
+use Rattle.sqlite.specs.Effect.{Database}
+use Rattle.office_tables.specs.declared.batch.BatchRow.{BatchRow}
+use Rattle.office_tables.specs.declared.batch.BatchCountsRow.{BatchCountsRow}
+use Rattle.office_tables.specs.Records.{IsNarrow}
+use Rattle.office_tables.specs.Stored.{Holds, keyed}
+use Rattle.office_tables.specs.Tables.{Tables, Batch}
+
+-- a batch's columns
+abbrev pub batch_columns : Batch → Row
+batch_columns r =
+    Int (pos r.no) ∷ Blob r.bytes ∷ Int (pos r.added) ∷ Int (pos r.dropped) ∷
+    Int (pos r.unchanged) ∷ []
+
+-- with one more batch
+abbrev pub with_batch : Batch → Tables → Tables
+with_batch row t = record t { batch = row ∷ t.batch }
+
+-- a batch, of the program's row
+abbrev pub batch_from : BatchRow → Batch
+batch_from r = record {
+  no = r.no;
+  bytes = r.bytes.items;
+  added = r.added;
+  dropped = r.dropped;
+  unchanged = r.unchanged;
+}
+
+-- a batch without its bytes
+abbrev pub counts_of : Batch → BatchCountsRow
+counts_of r = record { no = r.no; added = r.added; dropped = r.dropped; unchanged = r.unchanged }
+
+-- a batch's number and counts, as a SELECT gives them
+abbrev pub counts_columns : BatchCountsRow → Row
+counts_columns r = Int (pos r.no) ∷ Int (pos r.added) ∷ Int (pos r.dropped) ∷ Int (pos r.unchanged) ∷ []
+
+-- a batch's number and counts have 32 bits
+abbrev pub FitsCounts : BatchCountsRow → Type 0
+FitsCounts r = IsNarrow r.no × IsNarrow r.added × IsNarrow r.dropped × IsNarrow r.unchanged
+
+-- the same of the batch with its bytes
+abbrev pub FitsBatch : Batch → Type 0
+FitsBatch r = FitsCounts (counts_of r)
+
+-- the table holds batches, and this is found of each but its bytes; or it holds none that fit
+abbrev pub IsFoundBatches : Database → Option (Vec BatchCountsRow Global) → Type 0
+IsFoundBatches db (Some found) =
+    (batches : List Batch) × (map counts_of batches ≡ found.items)
+    × Holds keyed (map batch_columns batches) (db.trees 14)
+IsFoundBatches db None =
+    (batches : List Batch) → AllByRecursion FitsBatch batches
+    → Holds keyed (map batch_columns batches) (db.trees 14) → ⊥

@@ -1,0 +1,40 @@
+-- The table draft: its columns, what statements make of it, which rows fit, and their penalties.
+use Rattle.std.specs.Prelude.{◌==◌, ℕ, pos, [], ◌∷◌, filter, not}
+use Rattle.sqlite_value.specs.declared.value.Value.TheVariants.{Int}
+use Rattle.sqlite_value.specs.Order.{Row}
+use Rattle.office_tables.specs.declared.draft.DraftRow.{DraftRow}
+use Rattle.office_tables.specs.Amounts.{IsAmount}
+use Rattle.office_tables.specs.Records.{IsNarrow}
+use Rattle.office_tables.specs.Tables.{Tables}
+
+-- a draft's columns
+abbrev pub draft_columns : DraftRow → Row
+draft_columns r =
+    Int (pos r.no) ∷ Int (pos r.in_row) ∷ Int (pos r.in_day) ∷ Int (pos r.spread) ∷
+    Int (pos r.mixed) ∷ Int (pos r.front) ∷ Int (pos r.period) ∷ Int (pos r.room) ∷ []
+
+-- with one more draft
+abbrev pub with_draft : DraftRow → Tables → Tables
+with_draft row t = record t { draft = row ∷ t.draft }
+
+-- without the draft of this number
+abbrev pub without_draft : ℕ → Tables → Tables
+without_draft number t = record t { draft = filter (λ r. not (r.no == number)) t.draft }
+
+-- without the row of any draft
+abbrev pub no_drafts : Tables → Tables
+no_drafts t = record t { draft = [] }
+
+-- a draft's number has 32 bits; the parts of its penalty may have 64
+abbrev pub FitsDraft : DraftRow → Type 0
+FitsDraft r = IsNarrow r.no
+
+-- all seven parts of a draft's penalty are sums that the tables can hold
+pub record AreAmounts (row : DraftRow) : Type 0 where
+  pub in_row : IsAmount row.in_row
+  pub in_day : IsAmount row.in_day
+  pub spread : IsAmount row.spread
+  pub mixed : IsAmount row.mixed
+  pub front : IsAmount row.front
+  pub period : IsAmount row.period
+  pub room : IsAmount row.room

@@ -1,0 +1,38 @@
+-- The table seat: its columns, what statements make of it, which rows fit, and their orders.
+use Rattle.std.specs.Prelude.{◌≡◌, ◌<◌, ◌⊎◌, ◌==◌, ℕ, pos, List, [], ◌∷◌, filter, not}
+use Rattle.sqlite_value.specs.declared.value.Value.TheVariants.{Int}
+use Rattle.sqlite_value.specs.Order.{Row}
+use Rattle.sqlite_trees.specs.Tree.{IsAscending}
+use Rattle.office_tables.specs.declared.seat.SeatRow.{SeatRow}
+use Rattle.office_tables.specs.Records.{IsNarrow}
+use Rattle.office_tables.specs.Tables.{Tables}
+
+-- a seat's columns
+abbrev pub seat_columns : SeatRow → Row
+seat_columns r =
+    Int (pos r.student) ∷ Int (pos r.exam) ∷ Int (pos r.period) ∷ Int (pos r.room) ∷
+    Int (pos r.seat) ∷ []
+
+-- with one more seat
+abbrev pub with_seat : SeatRow → Tables → Tables
+with_seat row t = record t { seat = row ∷ t.seat }
+
+-- without this student's seats
+abbrev pub without_student_seats : ℕ → Tables → Tables
+without_student_seats student t =
+    record t { seat = filter (λ r. not (r.student == student)) t.seat }
+
+-- a seat's numbers have 32 bits
+abbrev pub FitsSeat : SeatRow → Type 0
+FitsSeat r =
+    IsNarrow r.student × IsNarrow r.exam × IsNarrow r.period × IsNarrow r.room × IsNarrow r.seat
+
+-- by exam, and in an exam by student; no two are level
+abbrev pub SeatsRise : List SeatRow → Type 0
+SeatsRise =
+    IsAscending (λ (a b : SeatRow).
+    (a.exam < b.exam) ⊎ ((a.exam ≡ b.exam) × (a.student < b.student)))
+
+-- one student's seats, by exam; no two are level
+abbrev pub HerSeatsRise : List SeatRow → Type 0
+HerSeatsRise = IsAscending (λ (a b : SeatRow). a.exam < b.exam)

@@ -1,0 +1,37 @@
+-- The table share_part: its columns, what statements make of it, which rows fit, their order and
+-- their amounts.
+use Rattle.std.specs.Prelude.{◌≡◌, ◌<◌, ◌⊎◌, pos, List, [], ◌∷◌}
+use Rattle.sqlite_value.specs.declared.value.Value.TheVariants.{Int}
+use Rattle.sqlite_value.specs.Order.{Row}
+use Rattle.sqlite_trees.specs.Tree.{IsAscending}
+use Rattle.office_tables.specs.declared.share_part.PartShareRow.{PartShareRow}
+use Rattle.office_tables.specs.Amounts.{IsAmount}
+use Rattle.office_tables.specs.Records.{IsNarrow}
+use Rattle.office_tables.specs.Tables.{Tables}
+
+-- the columns of the share of an exam, a period or a room
+abbrev pub share_part_columns : PartShareRow → Row
+share_part_columns r =
+    Int (pos r.kind) ∷ Int (pos r.no) ∷ Int (pos r.penalty) ∷ Int (pos r.mixed) ∷ []
+
+-- with one more share of an exam, a period or a room
+abbrev pub with_part_share : PartShareRow → Tables → Tables
+with_part_share row t = record t { share_part = row ∷ t.share_part }
+
+-- without any share of an exam, a period or a room
+abbrev pub no_part_shares : Tables → Tables
+no_part_shares t = record t { share_part = [] }
+
+-- the kind and the number of a share have 32 bits; what it adds may have 64
+abbrev pub FitsPartShare : PartShareRow → Type 0
+FitsPartShare r = IsNarrow r.kind × IsNarrow r.no
+
+-- by kind, and in a kind by number; no two are level
+abbrev pub PartSharesRise : List PartShareRow → Type 0
+PartSharesRise =
+    IsAscending (λ (a b : PartShareRow). (a.kind < b.kind) ⊎ ((a.kind ≡ b.kind) × (a.no < b.no)))
+
+-- both parts of such a share are sums that the tables can hold
+pub record ArePartAmounts (row : PartShareRow) : Type 0 where
+  pub penalty : IsAmount row.penalty
+  pub mixed : IsAmount row.mixed

@@ -1,0 +1,38 @@
+-- The table share_student: its columns, what statements make of it, which rows fit, their order and
+-- their amounts.
+use Rattle.std.specs.Prelude.{◌<◌, ◌==◌, ℕ, pos, List, [], ◌∷◌, filter, not}
+use Rattle.sqlite_value.specs.declared.value.Value.TheVariants.{Int}
+use Rattle.sqlite_value.specs.Order.{Row}
+use Rattle.sqlite_trees.specs.Tree.{IsAscending}
+use Rattle.office_tables.specs.declared.share_student.StudentShareRow.{StudentShareRow}
+use Rattle.office_tables.specs.Amounts.{IsAmount}
+use Rattle.office_tables.specs.Records.{IsNarrow}
+use Rattle.office_tables.specs.Tables.{Tables}
+
+-- the columns of a student's share
+abbrev pub share_student_columns : StudentShareRow → Row
+share_student_columns r =
+    Int (pos r.student) ∷ Int (pos r.in_row) ∷ Int (pos r.in_day) ∷ Int (pos r.spread) ∷ []
+
+-- with one more student's share
+abbrev pub with_student_share : StudentShareRow → Tables → Tables
+with_student_share row t = record t { share_student = row ∷ t.share_student }
+
+-- without this student's share
+abbrev pub without_student_share : ℕ → Tables → Tables
+without_student_share student t =
+    record t { share_student = filter (λ r. not (r.student == student)) t.share_student }
+
+-- the student's number has 32 bits; what she adds may have 64
+abbrev pub FitsStudentShare : StudentShareRow → Type 0
+FitsStudentShare r = IsNarrow r.student
+
+-- by student; no two are level
+abbrev pub StudentSharesRise : List StudentShareRow → Type 0
+StudentSharesRise = IsAscending (λ (a b : StudentShareRow). a.student < b.student)
+
+-- all three parts of a student's share are sums that the tables can hold
+pub record AreStudentAmounts (row : StudentShareRow) : Type 0 where
+  pub in_row : IsAmount row.in_row
+  pub in_day : IsAmount row.in_day
+  pub spread : IsAmount row.spread

@@ -1,0 +1,184 @@
+// Batches of changes of enrolments that were accepted.
+ghost use Rattle.std.specs.Prelude.{◌≡◌, ◌==◌, false, filter, map, option_to_list, IsPermutation};
+ghost use Rattle.sqlite.specs.Held.{state};
+ghost use Rattle.sqlite.specs.State.{Survives};
+ghost use Rattle.office_schema.specs.Schema.{office_schema};
+ghost use Rattle.office_tables.specs.Batch.{batch_columns, batch_from, counts_columns, with_batch, FitsBatch, FitsCounts, IsFoundBatches};
+ghost use Rattle.office_tables.specs.Readings.{Finds, Leaves, Looks};
+ghost use Rattle.office_tables.specs.Schema.{schema_9, IsBlank};
+ghost use Rattle.office_tables.specs.Selections.{NumbersRise};
+ghost use Rattle.office_tables.specs.Steps.{AnswersOpen, Grows, LeavesAll, LeavesCommitted, Nothing, OpensNone, Reads, Within};
+
+use crate::altering::Alteration;
+use crate::listing::read_table;
+use crate::records::Record;
+use crate::running::run;
+use crate::streaming::stream;
+use sqlite::{Alter, Connection, Error, Row, Transaction, params};
+use std::alloc::Global;
+
+/// A batch of changes of enrolments that was accepted, with what its lines did.
+#[derive(Drop)]
+pub struct BatchRow {
+    pub no: u32,
+    pub bytes: Vec<u8>,
+    pub added: u32,
+    pub dropped: u32,
+    pub unchanged: u32,
+}
+
+/// The same without its bytes.
+#[derive(Clone, Copy, Debug, PartialEq, Eq)]
+pub struct BatchCountsRow {
+    pub no: u32,
+    pub added: u32,
+    pub dropped: u32,
+    pub unchanged: u32,
+}
+
+// The table of batches.
+pub fn create_batch<S: Alter>(tx: &mut Transaction<'_, S>) -> Result<(), Error>
+    ensures same_reference { tx.new.conn.ghost_name ≡ tx.old.conn.ghost_name }
+    ensures makes { Grows S.Store (IsBlank schema_9) (IsBlank office_schema) tx.old.conn.now tx.new.conn.now result }
+    ensures within { Within (state S.Store tx.old.conn.now) (state S.Store tx.new.conn.now) }
+{
+    run(
+        tx,
+        "CREATE TABLE batch (no INTEGER NOT NULL PRIMARY KEY, bytes BLOB NOT NULL, added INTEGER \
+         NOT NULL, dropped INTEGER NOT NULL, unchanged INTEGER NOT NULL) STRICT",
+        &[],
+    )
+}
+
+impl Record for BatchRow {
+    ghost WIDTH = { 5 };
+
+    ghost columns_of = { λ made. batch_columns (batch_from made) };
+
+    ghost fits = { λ made. FitsBatch (batch_from made) };
+
+    const WIDTH: usize = 5;
+
+    fn read(row: &Row) -> Result<BatchRow, Error> {
+        Ok(BatchRow {
+            no: row.get(0)?,
+            bytes: row.get(1)?,
+            added: row.get(2)?,
+            dropped: row.get(3)?,
+            unchanged: row.get(4)?,
+        })
+    }
+}
+
+impl Record for BatchCountsRow {
+    ghost WIDTH = { 4 };
+
+    ghost columns_of = { counts_columns };
+
+    ghost fits = { FitsCounts };
+
+    const WIDTH: usize = 4;
+
+    fn read(row: &Row) -> Result<BatchCountsRow, Error> {
+        Ok(BatchCountsRow {
+            no: row.get(0)?,
+            added: row.get(1)?,
+            dropped: row.get(2)?,
+            unchanged: row.get(3)?,
+        })
+    }
+}
+
+/// Keeps a batch, with what its lines did.
+#[derive(Clone, Copy)]
+pub struct InsertBatch<'a> {
+    pub no: u32,
+    pub bytes: &'a [u8],
+    pub added: u32,
+    pub dropped: u32,
+    pub unchanged: u32,
+}
+
+impl Alteration for InsertBatch<'_> {
+    ghost alteration = { λ it t. with_batch (record {
+      no = it.no;
+      bytes = it.bytes.now;
+      added = it.added;
+      dropped = it.dropped;
+      unchanged = it.unchanged;
+    }) t };
+
+    ghost fits = { λ _. Unit {0} };
+
+    fn apply<S: Alter>(&self, tx: &mut Transaction<'_, S>) -> Result<(), Error> {
+        run(
+            tx,
+            "INSERT INTO batch (no, bytes, added, dropped, unchanged) VALUES (?1, ?2, ?3, ?4, ?5)",
+            params![
+                self.no,
+                self.bytes,
+                self.added,
+                self.dropped,
+                self.unchanged
+            ],
+        )
+    }
+}
+
+/// The kept batch of a number, if there is one.
+pub fn batch_of<S: Alter>(
+    alloc: Global,
+    conn: &mut Connection<S>,
+    no: u32,
+) -> Result<Option<BatchRow>, Error>
+    ensures row { Reads S.Store
+        (λ t found. filter (λ r. r.no == no) t.batch ≡ map batch_from (option_to_list found))
+        conn.old conn.new result }
+    ensures open { AnswersOpen S.Store conn.old conn.new result }
+    ensures was_open { OpensNone S.Store conn.old conn.new }
+    ensures same { LeavesAll S.Store conn.old conn.new result }
+    ensures kept { LeavesCommitted S.Store conn.old conn.new }
+    ensures mode { conn.old.in_transaction ≡ false → conn.new.in_transaction ≡ false }
+    ensures survives { Survives (state S.Store conn.old) (state S.Store conn.new)
+        (Nothing (state S.Store conn.old)) }
+{
+    let mut found: Vec<BatchRow> = stream(
+        alloc,
+        conn,
+        "SELECT no, bytes, added, dropped, unchanged FROM batch WHERE no = ?1 ORDER BY no",
+        params![no],
+    )?;
+    Ok(found.pop())
+}
+
+/// The numbers of all kept batches, each above the one before.
+pub fn batch_numbers<S: Alter>(alloc: Global, conn: &mut Connection<S>) -> Result<Vec<u32>, Error>
+    ensures numbers { Reads S.Store (λ t found. IsPermutation (map (λ r. r.no) t.batch) found.items)
+        conn.old conn.new result }
+    ensures in_order { Reads S.Store (λ t found. NumbersRise found.items) conn.old conn.new result }
+    ensures open { AnswersOpen S.Store conn.old conn.new result }
+    ensures was_open { OpensNone S.Store conn.old conn.new }
+    ensures same { LeavesAll S.Store conn.old conn.new result }
+    ensures kept { LeavesCommitted S.Store conn.old conn.new }
+    ensures mode { conn.old.in_transaction ≡ false → conn.new.in_transaction ≡ false }
+    ensures survives { Survives (state S.Store conn.old) (state S.Store conn.new)
+        (Nothing (state S.Store conn.old)) }
+{
+    stream(alloc, conn, "SELECT no FROM batch ORDER BY no", &[])
+}
+
+// All batches but their bytes, or that a row is of none.
+pub fn adopt_batches<S: Alter>(
+    alloc: Global,
+    conn: &mut Connection<S>,
+) -> Result<Option<Vec<BatchCountsRow>>, Error>
+    ensures found { Finds S.Store IsFoundBatches conn.old conn.new result }
+    ensures same { Leaves S.Store conn.old conn.new result }
+    ensures looks { Looks (state S.Store conn.old) (state S.Store conn.new) }
+{
+    read_table(
+        alloc,
+        conn,
+        "SELECT no, added, dropped, unchanged, rowid FROM batch ORDER BY rowid",
+    )
+}

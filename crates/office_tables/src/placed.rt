@@ -1,0 +1,162 @@
+// Where exams stand in the publication.
+ghost use Rattle.std.specs.Prelude.{◌≡◌, false, IsPermutation};
+ghost use Rattle.sqlite.specs.Held.{state};
+ghost use Rattle.sqlite.specs.State.{Survives};
+ghost use Rattle.office_tables.specs.Placed.{no_placements, placed_columns, placed_of, with_placement, FitsPlacement, PlacementsRise};
+ghost use Rattle.office_tables.specs.Readings.{Finds, IsFound, Leaves, Looks};
+ghost use Rattle.office_tables.specs.Schema.{schema_5, schema_6, IsBlank};
+ghost use Rattle.office_tables.specs.Selections.{IsInOrder};
+ghost use Rattle.office_tables.specs.Steps.{AnswersOpen, Grows, LeavesAll, LeavesCommitted, Nothing, OpensNone, Reads, Within};
+ghost use Rattle.office_tables.specs.Stored.{keyed};
+
+use crate::altering::Alteration;
+use crate::listing::read_table;
+use crate::records::Record;
+use crate::running::run;
+use crate::streaming::stream;
+use sqlite::{Alter, Connection, Error, Row, Transaction, params};
+use std::alloc::Global;
+
+/// Where an exam stands in the publication.
+#[derive(Clone, Copy, Debug, PartialEq, Eq)]
+pub struct PlacedRow {
+    pub exam: u32,
+    pub period: u32,
+    pub room: u32,
+}
+
+// The table of published placements.
+pub fn create_placed<S: Alter>(tx: &mut Transaction<'_, S>) -> Result<(), Error>
+    ensures same_reference { tx.new.conn.ghost_name ≡ tx.old.conn.ghost_name }
+    ensures makes { Grows S.Store (IsBlank schema_5) (IsBlank schema_6) tx.old.conn.now tx.new.conn.now result }
+    ensures within { Within (state S.Store tx.old.conn.now) (state S.Store tx.new.conn.now) }
+{
+    run(
+        tx,
+        "CREATE TABLE placed (exam INTEGER NOT NULL PRIMARY KEY, period INTEGER NOT NULL, room \
+         INTEGER NOT NULL) STRICT",
+        &[],
+    )
+}
+
+impl Record for PlacedRow {
+    ghost WIDTH = { 3 };
+
+    ghost columns_of = { placed_columns };
+
+    ghost fits = { FitsPlacement };
+
+    const WIDTH: usize = 3;
+
+    fn read(row: &Row) -> Result<PlacedRow, Error> {
+        Ok(PlacedRow {
+            exam: row.get(0)?,
+            period: row.get(1)?,
+            room: row.get(2)?,
+        })
+    }
+}
+
+/// Adds a placement.
+#[derive(Clone, Copy)]
+pub struct InsertPlacement {
+    pub row: PlacedRow,
+}
+
+impl Alteration for InsertPlacement {
+    ghost alteration = { λ it t. with_placement it.row t };
+
+    ghost fits = { λ _. Unit {0} };
+
+    fn apply<S: Alter>(&self, tx: &mut Transaction<'_, S>) -> Result<(), Error> {
+        run(
+            tx,
+            "INSERT INTO placed (exam, period, room) VALUES (?1, ?2, ?3)",
+            params![self.row.exam, self.row.period, self.row.room],
+        )
+    }
+}
+
+/// Takes all placements out.
+#[derive(Clone, Copy)]
+pub struct DeletePlacements;
+
+impl Alteration for DeletePlacements {
+    ghost alteration = { λ _ t. no_placements t };
+
+    ghost fits = { λ _. Unit {0} };
+
+    fn apply<S: Alter>(&self, tx: &mut Transaction<'_, S>) -> Result<(), Error> {
+        run(tx, "DELETE FROM placed", &[])
+    }
+}
+
+/// All published placements, by exam.
+pub fn placements<S: Alter>(
+    alloc: Global,
+    conn: &mut Connection<S>,
+) -> Result<Vec<PlacedRow>, Error>
+    ensures rows { Reads S.Store (λ t found. IsPermutation t.placed found.items)
+        conn.old conn.new result }
+    ensures in_order { Reads S.Store (λ t found. IsInOrder PlacementsRise t.placed found.items)
+        conn.old conn.new result }
+    ensures open { AnswersOpen S.Store conn.old conn.new result }
+    ensures was_open { OpensNone S.Store conn.old conn.new }
+    ensures same { LeavesAll S.Store conn.old conn.new result }
+    ensures kept { LeavesCommitted S.Store conn.old conn.new }
+    ensures mode { conn.old.in_transaction ≡ false → conn.new.in_transaction ≡ false }
+    ensures survives { Survives (state S.Store conn.old) (state S.Store conn.new)
+        (Nothing (state S.Store conn.old)) }
+{
+    stream(
+        alloc,
+        conn,
+        "SELECT exam, period, room FROM placed ORDER BY exam",
+        &[],
+    )
+}
+
+/// The published placements of the exams that a student is enrolled in, by exam.
+pub fn placements_of<S: Alter>(
+    alloc: Global,
+    conn: &mut Connection<S>,
+    student: u32,
+) -> Result<Vec<PlacedRow>, Error>
+    ensures rows { Reads S.Store (λ t found. IsPermutation (placed_of student t) found.items)
+        conn.old conn.new result }
+    ensures in_order { Reads S.Store
+        (λ t found. IsInOrder PlacementsRise (placed_of student t) found.items)
+        conn.old conn.new result }
+    ensures open { AnswersOpen S.Store conn.old conn.new result }
+    ensures was_open { OpensNone S.Store conn.old conn.new }
+    ensures same { LeavesAll S.Store conn.old conn.new result }
+    ensures kept { LeavesCommitted S.Store conn.old conn.new }
+    ensures mode { conn.old.in_transaction ≡ false → conn.new.in_transaction ≡ false }
+    ensures survives { Survives (state S.Store conn.old) (state S.Store conn.new)
+        (Nothing (state S.Store conn.old)) }
+{
+    stream(
+        alloc,
+        conn,
+        "SELECT placed.exam, placed.period, placed.room FROM enrol, placed WHERE enrol.student = \
+         ?1 AND placed.exam = enrol.exam ORDER BY placed.exam",
+        params![student],
+    )
+}
+
+// All published placements, or that a row is of none.
+pub fn adopt_placements<S: Alter>(
+    alloc: Global,
+    conn: &mut Connection<S>,
+) -> Result<Option<Vec<PlacedRow>>, Error>
+    ensures found { Finds S.Store (λ db. IsFound FitsPlacement placed_columns keyed (db.trees 7))
+        conn.old conn.new result }
+    ensures same { Leaves S.Store conn.old conn.new result }
+    ensures looks { Looks (state S.Store conn.old) (state S.Store conn.new) }
+{
+    read_table(
+        alloc,
+        conn,
+        "SELECT exam, period, room, rowid FROM placed ORDER BY rowid",
+    )
+}

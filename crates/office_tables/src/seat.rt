@@ -1,0 +1,171 @@
+// Who is seated where.
+ghost use Rattle.std.specs.Prelude.{◌≡◌, ◌==◌, false, filter, IsPermutation};
+ghost use Rattle.sqlite.specs.Held.{state};
+ghost use Rattle.sqlite.specs.State.{Survives};
+ghost use Rattle.office_tables.specs.Readings.{Finds, IsFound, Leaves, Looks};
+ghost use Rattle.office_tables.specs.Schema.{schema_6, schema_7, IsBlank};
+ghost use Rattle.office_tables.specs.Seat.{seat_columns, with_seat, without_student_seats, FitsSeat, HerSeatsRise, SeatsRise};
+ghost use Rattle.office_tables.specs.Selections.{IsInOrder};
+ghost use Rattle.office_tables.specs.Steps.{AnswersOpen, Grows, LeavesAll, LeavesCommitted, Nothing, OpensNone, Reads, Within};
+ghost use Rattle.office_tables.specs.Stored.{keyless};
+
+use crate::altering::Alteration;
+use crate::listing::read_table;
+use crate::records::Record;
+use crate::running::run;
+use crate::streaming::stream;
+use sqlite::{Alter, Connection, Error, Row, Transaction, params};
+use std::alloc::Global;
+
+/// A published seat; seats count from 1 in each room and period.
+#[derive(Clone, Copy, Debug, PartialEq, Eq)]
+pub struct SeatRow {
+    pub student: u32,
+    pub exam: u32,
+    pub period: u32,
+    pub room: u32,
+    pub seat: u32,
+}
+
+// The table of seats.
+pub fn create_seat<S: Alter>(tx: &mut Transaction<'_, S>) -> Result<(), Error>
+    ensures same_reference { tx.new.conn.ghost_name ≡ tx.old.conn.ghost_name }
+    ensures makes { Grows S.Store (IsBlank schema_6) (IsBlank schema_7) tx.old.conn.now tx.new.conn.now result }
+    ensures within { Within (state S.Store tx.old.conn.now) (state S.Store tx.new.conn.now) }
+{
+    run(
+        tx,
+        "CREATE TABLE seat (student INTEGER NOT NULL, exam INTEGER NOT NULL, period INTEGER NOT \
+         NULL, room INTEGER NOT NULL, seat INTEGER NOT NULL, PRIMARY KEY (student, exam), UNIQUE \
+         (period, room, seat)) STRICT",
+        &[],
+    )
+}
+
+impl Record for SeatRow {
+    ghost WIDTH = { 5 };
+
+    ghost columns_of = { seat_columns };
+
+    ghost fits = { FitsSeat };
+
+    const WIDTH: usize = 5;
+
+    fn read(row: &Row) -> Result<SeatRow, Error> {
+        Ok(SeatRow {
+            student: row.get(0)?,
+            exam: row.get(1)?,
+            period: row.get(2)?,
+            room: row.get(3)?,
+            seat: row.get(4)?,
+        })
+    }
+}
+
+/// Adds a seat.
+#[derive(Clone, Copy)]
+pub struct InsertSeat {
+    pub row: SeatRow,
+}
+
+impl Alteration for InsertSeat {
+    ghost alteration = { λ it t. with_seat it.row t };
+
+    ghost fits = { λ _. Unit {0} };
+
+    fn apply<S: Alter>(&self, tx: &mut Transaction<'_, S>) -> Result<(), Error> {
+        let row = self.row;
+        run(
+            tx,
+            "INSERT INTO seat (student, exam, period, room, seat) VALUES (?1, ?2, ?3, ?4, ?5)",
+            params![row.student, row.exam, row.period, row.room, row.seat],
+        )
+    }
+}
+
+/// Takes a student's seats out.
+#[derive(Clone, Copy)]
+pub struct DeleteStudentSeats {
+    pub student: u32,
+}
+
+impl Alteration for DeleteStudentSeats {
+    ghost alteration = { λ it t. without_student_seats it.student t };
+
+    ghost fits = { λ _. Unit {0} };
+
+    fn apply<S: Alter>(&self, tx: &mut Transaction<'_, S>) -> Result<(), Error> {
+        run(
+            tx,
+            "DELETE FROM seat WHERE student = ?1",
+            params![self.student],
+        )
+    }
+}
+
+/// All seats, by exam and then by student.
+pub fn seats<S: Alter>(alloc: Global, conn: &mut Connection<S>) -> Result<Vec<SeatRow>, Error>
+    ensures rows { Reads S.Store (λ t found. IsPermutation t.seat found.items)
+        conn.old conn.new result }
+    ensures in_order { Reads S.Store (λ t found. IsInOrder SeatsRise t.seat found.items)
+        conn.old conn.new result }
+    ensures open { AnswersOpen S.Store conn.old conn.new result }
+    ensures was_open { OpensNone S.Store conn.old conn.new }
+    ensures same { LeavesAll S.Store conn.old conn.new result }
+    ensures kept { LeavesCommitted S.Store conn.old conn.new }
+    ensures mode { conn.old.in_transaction ≡ false → conn.new.in_transaction ≡ false }
+    ensures survives { Survives (state S.Store conn.old) (state S.Store conn.new)
+        (Nothing (state S.Store conn.old)) }
+{
+    stream(
+        alloc,
+        conn,
+        "SELECT student, exam, period, room, seat FROM seat ORDER BY exam, student",
+        &[],
+    )
+}
+
+/// A student's seats, by exam.
+pub fn seats_of<S: Alter>(
+    alloc: Global,
+    conn: &mut Connection<S>,
+    student: u32,
+) -> Result<Vec<SeatRow>, Error>
+    ensures rows { Reads S.Store
+        (λ t found. IsPermutation (filter (λ r. r.student == student) t.seat) found.items)
+        conn.old conn.new result }
+    ensures in_order { Reads S.Store
+        (λ t found. IsInOrder HerSeatsRise (filter (λ r. r.student == student) t.seat) found.items)
+        conn.old conn.new result }
+    ensures open { AnswersOpen S.Store conn.old conn.new result }
+    ensures was_open { OpensNone S.Store conn.old conn.new }
+    ensures same { LeavesAll S.Store conn.old conn.new result }
+    ensures kept { LeavesCommitted S.Store conn.old conn.new }
+    ensures mode { conn.old.in_transaction ≡ false → conn.new.in_transaction ≡ false }
+    ensures survives { Survives (state S.Store conn.old) (state S.Store conn.new)
+        (Nothing (state S.Store conn.old)) }
+{
+    stream(
+        alloc,
+        conn,
+        "SELECT student, exam, period, room, seat FROM seat WHERE student = ?1 ORDER BY exam",
+        params![student],
+    )
+}
+
+// All seats, or that a row is of none.
+pub fn adopt_seats<S: Alter>(
+    alloc: Global,
+    conn: &mut Connection<S>,
+) -> Result<Option<Vec<SeatRow>>, Error>
+    ensures found { Finds S.Store (λ db. IsFound FitsSeat seat_columns keyless (db.trees 8))
+        conn.old conn.new result }
+    ensures same { Leaves S.Store conn.old conn.new result }
+    ensures looks { Looks (state S.Store conn.old) (state S.Store conn.new) }
+{
+    read_table(
+        alloc,
+        conn,
+        "SELECT student, exam, period, room, seat, rowid FROM seat ORDER BY rowid",
+    )
+}

@@ -1,0 +1,159 @@
+// Where exams stand in drafts.
+ghost use Rattle.std.specs.Prelude.{◌≡◌, ◌==◌, false, filter, IsPermutation};
+ghost use Rattle.sqlite.specs.Held.{state};
+ghost use Rattle.sqlite.specs.State.{Survives};
+ghost use Rattle.office_tables.specs.Readings.{Finds, IsFound, Leaves, Looks};
+ghost use Rattle.office_tables.specs.Schema.{schema_4, schema_5, IsBlank};
+ghost use Rattle.office_tables.specs.Slot.{slot_columns, with_slot, without_slot, without_slots, FitsSlot};
+ghost use Rattle.office_tables.specs.Steps.{AnswersOpen, Grows, LeavesAll, LeavesCommitted, Nothing, OpensNone, Reads, Within};
+ghost use Rattle.office_tables.specs.Stored.{keyless};
+
+use crate::altering::Alteration;
+use crate::listing::read_table;
+use crate::records::Record;
+use crate::running::run;
+use crate::streaming::stream;
+use sqlite::{Alter, Connection, Error, Row, Transaction, params};
+use std::alloc::Global;
+
+/// Where an exam stands in a draft.
+#[derive(Clone, Copy, Debug, PartialEq, Eq)]
+pub struct SlotRow {
+    pub draft: u32,
+    pub exam: u32,
+    pub period: u32,
+    pub room: u32,
+}
+
+// The table of placements in drafts.
+pub fn create_slot<S: Alter>(tx: &mut Transaction<'_, S>) -> Result<(), Error>
+    ensures same_reference { tx.new.conn.ghost_name ≡ tx.old.conn.ghost_name }
+    ensures makes { Grows S.Store (IsBlank schema_4) (IsBlank schema_5) tx.old.conn.now tx.new.conn.now result }
+    ensures within { Within (state S.Store tx.old.conn.now) (state S.Store tx.new.conn.now) }
+{
+    run(
+        tx,
+        "CREATE TABLE slot (draft INTEGER NOT NULL, exam INTEGER NOT NULL, period INTEGER NOT \
+         NULL, room INTEGER NOT NULL, PRIMARY KEY (draft, exam)) STRICT",
+        &[],
+    )
+}
+
+impl Record for SlotRow {
+    ghost WIDTH = { 4 };
+
+    ghost columns_of = { slot_columns };
+
+    ghost fits = { FitsSlot };
+
+    const WIDTH: usize = 4;
+
+    fn read(row: &Row) -> Result<SlotRow, Error> {
+        Ok(SlotRow {
+            draft: row.get(0)?,
+            exam: row.get(1)?,
+            period: row.get(2)?,
+            room: row.get(3)?,
+        })
+    }
+}
+
+/// Adds a placement.
+#[derive(Clone, Copy)]
+pub struct InsertSlot {
+    pub row: SlotRow,
+}
+
+impl Alteration for InsertSlot {
+    ghost alteration = { λ it t. with_slot it.row t };
+
+    ghost fits = { λ _. Unit {0} };
+
+    fn apply<S: Alter>(&self, tx: &mut Transaction<'_, S>) -> Result<(), Error> {
+        run(
+            tx,
+            "INSERT INTO slot (draft, exam, period, room) VALUES (?1, ?2, ?3, ?4)",
+            params![
+                self.row.draft,
+                self.row.exam,
+                self.row.period,
+                self.row.room
+            ],
+        )
+    }
+}
+
+/// Takes all placements of a draft out.
+#[derive(Clone, Copy)]
+pub struct DeleteSlots {
+    pub draft: u32,
+}
+
+impl Alteration for DeleteSlots {
+    ghost alteration = { λ it t. without_slots it.draft t };
+
+    ghost fits = { λ _. Unit {0} };
+
+    fn apply<S: Alter>(&self, tx: &mut Transaction<'_, S>) -> Result<(), Error> {
+        run(tx, "DELETE FROM slot WHERE draft = ?1", params![self.draft])
+    }
+}
+
+/// Takes an exam's placement in a draft out.
+#[derive(Clone, Copy)]
+pub struct DeleteSlot {
+    pub draft: u32,
+    pub exam: u32,
+}
+
+impl Alteration for DeleteSlot {
+    ghost alteration = { λ it t. without_slot it.draft it.exam t };
+
+    ghost fits = { λ _. Unit {0} };
+
+    fn apply<S: Alter>(&self, tx: &mut Transaction<'_, S>) -> Result<(), Error> {
+        run(
+            tx,
+            "DELETE FROM slot WHERE draft = ?1 AND exam = ?2",
+            params![self.draft, self.exam],
+        )
+    }
+}
+
+/// A draft's placements, by exam.
+pub fn slots_of<S: Alter>(
+    alloc: Global,
+    conn: &mut Connection<S>,
+    draft: u32,
+) -> Result<Vec<SlotRow>, Error>
+    ensures rows { Reads S.Store (λ t rows. IsPermutation (filter (λ r. r.draft == draft) t.slot) rows.items) conn.old conn.new result }
+    ensures open { AnswersOpen S.Store conn.old conn.new result }
+    ensures was_open { OpensNone S.Store conn.old conn.new }
+    ensures same { LeavesAll S.Store conn.old conn.new result }
+    ensures kept { LeavesCommitted S.Store conn.old conn.new }
+    ensures mode { conn.old.in_transaction ≡ false → conn.new.in_transaction ≡ false }
+    ensures survives { Survives (state S.Store conn.old) (state S.Store conn.new) (Nothing (state S.Store conn.old)) }
+{
+    stream(
+        alloc,
+        conn,
+        "SELECT draft, exam, period, room FROM slot WHERE draft = ?1 ORDER BY exam",
+        params![draft],
+    )
+}
+
+// All placements in drafts, or that a row is of none.
+pub fn adopt_slots<S: Alter>(
+    alloc: Global,
+    conn: &mut Connection<S>,
+) -> Result<Option<Vec<SlotRow>>, Error>
+    ensures found { Finds S.Store (λ db. IsFound FitsSlot slot_columns keyless (db.trees 5)) conn.old conn.new result }
+    ensures same { Leaves S.Store conn.old conn.new result }
+    ensures looks { Looks (state S.Store conn.old) (state S.Store conn.new) }
+{
+    read_table(
+        alloc,
+        conn,
+        "SELECT draft, exam, period, room, rowid FROM slot ORDER BY rowid",
+    )
+}
