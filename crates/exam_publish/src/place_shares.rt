@@ -30,28 +30,6 @@ pub fn period_shares(
     Ok(shares)
 }
 
-// Each room's penalty, once for each exam that stands in it.
-fn room_penalties(
-    alloc: Global,
-    instance: &Instance,
-    timetable: &Timetable,
-) -> Result<Vec<u64>, AllocError>
-    requires { Suits instance.now timetable.now }
-    ensures { IfOk result (λ shares. shares.items ≡ map (penalty_in instance.now timetable.now)
-        (range_with_len 0 (length instance.now.rooms))) }
-{
-    let mut shares = vec![in alloc; 0u64; instance.rooms() as usize]?;
-    'exams: for exam in 0..instance.exams() {
-        let Some(place) = timetable.get(ExamNo::new(exam)) else {
-            continue;
-        };
-        let room = place.room.get() as usize;
-        let share = shares[room] + u64::from(instance.room(place.room).penalty);
-        shares[room] = share;
-    }
-    Ok(shares)
-}
-
 /// Each room's share: its penalties, and its mixed durations over all periods.
 pub fn room_shares(
     alloc: Global,
@@ -70,6 +48,28 @@ pub fn room_shares(
             penalty: *penalty,
             mixed: mixed_in(instance, &kinds, RoomNo::new(room as u32)),
         })?;
+    }
+    Ok(shares)
+}
+
+// Each room's penalty, once for each exam that stands in it.
+fn room_penalties(
+    alloc: Global,
+    instance: &Instance,
+    timetable: &Timetable,
+) -> Result<Vec<u64>, AllocError>
+    requires { Suits instance.now timetable.now }
+    ensures { IfOk result (λ shares. shares.items ≡ map (penalty_in instance.now timetable.now)
+        (range_with_len 0 (length instance.now.rooms))) }
+{
+    let mut shares = vec![in alloc; 0u64; instance.rooms() as usize]?;
+    'exams: for exam in 0..instance.exams() {
+        let Some(place) = timetable.get(ExamNo::new(exam)) else {
+            continue;
+        };
+        let room = place.room.get() as usize;
+        let share = shares[room] + u64::from(instance.room(place.room).penalty);
+        shares[room] = share;
     }
     Ok(shares)
 }

@@ -14,56 +14,6 @@ use crate::site::Site;
 use exam_model::{Enrolments, ExamNo, Instance, Timetable};
 use std::alloc::{AllocError, Global};
 
-// Adds the pairs that name the exam and break the rule.
-fn push_broken(
-    found: &mut Vec<ExamPair>,
-    rule: BreachRule,
-    exam: ExamNo,
-    site: &Site,
-) -> Result<(), AllocError>
-    requires exists { exam < length site.now.timetable.now }
-    requires fits { Fits site.now.instance.now site.now.enrolments.now site.now.timetable.now }
-    ensures { OnOk result ((e f : ℕ) → list_any (is_pair e f) found.new.items
-        ≡ (list_any (is_pair e f) found.old.items || (is_one_of exam e f
-        && breaks site.now.instance.now site.now.enrolments.now site.now.timetable.now rule e f))) }
-{
-    match rule {
-        BreachRule::Duration => {
-            let too_long = outlasts(site.instance, site.timetable, exam);
-            push_some(found, pair_if(too_long, exam, exam))
-        }
-        BreachRule::Clash => push_clashes(found, exam, site),
-        BreachRule::Capacity => {
-            let overfull = is_overfull(site, exam);
-            push_some(found, pair_if(overfull, exam, exam))
-        }
-        BreachRule::After => push_afters(found, exam, site),
-        BreachRule::Coincidence => push_coincidences(found, exam, site),
-        BreachRule::Exclusion => push_exclusions(found, exam, site),
-        BreachRule::RoomExclusive => push_exclusives(found, exam, site),
-    }
-}
-
-// The pairs that name one of the exams and break the rule.
-fn broken_pairs(
-    alloc: Global,
-    rule: BreachRule,
-    edited: &[ExamNo],
-    site: &Site,
-) -> Result<Vec<ExamPair>, AllocError>
-    requires exist { All (λ e. e < length site.now.timetable.now) edited.now }
-    requires fits { Fits site.now.instance.now site.now.enrolments.now site.now.timetable.now }
-    ensures { IfOk result (λ found. found.items ≡ passing (λ e f. name_one edited.now e f
-        && breaks site.now.instance.now site.now.enrolments.now site.now.timetable.now rule e f)
-        (length site.now.instance.now.exams)) }
-{
-    let mut found = Vec::new(alloc);
-    'exams: for exam in edited {
-        push_broken(&mut found, rule, *exam, site)?;
-    }
-    Ok(in_order(found))
-}
-
 /// The first of all breaches, in their order, that names one of these exams; none where each
 /// breach names other exams alone. The rules are judged in their order, and none beyond the first
 /// that one of these exams breaks.
@@ -97,4 +47,54 @@ pub fn first_breach_of(
         }
     }
     Ok(None)
+}
+
+// The pairs that name one of the exams and break the rule.
+fn broken_pairs(
+    alloc: Global,
+    rule: BreachRule,
+    edited: &[ExamNo],
+    site: &Site,
+) -> Result<Vec<ExamPair>, AllocError>
+    requires exist { All (λ e. e < length site.now.timetable.now) edited.now }
+    requires fits { Fits site.now.instance.now site.now.enrolments.now site.now.timetable.now }
+    ensures { IfOk result (λ found. found.items ≡ passing (λ e f. name_one edited.now e f
+        && breaks site.now.instance.now site.now.enrolments.now site.now.timetable.now rule e f)
+        (length site.now.instance.now.exams)) }
+{
+    let mut found = Vec::new(alloc);
+    'exams: for exam in edited {
+        push_broken(&mut found, rule, *exam, site)?;
+    }
+    Ok(in_order(found))
+}
+
+// Adds the pairs that name the exam and break the rule.
+fn push_broken(
+    found: &mut Vec<ExamPair>,
+    rule: BreachRule,
+    exam: ExamNo,
+    site: &Site,
+) -> Result<(), AllocError>
+    requires exists { exam < length site.now.timetable.now }
+    requires fits { Fits site.now.instance.now site.now.enrolments.now site.now.timetable.now }
+    ensures { OnOk result ((e f : ℕ) → list_any (is_pair e f) found.new.items
+        ≡ (list_any (is_pair e f) found.old.items || (is_one_of exam e f
+        && breaks site.now.instance.now site.now.enrolments.now site.now.timetable.now rule e f))) }
+{
+    match rule {
+        BreachRule::Duration => {
+            let too_long = outlasts(site.instance, site.timetable, exam);
+            push_some(found, pair_if(too_long, exam, exam))
+        }
+        BreachRule::Clash => push_clashes(found, exam, site),
+        BreachRule::Capacity => {
+            let overfull = is_overfull(site, exam);
+            push_some(found, pair_if(overfull, exam, exam))
+        }
+        BreachRule::After => push_afters(found, exam, site),
+        BreachRule::Coincidence => push_coincidences(found, exam, site),
+        BreachRule::Exclusion => push_exclusions(found, exam, site),
+        BreachRule::RoomExclusive => push_exclusives(found, exam, site),
+    }
 }

@@ -45,17 +45,6 @@ impl Group {
     }
 }
 
-// No exams yet, for so many periods.
-fn empty_groups(alloc: Global, periods: u32) -> Result<Vec<Group>, AllocError>
-    ensures { IfOk result (λ groups. groups.items ≡ replicate periods []) }
-{
-    let mut groups: Vec<Group> = Vec::new(alloc);
-    'periods: for _ in 0..periods {
-        groups.push(Group::new(alloc))?;
-    }
-    Ok(groups)
-}
-
 /// The exams of each period, by the period's number.
 pub fn by_period(
     alloc: Global,
@@ -73,6 +62,17 @@ pub fn by_period(
             continue;
         };
         groups[place.period.get() as usize].push(exam)?;
+    }
+    Ok(groups)
+}
+
+// No exams yet, for so many periods.
+fn empty_groups(alloc: Global, periods: u32) -> Result<Vec<Group>, AllocError>
+    ensures { IfOk result (λ groups. groups.items ≡ replicate periods []) }
+{
+    let mut groups: Vec<Group> = Vec::new(alloc);
+    'periods: for _ in 0..periods {
+        groups.push(Group::new(alloc))?;
     }
     Ok(groups)
 }

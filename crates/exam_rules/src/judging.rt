@@ -17,20 +17,6 @@ use crate::site::Site;
 use exam_model::{Enrolments, Instance, Timetable};
 use std::alloc::{AllocError, Global};
 
-// Adds the breaches of one rule.
-fn push_all(found: &mut Vec<Breach>, rule: BreachRule, pairs: &[ExamPair]) -> Result<(), AllocError>
-    ensures { OnOk result (found.new.items ≡ found.old.items ++ map (breach rule) pairs.now) }
-{
-    'pairs: for pair in pairs {
-        found.push(Breach {
-            rule,
-            exam: pair.exam,
-            other: pair.other,
-        })?;
-    }
-    Ok(())
-}
-
 /// All breaches of the hard rules: by rule, then by exam, then by the other exam. A rule over an
 /// exam without a place isn't broken, nor is a line that names one exam twice.
 pub fn breaches(
@@ -83,4 +69,18 @@ fn pairs_of(
         BreachRule::Exclusion => exclusion_pairs(alloc, instance, timetable),
         BreachRule::RoomExclusive => exclusive_pairs(alloc, instance, timetable, groups),
     }
+}
+
+// Adds the breaches of one rule.
+fn push_all(found: &mut Vec<Breach>, rule: BreachRule, pairs: &[ExamPair]) -> Result<(), AllocError>
+    ensures { OnOk result (found.new.items ≡ found.old.items ++ map (breach rule) pairs.now) }
+{
+    'pairs: for pair in pairs {
+        found.push(Breach {
+            rule,
+            exam: pair.exam,
+            other: pair.other,
+        })?;
+    }
+    Ok(())
 }

@@ -15,6 +15,23 @@ use crate::standing::{are_strangers_apart, in_one_period, is_not_after};
 use exam_model::{Enrolments, ExamNo, Instance, PeriodRule, Timetable};
 use std::alloc::{AllocError, Global};
 
+/// The lines `After` that are broken: the first exam doesn't stand in a greater period.
+pub fn after_pairs(
+    alloc: Global,
+    instance: &Instance,
+    timetable: &Timetable,
+) -> Result<Vec<ExamPair>, AllocError>
+    requires { length timetable.now ≡ length instance.now.exams }
+    ensures { (E : Enrolled) → IfOk result (λ found. found.items
+        ≡ pairs_breaking instance.now E timetable.now After) }
+{
+    let mut found = Vec::new(alloc);
+    'lines: for line in instance.period_rules() {
+        push_some(&mut found, broken_after(line, timetable))?;
+    }
+    Ok(in_order(found))
+}
+
 // The pair that breaks the line, if it is an `After`.
 fn broken_after(line: &PeriodRule, timetable: &Timetable) -> Option<ExamPair>
     requires exists { PeriodRuleExists (length timetable.now) line.now }
@@ -27,6 +44,24 @@ fn broken_after(line: &PeriodRule, timetable: &Timetable) -> Option<ExamPair>
         }
         _ => None,
     }
+}
+
+/// The lines `Coincidence` that are broken: the exams share no student and their periods differ.
+pub fn coincidence_pairs(
+    alloc: Global,
+    instance: &Instance,
+    enrolments: &Enrolments,
+    timetable: &Timetable,
+) -> Result<Vec<ExamPair>, AllocError>
+    requires { Fits instance.now enrolments.now timetable.now }
+    ensures { IfOk result (λ found. found.items
+        ≡ pairs_breaking instance.now enrolments.now timetable.now Coincidence) }
+{
+    let mut found = Vec::new(alloc);
+    'lines: for line in instance.period_rules() {
+        push_some(&mut found, broken_coincidence(line, enrolments, timetable))?;
+    }
+    Ok(in_order(found))
 }
 
 // The pair that breaks the line, if it is a `Coincidence`.
@@ -52,54 +87,6 @@ fn broken_coincidence(
     }
 }
 
-// The pair that breaks the line, if it is an `Exclusion`.
-fn broken_exclusion(line: &PeriodRule, timetable: &Timetable) -> Option<ExamPair>
-    requires exists { PeriodRuleExists (length timetable.now) line.now }
-    ensures { (e f : ℕ) → is_some_pair e f result
-        ≡ (is_exclusion e f line.now && (nat_lt e f && in_one_period timetable.now e f)) }
-{
-    match line {
-        PeriodRule::Exclusion(a, b) if a < b => pair_if(in_one_period(timetable, *a, *b), *a, *b),
-        PeriodRule::Exclusion(a, b) if b < a => pair_if(in_one_period(timetable, *b, *a), *b, *a),
-        _ => None,
-    }
-}
-
-/// The lines `After` that are broken: the first exam doesn't stand in a greater period.
-pub fn after_pairs(
-    alloc: Global,
-    instance: &Instance,
-    timetable: &Timetable,
-) -> Result<Vec<ExamPair>, AllocError>
-    requires { length timetable.now ≡ length instance.now.exams }
-    ensures { (E : Enrolled) → IfOk result (λ found. found.items
-        ≡ pairs_breaking instance.now E timetable.now After) }
-{
-    let mut found = Vec::new(alloc);
-    'lines: for line in instance.period_rules() {
-        push_some(&mut found, broken_after(line, timetable))?;
-    }
-    Ok(in_order(found))
-}
-
-/// The lines `Coincidence` that are broken: the exams share no student and their periods differ.
-pub fn coincidence_pairs(
-    alloc: Global,
-    instance: &Instance,
-    enrolments: &Enrolments,
-    timetable: &Timetable,
-) -> Result<Vec<ExamPair>, AllocError>
-    requires { Fits instance.now enrolments.now timetable.now }
-    ensures { IfOk result (λ found. found.items
-        ≡ pairs_breaking instance.now enrolments.now timetable.now Coincidence) }
-{
-    let mut found = Vec::new(alloc);
-    'lines: for line in instance.period_rules() {
-        push_some(&mut found, broken_coincidence(line, enrolments, timetable))?;
-    }
-    Ok(in_order(found))
-}
-
 /// The lines `Exclusion` that are broken: the exams stand in one period.
 pub fn exclusion_pairs(
     alloc: Global,
@@ -117,16 +104,17 @@ pub fn exclusion_pairs(
     Ok(in_order(found))
 }
 
-// Whether the line names the exam.
-fn names(line: &PeriodRule, exam: ExamNo) -> bool
-    ensures { result ≡ line_names line.now exam }
+// The pair that breaks the line, if it is an `Exclusion`.
+fn broken_exclusion(line: &PeriodRule, timetable: &Timetable) -> Option<ExamPair>
+    requires exists { PeriodRuleExists (length timetable.now) line.now }
+    ensures { (e f : ℕ) → is_some_pair e f result
+        ≡ (is_exclusion e f line.now && (nat_lt e f && in_one_period timetable.now e f)) }
 {
-    let (first, second) = match line {
-        PeriodRule::After(a, b) => (*a, *b),
-        PeriodRule::Coincidence(a, b) => (*a, *b),
-        PeriodRule::Exclusion(a, b) => (*a, *b),
-    };
-    exam == first || exam == second
+    match line {
+        PeriodRule::Exclusion(a, b) if a < b => pair_if(in_one_period(timetable, *a, *b), *a, *b),
+        PeriodRule::Exclusion(a, b) if b < a => pair_if(in_one_period(timetable, *b, *a), *b, *a),
+        _ => None,
+    }
 }
 
 /// Adds the broken lines `After` that name the exam.
@@ -144,6 +132,18 @@ pub fn push_afters(found: &mut Vec<ExamPair>, exam: ExamNo, site: &Site) -> Resu
         push_some(found, broken_after(line, site.timetable))?;
     }
     Ok(())
+}
+
+// Whether the line names the exam.
+fn names(line: &PeriodRule, exam: ExamNo) -> bool
+    ensures { result ≡ line_names line.now exam }
+{
+    let (first, second) = match line {
+        PeriodRule::After(a, b) => (*a, *b),
+        PeriodRule::Coincidence(a, b) => (*a, *b),
+        PeriodRule::Exclusion(a, b) => (*a, *b),
+    };
+    exam == first || exam == second
 }
 
 /// Adds the broken lines `Coincidence` that name the exam.

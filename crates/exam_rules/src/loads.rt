@@ -48,6 +48,18 @@ pub fn is_too_small(instance: &Instance, loads: &[u64], place: Place) -> bool
     u64::from(room.capacity) < loads[instance.slot_of(place)]
 }
 
+/// The students of one room and period, over all exams that stand there.
+pub fn load_at(enrolments: &Enrolments, timetable: &Timetable, place: &Place) -> u64
+    requires fits { length timetable.now ≡ length enrolments.now }
+    ensures { result ≡ load_at enrolments.now timetable.now place.now }
+{
+    let mut load = 0;
+    'exams: for exam in 0..enrolments.exams() {
+        load += size_at(enrolments, timetable, ExamNo::new(exam), place);
+    }
+    load
+}
+
 // The students of an exam, if it stands at the place.
 fn size_at(enrolments: &Enrolments, timetable: &Timetable, exam: ExamNo, place: &Place) -> u64
     requires exists { exam < length timetable.now }
@@ -60,16 +72,4 @@ fn size_at(enrolments: &Enrolments, timetable: &Timetable, exam: ExamNo, place: 
         Some(other) if other == *place => u64::from(enrolments.size(exam)),
         _ => 0,
     }
-}
-
-/// The students of one room and period, over all exams that stand there.
-pub fn load_at(enrolments: &Enrolments, timetable: &Timetable, place: &Place) -> u64
-    requires fits { length timetable.now ≡ length enrolments.now }
-    ensures { result ≡ load_at enrolments.now timetable.now place.now }
-{
-    let mut load = 0;
-    'exams: for exam in 0..enrolments.exams() {
-        load += size_at(enrolments, timetable, ExamNo::new(exam), place);
-    }
-    load
 }

@@ -51,14 +51,68 @@ pub fn duration_pairs(
     Ok(in_order(found))
 }
 
-// Whether two exams share a student, the smaller of them first; one that isn't near shares none.
-fn is_clash(near: u64, enrolments: &Enrolments, exam: ExamNo, other: ExamNo) -> bool
-    requires exists { exam < length enrolments.now }
-    requires other_exists { other < length enrolments.now }
-    requires near { share_student enrolments.now exam other ≡ true → Has near other }
-    ensures { result ≡ (nat_lt exam other && share_student enrolments.now exam other) }
+/// The exams that share a student and stand in one period, the smaller of them first.
+pub fn clash_pairs(
+    alloc: Global,
+    instance: &Instance,
+    enrolments: &Enrolments,
+    timetable: &Timetable,
+    groups: &[Group],
+) -> Result<Vec<ExamPair>, AllocError>
+    requires fits { Fits instance.now enrolments.now timetable.now }
+    requires grouped { AreGroups timetable.now (length instance.now.periods)
+        (length timetable.now) groups.now }
+    ensures { IfOk result (λ found. found.items
+        ≡ pairs_breaking instance.now enrolments.now timetable.now Clash) }
 {
-    exam < other && has(near, other) && share_student(enrolments, exam, other)
+    let mut found = Vec::new(alloc);
+    let mut marks = Marks::new(alloc)?;
+    'groups: for group in groups {
+        add_group(&mut found, &mut marks, group.as_slice(), enrolments)?;
+    }
+    Ok(in_order(found))
+}
+
+// Adds the clashes within a group.
+fn add_group(
+    found: &mut Vec<ExamPair>,
+    marks: &mut Marks,
+    group: &[ExamNo],
+    enrolments: &Enrolments,
+) -> Result<(), AllocError>
+    requires exist { All (λ e. e < length enrolments.now) group.now }
+    ensures { OnOk result ((e f : ℕ) → list_any (is_pair e f) found.new.items
+        ≡ (list_any (is_pair e f) found.old.items || ((has_number group.now e
+        && has_number group.now f) && (nat_lt e f && share_student enrolments.now e f)))) }
+{
+    mark(marks, group, enrolments);
+    'exams: for exam in group {
+        let near = near_of(marks, enrolments, *exam);
+        add_clashes(found, *exam, near, group, enrolments)?;
+    }
+    unmark(marks, group, enrolments);
+    Ok(())
+}
+
+// Marks the exams of a group for their students.
+fn mark(marks: &mut Marks, group: &[ExamNo], enrolments: &Enrolments)
+    requires exist { All (λ e. e < length enrolments.now) group.now }
+    ensures { (e s : ℕ) → has_number group.now e ≡ true → has enrolments.now s e ≡ true
+        → Has (marks_of marks.new s) e }
+{
+    'exams: for exam in group {
+        marks.add(enrolments.students(*exam), *exam);
+    }
+}
+
+// The marked exams of an exam's students.
+#[tactic(auto, using(crate::proofs::CommonLemmas::shared_any))]
+fn near_of(marks: &Marks, enrolments: &Enrolments, exam: ExamNo) -> u64
+    requires exists { exam < length enrolments.now }
+    ensures { (f : ℕ) → ((s : ℕ) → has enrolments.now s f ≡ true → Has (marks_of marks.now s) f)
+        → share_student enrolments.now exam f ≡ true → Has result f }
+{
+    marks.of(enrolments.students(exam))
 }
 
 // Adds an exam's clashes with greater exams of its group; what is near it has all that share a
@@ -85,15 +139,14 @@ fn add_clashes(
     Ok(())
 }
 
-// Marks the exams of a group for their students.
-fn mark(marks: &mut Marks, group: &[ExamNo], enrolments: &Enrolments)
-    requires exist { All (λ e. e < length enrolments.now) group.now }
-    ensures { (e s : ℕ) → has_number group.now e ≡ true → has enrolments.now s e ≡ true
-        → Has (marks_of marks.new s) e }
+// Whether two exams share a student, the smaller of them first; one that isn't near shares none.
+fn is_clash(near: u64, enrolments: &Enrolments, exam: ExamNo, other: ExamNo) -> bool
+    requires exists { exam < length enrolments.now }
+    requires other_exists { other < length enrolments.now }
+    requires near { share_student enrolments.now exam other ≡ true → Has near other }
+    ensures { result ≡ (nat_lt exam other && share_student enrolments.now exam other) }
 {
-    'exams: for exam in group {
-        marks.add(enrolments.students(*exam), *exam);
-    }
+    exam < other && has(near, other) && share_student(enrolments, exam, other)
 }
 
 // Takes the marks of a group away.
@@ -105,72 +158,6 @@ fn unmark(marks: &mut Marks, group: &[ExamNo], enrolments: &Enrolments)
     'exams: for exam in group {
         marks.clear(enrolments.students(*exam));
     }
-}
-
-// The marked exams of an exam's students.
-#[tactic(auto, using(crate::proofs::CommonLemmas::shared_any))]
-fn near_of(marks: &Marks, enrolments: &Enrolments, exam: ExamNo) -> u64
-    requires exists { exam < length enrolments.now }
-    ensures { (f : ℕ) → ((s : ℕ) → has enrolments.now s f ≡ true → Has (marks_of marks.now s) f)
-        → share_student enrolments.now exam f ≡ true → Has result f }
-{
-    marks.of(enrolments.students(exam))
-}
-
-// Adds the clashes within a group.
-fn add_group(
-    found: &mut Vec<ExamPair>,
-    marks: &mut Marks,
-    group: &[ExamNo],
-    enrolments: &Enrolments,
-) -> Result<(), AllocError>
-    requires exist { All (λ e. e < length enrolments.now) group.now }
-    ensures { OnOk result ((e f : ℕ) → list_any (is_pair e f) found.new.items
-        ≡ (list_any (is_pair e f) found.old.items || ((has_number group.now e
-        && has_number group.now f) && (nat_lt e f && share_student enrolments.now e f)))) }
-{
-    mark(marks, group, enrolments);
-    'exams: for exam in group {
-        let near = near_of(marks, enrolments, *exam);
-        add_clashes(found, *exam, near, group, enrolments)?;
-    }
-    unmark(marks, group, enrolments);
-    Ok(())
-}
-
-/// The exams that share a student and stand in one period, the smaller of them first.
-pub fn clash_pairs(
-    alloc: Global,
-    instance: &Instance,
-    enrolments: &Enrolments,
-    timetable: &Timetable,
-    groups: &[Group],
-) -> Result<Vec<ExamPair>, AllocError>
-    requires fits { Fits instance.now enrolments.now timetable.now }
-    requires grouped { AreGroups timetable.now (length instance.now.periods)
-        (length timetable.now) groups.now }
-    ensures { IfOk result (λ found. found.items
-        ≡ pairs_breaking instance.now enrolments.now timetable.now Clash) }
-{
-    let mut found = Vec::new(alloc);
-    let mut marks = Marks::new(alloc)?;
-    'groups: for group in groups {
-        add_group(&mut found, &mut marks, group.as_slice(), enrolments)?;
-    }
-    Ok(in_order(found))
-}
-
-// Whether two exams share a student and stand in one period, the smaller of them first.
-fn clashes(site: &Site, exam: ExamNo, other: ExamNo) -> bool
-    requires fits { Fits site.now.instance.now site.now.enrolments.now site.now.timetable.now }
-    requires exists { exam < length site.now.timetable.now }
-    requires other_exists { other < length site.now.timetable.now }
-    ensures { result ≡ breaks site.now.instance.now site.now.enrolments.now site.now.timetable.now
-        Clash exam other }
-{
-    exam < other
-        && in_one_period(site.timetable, exam, other)
-        && share_student(site.enrolments, exam, other)
 }
 
 /// Adds an exam's clashes, with smaller exams and with greater ones.
@@ -190,4 +177,17 @@ pub fn push_clashes(found: &mut Vec<ExamPair>, exam: ExamNo, site: &Site) -> Res
         push_some(found, pair_if(after, exam, other))?;
     }
     Ok(())
+}
+
+// Whether two exams share a student and stand in one period, the smaller of them first.
+fn clashes(site: &Site, exam: ExamNo, other: ExamNo) -> bool
+    requires fits { Fits site.now.instance.now site.now.enrolments.now site.now.timetable.now }
+    requires exists { exam < length site.now.timetable.now }
+    requires other_exists { other < length site.now.timetable.now }
+    ensures { result ≡ breaks site.now.instance.now site.now.enrolments.now site.now.timetable.now
+        Clash exam other }
+{
+    exam < other
+        && in_one_period(site.timetable, exam, other)
+        && share_student(site.enrolments, exam, other)
 }

@@ -42,54 +42,6 @@ pub fn capacity_pairs(
     Ok(in_order(found))
 }
 
-// The exam of each line.
-fn named_exams(alloc: Global, lines: &[RoomRule]) -> Result<Vec<ExamNo>, AllocError>
-    ensures { IfOk result (λ exams. exams.items ≡ map (λ line. line.0) lines.now) }
-{
-    lines.iter().map(|line| line.0).collect(alloc)
-}
-
-// The exams that want their rooms for themselves, each once.
-fn exclusive_exams(alloc: Global, instance: &Instance) -> Result<Vec<ExamNo>, AllocError>
-    ensures members { IfOk result (λ exams. (e : ℕ) → has_number exams.items e
-        ≡ list_any (is_exclusive e) instance.now.room_rules) }
-    ensures exist { IfOk result (λ exams. All (λ e. e < length instance.now.exams) exams.items) }
-{
-    let mut exams = named_exams(alloc, instance.room_rules())?;
-    exams.sort_unstable();
-    exams.dedup();
-    Ok(exams)
-}
-
-// Whether another exam stands in the room and period of an exam.
-fn is_intruder(timetable: &Timetable, exam: ExamNo, other: ExamNo) -> bool
-    requires exists { exam < length timetable.now }
-    requires other_exists { other < length timetable.now }
-    ensures { result ≡ (not (exam == other) && in_one_place timetable.now exam other) }
-{
-    exam != other && in_one_place(timetable, exam, other)
-}
-
-// Adds the pairs of an exam with others of its group that stand in its room.
-fn add_intruders(
-    found: &mut Vec<ExamPair>,
-    exam: ExamNo,
-    group: &[ExamNo],
-    timetable: &Timetable,
-) -> Result<(), AllocError>
-    requires exists { exam < length timetable.now }
-    requires others_exist { All (λ f. f < length timetable.now) group.now }
-    ensures { OnOk result ((e f : ℕ) → list_any (is_pair e f) found.new.items
-        ≡ (list_any (is_pair e f) found.old.items || (has_number group.now f
-        && ((exam == e) && (not (e == f) && in_one_place timetable.now e f))))) }
-{
-    'others: for other in group {
-        let intruder = is_intruder(timetable, exam, *other);
-        push_some(found, pair_if(intruder, exam, *other))?;
-    }
-    Ok(())
-}
-
 /// The exams that want their rooms for themselves, each with every other exam there.
 pub fn exclusive_pairs(
     alloc: Global,
@@ -114,6 +66,54 @@ pub fn exclusive_pairs(
     Ok(in_order(found))
 }
 
+// The exams that want their rooms for themselves, each once.
+fn exclusive_exams(alloc: Global, instance: &Instance) -> Result<Vec<ExamNo>, AllocError>
+    ensures members { IfOk result (λ exams. (e : ℕ) → has_number exams.items e
+        ≡ list_any (is_exclusive e) instance.now.room_rules) }
+    ensures exist { IfOk result (λ exams. All (λ e. e < length instance.now.exams) exams.items) }
+{
+    let mut exams = named_exams(alloc, instance.room_rules())?;
+    exams.sort_unstable();
+    exams.dedup();
+    Ok(exams)
+}
+
+// The exam of each line.
+fn named_exams(alloc: Global, lines: &[RoomRule]) -> Result<Vec<ExamNo>, AllocError>
+    ensures { IfOk result (λ exams. exams.items ≡ map (λ line. line.0) lines.now) }
+{
+    lines.iter().map(|line| line.0).collect(alloc)
+}
+
+// Adds the pairs of an exam with others of its group that stand in its room.
+fn add_intruders(
+    found: &mut Vec<ExamPair>,
+    exam: ExamNo,
+    group: &[ExamNo],
+    timetable: &Timetable,
+) -> Result<(), AllocError>
+    requires exists { exam < length timetable.now }
+    requires others_exist { All (λ f. f < length timetable.now) group.now }
+    ensures { OnOk result ((e f : ℕ) → list_any (is_pair e f) found.new.items
+        ≡ (list_any (is_pair e f) found.old.items || (has_number group.now f
+        && ((exam == e) && (not (e == f) && in_one_place timetable.now e f))))) }
+{
+    'others: for other in group {
+        let intruder = is_intruder(timetable, exam, *other);
+        push_some(found, pair_if(intruder, exam, *other))?;
+    }
+    Ok(())
+}
+
+// Whether another exam stands in the room and period of an exam.
+fn is_intruder(timetable: &Timetable, exam: ExamNo, other: ExamNo) -> bool
+    requires exists { exam < length timetable.now }
+    requires other_exists { other < length timetable.now }
+    ensures { result ≡ (not (exam == other) && in_one_place timetable.now exam other) }
+{
+    exam != other && in_one_place(timetable, exam, other)
+}
+
 /// Whether the exam's room is too small for all exams there in its period.
 #[tactic(auto, using(crate::proofs::PlaceLemmas::place_exists))]
 pub fn is_overfull(site: &Site, exam: ExamNo) -> bool
@@ -129,23 +129,6 @@ pub fn is_overfull(site: &Site, exam: ExamNo) -> bool
         }
         None => false,
     }
-}
-
-// Whether a line wants the exam's room for it alone.
-fn is_exclusive(instance: &Instance, exam: ExamNo) -> bool
-    ensures { result ≡ list_any (is_exclusive exam) instance.now.room_rules }
-{
-    instance.room_rules().iter().any(|line| line.0 == exam)
-}
-
-// Whether another exam stands in the room and period of one that wants its room for itself.
-fn intrudes(site: &Site, exam: ExamNo, other: ExamNo) -> bool
-    requires exists { exam < length site.now.timetable.now }
-    requires other_exists { other < length site.now.timetable.now }
-    ensures { result ≡ breaks site.now.instance.now site.now.enrolments.now site.now.timetable.now
-        RoomExclusive exam other }
-{
-    is_intruder(site.timetable, exam, other) && is_exclusive(site.instance, exam)
 }
 
 /// Adds the pairs of an exam and another one there, where either wants the room for itself.
@@ -169,4 +152,21 @@ pub fn push_exclusives(
         push_some(found, pair_if(after, exam, other))?;
     }
     Ok(())
+}
+
+// Whether another exam stands in the room and period of one that wants its room for itself.
+fn intrudes(site: &Site, exam: ExamNo, other: ExamNo) -> bool
+    requires exists { exam < length site.now.timetable.now }
+    requires other_exists { other < length site.now.timetable.now }
+    ensures { result ≡ breaks site.now.instance.now site.now.enrolments.now site.now.timetable.now
+        RoomExclusive exam other }
+{
+    is_intruder(site.timetable, exam, other) && is_exclusive(site.instance, exam)
+}
+
+// Whether a line wants the exam's room for it alone.
+fn is_exclusive(instance: &Instance, exam: ExamNo) -> bool
+    ensures { result ≡ list_any (is_exclusive exam) instance.now.room_rules }
+{
+    instance.room_rules().iter().any(|line| line.0 == exam)
 }

@@ -11,26 +11,6 @@ use sqlite_value::keys::{Collation, Order};
 use sqlite_value::value::Value;
 use std::alloc::{AllocError, Global};
 
-fn is_column(column: &Column, kind: Kind, name: &[u8]) -> bool
-    ensures { IsTrue result ↔ (column.now ≡ column_of kind name.now) }
-{
-    column.name.as_slice() == name
-        && column.kind == kind
-        && column.is_strict
-        && column.not_null
-        && is_null(&column.default)
-        && column.collation == Collation::Binary
-}
-
-fn is_null(value: &Value) -> bool
-    ensures { IsTrue result ↔ (value.now ≡ Null) }
-{
-    match value {
-        Value::Null => true,
-        _ => false,
-    }
-}
-
 // Which of a table's columns are its key.
 pub enum TableKey {
     // The first, which is the row's number.
@@ -70,6 +50,26 @@ fn are_columns(columns: &[Column], wanted: &[(&str, Kind)]) -> bool
         ([column, columns @ ..], [(name, kind), wanted @ ..]) => {
             is_column(column, *kind, name.as_bytes()) && are_columns(columns, wanted)
         }
+        _ => false,
+    }
+}
+
+fn is_column(column: &Column, kind: Kind, name: &[u8]) -> bool
+    ensures { IsTrue result ↔ (column.now ≡ column_of kind name.now) }
+{
+    column.name.as_slice() == name
+        && column.kind == kind
+        && column.is_strict
+        && column.not_null
+        && is_null(&column.default)
+        && column.collation == Collation::Binary
+}
+
+fn is_null(value: &Value) -> bool
+    ensures { IsTrue result ↔ (value.now ≡ Null) }
+{
+    match value {
+        Value::Null => true,
         _ => false,
     }
 }
@@ -138,15 +138,6 @@ fn is_pair(places: &[usize]) -> bool
     *first == 1 && *second == 2
 }
 
-fn is_triple(places: &[usize]) -> bool
-    ensures { IsTrue result ↔ (places.now ≡ 3 ∷ 4 ∷ 5 ∷ []) }
-{
-    let [first, second, third] = places else {
-        return false;
-    };
-    *first == 3 && *second == 4 && *third == 5
-}
-
 fn has_one_pair(uniques: &[Items<usize>]) -> bool
     ensures { IsTrue result ↔ (uniques.now ≡ (1 ∷ 2 ∷ []) ∷ []) }
 {
@@ -163,6 +154,15 @@ fn has_pair_and_triple(uniques: &[Items<usize>]) -> bool
         return false;
     };
     is_pair(key.as_slice()) && is_triple(seat.as_slice())
+}
+
+fn is_triple(places: &[usize]) -> bool
+    ensures { IsTrue result ↔ (places.now ≡ 3 ∷ 4 ∷ 5 ∷ []) }
+{
+    let [first, second, third] = places else {
+        return false;
+    };
+    *first == 3 && *second == 4 && *third == 5
 }
 
 fn has_one_plain(orders: &[Order]) -> bool
