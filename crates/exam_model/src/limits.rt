@@ -46,7 +46,7 @@ impl PeriodRule {
 }
 
 /// Whether every limit holds of the parts of a session.
-pub fn in_limits(
+pub(crate) fn in_limits(
     exams: &[Exam],
     periods: &[Period],
     rooms: &[Room],
@@ -97,7 +97,11 @@ fn each_in_limits(exams: &[Exam], periods: &[Period], rooms: &[Room]) -> bool
 }
 
 /// Whether every exam that a rule names is one of so many.
-pub fn numbers_exist(exams: usize, period_rules: &[PeriodRule], room_rules: &[RoomRule]) -> bool
+pub(crate) fn numbers_exist(
+    exams: usize,
+    period_rules: &[PeriodRule],
+    room_rules: &[RoomRule],
+) -> bool
     ensures { IsTrue result ↔ (All (PeriodRuleExists exams) period_rules.now
         × All (RoomRuleExists exams) room_rules.now) }
 {

@@ -10,7 +10,7 @@ use exam_score::stays_of;
 use std::alloc::{AllocError, Global};
 
 /// The number of different durations in each room and period.
-pub fn durations(
+pub(crate) fn durations(
     alloc: Global,
     instance: &Instance,
     timetable: &Timetable,
@@ -35,7 +35,7 @@ pub fn durations(
 }
 
 /// A room's mixed durations: its weight for each duration but one, over all periods.
-pub fn mixed_in(instance: &Instance, kinds: &[u32], room: RoomNo) -> u64
+pub(crate) fn mixed_in(instance: &Instance, kinds: &[u32], room: RoomNo) -> u64
     requires room { room < length instance.now.rooms }
     requires table { length kinds.now ≡ length instance.now.periods * length instance.now.rooms }
     requires small { (k : ℕ) → slice_index kinds.now k ≤ MAX_EXAMS }

@@ -20,7 +20,7 @@ pub struct Entrant {
 }
 
 /// The entrants of all exams that have a place, in order.
-pub fn entrants_of(
+pub(crate) fn entrants_of(
     alloc: Global,
     enrolments: &Enrolments,
     timetable: &Timetable,

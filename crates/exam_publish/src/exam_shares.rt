@@ -11,7 +11,7 @@ use exam_score::front_share;
 use std::alloc::{AllocError, Global};
 
 /// What each exam makes of the front load.
-pub fn exam_shares(
+pub(crate) fn exam_shares(
     alloc: Global,
     instance: &Instance,
     rows: &[SeatRow],

@@ -19,7 +19,7 @@ pub struct Held {
 }
 
 /// The seats that entrants keep, in order.
-pub fn held_seats(alloc: Global, entrants: &[Entrant]) -> Result<Vec<Held>, AllocError>
+pub(crate) fn held_seats(alloc: Global, entrants: &[Entrant]) -> Result<Vec<Held>, AllocError>
     requires { All KeepsSmallSeat entrants.now }
     ensures { IfOk result (λ held. AreHeld (kept_rows entrants.now) held.items) }
 {
@@ -39,7 +39,7 @@ pub fn held_seats(alloc: Global, entrants: &[Entrant]) -> Result<Vec<Held>, Allo
 }
 
 /// The least seat from this one on that nobody keeps in a room and period.
-pub fn next_free(held: &[Held], place: &Place, from: u32) -> u32
+pub(crate) fn next_free(held: &[Held], place: &Place, from: u32) -> u32
     requires sorted { IsSorted held_cmp held.now }
     requires small { All (λ h. h.seat ≤ MAX_AMOUNT) held.now }
     ensures { IsNextFree held.now place.now from result }

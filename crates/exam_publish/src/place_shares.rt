@@ -10,7 +10,7 @@ use exam_model::{ExamNo, Instance, RoomNo, Timetable};
 use std::alloc::{AllocError, Global};
 
 /// Each period's penalty, once for each exam that stands in it.
-pub fn period_shares(
+pub(crate) fn period_shares(
     alloc: Global,
     instance: &Instance,
     timetable: &Timetable,
@@ -31,7 +31,7 @@ pub fn period_shares(
 }
 
 /// Each room's share: its penalties, and its mixed durations over all periods.
-pub fn room_shares(
+pub(crate) fn room_shares(
     alloc: Global,
     instance: &Instance,
     timetable: &Timetable,

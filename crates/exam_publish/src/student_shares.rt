@@ -10,7 +10,7 @@ use exam_score::{PersonalParts, personal};
 use std::alloc::{AllocError, Global};
 
 /// What each student's exams cost her; students ascending.
-pub fn student_shares(
+pub(crate) fn student_shares(
     alloc: Global,
     instance: &Instance,
     rows: &[SeatRow],

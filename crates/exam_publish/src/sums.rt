@@ -6,7 +6,7 @@ use exam_model::StudentNo;
 use exam_score::PersonalParts;
 
 /// All numbers together.
-pub fn sum_of(numbers: &[u64]) -> Option<u64>
+pub(crate) fn sum_of(numbers: &[u64]) -> Option<u64>
     ensures some { IfSome result (λ n. n ≡ sum numbers.now) }
     ensures none { IfNone result (2 ^ 64 ≤ sum numbers.now) }
 {
@@ -26,7 +26,7 @@ pub struct StudentSums {
 }
 
 /// The shares of all students together.
-pub fn student_sums(shares: &[(StudentNo, PersonalParts)]) -> Option<StudentSums>
+pub(crate) fn student_sums(shares: &[(StudentNo, PersonalParts)]) -> Option<StudentSums>
     ensures row { IfSome result (λ s. s.row ≡ sum_by (λ share. share.1.row) shares.now) }
     ensures day { IfSome result (λ s. s.day ≡ sum_by (λ share. share.1.day) shares.now) }
     ensures spread { IfSome result (λ s. s.spread ≡ sum_by (λ share. share.1.spread) shares.now) }
@@ -45,7 +45,7 @@ pub fn student_sums(shares: &[(StudentNo, PersonalParts)]) -> Option<StudentSums
 }
 
 /// The shares of all rooms together.
-pub fn room_sums(shares: &[RoomShare]) -> Option<RoomShare>
+pub(crate) fn room_sums(shares: &[RoomShare]) -> Option<RoomShare>
     ensures penalty { IfSome result (λ s. s.penalty ≡ sum_by (λ share. share.penalty) shares.now) }
     ensures mixed { IfSome result (λ s. s.mixed ≡ sum_by (λ share. share.mixed) shares.now) }
     ensures none { IfNone result (2 ^ 64 ≤ sum_by (λ share. share.penalty) shares.now

@@ -24,7 +24,7 @@ pub enum BreachRule {
 }
 
 /// The rules, in the order of their breaches.
-pub fn rules() -> [BreachRule; 7]
+pub(crate) fn rules() -> [BreachRule; 7]
     ensures { result ≡ all_rules }
 {
     [

@@ -13,7 +13,7 @@ pub struct ExamPair {
 }
 
 /// The pair of two exams that break a rule.
-pub fn pair_if(broken: bool, exam: ExamNo, other: ExamNo) -> Option<ExamPair>
+pub(crate) fn pair_if(broken: bool, exam: ExamNo, other: ExamNo) -> Option<ExamPair>
     ensures { (e f : ℕ) → is_some_pair e f result ≡ (((exam == e) && (other == f)) && broken) }
 {
     if broken {
@@ -24,7 +24,7 @@ pub fn pair_if(broken: bool, exam: ExamNo, other: ExamNo) -> Option<ExamPair>
 }
 
 /// Adds a pair, if there is one.
-pub fn push_some(found: &mut Vec<ExamPair>, pair: Option<ExamPair>) -> Result<(), AllocError>
+pub(crate) fn push_some(found: &mut Vec<ExamPair>, pair: Option<ExamPair>) -> Result<(), AllocError>
     ensures { OnOk result ((e f : ℕ) → list_any (is_pair e f) found.new.items
         ≡ (list_any (is_pair e f) found.old.items || is_some_pair e f pair)) }
 {
@@ -35,7 +35,7 @@ pub fn push_some(found: &mut Vec<ExamPair>, pair: Option<ExamPair>) -> Result<()
 }
 
 /// The pairs in order, each once.
-pub fn in_order(mut found: Vec<ExamPair>) -> Vec<ExamPair>
+pub(crate) fn in_order(mut found: Vec<ExamPair>) -> Vec<ExamPair>
     ensures { (test : ℕ → ℕ → Bool) (n : ℕ) → HasJust test n found.items
         → result.items ≡ passing test n }
 {

@@ -46,7 +46,7 @@ impl Group {
 }
 
 /// The exams of each period, by the period's number.
-pub fn by_period(
+pub(crate) fn by_period(
     alloc: Global,
     instance: &Instance,
     timetable: &Timetable,
@@ -78,7 +78,7 @@ fn empty_groups(alloc: Global, periods: u32) -> Result<Vec<Group>, AllocError>
 }
 
 /// The exams of a period, of those grouped by `by_period`.
-pub fn group_of(groups: &[Group], period: PeriodNo) -> &[ExamNo]
+pub(crate) fn group_of(groups: &[Group], period: PeriodNo) -> &[ExamNo]
     requires { period < length groups.now }
     ensures { result.now ≡ slice_index_or groups.now period [] }
 {

@@ -16,7 +16,7 @@ use exam_model::{Enrolments, ExamNo, Instance, PeriodRule, Timetable};
 use std::alloc::{AllocError, Global};
 
 /// The lines `After` that are broken: the first exam doesn't stand in a greater period.
-pub fn after_pairs(
+pub(crate) fn after_pairs(
     alloc: Global,
     instance: &Instance,
     timetable: &Timetable,
@@ -47,7 +47,7 @@ fn broken_after(line: &PeriodRule, timetable: &Timetable) -> Option<ExamPair>
 }
 
 /// The lines `Coincidence` that are broken: the exams share no student and their periods differ.
-pub fn coincidence_pairs(
+pub(crate) fn coincidence_pairs(
     alloc: Global,
     instance: &Instance,
     enrolments: &Enrolments,
@@ -88,7 +88,7 @@ fn broken_coincidence(
 }
 
 /// The lines `Exclusion` that are broken: the exams stand in one period.
-pub fn exclusion_pairs(
+pub(crate) fn exclusion_pairs(
     alloc: Global,
     instance: &Instance,
     timetable: &Timetable,
@@ -118,7 +118,11 @@ fn broken_exclusion(line: &PeriodRule, timetable: &Timetable) -> Option<ExamPair
 }
 
 /// Adds the broken lines `After` that name the exam.
-pub fn push_afters(found: &mut Vec<ExamPair>, exam: ExamNo, site: &Site) -> Result<(), AllocError>
+pub(crate) fn push_afters(
+    found: &mut Vec<ExamPair>,
+    exam: ExamNo,
+    site: &Site,
+) -> Result<(), AllocError>
     requires fits { Fits site.now.instance.now site.now.enrolments.now site.now.timetable.now }
     ensures { OnOk result ((e f : ℕ) → list_any (is_pair e f) found.new.items
         ≡ (list_any (is_pair e f) found.old.items || (is_one_of exam e f
@@ -147,7 +151,7 @@ fn names(line: &PeriodRule, exam: ExamNo) -> bool
 }
 
 /// Adds the broken lines `Coincidence` that name the exam.
-pub fn push_coincidences(
+pub(crate) fn push_coincidences(
     found: &mut Vec<ExamPair>,
     exam: ExamNo,
     site: &Site,
@@ -171,7 +175,7 @@ pub fn push_coincidences(
 }
 
 /// Adds the broken lines `Exclusion` that name the exam.
-pub fn push_exclusions(
+pub(crate) fn push_exclusions(
     found: &mut Vec<ExamPair>,
     exam: ExamNo,
     site: &Site,

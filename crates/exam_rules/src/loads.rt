@@ -11,7 +11,7 @@ use exam_model::{Enrolments, ExamNo, Instance, Place, Timetable};
 use std::alloc::{AllocError, Global};
 
 /// The students of each room and period, over all exams that stand there.
-pub fn loads_of(
+pub(crate) fn loads_of(
     alloc: Global,
     instance: &Instance,
     enrolments: &Enrolments,
@@ -37,7 +37,7 @@ pub fn loads_of(
 }
 
 /// Whether a place's room holds fewer students than its entry in the table.
-pub fn is_too_small(instance: &Instance, loads: &[u64], place: Place) -> bool
+pub(crate) fn is_too_small(instance: &Instance, loads: &[u64], place: Place) -> bool
     requires period { place.period < length instance.now.periods }
     requires room { place.room < length instance.now.rooms }
     requires table { length loads.now ≡ length instance.now.periods * length instance.now.rooms }
@@ -49,7 +49,7 @@ pub fn is_too_small(instance: &Instance, loads: &[u64], place: Place) -> bool
 }
 
 /// The students of one room and period, over all exams that stand there.
-pub fn load_at(enrolments: &Enrolments, timetable: &Timetable, place: &Place) -> u64
+pub(crate) fn load_at(enrolments: &Enrolments, timetable: &Timetable, place: &Place) -> u64
     requires fits { length timetable.now ≡ length enrolments.now }
     ensures { result ≡ load_at enrolments.now timetable.now place.now }
 {

@@ -76,7 +76,7 @@ impl Marks {
 }
 
 /// Whether the exam is among the marked ones.
-pub fn has(marks: u64, exam: ExamNo) -> bool
+pub(crate) fn has(marks: u64, exam: ExamNo) -> bool
     ensures { result ≡ (bit_at marks (exam % 64) == 1) }
 {
     (marks >> (exam.get() % 64)) & 1 == 1

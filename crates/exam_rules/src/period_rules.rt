@@ -21,7 +21,7 @@ use std::alloc::{AllocError, Global};
 
 /// Whether the exam lasts longer than its period.
 #[tactic(auto, using(crate::proofs::PlaceLemmas::place_exists))]
-pub fn outlasts(instance: &Instance, timetable: &Timetable, exam: ExamNo) -> bool
+pub(crate) fn outlasts(instance: &Instance, timetable: &Timetable, exam: ExamNo) -> bool
     requires exists { exam < length timetable.now }
     requires fits { Suits instance.now timetable.now }
     ensures { result ≡ outlasts instance.now timetable.now exam }
@@ -33,7 +33,7 @@ pub fn outlasts(instance: &Instance, timetable: &Timetable, exam: ExamNo) -> boo
 }
 
 /// The exams that last longer than their periods, each with itself.
-pub fn duration_pairs(
+pub(crate) fn duration_pairs(
     alloc: Global,
     instance: &Instance,
     timetable: &Timetable,
@@ -52,7 +52,7 @@ pub fn duration_pairs(
 }
 
 /// The exams that share a student and stand in one period, the smaller of them first.
-pub fn clash_pairs(
+pub(crate) fn clash_pairs(
     alloc: Global,
     instance: &Instance,
     enrolments: &Enrolments,
@@ -161,7 +161,11 @@ fn unmark(marks: &mut Marks, group: &[ExamNo], enrolments: &Enrolments)
 }
 
 /// Adds an exam's clashes, with smaller exams and with greater ones.
-pub fn push_clashes(found: &mut Vec<ExamPair>, exam: ExamNo, site: &Site) -> Result<(), AllocError>
+pub(crate) fn push_clashes(
+    found: &mut Vec<ExamPair>,
+    exam: ExamNo,
+    site: &Site,
+) -> Result<(), AllocError>
     requires fits { Fits site.now.instance.now site.now.enrolments.now site.now.timetable.now }
     requires exists { exam < length site.now.timetable.now }
     ensures { OnOk result ((e f : ℕ) → list_any (is_pair e f) found.new.items

@@ -19,7 +19,7 @@ use exam_model::{Enrolments, ExamNo, Instance, RoomRule, Timetable};
 use std::alloc::{AllocError, Global};
 
 /// The exams in a room and period that have more students than the room holds, each with itself.
-pub fn capacity_pairs(
+pub(crate) fn capacity_pairs(
     alloc: Global,
     instance: &Instance,
     enrolments: &Enrolments,
@@ -43,7 +43,7 @@ pub fn capacity_pairs(
 }
 
 /// The exams that want their rooms for themselves, each with every other exam there.
-pub fn exclusive_pairs(
+pub(crate) fn exclusive_pairs(
     alloc: Global,
     instance: &Instance,
     timetable: &Timetable,
@@ -116,7 +116,7 @@ fn is_intruder(timetable: &Timetable, exam: ExamNo, other: ExamNo) -> bool
 
 /// Whether the exam's room is too small for all exams there in its period.
 #[tactic(auto, using(crate::proofs::PlaceLemmas::place_exists))]
-pub fn is_overfull(site: &Site, exam: ExamNo) -> bool
+pub(crate) fn is_overfull(site: &Site, exam: ExamNo) -> bool
     requires fits { Fits site.now.instance.now site.now.enrolments.now site.now.timetable.now }
     requires exists { exam < length site.now.timetable.now }
     ensures { result ≡ is_overfull site.now.instance.now site.now.enrolments.now
@@ -132,7 +132,7 @@ pub fn is_overfull(site: &Site, exam: ExamNo) -> bool
 }
 
 /// Adds the pairs of an exam and another one there, where either wants the room for itself.
-pub fn push_exclusives(
+pub(crate) fn push_exclusives(
     found: &mut Vec<ExamPair>,
     exam: ExamNo,
     site: &Site,

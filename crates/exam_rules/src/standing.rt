@@ -6,7 +6,7 @@ ghost use Rattle.exam_rules.specs.Places.{in_one_period, in_two_periods, is_not_
 
 use exam_model::{Enrolments, ExamNo, StudentNo, Timetable};
 
-pub fn in_one_period(timetable: &Timetable, exam: ExamNo, other: ExamNo) -> bool
+pub(crate) fn in_one_period(timetable: &Timetable, exam: ExamNo, other: ExamNo) -> bool
     requires exists { exam < length timetable.now }
     requires other_exists { other < length timetable.now }
     ensures { result ≡ in_one_period timetable.now exam other }
@@ -17,7 +17,7 @@ pub fn in_one_period(timetable: &Timetable, exam: ExamNo, other: ExamNo) -> bool
     }
 }
 
-pub fn in_two_periods(timetable: &Timetable, exam: ExamNo, other: ExamNo) -> bool
+fn in_two_periods(timetable: &Timetable, exam: ExamNo, other: ExamNo) -> bool
     requires exists { exam < length timetable.now }
     requires other_exists { other < length timetable.now }
     ensures { result ≡ in_two_periods timetable.now exam other }
@@ -28,7 +28,7 @@ pub fn in_two_periods(timetable: &Timetable, exam: ExamNo, other: ExamNo) -> boo
     }
 }
 
-pub fn is_not_after(timetable: &Timetable, exam: ExamNo, other: ExamNo) -> bool
+pub(crate) fn is_not_after(timetable: &Timetable, exam: ExamNo, other: ExamNo) -> bool
     requires exists { exam < length timetable.now }
     requires other_exists { other < length timetable.now }
     ensures { result ≡ is_not_after timetable.now exam other }
@@ -39,7 +39,7 @@ pub fn is_not_after(timetable: &Timetable, exam: ExamNo, other: ExamNo) -> bool
     }
 }
 
-pub fn in_one_place(timetable: &Timetable, exam: ExamNo, other: ExamNo) -> bool
+pub(crate) fn in_one_place(timetable: &Timetable, exam: ExamNo, other: ExamNo) -> bool
     requires exists { exam < length timetable.now }
     requires other_exists { other < length timetable.now }
     ensures { result ≡ in_one_place timetable.now exam other }
@@ -51,7 +51,7 @@ pub fn in_one_place(timetable: &Timetable, exam: ExamNo, other: ExamNo) -> bool
 }
 
 #[tactic(auto, using(crate::proofs::CommonLemmas::shared_any))]
-pub fn share_student(enrolments: &Enrolments, exam: ExamNo, other: ExamNo) -> bool
+pub(crate) fn share_student(enrolments: &Enrolments, exam: ExamNo, other: ExamNo) -> bool
     requires exists { exam < length enrolments.now }
     requires other_exists { other < length enrolments.now }
     ensures { result ≡ share_student enrolments.now exam other }
@@ -84,7 +84,7 @@ fn have_common(first: &[StudentNo], second: &[StudentNo]) -> bool
 }
 
 /// Whether two exams share no student and stand in different periods.
-pub fn are_strangers_apart(
+pub(crate) fn are_strangers_apart(
     enrolments: &Enrolments,
     timetable: &Timetable,
     exam: ExamNo,

@@ -17,7 +17,7 @@ pub struct Sitter {
 }
 
 // One for each exam of each of these students, by student and then by exam.
-pub fn sitters_of(
+pub(crate) fn sitters_of(
     alloc: Global,
     enrolments: &Enrolments,
     edited: &[ExamNo],

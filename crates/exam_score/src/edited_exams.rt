@@ -14,7 +14,11 @@ use exam_model::{ExamNo, Instance, Place, Timetable};
 
 // The penalties of their periods and rooms.
 #[tactic(auto, using(exam_model::proofs::SumLemmas::sum_below_more))]
-pub fn edited_places(instance: &Instance, timetable: &Timetable, edited: &[ExamNo]) -> PlaceSums
+pub(crate) fn edited_places(
+    instance: &Instance,
+    timetable: &Timetable,
+    edited: &[ExamNo],
+) -> PlaceSums
     ensures periods { result.periods ≡ sum_among instance.now edited.now
         (λ e. exam_period instance.now (place_of timetable.now e)) }
     ensures rooms { result.rooms ≡ sum_among instance.now edited.now
@@ -38,7 +42,7 @@ pub fn edited_places(instance: &Instance, timetable: &Timetable, edited: &[ExamN
 
 // Their front load, by the number of each exam's students.
 #[tactic(auto, using(exam_model::proofs::SumLemmas::sum_below_more))]
-pub fn edited_front(
+pub(crate) fn edited_front(
     instance: &Instance,
     sizes: &[u32],
     timetable: &Timetable,
@@ -59,7 +63,7 @@ pub fn edited_front(
     total
 }
 
-pub fn is_among(exams: &[ExamNo], exam: ExamNo) -> bool
+pub(crate) fn is_among(exams: &[ExamNo], exam: ExamNo) -> bool
     ensures { result ≡ has_number exams.now exam }
 {
     exams.iter().any(|other| *other == exam)

@@ -12,7 +12,7 @@ use std::alloc::{AllocError, Global};
 
 // The weight for each of the largest exams that stands in one of the last periods.
 #[tactic(auto, using(crate::proofs::FrontLemmas::front_facts))]
-pub fn front_load(
+pub(crate) fn front_load(
     alloc: Global,
     instance: &Instance,
     enrolments: &Enrolments,
@@ -99,7 +99,7 @@ fn count_larger(sizes: &[u32], size: u32) -> u32
 }
 
 // The number of each exam's students.
-pub fn sizes_of(alloc: Global, enrolments: &Enrolments) -> Result<Vec<u32>, AllocError>
+pub(crate) fn sizes_of(alloc: Global, enrolments: &Enrolments) -> Result<Vec<u32>, AllocError>
     ensures { IfOk result (λ sizes. AreSizes enrolments.now sizes.items) }
 {
     let mut sizes = Vec::with_capacity(alloc, enrolments.exams() as usize)?;

@@ -22,7 +22,7 @@ pub struct Line {
 }
 
 // A line for each period.
-pub fn table_of(alloc: Global, instance: &Instance) -> Result<Vec<Line>, AllocError>
+pub(crate) fn table_of(alloc: Global, instance: &Instance) -> Result<Vec<Line>, AllocError>
     ensures { IfOk result (λ lines. IsTable instance.now lines.items) }
 {
     let mut lines = Vec::with_capacity(alloc, instance.periods() as usize)?;
@@ -82,7 +82,7 @@ fn is_free(costs: PairCosts) -> bool
 
 // The costs of a period with another one, by its line.
 #[tactic(auto, using(crate::proofs::LineLemmas::beyond_costs))]
-pub fn costs_in(
+pub(crate) fn costs_in(
     instance: &Instance,
     line: &[PairCosts],
     period: PeriodNo,

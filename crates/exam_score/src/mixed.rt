@@ -17,7 +17,7 @@ pub struct Stay {
 }
 
 // The weight for each duration but one of each used room and period.
-pub fn mixed_durations(
+pub(crate) fn mixed_durations(
     alloc: Global,
     instance: &Instance,
     timetable: &Timetable,

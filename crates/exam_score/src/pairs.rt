@@ -12,7 +12,7 @@ use exam_model::{Enrolments, Instance, Timetable};
 use std::alloc::{AllocError, Global};
 
 // Over all pairs of exams, the students whom both share, times what their periods cost.
-pub fn pair_parts(
+pub(crate) fn pair_parts(
     alloc: Global,
     instance: &Instance,
     enrolments: &Enrolments,

@@ -15,7 +15,7 @@ pub struct PlaceSums {
 
 // Each placed exam costs what its period and its room cost.
 #[tactic(auto, using(exam_model::proofs::SumLemmas::sum_below_more))]
-pub fn place_penalties(instance: &Instance, timetable: &Timetable) -> PlaceSums
+pub(crate) fn place_penalties(instance: &Instance, timetable: &Timetable) -> PlaceSums
     requires fits { Suits instance.now timetable.now }
     ensures periods { result.periods ≡ period_part instance.now timetable.now }
     ensures rooms { result.rooms ≡ room_part instance.now timetable.now }
@@ -35,7 +35,7 @@ pub fn place_penalties(instance: &Instance, timetable: &Timetable) -> PlaceSums
     sums
 }
 
-pub fn penalty_of_period(instance: &Instance, period: PeriodNo) -> u64
+pub(crate) fn penalty_of_period(instance: &Instance, period: PeriodNo) -> u64
     requires exists { period < length instance.now.periods }
     ensures penalty { result ≡ period_penalty (slice_get instance.now.periods period) }
     ensures small { result ≤ MAX_AMOUNT }
@@ -44,7 +44,7 @@ pub fn penalty_of_period(instance: &Instance, period: PeriodNo) -> u64
     u64::from(instance.period(period).penalty)
 }
 
-pub fn penalty_of_room(instance: &Instance, room: RoomNo) -> u64
+pub(crate) fn penalty_of_room(instance: &Instance, room: RoomNo) -> u64
     requires exists { room < length instance.now.rooms }
     ensures penalty { result ≡ room_penalty (slice_get instance.now.rooms room) }
     ensures small { result ≤ MAX_AMOUNT }

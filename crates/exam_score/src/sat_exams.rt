@@ -12,7 +12,7 @@ use exam_model::{ExamNo, Instance, PairCost, Place, Timetable};
 
 // What the edited exams make of the personal penalty of a student who sits these exams. It takes
 // no memory, and the time of her exams times the edited ones among them.
-pub fn personal_at(
+pub(crate) fn personal_at(
     instance: &Instance,
     timetable: &Timetable,
     edited: &[ExamNo],
@@ -90,7 +90,7 @@ fn cost_at<C: PairCost>(
 }
 
 // Where the exam stands; nowhere if the timetable has no such exam.
-pub fn place_in(timetable: &Timetable, exam: ExamNo) -> Option<Place>
+pub(crate) fn place_in(timetable: &Timetable, exam: ExamNo) -> Option<Place>
     ensures { result ≡ place_of timetable.now exam }
 {
     if exam.get() < timetable.exams() {

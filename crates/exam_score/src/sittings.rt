@@ -15,7 +15,7 @@ pub struct Sitting {
 }
 
 // One for each placed exam, the periods ascending.
-pub fn sittings_of(alloc: Global, timetable: &Timetable) -> Result<Vec<Sitting>, AllocError>
+pub(crate) fn sittings_of(alloc: Global, timetable: &Timetable) -> Result<Vec<Sitting>, AllocError>
     ensures all { IfOk result (λ sittings. (g : ℕ → ℕ → ℕ)
         → sum_by (λ x. g x.exam x.period) sittings.items
         ≡ sum_below (length timetable.now) (λ e. if_placed (g e) (period_of timetable.now e))) }

@@ -46,7 +46,7 @@ struct Crowd {
 }
 
 // The tallies of all students of the sittings, the periods ascending.
-pub fn tallies_of(
+pub(crate) fn tallies_of(
     alloc: Global,
     enrolments: &Enrolments,
     sittings: &[Sitting],

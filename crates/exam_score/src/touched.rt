@@ -22,7 +22,7 @@ pub struct Touched<'a> {
 
 // The weight for each duration but one of each room and period where an edited exam stands,
 // before the edit or after it.
-pub fn touched_mixed(instance: &Instance, timetable: &Timetable, touched: &Touched) -> u64
+pub(crate) fn touched_mixed(instance: &Instance, timetable: &Timetable, touched: &Touched) -> u64
     ensures part { result ≡ mixed_where instance.now timetable.now
         (is_touched touched.now.edited.now touched.now.earlier.now touched.now.later.now) }
     ensures small { result ≤ MAX_ROOMS * (MAX_PERIODS * (MAX_EXAMS * MAX_AMOUNT)) }

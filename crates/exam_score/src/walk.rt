@@ -26,7 +26,7 @@ const NOTHING: PairSums = PairSums {
 };
 
 // The cost over all pairs of tallies.
-pub fn sums_of_pairs(instance: &Instance, lines: &[Line], tallies: &[Tally]) -> PairSums
+pub(crate) fn sums_of_pairs(instance: &Instance, lines: &[Line], tallies: &[Tally]) -> PairSums
     requires table { IsTable instance.now lines.now }
     requires linked { AreLinked tallies.now }
     requires few { row_count tallies.now ≤ MAX_PAIRS }

@@ -15,7 +15,7 @@ pub enum RuleWord {
 }
 
 /// The word that a field says, in small or capital letters; else it is a bad word.
-pub fn rule_word(text: &[u8]) -> Result<RuleWord, FaultKind>
+pub(crate) fn rule_word(text: &[u8]) -> Result<RuleWord, FaultKind>
     ensures { result ≡ rule_word text.now }
 {
     if same_word(text, b"AFTER") {

@@ -45,7 +45,7 @@ impl ExamList {
 }
 
 /// So many lists without exams.
-pub fn empty_lists(alloc: Global, count: usize) -> Result<Vec<ExamList>, AllocError>
+pub(crate) fn empty_lists(alloc: Global, count: usize) -> Result<Vec<ExamList>, AllocError>
     ensures { IfOk result (λ lists. lists.items ≡ replicate count []) }
 {
     let mut lists: Vec<ExamList> = Vec::with_capacity(alloc, count)?;

@@ -12,7 +12,7 @@ use exam_terms::{ExamNo, Place};
 use std::alloc::{AllocError, Global};
 
 /// The exams that stand in each room and period, ascending.
-pub fn exams_by_slot(
+pub(crate) fn exams_by_slot(
     alloc: Global,
     instance: &Instance,
     timetable: &Timetable,
@@ -48,7 +48,7 @@ fn has_place(instance: &Instance, place: &Place) -> bool
 }
 
 /// How many of the seats are in each room and period.
-pub fn seats_by_slot(
+pub(crate) fn seats_by_slot(
     alloc: Global,
     instance: &Instance,
     seats: &[SeatRow],

@@ -22,7 +22,7 @@ pub enum TableKey {
 }
 
 // A table of these columns, by name and kind.
-pub fn is_table(
+pub(crate) fn is_table(
     alloc: Global,
     table: &Table,
     name: &str,
@@ -212,14 +212,14 @@ fn has_no_terms(alloc: Global, terms: &Terms) -> Result<bool, AllocError>
 }
 
 // The index of a key of two columns.
-pub fn is_pair_index(index: &Index, name: &[u8], tree: u32, table: u32) -> bool
+pub(crate) fn is_pair_index(index: &Index, name: &[u8], tree: u32, table: u32) -> bool
     ensures { IsTrue result ↔ (index.now ≡ index_of name.now tree table (1 ∷ 2 ∷ [])) }
 {
     is_index(index, name, tree, table) && is_pair(index.columns.as_slice())
 }
 
 // The index of seats in a room.
-pub fn is_seat_index(index: &Index, name: &[u8], tree: u32, table: u32) -> bool
+pub(crate) fn is_seat_index(index: &Index, name: &[u8], tree: u32, table: u32) -> bool
     ensures { IsTrue result ↔ (index.now ≡ index_of name.now tree table (3 ∷ 4 ∷ 5 ∷ [])) }
 {
     is_index(index, name, tree, table) && is_triple(index.columns.as_slice())

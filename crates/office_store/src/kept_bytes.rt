@@ -19,7 +19,7 @@ use std::alloc::Global;
 
 // Whether none of the batches, which have these rows, is longer than a text may be. `BadSchema`:
 // one is. The bytes of one batch are in memory at a time.
-pub fn check_bytes<S: Alter>(
+pub(crate) fn check_bytes<S: Alter>(
     alloc: Global,
     conn: &mut Connection<S>,
     batches: &[BatchCountsRow],

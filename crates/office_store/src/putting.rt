@@ -15,7 +15,7 @@ use office_tables::{
 use sqlite::{Alter, Connection, Error, Transaction};
 
 // Puts a publication in place of another.
-pub fn put_publication<S: Alter>(
+pub(crate) fn put_publication<S: Alter>(
     conn: &mut Connection<S>,
     new: &NewPublication,
 ) -> Result<(), Failed>

@@ -13,7 +13,7 @@ use office_tables::{Alteration, create_tables, transact};
 use sqlite::{Alter, Connection};
 
 // Makes the ten tables, which then stand for the office without a session.
-pub fn make_tables<S: Alter>(conn: &mut Connection<S>) -> Result<(), Failed>
+pub(crate) fn make_tables<S: Alter>(conn: &mut Connection<S>) -> Result<(), Failed>
     requires rests { conn.old.in_transaction ≡ false }
     ensures done { HasCleanDisk (state S.Store conn.new) → OnOk result (Turned (IsBlank no_schema)
         (λ db. Stands db empty_tables) (state S.Store conn.old) (state S.Store conn.new)) }
@@ -29,7 +29,10 @@ pub fn make_tables<S: Alter>(conn: &mut Connection<S>) -> Result<(), Failed>
 }
 
 // Makes an alteration of the tables, all of it or nothing.
-pub fn put<S: Alter, A: Alteration>(conn: &mut Connection<S>, alteration: &A) -> Result<(), Failed>
+pub(crate) fn put<S: Alter, A: Alteration>(
+    conn: &mut Connection<S>,
+    alteration: &A,
+) -> Result<(), Failed>
     requires rests { conn.old.in_transaction ≡ false }
     requires fits { A.fits alteration.now }
     ensures done { HasCleanDisk (state S.Store conn.new) → OnOk result

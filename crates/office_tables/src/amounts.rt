@@ -3,7 +3,7 @@ ghost use Rattle.std.specs.Prelude.{◌≡◌, pos};
 ghost use Rattle.office_tables.specs.Amounts.{IsAmount};
 
 // A penalty, which is below 2^62.
-pub fn signed(amount: u64) -> i64
+pub(crate) fn signed(amount: u64) -> i64
     requires { IsAmount amount }
     ensures { result ≡ pos amount }
 {

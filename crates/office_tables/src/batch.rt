@@ -37,7 +37,7 @@ pub struct BatchCountsRow {
 }
 
 // The table of batches.
-pub fn create_batch<S: Alter>(tx: &mut Transaction<'_, S>) -> Result<(), Error>
+pub(crate) fn create_batch<S: Alter>(tx: &mut Transaction<'_, S>) -> Result<(), Error>
     ensures same_reference { tx.new.conn.ghost_name ≡ tx.old.conn.ghost_name }
     ensures makes { Grows S.Store (IsBlank schema_9) (IsBlank office_schema) tx.old.conn.now tx.new.conn.now result }
     ensures within { Within (state S.Store tx.old.conn.now) (state S.Store tx.new.conn.now) }
@@ -168,7 +168,7 @@ pub fn batch_numbers<S: Alter>(alloc: Global, conn: &mut Connection<S>) -> Resul
 }
 
 // All batches but their bytes, or that a row is of none.
-pub fn adopt_batches<S: Alter>(
+pub(crate) fn adopt_batches<S: Alter>(
     alloc: Global,
     conn: &mut Connection<S>,
 ) -> Result<Option<Vec<BatchCountsRow>>, Error>

@@ -33,7 +33,7 @@ pub struct DraftRow {
 }
 
 // The table of drafts.
-pub fn create_draft<S: Alter>(tx: &mut Transaction<'_, S>) -> Result<(), Error>
+pub(crate) fn create_draft<S: Alter>(tx: &mut Transaction<'_, S>) -> Result<(), Error>
     ensures same_reference { tx.new.conn.ghost_name ≡ tx.old.conn.ghost_name }
     ensures makes { Grows S.Store (IsBlank schema_3) (IsBlank schema_4) tx.old.conn.now tx.new.conn.now result }
     ensures within { Within (state S.Store tx.old.conn.now) (state S.Store tx.new.conn.now) }
@@ -162,7 +162,7 @@ pub fn drafts_of<S: Alter>(
 }
 
 // All drafts, or that a row is of none.
-pub fn adopt_drafts<S: Alter>(
+pub(crate) fn adopt_drafts<S: Alter>(
     alloc: Global,
     conn: &mut Connection<S>,
 ) -> Result<Option<Vec<DraftRow>>, Error>

@@ -26,7 +26,7 @@ pub struct EnrolRow {
 }
 
 // The table of enrolments.
-pub fn create_enrol<S: Alter>(tx: &mut Transaction<'_, S>) -> Result<(), Error>
+pub(crate) fn create_enrol<S: Alter>(tx: &mut Transaction<'_, S>) -> Result<(), Error>
     ensures same_reference { tx.new.conn.ghost_name ≡ tx.old.conn.ghost_name }
     ensures makes { Grows S.Store (IsBlank schema_2) (IsBlank schema_3) tx.old.conn.now tx.new.conn.now result }
     ensures within { Within (state S.Store tx.old.conn.now) (state S.Store tx.new.conn.now) }
@@ -157,7 +157,7 @@ pub fn find_enrols_of<S: Alter>(
 }
 
 // All enrolments, or that a row is of none.
-pub fn adopt_enrols<S: Alter>(
+pub(crate) fn adopt_enrols<S: Alter>(
     alloc: Global,
     conn: &mut Connection<S>,
 ) -> Result<Option<Vec<EnrolRow>>, Error>

@@ -15,7 +15,7 @@ use std::alloc::Global;
 // A whole table by a text that lists it, with each row's number behind its columns and in the order
 // of these. None says that a row is of no record, that two rows have one number or that one is no
 // number.
-pub fn read_table<S: Alter, R: Record + Drop>(
+pub(crate) fn read_table<S: Alter, R: Record + Drop>(
     alloc: Global,
     conn: &mut Connection<S>,
     sql: &str,
@@ -35,7 +35,7 @@ pub fn read_table<S: Alter, R: Record + Drop>(
 }
 
 // The rows that a text lists.
-pub fn list_rows<S: Alter>(conn: &mut Connection<S>, sql: &str) -> Result<Vec<Row>, Error>
+pub(crate) fn list_rows<S: Alter>(conn: &mut Connection<S>, sql: &str) -> Result<Vec<Row>, Error>
     ensures rows { (tree : ℕ) (shown : List Term) (order : List (Term × Key))
         → Lists tree shown order sql.now
         → Finds S.Store (λ db rows. IsAnswer (one_table tree [] shown order) db.trees [] rows.items)
@@ -68,7 +68,7 @@ fn read_each<R: Record + Drop>(alloc: Global, rows: &[Row]) -> Result<Option<Vec
     Ok(Some(records))
 }
 
-pub fn is_out_of_memory(error: Error) -> bool
+pub(crate) fn is_out_of_memory(error: Error) -> bool
     ensures { IsTrue result ↔ (error ≡ Error.SqliteFailure ErrorCode.OutOfMemory) }
 {
     match error {

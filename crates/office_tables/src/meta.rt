@@ -22,7 +22,7 @@ pub struct MetaRow {
 }
 
 // The table of the office.
-pub fn create_meta<S: Alter>(tx: &mut Transaction<'_, S>) -> Result<(), Error>
+pub(crate) fn create_meta<S: Alter>(tx: &mut Transaction<'_, S>) -> Result<(), Error>
     ensures same_reference { tx.new.conn.ghost_name ≡ tx.old.conn.ghost_name }
     ensures makes { Grows S.Store (IsBlank no_schema) (IsBlank schema_1) tx.old.conn.now tx.new.conn.now result }
     ensures within { Within (state S.Store tx.old.conn.now) (state S.Store tx.new.conn.now) }
@@ -78,7 +78,7 @@ impl Alteration for DeleteMeta {
 }
 
 // The row as it is found when an office is taken over, where the table holds it alone.
-pub fn adopt_meta<S: Alter>(conn: &mut Connection<S>) -> Result<Option<MetaRow>, Error>
+pub(crate) fn adopt_meta<S: Alter>(conn: &mut Connection<S>) -> Result<Option<MetaRow>, Error>
     ensures found { Finds S.Store (λ db. IsFoundMeta (db.trees 0)) conn.old conn.new result }
     ensures same { Leaves S.Store conn.old conn.new result }
     ensures looks { Looks (state S.Store conn.old) (state S.Store conn.new) }

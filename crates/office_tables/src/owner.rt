@@ -24,7 +24,7 @@ pub struct OwnerRow {
 }
 
 // The table of owners.
-pub fn create_owner<S: Alter>(tx: &mut Transaction<'_, S>) -> Result<(), Error>
+pub(crate) fn create_owner<S: Alter>(tx: &mut Transaction<'_, S>) -> Result<(), Error>
     ensures same_reference { tx.new.conn.ghost_name ≡ tx.old.conn.ghost_name }
     ensures makes { Grows S.Store (IsBlank schema_1) (IsBlank schema_2) tx.old.conn.now tx.new.conn.now result }
     ensures within { Within (state S.Store tx.old.conn.now) (state S.Store tx.new.conn.now) }
@@ -112,7 +112,7 @@ pub fn owners_of<S: Alter>(
 }
 
 // All owners, or that a row is of none.
-pub fn adopt_owners<S: Alter>(
+pub(crate) fn adopt_owners<S: Alter>(
     alloc: Global,
     conn: &mut Connection<S>,
 ) -> Result<Option<Vec<OwnerRow>>, Error>

@@ -26,7 +26,7 @@ pub struct PlacedRow {
 }
 
 // The table of published placements.
-pub fn create_placed<S: Alter>(tx: &mut Transaction<'_, S>) -> Result<(), Error>
+pub(crate) fn create_placed<S: Alter>(tx: &mut Transaction<'_, S>) -> Result<(), Error>
     ensures same_reference { tx.new.conn.ghost_name ≡ tx.old.conn.ghost_name }
     ensures makes { Grows S.Store (IsBlank schema_5) (IsBlank schema_6) tx.old.conn.now tx.new.conn.now result }
     ensures within { Within (state S.Store tx.old.conn.now) (state S.Store tx.new.conn.now) }
@@ -145,7 +145,7 @@ pub fn placements_of<S: Alter>(
 }
 
 // All published placements, or that a row is of none.
-pub fn adopt_placements<S: Alter>(
+pub(crate) fn adopt_placements<S: Alter>(
     alloc: Global,
     conn: &mut Connection<S>,
 ) -> Result<Option<Vec<PlacedRow>>, Error>

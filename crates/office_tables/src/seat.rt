@@ -28,7 +28,7 @@ pub struct SeatRow {
 }
 
 // The table of seats.
-pub fn create_seat<S: Alter>(tx: &mut Transaction<'_, S>) -> Result<(), Error>
+pub(crate) fn create_seat<S: Alter>(tx: &mut Transaction<'_, S>) -> Result<(), Error>
     ensures same_reference { tx.new.conn.ghost_name ≡ tx.old.conn.ghost_name }
     ensures makes { Grows S.Store (IsBlank schema_6) (IsBlank schema_7) tx.old.conn.now tx.new.conn.now result }
     ensures within { Within (state S.Store tx.old.conn.now) (state S.Store tx.new.conn.now) }
@@ -154,7 +154,7 @@ pub fn seats_of<S: Alter>(
 }
 
 // All seats, or that a row is of none.
-pub fn adopt_seats<S: Alter>(
+pub(crate) fn adopt_seats<S: Alter>(
     alloc: Global,
     conn: &mut Connection<S>,
 ) -> Result<Option<Vec<SeatRow>>, Error>

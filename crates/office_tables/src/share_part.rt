@@ -30,7 +30,7 @@ pub struct PartShareRow {
 }
 
 // The table of shares of exams, periods and rooms.
-pub fn create_share_part<S: Alter>(tx: &mut Transaction<'_, S>) -> Result<(), Error>
+pub(crate) fn create_share_part<S: Alter>(tx: &mut Transaction<'_, S>) -> Result<(), Error>
     ensures same_reference { tx.new.conn.ghost_name ≡ tx.old.conn.ghost_name }
     ensures makes { Grows S.Store (IsBlank schema_8) (IsBlank schema_9) tx.old.conn.now tx.new.conn.now result }
     ensures within { Within (state S.Store tx.old.conn.now) (state S.Store tx.new.conn.now) }
@@ -135,7 +135,7 @@ pub fn part_shares<S: Alter>(
 }
 
 // All shares of exams, periods and rooms, or that a row is of none.
-pub fn adopt_part_shares<S: Alter>(
+pub(crate) fn adopt_part_shares<S: Alter>(
     alloc: Global,
     conn: &mut Connection<S>,
 ) -> Result<Option<Vec<PartShareRow>>, Error>

@@ -30,7 +30,7 @@ pub struct StudentShareRow {
 }
 
 // The table of candidates' shares.
-pub fn create_share_student<S: Alter>(tx: &mut Transaction<'_, S>) -> Result<(), Error>
+pub(crate) fn create_share_student<S: Alter>(tx: &mut Transaction<'_, S>) -> Result<(), Error>
     ensures same_reference { tx.new.conn.ghost_name ≡ tx.old.conn.ghost_name }
     ensures makes { Grows S.Store (IsBlank schema_7) (IsBlank schema_8) tx.old.conn.now tx.new.conn.now result }
     ensures within { Within (state S.Store tx.old.conn.now) (state S.Store tx.new.conn.now) }
@@ -168,7 +168,7 @@ pub fn student_shares_of<S: Alter>(
 }
 
 // All shares of students, or that a row is of none.
-pub fn adopt_student_shares<S: Alter>(
+pub(crate) fn adopt_student_shares<S: Alter>(
     alloc: Global,
     conn: &mut Connection<S>,
 ) -> Result<Option<Vec<StudentShareRow>>, Error>

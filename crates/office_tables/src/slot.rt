@@ -26,7 +26,7 @@ pub struct SlotRow {
 }
 
 // The table of placements in drafts.
-pub fn create_slot<S: Alter>(tx: &mut Transaction<'_, S>) -> Result<(), Error>
+pub(crate) fn create_slot<S: Alter>(tx: &mut Transaction<'_, S>) -> Result<(), Error>
     ensures same_reference { tx.new.conn.ghost_name ≡ tx.old.conn.ghost_name }
     ensures makes { Grows S.Store (IsBlank schema_4) (IsBlank schema_5) tx.old.conn.now tx.new.conn.now result }
     ensures within { Within (state S.Store tx.old.conn.now) (state S.Store tx.new.conn.now) }
@@ -143,7 +143,7 @@ pub fn slots_of<S: Alter>(
 }
 
 // All placements in drafts, or that a row is of none.
-pub fn adopt_slots<S: Alter>(
+pub(crate) fn adopt_slots<S: Alter>(
     alloc: Global,
     conn: &mut Connection<S>,
 ) -> Result<Option<Vec<SlotRow>>, Error>

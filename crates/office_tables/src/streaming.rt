@@ -18,7 +18,7 @@ use sqlite::{Alter, Connection, Error, Row};
 use std::alloc::Global;
 
 // The records of a query's rows.
-pub fn stream<S: Alter, R: Record + Drop>(
+pub(crate) fn stream<S: Alter, R: Record + Drop>(
     alloc: Global,
     conn: &mut Connection<S>,
     sql: &str,
@@ -48,7 +48,7 @@ pub fn stream<S: Alter, R: Record + Drop>(
 
 // The records of a query's rows, of which it holds one row at a time. None says that a row is of no
 // record.
-pub fn stream_found<S: Alter, R: Record + Drop>(
+pub(crate) fn stream_found<S: Alter, R: Record + Drop>(
     alloc: Global,
     conn: &mut Connection<S>,
     sql: &str,
