@@ -19,19 +19,6 @@ use crate::standing::{in_one_period, share_student};
 use exam_model::{Enrolments, ExamNo, Instance, Timetable};
 use std::alloc::{AllocError, Global};
 
-/// Whether the exam lasts longer than its period.
-#[tactic(auto, using(crate::proofs::PlaceLemmas::place_exists))]
-pub(crate) fn outlasts(instance: &Instance, timetable: &Timetable, exam: ExamNo) -> bool
-    requires exists { exam < length timetable.now }
-    requires fits { Suits instance.now timetable.now }
-    ensures { result ≡ outlasts instance.now timetable.now exam }
-{
-    match timetable.get(exam) {
-        Some(place) => instance.period(place.period).length < instance.exam(exam).minutes,
-        None => false,
-    }
-}
-
 /// The exams that last longer than their periods, each with itself.
 pub(crate) fn duration_pairs(
     alloc: Global,
@@ -49,6 +36,19 @@ pub(crate) fn duration_pairs(
         push_some(&mut found, pair_if(too_long, exam, exam))?;
     }
     Ok(in_order(found))
+}
+
+/// Whether the exam lasts longer than its period.
+#[tactic(auto, using(crate::proofs::PlaceLemmas::place_exists))]
+pub(crate) fn outlasts(instance: &Instance, timetable: &Timetable, exam: ExamNo) -> bool
+    requires exists { exam < length timetable.now }
+    requires fits { Suits instance.now timetable.now }
+    ensures { result ≡ outlasts instance.now timetable.now exam }
+{
+    match timetable.get(exam) {
+        Some(place) => instance.period(place.period).length < instance.exam(exam).minutes,
+        None => false,
+    }
 }
 
 /// The exams that share a student and stand in one period, the smaller of them first.

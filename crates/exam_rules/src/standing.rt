@@ -17,17 +17,6 @@ pub(crate) fn in_one_period(timetable: &Timetable, exam: ExamNo, other: ExamNo) 
     }
 }
 
-fn in_two_periods(timetable: &Timetable, exam: ExamNo, other: ExamNo) -> bool
-    requires exists { exam < length timetable.now }
-    requires other_exists { other < length timetable.now }
-    ensures { result ≡ in_two_periods timetable.now exam other }
-{
-    match (timetable.get(exam), timetable.get(other)) {
-        (Some(first), Some(second)) => first.period != second.period,
-        _ => false,
-    }
-}
-
 pub(crate) fn is_not_after(timetable: &Timetable, exam: ExamNo, other: ExamNo) -> bool
     requires exists { exam < length timetable.now }
     requires other_exists { other < length timetable.now }
@@ -46,6 +35,33 @@ pub(crate) fn in_one_place(timetable: &Timetable, exam: ExamNo, other: ExamNo) -
 {
     match (timetable.get(exam), timetable.get(other)) {
         (Some(first), Some(second)) => first.period == second.period && first.room == second.room,
+        _ => false,
+    }
+}
+
+/// Whether two exams share no student and stand in different periods.
+pub(crate) fn are_strangers_apart(
+    enrolments: &Enrolments,
+    timetable: &Timetable,
+    exam: ExamNo,
+    other: ExamNo,
+) -> bool
+    requires fits { length enrolments.now ≡ length timetable.now }
+    requires exists { exam < length timetable.now }
+    requires other_exists { other < length timetable.now }
+    ensures { result ≡ (not (share_student enrolments.now exam other)
+        && in_two_periods timetable.now exam other) }
+{
+    in_two_periods(timetable, exam, other) && !share_student(enrolments, exam, other)
+}
+
+fn in_two_periods(timetable: &Timetable, exam: ExamNo, other: ExamNo) -> bool
+    requires exists { exam < length timetable.now }
+    requires other_exists { other < length timetable.now }
+    ensures { result ≡ in_two_periods timetable.now exam other }
+{
+    match (timetable.get(exam), timetable.get(other)) {
+        (Some(first), Some(second)) => first.period != second.period,
         _ => false,
     }
 }
@@ -81,20 +97,4 @@ fn have_common(first: &[StudentNo], second: &[StudentNo]) -> bool
         }
     }
     false
-}
-
-/// Whether two exams share no student and stand in different periods.
-pub(crate) fn are_strangers_apart(
-    enrolments: &Enrolments,
-    timetable: &Timetable,
-    exam: ExamNo,
-    other: ExamNo,
-) -> bool
-    requires fits { length enrolments.now ≡ length timetable.now }
-    requires exists { exam < length timetable.now }
-    requires other_exists { other < length timetable.now }
-    ensures { result ≡ (not (share_student enrolments.now exam other)
-        && in_two_periods timetable.now exam other) }
-{
-    in_two_periods(timetable, exam, other) && !share_student(enrolments, exam, other)
 }

@@ -9,24 +9,6 @@ use crate::numbers::{number, within};
 use exam_terms::trimmed;
 use std::marker::Model;
 
-/// The bytes before the first mark, and those behind it; without a mark the text is the first part.
-#[tactic(auto, using(crate::proofs::FieldLemmas::part_facts))]
-pub(crate) fn cut(text: &[u8], mark: u8) -> (&[u8], &[u8])
-    requires { 0 < length text.now }
-    ensures parts { ended_parts mark text.now ≡ result.0.now ∷ ended_parts mark result.1.now }
-    ensures shorter { length result.1.now < length text.now }
-    ensures within { length result.0.now ≤ length text.now }
-    ensures lengths { 0 < length result.1.now
-        → length result.0.now + 1 + length result.1.now ≡ length text.now }
-{
-    for (i, byte) in text.iter().enumerate() {
-        if *byte == mark {
-            return (&text[..i], &text[i + 1..]);
-        }
-    }
-    (text, &text[text.len()..])
-}
-
 /// The fields of a line that are still to come.
 #[derive(Drop)]
 pub struct Fields<'a> {
@@ -83,6 +65,24 @@ impl<'a> Fields<'a> {
     {
         self.left.is_empty()
     }
+}
+
+/// The bytes before the first mark, and those behind it; without a mark the text is the first part.
+#[tactic(auto, using(crate::proofs::FieldLemmas::part_facts))]
+pub(crate) fn cut(text: &[u8], mark: u8) -> (&[u8], &[u8])
+    requires { 0 < length text.now }
+    ensures parts { ended_parts mark text.now ≡ result.0.now ∷ ended_parts mark result.1.now }
+    ensures shorter { length result.1.now < length text.now }
+    ensures within { length result.0.now ≤ length text.now }
+    ensures lengths { 0 < length result.1.now
+        → length result.0.now + 1 + length result.1.now ≡ length text.now }
+{
+    for (i, byte) in text.iter().enumerate() {
+        if *byte == mark {
+            return (&text[..i], &text[i + 1..]);
+        }
+    }
+    (text, &text[text.len()..])
 }
 
 // The number that the first field of a line says, whatever that is, and what is left of the line:

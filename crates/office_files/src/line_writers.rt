@@ -12,14 +12,6 @@ use exam_calendar::Date;
 use exam_model::{Exam, ExamNo, Period, PeriodRule, RoomRule, StudentNo};
 use std::alloc::AllocError;
 
-/// Adds a line of two numbers.
-pub(crate) fn add_pair(text: &mut String, one: u32, other: u32) -> Result<(), AllocError>
-    ensures { OnOk result (string_bytes text.new
-        ≡ string_bytes text.old ++ line_of (before (decimal one) (decimal other))) }
-{
-    write!(text, "{one}, {other}\r\n")
-}
-
 /// Adds the line of a period.
 pub(crate) fn add_period(text: &mut String, period: &Period) -> Result<(), AllocError>
     requires { PeriodInLimits period.now }
@@ -32,6 +24,14 @@ pub(crate) fn add_period(text: &mut String, period: &Period) -> Result<(), Alloc
     text.push_str(", ")?;
     add_pair(text, period.length, period.penalty)?;
     Ok(())
+}
+
+/// Adds a line of two numbers.
+pub(crate) fn add_pair(text: &mut String, one: u32, other: u32) -> Result<(), AllocError>
+    ensures { OnOk result (string_bytes text.new
+        ≡ string_bytes text.old ++ line_of (before (decimal one) (decimal other))) }
+{
+    write!(text, "{one}, {other}\r\n")
 }
 
 #[tactic(auto, using(crate::proofs::CanonicalDigits::digit_facts, exam_calendar::proofs::DateLemmas::date_ranges))]

@@ -55,24 +55,6 @@ fn cut_line(text: &[u8]) -> (&[u8], &[u8])
     }
 }
 
-/// A piece of a line, which starts at that place of the text, without the blanks around it.
-#[inline]
-pub(crate) fn located(line: u32, start: usize, text: &[u8]) -> Token<'_>
-    requires { start + length text.now ≤ INSTANCE_BYTES + 1 }
-    ensures token { token_of result ≡ located line (record { start = start; text = text.now }) }
-    ensures within { result.end ≤ start + length text.now }
-{
-    let front = trim_start(text);
-    let inner = trim_end(front);
-    let start = start + (text.len() - front.len());
-    Token {
-        line,
-        start,
-        end: start + inner.len(),
-        text: inner,
-    }
-}
-
 /// The lines of a text that are still to come and aren't blank.
 #[derive(Drop)]
 pub struct Lines<'a> {
@@ -142,6 +124,24 @@ impl<'a> Lines<'a> {
             lines += 1;
         }
         lines
+    }
+}
+
+/// A piece of a line, which starts at that place of the text, without the blanks around it.
+#[inline]
+pub(crate) fn located(line: u32, start: usize, text: &[u8]) -> Token<'_>
+    requires { start + length text.now ≤ INSTANCE_BYTES + 1 }
+    ensures token { token_of result ≡ located line (record { start = start; text = text.now }) }
+    ensures within { result.end ≤ start + length text.now }
+{
+    let front = trim_start(text);
+    let inner = trim_end(front);
+    let start = start + (text.len() - front.len());
+    Token {
+        line,
+        start,
+        end: start + inner.len(),
+        text: inner,
     }
 }
 
