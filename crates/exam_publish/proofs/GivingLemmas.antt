@@ -57,8 +57,9 @@ kept_given xs periods rooms i last rows more x row was lt is keeps added = recor
   seated = ap (λ rs. rs ++ rows_beside was.standing (drop (i + 1) xs)) added
       ∙ append_assoc rows (row ∷ []) (rows_beside was.standing (drop (i + 1) xs))
       ∙ ap (λ rs. rows ++ rs) (sym (ap (rows_beside was.standing) (left xs i x lt is)
-      ∙ ap (λ o. unwrap_or o (new_row was.standing x) ∷ rows_beside
-      (cond (is_some o) was.standing (new_row was.standing x ∷ was.standing)) (drop (i + 1) xs))
+      ∙ ap (λ o. unwrap_or o (new_row was.standing x)
+      ∷ rows_beside (cond (is_some o) was.standing (new_row was.standing x ∷ was.standing))
+      (drop (i + 1) xs))
       keeps))
       ∙ was.seated;
   table = was.table;
@@ -113,8 +114,8 @@ new_given xs held periods rooms i n b last rows more x was seats lt is keeps hp 
           ∙ append_assoc rows ((new_row was.standing x) ∷ [])
           (rows_beside ((new_row was.standing x) ∷ was.standing) (drop (i + 1) xs))
           ∙ ap (λ rs. rows ++ rs) (sym (ap (rows_beside was.standing) (left xs i x lt is)
-          ∙ ap (λ o. unwrap_or o (new_row was.standing x) ∷ rows_beside
-          (cond (is_some o) was.standing ((new_row was.standing x) ∷ was.standing))
+          ∙ ap (λ o. unwrap_or o (new_row was.standing x)
+          ∷ rows_beside (cond (is_some o) was.standing ((new_row was.standing x) ∷ was.standing))
           (drop (i + 1) xs))
           keeps))
           ∙ was.seated;

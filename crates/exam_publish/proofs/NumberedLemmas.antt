@@ -100,6 +100,6 @@ numbered_first E T known =
     let pairs = pairs_of E in
     let order = chain_from_index ComesBefore pairs (are_pairs E known).ordered in
     ap (λ rows. rows_beside rows (entrants pairs T [])) (none_kept T pairs)
-    ∙ seats_numbered T [] pairs
-    [] (λ at. record { all = λ k low le. absurd (omega arith); beyond = λ k lt. refl })
+    ∙ seats_numbered T [] pairs []
+    (λ at. record { all = λ k low le. absurd (omega arith); beyond = λ k lt. refl })
     ∙ sym (numbered T pairs [] pairs refl order)

@@ -62,7 +62,8 @@ first_pair r rs a (suc n) above low high =
         ≡ row_pair r ∷ pairs_from (a + 1) (map (students_in rs) (range_with_len (a + 1) n)))
         → pairs_at a (students_in (r ∷ rs) a)
         ++ pairs_from (a + 1) (map (students_in (r ∷ rs)) (range_with_len (a + 1) n))
-        ≡ row_pair r ∷ (pairs_at a (students_in rs a)
+        ≡ row_pair r
+        ∷ (pairs_at a (students_in rs a)
         ++ pairs_from (a + 1) (map (students_in rs) (range_with_len (a + 1) n)))
     go (inl same) more =
         ap₂ (λ xs E. pairs_at a xs ++ pairs_from (a + 1) E) (one_of r rs a same)
@@ -154,8 +155,9 @@ numbers_in (r ∷ rs) e h = go (eqb r.exam e) (numbers_in rs e h.1)
     ]
 
 none_past : (n : ℕ) (rows : List SeatRow) (e : ℕ) → n ≤ e → students (enrolled_in n rows) e ≡ []
-none_past n rows e past = get_or_past (enrolled_in n rows) e
-    [] (omega (arith, length-map-range_with_len (students_in rows) 0 n))
+none_past n rows e past =
+    get_or_past (enrolled_in n rows) e []
+    (omega (arith, length-map-range_with_len (students_in rows) 0 n))
 
 numbered_enrolments : (n : ℕ) (rows : List SeatRow) (e : ℕ)
     → AllByRecursion (λ row. row.student ≤ 999999999) rows
