@@ -94,7 +94,8 @@ and_right true b is = is
 and_right false b is = absurd (cc)
 
 numbers_left : (old new : List ℕ) (s : ℕ) → Leaves old new s → AreNumbers old → AreNumbers new
-numbers_left old new s leaves was t is = was t (and_right (not (eqb s t)) (has_number old t) (sym (leaves.members t) ∙ is))
+numbers_left old new s leaves was t is =
+    was t (and_right (not (eqb s t)) (has_number old t) (sym (leaves.members t) ∙ is))
 
 -- and keeps what every value of the type keeps, where there is room for a new pair
 pub enrolments_set : (E : Enrolled) (e s : ℕ) (new : List ℕ) → e < length E → s ≤ 999999999
@@ -109,7 +110,9 @@ enrolments_set E e s new lt known enters room was = record {
   ];
   pairs = fits;
   numbers = λ f. elim (cases_eq f e) [
-    | inl same ↦ rw same (rw (get_or-set_same E e new [] lt) (numbers_entered _ new s known enters (was.numbers e)))
+    | inl same ↦
+        rw same (rw (get_or-set_same E e new [] lt)
+        (numbers_entered _ new s known enters (was.numbers e)))
     | inr other ↦ rw (get_or-set_other E e f new [] other) (was.numbers f)
   ];
 } where
@@ -171,7 +174,8 @@ enrolments_left E e s new lt leaves was = record {
         omega (arith, was.pairs)
   ] refl;
   numbers = λ f. elim (cases_eq f e) [
-    | inl same ↦ rw same (rw (get_or-set_same E e new [] lt) (numbers_left _ new s leaves (was.numbers e)))
+    | inl same ↦
+        rw same (rw (get_or-set_same E e new [] lt) (numbers_left _ new s leaves (was.numbers e)))
     | inr other ↦ rw (get_or-set_other E e f new [] other) (was.numbers f)
   ];
 }

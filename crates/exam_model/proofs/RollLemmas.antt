@@ -193,4 +193,5 @@ are_numbers (x ∷ xs) each s is =
           (subst (λ b. (b || has_number xs s) ≡ true) (ne_eqb x s other) is)
     ]
 
-pub ruleset roll_facts = (has_at, has_gap, ascending_insert, enters_insert, enters_again, leaves_remove, leaves_again)
+pub ruleset roll_facts =
+    (has_at, has_gap, ascending_insert, enters_insert, enters_again, leaves_remove, leaves_again)

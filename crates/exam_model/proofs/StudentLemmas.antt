@@ -115,16 +115,20 @@ pub has-without : (s : ℕ) (xs : List ℕ) (t : ℕ) →
 has-without s [] t = elim (s == t) as (λ b. false ≡ (not b && false)) [ true ↦ refl | false ↦ refl ]
 has-without s (u ∷ us) t = elim (cases_eq u s) [
   | inl same ↦ rw (same, eq-eqb s s refl) (has-without s us t ∙ first_is_she)
-  | inr other ↦ rw (ne_eqb u s other) (ap (λ b. (u == t) || b) (has-without s us t) ∙ first_is_other other)
+  | inr other ↦
+      rw (ne_eqb u s other) (ap (λ b. (u == t) || b) (has-without s us t) ∙ first_is_other other)
 ]
   where
-    first_is_she : (not (s == t) && has_number us t) ≡ (not (s == t) && ((s == t) || has_number us t))
-    first_is_she = elim (s == t) as (λ b. (not b && has_number us t) ≡ (not b && (b || has_number us t))) [
-      | true ↦ refl
-      | false ↦ refl
-    ]
+    first_is_she : (not (s == t) && has_number us t)
+        ≡ (not (s == t) && ((s == t) || has_number us t))
+    first_is_she =
+        elim (s == t) as (λ b. (not b && has_number us t) ≡ (not b && (b || has_number us t))) [
+          | true ↦ refl
+          | false ↦ refl
+        ]
 
-    first_is_other : (u ≡ s → ⊥) → ((u == t) || (not (s == t) && has_number us t)) ≡ (not (s == t) && ((u == t) || has_number us t))
+    first_is_other : (u ≡ s → ⊥) → ((u == t) || (not (s == t) && has_number us t))
+        ≡ (not (s == t) && ((u == t) || has_number us t))
     first_is_other other = elim (cases_eq u t) [
       | inl is ↦ rw (← is, eq-eqb u u refl, ne_eqb s u (λ q. other (sym q))) refl
       | inr isnt ↦ rw (ne_eqb u t isnt) refl
@@ -134,7 +138,8 @@ above_without : (x s : ℕ) (ys : List ℕ) → Above x ys → Above x (without_
 above_without x s [] above = above
 above_without x s (u ∷ us) above =
     let others = above_without x s us (above_tail x u us above) in
-    elim (u == s) as (λ b. Above x (if not b then u ∷ without_student s us else without_student s us)) [
+    elim (u == s)
+    as (λ b. Above x (if not b then u ∷ without_student s us else without_student s us)) [
       | true ↦ others
       | false ↦ above_cons x u (without_student s us) (above 0 (omega arith)) others
     ]
@@ -144,18 +149,22 @@ pub ascending-without : (s : ℕ) (xs : List ℕ) → IsAscending xs → IsAscen
 ascending-without s [] up = up
 ascending-without s (u ∷ us) up =
     let others = ascending-without s us (ascending_tail u us up) in
-    elim (u == s) as (λ b. IsAscending (if not b then u ∷ without_student s us else without_student s us)) [
+    elim (u == s)
+    as (λ b. IsAscending (if not b then u ∷ without_student s us else without_student s us)) [
       | true ↦ others
-      | false ↦ ascending_cons u (without_student s us) (above_without u s us (above_first u us up)) others
+      | false ↦ ascending_cons u (without_student s us)
+          (above_without u s us (above_first u us up)) others
     ]
 
 -- the list that she has entered, and the one that she has left
-pub entered : (s : ℕ) (old new : List ℕ) → IsAscending old → Enters old new s → new ≡ with_student s old
+pub entered : (s : ℕ) (old new : List ℕ) → IsAscending old → Enters old new s
+    → new ≡ with_student s old
 entered s old new up enters =
     same_list new (with_student s old) enters.ascending (ascending-with s old up)
     (λ t. enters.members t ∙ sym (has-with s old t))
 
-pub left : (s : ℕ) (old new : List ℕ) → IsAscending old → Leaves old new s → new ≡ without_student s old
+pub left : (s : ℕ) (old new : List ℕ) → IsAscending old → Leaves old new s
+    → new ≡ without_student s old
 left s old new up leaves =
     same_list new (without_student s old) leaves.ascending (ascending-without s old up)
     (λ t. leaves.members t ∙ sym (has-without s old t))
@@ -175,14 +184,17 @@ has_in E e t new same f = elim (cases_lt e (length E)) [
 sat_in : (E : Enrolled) (e t : ℕ) (new : List ℕ) → has_number new t ≡ has_number (students E e) t →
     exams_sat (set E e new) t ≡ exams_sat E t
 sat_in E e t new same =
-    rw (length-set E e new) (filter_agree (λ f. has (set E e new) t f) (λ f. has E t f) (has_in E e t new same) (range_with_len 0 (length E)))
+    rw (length-set E e new)
+    (filter_agree (λ f. has (set E e new) t f) (λ f. has E t f) (has_in E e t new same)
+    (range_with_len 0 (length E)))
 
 pub with_others : (E : Enrolled) (s e t : ℕ) → t ≢ s → exams_sat (with_pair E s e) t ≡ exams_sat E t
 with_others E s e t other =
     sat_in E e t (with_student s (students E e))
     (has-with s (students E e) t ∙ rw (ne_eqb s t (λ q. other (sym q))) refl)
 
-pub without_others : (E : Enrolled) (s e t : ℕ) → t ≢ s → exams_sat (without_pair E s e) t ≡ exams_sat E t
+pub without_others : (E : Enrolled) (s e t : ℕ) → t ≢ s
+    → exams_sat (without_pair E s e) t ≡ exams_sat E t
 without_others E s e t other =
     sat_in E e t (without_student s (students E e))
     (has-without s (students E e) t ∙ rw (ne_eqb s t (λ q. other (sym q))) refl)

@@ -31,7 +31,8 @@ use Rattle.exam_publish.proofs.PlaceLemmas.{rows_exist}
 
 -- ---- sums over the numbers of a list
 
-range_sum : {X : Type 0} (g : X → ℕ) (f : ℕ → X) (n : ℕ) → sum_by g (map f (range_with_len 0 n)) ≡ sum_below n (λ k. g (f k))
+range_sum : {X : Type 0} (g : X → ℕ) (f : ℕ → X) (n : ℕ)
+    → sum_by g (map f (range_with_len 0 n)) ≡ sum_below n (λ k. g (f k))
 range_sum g f zero = refl
 range_sum g f (suc n) =
     ap (λ k. sum_by g (map f (range_with_len 0 k))) (sym (add-one n))
@@ -40,15 +41,19 @@ range_sum g f (suc n) =
 
 plain_sum : (f : ℕ → ℕ) (n : ℕ) → sum (map f (range_with_len 0 n)) ≡ sum_below n f
 plain_sum f n =
-    sum-map f (range_with_len 0 n) ∙ ap (sum_by f) (sym (map-id (range_with_len 0 n))) ∙ range_sum f (λ k. k) n
+    sum-map f (range_with_len 0 n) ∙ ap (sum_by f) (sym (map-id (range_with_len 0 n)))
+    ∙ range_sum f (λ k. k) n
 
-sum_by_map : {X Y : Type 0} (g : Y → ℕ) (f : X → Y) (xs : List X) → sum_by g (map f xs) ≡ sum_by (λ x. g (f x)) xs
+sum_by_map : {X Y : Type 0} (g : Y → ℕ) (f : X → Y) (xs : List X)
+    → sum_by g (map f xs) ≡ sum_by (λ x. g (f x)) xs
 sum_by_map g f [] = refl
-sum_by_map g f (x ∷ xs) = sum_by-cons g (f x) (map f xs) ∙ ap (λ n. g (f x) + n) (sum_by_map g f xs) ∙ sym (sum_by-cons (λ x. g (f x)) x xs)
+sum_by_map g f (x ∷ xs) = sum_by-cons g (f x) (map f xs) ∙ ap (λ n. g (f x) + n) (sum_by_map g f xs)
+    ∙ sym (sum_by-cons (λ x. g (f x)) x xs)
 
 -- ---- periods and rooms
 
-by_index : (cost : Option Place → ℕ) (T : Placing) (n : ℕ) → n ≤ length T → sum_by cost (take n T) ≡ sum_below n (λ e. cost (place_of T e))
+by_index : (cost : Option Place → ℕ) (T : Placing) (n : ℕ) → n ≤ length T
+    → sum_by cost (take n T) ≡ sum_below n (λ e. cost (place_of T e))
 by_index cost T zero h = refl
 by_index cost T (suc n) h =
     ap (λ k. sum_by cost (take k T)) (sym (add-one n)) ∙ sum_by_more cost T n None (omega arith)
@@ -59,45 +64,62 @@ times_test true w = one-mul w
 times_test false w = zero-mul w
 
 -- an amount for each number, once for each exam there: over all exams what they cost
-by_places : (amount : ℕ → ℕ) (test : ℕ → Option Place → Bool) (cost : Option Place → ℕ) (n : ℕ) (T : Placing)
+by_places : (amount : ℕ → ℕ) (test : ℕ → Option Place → Bool) (cost : Option Place → ℕ)
+    (n : ℕ) (T : Placing)
     → ((o : Option Place) → sum_below n (λ k. cond (test k o) (amount k) 0) ≡ cost o)
-    → sum_below n (λ k. amount k * count_by (test k) T) ≡ sum_below (length T) (λ e. cost (place_of T e))
+    → sum_below n (λ k. amount k * count_by (test k) T)
+    ≡ sum_below (length T) (λ e. cost (place_of T e))
 by_places amount test cost n T one =
-    sum_below-same _ _ (λ k. mul_comm (amount k) (count_by (test k) T) ∙ sym (sum_by-times (λ o. cond (test k o) 1 0) (amount k) T)
+    sum_below-same _ _
+    (λ k. mul_comm (amount k) (count_by (test k) T)
+    ∙ sym (sum_by-times (λ o. cond (test k o) 1 0) (amount k) T)
     ∙ sum_by-same _ _ (λ o. times_test (test k o) (amount k)) T) n
     ∙ sum_below-turned (λ k o. cond (test k o) (amount k) 0) n T
     ∙ sum_by-same _ _ one T
     ∙ ap (sum_by cost) (sym (take_all (length T) T (omega arith)))
     ∙ by_index cost T (length T) (omega arith)
 
-within_or_none : (amount : ℕ → ℕ) (x n : ℕ) → (n ≤ x → amount x ≡ 0) → cond (ltb x n) (amount x) 0 ≡ amount x
-within_or_none amount x n past = elim (cases_lt x n) as (λ _. cond (ltb x n) (amount x) 0 ≡ amount x) [
-  | inl less ↦ cond-true (ltb x n) (amount x) 0 (lt-ltb x n less)
-  | inr more ↦ cond-false (ltb x n) (amount x) 0 (le-ltb x n more) ∙ sym (past more)
-]
+within_or_none : (amount : ℕ → ℕ) (x n : ℕ) → (n ≤ x → amount x ≡ 0)
+    → cond (ltb x n) (amount x) 0 ≡ amount x
+within_or_none amount x n past =
+    elim (cases_lt x n) as (λ _. cond (ltb x n) (amount x) 0 ≡ amount x) [
+      | inl less ↦ cond-true (ltb x n) (amount x) 0 (lt-ltb x n less)
+      | inr more ↦ cond-false (ltb x n) (amount x) 0 (le-ltb x n more) ∙ sym (past more)
+    ]
 
-one_period : (I : Session) (o : Option Place) → sum_below (length I.periods) (λ p. cond (is_in_period p o) (period_penalty (slice_get I.periods p)) 0) ≡ exam_period I o
+one_period : (I : Session) (o : Option Place)
+    → sum_below (length I.periods)
+    (λ p. cond (is_in_period p o) (period_penalty (slice_get I.periods p)) 0)
+    ≡ exam_period I o
 one_period I None = sum_below-zeros (length I.periods)
 one_period I (Some at) =
     sum_below-at (λ p. period_penalty (slice_get I.periods p)) at.period (length I.periods)
-    ∙ within_or_none (λ p. period_penalty (slice_get I.periods p)) at.period (length I.periods) (λ past. ap period_penalty (slice_get_past I.periods at.period past))
+    ∙ within_or_none (λ p. period_penalty (slice_get I.periods p)) at.period (length I.periods)
+    (λ past. ap period_penalty (slice_get_past I.periods at.period past))
 
-one_room : (I : Session) (o : Option Place) → sum_below (length I.rooms) (λ r. cond (is_in_room r o) (room_penalty (slice_get I.rooms r)) 0) ≡ exam_room I o
+one_room : (I : Session) (o : Option Place)
+    → sum_below (length I.rooms) (λ r. cond (is_in_room r o) (room_penalty (slice_get I.rooms r)) 0)
+    ≡ exam_room I o
 one_room I None = sum_below-zeros (length I.rooms)
 one_room I (Some at) =
     sum_below-at (λ r. room_penalty (slice_get I.rooms r)) at.room (length I.rooms)
-    ∙ within_or_none (λ r. room_penalty (slice_get I.rooms r)) at.room (length I.rooms) (λ past. ap room_penalty (slice_get_past I.rooms at.room past))
+    ∙ within_or_none (λ r. room_penalty (slice_get I.rooms r)) at.room (length I.rooms)
+    (λ past. ap room_penalty (slice_get_past I.rooms at.room past))
 
-period_sum : (I : Session) (T : Placing) → length T ≡ length I.exams → sum (period_shares I T) ≡ period_part I T
+period_sum : (I : Session) (T : Placing) → length T ≡ length I.exams
+    → sum (period_shares I T) ≡ period_part I T
 period_sum I T same =
     plain_sum (period_share I T) (length I.periods)
-    ∙ by_places (λ p. period_penalty (slice_get I.periods p)) is_in_period (exam_period I) (length I.periods) T (one_period I)
+    ∙ by_places (λ p. period_penalty (slice_get I.periods p)) is_in_period (exam_period I)
+    (length I.periods) T (one_period I)
     ∙ ap (λ n. sum_below n (λ e. exam_period I (place_of T e))) same
 
-room_sum : (I : Session) (T : Placing) → length T ≡ length I.exams → sum_by (λ share. share.penalty) (room_shares I T) ≡ room_part I T
+room_sum : (I : Session) (T : Placing) → length T ≡ length I.exams
+    → sum_by (λ share. share.penalty) (room_shares I T) ≡ room_part I T
 room_sum I T same =
     range_sum (λ (share : RoomShare). share.penalty) (room_share I T) (length I.rooms)
-    ∙ by_places (λ r. room_penalty (slice_get I.rooms r)) is_in_room (exam_room I) (length I.rooms) T (one_room I)
+    ∙ by_places (λ r. room_penalty (slice_get I.rooms r)) is_in_room (exam_room I)
+    (length I.rooms) T (one_room I)
     ∙ ap (λ n. sum_below n (λ e. exam_room I (place_of T e))) same
 
 -- ---- students
@@ -106,40 +128,67 @@ abbrev sittings : List SeatRow → ℕ → List ℕ
 sittings rows s = map (λ row. row.period) (rows_of s rows)
 
 -- what students' rows cost is the part of the penalty that pairs of exams make
-student_sum : (cost : ℕ → ℕ → ℕ) (I : Session) (rows : List SeatRow) (T : Placing) → IsInstance I → ArePublishedRows I rows T → AreNumbered rows
-    → sum_by (λ s. candidate_cost cost (sittings rows s)) (students_of rows) ≡ pair_part cost (enrolled_in (length I.exams) rows) (period_of T)
+student_sum : (cost : ℕ → ℕ → ℕ) (I : Session) (rows : List SeatRow) (T : Placing) → IsInstance I
+    → ArePublishedRows I rows T → AreNumbered rows
+    → sum_by (λ s. candidate_cost cost (sittings rows s)) (students_of rows)
+    ≡ pair_part cost (enrolled_in (length I.exams) rows) (period_of T)
 student_sum cost I rows T known are numbered =
     let n = length I.exams in
     let E = enrolled_in n rows in
     let order = chain_from_index RowBefore rows are.in_order in
     let exist = rows_exist I rows T are in
     let pairs = pairs_in n rows order exist in
-    let enrolled = are_enrolments n rows (omega (arith, known.limits.counts.0.0)) (omega (arith, known.limits.counts.0.1)) are.few order exist (recursion_from_All (λ (row : SeatRow). row.student ≤ 999999999) rows numbered) in
-    sym (regrouped_by_students cost E (period_of T) (students_of rows) (are_pairs E enrolled) (are_students n rows pairs)
-    ∙ sum_by-same _ _ (λ s. ap (candidate_cost cost) (ap (λ ps. periods_of ps (period_of T) s) pairs ∙ her_periods T rows s (recursion_from_All (IsAtExam T) rows are.at_exams))) (students_of rows))
+    let enrolled =
+    are_enrolments n rows (omega (arith, known.limits.counts.0.0))
+    (omega (arith, known.limits.counts.0.1)) are.few order exist
+    (recursion_from_All (λ (row : SeatRow). row.student ≤ 999999999) rows numbered) in
+    sym (regrouped_by_students cost E (period_of T) (students_of rows) (are_pairs E enrolled)
+    (are_students n rows pairs)
+    ∙ sum_by-same _ _
+    (λ s. ap (candidate_cost cost)
+    (ap (λ ps. periods_of ps (period_of T) s) pairs
+    ∙ her_periods T rows s (recursion_from_All (IsAtExam T) rows are.at_exams)))
+    (students_of rows))
 
 -- ---- all of it
 
-pub adds_up : (I : Session) (rows : List SeatRow) (T : Placing) → IsInstance I → ArePublishedRows I rows T → AreNumbered rows
+pub adds_up : (I : Session) (rows : List SeatRow) (T : Placing) → IsInstance I
+    → ArePublishedRows I rows T → AreNumbered rows
     → AddUpTo (track I (enrolled_in (length I.exams) rows) T) (shares_of I rows T)
 adds_up I rows T known are numbered =
     let E = enrolled_in (length I.exams) rows in
     let students = students_of rows in
-    let row : sum_by (λ share. share.1.row) (student_shares I rows) ≡ pair_part (row_cost I.periods I.weights) E (period_of T)
-    = sum_by_map (λ (share : ℕ × PersonalPenalty). share.1.row) (λ s. (s, share_of I.periods I.weights (rows_of s rows))) students ∙ student_sum (row_cost I.periods I.weights) I rows T known are numbered in
-    let day : sum_by (λ share. share.1.day) (student_shares I rows) ≡ pair_part (day_cost I.periods I.weights) E (period_of T)
-    = sum_by_map (λ (share : ℕ × PersonalPenalty). share.1.day) (λ s. (s, share_of I.periods I.weights (rows_of s rows))) students ∙ student_sum (day_cost I.periods I.weights) I rows T known are numbered in
-    let spread : sum_by (λ share. share.1.spread) (student_shares I rows) ≡ pair_part (spread_cost I.periods I.weights) E (period_of T)
-    = sum_by_map (λ (share : ℕ × PersonalPenalty). share.1.spread) (λ s. (s, share_of I.periods I.weights (rows_of s rows))) students ∙ student_sum (spread_cost I.periods I.weights) I rows T known are numbered in
-    let mixed : sum_by (λ share. share.mixed) (room_shares I T) ≡ sum_below (length I.rooms) (room_mixed I T)
+    let row : sum_by (λ share. share.1.row) (student_shares I rows)
+    ≡ pair_part (row_cost I.periods I.weights) E (period_of T)
+    = sum_by_map (λ (share : ℕ × PersonalPenalty). share.1.row)
+    (λ s. (s, share_of I.periods I.weights (rows_of s rows))) students
+    ∙ student_sum (row_cost I.periods I.weights) I rows T known are numbered in
+    let day : sum_by (λ share. share.1.day) (student_shares I rows)
+    ≡ pair_part (day_cost I.periods I.weights) E (period_of T)
+    = sum_by_map (λ (share : ℕ × PersonalPenalty). share.1.day)
+    (λ s. (s, share_of I.periods I.weights (rows_of s rows))) students
+    ∙ student_sum (day_cost I.periods I.weights) I rows T known are numbered in
+    let spread : sum_by (λ share. share.1.spread) (student_shares I rows)
+    ≡ pair_part (spread_cost I.periods I.weights) E (period_of T)
+    = sum_by_map (λ (share : ℕ × PersonalPenalty). share.1.spread)
+    (λ s. (s, share_of I.periods I.weights (rows_of s rows))) students
+    ∙ student_sum (spread_cost I.periods I.weights) I rows T known are numbered in
+    let mixed : sum_by (λ share. share.mixed) (room_shares I T)
+    ≡ sum_below (length I.rooms) (room_mixed I T)
     = range_sum (λ (share : RoomShare). share.mixed) (room_share I T) (length I.rooms) in
     let front : sum (exam_shares I rows T) ≡ sum_below (length I.exams) (exam_front I E T)
     = plain_sum (exam_front I E T) (length I.exams) in
     let period = period_sum I T are.exams in
     let room = room_sum I T are.exams in
-    let personal = sum_by-add (λ (share : ℕ × PersonalPenalty). share.1.row + share.1.day) (λ share. share.1.spread) (student_shares I rows) in
-    let same_day = sum_by-add (λ (share : ℕ × PersonalPenalty). share.1.row) (λ share. share.1.day) (student_shares I rows) in
-    let in_rooms = sum_by-add (λ (share : RoomShare). share.penalty) (λ share. share.mixed) (room_shares I T) in
+    let personal =
+    sum_by-add (λ (share : ℕ × PersonalPenalty). share.1.row + share.1.day)
+    (λ share. share.1.spread) (student_shares I rows) in
+    let same_day =
+    sum_by-add (λ (share : ℕ × PersonalPenalty). share.1.row) (λ share. share.1.day)
+    (student_shares I rows) in
+    let in_rooms =
+    sum_by-add (λ (share : RoomShare). share.penalty) (λ share. share.mixed)
+    (room_shares I T) in
     record {
       row = row;
       day = day;

@@ -21,22 +21,28 @@ before_trans : (p q r : Pair) → ComesBefore p q → ComesBefore q r → ComesB
 before_trans p q r h k = grind (arith, h, k)
 
 -- a row before the first of a list is before all of it
-before_all : (r q : SeatRow) (qs : List SeatRow) → RowBefore r q → AllByRecursion (RowBefore q) qs → AllByRecursion (RowBefore r) (q ∷ qs)
-before_all r q qs h a = (h, each_weaker (RowBefore q) (RowBefore r) (λ x k. before_trans (row_pair r) (row_pair q) (row_pair x) h k) qs a)
+before_all : (r q : SeatRow) (qs : List SeatRow) → RowBefore r q → AllByRecursion (RowBefore q) qs
+    → AllByRecursion (RowBefore r) (q ∷ qs)
+before_all r q qs h a =
+    (h, each_weaker (RowBefore q) (RowBefore r) (λ x k. before_trans (row_pair r) (row_pair q) (row_pair x) h k) qs a)
 
 not_same : (r q : SeatRow) → RowBefore r q → same_row r q ≡ false
-not_same r q h = elim h as (λ _. same_row r q ≡ false) [ inl less ↦ grind (arith, nat_tests) | inr same ↦ grind (arith, nat_tests) ]
+not_same r q h = elim h as (λ _. same_row r q ≡ false)
+    [ inl less ↦ grind (arith, nat_tests) | inr same ↦ grind (arith, nat_tests) ]
 
 not_same_turned : (r q : SeatRow) → RowBefore r q → same_row q r ≡ false
-not_same_turned r q h = elim h as (λ _. same_row q r ≡ false) [ inl less ↦ grind (arith, nat_tests) | inr same ↦ grind (arith, nat_tests) ]
+not_same_turned r q h = elim h as (λ _. same_row q r ≡ false)
+    [ inl less ↦ grind (arith, nat_tests) | inr same ↦ grind (arith, nat_tests) ]
 
 -- ---- one row, or two rows of one pair, taken away
 
-first_alone : (r : SeatRow) (xs ys : List SeatRow) → AllByRecursion (RowBefore r) ys → same_rows (r ∷ xs) ys ≡ false
+first_alone : (r : SeatRow) (xs ys : List SeatRow) → AllByRecursion (RowBefore r) ys
+    → same_rows (r ∷ xs) ys ≡ false
 first_alone r xs [] a = refl
 first_alone r xs (y ∷ ys) a = ap (λ b. b && same_rows xs ys) (not_same r y a.0)
 
-second_alone : (r : SeatRow) (xs ys : List SeatRow) → AllByRecursion (RowBefore r) xs → same_rows xs (r ∷ ys) ≡ false
+second_alone : (r : SeatRow) (xs ys : List SeatRow) → AllByRecursion (RowBefore r) xs
+    → same_rows xs (r ∷ ys) ≡ false
 second_alone r [] ys a = refl
 second_alone r (x ∷ xs) ys a = ap (λ b. b && same_rows xs ys) (not_same_turned r x a.0)
 
@@ -44,16 +50,22 @@ pub left_step : (r : SeatRow) (rs qs : List SeatRow) → AllByRecursion (RowBefo
     → (eqb r.student s || is_changed rs qs s) ≡ is_changed (r ∷ rs) qs s
 left_step r rs qs above s = go (eqb r.student s)
   where
-    go : (b : Bool) → (b || not (same_rows (rows_of s rs) (rows_of s qs))) ≡ not (same_rows (cond b (r ∷ rows_of s rs) (rows_of s rs)) (rows_of s qs))
-    go true = sym (ap not (first_alone r (rows_of s rs) (rows_of s qs) (each_filter (RowBefore r) (λ row. eqb row.student s) qs above)))
+    go : (b : Bool) → (b || not (same_rows (rows_of s rs) (rows_of s qs)))
+        ≡ not (same_rows (cond b (r ∷ rows_of s rs) (rows_of s rs)) (rows_of s qs))
+    go true = sym
+        (ap not (first_alone r (rows_of s rs) (rows_of s qs)
+        (each_filter (RowBefore r) (λ row. eqb row.student s) qs above)))
     go false = refl
 
 pub right_step : (q : SeatRow) (rs qs : List SeatRow) → AllByRecursion (RowBefore q) rs → (s : ℕ)
     → (eqb q.student s || is_changed rs qs s) ≡ is_changed rs (q ∷ qs) s
 right_step q rs qs above s = go (eqb q.student s)
   where
-    go : (b : Bool) → (b || not (same_rows (rows_of s rs) (rows_of s qs))) ≡ not (same_rows (rows_of s rs) (cond b (q ∷ rows_of s qs) (rows_of s qs)))
-    go true = sym (ap not (second_alone q (rows_of s rs) (rows_of s qs) (each_filter (RowBefore q) (λ row. eqb row.student s) rs above)))
+    go : (b : Bool) → (b || not (same_rows (rows_of s rs) (rows_of s qs)))
+        ≡ not (same_rows (rows_of s rs) (cond b (q ∷ rows_of s qs) (rows_of s qs)))
+    go true = sym
+        (ap not (second_alone q (rows_of s rs) (rows_of s qs)
+        (each_filter (RowBefore q) (λ row. eqb row.student s) rs above)))
     go false = refl
 
 -- ---- one list alone
@@ -62,7 +74,8 @@ pub left_alone : (rows : List SeatRow) (s : ℕ) → is_changed rows [] s ≡ ha
 left_alone [] s = refl
 left_alone (r ∷ rs) s = go (eqb r.student s) (left_alone rs s)
   where
-    go : (b : Bool) → is_changed rs [] s ≡ has_row rs s → not (same_rows (cond b (r ∷ rows_of s rs) (rows_of s rs)) []) ≡ (b || has_row rs s)
+    go : (b : Bool) → is_changed rs [] s ≡ has_row rs s
+        → not (same_rows (cond b (r ∷ rows_of s rs) (rows_of s rs)) []) ≡ (b || has_row rs s)
     go true more = refl
     go false more = more
 
@@ -70,7 +83,8 @@ pub right_alone : (rows : List SeatRow) (s : ℕ) → is_changed [] rows s ≡ h
 right_alone [] s = refl
 right_alone (r ∷ rs) s = go (eqb r.student s) (right_alone rs s)
   where
-    go : (b : Bool) → is_changed [] rs s ≡ has_row rs s → not (same_rows [] (cond b (r ∷ rows_of s rs) (rows_of s rs))) ≡ (b || has_row rs s)
+    go : (b : Bool) → is_changed [] rs s ≡ has_row rs s
+        → not (same_rows [] (cond b (r ∷ rows_of s rs) (rows_of s rs))) ≡ (b || has_row rs s)
     go true more = refl
     go false more = more
 
@@ -81,7 +95,8 @@ pub record IsCompared (old new left right : List SeatRow) (found : List ℕ) : T
   pub left_order : IsChain RowBefore left
   pub right_order : IsChain RowBefore right
 
-pub start : (old new : List SeatRow) (found : List ℕ) → found ≡ [] → RowsInOrder old → RowsInOrder new → IsCompared old new old new found
+pub start : (old new : List SeatRow) (found : List ℕ) → found ≡ [] → RowsInOrder old
+    → RowsInOrder new → IsCompared old new old new found
 start old new found none up up' = record {
   members = λ s. ap (λ xs. has_number xs s || is_changed old new s) none;
   left_order = chain_from_index RowBefore old up;
@@ -97,49 +112,71 @@ or_false true = refl
 or_false false = refl
 
 -- a student more
-pub has_push : (found : List ℕ) (t s : ℕ) → has_number (found ++ t ∷ []) s ≡ (has_number found s || eqb t s)
-has_push found t s = list_any-append (λ x. eqb x s) found (t ∷ []) ∙ ap (λ b. has_number found s || b) (or_false (eqb t s))
+pub has_push : (found : List ℕ) (t s : ℕ)
+    → has_number (found ++ t ∷ []) s ≡ (has_number found s || eqb t s)
+has_push found t s = list_any-append (λ x. eqb x s) found (t ∷ [])
+    ∙ ap (λ b. has_number found s || b) (or_false (eqb t s))
 
-pub step_left : {old new left right : List SeatRow} {found more : List ℕ} (r q : SeatRow) (rs qs : List SeatRow) → IsCompared old new left right found
-    → left ≡ r ∷ rs → right ≡ q ∷ qs → comes_before (row_pair r) (row_pair q) ≡ true → more ≡ found ++ r.student ∷ []
+pub step_left : {old new left right : List SeatRow} {found more : List ℕ} (r q : SeatRow)
+    (rs qs : List SeatRow)
+    → IsCompared old new left right found
+    → left ≡ r ∷ rs → right ≡ q ∷ qs → comes_before (row_pair r) (row_pair q) ≡ true
+    → more ≡ found ++ r.student ∷ []
     → IsCompared old new rs right more
 step_left {old} {new} {left} {right} {found} {more} r q rs qs was l m lt is =
     let ls = subst (IsChain RowBefore) l was.left_order in
     let ms = subst (IsChain RowBefore) m was.right_order in
-    let above : AllByRecursion (RowBefore r) right = subst (AllByRecursion (RowBefore r)) (sym m) (before_all r q qs (before_from_test (row_pair r) (row_pair q) lt) ms.0) in
+    let above : AllByRecursion (RowBefore r) right =
+    subst (AllByRecursion (RowBefore r)) (sym m)
+    (before_all r q qs (before_from_test (row_pair r) (row_pair q) lt) ms.0) in
     record {
-      members = λ s. ap (λ xs. has_number xs s || is_changed rs right s) is ∙ ap (λ b. b || is_changed rs right s) (has_push found r.student s)
+      members = λ s. ap (λ xs. has_number xs s || is_changed rs right s) is
+          ∙ ap (λ b. b || is_changed rs right s) (has_push found r.student s)
           ∙ or_assoc (has_number found s) (eqb r.student s) (is_changed rs right s)
-          ∙ ap (λ b. has_number found s || b) (left_step r rs right above s) ∙ ap (λ xs. has_number found s || is_changed xs right s) (sym l) ∙ was.members s;
+          ∙ ap (λ b. has_number found s || b) (left_step r rs right above s)
+          ∙ ap (λ xs. has_number found s || is_changed xs right s) (sym l) ∙ was.members s;
       left_order = ls.1;
       right_order = was.right_order;
     }
 
-pub step_right : {old new left right : List SeatRow} {found more : List ℕ} (r q : SeatRow) (rs qs : List SeatRow) → IsCompared old new left right found
-    → left ≡ r ∷ rs → right ≡ q ∷ qs → comes_before (row_pair q) (row_pair r) ≡ true → more ≡ found ++ q.student ∷ []
+pub step_right : {old new left right : List SeatRow} {found more : List ℕ} (r q : SeatRow)
+    (rs qs : List SeatRow)
+    → IsCompared old new left right found
+    → left ≡ r ∷ rs → right ≡ q ∷ qs → comes_before (row_pair q) (row_pair r) ≡ true
+    → more ≡ found ++ q.student ∷ []
     → IsCompared old new left qs more
 step_right {old} {new} {left} {right} {found} {more} r q rs qs was l m lt is =
     let ls = subst (IsChain RowBefore) l was.left_order in
     let ms = subst (IsChain RowBefore) m was.right_order in
-    let above : AllByRecursion (RowBefore q) left = subst (AllByRecursion (RowBefore q)) (sym l) (before_all q r rs (before_from_test (row_pair q) (row_pair r) lt) ls.0) in
+    let above : AllByRecursion (RowBefore q) left =
+    subst (AllByRecursion (RowBefore q)) (sym l)
+    (before_all q r rs (before_from_test (row_pair q) (row_pair r) lt) ls.0) in
     record {
-      members = λ s. ap (λ xs. has_number xs s || is_changed left qs s) is ∙ ap (λ b. b || is_changed left qs s) (has_push found q.student s)
+      members = λ s. ap (λ xs. has_number xs s || is_changed left qs s) is
+          ∙ ap (λ b. b || is_changed left qs s) (has_push found q.student s)
           ∙ or_assoc (has_number found s) (eqb q.student s) (is_changed left qs s)
-          ∙ ap (λ b. has_number found s || b) (right_step q left qs above s) ∙ ap (λ xs. has_number found s || is_changed left xs s) (sym m) ∙ was.members s;
+          ∙ ap (λ b. has_number found s || b) (right_step q left qs above s)
+          ∙ ap (λ xs. has_number found s || is_changed left xs s) (sym m) ∙ was.members s;
       left_order = was.left_order;
       right_order = ms.1;
     }
 
 -- one list is used up
-pub end_left : {old new left right : List SeatRow} {found : List ℕ} (more : List ℕ) → IsCompared old new left right found → right ≡ []
-    → ((s : ℕ) → has_number more s ≡ (has_number found s || has_row left s)) → (s : ℕ) → has_number more s ≡ is_changed old new s
+pub end_left : {old new left right : List SeatRow} {found : List ℕ} (more : List ℕ)
+    → IsCompared old new left right found → right ≡ []
+    → ((s : ℕ) → has_number more s ≡ (has_number found s || has_row left s)) → (s : ℕ)
+    → has_number more s ≡ is_changed old new s
 end_left {old} {new} {left} {right} {found} more was none is s =
-    is s ∙ ap (λ b. has_number found s || b) (sym (left_alone left s)) ∙ ap (λ xs. has_number found s || is_changed left xs s) (sym none) ∙ was.members s
+    is s ∙ ap (λ b. has_number found s || b) (sym (left_alone left s))
+    ∙ ap (λ xs. has_number found s || is_changed left xs s) (sym none) ∙ was.members s
 
-pub end_right : {old new left right : List SeatRow} {found : List ℕ} (more : List ℕ) → IsCompared old new left right found → left ≡ []
-    → ((s : ℕ) → has_number more s ≡ (has_number found s || has_row right s)) → (s : ℕ) → has_number more s ≡ is_changed old new s
+pub end_right : {old new left right : List SeatRow} {found : List ℕ} (more : List ℕ)
+    → IsCompared old new left right found → left ≡ []
+    → ((s : ℕ) → has_number more s ≡ (has_number found s || has_row right s)) → (s : ℕ)
+    → has_number more s ≡ is_changed old new s
 end_right {old} {new} {left} {right} {found} more was none is s =
-    is s ∙ ap (λ b. has_number found s || b) (sym (right_alone right s)) ∙ ap (λ xs. has_number found s || is_changed xs right s) (sym none) ∙ was.members s
+    is s ∙ ap (λ b. has_number found s || b) (sym (right_alone right s))
+    ∙ ap (λ xs. has_number found s || is_changed xs right s) (sym none) ∙ was.members s
 
 -- ---- the list of all who changed
 
@@ -148,14 +185,16 @@ nothing_of : (rows : List SeatRow) (s : ℕ) → has_row rows s ≡ false → ro
 nothing_of [] s h = refl
 nothing_of (r ∷ rs) s h = go (eqb r.student s) (nothing_of rs s) h
   where
-    go : (b : Bool) → (has_row rs s ≡ false → rows_of s rs ≡ []) → (b || has_row rs s) ≡ false → cond b (r ∷ rows_of s rs) (rows_of s rs) ≡ []
+    go : (b : Bool) → (has_row rs s ≡ false → rows_of s rs ≡ []) → (b || has_row rs s) ≡ false
+        → cond b (r ∷ rows_of s rs) (rows_of s rs) ≡ []
     go true more k = absurd (clash k)
       where
         clash : true ≡ false → ⊥
         clash e = cc
     go false more k = more k
 
-pub changed_has_row : (old new : List SeatRow) (s : ℕ) → (is_changed old new s && has_row (old ++ new) s) ≡ is_changed old new s
+pub changed_has_row : (old new : List SeatRow) (s : ℕ)
+    → (is_changed old new s && has_row (old ++ new) s) ≡ is_changed old new s
 changed_has_row old new s =
     ap (λ b. is_changed old new s && b) (list_any-append (λ row. eqb row.student s) old new)
     ∙ go (has_row old s) refl (has_row new s) refl
@@ -164,19 +203,27 @@ changed_has_row old new s =
     and_true true = refl
     and_true false = refl
 
-    go : (a : Bool) → has_row old s ≡ a → (b : Bool) → has_row new s ≡ b → (is_changed old new s && (a || b)) ≡ is_changed old new s
+    go : (a : Bool) → has_row old s ≡ a → (b : Bool) → has_row new s ≡ b
+        → (is_changed old new s && (a || b)) ≡ is_changed old new s
     go true h b k = and_true (is_changed old new s)
     go false h true k = and_true (is_changed old new s)
-    go false h false k = nobody (is_changed old new s) (ap₂ (λ xs ys. not (same_rows xs ys)) (nothing_of old s h) (nothing_of new s k))
+    go false h false k =
+        nobody (is_changed old new s)
+        (ap₂ (λ xs ys. not (same_rows xs ys)) (nothing_of old s h) (nothing_of new s k))
       where
         nobody : (a : Bool) → a ≡ false → (a && false) ≡ a
         nobody true e = sym e
         nobody false e = refl
 
-pub listed : (old new : List SeatRow) (found : List ℕ) → IsAscending found → ((s : ℕ) → has_number found s ≡ is_changed old new s) → found ≡ changed_students old new
+pub listed : (old new : List SeatRow) (found : List ℕ) → IsAscending found
+    → ((s : ℕ) → has_number found s ≡ is_changed old new s) → found ≡ changed_students old new
 listed old new found up members =
     same_list found (changed_students old new) up
-    (ascending_from_chain (changed_students old new) (chain_filter (λ x y. x < y) (is_changed old new) (students_of (old ++ new)) (chain_ascending (map (λ row. row.student) (old ++ new)))))
+    (ascending_from_chain (changed_students old new)
+    (chain_filter (λ x y. x < y) (is_changed old new) (students_of (old ++ new))
+    (chain_ascending (map (λ row. row.student) (old ++ new)))))
     (λ s. members s ∙ sym (changed_has_row old new s)
-    ∙ ap (λ b. is_changed old new s && b) (sym (any_map (λ x. eqb x s) (λ row. row.student) (old ++ new)) ∙ sym (has_ascending (map (λ row. row.student) (old ++ new)) s))
+    ∙ ap (λ b. is_changed old new s && b)
+    (sym (any_map (λ x. eqb x s) (λ row. row.student) (old ++ new))
+    ∙ sym (has_ascending (map (λ row. row.student) (old ++ new)) s))
     ∙ sym (has_filter (is_changed old new) (students_of (old ++ new)) s))

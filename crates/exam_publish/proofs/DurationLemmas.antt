@@ -29,10 +29,15 @@ use Rattle.exam_model.proofs.PlaceLemmas.{slot_within}
 -- ---- the order of the stays
 
 abbrev pub stay_cmp : Stay → Stay → Ordering
-stay_cmp x y = ordering_then (nat_cmp x.period y.period) (ordering_then (nat_cmp x.room y.room) (nat_cmp x.minutes y.minutes))
+stay_cmp x y =
+    ordering_then (nat_cmp x.period y.period)
+    (ordering_then (nat_cmp x.room y.room) (nat_cmp x.minutes y.minutes))
 
 stay_cmp_total : IsTotalOrder stay_cmp
-stay_cmp_total = then_total (on_total (λ (x : Stay). x.period) nat_cmp_total) (then_total (on_total (λ (x : Stay). x.room) nat_cmp_total) (on_total (λ (x : Stay). x.minutes) nat_cmp_total))
+stay_cmp_total =
+    then_total (on_total (λ (x : Stay). x.period) nat_cmp_total)
+    (then_total (on_total (λ (x : Stay). x.room) nat_cmp_total)
+    (on_total (λ (x : Stay). x.minutes) nat_cmp_total))
 
 -- what `==` of two stays computes
 abbrev pub stay_eq : Stay → Stay → Bool
@@ -43,15 +48,18 @@ ties a b = grind (arith, nat_tests)
 
 same_stay : (a b : Stay) → stay_eq a b ≡ true → a ≡ b
 same_stay a b h =
-    let first = and_parts (eqb a.period b.period) (eqb a.room b.room && eqb a.minutes b.minutes) h in
+    let first = and_parts (eqb a.period b.period)
+    (eqb a.room b.room && eqb a.minutes b.minutes) h in
     let second = and_parts (eqb a.room b.room) (eqb a.minutes b.minutes) first.1 in
-    fields (eqb-true a.period b.period first.0) (eqb-true a.room b.room second.0) (eqb-true a.minutes b.minutes second.1)
+    fields (eqb-true a.period b.period first.0) (eqb-true a.room b.room second.0)
+    (eqb-true a.minutes b.minutes second.1)
   where
     fields : a.period ≡ b.period → a.room ≡ b.room → a.minutes ≡ b.minutes → a ≡ b
     fields p r m = λ i. record { period = p i; room = r i; minutes = m i }
 
 equivalence : IsEquivalence stay_eq
-equivalence = record { refl = λ a. own a; symm = λ a b. turned a b; congr = λ a b c h. ap (λ x. stay_eq x c) (same_stay a b h) }
+equivalence =
+    record { refl = λ a. own a; symm = λ a b. turned a b; congr = λ a b c h. ap (λ x. stay_eq x c) (same_stay a b h) }
   where
     own : (a : Stay) → stay_eq a a ≡ true
     own a = grind (arith, nat_tests)
@@ -59,13 +67,15 @@ equivalence = record { refl = λ a. own a; symm = λ a b. turned a b; congr = λ
     turned : (a b : Stay) → stay_eq a b ≡ stay_eq b a
     turned a b = grind (arith, nat_tests)
 
-chain_from_strict : (xs : List Stay) → IsStrictlySortedBy stay_cmp xs → IsChain (λ x y. stay_cmp x y ≡ Less) xs
+chain_from_strict : (xs : List Stay) → IsStrictlySortedBy stay_cmp xs
+    → IsChain (λ x y. stay_cmp x y ≡ Less) xs
 unfolding IsStrictlySortedBy
 chain_from_strict [] h = tt
 chain_from_strict (x ∷ xs) h = (h.0, chain_from_strict xs h.1)
 
 -- a later stay is another one
-other_stay : (p r m : ℕ) (x y : Stay) → stay_cmp x y ≡ Less → is_stay p r m x ≡ true → is_stay p r m y ≡ false
+other_stay : (p r m : ℕ) (x y : Stay) → stay_cmp x y ≡ Less → is_stay p r m x ≡ true
+    → is_stay p r m y ≡ false
 other_stay p r m x y less here = grind (arith, nat_tests, less, here)
 
 any_count : (p : Stay → Bool) (xs : List Stay) → nat_lt 0 (count_by p xs) ≡ list_any p xs
@@ -82,9 +92,11 @@ any_dedup : (p : Stay → Bool) (xs : List Stay) → list_any p (dedup stay_eq x
 any_dedup p xs =
     alike (list_any p (dedup stay_eq xs)) (list_any p xs)
     (λ h. moved (dedup stay_eq xs) xs (λ x there. Contains-from_dedup stay_eq xs x there) h)
-    (λ h. moved xs (dedup stay_eq xs) (λ x there. Contains-dedup {E = stay_eq} equivalence same_stay xs x there) h)
+    (λ h. moved xs (dedup stay_eq xs)
+    (λ x there. Contains-dedup {E = stay_eq} equivalence same_stay xs x there) h)
   where
-    moved : (xs ys : List Stay) → ((x : Stay) → Contains xs x → Contains ys x) → list_any p xs ≡ true → list_any p ys ≡ true
+    moved : (xs ys : List Stay) → ((x : Stay) → Contains xs x → Contains ys x)
+        → list_any p xs ≡ true → list_any p ys ≡ true
     moved xs ys keeps h =
         let any = Any-from_list_any p xs h in
         let there = keeps any.1 (any.0, any.2, any.3) in
@@ -102,11 +114,18 @@ pub record AreKinds (I : Session) (T : Placing) (kinds : List Stay) : Type 0 whe
   pub once : IsChain (λ x y. stay_cmp x y ≡ Less) kinds
   pub exist : All (StayExists I) kinds
 
-pub are_kinds : (I : Session) (T : Placing) (stays sorted kinds : List Stay) → AreStays I T stays → IsPermutation stays sorted → IsSorted stay_cmp sorted → kinds ≡ dedup stay_eq sorted → AreKinds I T kinds
+pub are_kinds : (I : Session) (T : Placing) (stays sorted kinds : List Stay) → AreStays I T stays
+    → IsPermutation stays sorted → IsSorted stay_cmp sorted → kinds ≡ dedup stay_eq sorted
+    → AreKinds I T kinds
 are_kinds I T stays sorted kinds are moved up is = subst (AreKinds I T) (sym is) (record {
-  members = λ p r m. any_dedup (is_stay p r m) sorted ∙ sym (list_any-IsPermutation (is_stay p r m) stays sorted moved) ∙ sym (any_count (is_stay p r m) stays) ∙ ap (λ n. nat_lt 0 n) (are.counts p r m);
-  once = chain_from_strict (dedup stay_eq sorted) (IsStrictlySortedBy-dedup stay_cmp_total {E = stay_eq} ties sorted up);
-  exist = All-dedup stay_eq (StayExists I) sorted (All-permutation (StayExists I) stays sorted moved are.exist);
+  members = λ p r m.
+      any_dedup (is_stay p r m) sorted
+      ∙ sym (list_any-IsPermutation (is_stay p r m) stays sorted moved)
+      ∙ sym (any_count (is_stay p r m) stays) ∙ ap (λ n. nat_lt 0 n) (are.counts p r m);
+  once = chain_from_strict (dedup stay_eq sorted)
+      (IsStrictlySortedBy-dedup stay_cmp_total {E = stay_eq} ties sorted up);
+  exist = All-dedup stay_eq (StayExists I) sorted
+      (All-permutation (StayExists I) stays sorted moved are.exist);
 })
 
 -- ---- the durations of one place
@@ -124,56 +143,89 @@ turn false false = refl
 here : ℕ → ℕ → Stay → Bool
 here p r x = (x.period == p) && (x.room == r)
 
-one_stay : (I : Session) (p r : ℕ) (x : Stay) → StayExists I x → sum_below duration_count (λ m. cond (is_stay p r m x) 1 0) ≡ cond (here p r x) 1 0
+one_stay : (I : Session) (p r : ℕ) (x : Stay) → StayExists I x
+    → sum_below duration_count (λ m. cond (is_stay p r m x) 1 0) ≡ cond (here p r x) 1 0
 unfolding here
 one_stay I p r x e =
-    sum_below-same _ _ (λ m. turn ((x.period == p) && (x.room == r)) (x.minutes == m)) duration_count
+    sum_below-same _ _
+    (λ m. turn ((x.period == p) && (x.room == r)) (x.minutes == m)) duration_count
     ∙ sum_below-at (λ m. cond ((x.period == p) && (x.room == r)) 1 0) x.minutes duration_count
-    ∙ cond-true (ltb x.minutes duration_count) (cond ((x.period == p) && (x.room == r)) 1 0) 0 (lt-ltb x.minutes duration_count (short I x e))
+    ∙ cond-true (ltb x.minutes duration_count) (cond ((x.period == p) && (x.room == r)) 1 0) 0
+    (lt-ltb x.minutes duration_count (short I x e))
 
-durations_are : (I : Session) (T : Placing) (kinds : List Stay) (p r : ℕ) → AreKinds I T kinds → count_by (here p r) kinds ≡ durations I T p r
+durations_are : (I : Session) (T : Placing) (kinds : List Stay) (p r : ℕ) → AreKinds I T kinds
+    → count_by (here p r) kinds ≡ durations I T p r
 durations_are I T kinds p r are =
     sym (sum_below-same _ _ (λ m. ap (λ b. cond b 1 0) (sym (are.members p r m))
-    ∙ sum_by-once (is_stay p r m) 1 kinds (chain_weaker (λ x y. stay_cmp x y ≡ Less) (λ x y. is_stay p r m x ≡ true → is_stay p r m y ≡ false) (other_stay p r m) kinds are.once)) duration_count
+    ∙ sum_by-once (is_stay p r m) 1 kinds
+    (chain_weaker (λ x y. stay_cmp x y ≡ Less)
+    (λ x y. is_stay p r m x ≡ true → is_stay p r m y ≡ false)
+    (other_stay p r m) kinds are.once))
+    duration_count
     ∙ sum_below-turned (λ m x. cond (is_stay p r m x) 1 0) duration_count kinds
-    ∙ sum_by-agree (λ x. sum_below duration_count (λ m. cond (is_stay p r m x) 1 0)) (λ x. cond (here p r x) 1 0) kinds
-    (each_weaker (StayExists I) (λ x. sum_below duration_count (λ m. cond (is_stay p r m x) 1 0) ≡ cond (here p r x) 1 0) (one_stay I p r) kinds (recursion_from_All (StayExists I) kinds are.exist)))
+    ∙ sum_by-agree (λ x. sum_below duration_count (λ m. cond (is_stay p r m x) 1 0))
+    (λ x. cond (here p r x) 1 0) kinds
+    (each_weaker (StayExists I)
+    (λ x. sum_below duration_count (λ m. cond (is_stay p r m x) 1 0) ≡ cond (here p r x) 1 0)
+    (one_stay I p r) kinds (recursion_from_All (StayExists I) kinds are.exist)))
 
 same_slot : (I : Session) (p r : ℕ) → r < length I.rooms → (x : Stay) → StayExists I x
     → ◌≡◌ {A = ℕ} (cond (is_in_slot I (p * length I.rooms + r) x) 1 0) (cond (here p r x) 1 0)
 unfolding here
-same_slot I p r hr x e = ap (λ b. cond b 1 0) (go (cases_eq (x.period * length I.rooms + x.room) (p * length I.rooms + r)))
+same_slot I p r hr x e =
+    ap (λ b. cond b 1 0)
+    (go (cases_eq (x.period * length I.rooms + x.room) (p * length I.rooms + r)))
   where
-    go : (x.period * length I.rooms + x.room ≡ p * length I.rooms + r) ⊎ (x.period * length I.rooms + x.room ≡ p * length I.rooms + r → ⊥)
-        → eqb (x.period * length I.rooms + x.room) (p * length I.rooms + r) ≡ ((x.period == p) && (x.room == r))
+    go : (x.period * length I.rooms + x.room ≡ p * length I.rooms + r)
+        ⊎ (x.period * length I.rooms + x.room ≡ p * length I.rooms + r → ⊥)
+        → eqb (x.period * length I.rooms + x.room) (p * length I.rooms + r)
+        ≡ ((x.period == p) && (x.room == r))
     go (inl same) =
         let parts = same_from_place x.period x.room p r (length I.rooms) e.room hr same in
-        eq-eqb (x.period * length I.rooms + x.room) (p * length I.rooms + r) same ∙ sym (and_from (eqb x.period p) (eqb x.room r) (eq-eqb x.period p parts.0) (eq-eqb x.room r parts.1))
+        eq-eqb (x.period * length I.rooms + x.room) (p * length I.rooms + r) same
+        ∙ sym (and_from (eqb x.period p) (eqb x.room r) (eq-eqb x.period p parts.0)
+        (eq-eqb x.room r parts.1))
     go (inr other) =
         ne_eqb (x.period * length I.rooms + x.room) (p * length I.rooms + r) other
         ∙ sym (false_from_ne_true (eqb x.period p && eqb x.room r) (λ one.
         let parts = and_parts (eqb x.period p) (eqb x.room r) one in
-        other (ap₂ (λ a b. a * length I.rooms + b) (eqb-true x.period p parts.0) (eqb-true x.room r parts.1))))
+        other (ap₂ (λ a b. a * length I.rooms + b) (eqb-true x.period p parts.0)
+        (eqb-true x.room r parts.1))))
 
-pub are_durations : (I : Session) (T : Placing) (kinds : List Stay) (counts : List ℕ) → AreKinds I T kinds → length kinds ≤ 2000
-    → AreTallied (λ k. 1) (is_in_slot I) (length I.periods * length I.rooms) kinds counts → AreDurations I T counts
+pub are_durations : (I : Session) (T : Placing) (kinds : List Stay) (counts : List ℕ)
+    → AreKinds I T kinds → length kinds ≤ 2000
+    → AreTallied (λ k. 1) (is_in_slot I) (length I.periods * length I.rooms) kinds counts
+    → AreDurations I T counts
 are_durations I T kinds counts are few tallied = record {
   count = tallied.count;
   each = λ p r hp hr.
-      let within = slot_within (length I.periods) (length I.rooms) (record { period = p; room = r }) hp hr in
-      tallied.each (p * length I.rooms + r) within ∙ one-mul (count_by (is_in_slot I (p * length I.rooms + r)) kinds)
-      ∙ sum_by-agree (λ x. cond (is_in_slot I (p * length I.rooms + r) x) 1 0) (λ x. cond (here p r x) 1 0) kinds
-      (each_weaker (StayExists I) (λ x. ◌≡◌ {A = ℕ} (cond (is_in_slot I (p * length I.rooms + r) x) 1 0) (cond (here p r x) 1 0)) (same_slot I p r hr) kinds (recursion_from_All (StayExists I) kinds are.exist))
+      let within =
+      slot_within (length I.periods) (length I.rooms) (record { period = p; room = r }) hp hr in
+      tallied.each (p * length I.rooms + r) within
+      ∙ one-mul (count_by (is_in_slot I (p * length I.rooms + r)) kinds)
+      ∙ sum_by-agree (λ x. cond (is_in_slot I (p * length I.rooms + r) x) 1 0)
+      (λ x. cond (here p r x) 1 0) kinds
+      (each_weaker (StayExists I)
+      (λ x. ◌≡◌ {A = ℕ} (cond (is_in_slot I (p * length I.rooms + r) x) 1 0)
+      (cond (here p r x) 1 0))
+      (same_slot I p r hr) kinds (recursion_from_All (StayExists I) kinds are.exist))
       ∙ durations_are I T kinds p r are;
-  small = λ k. elim (cases_lt k (length I.periods * length I.rooms)) as (λ _. slice_index counts k ≤ 2000) [
-    | inl within ↦ (let is = tallied.each k within in let le = count_by-le-length (is_in_slot I k) kinds in omega arith)
-    | inr past ↦ (let is = get_or_past counts k 0 (let l = tallied.count in omega arith) in omega arith)
-  ];
+  small = λ k.
+      elim (cases_lt k (length I.periods * length I.rooms)) as (λ _. slice_index counts k ≤ 2000) [
+        | inl within ↦ (let is = tallied.each k within in
+            let le = count_by-le-length (is_in_slot I k) kinds in omega arith)
+        | inr past ↦
+            (let is = get_or_past counts k 0 (let l = tallied.count in omega arith) in omega arith)
+      ];
 }
 
 -- a room's mixed durations by the table
-pub mixed_is : (I : Session) (T : Placing) (counts : List ℕ) (r : ℕ) → AreDurations I T counts → r < length I.rooms
-    → sum_below (length I.periods) (λ p. (slice_index counts (p * length I.rooms + r) - 1) * I.weights.mixed) ≡ room_mixed I T r
+pub mixed_is : (I : Session) (T : Placing) (counts : List ℕ) (r : ℕ) → AreDurations I T counts
+    → r < length I.rooms
+    → sum_below (length I.periods)
+    (λ p. (slice_index counts (p * length I.rooms + r) - 1) * I.weights.mixed)
+    ≡ room_mixed I T r
 mixed_is I T counts r are hr =
-    sum_below-within (λ p. (slice_index counts (p * length I.rooms + r) - 1) * I.weights.mixed) (λ p. (durations I T p r - 1) * I.weights.mixed) (length I.periods)
+    sum_below-within (λ p. (slice_index counts (p * length I.rooms + r) - 1) * I.weights.mixed)
+    (λ p. (durations I T p r - 1) * I.weights.mixed) (length I.periods)
     (λ p lt. ap (λ n. (n - 1) * I.weights.mixed) (are.each p r lt hr))

@@ -20,57 +20,85 @@ use Rattle.exam_publish.specs.Entrants.{entrant, entrants}
 use Rattle.exam_publish.proofs.SeatLemmas.{IsFair, all_fair, each_entrant, from_within, length_filter_map}
 use Rattle.exam_publish.proofs.SeatingLemmas.{pairs_more, length_pairs}
 
-entrants_at : (T : Placing) (old : List SeatRow) (e : ℕ) (at : Place) → place_of T e ≡ Some at → (xs : List ℕ)
-    → entrants (pairs_at e xs) T old ≡ map (λ (s : ℕ). entrant old (record { exam = e; student = s }) at) xs
+entrants_at : (T : Placing) (old : List SeatRow) (e : ℕ) (at : Place)
+    → place_of T e ≡ Some at → (xs : List ℕ)
+    → entrants (pairs_at e xs) T old
+    ≡ map (λ (s : ℕ). entrant old (record { exam = e; student = s }) at) xs
 entrants_at T old e at here [] = refl
 entrants_at T old e at here (x ∷ xs) =
-    ap₂ (λ o ys. cons_option (option_map (entrant old (record { exam = e; student = x })) o) ys) here (entrants_at T old e at here xs)
+    ap₂ (λ o ys. cons_option (option_map (entrant old (record { exam = e; student = x })) o) ys)
+    here (entrants_at T old e at here xs)
 
-entrants_nowhere : (T : Placing) (old : List SeatRow) (e : ℕ) → place_of T e ≡ None → (xs : List ℕ) → entrants (pairs_at e xs) T old ≡ []
+entrants_nowhere : (T : Placing) (old : List SeatRow) (e : ℕ) → place_of T e ≡ None → (xs : List ℕ)
+    → entrants (pairs_at e xs) T old ≡ []
 entrants_nowhere T old e none [] = refl
 entrants_nowhere T old e none (x ∷ xs) =
-    ap₂ (λ o ys. cons_option (option_map (entrant old (record { exam = e; student = x })) o) ys) none (entrants_nowhere T old e none xs)
+    ap₂ (λ o ys. cons_option (option_map (entrant old (record { exam = e; student = x })) o) ys)
+    none (entrants_nowhere T old e none xs)
 
 split : (E : Enrolled) (T : Placing) (old : List SeatRow) (e : ℕ) → e < length E
-    → entrants (pairs_of (take (e + 1) E)) T old ≡ entrants (pairs_of (take e E)) T old ++ entrants (pairs_at e (students E e)) T old
+    → entrants (pairs_of (take (e + 1) E)) T old
+    ≡ entrants (pairs_of (take e E)) T old ++ entrants (pairs_at e (students E e)) T old
 split E T old e lt =
     ap (λ ps. entrants ps T old) (pairs_more E e lt)
-    ∙ filter_map-append (λ (p : Pair). option_map (entrant old p) (place_of T p.exam)) (pairs_of (take e E)) (pairs_at e (students E e))
+    ∙ filter_map-append (λ (p : Pair). option_map (entrant old p) (place_of T p.exam))
+    (pairs_of (take e E)) (pairs_at e (students E e))
 
-pub exam_more : (E : Enrolled) (T : Placing) (old : List SeatRow) (e : ℕ) (at : Place) (xs more : List Entrant) → e < length E → place_of T e ≡ Some at
-    → xs ≡ entrants (pairs_of (take e E)) T old → more ≡ xs ++ map (λ (s : ℕ). entrant old (record { exam = e; student = s }) at) (students E e)
+pub exam_more : (E : Enrolled) (T : Placing) (old : List SeatRow) (e : ℕ) (at : Place)
+    (xs more : List Entrant)
+    → e < length E → place_of T e ≡ Some at
+    → xs ≡ entrants (pairs_of (take e E)) T old → more
+    ≡ xs ++ map (λ (s : ℕ). entrant old (record { exam = e; student = s }) at) (students E e)
     → more ≡ entrants (pairs_of (take (e + 1) E)) T old
 exam_more E T old e at xs more lt here was added =
-    added ∙ ap₂ (λ a b. a ++ b) was (sym (entrants_at T old e at here (students E e))) ∙ sym (split E T old e lt)
+    added ∙ ap₂ (λ a b. a ++ b) was (sym (entrants_at T old e at here (students E e)))
+    ∙ sym (split E T old e lt)
 
-pub exam_nowhere : (E : Enrolled) (T : Placing) (old : List SeatRow) (e : ℕ) (xs : List Entrant) → e < length E → place_of T e ≡ None
+pub exam_nowhere : (E : Enrolled) (T : Placing) (old : List SeatRow) (e : ℕ) (xs : List Entrant)
+    → e < length E → place_of T e ≡ None
     → xs ≡ entrants (pairs_of (take e E)) T old → xs ≡ entrants (pairs_of (take (e + 1) E)) T old
 exam_nowhere E T old e xs lt none was =
-    was ∙ sym (split E T old e lt ∙ ap (λ ys. entrants (pairs_of (take e E)) T old ++ ys) (entrants_nowhere T old e none (students E e)) ∙ append-nil (entrants (pairs_of (take e E)) T old))
+    was ∙ sym (split E T old e lt
+    ∙ ap (λ ys. entrants (pairs_of (take e E)) T old ++ ys)
+    (entrants_nowhere T old e none (students E e))
+    ∙ append-nil (entrants (pairs_of (take e E)) T old))
 
 -- ---- all entrants
 
-pub entrants_few : (E : Enrolled) (T : Placing) (old : List SeatRow) → AreEnrolments E → length (entrants (pairs_of E) T old) ≤ 200000
+pub entrants_few : (E : Enrolled) (T : Placing) (old : List SeatRow) → AreEnrolments E
+    → length (entrants (pairs_of E) T old) ≤ 200000
 entrants_few E T old known =
     omega (arith, length_filter_map (λ (p : Pair). option_map (entrant old p) (place_of T p.exam)) (pairs_of E), length_pairs 0 E, known.pairs)
 
-pub entrants_exist : (I : Session) (E : Enrolled) (T : Placing) (old : List SeatRow) → Fits I E T → All (EntrantExists I) (entrants (pairs_of E) T old)
+pub entrants_exist : (I : Session) (E : Enrolled) (T : Placing) (old : List SeatRow) → Fits I E T
+    → All (EntrantExists I) (entrants (pairs_of E) T old)
 entrants_exist I E T old fits =
-    All-from_recursion (EntrantExists I) (entrants (pairs_of E) T old) (each_entrant (EntrantExists I) T old (pairs_of E)
-    (each_weaker (λ (p : Pair). p.exam < length T) (λ (p : Pair). (at : Place) → place_of T p.exam ≡ Some at → EntrantExists I (entrant old p at))
-    (λ p lt at here. (let place = subst (PlaceExists I) here (fits.places p.exam None lt) in record { period = place.0; room = place.1 }))
+    All-from_recursion (EntrantExists I) (entrants (pairs_of E) T old)
+    (each_entrant (EntrantExists I) T old (pairs_of E)
+    (each_weaker (λ (p : Pair). p.exam < length T)
+    (λ (p : Pair). (at : Place) → place_of T p.exam
+    ≡ Some at → EntrantExists I (entrant old p at))
+    (λ p lt at here. (let place = subst (PlaceExists I) here (fits.places p.exam None lt) in
+    record { period = place.0; room = place.1 }))
     (pairs_of E) (from_within (length T) 0 E (omega (arith, fits.timetable, fits.enrolments)))))
 
-small_seat : (rooms : List Room) (r n : ℕ) → AllByRecursion RoomInLimits rooms → IsSeatOf (slice_get rooms r) n → n ≤ 100000
+small_seat : (rooms : List Room) (r n : ℕ) → AllByRecursion RoomInLimits rooms
+    → IsSeatOf (slice_get rooms r) n → n ≤ 100000
 small_seat [] r n known h = absurd h
-small_seat (x ∷ xs) zero n known h = let most : x.capacity ≤ 100000 = known.0.0 in let low : n ≤ x.capacity = h.1 in omega arith
+small_seat (x ∷ xs) zero n known h = let most : x.capacity ≤ 100000 = known.0.0 in
+    let low : n ≤ x.capacity = h.1 in omega arith
 small_seat (x ∷ xs) (suc r) n known h = small_seat xs r n known.1 h
 
-pub entrants_keep : (I : Session) (T : Placing) (old : List SeatRow) (pairs : List Pair) → IsInstance I → All (HasSeat I) old → All KeepsSmallSeat (entrants pairs T old)
+pub entrants_keep : (I : Session) (T : Placing) (old : List SeatRow) (pairs : List Pair)
+    → IsInstance I → All (HasSeat I) old → All KeepsSmallSeat (entrants pairs T old)
 entrants_keep I T old pairs known within =
     All-from_recursion KeepsSmallSeat (entrants pairs T old)
-    (each_weaker (IsFair T old) KeepsSmallSeat (λ (x : Entrant) h. kept x.kept h.from_old) (entrants pairs T old) (all_fair T old pairs))
+    (each_weaker (IsFair T old) KeepsSmallSeat (λ (x : Entrant) h. kept x.kept h.from_old)
+    (entrants pairs T old) (all_fair T old pairs))
   where
     kept : (o : Option SeatRow) → IfSome o (Contains old) → IfSome o (λ row. row.seat ≤ 100000)
     kept None h = tt
-    kept (Some row) h = small_seat I.rooms row.room row.seat (recursion_from_All RoomInLimits I.rooms known.limits.rooms) (All-contains (HasSeat I) old row within h)
+    kept (Some row) h =
+        small_seat I.rooms row.room row.seat
+        (recursion_from_All RoomInLimits I.rooms known.limits.rooms)
+        (All-contains (HasSeat I) old row within h)

@@ -30,11 +30,14 @@ any_turned k [] = refl
 any_turned k (x ∷ xs) = ap₂ (λ a b. a || b) (turned k x) (any_turned k xs)
 
 -- so many numbers take so many places
-pub le_taken : (n : ℕ) (xs : List ℕ) → ((k : ℕ) → 1 ≤ k → k ≤ n → has_number xs k ≡ true) → n ≤ length xs
+pub le_taken : (n : ℕ) (xs : List ℕ)
+    → ((k : ℕ) → 1 ≤ k → k ≤ n → has_number xs k ≡ true) → n ≤ length xs
 le_taken n xs h =
-    let all = le-length_from_below (0 ∷ xs) (n + 1) (λ q lt. elim (cases_eq q 0) as (λ _. list_any (eqb q) (0 ∷ xs) ≡ true) [
+    let all = le-length_from_below (0 ∷ xs) (n + 1)
+    (λ q lt. elim (cases_eq q 0) as (λ _. list_any (eqb q) (0 ∷ xs) ≡ true) [
       | inl none ↦ ap (λ b. b || list_any (eqb q) xs) (eq-eqb q 0 none)
-      | inr some ↦ or_right (eqb q 0) (list_any (eqb q) xs) (any_turned q xs ∙ h q (omega arith) (omega arith))
+      | inr some ↦ or_right (eqb q 0) (list_any (eqb q) xs)
+          (any_turned q xs ∙ h q (omega arith) (omega arith))
     ]) in
     omega arith
 
@@ -42,7 +45,8 @@ position_small : {X : Type 0} (p : X → Bool) (xs : List X) → position_or_len
 position_small p [] = omega arith
 position_small p (x ∷ xs) =
     let more = position_small p xs in
-    elim (p x) as (λ b. cond (not b) (1 + position_or_len p xs) 0 ≤ length (x ∷ xs)) [ true ↦ omega arith | false ↦ omega arith ]
+    elim (p x) as (λ b. cond (not b) (1 + position_or_len p xs) 0 ≤ length (x ∷ xs))
+    [ true ↦ omega arith | false ↦ omega arith ]
 
 abbrev is_free : List ℕ → ℕ → Bool
 is_free taken k = not (has_number taken k)
@@ -57,8 +61,10 @@ is_least taken n h =
     let low = h.low in
     let few : n - 1 ≤ m = le_taken (n - 1) taken (λ k a b. h.below k a (omega arith)) in
     let first = position_or_len_is (is_free taken) (range_with_len 1 m) (n - 1) 0 (omega arith)
-    (λ k lt. ap (is_free taken) (at_number m k (omega arith)) ∙ ap not (h.below (k + 1) (omega arith) (omega arith)))
-    (λ lt. ap (is_free taken) (at_number m (n - 1) (omega arith)) ∙ ap (is_free taken) (let e : n - 1 + 1 ≡ n = omega arith in e) ∙ ap not h.free) in
+    (λ k lt. ap (is_free taken) (at_number m k (omega arith))
+    ∙ ap not (h.below (k + 1) (omega arith) (omega arith)))
+    (λ lt. ap (is_free taken) (at_number m (n - 1) (omega arith))
+    ∙ ap (is_free taken) (let e : n - 1 + 1 ≡ n = omega arith in e) ∙ ap not h.free) in
     omega arith
 
 pub least_small : (taken : List ℕ) → least_free taken ≤ length taken + 1
@@ -76,7 +82,8 @@ least_below taken k low lt =
     let few = least_small taken in
     let n = length taken in
     let fails = fails_before_first (is_free taken) (range_with_len 1 n) (k - 1) 0 (omega arith) in
-    let here : get_or (range_with_len 1 n) (k - 1) 0 ≡ k = at_number n (k - 1) (omega arith) ∙ omega arith in
+    let here : get_or (range_with_len 1 n) (k - 1) 0 ≡ k =
+    at_number n (k - 1) (omega arith) ∙ omega arith in
     not-false (has_number taken k) (ap (is_free taken) (sym here) ∙ fails)
 
 least_free_is : (taken : List ℕ) → has_number taken (least_free taken) ≡ false
@@ -86,13 +93,21 @@ least_free_is taken =
     let long = length-range_with_len 1 n in
     let most = position_small (is_free taken) (range_with_len 1 n) in
     elim (cases_lt first n) as (λ _. has_number taken (first + 1) ≡ false) [
-      | inl less ↦ turned_not (has_number taken (first + 1)) (ap (is_free taken) (sym (at_number n first less)) ∙ passes_at_first (is_free taken) (range_with_len 1 n) 0 (omega arith))
-      | inr past ↦ false_from_ne_true (has_number taken (first + 1)) (λ more. past_all taken (first + 1) (λ k a lt. least_below taken k a lt) more (omega arith))
+      | inl less ↦
+          turned_not (has_number taken (first + 1))
+          (ap (is_free taken) (sym (at_number n first less))
+          ∙ passes_at_first (is_free taken) (range_with_len 1 n) 0 (omega arith))
+      | inr past ↦
+          false_from_ne_true (has_number taken (first + 1))
+          (λ more. past_all taken (first + 1)
+          (λ k a lt. least_below taken k a lt) more (omega arith))
     ]
   where
-    past_all : (taken : List ℕ) (m : ℕ) → ((k : ℕ) → 1 ≤ k → k < m → has_number taken k ≡ true) → has_number taken m ≡ true → length taken < m → ⊥
+    past_all : (taken : List ℕ) (m : ℕ) → ((k : ℕ) → 1 ≤ k → k < m → has_number taken k ≡ true)
+        → has_number taken m ≡ true → length taken < m → ⊥
     past_all taken m below here beyond =
-        let all = le_taken m taken (λ k a le. elim (cases_eq k m) as (λ _. has_number taken k ≡ true) [
+        let all = le_taken m taken
+        (λ k a le. elim (cases_eq k m) as (λ _. has_number taken k ≡ true) [
           | inl same ↦ ap (has_number taken) same ∙ here
           | inr other ↦ below k a (omega arith)
         ]) in
@@ -104,25 +119,38 @@ least_is taken = record { low = omega arith; free = least_free_is taken; below =
 -- ---- the numbers that rows take
 
 pub length_seats : (at : Place) (r : SeatRow) (rs : List SeatRow)
-    → length (seats_at at (r ∷ rs)) ≡ cond (is_one_place at (row_place r)) 1 0 + length (seats_at at rs)
+    → length (seats_at at (r ∷ rs))
+    ≡ cond (is_one_place at (row_place r)) 1 0 + length (seats_at at rs)
 length_seats at r rs = go (is_one_place at (row_place r))
   where
-    go : (b : Bool) → length (map (λ row. row.seat) (cond b (r ∷ filter (λ row. is_one_place at (row_place row)) rs) (filter (λ row. is_one_place at (row_place row)) rs)))
+    go : (b : Bool)
+        → length (map (λ row. row.seat)
+        (cond b (r ∷ filter (λ row. is_one_place at (row_place row)) rs)
+        (filter (λ row. is_one_place at (row_place row)) rs)))
         ≡ cond b 1 0 + length (seats_at at rs)
     go true = omega arith
     go false = omega arith
 
 pub has_seats : (at : Place) (r : SeatRow) (rs : List SeatRow) (n : ℕ)
-    → has_number (seats_at at (r ∷ rs)) n ≡ ((is_one_place at (row_place r) && eqb r.seat n) || has_number (seats_at at rs) n)
+    → has_number (seats_at at (r ∷ rs)) n
+    ≡ ((is_one_place at (row_place r) && eqb r.seat n) || has_number (seats_at at rs) n)
 has_seats at r rs n = go (is_one_place at (row_place r))
   where
-    go : (b : Bool) → has_number (map (λ row. row.seat) (cond b (r ∷ filter (λ row. is_one_place at (row_place row)) rs) (filter (λ row. is_one_place at (row_place row)) rs))) n
+    go : (b : Bool)
+        → has_number
+        (map (λ row. row.seat)
+        (cond b (r ∷ filter (λ row. is_one_place at (row_place row)) rs)
+        (filter (λ row. is_one_place at (row_place row)) rs)))
+        n
         ≡ ((b && eqb r.seat n) || has_number (seats_at at rs) n)
     go true = refl
     go false = refl
 
-pub still_taken : (at : Place) (r : SeatRow) (rs : List SeatRow) (n : ℕ) → has_number (seats_at at rs) n ≡ true → has_number (seats_at at (r ∷ rs)) n ≡ true
-still_taken at r rs n h = has_seats at r rs n ∙ or_right (is_one_place at (row_place r) && eqb r.seat n) (has_number (seats_at at rs) n) h
+pub still_taken : (at : Place) (r : SeatRow) (rs : List SeatRow) (n : ℕ)
+    → has_number (seats_at at rs) n ≡ true → has_number (seats_at at (r ∷ rs)) n ≡ true
+still_taken at r rs n h =
+    has_seats at r rs n
+    ∙ or_right (is_one_place at (row_place r) && eqb r.seat n) (has_number (seats_at at rs) n) h
 
 -- ---- the last seat given
 
@@ -132,7 +160,8 @@ pub record IsNext (kept : List SeatRow) (at : Place) (last n : ℕ) : Type 0 whe
   pub free : has_number (seats_at at kept) n ≡ false
   pub between : (k : ℕ) → last < k → k < n → has_number (seats_at at kept) k ≡ true
 
-pub is_next : (kept standing : List SeatRow) (at : Place) (last n : ℕ) → IsLast kept standing at last → IsNext kept at last n → n ≡ least_free (seats_at at standing)
+pub is_next : (kept standing : List SeatRow) (at : Place) (last n : ℕ)
+    → IsLast kept standing at last → IsNext kept at last n → n ≡ least_free (seats_at at standing)
 is_next kept standing at last n was next = is_least (seats_at at standing) n (record {
   low = let h = next.beyond in omega arith;
   free = was.beyond n next.beyond ∙ next.free;
@@ -142,26 +171,36 @@ is_next kept standing at last n was next = is_least (seats_at at standing) n (re
   ];
 })
 
-pub last_here : (kept standing : List SeatRow) (at : Place) (last n : ℕ) (r : SeatRow) → IsLast kept standing at last → IsNext kept at last n
+pub last_here : (kept standing : List SeatRow) (at : Place) (last n : ℕ) (r : SeatRow)
+    → IsLast kept standing at last → IsNext kept at last n
     → is_one_place at (row_place r) ≡ true → r.seat ≡ n → IsLast kept (r ∷ standing) at n
 last_here kept standing at last n r was next here is = record {
   all = λ k low le. elim (cases_eq n k) as (λ _. has_number (seats_at at (r ∷ standing)) k ≡ true) [
-    | inl same ↦ has_seats at r standing k ∙ ap (λ b. b || has_number (seats_at at standing) k) (ap (λ b. b && eqb r.seat k) here ∙ eq-eqb r.seat k (is ∙ same))
-    | inr other ↦ still_taken at r standing k (elim (cases_lt last k) as (λ _. has_number (seats_at at standing) k ≡ true) [
-      | inl past ↦ was.beyond k past ∙ next.between k past (omega arith)
-      | inr within ↦ was.all k low within
-    ])
+    | inl same ↦ has_seats at r standing k
+        ∙ ap (λ b. b || has_number (seats_at at standing) k)
+        (ap (λ b. b && eqb r.seat k) here ∙ eq-eqb r.seat k (is ∙ same))
+    | inr other ↦ still_taken at r standing k
+        (elim (cases_lt last k) as (λ _. has_number (seats_at at standing) k ≡ true) [
+          | inl past ↦ was.beyond k past ∙ next.between k past (omega arith)
+          | inr within ↦ was.all k low within
+        ])
   ];
-  beyond = λ k lt. has_seats at r standing k ∙ ap (λ b. b || has_number (seats_at at standing) k) (ap (λ b. b && eqb r.seat k) here ∙ ne_eqb r.seat k (λ e. omega arith))
+  beyond = λ k lt.
+      has_seats at r standing k
+      ∙ ap (λ b. b || has_number (seats_at at standing) k)
+      (ap (λ b. b && eqb r.seat k) here ∙ ne_eqb r.seat k (λ e. omega arith))
       ∙ was.beyond k (let h = next.beyond in omega arith);
 }
 
 -- a row elsewhere changes nothing
-pub last_there : (kept standing : List SeatRow) (at : Place) (last : ℕ) (r : SeatRow) → IsLast kept standing at last → is_one_place at (row_place r) ≡ false → IsLast kept (r ∷ standing) at last
+pub last_there : (kept standing : List SeatRow) (at : Place) (last : ℕ) (r : SeatRow)
+    → IsLast kept standing at last → is_one_place at (row_place r) ≡ false
+    → IsLast kept (r ∷ standing) at last
 last_there kept standing at last r was there = record {
   all = λ k low le. same k ∙ was.all k low le;
   beyond = λ k lt. same k ∙ was.beyond k lt;
 }
   where
     same : (k : ℕ) → has_number (seats_at at (r ∷ standing)) k ≡ has_number (seats_at at standing) k
-    same k = has_seats at r standing k ∙ ap (λ b. (b && eqb r.seat k) || has_number (seats_at at standing) k) there
+    same k = has_seats at r standing k
+        ∙ ap (λ b. (b && eqb r.seat k) || has_number (seats_at at standing) k) there

@@ -20,36 +20,47 @@ use Rattle.exam_publish.proofs.SeatLemmas.{same_place, length_filter_map}
 use Rattle.exam_publish.proofs.TallyLemmas.{zeros}
 
 -- the rows of the first i entrants, and the rows that stand for those behind them
-pub record AreGiven (xs : List Entrant) (periods rooms i : ℕ) (last : List ℕ) (rows : List SeatRow) : Type 0 where
+pub record AreGiven (xs : List Entrant) (periods rooms i : ℕ) (last : List ℕ)
+    (rows : List SeatRow) : Type 0 where
   pub standing : List SeatRow
   pub few : length standing ≤ length (kept_rows xs) + i
   pub seated : rows ++ rows_beside standing (drop i xs) ≡ rows_for xs
   pub table : AreLast (kept_rows xs) standing periods rooms last
 
-pub none_given : (xs : List Entrant) (periods rooms n : ℕ) (last : List ℕ) (rows : List SeatRow) → last ≡ replicate n 0 → n ≡ periods * rooms → rows ≡ [] → AreGiven xs periods rooms 0 last rows
+pub none_given : (xs : List Entrant) (periods rooms n : ℕ) (last : List ℕ) (rows : List SeatRow)
+    → last ≡ replicate n 0 → n ≡ periods * rooms → rows ≡ [] → AreGiven xs periods rooms 0 last rows
 none_given xs periods rooms n last rows is same none = record {
   standing = kept_rows xs;
   few = omega arith;
   seated = ap (λ rs. rs ++ rows_beside (kept_rows xs) xs) none;
   table = record {
     count = ap length is ∙ length-replicate n 0 ∙ same;
-    each = λ at p r. subst (IsLast (kept_rows xs) (kept_rows xs) at) (sym (ap (λ ys. get_or ys (slot_of rooms at) 0) is ∙ zeros n (slot_of rooms at)))
+    each = λ at p r.
+        subst (IsLast (kept_rows xs) (kept_rows xs) at)
+        (sym (ap (λ ys. get_or ys (slot_of rooms at) 0) is ∙ zeros n (slot_of rooms at)))
         (record { all = λ k low le. absurd (omega arith); beyond = λ k lt. refl });
   };
 }
 
-left : (xs : List Entrant) (i : ℕ) (x : Entrant) → i < length xs → x ≡ get_or xs i x → drop i xs ≡ x ∷ drop (i + 1) xs
+left : (xs : List Entrant) (i : ℕ) (x : Entrant) → i < length xs → x ≡ get_or xs i x
+    → drop i xs ≡ x ∷ drop (i + 1) xs
 left xs i x lt is = at_drop_more (λ ys. ys) xs i x lt ∙ ap (λ y. y ∷ drop (i + 1) xs) (sym is)
 
-pub kept_given : (xs : List Entrant) (periods rooms i : ℕ) (last : List ℕ) (rows more : List SeatRow) (x : Entrant) (row : SeatRow) → AreGiven xs periods rooms i last rows
-    → i < length xs → x ≡ get_or xs i x → x.kept ≡ Some row → more ≡ rows ++ row ∷ [] → AreGiven xs periods rooms (i + 1) last more
+pub kept_given : (xs : List Entrant) (periods rooms i : ℕ) (last : List ℕ)
+    (rows more : List SeatRow) (x : Entrant) (row : SeatRow)
+    → AreGiven xs periods rooms i last rows
+    → i < length xs → x ≡ get_or xs i x → x.kept ≡ Some row → more ≡ rows ++ row ∷ []
+    → AreGiven xs periods rooms (i + 1) last more
 kept_given xs periods rooms i last rows more x row was lt is keeps added = record {
   standing = was.standing;
   few = let h = was.few in omega arith;
   seated = ap (λ rs. rs ++ rows_beside was.standing (drop (i + 1) xs)) added
       ∙ append_assoc rows (row ∷ []) (rows_beside was.standing (drop (i + 1) xs))
       ∙ ap (λ rs. rows ++ rs) (sym (ap (rows_beside was.standing) (left xs i x lt is)
-      ∙ ap (λ o. unwrap_or o (new_row was.standing x) ∷ rows_beside (cond (is_some o) was.standing (new_row was.standing x ∷ was.standing)) (drop (i + 1) xs)) keeps))
+      ∙ ap (λ o. unwrap_or o (new_row was.standing x)
+      ∷ rows_beside (cond (is_some o) was.standing (new_row was.standing x ∷ was.standing))
+      (drop (i + 1) xs))
+      keeps))
       ∙ was.seated;
   table = was.table;
 }
@@ -66,40 +77,57 @@ length_there at (r ∷ rs) =
     one_or_none true = omega arith
     one_or_none false = omega arith
 
-pub last_small : (xs : List Entrant) (periods rooms i n : ℕ) (last : List ℕ) (rows : List SeatRow) (at : Place) → AreGiven xs periods rooms i last rows → at.period < periods → at.room < rooms
+pub last_small : (xs : List Entrant) (periods rooms i n : ℕ) (last : List ℕ)
+    (rows : List SeatRow) (at : Place)
+    → AreGiven xs periods rooms i last rows → at.period < periods → at.room < rooms
     → n ≡ slice_index last (slot_of rooms at) → n ≤ length xs + i
 last_small xs periods rooms i n last rows at was hp hr is =
     let there = was.table.each at hp hr in
-    let taken = le_taken (slice_index last (slot_of rooms at)) (seats_at at was.standing) there.all in
+    let taken = le_taken (slice_index last (slot_of rooms at))
+    (seats_at at was.standing) there.all in
     let long = length_there at was.standing in
     let few = was.few in
     let kept = length_filter_map (λ (x : Entrant). x.kept) xs in
     omega arith
 
 abbrev with_seat : Entrant → ℕ → SeatRow
-with_seat x k = record { student = x.student; exam = x.exam; period = x.place.period; room = x.place.room; seat = k }
+with_seat x k =
+    record { student = x.student; exam = x.exam; period = x.place.period; room = x.place.room; seat = k }
 
-pub new_given : (xs : List Entrant) (held : List Held) (periods rooms i n b : ℕ) (last : List ℕ) (rows more : List SeatRow) (x : Entrant) → AreGiven xs periods rooms i last rows
-    → AreHeld (kept_rows xs) held → i < length xs → x ≡ get_or xs i x → x.kept ≡ None → x.place.period < periods → x.place.room < rooms
+pub new_given : (xs : List Entrant) (held : List Held) (periods rooms i n b : ℕ) (last : List ℕ)
+    (rows more : List SeatRow) (x : Entrant)
+    → AreGiven xs periods rooms i last rows
+    → AreHeld (kept_rows xs) held → i < length xs → x ≡ get_or xs i x → x.kept ≡ None
+    → x.place.period < periods → x.place.room < rooms
     → n ≡ slice_index last (slot_of rooms x.place) → IsNextFree held x.place (n + 1) b
-    → more ≡ rows ++ record { student = x.student; exam = x.exam; period = x.place.period; room = x.place.room; seat = b } ∷ []
+    → more ≡ rows
+    ++ record { student = x.student; exam = x.exam; period = x.place.period; room = x.place.room; seat = b }
+    ∷ []
     → AreGiven xs periods rooms (i + 1) (slice_set last (slot_of rooms x.place) b) more
-new_given xs held periods rooms i n b last rows more x was seats lt is keeps hp hr at_n next added = record {
-  standing = (new_row was.standing x) ∷ was.standing;
-  few = let h = was.few in omega arith;
-  seated = ap (λ rs. rs ++ rows_beside ((new_row was.standing x) ∷ was.standing) (drop (i + 1) xs)) (added ∙ ap (λ k. rows ++ with_seat x k ∷ []) least)
-      ∙ append_assoc rows ((new_row was.standing x) ∷ []) (rows_beside ((new_row was.standing x) ∷ was.standing) (drop (i + 1) xs))
-      ∙ ap (λ rs. rows ++ rs) (sym (ap (rows_beside was.standing) (left xs i x lt is)
-      ∙ ap (λ o. unwrap_or o (new_row was.standing x) ∷ rows_beside (cond (is_some o) was.standing ((new_row was.standing x) ∷ was.standing)) (drop (i + 1) xs)) keeps))
-      ∙ was.seated;
-  table = record {
-    count = length-set last (slot_of rooms x.place) b ∙ was.table.count;
-    each = λ q qp qr. each q qp qr (cases_eq (slot_of rooms q) (slot_of rooms x.place));
-  };
-}
+new_given xs held periods rooms i n b last rows more x was seats lt is keeps hp hr at_n next added =
+    record {
+      standing = (new_row was.standing x) ∷ was.standing;
+      few = let h = was.few in omega arith;
+      seated = ap (λ rs. rs ++ rows_beside ((new_row was.standing x) ∷ was.standing)
+          (drop (i + 1) xs))
+          (added ∙ ap (λ k. rows ++ with_seat x k ∷ []) least)
+          ∙ append_assoc rows ((new_row was.standing x) ∷ [])
+          (rows_beside ((new_row was.standing x) ∷ was.standing) (drop (i + 1) xs))
+          ∙ ap (λ rs. rows ++ rs) (sym (ap (rows_beside was.standing) (left xs i x lt is)
+          ∙ ap (λ o. unwrap_or o (new_row was.standing x)
+          ∷ rows_beside (cond (is_some o) was.standing ((new_row was.standing x) ∷ was.standing))
+          (drop (i + 1) xs))
+          keeps))
+          ∙ was.seated;
+      table = record {
+        count = length-set last (slot_of rooms x.place) b ∙ was.table.count;
+        each = λ q qp qr. each q qp qr (cases_eq (slot_of rooms q) (slot_of rooms x.place));
+      };
+    }
   where
     there : IsLast (kept_rows xs) was.standing x.place n
-    there = subst (IsLast (kept_rows xs) was.standing x.place) (sym at_n) (was.table.each x.place hp hr)
+    there = subst (IsLast (kept_rows xs) was.standing x.place) (sym at_n)
+        (was.table.each x.place hp hr)
 
     behind : IsNext (kept_rows xs) x.place n b
     behind = record {
@@ -114,19 +142,27 @@ new_given xs held periods rooms i n b last rows more x was seats lt is keeps hp 
     within : slot_of rooms x.place < length last
     within = omega (arith, slot_within periods rooms x.place hp hr, was.table.count)
 
-    each : (q : Place) → q.period < periods → q.room < rooms → (slot_of rooms q ≡ slot_of rooms x.place) ⊎ (slot_of rooms q ≡ slot_of rooms x.place → ⊥)
-        → IsLast (kept_rows xs) ((new_row was.standing x) ∷ was.standing) q (get_or (slice_set last (slot_of rooms x.place) b) (slot_of rooms q) 0)
+    each : (q : Place) → q.period < periods → q.room < rooms
+        → (slot_of rooms q ≡ slot_of rooms x.place) ⊎ (slot_of rooms q ≡ slot_of rooms x.place → ⊥)
+        → IsLast (kept_rows xs) ((new_row was.standing x) ∷ was.standing) q
+        (get_or (slice_set last (slot_of rooms x.place) b) (slot_of rooms q) 0)
     each q qp qr (inl same) =
         let parts = same_from_place q.period q.room x.place.period x.place.room rooms qr hr same in
         let one : x.place ≡ q = (λ i. record { period = sym parts.0 i; room = sym parts.1 i }) in
         subst (IsLast (kept_rows xs) ((new_row was.standing x) ∷ was.standing) q)
-        (sym (ap (λ k. get_or (slice_set last (slot_of rooms x.place) b) k 0) same ∙ get_or-set_same last (slot_of rooms x.place) b 0 within))
+        (sym (ap (λ k. get_or (slice_set last (slot_of rooms x.place) b) k 0) same
+        ∙ get_or-set_same last (slot_of rooms x.place) b 0 within))
         (subst (λ z. IsLast (kept_rows xs) ((new_row was.standing x) ∷ was.standing) z b) one
-        (last_here (kept_rows xs) was.standing x.place n b (new_row was.standing x) there behind (same_place x.place) (sym least)))
+        (last_here (kept_rows xs) was.standing x.place n b (new_row was.standing x) there behind
+        (same_place x.place) (sym least)))
     each q qp qr (inr other) =
-        let apart : is_one_place q x.place ≡ false = false_from_ne_true (is_one_place q x.place) (λ one.
+        let apart : is_one_place q x.place ≡ false =
+        false_from_ne_true (is_one_place q x.place) (λ one.
         let parts = and_parts (eqb q.period x.place.period) (eqb q.room x.place.room) one in
-        other (ap₂ (λ a b. a * rooms + b) (eqb-true q.period x.place.period parts.0) (eqb-true q.room x.place.room parts.1)))
+        other (ap₂ (λ a b. a * rooms + b) (eqb-true q.period x.place.period parts.0)
+        (eqb-true q.room x.place.room parts.1)))
         in
-        subst (IsLast (kept_rows xs) ((new_row was.standing x) ∷ was.standing) q) (sym (get_or-set_other last (slot_of rooms x.place) (slot_of rooms q) b 0 other))
-        (last_there (kept_rows xs) was.standing q (get_or last (slot_of rooms q) 0) (new_row was.standing x) (was.table.each q qp qr) apart)
+        subst (IsLast (kept_rows xs) ((new_row was.standing x) ∷ was.standing) q)
+        (sym (get_or-set_other last (slot_of rooms x.place) (slot_of rooms q) b 0 other))
+        (last_there (kept_rows xs) was.standing q (get_or last (slot_of rooms q) 0)
+        (new_row was.standing x) (was.table.each q qp qr) apart)

@@ -13,19 +13,24 @@ use Rattle.exam_publish.specs.Changed.{ascending}
 
 -- ---- chains
 
-pub index_from_chain : {X : Type 0} (R : X → X → Type 0) (xs : List X) → IsChain R xs → AllPairs R xs
+pub index_from_chain : {X : Type 0} (R : X → X → Type 0) (xs : List X)
+    → IsChain R xs → AllPairs R xs
 index_from_chain R [] h = λ i j d l m. absurd (omega arith)
-index_from_chain R (x ∷ xs) h = AllPairs-cons R x xs (All-from_recursion (R x) xs h.0) (index_from_chain R xs h.1)
+index_from_chain R (x ∷ xs) h =
+    AllPairs-cons R x xs (All-from_recursion (R x) xs h.0) (index_from_chain R xs h.1)
 
-pub each_filter : {X : Type 0} (P : X → Type 0) (t : X → Bool) (xs : List X) → AllByRecursion P xs → AllByRecursion P (filter t xs)
+pub each_filter : {X : Type 0} (P : X → Type 0) (t : X → Bool) (xs : List X) → AllByRecursion P xs
+    → AllByRecursion P (filter t xs)
 each_filter P t [] a = tt
 each_filter P t (x ∷ xs) a = go (t x) (each_filter P t xs a.1)
   where
-    go : (b : Bool) → AllByRecursion P (filter t xs) → AllByRecursion P (cond b (x ∷ filter t xs) (filter t xs))
+    go : (b : Bool) → AllByRecursion P (filter t xs)
+        → AllByRecursion P (cond b (x ∷ filter t xs) (filter t xs))
     go true more = (a.0, more)
     go false more = more
 
-pub chain_filter : {X : Type 0} (R : X → X → Type 0) (t : X → Bool) (xs : List X) → IsChain R xs → IsChain R (filter t xs)
+pub chain_filter : {X : Type 0} (R : X → X → Type 0) (t : X → Bool) (xs : List X) → IsChain R xs
+    → IsChain R (filter t xs)
 chain_filter R t [] h = tt
 chain_filter R t (x ∷ xs) h = go (t x) (chain_filter R t xs h.1)
   where
@@ -33,33 +38,39 @@ chain_filter R t (x ∷ xs) h = go (t x) (chain_filter R t xs h.1)
     go true more = (each_filter (R x) t xs h.0, more)
     go false more = more
 
-pub each_map : {X Y : Type 0} (P : Y → Type 0) (f : X → Y) (xs : List X) → AllByRecursion (λ x. P (f x)) xs → AllByRecursion P (map f xs)
+pub each_map : {X Y : Type 0} (P : Y → Type 0) (f : X → Y) (xs : List X)
+    → AllByRecursion (λ x. P (f x)) xs → AllByRecursion P (map f xs)
 each_map P f [] h = tt
 each_map P f (x ∷ xs) h = (h.0, each_map P f xs h.1)
 
-pub chain_map : {X Y : Type 0} (R : Y → Y → Type 0) (f : X → Y) (xs : List X) → IsChain (λ x y. R (f x) (f y)) xs → IsChain R (map f xs)
+pub chain_map : {X Y : Type 0} (R : Y → Y → Type 0) (f : X → Y) (xs : List X)
+    → IsChain (λ x y. R (f x) (f y)) xs → IsChain R (map f xs)
 chain_map R f [] h = tt
 chain_map R f (x ∷ xs) h = (each_map (R (f x)) f xs h.0, chain_map R f xs h.1)
 
 -- ---- tests of a whole list
 
-pub any_map : {X Y : Type 0} (p : Y → Bool) (f : X → Y) (xs : List X) → list_any p (map f xs) ≡ list_any (λ x. p (f x)) xs
+pub any_map : {X Y : Type 0} (p : Y → Bool) (f : X → Y) (xs : List X)
+    → list_any p (map f xs) ≡ list_any (λ x. p (f x)) xs
 any_map p f [] = refl
 any_map p f (x ∷ xs) = ap (λ b. p (f x) || b) (any_map p f xs)
 
-any_cond : (b : Bool) (t x : ℕ) (xs : List ℕ) → has_number (cond b (x ∷ xs) xs) t ≡ ((b && (eqb x t)) || has_number xs t)
+any_cond : (b : Bool) (t x : ℕ) (xs : List ℕ)
+    → has_number (cond b (x ∷ xs) xs) t ≡ ((b && (eqb x t)) || has_number xs t)
 any_cond true t x xs = refl
 any_cond false t x xs = refl
 
 -- a number is left by a filter that it passes
-pub has_filter : (p : ℕ → Bool) (xs : List ℕ) (t : ℕ) → has_number (filter p xs) t ≡ (p t && has_number xs t)
+pub has_filter : (p : ℕ → Bool) (xs : List ℕ) (t : ℕ)
+    → has_number (filter p xs) t ≡ (p t && has_number xs t)
 has_filter p [] t = none (p t)
   where
     none : (b : Bool) → false ≡ (b && false)
     none true = refl
     none false = refl
 has_filter p (x ∷ xs) t =
-    any_cond (p x) t x (filter p xs) ∙ ap (λ b. (p x && eqb x t) || b) (has_filter p xs t) ∙ here (eqb x t) refl
+    any_cond (p x) t x (filter p xs) ∙ ap (λ b. (p x && eqb x t) || b) (has_filter p xs t)
+    ∙ here (eqb x t) refl
   where
     both : (a b : Bool) → ((a && true) || (a && b)) ≡ (a && true)
     both true b = refl
@@ -69,8 +80,10 @@ has_filter p (x ∷ xs) t =
     none true c = refl
     none false c = refl
 
-    here : (b : Bool) → eqb x t ≡ b → ((p x && b) || (p t && has_number xs t)) ≡ (p t && (b || has_number xs t))
-    here true e = ap (λ n. (p n && true) || (p t && has_number xs t)) (eqb-true x t e) ∙ both (p t) (has_number xs t)
+    here : (b : Bool) → eqb x t ≡ b → ((p x && b) || (p t && has_number xs t))
+        ≡ (p t && (b || has_number xs t))
+    here true e = ap (λ n. (p n && true) || (p t && has_number xs t)) (eqb-true x t e)
+        ∙ both (p t) (has_number xs t)
     here false e = none (p x) (p t && has_number xs t)
 
 -- ---- ascending lists
@@ -85,7 +98,9 @@ chain_from_ascending (x ∷ xs) h =
   where
     above : (ys : List ℕ) → ((j : ℕ) → j < length ys → x < get_or ys j 0) → All (λ y. x < y) ys
     above [] k = λ i d l. absurd (omega arith)
-    above (y ∷ ys) k = All-from_recursion (λ y. x < y) (y ∷ ys) (k 0 (omega arith), recursion_from_All (λ y. x < y) ys (above ys (λ j l. k (suc j) (omega arith))))
+    above (y ∷ ys) k =
+        All-from_recursion (λ y. x < y) (y ∷ ys)
+        (k 0 (omega arith), recursion_from_All (λ y. x < y) ys (above ys (λ j l. k (suc j) (omega arith))))
 
 -- the numbers stay
 pub has_ascending : (xs : List ℕ) (t : ℕ) → has_number (ascending xs) t ≡ has_number xs t
@@ -100,8 +115,10 @@ pub chain_ascending : (xs : List ℕ) → IsChain (λ x y. x < y) (ascending xs)
 chain_ascending xs = chain_from_ascending (ascending xs) (ascends xs)
 
 -- the one ascending list of these numbers
-pub is_ascending : (xs ys : List ℕ) → IsAscending ys → ((t : ℕ) → has_number ys t ≡ has_number xs t) → ys ≡ ascending xs
-is_ascending xs ys up same = same_list ys (ascending xs) up (ascends xs) (λ t. same t ∙ sym (has_ascending xs t))
+pub is_ascending : (xs ys : List ℕ) → IsAscending ys → ((t : ℕ) → has_number ys t ≡ has_number xs t)
+    → ys ≡ ascending xs
+is_ascending xs ys up same =
+    same_list ys (ascending xs) up (ascends xs) (λ t. same t ∙ sym (has_ascending xs t))
 
 -- what is left without repeats has each number
 pub has_dedup : (xs : List ℕ) (t : ℕ) → has_number (dedup nat_eq xs) t ≡ has_number xs t
@@ -110,7 +127,8 @@ has_dedup xs t =
     (λ h. moved (dedup nat_eq xs) xs (λ x there. Contains-from_dedup nat_eq xs x there) h)
     (λ h. moved xs (dedup nat_eq xs) (λ x there. Contains-dedup_nat xs x there) h)
   where
-    moved : (xs ys : List ℕ) → ((x : ℕ) → Contains xs x → Contains ys x) → has_number xs t ≡ true → has_number ys t ≡ true
+    moved : (xs ys : List ℕ) → ((x : ℕ) → Contains xs x → Contains ys x) → has_number xs t ≡ true
+        → has_number ys t ≡ true
     moved xs ys keeps h =
         let any = Any-from_list_any (λ x. eqb x t) xs h in
         let there = keeps any.1 (any.0, any.2, any.3) in

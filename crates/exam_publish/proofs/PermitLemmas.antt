@@ -16,47 +16,62 @@ use Rattle.exam_publish.specs.Permit.{first_unplaced, publish_fault}
 
 first_is : (T : Placing) (e : ℕ) → e ≤ length T → ((k : ℕ) → k < e → IsSome (place_of T k))
     → (e < length T → place_of T e ≡ None) → position_or_len is_none T ≡ e
-first_is T e within below here = position_or_len_is is_none T e None within (λ k l. ap not (below k l)) (λ l. ap is_none (here l))
+first_is T e within below here =
+    position_or_len_is is_none T e None within (λ k l. ap not (below k l))
+    (λ l. ap is_none (here l))
 
 -- each exam has a place
-pub none_unplaced : (T : Placing) → ((e : ℕ) → e < length T → IsSome (place_of T e)) → first_unplaced T ≡ None
+pub none_unplaced : (T : Placing) → ((e : ℕ) → e < length T → IsSome (place_of T e))
+    → first_unplaced T ≡ None
 none_unplaced T all =
-    ap (λ n. cond (nat_lt n (length T)) (Some n) None) (first_is T (length T) (omega arith) all (λ l. absurd (omega arith)))
+    ap (λ n. cond (nat_lt n (length T)) (Some n) None)
+    (first_is T (length T) (omega arith) all (λ l. absurd (omega arith)))
     ∙ ap (λ b. cond b (Some (length T)) None) (le-ltb (length T) (length T) (omega arith))
 
 -- an exam has none
 pub some_unplaced : (T : Placing) (e : ℕ) → IsFirstUnplaced T e → first_unplaced T ≡ Some e
 some_unplaced T e h =
     let within = h.exists in
-    ap (λ n. cond (nat_lt n (length T)) (Some n) None) (first_is T e (omega arith) h.placed_below (λ _. h.unplaced))
+    ap (λ n. cond (nat_lt n (length T)) (Some n) None)
+    (first_is T e (omega arith) h.placed_below (λ _. h.unplaced))
     ∙ ap (λ b. cond b (Some e) None) (lt-ltb e (length T) within)
 
-pub all_placed : (T : Placing) → first_unplaced T ≡ None → (e : ℕ) → e < length T → IsSome (place_of T e)
+pub all_placed : (T : Placing) → first_unplaced T ≡ None → (e : ℕ) → e < length T
+    → IsSome (place_of T e)
 all_placed T none e within =
     let n = position_or_len is_none T in
     elim (cases_lt n (length T)) as (λ _. IsSome (place_of T e)) [
-      | inl less ↦ absurd (none-some n (sym none ∙ ap (λ b. cond b (Some n) None) (lt-ltb n (length T) less)))
-      | inr past ↦ not-false (is_some (place_of T e)) (fails_before_first is_none T e None (omega arith))
+      | inl less ↦
+          absurd (none-some n
+          (sym none ∙ ap (λ b. cond b (Some n) None) (lt-ltb n (length T) less)))
+      | inr past ↦
+          not-false (is_some (place_of T e)) (fails_before_first is_none T e None (omega arith))
     ]
 
 -- without a refusal there is neither an exam without a place nor a breach
-pub neither : (e : Option ℕ) (b : Option Breach) → publish_fault e b ≡ None → (e ≡ None) × (b ≡ None)
+pub neither : (e : Option ℕ) (b : Option Breach) → publish_fault e b ≡ None
+    → (e ≡ None) × (b ≡ None)
 neither None None h = (refl, refl)
 neither None (Some b) h = absurd (none-some (Broken b) (sym h))
 neither (Some e) b h = absurd (none-some (Unplaced e) (sym h))
 
 -- where there is no first breach, there is none
-pub none_broken : (I : Session) (E : Enrolled) (T : Placing) → length T ≡ length I.exams → slice_get (breaches_of I E T) 0 ≡ None → (b : Breach) → is_breach I E T b ≡ false
+pub none_broken : (I : Session) (E : Enrolled) (T : Placing) → length T ≡ length I.exams
+    → slice_get (breaches_of I E T) 0 ≡ None → (b : Breach) → is_breach I E T b ≡ false
 none_broken I E T same none b =
-    false_from_ne_true (is_breach I E T b) (λ h. not_there (breaches_of I E T) none ((breaches_have I E T same b).1 h))
+    false_from_ne_true (is_breach I E T b)
+    (λ h. not_there (breaches_of I E T) none ((breaches_have I E T same b).1 h))
   where
     not_there : (xs : List Breach) → slice_get xs 0 ≡ None → Contains xs b → ⊥
     not_there [] h there = let l = there.1 in absurd (omega arith)
     not_there (x ∷ xs) h there = absurd (none-some x (sym h))
 
 -- the first breach is one
-pub first_broken : (I : Session) (E : Enrolled) (T : Placing) (b : Breach) → length T ≡ length I.exams → slice_get (breaches_of I E T) 0 ≡ Some b → is_breach I E T b ≡ true
-first_broken I E T b same first = (breaches_have I E T same b).0 (at_front (breaches_of I E T) first)
+pub first_broken : (I : Session) (E : Enrolled) (T : Placing) (b : Breach)
+    → length T ≡ length I.exams → slice_get (breaches_of I E T) 0 ≡ Some b
+    → is_breach I E T b ≡ true
+first_broken I E T b same first =
+    (breaches_have I E T same b).0 (at_front (breaches_of I E T) first)
   where
     at_front : (xs : List Breach) → slice_get xs 0 ≡ Some b → Contains xs b
     at_front [] h = absurd (none-some b h)

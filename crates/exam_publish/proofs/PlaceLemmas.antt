@@ -17,7 +17,9 @@ row_exists T row at = elim (cases_lt row.exam (length T)) as (λ _. row.exam < l
   | inr past ↦ absurd (none-some (row_place row) (sym (get_or_past T row.exam None past) ∙ at))
 ]
 
-pub rows_exist : (I : Session) (rows : List SeatRow) (T : Placing) → ArePublishedRows I rows T → AllByRecursion (λ row. row.exam < length I.exams) rows
+pub rows_exist : (I : Session) (rows : List SeatRow) (T : Placing) → ArePublishedRows I rows T
+    → AllByRecursion (λ row. row.exam < length I.exams) rows
 rows_exist I rows T are =
     subst (λ n. AllByRecursion (λ row. row.exam < n) rows) are.exams
-    (each_weaker (IsAtExam T) (λ row. row.exam < length T) (row_exists T) rows (recursion_from_All (IsAtExam T) rows are.at_exams))
+    (each_weaker (IsAtExam T) (λ row. row.exam < length T) (row_exists T) rows
+    (recursion_from_All (IsAtExam T) rows are.at_exams))

@@ -19,7 +19,8 @@ use Rattle.exam_publish.proofs.PlaceLemmas.{rows_exist}
 use Rattle.exam_publish.proofs.RowLemmas.{pairs_in, are_enrolments, rows_numbered}
 use Rattle.exam_publish.proofs.SeatLemmas.{are_seats}
 
-pub same_enrolments : (I : Session) (E : Enrolled) (T : Placing) (old : List SeatRow) → IsInstance I → AreEnrolments E → Fits I E T → publish_refusal I E T ≡ None → AreSeated I old
+pub same_enrolments : (I : Session) (E : Enrolled) (T : Placing) (old : List SeatRow) → IsInstance I
+    → AreEnrolments E → Fits I E T → publish_refusal I E T ≡ None → AreSeated I old
     → enrolled_in (length I.exams) (seat_rows (pairs_of E) T old) ≡ E
 same_enrolments I E T old known enrolled fits permitted was =
     let n = length I.exams in
@@ -29,7 +30,11 @@ same_enrolments I E T old known enrolled fits permitted was =
     let sound = are.published in
     let order = chain_from_index RowBefore rows sound.in_order in
     let exist = rows_exist I rows T sound in
-    let made = are_enrolments n rows (omega (arith, known.limits.counts.0.0)) (omega (arith, known.limits.counts.0.1)) sound.few order exist (rows_numbered E rows enrolled are.pairs) in
+    let made = are_enrolments n rows (omega (arith, known.limits.counts.0.0))
+    (omega (arith, known.limits.counts.0.1)) sound.few order exist
+    (rows_numbered E rows enrolled are.pairs) in
     let pairs : pairs_of again ≡ pairs_of E = pairs_in n rows order exist ∙ are.pairs in
-    same_set again E (length-map-range_with_len (students_in rows) 0 n ∙ sym fits.enrolments) made.ascending enrolled.ascending
-    (λ s e. sym ((are_pairs again made).members s e) ∙ ap (list_any (is_pair s e)) pairs ∙ (are_pairs E enrolled).members s e)
+    same_set again E (length-map-range_with_len (students_in rows) 0 n ∙ sym fits.enrolments)
+    made.ascending enrolled.ascending
+    (λ s e. sym ((are_pairs again made).members s e) ∙ ap (list_any (is_pair s e)) pairs
+    ∙ (are_pairs E enrolled).members s e)

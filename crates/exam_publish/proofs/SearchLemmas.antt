@@ -20,85 +20,119 @@ use Rattle.exam_publish.specs.Seating.{held_cmp, is_held}
 use Rattle.exam_publish.specs.Entrants.{is_row_at}
 
 -- a search tells whether an equal element is there
-found : {X K : Type 0} (R : K → K → Ordering) (o : IsTotalOrder R) (key : X → K) (xs : List X) (x : K) (d : X) (r : Result ℕ ℕ) → IsSortedBy (λ a b. is_lt (R (key a) (key b))) xs
-    → IsSearchInRange r (length xs) → IsBinarySearchResult (λ y. R (key y) x) xs r → is_ok r ≡ list_any (λ y. is_eq (R (key y) x)) xs
-found R o key xs x d (Ok i) sorted bound is = sym (list_any_at (λ y. is_eq (R (key y) x)) xs i d bound (ap is_eq (is d)))
+found : {X K : Type 0} (R : K → K → Ordering) (o : IsTotalOrder R) (key : X → K) (xs : List X)
+    (x : K) (d : X) (r : Result ℕ ℕ)
+    → IsSortedBy (λ a b. is_lt (R (key a) (key b))) xs
+    → IsSearchInRange r (length xs) → IsBinarySearchResult (λ y. R (key y) x) xs r
+    → is_ok r ≡ list_any (λ y. is_eq (R (key y) x)) xs
+found R o key xs x d (Ok i) sorted bound is =
+    sym (list_any_at (λ y. is_eq (R (key y) x)) xs i d bound (ap is_eq (is d)))
 found R o key xs x d (Err i) sorted bound is =
     let parts = is (searchable_from_sorted o key xs x sorted) in
-    sym (list_any_none (λ y. is_eq (R (key y) x)) xs (λ k e lt. elim (cases_lt k i) as (λ _. is_eq (R (key (get_or xs k e)) x) ≡ false) [
+    sym (list_any_none (λ y. is_eq (R (key y) x)) xs
+    (λ k e lt. elim (cases_lt k i) as (λ _. is_eq (R (key (get_or xs k e)) x) ≡ false) [
       | inl below ↦ ap is_eq (parts.0 k e (omega arith) below)
       | inr above ↦ ap is_eq (parts.1 k e above lt)
     ]))
 
-any_same : {X : Type 0} (p q : X → Bool) → ((x : X) → p x ≡ q x) → (xs : List X) → list_any p xs ≡ list_any q xs
+any_same : {X : Type 0} (p q : X → Bool) → ((x : X) → p x ≡ q x) → (xs : List X)
+    → list_any p xs ≡ list_any q xs
 any_same p q h xs = λ i. list_any (λ x. h x i) xs
 
 -- ---- seats in order
 
 held_total : IsTotalOrder held_cmp
-held_total = then_total (on_total (λ (x : Held). x.period) nat_cmp_total) (then_total (on_total (λ (x : Held). x.room) nat_cmp_total) (on_total (λ (x : Held). x.seat) nat_cmp_total))
+held_total =
+    then_total (on_total (λ (x : Held). x.period) nat_cmp_total)
+    (then_total (on_total (λ (x : Held). x.room) nat_cmp_total)
+    (on_total (λ (x : Held). x.seat) nat_cmp_total))
 
-is_this : (x h : Held) → is_eq (held_cmp h x) ≡ is_held (record { period = x.period; room = x.room }) x.seat h
+is_this : (x h : Held) → is_eq (held_cmp h x)
+    ≡ is_held (record { period = x.period; room = x.room }) x.seat h
 is_this x h = grind (arith, nat_tests)
 
-pub held_found : (xs : List Held) (x : Held) (r : Result ℕ ℕ) → IsSorted held_cmp xs → IsSearchInRange r (length xs) → IsBinarySearchResult (λ y. held_cmp y x) xs r
+pub held_found : (xs : List Held) (x : Held) (r : Result ℕ ℕ) → IsSorted held_cmp xs
+    → IsSearchInRange r (length xs) → IsBinarySearchResult (λ y. held_cmp y x) xs r
     → is_ok r ≡ list_any (is_held (record { period = x.period; room = x.room }) x.seat) xs
-held_found xs x r sorted bound is = found held_cmp held_total (λ y. y) xs x x r sorted bound is ∙ any_same (λ y. is_eq (held_cmp y x)) (is_held (record { period = x.period; room = x.room }) x.seat) (is_this x) xs
+held_found xs x r sorted bound is =
+    found held_cmp held_total (λ y. y) xs x x r sorted bound is
+    ∙ any_same (λ y. is_eq (held_cmp y x))
+    (is_held (record { period = x.period; room = x.room }) x.seat) (is_this x) xs
 
 -- a seat that is held is no greater than all that are
-pub held_small : (xs : List Held) (at : Place) (n : ℕ) → All (λ (h : Held). h.seat ≤ 100000) xs → list_any (is_held at n) xs ≡ true → n ≤ 100000
+pub held_small : (xs : List Held) (at : Place) (n : ℕ) → All (λ (h : Held). h.seat ≤ 100000) xs
+    → list_any (is_held at n) xs ≡ true → n ≤ 100000
 held_small xs at n small any =
     let there = Any-from_list_any (is_held at n) xs any in
     let x : Held = there.1 in
-    let low : x.seat ≤ 100000 = subst (λ (h : Held). h.seat ≤ 100000) there.3 (small there.0 x there.2) in
+    let low : x.seat ≤ 100000 =
+    subst (λ (h : Held). h.seat ≤ 100000) there.3 (small there.0 x there.2) in
     let parts = and_parts (eqb x.period at.period) (eqb x.room at.room && eqb x.seat n) there.4 in
     let seat = eqb-true x.seat n (and_parts (eqb x.room at.room) (eqb x.seat n) parts.1).1 in
     omega arith
 
 -- ---- rows in order
 
-find_none : {X : Type 0} (t : X → Bool) (xs : List X) → ((k : ℕ) (d : X) → k < length xs → t (get_or xs k d) ≡ false) → find t xs ≡ None
+find_none : {X : Type 0} (t : X → Bool) (xs : List X)
+    → ((k : ℕ) (d : X) → k < length xs → t (get_or xs k d) ≡ false) → find t xs ≡ None
 find_none t [] h = refl
 find_none {X} t (x ∷ xs) h =
-    ap (λ b. cond b (Some x) (find t xs)) (h 0 x (omega arith)) ∙ find_none t xs (λ k d lt. h (suc k) d (omega arith))
+    ap (λ b. cond b (Some x) (find t xs)) (h 0 x (omega arith))
+    ∙ find_none t xs (λ k d lt. h (suc k) d (omega arith))
 
-find_one : {X : Type 0} (t : X → Bool) (xs : List X) (i : ℕ) (x : X) → i < length xs → x ≡ get_or xs i x → t x ≡ true
+find_one : {X : Type 0} (t : X → Bool) (xs : List X) (i : ℕ) (x : X) → i < length xs
+    → x ≡ get_or xs i x → t x ≡ true
     → ((k : ℕ) (d : X) → k < i → t (get_or xs k d) ≡ false) → find t xs ≡ Some x
 find_one t [] i x lt is here before = absurd (omega arith)
-find_one t (y ∷ ys) zero x lt is here before = ap (λ b. cond b (Some y) (find t ys)) (ap t (sym is) ∙ here) ∙ ap (λ z. Some z) (sym is)
+find_one t (y ∷ ys) zero x lt is here before =
+    ap (λ b. cond b (Some y) (find t ys)) (ap t (sym is) ∙ here) ∙ ap (λ z. Some z) (sym is)
 find_one t (y ∷ ys) (suc i) x lt is here before =
-    ap (λ b. cond b (Some y) (find t ys)) (before 0 x (omega arith)) ∙ find_one t ys i x (omega arith) is here (λ k d l. before (suc k) d (omega arith))
+    ap (λ b. cond b (Some y) (find t ys)) (before 0 x (omega arith))
+    ∙ find_one t ys i x (omega arith) is here (λ k d l. before (suc k) d (omega arith))
 
 key_total : IsTotalOrder (λ (a b : ℕ × ℕ). ordering_then (nat_cmp a.0 b.0) (nat_cmp a.1 b.1))
-key_total = then_total (on_total (λ (a : ℕ × ℕ). a.0) nat_cmp_total) (on_total (λ (a : ℕ × ℕ). a.1) nat_cmp_total)
+key_total = then_total (on_total (λ (a : ℕ × ℕ). a.0) nat_cmp_total)
+    (on_total (λ (a : ℕ × ℕ). a.1) nat_cmp_total)
 
 abbrev key : SeatRow → ℕ × ℕ
 key row = (row.exam, row.student)
 
-not_less : (r q : SeatRow) → RowBefore r q → is_lt (ordering_then (nat_cmp q.exam r.exam) (nat_cmp q.student r.student)) ≡ false
-not_less r q h = elim h as (λ _. is_lt (ordering_then (nat_cmp q.exam r.exam) (nat_cmp q.student r.student)) ≡ false) [
-  | inl less ↦ first less
-  | inr tie ↦ second tie.0 tie.1
-]
+not_less : (r q : SeatRow) → RowBefore r q
+    → is_lt (ordering_then (nat_cmp q.exam r.exam) (nat_cmp q.student r.student)) ≡ false
+not_less r q h =
+    elim h as (λ _. is_lt (ordering_then (nat_cmp q.exam r.exam) (nat_cmp q.student r.student))
+    ≡ false) [
+      | inl less ↦ first less
+      | inr tie ↦ second tie.0 tie.1
+    ]
   where
-    first : r.exam < q.exam → is_lt (ordering_then (nat_cmp q.exam r.exam) (nat_cmp q.student r.student)) ≡ false
+    first : r.exam < q.exam
+        → is_lt (ordering_then (nat_cmp q.exam r.exam) (nat_cmp q.student r.student)) ≡ false
     first less = grind (arith, nat_tests)
 
-    second : r.exam ≡ q.exam → r.student < q.student → is_lt (ordering_then (nat_cmp q.exam r.exam) (nat_cmp q.student r.student)) ≡ false
+    second : r.exam ≡ q.exam → r.student < q.student
+        → is_lt (ordering_then (nat_cmp q.exam r.exam) (nat_cmp q.student r.student)) ≡ false
     second same less = grind (arith, nat_tests)
 
-sorted_rows : (xs : List SeatRow) → RowsInOrder xs → IsSortedBy (λ (a b : SeatRow). is_lt (ordering_then (nat_cmp a.exam b.exam) (nat_cmp a.student b.student))) xs
-sorted_rows xs order k d low lt = not_less (get_or xs k d) (get_or xs (k + 1) d) (order k (k + 1) d (omega arith) lt)
+sorted_rows : (xs : List SeatRow) → RowsInOrder xs
+    → IsSortedBy
+    (λ (a b : SeatRow). is_lt (ordering_then (nat_cmp a.exam b.exam) (nat_cmp a.student b.student)))
+    xs
+sorted_rows xs order k d low lt =
+    not_less (get_or xs k d) (get_or xs (k + 1) d) (order k (k + 1) d (omega arith) lt)
 
 -- a row of another pair is not the one that is looked for
-other_row : (p : Pair) (at : Place) (row : SeatRow) → is_eq (ordering_then (nat_cmp row.exam p.exam) (nat_cmp row.student p.student)) ≡ false → is_row_at p at row ≡ false
+other_row : (p : Pair) (at : Place) (row : SeatRow)
+    → is_eq (ordering_then (nat_cmp row.exam p.exam) (nat_cmp row.student p.student)) ≡ false
+    → is_row_at p at row ≡ false
 other_row p at row h =
     false_from_ne_true (is_row_at p at row) (λ it.
     let parts = and_parts (is_pair row.student row.exam p) (is_one_place at (row_place row)) it in
     let pair = and_parts (eqb p.student row.student) (eqb p.exam row.exam) parts.0 in
     clash (eqb-true p.student row.student pair.0) (eqb-true p.exam row.exam pair.1))
   where
-    tied : row.student ≡ p.student → row.exam ≡ p.exam → true ≡ is_eq (ordering_then (nat_cmp row.exam p.exam) (nat_cmp row.student p.student))
+    tied : row.student ≡ p.student → row.exam ≡ p.exam
+        → true ≡ is_eq (ordering_then (nat_cmp row.exam p.exam) (nat_cmp row.student p.student))
     tied s e = grind (arith, nat_tests)
 
     clash : p.student ≡ row.student → p.exam ≡ row.exam → ⊥
@@ -108,26 +142,34 @@ none_there : (a b : Bool) → b ≡ false → (a && b) ≡ false
 none_there true b h = h
 none_there false b h = refl
 
-pair_of : (row : SeatRow) (p : Pair) → ordering_then (nat_cmp row.exam p.exam) (nat_cmp row.student p.student) ≡ Equal → is_pair row.student row.exam p ≡ true
+pair_of : (row : SeatRow) (p : Pair)
+    → ordering_then (nat_cmp row.exam p.exam) (nat_cmp row.student p.student) ≡ Equal
+    → is_pair row.student row.exam p ≡ true
 pair_of row p h = grind (arith, nat_tests, h)
 
-other_pair : (p : Pair) (at : Place) (q row : SeatRow) → is_pair row.student row.exam p ≡ true → RowBefore q row ⊎ RowBefore row q → is_row_at p at q ≡ false
+other_pair : (p : Pair) (at : Place) (q row : SeatRow) → is_pair row.student row.exam p ≡ true
+    → RowBefore q row ⊎ RowBefore row q → is_row_at p at q ≡ false
 other_pair p at q row mine apart =
     let of = and_parts (eqb p.student row.student) (eqb p.exam row.exam) mine in
     let s = eqb-true p.student row.student of.0 in
     let e = eqb-true p.exam row.exam of.1 in
     false_from_ne_true (is_row_at p at q) (λ it.
-    let pair = and_parts (eqb p.student q.student) (eqb p.exam q.exam) (and_parts (is_pair q.student q.exam p) (is_one_place at (row_place q)) it).0 in
+    let pair = and_parts (eqb p.student q.student) (eqb p.exam q.exam)
+    (and_parts (is_pair q.student q.exam p) (is_one_place at (row_place q)) it).0 in
     clash s e (eqb-true p.student q.student pair.0) (eqb-true p.exam q.exam pair.1) apart)
   where
-    clash : p.student ≡ row.student → p.exam ≡ row.exam → p.student ≡ q.student → p.exam ≡ q.exam → RowBefore q row ⊎ RowBefore row q → ⊥
+    clash : p.student ≡ row.student → p.exam ≡ row.exam → p.student ≡ q.student → p.exam ≡ q.exam
+        → RowBefore q row ⊎ RowBefore row q → ⊥
     clash a b c d h = elim h as (λ _. ⊥) [
-      | inl before ↦ elim before as (λ _. ⊥) [ inl less ↦ absurd (omega arith) | inr tie ↦ absurd (omega (arith, tie.1)) ]
-      | inr after ↦ elim after as (λ _. ⊥) [ inl less ↦ absurd (omega arith) | inr tie ↦ absurd (omega (arith, tie.1)) ]
+      | inl before ↦ elim before as (λ _. ⊥)
+          [ inl less ↦ absurd (omega arith) | inr tie ↦ absurd (omega (arith, tie.1)) ]
+      | inr after ↦ elim after as (λ _. ⊥)
+          [ inl less ↦ absurd (omega arith) | inr tie ↦ absurd (omega (arith, tie.1)) ]
     ]
 
 -- what a search by the pair says of the row that is looked for
-pub row_found : (xs : List SeatRow) (p : Pair) (at : Place) (i : ℕ) (row : SeatRow) → RowsInOrder xs → i < length xs → row ≡ get_or xs i row
+pub row_found : (xs : List SeatRow) (p : Pair) (at : Place) (i : ℕ) (row : SeatRow) → RowsInOrder xs
+    → i < length xs → row ≡ get_or xs i row
     → ordering_then (nat_cmp row.exam p.exam) (nat_cmp row.student p.student) ≡ Equal
     → find (is_row_at p at) xs ≡ cond (is_one_place at (row_place row)) (Some row) None
 row_found xs p at i row order lt is equal = go (is_one_place at (row_place row)) refl
@@ -135,26 +177,49 @@ row_found xs p at i row order lt is equal = go (is_one_place at (row_place row))
     mine : is_pair row.student row.exam p ≡ true
     mine = pair_of row p equal
 
-    others : (k : ℕ) (d : SeatRow) → k < length xs → (k ≡ i → ⊥) → is_row_at p at (get_or xs k d) ≡ false
+    others : (k : ℕ) (d : SeatRow) → k < length xs → (k ≡ i → ⊥)
+        → is_row_at p at (get_or xs k d) ≡ false
     others k d within other =
         let here : row ≡ get_or xs i d = is ∙ get_or_default xs i row d lt in
         elim (cases_lt k i) as (λ _. is_row_at p at (get_or xs k d) ≡ false) [
-          | inl below ↦ other_pair p at (get_or xs k d) row mine (inl (subst (RowBefore (get_or xs k d)) (sym here) (order k i d below lt)))
-          | inr above ↦ other_pair p at (get_or xs k d) row mine (inr (subst (λ r. RowBefore r (get_or xs k d)) (sym here) (order i k d (omega arith) within)))
+          | inl below ↦ other_pair p at (get_or xs k d) row mine
+              (inl (subst (RowBefore (get_or xs k d)) (sym here) (order k i d below lt)))
+          | inr above ↦
+              other_pair p at (get_or xs k d) row mine
+              (inr (subst (λ r. RowBefore r (get_or xs k d)) (sym here)
+              (order i k d (omega arith) within)))
         ]
 
-    go : (b : Bool) → is_one_place at (row_place row) ≡ b → find (is_row_at p at) xs ≡ cond b (Some row) None
-    go true here = find_one (is_row_at p at) xs i row lt is (and_from (is_pair row.student row.exam p) (is_one_place at (row_place row)) mine here) (λ k d below. others k d (omega arith) (λ e. omega arith))
-    go false away = find_none (is_row_at p at) xs (λ k d within. elim (cases_eq k i) as (λ _. is_row_at p at (get_or xs k d) ≡ false) [
-      | inl same ↦ ap (λ n. is_row_at p at (get_or xs n d)) same ∙ ap (is_row_at p at) (sym (is ∙ get_or_default xs i row d lt)) ∙ none_there (is_pair row.student row.exam p) (is_one_place at (row_place row)) away
-      | inr other ↦ others k d within other
-    ])
+    go : (b : Bool) → is_one_place at (row_place row) ≡ b
+        → find (is_row_at p at) xs ≡ cond b (Some row) None
+    go true here =
+        find_one (is_row_at p at) xs i row lt is
+        (and_from (is_pair row.student row.exam p) (is_one_place at (row_place row)) mine here)
+        (λ k d below. others k d (omega arith) (λ e. omega arith))
+    go false away =
+        find_none (is_row_at p at) xs
+        (λ k d within. elim (cases_eq k i) as (λ _. is_row_at p at (get_or xs k d) ≡ false) [
+          | inl same ↦ ap (λ n. is_row_at p at (get_or xs n d)) same
+              ∙ ap (is_row_at p at) (sym (is ∙ get_or_default xs i row d lt))
+              ∙ none_there (is_pair row.student row.exam p) (is_one_place at (row_place row)) away
+          | inr other ↦ others k d within other
+        ])
 
 pub no_row : (xs : List SeatRow) (p : Pair) (at : Place) (i : ℕ) → RowsInOrder xs
-    → IsBinarySearchResult (λ (y : SeatRow). ordering_then (nat_cmp y.exam p.exam) (nat_cmp y.student p.student)) xs (Err i) → find (is_row_at p at) xs ≡ None
+    → IsBinarySearchResult
+    (λ (y : SeatRow). ordering_then (nat_cmp y.exam p.exam) (nat_cmp y.student p.student)) xs
+    (Err i)
+    → find (is_row_at p at) xs ≡ None
 no_row xs p at i order is =
-    let parts = is (searchable_from_sorted key_total key xs (p.exam, p.student) (sorted_rows xs order)) in
-    find_none (is_row_at p at) xs (λ k d lt. other_row p at (get_or xs k d) (elim (cases_lt k i) as (λ _. is_eq (ordering_then (nat_cmp (get_or xs k d).exam p.exam) (nat_cmp (get_or xs k d).student p.student)) ≡ false) [
+    let parts = is
+    (searchable_from_sorted key_total key xs (p.exam, p.student) (sorted_rows xs order)) in
+    find_none (is_row_at p at) xs
+    (λ k d lt. other_row p at (get_or xs k d)
+    (elim (cases_lt k i)
+    as (λ _. is_eq
+    (ordering_then (nat_cmp (get_or xs k d).exam p.exam)
+    (nat_cmp (get_or xs k d).student p.student))
+    ≡ false) [
       | inl below ↦ ap is_eq (parts.0 k d (omega arith) below)
       | inr above ↦ ap is_eq (parts.1 k d above lt)
     ]))

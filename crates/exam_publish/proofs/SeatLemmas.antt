@@ -37,11 +37,13 @@ use Rattle.exam_publish.proofs.SeatingLemmas.{length_pairs}
 
 -- ---- along a list of what may be missing
 
-each_filter_map : {X Y : Type 0} (P : Y → Type 0) (f : X → Option Y) (xs : List X) → AllByRecursion (λ x. IfSome (f x) P) xs → AllByRecursion P (filter_map f xs)
+each_filter_map : {X Y : Type 0} (P : Y → Type 0) (f : X → Option Y) (xs : List X)
+    → AllByRecursion (λ x. IfSome (f x) P) xs → AllByRecursion P (filter_map f xs)
 each_filter_map P f [] h = tt
 each_filter_map P f (x ∷ xs) h = go (f x) h.0 (each_filter_map P f xs h.1)
   where
-    go : (o : Option _) → IfSome o P → AllByRecursion P (filter_map f xs) → AllByRecursion P (cons_option o (filter_map f xs))
+    go : (o : Option _) → IfSome o P → AllByRecursion P (filter_map f xs)
+        → AllByRecursion P (cons_option o (filter_map f xs))
     go None k more = more
     go (Some y) k more = (k, more)
 
@@ -50,7 +52,8 @@ chain_filter_map : {X Y : Type 0} (R : Y → Y → Type 0) (f : X → Option Y) 
 chain_filter_map R f [] h = tt
 chain_filter_map {X} R f (x ∷ xs) h = go (f x) h.0 (chain_filter_map R f xs h.1)
   where
-    go : (o : Option _) → AllByRecursion (λ (y : X). IfSome o (λ r. IfSome (f y) (R r))) xs → IsChain R (filter_map f xs) → IsChain R (cons_option o (filter_map f xs))
+    go : (o : Option _) → AllByRecursion (λ (y : X). IfSome o (λ r. IfSome (f y) (R r))) xs
+        → IsChain R (filter_map f xs) → IsChain R (cons_option o (filter_map f xs))
     go None k more = more
     go (Some r) k more = (each_filter_map (R r) f xs k, more)
 
@@ -58,41 +61,50 @@ pub each_all : {X : Type 0} (P : X → Type 0) → ((x : X) → P x) → (xs : L
 each_all P h [] = tt
 each_all P h (x ∷ xs) = (h x, each_all P h xs)
 
-both_each : {X : Type 0} (P Q : X → Type 0) (xs : List X) → AllByRecursion P xs → AllByRecursion Q xs → AllByRecursion (λ x. P x × Q x) xs
+both_each : {X : Type 0} (P Q : X → Type 0) (xs : List X) → AllByRecursion P xs
+    → AllByRecursion Q xs → AllByRecursion (λ x. P x × Q x) xs
 both_each P Q [] a b = tt
 both_each P Q (x ∷ xs) a b = ((a.0, b.0), both_each P Q xs a.1 b.1)
 
-pub length_filter_map : {X Y : Type 0} (f : X → Option Y) (xs : List X) → length (filter_map f xs) ≤ length xs
+pub length_filter_map : {X Y : Type 0} (f : X → Option Y) (xs : List X)
+    → length (filter_map f xs) ≤ length xs
 length_filter_map f [] = omega arith
 length_filter_map f (x ∷ xs) =
     let more = length_filter_map f xs in
-    elim (f x) as (λ o. length (cons_option o (filter_map f xs)) ≤ length (x ∷ xs)) [ None ↦ omega arith | Some y ↦ omega arith ]
+    elim (f x) as (λ o. length (cons_option o (filter_map f xs)) ≤ length (x ∷ xs))
+    [ None ↦ omega arith | Some y ↦ omega arith ]
 
 -- a chain whose elements all keep something
-chain_with_each : {X : Type 0} (P : X → Type 0) (R : X → X → Type 0) (xs : List X) → AllByRecursion P xs → IsChain R xs
+chain_with_each : {X : Type 0} (P : X → Type 0) (R : X → X → Type 0) (xs : List X)
+    → AllByRecursion P xs → IsChain R xs
     → IsChain (λ x y. P x × (P y × R x y)) xs
 chain_with_each P R [] a h = tt
 chain_with_each P R (x ∷ xs) a h =
     (each_weaker (λ y. P y × R x y) (λ y. P x × (P y × R x y)) (λ y k. (a.0, k)) xs (both_each P (R x) xs a.1 h.0), chain_with_each P R xs a.1 h.1)
 
-each_unmap : {X Y : Type 0} (P : Y → Type 0) (f : X → Y) (xs : List X) → AllByRecursion P (map f xs) → AllByRecursion (λ x. P (f x)) xs
+each_unmap : {X Y : Type 0} (P : Y → Type 0) (f : X → Y) (xs : List X) → AllByRecursion P (map f xs)
+    → AllByRecursion (λ x. P (f x)) xs
 each_unmap P f [] h = tt
 each_unmap P f (x ∷ xs) h = (h.0, each_unmap P f xs h.1)
 
-chain_unmap : {X Y : Type 0} (R : Y → Y → Type 0) (f : X → Y) (xs : List X) → IsChain R (map f xs) → IsChain (λ x y. R (f x) (f y)) xs
+chain_unmap : {X Y : Type 0} (R : Y → Y → Type 0) (f : X → Y) (xs : List X) → IsChain R (map f xs)
+    → IsChain (λ x y. R (f x) (f y)) xs
 chain_unmap R f [] h = tt
 chain_unmap R f (x ∷ xs) h = (each_unmap (R (f x)) f xs h.0, chain_unmap R f xs h.1)
 
-some_weaker : {X : Type 0} (P Q : X → Type 0) → ((x : X) → P x → Q x) → (o : Option X) → IfSome o P → IfSome o Q
+some_weaker : {X : Type 0} (P Q : X → Type 0) → ((x : X) → P x → Q x) → (o : Option X)
+    → IfSome o P → IfSome o Q
 some_weaker P Q h None k = tt
 some_weaker P Q h (Some x) k = h x k
 
 -- what is found is one that passes, and keeps what all keep
-find_keeps : {X : Type 0} (P : X → Type 0) (t : X → Bool) (xs : List X) → AllByRecursion P xs → IfSome (find t xs) (λ x. P x × (t x ≡ true))
+find_keeps : {X : Type 0} (P : X → Type 0) (t : X → Bool) (xs : List X) → AllByRecursion P xs
+    → IfSome (find t xs) (λ x. P x × (t x ≡ true))
 find_keeps P t [] a = tt
 find_keeps {X} P t (x ∷ xs) a = go (t x) refl (find_keeps P t xs a.1)
   where
-    go : (b : Bool) → t x ≡ b → IfSome (find t xs) (λ x. P x × (t x ≡ true)) → IfSome (cond b (Some x) (find t xs)) (λ x. P x × (t x ≡ true))
+    go : (b : Bool) → t x ≡ b → IfSome (find t xs) (λ x. P x × (t x ≡ true))
+        → IfSome (cond b (Some x) (find t xs)) (λ x. P x × (t x ≡ true))
     go true is more = (a.0, is)
     go false is more = more
 
@@ -121,67 +133,97 @@ one_pair row p h =
     fields : p.student ≡ row.student → p.exam ≡ row.exam → row_pair row ≡ p
     fields a b = λ i. record { exam = sym b i; student = sym a i }
 
-fair : (T : Placing) (old : List SeatRow) (p : Pair) (at : Place) → place_of T p.exam ≡ Some at → IsFair T old (entrant old p at)
+fair : (T : Placing) (old : List SeatRow) (p : Pair) (at : Place)
+    → place_of T p.exam ≡ Some at → IsFair T old (entrant old p at)
 fair T old p at here =
-    let found = find_keeps (Contains old) (is_row_at p at) old (recursion_from_All (Contains old) old (All-contains_itself old)) in
-    let parts : (row : SeatRow) → is_row_at p at row ≡ true → (is_pair row.student row.exam p ≡ true) × (is_one_place at (row_place row) ≡ true)
+    let found = find_keeps (Contains old) (is_row_at p at) old
+    (recursion_from_All (Contains old) old (All-contains_itself old)) in
+    let parts : (row : SeatRow) → is_row_at p at row ≡ true
+    → (is_pair row.student row.exam p ≡ true) × (is_one_place at (row_place row) ≡ true)
     = λ row h. and_parts (is_pair row.student row.exam p) (is_one_place at (row_place row)) h in
     record {
       at_exam = here;
-      pair = some_weaker (λ row. Contains old row × (is_row_at p at row ≡ true)) (λ row. row_pair row ≡ p) (λ row k. one_pair row p (parts row k.1).0) (find (is_row_at p at) old) found;
-      place = some_weaker (λ row. Contains old row × (is_row_at p at row ≡ true)) (λ row. row_place row ≡ at) (λ row k. one_place at (row_place row) (parts row k.1).1) (find (is_row_at p at) old) found;
-      from_old = some_weaker (λ row. Contains old row × (is_row_at p at row ≡ true)) (Contains old) (λ row k. k.0) (find (is_row_at p at) old) found;
+      pair = some_weaker (λ row. Contains old row × (is_row_at p at row ≡ true))
+          (λ row. row_pair row ≡ p) (λ row k. one_pair row p (parts row k.1).0)
+          (find (is_row_at p at) old) found;
+      place = some_weaker (λ row. Contains old row × (is_row_at p at row ≡ true))
+          (λ row. row_place row ≡ at) (λ row k. one_place at (row_place row) (parts row k.1).1)
+          (find (is_row_at p at) old) found;
+      from_old = some_weaker (λ row. Contains old row × (is_row_at p at row ≡ true)) (Contains old)
+          (λ row k. k.0) (find (is_row_at p at) old) found;
     }
 
 -- what holds of each pair's entrant holds of all
 pub each_entrant : (P : Entrant → Type 0) (T : Placing) (old : List SeatRow) (pairs : List Pair)
-    → AllByRecursion (λ p. (at : Place) → place_of T p.exam ≡ Some at → P (entrant old p at)) pairs → AllByRecursion P (entrants pairs T old)
+    → AllByRecursion (λ p. (at : Place) → place_of T p.exam ≡ Some at → P (entrant old p at)) pairs
+    → AllByRecursion P (entrants pairs T old)
 each_entrant P T old pairs all =
     each_filter_map P (λ p. option_map (entrant old p) (place_of T p.exam)) pairs
-    (each_weaker (λ (p : Pair). (at : Place) → place_of T p.exam ≡ Some at → P (entrant old p at)) (λ p. IfSome (option_map (entrant old p) (place_of T p.exam)) P)
+    (each_weaker (λ (p : Pair). (at : Place) → place_of T p.exam ≡ Some at → P (entrant old p at))
+    (λ p. IfSome (option_map (entrant old p) (place_of T p.exam)) P)
     (λ p h. go p (place_of T p.exam) refl h) pairs all)
   where
-    go : (p : Pair) (o : Option Place) → place_of T p.exam ≡ o → ((at : Place) → place_of T p.exam ≡ Some at → P (entrant old p at)) → IfSome (option_map (entrant old p) o) P
+    go : (p : Pair) (o : Option Place) → place_of T p.exam ≡ o
+        → ((at : Place) → place_of T p.exam ≡ Some at → P (entrant old p at))
+        → IfSome (option_map (entrant old p) o) P
     go p None is h = tt
     go p (Some at) is h = h at is
 
-pub all_fair : (T : Placing) (old : List SeatRow) (pairs : List Pair) → AllByRecursion (IsFair T old) (entrants pairs T old)
+pub all_fair : (T : Placing) (old : List SeatRow) (pairs : List Pair)
+    → AllByRecursion (IsFair T old) (entrants pairs T old)
 all_fair T old pairs =
-    each_entrant (IsFair T old) T old pairs (each_all (λ (p : Pair). (at : Place) → place_of T p.exam ≡ Some at → IsFair T old (entrant old p at)) (λ p at here. fair T old p at here) pairs)
+    each_entrant (IsFair T old) T old pairs
+    (each_all (λ (p : Pair). (at : Place)
+    → place_of T p.exam ≡ Some at → IsFair T old (entrant old p at))
+    (λ p at here. fair T old p at here) pairs)
 
 -- where each exam has a place, each pair has its entrant
-pub entrant_pairs : (T : Placing) (old : List SeatRow) (pairs : List Pair) → AllByRecursion (λ p. IsSome (place_of T p.exam)) pairs
-    → map (λ (x : Entrant). record { exam = x.exam; student = x.student }) (entrants pairs T old) ≡ pairs
+pub entrant_pairs : (T : Placing) (old : List SeatRow) (pairs : List Pair)
+    → AllByRecursion (λ p. IsSome (place_of T p.exam)) pairs
+    → map (λ (x : Entrant). record { exam = x.exam; student = x.student }) (entrants pairs T old)
+    ≡ pairs
 entrant_pairs T old [] h = refl
 entrant_pairs T old (p ∷ ps) h = go (place_of T p.exam) h.0 (entrant_pairs T old ps h.1)
   where
-    go : (o : Option Place) → is_some o ≡ true → map (λ (x : Entrant). record { exam = x.exam; student = x.student }) (entrants ps T old) ≡ ps
-        → map (λ (x : Entrant). record { exam = x.exam; student = x.student }) (cons_option (option_map (entrant old p) o) (entrants ps T old)) ≡ p ∷ ps
+    go : (o : Option Place) → is_some o ≡ true
+        → map (λ (x : Entrant). record { exam = x.exam; student = x.student }) (entrants ps T old)
+        ≡ ps
+        → map (λ (x : Entrant). record { exam = x.exam; student = x.student })
+        (cons_option (option_map (entrant old p) o) (entrants ps T old)) ≡ p ∷ ps
     go None k more = absurd (false≢true k)
     go (Some at) k more = ap (λ qs. p ∷ qs) more
 
 -- ---- rows of their entrants
 
-pub rows_pairs : (T : Placing) (old standing : List SeatRow) (xs : List Entrant) → AllByRecursion (IsFair T old) xs
-    → map row_pair (rows_beside standing xs) ≡ map (λ (x : Entrant). record { exam = x.exam; student = x.student }) xs
+pub rows_pairs : (T : Placing) (old standing : List SeatRow) (xs : List Entrant)
+    → AllByRecursion (IsFair T old) xs
+    → map row_pair (rows_beside standing xs)
+    ≡ map (λ (x : Entrant). record { exam = x.exam; student = x.student }) xs
 rows_pairs T old standing [] h = refl
 rows_pairs T old standing (x ∷ xs) h =
     ap₂ (λ p ps. p ∷ ps) (go x.kept h.0.pair) (rows_pairs T old (standing_with standing x) xs h.1)
   where
-    go : (o : Option SeatRow) → IfSome o (λ row. row_pair row ≡ record { exam = x.exam; student = x.student })
-        → row_pair (unwrap_or o (new_row standing x)) ≡ record { exam = x.exam; student = x.student }
+    go : (o : Option SeatRow)
+        → IfSome o (λ row. row_pair row ≡ record { exam = x.exam; student = x.student })
+        → row_pair (unwrap_or o (new_row standing x))
+        ≡ record { exam = x.exam; student = x.student }
     go None k = refl
     go (Some row) k = k
 
-rows_at_exams : (T : Placing) (old standing : List SeatRow) (xs : List Entrant) → AllByRecursion (IsFair T old) xs
+rows_at_exams : (T : Placing) (old standing : List SeatRow) (xs : List Entrant)
+    → AllByRecursion (IsFair T old) xs
     → AllByRecursion (IsAtExam T) (rows_beside standing xs)
 rows_at_exams T old standing [] h = tt
-rows_at_exams T old standing (x ∷ xs) h = (go x.kept h.0.pair h.0.place, rows_at_exams T old (standing_with standing x) xs h.1)
+rows_at_exams T old standing (x ∷ xs) h =
+    (go x.kept h.0.pair h.0.place, rows_at_exams T old (standing_with standing x) xs h.1)
   where
-    go : (o : Option SeatRow) → IfSome o (λ row. row_pair row ≡ record { exam = x.exam; student = x.student }) → IfSome o (λ row. row_place row ≡ x.place)
+    go : (o : Option SeatRow)
+        → IfSome o (λ row. row_pair row ≡ record { exam = x.exam; student = x.student })
+        → IfSome o (λ row. row_place row ≡ x.place)
         → IsAtExam T (unwrap_or o (new_row standing x))
     go None k l = h.0.at_exam
-    go (Some row) k l = ap (λ (p : Pair). place_of T p.exam) k ∙ h.0.at_exam ∙ ap (λ q. Some q) (sym l)
+    go (Some row) k l =
+        ap (λ (p : Pair). place_of T p.exam) k ∙ h.0.at_exam ∙ ap (λ q. Some q) (sym l)
 
 -- ---- seats within the room
 
@@ -189,7 +231,9 @@ abbrev pub is_new_at : Place → Entrant → Bool
 is_new_at at x = is_none x.kept && is_one_place at x.place
 
 pub same_place : (at : Place) → is_one_place at at ≡ true
-same_place at = and_from (eqb at.period at.period) (eqb at.room at.room) (eq-eqb at.period at.period refl) (eq-eqb at.room at.room refl)
+same_place at =
+    and_from (eqb at.period at.period) (eqb at.room at.room) (eq-eqb at.period at.period refl)
+    (eq-eqb at.room at.room refl)
 
 -- seats that a room has, where there are no more rows than it has seats
 abbrev Has : Session → List SeatRow → Type 0
@@ -197,29 +241,44 @@ Has I rows = AllByRecursion (HasSeat I) rows
 
 -- as many as stand there and are still to come
 abbrev IsRoomFor : (Place → ℕ) → List SeatRow → List Entrant → Type 0
-IsRoomFor most standing xs = (at : Place) → length (seats_at at standing) + count_by (is_new_at at) xs ≤ most at
+IsRoomFor most standing xs =
+    (at : Place) → length (seats_at at standing) + count_by (is_new_at at) xs ≤ most at
 
-rows_within : (I : Session) (most : Place → ℕ) (standing : List SeatRow) (xs : List Entrant) → IsRoomFor most standing xs → Has I (kept_rows xs)
-    → AllByRecursion (λ (x : Entrant). (n : ℕ) → 1 ≤ n → n ≤ most x.place → IsSeatOf (slice_get I.rooms x.place.room) n) xs → Has I (rows_beside standing xs)
+rows_within : (I : Session) (most : Place → ℕ) (standing : List SeatRow) (xs : List Entrant)
+    → IsRoomFor most standing xs → Has I (kept_rows xs)
+    → AllByRecursion
+    (λ (x : Entrant). (n : ℕ) → 1 ≤ n → n ≤ most x.place
+    → IsSeatOf (slice_get I.rooms x.place.room) n) xs
+    → Has I (rows_beside standing xs)
 rows_within I most standing [] room kept fits = tt
-rows_within I most standing (x ∷ xs) room kept fits = step x.kept room kept (λ s r k. rows_within I most s xs r k fits.1)
+rows_within I most standing (x ∷ xs) room kept fits =
+    step x.kept room kept (λ s r k. rows_within I most s xs r k fits.1)
   where
-    counted : (at : Place) (o : Option SeatRow) → count_by (is_new_at at) (record x { kept = o } ∷ xs) ≡ cond (is_none o && is_one_place at x.place) 1 0 + count_by (is_new_at at) xs
+    counted : (at : Place) (o : Option SeatRow)
+        → count_by (is_new_at at) (record x { kept = o } ∷ xs)
+        ≡ cond (is_none o && is_one_place at x.place) 1 0 + count_by (is_new_at at) xs
     counted at o = sum_by-cons (λ y. cond (is_new_at at y) 1 0) (record x { kept = o }) xs
 
-    step : (o : Option SeatRow) → IsRoomFor most standing (record x { kept = o } ∷ xs) → Has I (kept_rows (record x { kept = o } ∷ xs))
-        → ((s : List SeatRow) → IsRoomFor most s xs → Has I (kept_rows xs) → Has I (rows_beside s xs)) → Has I (rows_beside standing (record x { kept = o } ∷ xs))
-    step (Some row) room kept more = (kept.0, more standing (λ at. (let c = counted at (Some row) in let r = room at in omega arith)) kept.1)
+    step : (o : Option SeatRow) → IsRoomFor most standing (record x { kept = o } ∷ xs)
+        → Has I (kept_rows (record x { kept = o } ∷ xs))
+        → ((s : List SeatRow) → IsRoomFor most s xs → Has I (kept_rows xs)
+        → Has I (rows_beside s xs))
+        → Has I (rows_beside standing (record x { kept = o } ∷ xs))
+    step (Some row) room kept more =
+        (kept.0, more standing (λ at. (let c = counted at (Some row) in let r = room at in omega arith)) kept.1)
     step None room kept more =
         let free = least_is (seats_at x.place standing) in
         let small = least_small (seats_at x.place standing) in
-        let one : ◌≡◌ {A = ℕ} (cond (is_one_place x.place x.place) 1 0) 1 = ap (λ b. cond b 1 0) (same_place x.place) in
+        let one : ◌≡◌ {A = ℕ} (cond (is_one_place x.place x.place) 1 0) 1 =
+        ap (λ b. cond b 1 0) (same_place x.place) in
         let c = counted x.place None in
         let r = room x.place in
         let low : 1 ≤ least_free (seats_at x.place standing) = free.low in
         (fits.0 (least_free (seats_at x.place standing)) low (omega arith), more (new_row standing x ∷ standing) (λ at. after at) kept)
       where
-        after : (at : Place) → length (seats_at at (new_row standing x ∷ standing)) + count_by (is_new_at at) xs ≤ most at
+        after : (at : Place)
+            → length (seats_at at (new_row standing x ∷ standing))
+            + count_by (is_new_at at) xs ≤ most at
         after at =
             let l = length_seats at (new_row standing x) standing in
             let c = counted at None in
@@ -233,7 +292,8 @@ abbrev IsTaken : List SeatRow → SeatRow → Type 0
 IsTaken standing r = has_number (seats_at (row_place r) standing) r.seat ≡ true
 
 -- a row that stands shares its seat with no row of entrants who keep other seats
-apart : (r : SeatRow) (standing : List SeatRow) (xs : List Entrant) → IsTaken standing r → AllByRecursion (HaveOwnSeats r) (kept_rows xs)
+apart : (r : SeatRow) (standing : List SeatRow) (xs : List Entrant) → IsTaken standing r
+    → AllByRecursion (HaveOwnSeats r) (kept_rows xs)
     → AllByRecursion (HaveOwnSeats r) (rows_beside standing xs)
 apart r standing [] taken kept = tt
 apart r standing (x ∷ xs) taken kept = step x.kept kept (λ s t k. apart r s xs t k)
@@ -244,19 +304,25 @@ apart r standing (x ∷ xs) taken kept = step x.kept kept (λ s t k. apart r s x
         let same : row_place r ≡ x.place = (λ i. record { period = a i; room = b i }) in
         true≢false (sym taken ∙ ap₂ (λ at n. has_number (seats_at at standing) n) same c ∙ free)
 
-    step : (o : Option SeatRow) → AllByRecursion (HaveOwnSeats r) (kept_rows (record x { kept = o } ∷ xs))
-        → ((s : List SeatRow) → IsTaken s r → AllByRecursion (HaveOwnSeats r) (kept_rows xs) → AllByRecursion (HaveOwnSeats r) (rows_beside s xs))
+    step : (o : Option SeatRow)
+        → AllByRecursion (HaveOwnSeats r) (kept_rows (record x { kept = o } ∷ xs))
+        → ((s : List SeatRow) → IsTaken s r → AllByRecursion (HaveOwnSeats r) (kept_rows xs)
+        → AllByRecursion (HaveOwnSeats r) (rows_beside s xs))
         → AllByRecursion (HaveOwnSeats r) (rows_beside standing (record x { kept = o } ∷ xs))
     step (Some row) kept more = (kept.0, more standing taken kept.1)
-    step None kept more = (other, more (new_row standing x ∷ standing) (still_taken (row_place r) (new_row standing x) standing r.seat taken) kept)
+    step None kept more =
+        (other, more (new_row standing x ∷ standing) (still_taken (row_place r) (new_row standing x) standing r.seat taken) kept)
 
 taken_first : (r : SeatRow) (rs : List SeatRow) → IsTaken (r ∷ rs) r
 taken_first r rs =
     has_seats (row_place r) r rs r.seat
-    ∙ or_left (is_one_place (row_place r) (row_place r) && eqb r.seat r.seat) (has_number (seats_at (row_place r) rs) r.seat)
-    (and_from (is_one_place (row_place r) (row_place r)) (eqb r.seat r.seat) (same_place (row_place r)) (eq-eqb r.seat r.seat refl))
+    ∙ or_left (is_one_place (row_place r) (row_place r) && eqb r.seat r.seat)
+    (has_number (seats_at (row_place r) rs) r.seat)
+    (and_from (is_one_place (row_place r) (row_place r)) (eqb r.seat r.seat)
+    (same_place (row_place r)) (eq-eqb r.seat r.seat refl))
 
-own_rows : (standing : List SeatRow) (xs : List Entrant) → IsChain HaveOwnSeats (kept_rows xs) → AllByRecursion (IsTaken standing) (kept_rows xs)
+own_rows : (standing : List SeatRow) (xs : List Entrant) → IsChain HaveOwnSeats (kept_rows xs)
+    → AllByRecursion (IsTaken standing) (kept_rows xs)
     → IsChain HaveOwnSeats (rows_beside standing xs)
 own_rows standing [] chain taken = tt
 own_rows standing (x ∷ xs) chain taken = step x.kept chain taken (λ s c t. own_rows s xs c t)
@@ -265,16 +331,23 @@ own_rows standing (x ∷ xs) chain taken = step x.kept chain taken (λ s c t. ow
     free_of r there a b c =
         let free = (least_is (seats_at x.place standing)).free in
         let same : row_place r ≡ x.place = (λ i. record { period = sym a i; room = sym b i }) in
-        true≢false (sym there ∙ ap₂ (λ at n. has_number (seats_at at standing) n) same (sym c) ∙ free)
+        true≢false (sym there
+        ∙ ap₂ (λ at n. has_number (seats_at at standing) n) same (sym c) ∙ free)
 
-    step : (o : Option SeatRow) → IsChain HaveOwnSeats (kept_rows (record x { kept = o } ∷ xs)) → AllByRecursion (IsTaken standing) (kept_rows (record x { kept = o } ∷ xs))
-        → ((s : List SeatRow) → IsChain HaveOwnSeats (kept_rows xs) → AllByRecursion (IsTaken s) (kept_rows xs) → IsChain HaveOwnSeats (rows_beside s xs))
+    step : (o : Option SeatRow) → IsChain HaveOwnSeats (kept_rows (record x { kept = o } ∷ xs))
+        → AllByRecursion (IsTaken standing) (kept_rows (record x { kept = o } ∷ xs))
+        → ((s : List SeatRow) → IsChain HaveOwnSeats (kept_rows xs)
+        → AllByRecursion (IsTaken s) (kept_rows xs) → IsChain HaveOwnSeats (rows_beside s xs))
         → IsChain HaveOwnSeats (rows_beside standing (record x { kept = o } ∷ xs))
-    step (Some row) chain taken more = (apart row standing xs taken.0 chain.0, more standing chain.1 taken.1)
+    step (Some row) chain taken more =
+        (apart row standing xs taken.0 chain.0, more standing chain.1 taken.1)
     step None chain taken more =
         let row : SeatRow = new_row standing x in (
-          apart row (row ∷ standing) xs (taken_first row standing) (each_weaker (IsTaken standing) (HaveOwnSeats row) free_of (kept_rows xs) taken),
-          more (row ∷ standing) chain (each_weaker (IsTaken standing) (IsTaken (row ∷ standing)) (λ r t. still_taken (row_place r) row standing r.seat t) (kept_rows xs) taken),
+          apart row (row ∷ standing) xs (taken_first row standing)
+              (each_weaker (IsTaken standing) (HaveOwnSeats row) free_of (kept_rows xs) taken),
+          more (row ∷ standing) chain
+              (each_weaker (IsTaken standing) (IsTaken (row ∷ standing))
+              (λ r t. still_taken (row_place r) row standing r.seat t) (kept_rows xs) taken),
         )
 
 -- rows that stand are taken
@@ -284,52 +357,84 @@ taken_itself (r ∷ rs) =
     (taken_first r rs, each_weaker (IsTaken rs) (IsTaken (r ∷ rs)) (λ q t. still_taken (row_place q) r rs q.seat t) rs (taken_itself rs))
 
 -- two old rows of different pairs have different seats
-own_old : (old : List SeatRow) → AllPairs HaveOwnSeats old → (r q : SeatRow) → Contains old r → Contains old q → (row_pair r ≡ row_pair q → ⊥) → HaveOwnSeats r q
+own_old : (old : List SeatRow) → AllPairs HaveOwnSeats old → (r q : SeatRow) → Contains old r
+    → Contains old q → (row_pair r ≡ row_pair q → ⊥) → HaveOwnSeats r q
 own_old old own r q there also other a b c =
     let i = there.0 in
     let j = also.0 in
     let at_j : get_or old j r ≡ q = get_or_default old j r q also.1 ∙ also.2 in
     elim (cases_lt i j) as (λ _. ⊥) [
-      | inl less ↦ own i j r less also.1 (ap (λ (x : SeatRow). x.period) there.2 ∙ a ∙ ap (λ (x : SeatRow). x.period) (sym at_j)) (ap (λ (x : SeatRow). x.room) there.2 ∙ b ∙ ap (λ (x : SeatRow). x.room) (sym at_j))
+      | inl less ↦
+          own i j r less also.1
+          (ap (λ (x : SeatRow). x.period) there.2 ∙ a ∙ ap (λ (x : SeatRow). x.period) (sym at_j))
+          (ap (λ (x : SeatRow). x.room) there.2 ∙ b ∙ ap (λ (x : SeatRow). x.room) (sym at_j))
           (ap (λ (x : SeatRow). x.seat) there.2 ∙ c ∙ ap (λ (x : SeatRow). x.seat) (sym at_j))
       | inr past ↦ elim (cases_eq i j) as (λ _. ⊥) [
         | inl same ↦ other (ap row_pair (sym there.2 ∙ ap (λ k. get_or old k r) same ∙ at_j))
-        | inr apart ↦ own j i r (omega arith) there.1 (ap (λ (x : SeatRow). x.period) at_j ∙ sym a ∙ ap (λ (x : SeatRow). x.period) (sym there.2)) (ap (λ (x : SeatRow). x.room) at_j ∙ sym b ∙ ap (λ (x : SeatRow). x.room) (sym there.2))
+        | inr apart ↦ own j i r (omega arith) there.1
+            (ap (λ (x : SeatRow). x.period) at_j ∙ sym a
+            ∙ ap (λ (x : SeatRow). x.period) (sym there.2))
+            (ap (λ (x : SeatRow). x.room) at_j ∙ sym b ∙ ap (λ (x : SeatRow). x.room) (sym there.2))
             (ap (λ (x : SeatRow). x.seat) at_j ∙ sym c ∙ ap (λ (x : SeatRow). x.seat) (sym there.2))
       ]
     ]
 
-kept_own : (T : Placing) (old : List SeatRow) → AllPairs HaveOwnSeats old → (xs : List Entrant) → AllByRecursion (IsFair T old) xs
-    → IsChain (λ (x y : Entrant). ComesBefore (record { exam = x.exam; student = x.student }) (record { exam = y.exam; student = y.student })) xs → IsChain HaveOwnSeats (kept_rows xs)
+kept_own : (T : Placing) (old : List SeatRow) → AllPairs HaveOwnSeats old → (xs : List Entrant)
+    → AllByRecursion (IsFair T old) xs
+    → IsChain (λ (x y : Entrant). ComesBefore (record { exam = x.exam; student = x.student })
+    (record { exam = y.exam; student = y.student }))
+    xs
+    → IsChain HaveOwnSeats (kept_rows xs)
 kept_own T old own xs fairs order =
     chain_filter_map HaveOwnSeats (λ (x : Entrant). x.kept) xs
-    (chain_weaker (λ (x y : Entrant). IsFair T old x × (IsFair T old y × ComesBefore (record { exam = x.exam; student = x.student }) (record { exam = y.exam; student = y.student })))
+    (chain_weaker
+    (λ (x y : Entrant). IsFair T old x
+    × (IsFair T old y × ComesBefore (record { exam = x.exam; student = x.student })
+    (record { exam = y.exam; student = y.student })))
     (λ (x y : Entrant). IfSome x.kept (λ r. IfSome y.kept (HaveOwnSeats r)))
     (λ x y h. both x y h.1.1 x.kept h.0.pair h.0.from_old y.kept h.1.0.pair h.1.0.from_old) xs
-    (chain_with_each (IsFair T old) (λ (x y : Entrant). ComesBefore (record { exam = x.exam; student = x.student }) (record { exam = y.exam; student = y.student })) xs fairs order))
+    (chain_with_each (IsFair T old)
+    (λ (x y : Entrant). ComesBefore (record { exam = x.exam; student = x.student })
+    (record { exam = y.exam; student = y.student }))
+    xs fairs order))
   where
     not_before_itself : (p q : Pair) → ComesBefore p q → p ≡ q → ⊥
-    not_before_itself p q h same = elim h as (λ _. ⊥) [ inl less ↦ absurd (omega (arith, ap (λ (z : Pair). z.exam) same)) | inr tie ↦ absurd (omega (arith, tie.1, ap (λ (z : Pair). z.student) same)) ]
+    not_before_itself p q h same =
+        elim h as (λ _. ⊥)
+        [ inl less ↦ absurd (omega (arith, ap (λ (z : Pair). z.exam) same)) | inr tie ↦ absurd (omega (arith, tie.1, ap (λ (z : Pair). z.student) same)) ]
 
-    both : (x y : Entrant) → ComesBefore (record { exam = x.exam; student = x.student }) (record { exam = y.exam; student = y.student })
-        → (o : Option SeatRow) → IfSome o (λ row. row_pair row ≡ record { exam = x.exam; student = x.student }) → IfSome o (Contains old)
-        → (u : Option SeatRow) → IfSome u (λ row. row_pair row ≡ record { exam = y.exam; student = y.student }) → IfSome u (Contains old)
+    both : (x y : Entrant)
+        → ComesBefore (record { exam = x.exam; student = x.student })
+        (record { exam = y.exam; student = y.student })
+        → (o : Option SeatRow)
+        → IfSome o (λ row. row_pair row ≡ record { exam = x.exam; student = x.student })
+        → IfSome o (Contains old)
+        → (u : Option SeatRow)
+        → IfSome u (λ row. row_pair row ≡ record { exam = y.exam; student = y.student })
+        → IfSome u (Contains old)
         → IfSome o (λ r. IfSome u (HaveOwnSeats r))
     both x y before None a b u c d = tt
     both x y before (Some r) a b None c d = tt
     both x y before (Some r) a b (Some q) c d =
-        own_old old own r q b d (λ same. not_before_itself (record { exam = x.exam; student = x.student }) (record { exam = y.exam; student = y.student }) before (sym a ∙ same ∙ c))
+        own_old old own r q b d
+        (λ same. not_before_itself (record { exam = x.exam; student = x.student })
+        (record { exam = y.exam; student = y.student }) before (sym a ∙ same ∙ c))
 
 -- ---- as many as the room's load
 
-at_within : (n f : ℕ) (xs : List ℕ) (later : List Pair) → f < n → AllByRecursion (λ p. p.exam < n) later → AllByRecursion (λ p. p.exam < n) (pairs_at f xs ++ later)
+at_within : (n f : ℕ) (xs : List ℕ) (later : List Pair) → f < n
+    → AllByRecursion (λ p. p.exam < n) later
+    → AllByRecursion (λ p. p.exam < n) (pairs_at f xs ++ later)
 at_within n f [] later lt h = h
 at_within n f (x ∷ xs) later lt h = (lt, at_within n f xs later lt h)
 
 -- each exam is one of those that are there
-pub from_within : (n f : ℕ) (E : Enrolled) → f + length E ≤ n → AllByRecursion (λ p. p.exam < n) (pairs_from f E)
+pub from_within : (n f : ℕ) (E : Enrolled) → f + length E ≤ n
+    → AllByRecursion (λ p. p.exam < n) (pairs_from f E)
 from_within n f [] h = tt
-from_within n f (xs ∷ rest) h = at_within n f xs (pairs_from (f + 1) rest) (omega arith) (from_within n (f + 1) rest (omega arith))
+from_within n f (xs ∷ rest) h =
+    at_within n f xs (pairs_from (f + 1) rest) (omega arith)
+    (from_within n (f + 1) rest (omega arith))
 
 turned : (a b : Bool) → ◌≡◌ {A = ℕ} (cond a (cond b 1 0) 0) (cond b (cond a 1 0) 0)
 turned true true = refl
@@ -337,17 +442,25 @@ turned true false = refl
 turned false true = refl
 turned false false = refl
 
-loaded : (E : Enrolled) (T : Placing) (at : Place) → ArePairsOf E (pairs_of E) → count_by (sits_at T at) (pairs_of E) ≡ load_at E T at
+loaded : (E : Enrolled) (T : Placing) (at : Place) → ArePairsOf E (pairs_of E)
+    → count_by (sits_at T at) (pairs_of E) ≡ load_at E T at
 loaded E T at are =
     let n = length E in
     let pairs = pairs_of E in
     let t : ℕ → Bool = λ e. where_placed (is_one_place at) (place_of T e) in
     sym (
-    sum_below-same _ _ (λ e. ap (λ k. cond (t e) k 0) (sym (are.sizes e)) ∙ cond-sum_by (t e) (λ (p : Pair). cond (eqb p.exam e) 1 0) pairs) n
+    sum_below-same _ _
+    (λ e. ap (λ k. cond (t e) k 0) (sym (are.sizes e))
+    ∙ cond-sum_by (t e) (λ (p : Pair). cond (eqb p.exam e) 1 0) pairs) n
     ∙ sum_below-turned (λ e (p : Pair). cond (t e) (cond (eqb p.exam e) 1 0) 0) n pairs
-    ∙ sum_by-agree (λ (p : Pair). sum_below n (λ e. cond (t e) (cond (eqb p.exam e) 1 0) 0)) (λ (p : Pair). cond (t p.exam) 1 0) pairs
-    (each_weaker (λ (p : Pair). p.exam < n) (λ (p : Pair). sum_below n (λ e. cond (t e) (cond (eqb p.exam e) 1 0) 0) ≡ cond (t p.exam) 1 0)
-    (λ p lt. sum_below-same _ _ (λ e. turned (t e) (eqb p.exam e)) n ∙ sum_below-at (λ e. cond (t e) 1 0) p.exam n ∙ cond-true (ltb p.exam n) (cond (t p.exam) 1 0) 0 (lt-ltb p.exam n lt))
+    ∙ sum_by-agree (λ (p : Pair). sum_below n (λ e. cond (t e) (cond (eqb p.exam e) 1 0) 0))
+    (λ (p : Pair). cond (t p.exam) 1 0) pairs
+    (each_weaker (λ (p : Pair). p.exam < n)
+    (λ (p : Pair). sum_below n (λ e. cond (t e) (cond (eqb p.exam e) 1 0) 0)
+    ≡ cond (t p.exam) 1 0)
+    (λ p lt. sum_below-same _ _ (λ e. turned (t e) (eqb p.exam e)) n
+    ∙ sum_below-at (λ e. cond (t e) 1 0) p.exam n
+    ∙ cond-true (ltb p.exam n) (cond (t p.exam) 1 0) 0 (lt-ltb p.exam n lt))
     pairs (from_within n 0 E (omega arith))))
 
 no_first : {X : Type 0} (xs : List X) → slice_get xs 0 ≡ None → xs ≡ []
@@ -358,7 +471,8 @@ not_in_nil : {X : Type 0} (xs : List X) (x : X) → xs ≡ [] → Contains xs x 
 not_in_nil xs x none h = let l : h.0 < length xs = h.1 in let e = ap length none in omega arith
 
 -- without a breach no room is overfull
-roomy : (I : Session) (E : Enrolled) (T : Placing) (e : ℕ) → length T ≡ length I.exams → breaches_of I E T ≡ [] → is_overfull I E T e ≡ false
+roomy : (I : Session) (E : Enrolled) (T : Placing) (e : ℕ) → length T ≡ length I.exams
+    → breaches_of I E T ≡ [] → is_overfull I E T e ≡ false
 roomy I E T e same none =
     let b : Breach = record { rule = Capacity; exam = e; other = e } in
     false_from_ne_true (is_overfull I E T e) (λ h. not_in_nil (breaches_of I E T) b none
@@ -367,55 +481,78 @@ roomy I E T e same none =
 not_more : (a b : ℕ) → nat_lt a b ≡ false → b ≤ a
 not_more a b h = grind (arith, nat_tests, h)
 
-within_room : (rooms : List Room) (r n load : ℕ) → r < length rooms → is_too_small (slice_get rooms r) load ≡ false → 1 ≤ n → n ≤ load → IsSeatOf (slice_get rooms r) n
+within_room : (rooms : List Room) (r n load : ℕ) → r < length rooms
+    → is_too_small (slice_get rooms r) load ≡ false → 1 ≤ n → n ≤ load
+    → IsSeatOf (slice_get rooms r) n
 within_room [] r n load l h low high = absurd (omega arith)
-within_room (x ∷ xs) zero n load l h low high = let most = not_more x.capacity load h in (low, omega arith)
+within_room (x ∷ xs) zero n load l h low high = let most = not_more x.capacity load h in
+    (low, omega arith)
 within_room (x ∷ xs) (suc r) n load l h low high = within_room xs r n load (omega arith) h low high
 
 -- kept seats and seats to come are no more than entrants
-counted_entrants : (T : Placing) (old : List SeatRow) (at : Place) (xs : List Entrant) → AllByRecursion (IsFair T old) xs
-    → length (seats_at at (kept_rows xs)) + count_by (is_new_at at) xs ≡ count_by (λ (x : Entrant). is_one_place at x.place) xs
+counted_entrants : (T : Placing) (old : List SeatRow) (at : Place) (xs : List Entrant)
+    → AllByRecursion (IsFair T old) xs
+    → length (seats_at at (kept_rows xs)) + count_by (is_new_at at) xs
+    ≡ count_by (λ (x : Entrant). is_one_place at x.place) xs
 counted_entrants T old at [] h = refl
 counted_entrants T old at (x ∷ xs) h = step x.kept h.0.place (counted_entrants T old at xs h.1)
   where
-    step : (o : Option SeatRow) → IfSome o (λ row. row_place row ≡ x.place) → length (seats_at at (kept_rows xs)) + count_by (is_new_at at) xs ≡ count_by (λ (x : Entrant). is_one_place at x.place) xs
-        → length (seats_at at (kept_rows (record x { kept = o } ∷ xs))) + count_by (is_new_at at) (record x { kept = o } ∷ xs) ≡ count_by (λ (x : Entrant). is_one_place at x.place) (record x { kept = o } ∷ xs)
+    step : (o : Option SeatRow) → IfSome o (λ row. row_place row ≡ x.place)
+        → length (seats_at at (kept_rows xs)) + count_by (is_new_at at) xs
+        ≡ count_by (λ (x : Entrant). is_one_place at x.place) xs
+        → length (seats_at at (kept_rows (record x { kept = o } ∷ xs)))
+        + count_by (is_new_at at) (record x { kept = o } ∷ xs)
+        ≡ count_by (λ (x : Entrant). is_one_place at x.place) (record x { kept = o } ∷ xs)
     step None k more =
         let a = sum_by-cons (λ y. cond (is_new_at at y) 1 0) (record x { kept = None }) xs in
-        let b = sum_by-cons (λ (y : Entrant). cond (is_one_place at y.place) 1 0) (record x { kept = None }) xs in
+        let b = sum_by-cons (λ (y : Entrant). cond (is_one_place at y.place) 1 0)
+        (record x { kept = None }) xs in
         omega arith
     step (Some row) k more =
         let a = sum_by-cons (λ y. cond (is_new_at at y) 1 0) (record x { kept = Some row }) xs in
-        let b = sum_by-cons (λ (y : Entrant). cond (is_one_place at y.place) 1 0) (record x { kept = Some row }) xs in
+        let b = sum_by-cons (λ (y : Entrant). cond (is_one_place at y.place) 1 0)
+        (record x { kept = Some row }) xs in
         let l = length_seats at row (kept_rows xs) in
-        let same : ◌≡◌ {A = ℕ} (cond (is_one_place at (row_place row)) 1 0) (cond (is_one_place at x.place) 1 0) = ap (λ q. cond (is_one_place at q) 1 0) k in
+        let same : ◌≡◌ {A = ℕ} (cond (is_one_place at (row_place row)) 1 0)
+        (cond (is_one_place at x.place) 1 0) =
+        ap (λ q. cond (is_one_place at q) 1 0) k in
         omega arith
 
 counted_pairs : (T : Placing) (old : List SeatRow) (at : Place) (ps : List Pair)
-    → count_by (λ (x : Entrant). is_one_place at x.place) (entrants ps T old) ≡ count_by (sits_at T at) ps
+    → count_by (λ (x : Entrant). is_one_place at x.place) (entrants ps T old)
+    ≡ count_by (sits_at T at) ps
 counted_pairs T old at [] = refl
 counted_pairs T old at (p ∷ ps) = go (place_of T p.exam) refl (counted_pairs T old at ps)
   where
-    go : (o : Option Place) → place_of T p.exam ≡ o → count_by (λ (x : Entrant). is_one_place at x.place) (entrants ps T old) ≡ count_by (sits_at T at) ps
-        → count_by (λ (x : Entrant). is_one_place at x.place) (cons_option (option_map (entrant old p) o) (entrants ps T old)) ≡ count_by (sits_at T at) (p ∷ ps)
+    go : (o : Option Place) → place_of T p.exam ≡ o
+        → count_by (λ (x : Entrant). is_one_place at x.place) (entrants ps T old)
+        ≡ count_by (sits_at T at) ps
+        → count_by (λ (x : Entrant). is_one_place at x.place)
+        (cons_option (option_map (entrant old p) o) (entrants ps T old))
+        ≡ count_by (sits_at T at) (p ∷ ps)
     go None is more =
         let b = sum_by-cons (λ q. cond (sits_at T at q) 1 0) p ps in
-        let none : ◌≡◌ {A = ℕ} (cond (sits_at T at p) 1 0) 0 = ap (λ o. cond (where_placed (is_one_place at) o) 1 0) is in
+        let none : ◌≡◌ {A = ℕ} (cond (sits_at T at p) 1 0) 0 =
+        ap (λ o. cond (where_placed (is_one_place at) o) 1 0) is in
         omega arith
     go (Some q) is more =
-        let a = sum_by-cons (λ (y : Entrant). cond (is_one_place at y.place) 1 0) (entrant old p q) (entrants ps T old) in
+        let a = sum_by-cons (λ (y : Entrant). cond (is_one_place at y.place) 1 0) (entrant old p q)
+        (entrants ps T old) in
         let b = sum_by-cons (λ q. cond (sits_at T at q) 1 0) p ps in
-        let same : ◌≡◌ {A = ℕ} (cond (sits_at T at p) 1 0) (cond (is_one_place at q) 1 0) = ap (λ o. cond (where_placed (is_one_place at) o) 1 0) is in
+        let same : ◌≡◌ {A = ℕ} (cond (sits_at T at p) 1 0) (cond (is_one_place at q) 1 0) =
+        ap (λ o. cond (where_placed (is_one_place at) o) 1 0) is in
         omega arith
 
 -- ---- all of it
 
-pub record AreSeats (I : Session) (E : Enrolled) (T : Placing) (old rows : List SeatRow) : Type 0 where
+pub record AreSeats (I : Session) (E : Enrolled) (T : Placing)
+    (old rows : List SeatRow) : Type 0 where
   pub pairs : map row_pair rows ≡ pairs_of E
   pub seated : AreSeated I rows
   pub published : ArePublishedRows I rows T
 
-pub are_seats : (I : Session) (E : Enrolled) (T : Placing) (old : List SeatRow) → Fits I E T → AreEnrolments E → publish_refusal I E T ≡ None → AreSeated I old
+pub are_seats : (I : Session) (E : Enrolled) (T : Placing) (old : List SeatRow) → Fits I E T
+    → AreEnrolments E → publish_refusal I E T ≡ None → AreSeated I old
     → AreSeats I E T old (seat_rows (pairs_of E) T old)
 are_seats I E T old fits known permitted was =
     let pairs = pairs_of E in
@@ -425,33 +562,54 @@ are_seats I E T old fits known permitted was =
     let none = neither (first_unplaced T) (least_breach I E T) permitted in
     let clean = no_first (breaches_of I E T) none.1 in
     let placed = all_placed T none.0 in
-    let exist : AllByRecursion (λ p. p.exam < length T) pairs = from_within (length T) 0 E (omega (arith, fits.timetable, fits.enrolments)) in
+    let exist : AllByRecursion (λ p. p.exam < length T) pairs =
+    from_within (length T) 0 E (omega (arith, fits.timetable, fits.enrolments)) in
     let fairs = all_fair T old pairs in
     let own_pairs : map (λ (x : Entrant). record { exam = x.exam; student = x.student }) xs ≡ pairs
-    = entrant_pairs T old pairs (each_weaker (λ (p : Pair). p.exam < length T) (λ p. IsSome (place_of T p.exam)) (λ p lt. placed p.exam lt) pairs exist) in
+    = entrant_pairs T old pairs
+    (each_weaker (λ (p : Pair). p.exam < length T) (λ p. IsSome (place_of T p.exam))
+    (λ p lt. placed p.exam lt) pairs exist) in
     let same : map row_pair rows ≡ pairs = rows_pairs T old (kept_rows xs) xs fairs ∙ own_pairs in
     let order : IsChain ComesBefore pairs = chain_from_index ComesBefore pairs are.ordered in
-    let entrant_order = chain_unmap ComesBefore (λ (x : Entrant). record { exam = x.exam; student = x.student }) xs (subst (IsChain ComesBefore) (sym own_pairs) order) in
-    let in_order : RowsInOrder rows = index_from_chain RowBefore rows (chain_unmap ComesBefore row_pair rows (subst (IsChain ComesBefore) (sym same) order)) in
+    let entrant_order =
+    chain_unmap ComesBefore (λ (x : Entrant). record { exam = x.exam; student = x.student }) xs
+    (subst (IsChain ComesBefore) (sym own_pairs) order) in
+    let in_order : RowsInOrder rows =
+    index_from_chain RowBefore rows
+    (chain_unmap ComesBefore row_pair rows (subst (IsChain ComesBefore) (sym same) order)) in
     let room : IsRoomFor (load_at E T) (kept_rows xs) xs
-    = λ at. (let c = counted_entrants T old at xs fairs in let p = counted_pairs T old at pairs in let l = loaded E T at are in omega arith) in
+    = λ at. (let c = counted_entrants T old at xs fairs in let p = counted_pairs T old at pairs in
+    let l = loaded E T at are in omega arith) in
     let kept : Has I (kept_rows xs)
-    = each_filter_map (HasSeat I) (λ (x : Entrant). x.kept) xs (each_weaker (IsFair T old) (λ (x : Entrant). IfSome x.kept (HasSeat I))
-    (λ x h. some_weaker (Contains old) (HasSeat I) (λ row there. All-contains (HasSeat I) old row was.within there) x.kept h.from_old) xs fairs) in
-    let seats : AllByRecursion (λ (x : Entrant). (n : ℕ) → 1 ≤ n → n ≤ load_at E T x.place → IsSeatOf (slice_get I.rooms x.place.room) n) xs
-    = each_entrant (λ (x : Entrant). (n : ℕ) → 1 ≤ n → n ≤ load_at E T x.place → IsSeatOf (slice_get I.rooms x.place.room) n) T old pairs
-    (each_weaker (λ (p : Pair). p.exam < length T) (λ (p : Pair). (at : Place) → place_of T p.exam ≡ Some at → (n : ℕ) → 1 ≤ n → n ≤ load_at E T at → IsSeatOf (slice_get I.rooms at.room) n)
+    = each_filter_map (HasSeat I) (λ (x : Entrant). x.kept) xs
+    (each_weaker (IsFair T old) (λ (x : Entrant). IfSome x.kept (HasSeat I))
+    (λ x h. some_weaker (Contains old) (HasSeat I)
+    (λ row there. All-contains (HasSeat I) old row was.within there) x.kept h.from_old)
+    xs fairs) in
+    let seats : AllByRecursion
+    (λ (x : Entrant). (n : ℕ) → 1 ≤ n → n ≤ load_at E T x.place
+    → IsSeatOf (slice_get I.rooms x.place.room) n) xs
+    = each_entrant
+    (λ (x : Entrant). (n : ℕ) → 1 ≤ n → n ≤ load_at E T x.place
+    → IsSeatOf (slice_get I.rooms x.place.room) n) T old pairs
+    (each_weaker (λ (p : Pair). p.exam < length T)
+    (λ (p : Pair). (at : Place) → place_of T p.exam ≡ Some at → (n : ℕ) → 1 ≤ n
+    → n ≤ load_at E T at → IsSeatOf (slice_get I.rooms at.room) n)
     (λ p lt at here n low high.
     let place = subst (PlaceExists I) here (fits.places p.exam None lt) in
     let fine : is_too_small (slice_get I.rooms at.room) (load_at E T at) ≡ false
-    = sym (ap (where_placed (λ q. is_too_small (slice_get I.rooms q.room) (load_at E T q))) here) ∙ roomy I E T p.exam fits.timetable clean in
+    = sym (ap (where_placed (λ q. is_too_small (slice_get I.rooms q.room) (load_at E T q))) here)
+    ∙ roomy I E T p.exam fits.timetable clean in
     within_room I.rooms at.room n (load_at E T at) place.1 fine low high) pairs exist) in
     record {
       pairs = same;
       seated = record {
         in_order = in_order;
-        within = All-from_recursion (HasSeat I) rows (rows_within I (load_at E T) (kept_rows xs) xs room kept seats);
-        own = index_from_chain HaveOwnSeats rows (own_rows (kept_rows xs) xs (kept_own T old was.own xs fairs entrant_order) (taken_itself (kept_rows xs)));
+        within = All-from_recursion (HasSeat I) rows
+            (rows_within I (load_at E T) (kept_rows xs) xs room kept seats);
+        own = index_from_chain HaveOwnSeats rows
+            (own_rows (kept_rows xs) xs (kept_own T old was.own xs fairs entrant_order)
+            (taken_itself (kept_rows xs)));
       };
       published = record {
         exams = fits.timetable;
@@ -459,6 +617,7 @@ are_seats I E T old fits known permitted was =
         complete = placed;
         few = omega (arith, ap length same, length-map rows row_pair, length_pairs 0 E, known.pairs);
         in_order = in_order;
-        at_exams = All-from_recursion (IsAtExam T) rows (rows_at_exams T old (kept_rows xs) xs fairs);
+        at_exams = All-from_recursion (IsAtExam T) rows
+            (rows_at_exams T old (kept_rows xs) xs fairs);
       };
     }

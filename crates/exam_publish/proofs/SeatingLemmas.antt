@@ -15,16 +15,21 @@ use Rattle.exam_publish.specs.Rows.{comes_before}
 
 -- ---- one exam more
 
-pairs_from-push : (k : ℕ) (E : Enrolled) (xs : List ℕ) → pairs_from k (E ++ xs ∷ []) ≡ pairs_from k E ++ pairs_at (k + length E) xs
+pairs_from-push : (k : ℕ) (E : Enrolled) (xs : List ℕ)
+    → pairs_from k (E ++ xs ∷ []) ≡ pairs_from k E ++ pairs_at (k + length E) xs
 pairs_from-push k [] xs = append-nil (pairs_at k xs) ∙ ap (λ n. pairs_at n xs) (omega arith)
 pairs_from-push k (ys ∷ E) xs =
-    ap (λ ps. pairs_at k ys ++ ps) (pairs_from-push (k + 1) E xs ∙ ap (λ n. pairs_from (k + 1) E ++ pairs_at n xs) (omega arith))
+    ap (λ ps. pairs_at k ys ++ ps)
+    (pairs_from-push (k + 1) E xs
+    ∙ ap (λ n. pairs_from (k + 1) E ++ pairs_at n xs) (omega arith))
     ∙ sym (append_assoc (pairs_at k ys) (pairs_from (k + 1) E) (pairs_at (k + length (ys ∷ E)) xs))
 
-pub pairs_more : (E : Enrolled) (e : ℕ) → e < length E → pairs_of (take (e + 1) E) ≡ pairs_of (take e E) ++ pairs_at e (students E e)
+pub pairs_more : (E : Enrolled) (e : ℕ) → e < length E
+    → pairs_of (take (e + 1) E) ≡ pairs_of (take e E) ++ pairs_at e (students E e)
 pairs_more E e lt =
     ap (pairs_from 0) (take_more E e [] lt) ∙ pairs_from-push 0 (take e E) (students E e)
-    ∙ ap (λ n. pairs_of (take e E) ++ pairs_at n (students E e)) (let l = length-take e E in omega arith)
+    ∙ ap (λ n. pairs_of (take e E) ++ pairs_at n (students E e))
+    (let l = length-take e E in omega arith)
 
 -- ---- how many pairs
 
@@ -46,48 +51,63 @@ length_pairs k (xs ∷ rest) =
 abbrev pub rows_after : Placing → List Pair → List Pair → List SeatRow
 rows_after T seen [] = []
 rows_after T seen (p ∷ ps) =
-    cons_option (option_map (λ at. row_with p at (count_by (sits_at T at) seen + 1)) (place_of T p.exam))
+    cons_option (option_map (λ at. row_with p at (count_by (sits_at T at) seen + 1))
+    (place_of T p.exam))
     (rows_after T (seen ++ p ∷ []) ps)
 
 before_true : (p q : Pair) → ComesBefore p q → comes_before p q ≡ true
-before_true p q h = elim h as (λ _. comes_before p q ≡ true) [ inl less ↦ grind (arith, nat_tests) | inr same ↦ grind (arith, nat_tests) ]
+before_true p q h = elim h as (λ _. comes_before p q ≡ true)
+    [ inl less ↦ grind (arith, nat_tests) | inr same ↦ grind (arith, nat_tests) ]
 
 before_false : (p q : Pair) → ComesBefore p q → comes_before q p ≡ false
-before_false p q h = elim h as (λ _. comes_before q p ≡ false) [ inl less ↦ grind (arith, nat_tests) | inr same ↦ grind (arith, nat_tests) ]
+before_false p q h = elim h as (λ _. comes_before q p ≡ false)
+    [ inl less ↦ grind (arith, nat_tests) | inr same ↦ grind (arith, nat_tests) ]
 
 pub before_itself : (p : Pair) → comes_before p p ≡ false
 before_itself p = grind (arith, nat_tests)
 
-part_before : {X : Type 0} (R : X → X → Type 0) (xs : List X) (y : X) (ys : List X) → IsChain R (xs ++ y ∷ ys) → AllByRecursion (λ x. R x y) xs
+part_before : {X : Type 0} (R : X → X → Type 0) (xs : List X) (y : X) (ys : List X)
+    → IsChain R (xs ++ y ∷ ys) → AllByRecursion (λ x. R x y) xs
 part_before R [] y ys h = tt
 part_before R (x ∷ xs) y ys h = (at_middle R x xs y ys h.0, part_before R xs y ys h.1)
   where
-    at_middle : {X : Type 0} (R : X → X → Type 0) (x : X) (xs : List X) (y : X) (ys : List X) → AllByRecursion (R x) (xs ++ y ∷ ys) → R x y
+    at_middle : {X : Type 0} (R : X → X → Type 0) (x : X) (xs : List X) (y : X) (ys : List X)
+        → AllByRecursion (R x) (xs ++ y ∷ ys) → R x y
     at_middle R x [] y ys h = h.0
     at_middle R x (z ∷ zs) y ys h = at_middle R x zs y ys h.1
 
-part_after : {X : Type 0} (R : X → X → Type 0) (xs : List X) (y : X) (ys : List X) → IsChain R (xs ++ y ∷ ys) → AllByRecursion (R y) ys
+part_after : {X : Type 0} (R : X → X → Type 0) (xs : List X) (y : X) (ys : List X)
+    → IsChain R (xs ++ y ∷ ys) → AllByRecursion (R y) ys
 part_after R [] y ys h = h.0
 part_after R (x ∷ xs) y ys h = part_after R xs y ys h.1
 
 -- the pairs before y are those that stand before it
-counted_before : (t : Pair → Bool) (xs : List Pair) (y : Pair) (ys : List Pair) → IsChain ComesBefore (xs ++ y ∷ ys) → count_by (λ q. comes_before q y && t q) (xs ++ y ∷ ys) ≡ count_by t xs
+counted_before : (t : Pair → Bool) (xs : List Pair) (y : Pair) (ys : List Pair)
+    → IsChain ComesBefore (xs ++ y ∷ ys)
+    → count_by (λ q. comes_before q y && t q) (xs ++ y ∷ ys) ≡ count_by t xs
 counted_before t xs y ys h =
     let split = sum_by-append (λ (q : Pair). cond (comes_before q y && t q) 1 0) xs (y ∷ ys) in
-    let front = sum_by-agree (λ (q : Pair). cond (comes_before q y && t q) 1 0) (λ q. cond (t q) 1 0) xs
-    (each_weaker (λ q. ComesBefore q y) _ (λ q b. ap (λ c. cond (c && t q) 1 0) (before_true q y b)) xs (part_before ComesBefore xs y ys h)) in
+    let front = sum_by-agree (λ (q : Pair). cond (comes_before q y && t q) 1 0)
+    (λ q. cond (t q) 1 0) xs
+    (each_weaker (λ q. ComesBefore q y) _
+    (λ q b. ap (λ c. cond (c && t q) 1 0) (before_true q y b)) xs
+    (part_before ComesBefore xs y ys h)) in
     let back = sum_by-none (λ (q : Pair). cond (comes_before q y && t q) 1 0) ys
-    (each_weaker (ComesBefore y) _ (λ q b. ap (λ c. cond (c && t q) 1 0) (before_false y q b)) ys (part_after ComesBefore xs y ys h)) in
-    let own : ◌≡◌ {A = ℕ} (cond (comes_before y y && t y) 1 0) 0 = ap (λ c. cond (c && t y) 1 0) (before_itself y) in
+    (each_weaker (ComesBefore y) _ (λ q b. ap (λ c. cond (c && t q) 1 0) (before_false y q b)) ys
+    (part_after ComesBefore xs y ys h)) in
+    let own : ◌≡◌ {A = ℕ} (cond (comes_before y y && t y) 1 0) 0 =
+    ap (λ c. cond (c && t y) 1 0) (before_itself y) in
     let rest = sum_by-cons (λ (q : Pair). cond (comes_before q y && t q) 1 0) y ys in
     omega arith
 
 -- a pair's seat is the next behind the pairs before it
-pub numbered : (T : Placing) (all seen ps : List Pair) → all ≡ seen ++ ps → IsChain ComesBefore all → filter_map (seat_row all T) ps ≡ rows_after T seen ps
+pub numbered : (T : Placing) (all seen ps : List Pair) → all ≡ seen ++ ps → IsChain ComesBefore all
+    → filter_map (seat_row all T) ps ≡ rows_after T seen ps
 numbered T all seen [] split order = refl
 numbered T all seen (p ∷ ps) split order =
     let seat : (at : Place) → seat_number all T at p ≡ count_by (sits_at T at) seen + 1
-    = λ at. ap (λ n. n + 1) (ap (count_by (λ q. comes_before q p && sits_at T at q)) split ∙ counted_before (sits_at T at) seen p ps (subst (IsChain ComesBefore) split order)) in
+    = λ at. ap (λ n. n + 1) (ap (count_by (λ q. comes_before q p && sits_at T at q)) split
+    ∙ counted_before (sits_at T at) seen p ps (subst (IsChain ComesBefore) split order)) in
     ap₂ (λ o rows. cons_option o rows)
     (λ i. option_map (λ at. row_with p at (seat at i)) (place_of T p.exam))
     (numbered T all (seen ++ p ∷ []) ps (split ∙ sym (append_assoc seen (p ∷ []) ps)) order)

@@ -26,14 +26,20 @@ use Rattle.exam_publish.proofs.RowLemmas.{are_enrolments}
 
 equal_row : (r q : SeatRow) → same_row r q ≡ true → r ≡ q
 equal_row r q h =
-    let a = and_parts (eqb r.student q.student) (eqb r.exam q.exam && (eqb r.period q.period && (eqb r.room q.room && eqb r.seat q.seat))) h in
-    let b = and_parts (eqb r.exam q.exam) (eqb r.period q.period && (eqb r.room q.room && eqb r.seat q.seat)) a.1 in
+    let a = and_parts (eqb r.student q.student)
+    (eqb r.exam q.exam && (eqb r.period q.period && (eqb r.room q.room && eqb r.seat q.seat)))
+    h in
+    let b = and_parts (eqb r.exam q.exam)
+    (eqb r.period q.period && (eqb r.room q.room && eqb r.seat q.seat)) a.1 in
     let c = and_parts (eqb r.period q.period) (eqb r.room q.room && eqb r.seat q.seat) b.1 in
     let d = and_parts (eqb r.room q.room) (eqb r.seat q.seat) c.1 in
-    fields (eqb-true r.student q.student a.0) (eqb-true r.exam q.exam b.0) (eqb-true r.period q.period c.0) (eqb-true r.room q.room d.0) (eqb-true r.seat q.seat d.1)
+    fields (eqb-true r.student q.student a.0) (eqb-true r.exam q.exam b.0)
+    (eqb-true r.period q.period c.0) (eqb-true r.room q.room d.0) (eqb-true r.seat q.seat d.1)
   where
-    fields : r.student ≡ q.student → r.exam ≡ q.exam → r.period ≡ q.period → r.room ≡ q.room → r.seat ≡ q.seat → r ≡ q
-    fields a b c d e = λ i. record { student = a i; exam = b i; period = c i; room = d i; seat = e i }
+    fields : r.student ≡ q.student → r.exam ≡ q.exam → r.period ≡ q.period → r.room ≡ q.room
+        → r.seat ≡ q.seat → r ≡ q
+    fields a b c d e =
+        λ i. record { student = a i; exam = b i; period = c i; room = d i; seat = e i }
 
 equal_rows : (rs qs : List SeatRow) → same_rows rs qs ≡ true → rs ≡ qs
 equal_rows [] [] h = refl
@@ -46,21 +52,29 @@ equal_rows (r ∷ rs) (q ∷ qs) h =
 pub same_share : (I : Session) (old new : List SeatRow) (s : ℕ) → is_changed old new s ≡ false
     → share_of I.periods I.weights (rows_of s old) ≡ share_of I.periods I.weights (rows_of s new)
 same_share I old new s h =
-    ap (share_of I.periods I.weights) (equal_rows (rows_of s old) (rows_of s new) (not-false (same_rows (rows_of s old) (rows_of s new)) h))
+    ap (share_of I.periods I.weights)
+    (equal_rows (rows_of s old) (rows_of s new)
+    (not-false (same_rows (rows_of s old) (rows_of s new)) h))
 
 -- ---- whose shares
 
-firsts : (f : ℕ → PersonalPenalty) (xs : List ℕ) → map (λ (share : ℕ × PersonalPenalty). share.0) (map (λ s. (s, f s)) xs) ≡ xs
+firsts : (f : ℕ → PersonalPenalty) (xs : List ℕ)
+    → map (λ (share : ℕ × PersonalPenalty). share.0) (map (λ s. (s, f s)) xs) ≡ xs
 firsts f [] = refl
 firsts f (x ∷ xs) = ap (λ ys. x ∷ ys) (firsts f xs)
 
-sharing : (I : Session) (rows : List SeatRow) → map (λ (share : ℕ × PersonalPenalty). share.0) (student_shares I rows) ≡ students_of rows
+sharing : (I : Session) (rows : List SeatRow)
+    → map (λ (share : ℕ × PersonalPenalty). share.0) (student_shares I rows) ≡ students_of rows
 sharing I rows = firsts (λ s. share_of I.periods I.weights (rows_of s rows)) (students_of rows)
 
-pub shares_ascend : (I : Session) (rows : List SeatRow) → IsAscending (map (λ (share : ℕ × PersonalPenalty). share.0) (student_shares I rows))
-shares_ascend I rows = subst IsAscending (sym (sharing I rows)) (ascends (map (λ (row : SeatRow). row.student) rows))
+pub shares_ascend : (I : Session) (rows : List SeatRow)
+    → IsAscending (map (λ (share : ℕ × PersonalPenalty). share.0) (student_shares I rows))
+shares_ascend I rows =
+    subst IsAscending (sym (sharing I rows)) (ascends (map (λ (row : SeatRow). row.student) rows))
 
-pub shares_seated : (I : Session) (rows : List SeatRow) (s : ℕ) → has_number (map (λ (share : ℕ × PersonalPenalty). share.0) (student_shares I rows)) s ≡ has_row rows s
+pub shares_seated : (I : Session) (rows : List SeatRow) (s : ℕ)
+    → has_number (map (λ (share : ℕ × PersonalPenalty). share.0) (student_shares I rows)) s
+    ≡ has_row rows s
 shares_seated I rows s =
     ap (λ xs. has_number xs s) (sharing I rows)
     ∙ has_ascending (map (λ (row : SeatRow). row.student) rows) s
@@ -68,29 +82,47 @@ shares_seated I rows s =
 
 -- ---- how much
 
-each_below : {X : Type 0} (f : X → ℕ) (n : ℕ) (xs : List X) → sum_by f xs < n → AllByRecursion (λ x. f x < n) xs
+each_below : {X : Type 0} (f : X → ℕ) (n : ℕ) (xs : List X) → sum_by f xs < n
+    → AllByRecursion (λ x. f x < n) xs
 each_below f n [] h = tt
-each_below f n (x ∷ xs) h = let c = sum_by-cons f x xs in (omega arith, each_below f n xs (omega arith))
+each_below f n (x ∷ xs) h = let c = sum_by-cons f x xs in
+    (omega arith, each_below f n xs (omega arith))
 
-pub small_shares : (n : ℕ) → n ≡ 2 ^ 62 → (shares : Sharing) → share_total shares < n → AreSmall shares
+pub small_shares : (n : ℕ) → n ≡ 2 ^ 62 → (shares : Sharing) → share_total shares < n
+    → AreSmall shares
 small_shares n is shares h =
-    let a = each_below (λ (share : ℕ × PersonalPenalty). personal_total share.1) n shares.students (omega arith) in
+    let a = each_below (λ (share : ℕ × PersonalPenalty). personal_total share.1) n shares.students
+    (omega arith) in
     let b = each_below (λ (share : ℕ). share) n shares.exams (omega arith) in
     let c = each_below (λ (share : ℕ). share) n shares.periods (omega arith) in
-    let d = each_below (λ (share : RoomShare). share.penalty + share.mixed) n shares.rooms (omega arith) in
+    let d = each_below (λ (share : RoomShare). share.penalty + share.mixed) n shares.rooms
+    (omega arith) in
     record {
-      students = subst (λ m. All (λ (share : ℕ × PersonalPenalty). personal_total share.1 < m) shares.students) is (All-from_recursion (λ (share : ℕ × PersonalPenalty). personal_total share.1 < n) shares.students a);
-      exams = subst (λ m. All (λ (share : ℕ). share < m) shares.exams) is (All-from_recursion (λ (share : ℕ). share < n) shares.exams b);
-      periods = subst (λ m. All (λ (share : ℕ). share < m) shares.periods) is (All-from_recursion (λ (share : ℕ). share < n) shares.periods c);
-      rooms = subst (λ m. All (λ (share : RoomShare). share.penalty + share.mixed < m) shares.rooms) is (All-from_recursion (λ (share : RoomShare). share.penalty + share.mixed < n) shares.rooms d);
+      students = subst
+          (λ m. All (λ (share : ℕ × PersonalPenalty). personal_total share.1 < m) shares.students)
+          is
+          (All-from_recursion (λ (share : ℕ × PersonalPenalty). personal_total share.1 < n)
+          shares.students a);
+      exams = subst (λ m. All (λ (share : ℕ). share < m) shares.exams) is
+          (All-from_recursion (λ (share : ℕ). share < n) shares.exams b);
+      periods = subst (λ m. All (λ (share : ℕ). share < m) shares.periods) is
+          (All-from_recursion (λ (share : ℕ). share < n) shares.periods c);
+      rooms = subst (λ m. All (λ (share : RoomShare). share.penalty + share.mixed < m) shares.rooms)
+          is (All-from_recursion
+          (λ (share : RoomShare). share.penalty + share.mixed < n) shares.rooms d);
       total = subst (λ m. share_total shares < m) is h;
     }
 
-pub published_small : (I : Session) (rows : List SeatRow) (T : Placing) (shares : Sharing) → IsInstance I → ArePublishedRows I rows T → AreNumbered rows
+pub published_small : (I : Session) (rows : List SeatRow) (T : Placing) (shares : Sharing)
+    → IsInstance I → ArePublishedRows I rows T → AreNumbered rows
     → AddUpTo (track I (enrolled_in (length I.exams) rows) T) shares → AreSmall shares
 published_small I rows T shares known are numbered adds =
     let n = length I.exams in
     let E : Enrolled = enrolled_in n rows in
-    let made = are_enrolments n rows (omega (arith, known.limits.counts.0.0)) (omega (arith, known.limits.counts.0.1)) are.few (chain_from_index RowBefore rows are.in_order) (rows_exist I rows T are) (recursion_from_All (λ (row : SeatRow). row.student ≤ 999999999) rows numbered) in
-    let small = penalty_small I E T known made (record { enrolments = length-map-range_with_len (students_in rows) 0 n; timetable = are.exams; places = are.places }) in
+    let made = are_enrolments n rows (omega (arith, known.limits.counts.0.0))
+    (omega (arith, known.limits.counts.0.1)) are.few
+    (chain_from_index RowBefore rows are.in_order) (rows_exist I rows T are)
+    (recursion_from_All (λ (row : SeatRow). row.student ≤ 999999999) rows numbered) in
+    let small = penalty_small I E T known made
+    (record { enrolments = length-map-range_with_len (students_in rows) 0 n; timetable = are.exams; places = are.places }) in
     small_shares (2 ^ 62) refl shares (subst (λ k. k < 2 ^ 62) (sym adds.total) small)

@@ -16,20 +16,29 @@ use Rattle.exam_score.specs.Front.{is_larger_by, front_by}
 use Rattle.exam_publish.specs.Tallies.{AreTallied}
 use Rattle.exam_publish.proofs.RowLemmas.{students_at}
 
-size_is : (n : ℕ) (rows : List SeatRow) (sizes : List ℕ) → AreTallied (λ e. 1) is_of_exam n rows sizes → (e : ℕ) → e < n → slice_index sizes e ≡ size_of (enrolled_in n rows) e
+size_is : (n : ℕ) (rows : List SeatRow) (sizes : List ℕ)
+    → AreTallied (λ e. 1) is_of_exam n rows sizes → (e : ℕ) → e < n
+    → slice_index sizes e ≡ size_of (enrolled_in n rows) e
 size_is n rows sizes are e lt =
     are.each e lt ∙ one-mul (count_by (is_of_exam e) rows)
-    ∙ sym (ap length (students_at n rows e lt) ∙ length-map (filter (is_of_exam e) rows) (λ (row : SeatRow). row.student) ∙ length-filter (is_of_exam e) rows)
+    ∙ sym (ap length (students_at n rows e lt)
+    ∙ length-map (filter (is_of_exam e) rows) (λ (row : SeatRow). row.student)
+    ∙ length-filter (is_of_exam e) rows)
 
 -- by the table or by the enrolments
-pub front_is : (I : Session) (rows : List SeatRow) (T : Placing) (sizes : List ℕ) (e : ℕ) → AreTallied (λ e. 1) is_of_exam (length I.exams) rows sizes → e < length I.exams
+pub front_is : (I : Session) (rows : List SeatRow) (T : Placing) (sizes : List ℕ) (e : ℕ)
+    → AreTallied (λ e. 1) is_of_exam (length I.exams) rows sizes → e < length I.exams
     → front_by I sizes (place_of T e) e ≡ exam_front I (enrolled_in (length I.exams) rows) T e
 front_is I rows T sizes e are within =
     let E = enrolled_in (length I.exams) rows in
     let size = size_is (length I.exams) rows sizes are in
     let same : (f : ℕ) → f < length I.exams → is_larger_by sizes f e ≡ is_larger E f e
     = λ f l. ap₂ (λ a b. nat_lt a b || ((b == a) && nat_lt f e)) (size e within) (size f l) in
-    let count : count_below (length sizes) (λ f. is_larger_by sizes f e) ≡ count_below (length I.exams) (λ f. is_larger E f e)
+    let count : count_below (length sizes) (λ f. is_larger_by sizes f e)
+    ≡ count_below (length I.exams) (λ f. is_larger E f e)
     = ap (λ n. count_below n (λ f. is_larger_by sizes f e)) are.count
-    ∙ sum_below-within (λ f. cond (is_larger_by sizes f e) 1 0) (λ f. cond (is_larger E f e) 1 0) (length I.exams) (λ f l. ap (λ b. cond b 1 0) (same f l)) in
-    ap (λ n. if nat_lt n I.weights.front_exams && is_late I (place_of T e) then I.weights.front else 0) count
+    ∙ sum_below-within (λ f. cond (is_larger_by sizes f e) 1 0) (λ f. cond (is_larger E f e) 1 0)
+    (length I.exams) (λ f l. ap (λ b. cond b 1 0) (same f l)) in
+    ap (λ n. if nat_lt n I.weights.front_exams && is_late I (place_of T e) then I.weights.front
+    else 0)
+    count

@@ -34,33 +34,50 @@ row_like : ℕ → SeatRow
 row_like s = record { student = s; exam = 0; period = 0; room = 0; seat = 0 }
 
 has_student_of : (rows : List SeatRow) (s : ℕ) → has_number (students_of rows) s ≡ has_row rows s
-has_student_of rows s = has_ascending (map (λ row. row.student) rows) s ∙ any_map (λ t. eqb t s) (λ row. row.student) rows
+has_student_of rows s = has_ascending (map (λ row. row.student) rows) s
+    ∙ any_map (λ t. eqb t s) (λ row. row.student) rows
 
-pub are_sorted : (rows sorted : List SeatRow) → IsPermutation rows sorted → IsSortedByKey (λ (row : SeatRow). row.student) nat_cmp sorted
+pub are_sorted : (rows sorted : List SeatRow) → IsPermutation rows sorted
+    → IsSortedByKey (λ (row : SeatRow). row.student) nat_cmp sorted
     → IsStableByKey (λ (row : SeatRow). row.student) nat_cmp rows sorted → AreSorted rows sorted
 unfolding row_like
 are_sorted rows sorted moved up stable = record {
-  by_student = λ i j d l m. IsNonDecreasingBy-from_sort (λ (row : SeatRow). row.student) sorted up i j d (omega arith) m;
-  same = λ s. sym (filter_agree (ties (λ (x : SeatRow) y. is_lt (nat_cmp x.student y.student)) (row_like s)) (λ row. eqb row.student s) (λ row. tied s row.student) sorted)
+  by_student =
+      λ i j d l m.
+      IsNonDecreasingBy-from_sort (λ (row : SeatRow). row.student) sorted up i j d (omega arith) m;
+  same = λ s. sym
+      (filter_agree (ties (λ (x : SeatRow) y. is_lt (nat_cmp x.student y.student)) (row_like s))
+      (λ row. eqb row.student s) (λ row. tied s row.student) sorted)
       ∙ stable (row_like s)
-      ∙ filter_agree (ties (λ (x : SeatRow) y. is_lt (nat_cmp x.student y.student)) (row_like s)) (λ row. eqb row.student s) (λ row. tied s row.student) rows;
-  students = same_list (students_of sorted) (students_of rows) (ascends (map (λ row. row.student) sorted)) (ascends (map (λ row. row.student) rows))
-      (λ s. has_student_of sorted s ∙ sym (list_any-IsPermutation (λ (row : SeatRow). eqb row.student s) rows sorted moved) ∙ sym (has_student_of rows s));
+      ∙ filter_agree (ties (λ (x : SeatRow) y. is_lt (nat_cmp x.student y.student)) (row_like s))
+      (λ row. eqb row.student s) (λ row. tied s row.student) rows;
+  students = same_list (students_of sorted) (students_of rows)
+      (ascends (map (λ row. row.student) sorted)) (ascends (map (λ row. row.student) rows))
+      (λ s. has_student_of sorted s
+      ∙ sym (list_any-IsPermutation (λ (row : SeatRow). eqb row.student s) rows sorted moved)
+      ∙ sym (has_student_of rows s));
 }
 
 -- ---- the rows of the first student
 
-own_rows : (rows : List SeatRow) (s n : ℕ) → IsRun rows s n → AllByRecursion (λ row. row.student ≡ s) (take n rows)
+own_rows : (rows : List SeatRow) (s n : ℕ) → IsRun rows s n
+    → AllByRecursion (λ row. row.student ≡ s) (take n rows)
 own_rows rows s n run =
     recursion_from_All (λ row. row.student ≡ s) (take n rows)
-    (λ k d lt. let l = length-take n rows in subst (λ (row : SeatRow). row.student ≡ s) (sym (get_or-take n rows k d (omega arith))) (run.own k d (omega arith)))
+    (λ k d lt. let l = length-take n rows in
+    subst (λ (row : SeatRow). row.student ≡ s) (sym (get_or-take n rows k d (omega arith)))
+    (run.own k d (omega arith)))
 
 -- the first row is one of them
-pub some_own : (rows : List SeatRow) (r : SeatRow) (n : ℕ) → r ≡ get_or rows 0 r → 0 < length rows → IsRun rows r.student n → 0 < n
-some_own rows r zero is some run = absurd (run.other r some (ap (λ (row : SeatRow). row.student) (sym is)))
+pub some_own : (rows : List SeatRow) (r : SeatRow) (n : ℕ) → r ≡ get_or rows 0 r → 0 < length rows
+    → IsRun rows r.student n → 0 < n
+some_own rows r zero is some run =
+    absurd (run.other r some (ap (λ (row : SeatRow). row.student) (sym is)))
 some_own rows r (suc n) is some run = omega arith
 
-other_rows : (rows : List SeatRow) (r : SeatRow) (n : ℕ) → AllPairs (λ row other. row.student ≤ other.student) rows → r ≡ get_or rows 0 r → 0 < length rows
+other_rows : (rows : List SeatRow) (r : SeatRow) (n : ℕ)
+    → AllPairs (λ row other. row.student ≤ other.student) rows → r ≡ get_or rows 0 r
+    → 0 < length rows
     → IsRun rows r.student n → AllByRecursion (λ row. r.student < row.student) (drop n rows)
 other_rows rows r n up is some run =
     recursion_from_All (λ row. r.student < row.student) (drop n rows)
@@ -71,27 +88,37 @@ other_rows rows r n up is some run =
     let apart = run.other d first in
     let own = run.own 0 d positive in
     let least : (get_or rows 0 d).student ≤ (get_or rows n d).student = up 0 n d positive first in
-    let here : r.student < (get_or rows n d).student = elim (cases_eq (get_or rows n d).student r.student) as (λ _. r.student < (get_or rows n d).student) [ inl same ↦ absurd (apart same) | inr other ↦ omega arith ] in
-    let later : (get_or rows n d).student ≤ (get_or rows (n + k) d).student = further n k d within in
-    subst (λ (row : SeatRow). r.student < row.student) (sym (get_or-drop n rows k d)) (let h : r.student < (get_or rows (n + k) d).student = omega arith in h)))
+    let here : r.student < (get_or rows n d).student =
+    elim (cases_eq (get_or rows n d).student r.student)
+    as (λ _. r.student < (get_or rows n d).student)
+    [ inl same ↦ absurd (apart same) | inr other ↦ omega arith ] in
+    let later : (get_or rows n d).student ≤ (get_or rows (n + k) d).student =
+    further n k d within in
+    subst (λ (row : SeatRow). r.student < row.student) (sym (get_or-drop n rows k d))
+    (let h : r.student < (get_or rows (n + k) d).student = omega arith in h)))
   where
-    further : (n k : ℕ) (d : SeatRow) → n + k < length rows → (get_or rows n d).student ≤ (get_or rows (n + k) d).student
+    further : (n k : ℕ) (d : SeatRow) → n + k < length rows
+        → (get_or rows n d).student ≤ (get_or rows (n + k) d).student
     further n zero d lt = let same : n + 0 ≡ n = omega arith in rw same (omega arith)
     further n (suc k) d lt = up n (n + suc k) d (omega arith) lt
 
-rows_all : (s : ℕ) (xs : List SeatRow) → AllByRecursion (λ row. row.student ≡ s) xs → rows_of s xs ≡ xs
+rows_all : (s : ℕ) (xs : List SeatRow) → AllByRecursion (λ row. row.student ≡ s) xs
+    → rows_of s xs ≡ xs
 rows_all s [] a = refl
 rows_all s (x ∷ xs) a =
-    ap (λ b. cond b (x ∷ rows_of s xs) (rows_of s xs)) (eq-eqb x.student s a.0) ∙ ap (λ ys. x ∷ ys) (rows_all s xs a.1)
+    ap (λ b. cond b (x ∷ rows_of s xs) (rows_of s xs)) (eq-eqb x.student s a.0)
+    ∙ ap (λ ys. x ∷ ys) (rows_all s xs a.1)
 
-rows_none : (s : ℕ) (xs : List SeatRow) → AllByRecursion (λ row. row.student ≡ s → ⊥) xs → rows_of s xs ≡ []
+rows_none : (s : ℕ) (xs : List SeatRow) → AllByRecursion (λ row. row.student ≡ s → ⊥) xs
+    → rows_of s xs ≡ []
 rows_none s [] a = refl
 rows_none s (x ∷ xs) a =
     ap (λ b. cond b (x ∷ rows_of s xs) (rows_of s xs)) (ne_eqb x.student s a.0) ∙ rows_none s xs a.1
 
 -- ---- the numbers of the students
 
-each_ascending : (P : ℕ → Type 0) (xs : List SeatRow) → AllByRecursion (λ row. P row.student) xs → AllByRecursion P (students_of xs)
+each_ascending : (P : ℕ → Type 0) (xs : List SeatRow) → AllByRecursion (λ row. P row.student) xs
+    → AllByRecursion P (students_of xs)
 each_ascending P [] a = tt
 each_ascending P (x ∷ xs) a = each_with P x.student (students_of xs) a.0 (each_ascending P xs a.1)
 
@@ -112,55 +139,77 @@ with_again s xs =
     (λ behind. absurd (omega arith))
 
 -- one student's rows before those of greater ones
-run_first : (s : ℕ) (x : SeatRow) (own later : List SeatRow) → AllByRecursion (λ row. row.student ≡ s) (x ∷ own) → AllByRecursion (λ row. s < row.student) later
+run_first : (s : ℕ) (x : SeatRow) (own later : List SeatRow)
+    → AllByRecursion (λ row. row.student ≡ s) (x ∷ own)
+    → AllByRecursion (λ row. s < row.student) later
     → students_of ((x ∷ own) ++ later) ≡ s ∷ students_of later
-run_first s x [] later a b = ap (λ t. with_student t (students_of later)) a.0 ∙ with_first s (students_of later) (each_ascending (λ t. s < t) later b)
+run_first s x [] later a b = ap (λ t. with_student t (students_of later)) a.0
+    ∙ with_first s (students_of later) (each_ascending (λ t. s < t) later b)
 run_first s x (y ∷ own) later a b =
-    ap₂ (λ t xs. with_student t xs) a.0 (run_first s y own later a.1 b) ∙ with_again s (students_of later)
+    ap₂ (λ t xs. with_student t xs) a.0 (run_first s y own later a.1 b)
+    ∙ with_again s (students_of later)
 
-run_students : (s : ℕ) (own later : List SeatRow) → 0 < length own → AllByRecursion (λ row. row.student ≡ s) own → AllByRecursion (λ row. s < row.student) later
+run_students : (s : ℕ) (own later : List SeatRow) → 0 < length own
+    → AllByRecursion (λ row. row.student ≡ s) own → AllByRecursion (λ row. s < row.student) later
     → students_of (own ++ later) ≡ s ∷ students_of later
 run_students s [] later some a b = absurd (omega arith)
 run_students s (x ∷ own) later some a b = run_first s x own later a b
 
 -- ---- the walk
 
-pub record IsShared (I : Session) (rows : List SeatRow) (shares : List (ℕ × PersonalPenalty)) (rest : List SeatRow) : Type 0 where
+pub record IsShared (I : Session) (rows : List SeatRow) (shares : List (ℕ × PersonalPenalty))
+    (rest : List SeatRow) : Type 0 where
   pub shared : shares ++ shares_in I rows (students_of rest) ≡ student_shares I rows
   pub by_student : AllPairs (λ row other. row.student ≤ other.student) rest
   pub whole : (s : ℕ) → has_row rest s ≡ true → rows_of s rest ≡ rows_of s rows
 
-pub start : (I : Session) (rows sorted : List SeatRow) (shares : List (ℕ × PersonalPenalty)) → shares ≡ [] → AreSorted rows sorted → IsShared I rows shares sorted
+pub start : (I : Session) (rows sorted : List SeatRow) (shares : List (ℕ × PersonalPenalty))
+    → shares ≡ [] → AreSorted rows sorted → IsShared I rows shares sorted
 start I rows sorted shares none are = record {
-  shared = ap (λ xs. xs ++ shares_in I rows (students_of sorted)) none ∙ ap (shares_in I rows) are.students;
+  shared = ap (λ xs. xs ++ shares_in I rows (students_of sorted)) none
+      ∙ ap (shares_in I rows) are.students;
   by_student = are.by_student;
   whole = λ s h. are.same s;
 }
 
 -- the first student's rows are all that she has
-pub own_is : (I : Session) (rows rest : List SeatRow) (shares : List (ℕ × PersonalPenalty)) (r : SeatRow) (n : ℕ) → IsShared I rows shares rest
-    → r ≡ get_or rest 0 r → 0 < length rest → IsRun rest r.student n → take n rest ≡ rows_of r.student rows
+pub own_is : (I : Session) (rows rest : List SeatRow) (shares : List (ℕ × PersonalPenalty))
+    (r : SeatRow) (n : ℕ)
+    → IsShared I rows shares rest
+    → r ≡ get_or rest 0 r → 0 < length rest → IsRun rest r.student n
+    → take n rest ≡ rows_of r.student rows
 own_is I rows rest shares r n was is some run =
     let own = own_rows rest r.student n run in
     let later = other_rows rest r n was.by_student is some run in
     sym (rows_all r.student (take n rest) own)
     ∙ sym (append-nil (rows_of r.student (take n rest)))
-    ∙ ap (λ xs. rows_of r.student (take n rest) ++ xs) (sym (rows_none r.student (drop n rest) (each_weaker (λ row. r.student < row.student) (λ row. row.student ≡ r.student → ⊥) (λ row h e. omega arith) (drop n rest) later)))
+    ∙ ap (λ xs. rows_of r.student (take n rest) ++ xs)
+    (sym (rows_none r.student (drop n rest)
+    (each_weaker (λ row. r.student < row.student) (λ row. row.student ≡ r.student → ⊥)
+    (λ row h e. omega arith) (drop n rest) later)))
     ∙ sym (filter-append (λ row. eqb row.student r.student) (take n rest) (drop n rest))
     ∙ ap (rows_of r.student) (take-append-drop n rest)
     ∙ was.whole r.student (has_first rest some is)
   where
-    has_first : (xs : List SeatRow) → 0 < length xs → r ≡ get_or xs 0 r → has_row xs r.student ≡ true
+    has_first : (xs : List SeatRow) → 0 < length xs → r ≡ get_or xs 0 r
+        → has_row xs r.student ≡ true
     has_first [] l e = absurd (omega arith)
-    has_first (x ∷ xs) l e = ap (λ b. b || has_row xs r.student) (eq-eqb x.student r.student (ap (λ (row : SeatRow). row.student) (sym e)))
+    has_first (x ∷ xs) l e =
+        ap (λ b. b || has_row xs r.student)
+        (eq-eqb x.student r.student (ap (λ (row : SeatRow). row.student) (sym e)))
 
-no_row : (s : ℕ) (xs : List SeatRow) → AllByRecursion (λ row. row.student ≡ s → ⊥) xs → has_row xs s ≡ false
+no_row : (s : ℕ) (xs : List SeatRow) → AllByRecursion (λ row. row.student ≡ s → ⊥) xs
+    → has_row xs s ≡ false
 no_row s [] a = refl
 no_row s (x ∷ xs) a = ap₂ (λ a b. a || b) (ne_eqb x.student s a.0) (no_row s xs a.1)
 
 -- one student more
-pub shared_more : (I : Session) (rows rest : List SeatRow) (shares more : List (ℕ × PersonalPenalty)) (r : SeatRow) (n : ℕ) → IsShared I rows shares rest
-    → r ≡ get_or rest 0 r → 0 < length rest → IsRun rest r.student n → more ≡ shares ++ (r.student, share_of I.periods I.weights (rows_of r.student rows)) ∷ [] → IsShared I rows more (drop n rest)
+pub shared_more : (I : Session) (rows rest : List SeatRow)
+    (shares more : List (ℕ × PersonalPenalty)) (r : SeatRow) (n : ℕ)
+    → IsShared I rows shares rest
+    → r ≡ get_or rest 0 r → 0 < length rest → IsRun rest r.student n
+    → more ≡ shares ++ (r.student, share_of I.periods I.weights (rows_of r.student rows)) ∷ []
+    → IsShared I rows more (drop n rest)
 shared_more I rows rest shares more r n was is some run added =
     let s = r.student in
     let own = own_rows rest s n run in
@@ -168,20 +217,33 @@ shared_more I rows rest shares more r n was is some run added =
     let long = length-take n rest in
     let positive = some_own rest r n is some run in
     let students : students_of rest ≡ s ∷ students_of (drop n rest)
-    = ap students_of (sym (take-append-drop n rest)) ∙ run_students s (take n rest) (drop n rest) (omega arith) own later in
+    = ap students_of (sym (take-append-drop n rest))
+    ∙ run_students s (take n rest) (drop n rest) (omega arith) own later in
     record {
       shared = ap (λ xs. xs ++ shares_in I rows (students_of (drop n rest))) added
-          ∙ append_assoc shares ((s, share_of I.periods I.weights (rows_of s rows)) ∷ []) (shares_in I rows (students_of (drop n rest)))
+          ∙ append_assoc shares ((s, share_of I.periods I.weights (rows_of s rows)) ∷ [])
+          (shares_in I rows (students_of (drop n rest)))
           ∙ ap (λ xs. shares ++ shares_in I rows xs) (sym students) ∙ was.shared;
       by_student = λ i j d l m. (let size = length-drop n rest in
-          subst (λ (x : SeatRow). x.student ≤ (get_or (drop n rest) j d).student) (sym (get_or-drop n rest i d))
-          (subst (λ (y : SeatRow). (get_or rest (n + i) d).student ≤ y.student) (sym (get_or-drop n rest j d)) (was.by_student (n + i) (n + j) d (omega arith) (omega arith))));
+          subst (λ (x : SeatRow). x.student ≤ (get_or (drop n rest) j d).student)
+          (sym (get_or-drop n rest i d))
+          (subst (λ (y : SeatRow). (get_or rest (n + i) d).student ≤ y.student)
+          (sym (get_or-drop n rest j d))
+          (was.by_student (n + i) (n + j) d (omega arith) (omega arith))));
       whole = λ t h. elim (cases_eq t s) as (λ _. rows_of t (drop n rest) ≡ rows_of t rows) [
-        | inl same ↦ absurd (none_later t h (each_weaker (λ row. s < row.student) (λ row. row.student ≡ t → ⊥) (λ row k e. omega arith) (drop n rest) later))
-        | inr other ↦ ap (λ xs. xs ++ rows_of t (drop n rest)) (sym (rows_none t (take n rest) (each_weaker (λ row. row.student ≡ s) (λ row. row.student ≡ t → ⊥) (λ row k e. other (sym e ∙ k)) (take n rest) own)))
+        | inl same ↦
+            absurd (none_later t h
+            (each_weaker (λ row. s < row.student) (λ row. row.student ≡ t → ⊥)
+            (λ row k e. omega arith) (drop n rest) later))
+        | inr other ↦ ap (λ xs. xs ++ rows_of t (drop n rest))
+            (sym (rows_none t (take n rest)
+            (each_weaker (λ row. row.student ≡ s) (λ row. row.student ≡ t → ⊥)
+            (λ row k e. other (sym e ∙ k)) (take n rest) own)))
             ∙ sym (filter-append (λ row. eqb row.student t) (take n rest) (drop n rest))
             ∙ ap (rows_of t) (take-append-drop n rest)
-            ∙ was.whole t (ap (λ xs. has_row xs t) (sym (take-append-drop n rest)) ∙ list_any-append (λ row. eqb row.student t) (take n rest) (drop n rest) ∙ ap (λ b. has_row (take n rest) t || b) h ∙ or_true (has_row (take n rest) t))
+            ∙ was.whole t (ap (λ xs. has_row xs t) (sym (take-append-drop n rest))
+            ∙ list_any-append (λ row. eqb row.student t) (take n rest) (drop n rest)
+            ∙ ap (λ b. has_row (take n rest) t || b) h ∙ or_true (has_row (take n rest) t))
       ];
     }
   where
@@ -189,7 +251,8 @@ shared_more I rows rest shares more r n was is some run added =
     or_true true = refl
     or_true false = refl
 
-    none_later : (t : ℕ) → has_row (drop n rest) t ≡ true → AllByRecursion (λ row. row.student ≡ t → ⊥) (drop n rest) → ⊥
+    none_later : (t : ℕ) → has_row (drop n rest) t ≡ true
+        → AllByRecursion (λ row. row.student ≡ t → ⊥) (drop n rest) → ⊥
     none_later t h a = clash (sym h ∙ no_row t (drop n rest) a)
       where
         clash : true ≡ false → ⊥
@@ -197,46 +260,60 @@ shared_more I rows rest shares more r n was is some run added =
 
 -- ---- nobody has more rows than there are exams
 
-bounded : (a n : ℕ) (xs : List ℕ) → a ≤ n → IsChain (λ x y. x < y) xs → AllByRecursion (λ x. a ≤ x) xs → AllByRecursion (λ x. x < n) xs → length xs + a ≤ n
+bounded : (a n : ℕ) (xs : List ℕ) → a ≤ n → IsChain (λ x y. x < y) xs
+    → AllByRecursion (λ x. a ≤ x) xs → AllByRecursion (λ x. x < n) xs → length xs + a ≤ n
 bounded a n [] low up above below = omega arith
 bounded a n (x ∷ xs) low up above below =
     let first : a ≤ x = above.0 in
     let last : x < n = below.0 in
-    let more = bounded (a + 1) n xs (omega arith) up.1 (each_weaker (λ y. x < y) (λ y. a + 1 ≤ y) (λ y h. omega arith) xs up.0) below.1 in
+    let more = bounded (a + 1) n xs (omega arith) up.1
+    (each_weaker (λ y. x < y) (λ y. a + 1 ≤ y) (λ y h. omega arith) xs up.0) below.1 in
     omega arith
 
-later_exams : (r : SeatRow) (rs : List SeatRow) (s : ℕ) → r.student ≡ s → AllByRecursion (RowBefore r) rs → AllByRecursion (λ e. r.exam < e) (map (λ row. row.exam) (rows_of s rs))
+later_exams : (r : SeatRow) (rs : List SeatRow) (s : ℕ) → r.student ≡ s
+    → AllByRecursion (RowBefore r) rs
+    → AllByRecursion (λ e. r.exam < e) (map (λ row. row.exam) (rows_of s rs))
 later_exams r [] s same a = tt
 later_exams r (q ∷ qs) s same a = go (eqb q.student s) refl (later_exams r qs s same a.1)
   where
     greater : q.student ≡ s → r.exam < q.exam
-    greater is = elim a.0 as (λ _. r.exam < q.exam) [ inl less ↦ less | inr tie ↦ absurd (omega (arith, tie.1, is, same)) ]
+    greater is = elim a.0 as (λ _. r.exam < q.exam)
+        [ inl less ↦ less | inr tie ↦ absurd (omega (arith, tie.1, is, same)) ]
 
-    go : (b : Bool) → eqb q.student s ≡ b → AllByRecursion (λ e. r.exam < e) (map (λ row. row.exam) (rows_of s qs))
-        → AllByRecursion (λ e. r.exam < e) (map (λ row. row.exam) (cond b (q ∷ rows_of s qs) (rows_of s qs)))
+    go : (b : Bool) → eqb q.student s ≡ b
+        → AllByRecursion (λ e. r.exam < e) (map (λ row. row.exam) (rows_of s qs))
+        → AllByRecursion (λ e. r.exam < e)
+        (map (λ row. row.exam) (cond b (q ∷ rows_of s qs) (rows_of s qs)))
     go true is more = (greater (eqb-true q.student s is), more)
     go false is more = more
 
-her_exams : (rows : List SeatRow) (s : ℕ) → IsChain RowBefore rows → IsChain (λ x y. x < y) (map (λ row. row.exam) (rows_of s rows))
+her_exams : (rows : List SeatRow) (s : ℕ) → IsChain RowBefore rows
+    → IsChain (λ x y. x < y) (map (λ row. row.exam) (rows_of s rows))
 her_exams [] s h = tt
 her_exams (r ∷ rs) s h = go (eqb r.student s) refl (her_exams rs s h.1)
   where
-    go : (b : Bool) → eqb r.student s ≡ b → IsChain (λ x y. x < y) (map (λ row. row.exam) (rows_of s rs))
+    go : (b : Bool) → eqb r.student s ≡ b
+        → IsChain (λ x y. x < y) (map (λ row. row.exam) (rows_of s rs))
         → IsChain (λ x y. x < y) (map (λ row. row.exam) (cond b (r ∷ rows_of s rs) (rows_of s rs)))
     go true is more = (later_exams r rs s (eqb-true r.student s is) h.0, more)
     go false is more = more
 
-pub few_rows : (I : Session) (rows : List SeatRow) (T : Placing) (s : ℕ) → ArePublishedRows I rows T → length I.exams ≤ 2000 → length (rows_of s rows) ≤ 2000
+pub few_rows : (I : Session) (rows : List SeatRow) (T : Placing) (s : ℕ) → ArePublishedRows I rows T
+    → length I.exams ≤ 2000 → length (rows_of s rows) ≤ 2000
 few_rows I rows T s are few =
     let exams = map (λ (row : SeatRow). row.exam) (rows_of s rows) in
-    let all = each_filter (λ row. row.exam < length I.exams) (λ row. eqb row.student s) rows (rows_exist I rows T are) in
-    let bound = bounded 0 (length I.exams) exams (omega arith) (her_exams rows s (chain_from_index RowBefore rows are.in_order)) (each_low exams) (to_exams (rows_of s rows) all) in
+    let all = each_filter (λ row. row.exam < length I.exams) (λ row. eqb row.student s) rows
+    (rows_exist I rows T are) in
+    let bound = bounded 0 (length I.exams) exams (omega arith)
+    (her_exams rows s (chain_from_index RowBefore rows are.in_order)) (each_low exams)
+    (to_exams (rows_of s rows) all) in
     omega (arith, length-map (rows_of s rows) (λ (row : SeatRow). row.exam))
   where
     each_low : (xs : List ℕ) → AllByRecursion (λ x. 0 ≤ x) xs
     each_low [] = tt
     each_low (x ∷ xs) = (omega arith, each_low xs)
 
-    to_exams : (xs : List SeatRow) → AllByRecursion (λ row. row.exam < length I.exams) xs → AllByRecursion (λ x. x < length I.exams) (map (λ row. row.exam) xs)
+    to_exams : (xs : List SeatRow) → AllByRecursion (λ row. row.exam < length I.exams) xs
+        → AllByRecursion (λ x. x < length I.exams) (map (λ row. row.exam) xs)
     to_exams [] a = tt
     to_exams (x ∷ xs) a = (a.0, to_exams xs a.1)

@@ -14,9 +14,12 @@ zeros zero k = refl
 zeros (suc n) zero = refl
 zeros (suc n) (suc k) = zeros n k
 
-pub tally_more : {X : Type 0} (amount : ℕ → ℕ) (test : ℕ → X → Bool) (n : ℕ) (xs : List X) (sums : List ℕ) (x : X) (key new : ℕ)
-    → AreTallied amount test n xs sums → key < n → ((k : ℕ) → test k x ≡ eqb key k) → amount key ≤ 100000
-    → new ≡ slice_index sums key + amount key → AreTallied amount test n (xs ++ x ∷ []) (slice_set sums key new)
+pub tally_more : {X : Type 0} (amount : ℕ → ℕ) (test : ℕ → X → Bool) (n : ℕ) (xs : List X)
+    (sums : List ℕ) (x : X) (key new : ℕ)
+    → AreTallied amount test n xs sums → key < n → ((k : ℕ) → test k x ≡ eqb key k)
+    → amount key ≤ 100000
+    → new ≡ slice_index sums key + amount key
+    → AreTallied amount test n (xs ++ x ∷ []) (slice_set sums key new)
 tally_more {X} amount test n xs sums x key new was lt is few put = record {
   count = length-set sums key new ∙ was.count;
   each = λ k within. each k within (cases_eq key k);
@@ -26,15 +29,21 @@ tally_more {X} amount test n xs sums x key new was lt is few put = record {
     inside : key < length sums
     inside = omega (arith, was.count)
 
-    counted : (k : ℕ) → count_by (test k) (xs ++ x ∷ []) ≡ count_by (test k) xs + cond (eqb key k) 1 0
-    counted k = sum_by_push (λ z. cond (test k z) 1 0) xs x ∙ ap (λ b. count_by (test k) xs + cond b 1 0) (is k)
+    counted : (k : ℕ) → count_by (test k) (xs ++ x ∷ [])
+        ≡ count_by (test k) xs + cond (eqb key k) 1 0
+    counted k = sum_by_push (λ z. cond (test k z) 1 0) xs x
+        ∙ ap (λ b. count_by (test k) xs + cond b 1 0) (is k)
 
-    each : (k : ℕ) → k < n → (key ≡ k) ⊎ (key ≡ k → ⊥) → get_or (slice_set sums key new) k 0 ≡ amount k * count_by (test k) (xs ++ x ∷ [])
+    each : (k : ℕ) → k < n → (key ≡ k) ⊎ (key ≡ k → ⊥)
+        → get_or (slice_set sums key new) k 0 ≡ amount k * count_by (test k) (xs ++ x ∷ [])
     each k within (inl same) =
         let own = was.each key lt in
-        let count = counted key ∙ ap (λ b. count_by (test key) xs + cond b 1 0) (eq-eqb key key refl) in
-        ap (λ j. get_or (slice_set sums key new) j 0) (sym same) ∙ get_or-set_same sums key new 0 inside ∙ put
-        ∙ ap (λ j. j + amount key) own ∙ product (amount key) (count_by (test key) xs) ∙ ap (λ c. amount key * c) (sym count)
+        let count = counted key
+        ∙ ap (λ b. count_by (test key) xs + cond b 1 0) (eq-eqb key key refl) in
+        ap (λ j. get_or (slice_set sums key new) j 0) (sym same)
+        ∙ get_or-set_same sums key new 0 inside ∙ put
+        ∙ ap (λ j. j + amount key) own ∙ product (amount key) (count_by (test key) xs)
+        ∙ ap (λ c. amount key * c) (sym count)
         ∙ ap (λ j. amount j * count_by (test j) (xs ++ x ∷ [])) same
       where
         product : (a c : ℕ) → a * c + a ≡ a * (c + 1)
@@ -42,11 +51,15 @@ tally_more {X} amount test n xs sums x key new was lt is few put = record {
     each k within (inr other) =
         let count = counted k ∙ ap (λ b. count_by (test k) xs + cond b 1 0) (ne_eqb key k other) in
         get_or-set_other sums key k new 0 (λ e. other (sym e)) ∙ was.each k within
-        ∙ ap (λ c. amount k * c) (let h : count_by (test k) xs ≡ count_by (test k) (xs ++ x ∷ []) = omega arith in h)
+        ∙ ap (λ c. amount k * c)
+        (let h : count_by (test k) xs ≡ count_by (test k) (xs ++ x ∷ []) = omega arith in h)
 
-    small : (k : ℕ) → (k ≡ key) ⊎ (k ≡ key → ⊥) → get_or (slice_set sums key new) k 0 ≤ length (xs ++ x ∷ []) * 100000
+    small : (k : ℕ) → (k ≡ key) ⊎ (k ≡ key → ⊥)
+        → get_or (slice_set sums key new) k 0 ≤ length (xs ++ x ∷ []) * 100000
     small k (inl same) =
-        let here : get_or (slice_set sums key new) k 0 ≡ new = ap (λ j. get_or (slice_set sums key new) j 0) same ∙ get_or-set_same sums key new 0 inside in
+        let here : get_or (slice_set sums key new) k 0 ≡ new =
+        ap (λ j. get_or (slice_set sums key new) j 0) same
+        ∙ get_or-set_same sums key new 0 inside in
         let h = was.small key in let l = length-append xs (x ∷ []) in omega arith
     small k (inr other) =
         let here = get_or-set_other sums key k new 0 other in
@@ -68,8 +81,10 @@ untallied amount test n m sums is same = record {
     nothing a = omega arith
 
 -- an element that passes no test
-pub tally_other : {X : Type 0} (amount : ℕ → ℕ) (test : ℕ → X → Bool) (n : ℕ) (xs : List X) (sums : List ℕ) (x : X)
-    → AreTallied amount test n xs sums → ((k : ℕ) → test k x ≡ false) → AreTallied amount test n (xs ++ x ∷ []) sums
+pub tally_other : {X : Type 0} (amount : ℕ → ℕ) (test : ℕ → X → Bool) (n : ℕ) (xs : List X)
+    (sums : List ℕ) (x : X)
+    → AreTallied amount test n xs sums → ((k : ℕ) → test k x ≡ false)
+    → AreTallied amount test n (xs ++ x ∷ []) sums
 tally_other {X} amount test n xs sums x was isnt = record {
   count = was.count;
   each = λ k within. was.each k within ∙ ap (λ c. amount k * c) (sym (counted k));
@@ -78,15 +93,21 @@ tally_other {X} amount test n xs sums x was isnt = record {
   where
     counted : (k : ℕ) → count_by (test k) (xs ++ x ∷ []) ≡ count_by (test k) xs
     counted k =
-        let h = sum_by_push (λ z. cond (test k z) 1 0) xs x ∙ ap (λ b. count_by (test k) xs + cond b 1 0) (isnt k) in
+        let h = sum_by_push (λ z. cond (test k z) 1 0) xs x
+        ∙ ap (λ b. count_by (test k) xs + cond b 1 0) (isnt k) in
         omega arith
 
 -- the list of a function's values, from its values one by one
-pub listed_from : {X : Type 0} (d : X) (f : ℕ → X) (n : ℕ) (xs : List X) → length xs ≡ n → ((k : ℕ) → k < n → get_or xs k d ≡ f k) → xs ≡ map f (range_with_len 0 n)
+pub listed_from : {X : Type 0} (d : X) (f : ℕ → X) (n : ℕ) (xs : List X) → length xs ≡ n
+    → ((k : ℕ) → k < n → get_or xs k d ≡ f k) → xs ≡ map f (range_with_len 0 n)
 listed_from d f n xs long each =
     ext_get_or d xs (map f (range_with_len 0 n)) (long ∙ sym (length-map-range_with_len f 0 n))
-    (λ k lt. each k (omega arith) ∙ sym (get_or-map-range_with_len f 0 n k k d (omega arith) (omega arith)))
+    (λ k lt. each k (omega arith)
+    ∙ sym (get_or-map-range_with_len f 0 n k k d (omega arith) (omega arith)))
 
-pub tallied_list : {X : Type 0} (amount : ℕ → ℕ) (test : ℕ → X → Bool) (n : ℕ) (xs : List X) (sums : List ℕ) → AreTallied amount test n xs sums
+pub tallied_list : {X : Type 0} (amount : ℕ → ℕ) (test : ℕ → X → Bool) (n : ℕ)
+    (xs : List X) (sums : List ℕ)
+    → AreTallied amount test n xs sums
     → sums ≡ map (λ k. amount k * count_by (test k) xs) (range_with_len 0 n)
-tallied_list amount test n xs sums are = listed_from 0 (λ k. amount k * count_by (test k) xs) n sums are.count are.each
+tallied_list amount test n xs sums are =
+    listed_from 0 (λ k. amount k * count_by (test k) xs) n sums are.count are.each

@@ -19,7 +19,8 @@ use Rattle.exam_rules.proofs.OrderLemmas.{contains_head, contains_later, first_o
 use Rattle.exam_rules.proofs.EnumerationLemmas.{passing_sorted, passing_only, passing_all}
 use Rattle.exam_rules.proofs.PlaceLemmas.{breaking_exist}
 
-each_map : {X Y : Type 0} (P : Y → Type 0) (f : X → Y) (xs : List X) → AllByRecursion (λ x. P (f x)) xs
+each_map : {X Y : Type 0} (P : Y → Type 0) (f : X → Y) (xs : List X)
+    → AllByRecursion (λ x. P (f x)) xs
     → AllByRecursion P (map f xs)
 each_map P f [] h = tt
 each_map P f (x ∷ xs) h = (h.0, each_map P f xs h.1)
@@ -31,7 +32,8 @@ each_all P h (x ∷ xs) = (h x, each_all P h xs)
 -- ---- the order
 
 -- two breaches of one rule stand as their exams do
-same_rule : (r : BreachRule) (p q : ExamPair) → exam_pair_cmp p q ≡ Less → breach_cmp (breach r p) (breach r q) ≡ Less
+same_rule : (r : BreachRule) (p q : ExamPair) → exam_pair_cmp p q ≡ Less
+    → breach_cmp (breach r p) (breach r q) ≡ Less
 same_rule r p q less = ap (λ o. ordering_then o (exam_pair_cmp p q)) (equal (rank_of r)) ∙ less
   where
     equal : (n : ℕ) → nat_cmp n n ≡ Equal
@@ -40,7 +42,8 @@ same_rule r p q less = ap (λ o. ordering_then o (exam_pair_cmp p q)) (equal (ra
 -- of two rules the earlier comes first
 earlier_rule : (a b : Breach) → rank_of a.rule < rank_of b.rule → breach_cmp a b ≡ Less
 earlier_rule a b lt =
-    ap (λ o. ordering_then o (ordering_then (nat_cmp a.exam b.exam) (nat_cmp a.other b.other))) (less (rank_of a.rule) (rank_of b.rule) lt)
+    ap (λ o. ordering_then o (ordering_then (nat_cmp a.exam b.exam) (nat_cmp a.other b.other)))
+    (less (rank_of a.rule) (rank_of b.rule) lt)
   where
     less : (m n : ℕ) → m < n → nat_cmp m n ≡ Less
     less m n lt = grind (arith, nat_tests)
@@ -51,7 +54,8 @@ unfolding IsStrictlySortedBy
 block_sorted r [] up = tt
 block_sorted r (p ∷ ps) up = (
   each_map (λ b. breach_cmp (breach r p) b ≡ Less) (breach r) ps
-      (each_weaker (λ q. exam_pair_cmp p q ≡ Less) (λ q. breach_cmp (breach r p) (breach r q) ≡ Less) (λ q h. same_rule r p q h) ps up.0),
+      (each_weaker (λ q. exam_pair_cmp p q ≡ Less)
+      (λ q. breach_cmp (breach r p) (breach r q) ≡ Less) (λ q h. same_rule r p q h) ps up.0),
   block_sorted r ps up.1,
 )
 
@@ -69,11 +73,14 @@ blocks_from : (f : BreachRule → List ExamPair) (n : ℕ) (rs : List BreachRule
 blocks_from f n [] rise = tt
 blocks_from f n (r ∷ rs) rise =
     each_append (λ b. n ≤ rank_of b.rule) (map (breach r) (f r)) (blocks f rs)
-    (each_map (λ b. n ≤ rank_of b.rule) (breach r) (f r) (each_all (λ p. n ≤ rank_of r) (λ p. rise.0) (f r)))
-    (each_weaker (λ b. rank_of r + 1 ≤ rank_of b.rule) (λ b. n ≤ rank_of b.rule) (λ b h. omega (arith, h, rise.0)) (blocks f rs)
+    (each_map (λ b. n ≤ rank_of b.rule) (breach r) (f r)
+    (each_all (λ p. n ≤ rank_of r) (λ p. rise.0) (f r)))
+    (each_weaker (λ b. rank_of r + 1 ≤ rank_of b.rule) (λ b. n ≤ rank_of b.rule)
+    (λ b h. omega (arith, h, rise.0)) (blocks f rs)
     (blocks_from f (rank_of r + 1) rs rise.1))
 
-blocks_sorted : (f : BreachRule → List ExamPair) → ((r : BreachRule) → IsStrictlySortedBy exam_pair_cmp (f r))
+blocks_sorted : (f : BreachRule → List ExamPair)
+    → ((r : BreachRule) → IsStrictlySortedBy exam_pair_cmp (f r))
     → (n : ℕ) (rs : List BreachRule) → Rise n rs → IsStrictlySortedBy breach_cmp (blocks f rs)
 blocks_sorted f up n [] rise = sorted_nil breach_cmp
 blocks_sorted f up n (r ∷ rs) rise =
@@ -82,12 +89,15 @@ blocks_sorted f up n (r ∷ rs) rise =
     (each_map (λ a. AllByRecursion (λ b. breach_cmp a b ≡ Less) (blocks f rs)) (breach r) (f r)
     (each_all (λ p. AllByRecursion (λ b. breach_cmp (breach r p) b ≡ Less) (blocks f rs))
     (λ p. each_weaker (λ b. rank_of r + 1 ≤ rank_of b.rule) (λ b. breach_cmp (breach r p) b ≡ Less)
-    (λ b h. earlier_rule (breach r p) b (omega (arith, h))) (blocks f rs) (blocks_from f (rank_of r + 1) rs rise.1))
+    (λ b h. earlier_rule (breach r p) b (omega (arith, h))) (blocks f rs)
+    (blocks_from f (rank_of r + 1) rs rise.1))
     (f r)))
 
-pub breaches_sorted : (I : Session) (E : Enrolled) (T : Placing) → IsStrictlySortedBy breach_cmp (breaches_of I E T)
+pub breaches_sorted : (I : Session) (E : Enrolled) (T : Placing)
+    → IsStrictlySortedBy breach_cmp (breaches_of I E T)
 breaches_sorted I E T =
-    blocks_sorted (pairs_breaking I E T) (λ r. passing_sorted (breaks I E T r) (length I.exams)) 0 all_rules
+    blocks_sorted (pairs_breaking I E T)
+    (λ r. passing_sorted (breaks I E T r) (length I.exams)) 0 all_rules
     (omega arith, (omega arith, (omega arith, (omega arith, (omega arith, (omega arith, (omega arith, tt)))))))
 
 -- ---- the members
@@ -96,36 +106,49 @@ from_block : (r : BreachRule) (ps : List ExamPair) (b : Breach) → Contains (ma
     → (r ≡ b.rule) × Contains ps (pair b.exam b.other)
 from_block r [] b h = absurd (none_in_nil h)
 from_block r (p ∷ ps) b h =
-    elim (first_or_later (breach r p) (map (breach r) ps) b h) as (λ _. (r ≡ b.rule) × Contains (p ∷ ps) (pair b.exam b.other)) [
-      | inl same ↦ (ap (λ x. x.rule) same, subst (Contains (p ∷ ps)) (ap (λ x. pair x.exam x.other) same) (contains_head p ps))
-      | inr later ↦ (let rest = from_block r ps b later in (rest.0, contains_later p ps (pair b.exam b.other) rest.1))
+    elim (first_or_later (breach r p) (map (breach r) ps) b h)
+    as (λ _. (r ≡ b.rule) × Contains (p ∷ ps) (pair b.exam b.other)) [
+      | inl same ↦
+          (ap (λ x. x.rule) same, subst (Contains (p ∷ ps)) (ap (λ x. pair x.exam x.other) same) (contains_head p ps))
+      | inr later ↦ (let rest = from_block r ps b later in
+          (rest.0, contains_later p ps (pair b.exam b.other) rest.1))
     ]
 
-to_block : (r : BreachRule) (ps : List ExamPair) (p : ExamPair) → Contains ps p → Contains (map (breach r) ps) (breach r p)
+to_block : (r : BreachRule) (ps : List ExamPair) (p : ExamPair) → Contains ps p
+    → Contains (map (breach r) ps) (breach r p)
 to_block r [] p h = absurd (none_in_nil h)
 to_block r (q ∷ ps) p h =
-    elim (first_or_later q ps p h) as (λ _. Contains (breach r q ∷ map (breach r) ps) (breach r p)) [
-      | inl same ↦ subst (λ x. Contains (breach r q ∷ map (breach r) ps) (breach r x)) same (contains_head (breach r q) (map (breach r) ps))
-      | inr later ↦ contains_later (breach r q) (map (breach r) ps) (breach r p) (to_block r ps p later)
+    elim (first_or_later q ps p h)
+    as (λ _. Contains (breach r q ∷ map (breach r) ps) (breach r p)) [
+      | inl same ↦ subst (λ x. Contains (breach r q ∷ map (breach r) ps) (breach r x)) same
+          (contains_head (breach r q) (map (breach r) ps))
+      | inr later ↦ contains_later (breach r q) (map (breach r) ps) (breach r p)
+          (to_block r ps p later)
     ]
 
-from_blocks : (f : BreachRule → List ExamPair) (rs : List BreachRule) (b : Breach) → Contains (blocks f rs) b
+from_blocks : (f : BreachRule → List ExamPair) (rs : List BreachRule) (b : Breach)
+    → Contains (blocks f rs) b
     → Contains (f b.rule) (pair b.exam b.other)
 from_blocks f [] b h = absurd (none_in_nil h)
 from_blocks f (r ∷ rs) b h =
-    elim (Contains-append_cases (map (breach r) (f r)) (blocks f rs) b h) as (λ _. Contains (f b.rule) (pair b.exam b.other)) [
-      | inl here ↦ (let parts = from_block r (f r) b here in subst (λ s. Contains (f s) (pair b.exam b.other)) parts.0 parts.1)
+    elim (Contains-append_cases (map (breach r) (f r)) (blocks f rs) b h)
+    as (λ _. Contains (f b.rule) (pair b.exam b.other)) [
+      | inl here ↦ (let parts = from_block r (f r) b here in
+          subst (λ s. Contains (f s) (pair b.exam b.other)) parts.0 parts.1)
       | inr later ↦ from_blocks f rs b later
     ]
 
-to_blocks : (f : BreachRule → List ExamPair) (rs : List BreachRule) (r : BreachRule) (p : ExamPair) → Contains rs r
+to_blocks : (f : BreachRule → List ExamPair) (rs : List BreachRule) (r : BreachRule) (p : ExamPair)
+    → Contains rs r
     → Contains (f r) p → Contains (blocks f rs) (breach r p)
 to_blocks f [] r p among h = absurd (none_in_nil among)
 to_blocks f (s ∷ rs) r p among h =
     elim (first_or_later s rs r among) as (λ _. Contains (blocks f (s ∷ rs)) (breach r p)) [
       | inl same ↦ Contains-append_left (map (breach s) (f s)) (blocks f rs) (breach r p)
-          (subst (λ x. Contains (map (breach x) (f x)) (breach r p)) (sym same) (to_block r (f r) p h))
-      | inr later ↦ Contains-append_right (map (breach s) (f s)) (blocks f rs) (breach r p) (to_blocks f rs r p later h)
+          (subst (λ x. Contains (map (breach x) (f x)) (breach r p)) (sym same)
+          (to_block r (f r) p h))
+      | inr later ↦ Contains-append_right (map (breach s) (f s)) (blocks f rs) (breach r p)
+          (to_blocks f rs r p later h)
     ]
 
 each_rule : (r : BreachRule) → Contains all_rules r
@@ -137,17 +160,22 @@ each_rule Coincidence = (4, omega arith, refl)
 each_rule Exclusion = (5, omega arith, refl)
 each_rule RoomExclusive = (6, omega arith, refl)
 
-pub breaches_have : (I : Session) (E : Enrolled) (T : Placing) → length T ≡ length I.exams → (b : Breach)
+pub breaches_have : (I : Session) (E : Enrolled) (T : Placing)
+    → length T ≡ length I.exams → (b : Breach)
     → (Contains (breaches_of I E T) b ↔ (is_breach I E T b ≡ true))
 breaches_have I E T same b = (
-  (λ h. passing_only (breaks I E T b.rule) (length I.exams) (pair b.exam b.other) (from_blocks (pairs_breaking I E T) all_rules b h)),
+  (λ h. passing_only (breaks I E T b.rule) (length I.exams) (pair b.exam b.other)
+      (from_blocks (pairs_breaking I E T) all_rules b h)),
   (λ h. to_blocks (pairs_breaking I E T) all_rules b.rule (pair b.exam b.other) (each_rule b.rule)
-      (passing_all (breaks I E T b.rule) (length I.exams) (pair b.exam b.other) (breaking_exist I E T b.rule (length I.exams) same b.exam b.other h) h)),
+      (passing_all (breaks I E T b.rule) (length I.exams) (pair b.exam b.other)
+      (breaking_exist I E T b.rule (length I.exams) same b.exam b.other h) h)),
 )
 
 -- one rule more
-pub next_rule : (f : BreachRule → List ExamPair) (done : List BreachRule) (r : BreachRule) {x y : List Breach} {ps : List ExamPair}
+pub next_rule : (f : BreachRule → List ExamPair) (done : List BreachRule)
+    (r : BreachRule) {x y : List Breach} {ps : List ExamPair}
     → x ≡ flat_map (λ r. map (breach r) (f r)) done → y ≡ x ++ map (breach r) ps → ps ≡ f r
     → y ≡ flat_map (λ r. map (breach r) (f r)) (done ++ r ∷ [])
 next_rule f done r so_far added is =
-    added ∙ ap₂ (λ xs ps. xs ++ map (breach r) ps) so_far is ∙ flat_map_more (λ r. map (breach r) (f r)) [] done r
+    added ∙ ap₂ (λ xs ps. xs ++ map (breach r) ps) so_far is
+    ∙ flat_map_more (λ r. map (breach r) (f r)) [] done r

@@ -14,12 +14,14 @@ absent : (s y : ℕ) (ys : List ℕ) → s < y → IsAscending (y ∷ ys) → ha
 absent s y [] lt up = ap (λ b. b || false) (ne_eqb y s (omega arith))
 absent s y (z ∷ zs) lt up =
     let more : y < z = up 0 1 (omega arith) (omega arith) in
-    ap₂ (λ a b. a || b) (ne_eqb y s (omega arith)) (absent s z zs (omega arith) (tail_up y (z ∷ zs) up))
+    ap₂ (λ a b. a || b) (ne_eqb y s (omega arith))
+    (absent s z zs (omega arith) (tail_up y (z ∷ zs) up))
 
 -- the first of the left list is not in the right one
 pub pass_left : (x y : ℕ) (xs ys : List ℕ) → x < y → IsAscending (y ∷ ys)
     → list_any (λ s. has_number (y ∷ ys) s) (x ∷ xs) ≡ list_any (λ s. has_number (y ∷ ys) s) xs
-pass_left x y xs ys lt up = ap (λ b. b || list_any (λ s. has_number (y ∷ ys) s) xs) (absent x y ys lt up)
+pass_left x y xs ys lt up =
+    ap (λ b. b || list_any (λ s. has_number (y ∷ ys) s) xs) (absent x y ys lt up)
 
 -- the first of the right list is not in the left one
 pub pass_right : (x y : ℕ) (xs ys : List ℕ) → y < x → IsAscending (x ∷ xs)
@@ -48,27 +50,33 @@ pub record IsWalked (left right : List ℕ) (common : Bool) : Type 0 where
   pub right_rises : IsAscending right
 
 -- a step along the left list
-pub step_left : (left right xs ys : List ℕ) (x y : ℕ) (common : Bool) → left ≡ x ∷ xs → right ≡ y ∷ ys
+pub step_left : (left right xs ys : List ℕ) (x y : ℕ) (common : Bool) → left ≡ x ∷ xs
+    → right ≡ y ∷ ys
     → x < y → IsWalked left right common → IsWalked xs right common
 step_left left right xs ys x y common l r lt was =
     let up = subst IsAscending l was.left_rises in
     let down = subst IsAscending r was.right_rises in
-    let now = subst (λ zs. list_any (λ s. has_number zs s) (x ∷ xs) ≡ common) r (subst (λ zs. list_any (λ s. has_number right s) zs ≡ common) l was.same) in
+    let now = subst (λ zs. list_any (λ s. has_number zs s) (x ∷ xs) ≡ common) r
+    (subst (λ zs. list_any (λ s. has_number right s) zs ≡ common) l was.same) in
     record {
-      same = subst (λ zs. list_any (λ s. has_number zs s) xs ≡ common) (sym r) (sym (pass_left x y xs ys lt down) ∙ now);
+      same = subst (λ zs. list_any (λ s. has_number zs s) xs ≡ common) (sym r)
+          (sym (pass_left x y xs ys lt down) ∙ now);
       left_rises = tail_up x xs up;
       right_rises = was.right_rises;
     }
 
 -- a step along the right list
-pub step_right : (left right xs ys : List ℕ) (x y : ℕ) (common : Bool) → left ≡ x ∷ xs → right ≡ y ∷ ys
+pub step_right : (left right xs ys : List ℕ) (x y : ℕ) (common : Bool) → left ≡ x ∷ xs
+    → right ≡ y ∷ ys
     → y < x → IsWalked left right common → IsWalked left ys common
 step_right left right xs ys x y common l r lt was =
     let up = subst IsAscending l was.left_rises in
     let down = subst IsAscending r was.right_rises in
-    let now = subst (λ zs. list_any (λ s. has_number zs s) (x ∷ xs) ≡ common) r (subst (λ zs. list_any (λ s. has_number right s) zs ≡ common) l was.same) in
+    let now = subst (λ zs. list_any (λ s. has_number zs s) (x ∷ xs) ≡ common) r
+    (subst (λ zs. list_any (λ s. has_number right s) zs ≡ common) l was.same) in
     record {
-      same = subst (λ zs. list_any (λ s. has_number ys s) zs ≡ common) (sym l) (sym (pass_right x y xs ys lt up) ∙ now);
+      same = subst (λ zs. list_any (λ s. has_number ys s) zs ≡ common) (sym l)
+          (sym (pass_right x y xs ys lt up) ∙ now);
       left_rises = was.left_rises;
       right_rises = tail_up y ys down;
     }

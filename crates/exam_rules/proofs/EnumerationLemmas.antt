@@ -34,7 +34,8 @@ row_sorted e a zero = sorted_nil exam_pair_cmp
 row_sorted e a (suc m) =
     sorted_cons exam_pair_cmp (pair e a) (row e (a + 1) m)
     (each_weaker (λ p. (p.exam ≡ e) × (a + 1 ≤ p.other)) (λ p. exam_pair_cmp (pair e a) p ≡ Less)
-    (λ p h. lesser_other (pair e a) p (sym h.0) (omega (arith, h.1))) (row e (a + 1) m) (row_of e (a + 1) m))
+    (λ p h. lesser_other (pair e a) p (sym h.0) (omega (arith, h.1))) (row e (a + 1) m)
+    (row_of e (a + 1) m))
     (row_sorted e (a + 1) m)
 
 -- the pairs of the k exams from a on with the exams below n
@@ -45,26 +46,33 @@ rows_of : (n a k : ℕ) → AllByRecursion (λ p. a ≤ p.exam) (rows n a k)
 rows_of n a zero = tt
 rows_of n a (suc k) =
     each_append (λ p. a ≤ p.exam) (row a 0 n) (rows n (a + 1) k)
-    (each_weaker (λ p. (p.exam ≡ a) × (0 ≤ p.other)) (λ p. a ≤ p.exam) (λ p h. omega (arith, h.0)) (row a 0 n) (row_of a 0 n))
-    (each_weaker (λ p. a + 1 ≤ p.exam) (λ p. a ≤ p.exam) (λ p h. omega (arith, h)) (rows n (a + 1) k) (rows_of n (a + 1) k))
+    (each_weaker (λ p. (p.exam ≡ a) × (0 ≤ p.other)) (λ p. a ≤ p.exam) (λ p h. omega (arith, h.0))
+    (row a 0 n) (row_of a 0 n))
+    (each_weaker (λ p. a + 1 ≤ p.exam) (λ p. a ≤ p.exam) (λ p h. omega (arith, h))
+    (rows n (a + 1) k) (rows_of n (a + 1) k))
 
 rows_sorted : (n a k : ℕ) → IsStrictlySortedBy exam_pair_cmp (rows n a k)
 rows_sorted n a zero = sorted_nil exam_pair_cmp
 rows_sorted n a (suc k) =
     let later = rows_of n (a + 1) k in
-    sorted_append exam_pair_cmp (row a 0 n) (rows n (a + 1) k) (row_sorted a 0 n) (rows_sorted n (a + 1) k)
-    (each_weaker (λ p. (p.exam ≡ a) × (0 ≤ p.other)) (λ p. AllByRecursion (λ q. exam_pair_cmp p q ≡ Less) (rows n (a + 1) k))
-    (λ p h. each_weaker (λ q. a + 1 ≤ q.exam) (λ q. exam_pair_cmp p q ≡ Less) (λ q g. lesser_exam p q (omega (arith, h.0, g))) (rows n (a + 1) k) later)
+    sorted_append exam_pair_cmp (row a 0 n) (rows n (a + 1) k) (row_sorted a 0 n)
+    (rows_sorted n (a + 1) k)
+    (each_weaker (λ p. (p.exam ≡ a) × (0 ≤ p.other))
+    (λ p. AllByRecursion (λ q. exam_pair_cmp p q ≡ Less) (rows n (a + 1) k))
+    (λ p h. each_weaker (λ q. a + 1 ≤ q.exam) (λ q. exam_pair_cmp p q ≡ Less)
+    (λ q g. lesser_exam p q (omega (arith, h.0, g))) (rows n (a + 1) k) later)
     (row a 0 n) (row_of a 0 n))
 
 -- all pairs of existing exams are there
 pairs_have : (n e f : ℕ) → list_any (is_pair e f) (exam_pairs n) ≡ (nat_lt e n && nat_lt f n)
 pairs_have n e f =
-    any_rows e f (λ k. range_with_len 0 n) (range_with_len 0 n) ∙ ap₂ (λ a b. a && b) (any_below e n) (any_below f n)
+    any_rows e f (λ k. range_with_len 0 n) (range_with_len 0 n)
+    ∙ ap₂ (λ a b. a && b) (any_below e n) (any_below f n)
 
 -- ---- what a test leaves
 
-kept : {X : Type 0} (t : X → Bool) (xs : List X) (x : X) → Contains xs x → t x ≡ true → Contains (filter t xs) x
+kept : {X : Type 0} (t : X → Bool) (xs : List X) (x : X) → Contains xs x → t x ≡ true
+    → Contains (filter t xs) x
 kept t [] x h k = h
 kept {X} t (y ∷ ys) x h k = go (t y) refl (kept t ys x)
   where
@@ -81,23 +89,29 @@ kept {X} t (y ∷ ys) x h k = go (t y) refl (kept t ys x)
         no e = cc
 
 -- the pairs that pass are in order
-pub passing_sorted : (test : ℕ → ℕ → Bool) (n : ℕ) → IsStrictlySortedBy exam_pair_cmp (passing test n)
+pub passing_sorted : (test : ℕ → ℕ → Bool) (n : ℕ)
+    → IsStrictlySortedBy exam_pair_cmp (passing test n)
 passing_sorted test n =
-    IsStrictlySortedBy-filter exam_pair_cmp (λ p. test p.exam p.other) (exam_pairs n) (rows_sorted n 0 n)
+    IsStrictlySortedBy-filter exam_pair_cmp (λ p. test p.exam p.other) (exam_pairs n)
+    (rows_sorted n 0 n)
 
 -- they do pass
 pub passing_only : (test : ℕ → ℕ → Bool) (n : ℕ) (p : ExamPair) → Contains (passing test n) p
     → test p.exam p.other ≡ true
 passing_only test n p h =
     let pass : ExamPair → Bool = λ p. test p.exam p.other in
-    All-contains (λ q. pass q ≡ true) (filter pass (exam_pairs n)) p (filter_passes pass (exam_pairs n)) h
+    All-contains (λ q. pass q ≡ true) (filter pass (exam_pairs n)) p
+    (filter_passes pass (exam_pairs n)) h
 
 -- and all that pass are there
 pub passing_all : (test : ℕ → ℕ → Bool) (n : ℕ) (p : ExamPair) → (p.exam < n) × (p.other < n)
     → test p.exam p.other ≡ true → Contains (passing test n) p
 passing_all test n p exist passes =
-    let there = pairs_have n p.exam p.other ∙ and_from (nat_lt p.exam n) (nat_lt p.other n) (lt-ltb p.exam n exist.0) (lt-ltb p.other n exist.1) in
-    kept (λ (q : ExamPair). test q.exam q.other) (exam_pairs n) p (contains_from_any p.exam p.other (exam_pairs n) there) passes
+    let there = pairs_have n p.exam p.other
+    ∙ and_from (nat_lt p.exam n) (nat_lt p.other n) (lt-ltb p.exam n exist.0)
+    (lt-ltb p.other n exist.1) in
+    kept (λ (q : ExamPair). test q.exam q.other) (exam_pairs n) p
+    (contains_from_any p.exam p.other (exam_pairs n) there) passes
 
 -- a strictly sorted list with the members of one that has just the pairs that pass
 pub passing_is : (test : ℕ → ℕ → Bool) (n : ℕ) (found sorted : List ExamPair) → HasJust test n found
@@ -108,7 +122,9 @@ pub passing_is : (test : ℕ → ℕ → Bool) (n : ℕ) (found sorted : List Ex
 passing_is test n found sorted just up keeps adds_none =
     same_sorted exam_pair_cmp_total sorted (passing test n) up (passing_sorted test n)
     (λ p h. sound p (adds_none p h))
-    (λ p h. keeps p (contains_from_any p.exam p.other found (just.members p.exam p.other ∙ passing_only test n p h)))
+    (λ p h. keeps p
+    (contains_from_any p.exam p.other found
+    (just.members p.exam p.other ∙ passing_only test n p h)))
   where
     sound : (p : ExamPair) → Contains found p → Contains (passing test n) p
     sound p h =

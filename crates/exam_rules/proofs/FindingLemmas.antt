@@ -11,7 +11,8 @@ use Rattle.exam_rules.specs.declared.exam_pair.ExamPair.{ExamPair}
 
 -- what was there before, and along the first i elements the pairs that one of them names and
 -- that pass a test
-pub record AreFound {X : Type 0} (names : ℕ → ℕ → X → Bool) (test : ℕ → ℕ → Bool) (before : List ExamPair) (xs : List X) (i : ℕ) (found : List ExamPair) : Type 0 where
+pub record AreFound {X : Type 0} (names : ℕ → ℕ → X → Bool) (test : ℕ → ℕ → Bool)
+    (before : List ExamPair) (xs : List X) (i : ℕ) (found : List ExamPair) : Type 0 where
   pub members : (e f : ℕ) → list_any (is_pair e f) found
       ≡ (list_any (is_pair e f) before || (list_any (names e f) (take i xs) && test e f))
 
@@ -33,12 +34,15 @@ or_assoc : (a b c : Bool) → ((a || b) || c) ≡ (a || (b || c))
 or_assoc true b c = refl
 or_assoc false b c = refl
 
-pub found_none : {X : Type 0} {names : ℕ → ℕ → X → Bool} {test : ℕ → ℕ → Bool} {before : List ExamPair} {xs : List X}
+pub found_none : {X : Type 0} {names : ℕ → ℕ → X → Bool} {test : ℕ → ℕ → Bool}
+    {before : List ExamPair} {xs : List X}
     → AreFound names test before xs 0 before
-found_none {X} {names} {test} {before} {xs} = record { members = λ e f. sym (or_false (list_any (is_pair e f) before)) }
+found_none {X} {names} {test} {before} {xs} =
+    record { members = λ e f. sym (or_false (list_any (is_pair e f) before)) }
 
 -- one more element adds the pairs that it names and that pass
-pub found_more : {X : Type 0} {names : ℕ → ℕ → X → Bool} {test : ℕ → ℕ → Bool} {before : List ExamPair} {xs : List X} {i : ℕ}
+pub found_more : {X : Type 0} {names : ℕ → ℕ → X → Bool} {test : ℕ → ℕ → Bool}
+    {before : List ExamPair} {xs : List X} {i : ℕ}
     {x : X} {found more : List ExamPair} {added : ℕ → ℕ → Bool}
     → AreFound names test before xs i found → i < length xs → x ≡ get_or xs i x
     → ((e f : ℕ) → list_any (is_pair e f) more ≡ (list_any (is_pair e f) found || added e f))
@@ -60,11 +64,15 @@ found_more {X} {names} {test} {before} {xs} {i} {x} {found} {more} {added} so_fa
         ∙ ap (λ b. old || (b && test e f)) (sym (list_any_more (names e f) xs i x within))
 
 -- at the end of the list
-pub found_all : {X : Type 0} {names : ℕ → ℕ → X → Bool} {test : ℕ → ℕ → Bool} {before : List ExamPair} {xs : List X} {i : ℕ}
+pub found_all : {X : Type 0} {names : ℕ → ℕ → X → Bool} {test : ℕ → ℕ → Bool}
+    {before : List ExamPair} {xs : List X} {i : ℕ}
     {found : List ExamPair} → AreFound names test before xs i found → length xs ≤ i
-    → (e f : ℕ) → list_any (is_pair e f) found ≡ (list_any (is_pair e f) before || (list_any (names e f) xs && test e f))
+    → (e f : ℕ) → list_any (is_pair e f) found
+    ≡ (list_any (is_pair e f) before || (list_any (names e f) xs && test e f))
 found_all {X} {names} {test} {before} {xs} {i} all past e f =
-    all.members e f ∙ ap (λ ys. list_any (is_pair e f) before || (list_any (names e f) ys && test e f)) (take_all i xs past)
+    all.members e f
+    ∙ ap (λ ys. list_any (is_pair e f) before || (list_any (names e f) ys && test e f))
+    (take_all i xs past)
 
 -- a line on two exams names the smaller of them first
 pub smaller_first : (a b : ℕ) (test : ℕ → ℕ → Bool) (e f : ℕ) → a < b
@@ -93,10 +101,12 @@ below_more {test} {i} {before} {after} {added} so_far adds is =
     step : (e : ℕ) (b : Bool) → ((nat_lt e i && b) || ((i == e) && b)) ≡ (nat_lt e (i + 1) && b)
     step e b = grind (arith, nat_tests)
 
-pub below_all : {test : ℕ → ℕ → Bool} {i n : ℕ} {found : List ExamPair} → AreFoundBelow test i found → i ≡ n
+pub below_all : {test : ℕ → ℕ → Bool} {i n : ℕ} {found : List ExamPair}
+    → AreFoundBelow test i found → i ≡ n
     → ((e f : ℕ) → test e f ≡ true → (e < n) × (f < n)) → HasJust test n found
 below_all {test} {i} {n} {found} all end exist = record {
-  members = λ e f. all.members e f ∙ ap (λ m. nat_lt e m && test e f) end ∙ within e (test e f) (λ h. (exist e f h).0);
+  members = λ e f. all.members e f ∙ ap (λ m. nat_lt e m && test e f) end
+      ∙ within e (test e f) (λ h. (exist e f h).0);
   exist = exist;
 }
   where

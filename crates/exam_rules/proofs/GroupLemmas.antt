@@ -15,17 +15,22 @@ use Rattle.exam_rules.proofs.MemberLemmas.{and_false}
 use Rattle.exam_rules.proofs.PlaceLemmas.{placed_exists, its_place_exists}
 
 -- a complete group has just the exams that stand in its period
-pub in_group : {T : Placing} {periods n : ℕ} {groups : List (List ℕ)} → AreGroups T periods n groups → length T ≡ n
+pub in_group : {T : Placing} {periods n : ℕ} {groups : List (List ℕ)}
+    → AreGroups T periods n groups → length T ≡ n
     → (p f : ℕ) → p < periods → has_number (get_or groups p []) f ≡ stands_in T p f
 in_group {T} {periods} {n} {groups} are same p f within =
-    are.members p f within ∙ exists (stands_in T p f) (λ h. placed_exists T (λ q. p == q.period) f h)
+    are.members p f within
+    ∙ exists (stands_in T p f) (λ h. placed_exists T (λ q. p == q.period) f h)
   where
     exists : (b : Bool) → (b ≡ true → f < length T) → (nat_lt f n && b) ≡ b
-    exists true h = (let lt : f < length T = h refl in and_from (nat_lt f n) true (lt-ltb f n (omega arith)) refl)
+    exists true h =
+        (let lt : f < length T = h refl in
+        and_from (nat_lt f n) true (lt-ltb f n (omega arith)) refl)
     exists false h = and_false (nat_lt f n)
 
 -- the exams of a group exist
-pub group_exists : {T : Placing} {periods n : ℕ} {groups : List (List ℕ)} → AreGroups T periods n groups
+pub group_exists : {T : Placing} {periods n : ℕ} {groups : List (List ℕ)}
+    → AreGroups T periods n groups
     → (p : ℕ) → p < periods → All (λ f. f < n) (get_or groups p [])
 group_exists {T} {periods} {n} {groups} are p within k d lt =
     let group : List ℕ = get_or groups p [] in
@@ -34,16 +39,20 @@ group_exists {T} {periods} {n} {groups} are p within k d lt =
     ltb-true x n (and_parts (nat_lt x n) (stands_in T p x) (sym (are.members p x within) ∙ there)).0
 
 -- the pairs with an exam's group, as the rule on rooms says it
-pub one_place_group : {T : Placing} {periods n : ℕ} {groups : List (List ℕ)} → AreGroups T periods n groups → length T ≡ n
+pub one_place_group : {T : Placing} {periods n : ℕ} {groups : List (List ℕ)}
+    → AreGroups T periods n groups → length T ≡ n
     → (k : ℕ) (q : Place) → place_of T k ≡ Some q → q.period < periods → (e f : ℕ)
-    → (has_number (get_or groups q.period []) f && ((k == e) && (not (e == f) && in_one_place T e f)))
+    → (has_number (get_or groups q.period []) f
+    && ((k == e) && (not (e == f) && in_one_place T e f)))
     ≡ ((k == e) && (not (e == f) && in_one_place T e f))
 one_place_group {T} {periods} {n} {groups} are same k q placed within e f =
-    ap (λ b. b && ((k == e) && (not (e == f) && in_one_place T e f))) (in_group are same q.period f within)
+    ap (λ b. b && ((k == e) && (not (e == f) && in_one_place T e f)))
+    (in_group are same q.period f within)
     ∙ at (k == e) refl
   where
     -- one room and period is one period
-    place_period : (o : Option Place) → where_both is_one_place (Some q) o ≡ (where_placed (λ x. q.period == x.period) o && where_both is_one_place (Some q) o)
+    place_period : (o : Option Place) → where_both is_one_place (Some q) o
+        ≡ (where_placed (λ x. q.period == x.period) o && where_both is_one_place (Some q) o)
     place_period None = refl
     place_period (Some x) = doubled (q.period == x.period) (q.room == x.room)
       where
@@ -63,10 +72,14 @@ one_place_group {T} {periods} {n} {groups} are same k q placed within e f =
     moved false true c = refl
     moved false false c = refl
 
-    at : (b : Bool) → (k == e) ≡ b → (stands_in T q.period f && (b && (not (e == f) && in_one_place T e f))) ≡ (b && (not (e == f) && in_one_place T e f))
+    at : (b : Bool) → (k == e) ≡ b
+        → (stands_in T q.period f && (b && (not (e == f) && in_one_place T e f)))
+        ≡ (b && (not (e == f) && in_one_place T e f))
     at true is =
         moved (stands_in T q.period f) (not (e == f)) (in_one_place T e f)
-        ∙ ap (λ b. not (e == f) && b) (sym (subst (λ m. in_one_place T m f ≡ (stands_in T q.period f && in_one_place T m f)) (eqb-true k e is) here))
+        ∙ ap (λ b. not (e == f) && b)
+        (sym (subst (λ m. in_one_place T m f ≡ (stands_in T q.period f && in_one_place T m f))
+        (eqb-true k e is) here))
     at false is = and_false (stands_in T q.period f)
 
 -- an exam without a place stands in no room with another
@@ -88,37 +101,48 @@ same_tests false true h k = k refl
 same_tests false false h k = refl
 
 -- exams that stand in period k stand in one period
-one_period : (k : ℕ) (p q : Option Place) → where_placed (λ x. k == x.period) p ≡ true → where_placed (λ x. k == x.period) q ≡ true
+one_period : (k : ℕ) (p q : Option Place) → where_placed (λ x. k == x.period) p ≡ true
+    → where_placed (λ x. k == x.period) q ≡ true
     → where_both (λ x y. x.period == y.period) p q ≡ true
 one_period k None q h g = h
 one_period k (Some p) None h g = g
-one_period k (Some p) (Some q) h g = eq-eqb p.period q.period (sym (eqb-true k p.period h) ∙ eqb-true k q.period g)
+one_period k (Some p) (Some q) h g =
+    eq-eqb p.period q.period (sym (eqb-true k p.period h) ∙ eqb-true k q.period g)
 
 -- two exams are in one of the groups where they stand in one period
-pub in_one_group : {T : Placing} {periods n : ℕ} {groups : List (List ℕ)} (I : Session) → AreGroups T periods n groups → length T ≡ n
+pub in_one_group : {T : Placing} {periods n : ℕ} {groups : List (List ℕ)} (I : Session)
+    → AreGroups T periods n groups → length T ≡ n
     → periods ≡ length I.periods → All (PlaceExists I) T → (e f : ℕ)
     → list_any (λ g. has_number g e && has_number g f) groups ≡ in_one_period T e f
 in_one_group {T} {periods} {n} {groups} I are same count exist e f =
-    same_tests (list_any (λ g. has_number g e && has_number g f) groups) (in_one_period T e f) sound (λ h. complete (place_of T e) refl h)
+    same_tests (list_any (λ g. has_number g e && has_number g f) groups) (in_one_period T e f) sound
+    (λ h. complete (place_of T e) refl h)
   where
-    sound : list_any (λ g. has_number g e && has_number g f) groups ≡ true → in_one_period T e f ≡ true
+    sound : list_any (λ g. has_number g e && has_number g f) groups ≡ true
+        → in_one_period T e f ≡ true
     sound h =
         let any = Any-from_list_any (λ g. has_number g e && has_number g f) groups h in
         let within : any.0 < periods = omega (arith, any.2, are.count) in
-        let here : get_or groups any.0 [] ≡ any.1 = sym (get_or_read groups any.0 any.1 any.2 (sym any.3) []) in
+        let here : get_or groups any.0 [] ≡ any.1 =
+        sym (get_or_read groups any.0 any.1 any.2 (sym any.3) []) in
         let parts = and_parts (has_number any.1 e) (has_number any.1 f) any.4 in
-        let first = sym (in_group are same any.0 e within) ∙ ap (λ g. has_number g e) here ∙ parts.0 in
-        let second = sym (in_group are same any.0 f within) ∙ ap (λ g. has_number g f) here ∙ parts.1 in
+        let first = sym (in_group are same any.0 e within)
+        ∙ ap (λ g. has_number g e) here ∙ parts.0 in
+        let second =
+        sym (in_group are same any.0 f within) ∙ ap (λ g. has_number g f) here ∙ parts.1 in
         one_period any.0 (place_of T e) (place_of T f) first second
 
-    complete : (o : Option Place) → place_of T e ≡ o → where_both (λ p q. p.period == q.period) o (place_of T f) ≡ true
+    complete : (o : Option Place) → place_of T e ≡ o
+        → where_both (λ p q. p.period == q.period) o (place_of T f) ≡ true
         → list_any (λ g. has_number g e && has_number g f) groups ≡ true
     complete None is h = absurd (true≢false (sym h))
     complete (Some p) is h =
         let there = its_place_exists I T e p exist is in
         let within : p.period < periods = omega (arith, there.0) in
         let long : p.period < length groups = omega (arith, are.count) in
-        let first = in_group are same p.period e within ∙ ap (where_placed (λ q. p.period == q.period)) is ∙ eq-eqb p.period p.period refl in
+        let first = in_group are same p.period e within
+        ∙ ap (where_placed (λ q. p.period == q.period)) is ∙ eq-eqb p.period p.period refl in
         let second = in_group are same p.period f within ∙ h in
         list_any_at (λ g. has_number g e && has_number g f) groups p.period [] long
-        (and_from (has_number (get_or groups p.period []) e) (has_number (get_or groups p.period []) f) first second)
+        (and_from (has_number (get_or groups p.period []) e)
+        (has_number (get_or groups p.period []) f) first second)

@@ -18,19 +18,23 @@ IsFirst R p xs None = (y : _) → Contains xs y → p y ≡ false
 IsFirst R p xs (Some x) =
     Contains xs x × (p x ≡ true) × ((y : _) → Contains xs y → p y ≡ true → (y ≡ x) ⊎ (R x y ≡ Less))
 
-is_first : {X : Type 0} (R : X → X → Ordering) (p : X → Bool) (xs : List X) → IsStrictlySortedBy R xs
+is_first : {X : Type 0} (R : X → X → Ordering) (p : X → Bool) (xs : List X)
+    → IsStrictlySortedBy R xs
     → IsFirst R p xs (find p xs)
 unfolding IsStrictlySortedBy
 is_first R p [] up = λ y h. absurd (none_in_nil h)
 is_first {X} R p (x ∷ xs) up = here (is_first R p xs up.1) (p x) refl
   where
-    here : IsFirst R p xs (find p xs) → (b : Bool) → p x ≡ b → IsFirst R p (x ∷ xs) (cond b (Some x) (find p xs))
+    here : IsFirst R p xs (find p xs) → (b : Bool) → p x ≡ b
+        → IsFirst R p (x ∷ xs) (cond b (Some x) (find p xs))
     here behind true is = (
       contains_head x xs,
       is,
       λ y h passes. elim (first_or_later x xs y h) as (λ _. (y ≡ x) ⊎ (R x y ≡ Less)) [
         | inl e ↦ inl (sym e)
-        | inr later ↦ inr (All-contains (λ z. R x z ≡ Less) xs y (All-from_recursion (λ z. R x z ≡ Less) xs up.0) later)
+        | inr later ↦
+            inr (All-contains (λ z. R x z ≡ Less) xs y
+            (All-from_recursion (λ z. R x z ≡ Less) xs up.0) later)
       ],
     )
     here behind false isnt = later (find p xs) behind
@@ -53,10 +57,13 @@ is_first {X} R p (x ∷ xs) up = here (is_first R p xs up.1) (p x) refl
             no e = cc
 
 -- the first breach in the list of all that names one of these exams is the least that does
-pub least_found : (I : Session) (E : Enrolled) (T : Placing) (exams : List ℕ) → length T ≡ length I.exams
-    → (found : Option Breach) → found ≡ least_breach_of I E T exams → IsLeastBreachOf I E T exams found
+pub least_found : (I : Session) (E : Enrolled) (T : Placing) (exams : List ℕ)
+    → length T ≡ length I.exams
+    → (found : Option Breach) → found ≡ least_breach_of I E T exams
+    → IsLeastBreachOf I E T exams found
 least_found I E T exams same found is =
-    rw is (of (least_breach_of I E T exams) (is_first breach_cmp named (breaches_of I E T) (breaches_sorted I E T)))
+    rw is (of (least_breach_of I E T exams)
+    (is_first breach_cmp named (breaches_of I E T) (breaches_sorted I E T)))
   where
     named : Breach → Bool
     named b = name_one exams b.exam b.other

@@ -12,19 +12,23 @@ use Rattle.exam_rules.specs.Loads.{AreLoads}
 use Rattle.exam_model.proofs.PlaceLemmas.{slot_within}
 
 -- an exam that does not stand at p
-other_place : (E : Enrolled) (T : Placing) (p : Place) (i : ℕ) → where_placed (is_one_place p) (place_of T i) ≡ false
+other_place : (E : Enrolled) (T : Placing) (p : Place) (i : ℕ)
+    → where_placed (is_one_place p) (place_of T i) ≡ false
     → load_below E T p (i + 1) ≡ load_below E T p i
 other_place E T p i elsewhere =
     rw add-one (ap (λ b. load_below E T p i + cond b (size_of E i) 0) elsewhere ∙ omega arith)
 
 -- an exam that stands at p
-this_place : (E : Enrolled) (T : Placing) (p : Place) (i : ℕ) → where_placed (is_one_place p) (place_of T i) ≡ true
+this_place : (E : Enrolled) (T : Placing) (p : Place) (i : ℕ)
+    → where_placed (is_one_place p) (place_of T i) ≡ true
     → load_below E T p (i + 1) ≡ load_below E T p i + size_of E i
 this_place E T p i here = rw add-one (ap (λ b. load_below E T p i + cond b (size_of E i) 0) here)
 
 -- an exam at place q
-pub loads_more : {E : Enrolled} {T : Placing} {periods rooms i : ℕ} {loads : List ℕ} {q : Place} {load : ℕ}
-    → AreLoads E T periods rooms i loads → place_of T i ≡ Some q → q.period < periods → q.room < rooms
+pub loads_more : {E : Enrolled} {T : Placing} {periods rooms i : ℕ} {loads : List ℕ}
+    {q : Place} {load : ℕ}
+    → AreLoads E T periods rooms i loads → place_of T i ≡ Some q → q.period < periods
+    → q.room < rooms
     → load ≡ get_or loads (slot_of rooms q) 0 + size_of E i → size_of E i < 2 ^ 32
     → AreLoads E T periods rooms (i + 1) (slice_set loads (slot_of rooms q) load)
 loads_more {E} {T} {periods} {rooms} {i} {loads} {q} {load} so_far placed hq hr is few = record {
@@ -38,10 +42,13 @@ loads_more {E} {T} {periods} {rooms} {i} {loads} {q} {load} so_far placed hq hr 
 
     each : (p : Place) → p.period < periods → p.room < rooms
         → (slot_of rooms p ≡ slot_of rooms q) ⊎ (slot_of rooms p ≡ slot_of rooms q → ⊥)
-        → get_or (slice_set loads (slot_of rooms q) load) (slot_of rooms p) 0 ≡ load_below E T p (i + 1)
+        → get_or (slice_set loads (slot_of rooms q) load) (slot_of rooms p) 0
+        ≡ load_below E T p (i + 1)
     each p pp pr (inl same) =
         let parts = same_from_place p.period p.room q.period q.room rooms pr hr same in
-        let one : is_one_place p q ≡ true = and_from (p.period == q.period) (p.room == q.room) (eq-eqb p.period q.period parts.0) (eq-eqb p.room q.room parts.1) in
+        let one : is_one_place p q ≡ true =
+        and_from (p.period == q.period) (p.room == q.room) (eq-eqb p.period q.period parts.0)
+        (eq-eqb p.room q.room parts.1) in
         ap (λ k. get_or (slice_set loads (slot_of rooms q) load) k 0) same
         ∙ get_or-set_same loads (slot_of rooms q) load 0 within
         ∙ is
@@ -51,7 +58,8 @@ loads_more {E} {T} {periods} {rooms} {i} {loads} {q} {load} so_far placed hq hr 
     each p pp pr (inr other) =
         let apart : is_one_place p q ≡ false = false_from_ne_true (is_one_place p q) (λ one.
         let parts = and_parts (p.period == q.period) (p.room == q.room) one in
-        other (ap₂ (λ a b. a * rooms + b) (eqb-true p.period q.period parts.0) (eqb-true p.room q.room parts.1)))
+        other (ap₂ (λ a b. a * rooms + b) (eqb-true p.period q.period parts.0)
+        (eqb-true p.room q.room parts.1)))
         in
         get_or-set_other loads (slot_of rooms q) (slot_of rooms p) load 0 other
         ∙ so_far.each p pp pr
@@ -61,7 +69,8 @@ loads_more {E} {T} {periods} {rooms} {i} {loads} {q} {load} so_far placed hq hr 
         → get_or (slice_set loads (slot_of rooms q) load) k 0 ≤ (i + 1) * 2 ^ 32
     small k (inl same) =
         let put : get_or (slice_set loads (slot_of rooms q) load) k 0 ≡ load =
-        ap (λ k. get_or (slice_set loads (slot_of rooms q) load) k 0) same ∙ get_or-set_same loads (slot_of rooms q) load 0 within
+        ap (λ k. get_or (slice_set loads (slot_of rooms q) load) k 0) same
+        ∙ get_or-set_same loads (slot_of rooms q) load 0 within
         in
         omega (arith, so_far.small (slot_of rooms q))
     small k (inr other) =

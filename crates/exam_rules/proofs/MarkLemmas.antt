@@ -11,12 +11,15 @@ use Rattle.exam_rules.specs.Marks.{marks_of, Has}
 
 -- of what is one of the first students
 pub before_or_here : (students : List ℕ) (i x s : ℕ) → i < length students → x ≡ get_or students i x
-    → has_number (take (i + 1) students) s ≡ true → (has_number (take i students) s ≡ true) ⊎ (x ≡ s)
+    → has_number (take (i + 1) students) s ≡ true
+    → (has_number (take i students) s ≡ true) ⊎ (x ≡ s)
 before_or_here students i x s within here h =
     go (has_number (take i students) s) (x == s) refl refl
-    (ap (λ y. has_number (take i students) s || (y == s)) here ∙ sym (list_any_more (λ t. t == s) students i x within) ∙ h)
+    (ap (λ y. has_number (take i students) s || (y == s)) here
+    ∙ sym (list_any_more (λ t. t == s) students i x within) ∙ h)
   where
-    go : (a b : Bool) → has_number (take i students) s ≡ a → (x == s) ≡ b → ((has_number (take i students) s || (x == s)) ≡ true)
+    go : (a b : Bool) → has_number (take i students) s ≡ a → (x == s) ≡ b
+        → ((has_number (take i students) s || (x == s)) ≡ true)
         → (has_number (take i students) s ≡ true) ⊎ (x ≡ s)
     go true b p q k = inl p
     go false true p q k = inr (eqb-true x s q)
@@ -40,7 +43,8 @@ pub record AreMarked (old students : List ℕ) (exam i : ℕ) (slots : List ℕ)
 pub marked_more : {old students : List ℕ} {exam i : ℕ} {slots : List ℕ} (x : ℕ)
     → AreMarked old students exam i slots → i < length students → x ≡ get_or students i x
     → AreMarked old students exam (i + 1)
-    (slice_set slots (x % 65536) (bit_or (get_or slots (x % 65536) 0) (1 * 2 ^ (exam % 64) % 2 ^ 64)))
+    (slice_set slots (x % 65536)
+    (bit_or (get_or slots (x % 65536) 0) (1 * 2 ^ (exam % 64) % 2 ^ 64)))
 marked_more {old} {students} {exam} {i} {slots} x so_far within here = record {
   count = length-set slots (x % 65536) marks ∙ so_far.count;
   marked = λ s h. marked s (before_or_here students i x s within here h);
@@ -53,19 +57,24 @@ marked_more {old} {students} {exam} {i} {slots} x so_far within here = record {
     slot : x % 65536 < length slots
     slot = omega (arith, so_far.count)
 
-    grows : (k b : ℕ) → bit_at (get_or slots k 0) b ≡ 1 → bit_at (get_or (slice_set slots (x % 65536) marks) k 0) b ≡ 1
-    grows k b h = elim (cases_eq k (x % 65536)) as (λ _. bit_at (get_or (slice_set slots (x % 65536) marks) k 0) b ≡ 1) [
-      | inl same ↦ ap (λ j. bit_at (get_or (slice_set slots (x % 65536) marks) j 0) b) same
-          ∙ ap (λ m. bit_at m b) (get_or-set_same slots (x % 65536) marks 0 slot)
-          ∙ more_left (get_or slots (x % 65536) 0) (1 * 2 ^ (exam % 64) % 2 ^ 64) b (ap (λ j. bit_at (get_or slots j 0) b) (sym same) ∙ h)
-      | inr other ↦ ap (λ m. bit_at m b) (get_or-set_other slots (x % 65536) k marks 0 other) ∙ h
-    ]
+    grows : (k b : ℕ) → bit_at (get_or slots k 0) b ≡ 1
+        → bit_at (get_or (slice_set slots (x % 65536) marks) k 0) b ≡ 1
+    grows k b h = elim (cases_eq k (x % 65536))
+        as (λ _. bit_at (get_or (slice_set slots (x % 65536) marks) k 0) b ≡ 1) [
+          | inl same ↦ ap (λ j. bit_at (get_or (slice_set slots (x % 65536) marks) j 0) b) same
+              ∙ ap (λ m. bit_at m b) (get_or-set_same slots (x % 65536) marks 0 slot)
+              ∙ more_left (get_or slots (x % 65536) 0) (1 * 2 ^ (exam % 64) % 2 ^ 64) b
+              (ap (λ j. bit_at (get_or slots j 0) b) (sym same) ∙ h)
+          | inr other ↦ ap (λ m. bit_at m b) (get_or-set_other slots (x % 65536) k marks 0 other)
+              ∙ h
+        ]
 
     marked : (s : ℕ) → (has_number (take i students) s ≡ true) ⊎ (x ≡ s)
         → bit_at (get_or (slice_set slots (x % 65536) marks) (s % 65536) 0) (exam % 64) ≡ 1
     marked s (inl before) = grows (s % 65536) (exam % 64) (so_far.marked s before)
     marked s (inr same) =
-        ap (λ t. bit_at (get_or (slice_set slots (x % 65536) marks) (t % 65536) 0) (exam % 64)) (sym same)
+        ap (λ t. bit_at (get_or (slice_set slots (x % 65536) marks) (t % 65536) 0) (exam % 64))
+        (sym same)
         ∙ ap (λ m. bit_at m (exam % 64)) (get_or-set_same slots (x % 65536) marks 0 slot)
         ∙ bit_at_set_same w64 (get_or slots (x % 65536) 0) (exam % 64) (omega arith)
 
@@ -105,16 +114,20 @@ cleared_more {old} {students} {i} {slots} x so_far within here = record {
 
 -- what is marked for one of the first i students
 pub record AreOf (slots students : List ℕ) (i all : ℕ) : Type 0 where
-  pub each : (s e : ℕ) → has_number (take i students) s ≡ true → Has (marks_of slots s) e → Has all e
+  pub each : (s e : ℕ) → has_number (take i students) s ≡ true
+      → Has (marks_of slots s) e → Has all e
 
-pub of_more : {slots students : List ℕ} {i all : ℕ} (x : ℕ) → AreOf slots students i all → i < length students
-    → x ≡ get_or students i x → AreOf slots students (i + 1) (bit_or all (get_or slots (x % 65536) 0))
+pub of_more : {slots students : List ℕ} {i all : ℕ} (x : ℕ) → AreOf slots students i all
+    → i < length students
+    → x ≡ get_or students i x
+    → AreOf slots students (i + 1) (bit_or all (get_or slots (x % 65536) 0))
 of_more {slots} {students} {i} {all} x so_far within here =
     record { each = λ s e h k. step s e k (before_or_here students i x s within here h) }
   where
     step : (s e : ℕ) → Has (marks_of slots s) e → (has_number (take i students) s ≡ true) ⊎ (x ≡ s)
         → bit_at (bit_or all (get_or slots (x % 65536) 0)) (e % 64) ≡ 1
-    step s e k (inl before) = more_left all (get_or slots (x % 65536) 0) (e % 64) (so_far.each s e before k)
+    step s e k (inl before) =
+        more_left all (get_or slots (x % 65536) 0) (e % 64) (so_far.each s e before k)
     step s e k (inr same) =
         more_right all (get_or slots (x % 65536) 0) (e % 64)
         (ap (λ t. bit_at (get_or slots (t % 65536) 0) (e % 64)) same ∙ k)

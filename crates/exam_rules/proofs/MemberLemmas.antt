@@ -41,26 +41,32 @@ any_filter p q (x ∷ xs) =
 
 pub any_and : {X : Type 0} (p : X → Bool) (c : Bool) (xs : List X)
     → list_any (λ x. p x && c) xs ≡ (list_any p xs && c)
-any_and p true xs = any_agree (λ x. p x && true) p (λ x. and_true (p x)) xs ∙ sym (and_true (list_any p xs))
+any_and p true xs = any_agree (λ x. p x && true) p (λ x. and_true (p x)) xs
+    ∙ sym (and_true (list_any p xs))
 any_and p false [] = refl
 any_and p false (x ∷ xs) =
-    ap₂ (λ a b. a || b) (and_false (p x)) (any_and p false xs ∙ and_false (list_any p xs)) ∙ sym (and_false (p x || list_any p xs))
+    ap₂ (λ a b. a || b) (and_false (p x)) (any_and p false xs ∙ and_false (list_any p xs))
+    ∙ sym (and_false (p x || list_any p xs))
 
 -- of the elements that are e, it is e that counts
 pub any_at : (e : ℕ) (t : ℕ → Bool) (xs : List ℕ)
     → list_any (λ k. (k == e) && t k) xs ≡ (list_any (λ k. k == e) xs && t e)
-any_at e t xs = any_agree (λ k. (k == e) && t k) (λ k. (k == e) && t e) (λ k. there k (k == e) refl) xs ∙ any_and (λ k. k == e) (t e) xs
+any_at e t xs =
+    any_agree (λ k. (k == e) && t k) (λ k. (k == e) && t e) (λ k. there k (k == e) refl) xs
+    ∙ any_and (λ k. k == e) (t e) xs
   where
     there : (k : ℕ) (b : Bool) → (k == e) ≡ b → (b && t k) ≡ (b && t e)
     there k true h = ap t (eqb-true k e h)
     there k false h = refl
 
 -- e is among the n numbers from a on
-any_from : (e a n : ℕ) → list_any (λ k. k == e) (range_with_len a n) ≡ (nat_le a e && nat_lt e (a + n))
+any_from : (e a n : ℕ) → list_any (λ k. k == e) (range_with_len a n)
+    ≡ (nat_le a e && nat_lt e (a + n))
 any_from e a zero = grind (arith, nat_tests)
 any_from e a (suc n) = ap (λ b. (a == e) || b) (any_from e (a + 1) n) ∙ more e a n
   where
-    more : (e a n : ℕ) → ((a == e) || (nat_le (a + 1) e && nat_lt e (a + 1 + n))) ≡ (nat_le a e && nat_lt e (a + suc n))
+    more : (e a n : ℕ) → ((a == e) || (nat_le (a + 1) e && nat_lt e (a + 1 + n)))
+        ≡ (nat_le a e && nat_lt e (a + suc n))
     more e a n = grind (arith, nat_tests)
 
 pub any_below : (e n : ℕ) → list_any (λ k. k == e) (range_with_len 0 n) ≡ nat_lt e n
@@ -99,7 +105,8 @@ any_row : (e f k : ℕ) (others : List ℕ)
 any_row e f k others =
     any_map (is_pair e f) (pair k) others ∙ flip (k == e) others
   where
-    flip : (c : Bool) (xs : List ℕ) → list_any (λ x. c && (x == f)) xs ≡ (c && list_any (λ x. x == f) xs)
+    flip : (c : Bool) (xs : List ℕ) → list_any (λ x. c && (x == f)) xs
+        ≡ (c && list_any (λ x. x == f) xs)
     flip true xs = refl
     flip false [] = refl
     flip false (x ∷ xs) = flip false xs
@@ -109,7 +116,8 @@ pub any_rows : (e f : ℕ) (others : ℕ → List ℕ) (exams : List ℕ)
     ≡ (list_any (λ k. k == e) exams && list_any (λ x. x == f) (others e))
 any_rows e f others exams =
     any_flat_map (is_pair e f) (λ k. map (pair k) (others k)) exams
-    ∙ any_agree (λ k. list_any (is_pair e f) (map (pair k) (others k))) (λ k. (k == e) && list_any (λ x. x == f) (others k)) (λ k. any_row e f k (others k)) exams
+    ∙ any_agree (λ k. list_any (is_pair e f) (map (pair k) (others k)))
+    (λ k. (k == e) && list_any (λ x. x == f) (others k)) (λ k. any_row e f k (others k)) exams
     ∙ any_at e (λ k. list_any (λ x. x == f) (others k)) exams
 
 -- what is left of a list without its repeats passes where the list does
@@ -119,7 +127,8 @@ any_dedup p xs =
     (λ h. moved (dedup nat_eq xs) xs (λ x there. Contains-from_dedup nat_eq xs x there) h)
     (λ h. moved xs (dedup nat_eq xs) (λ x there. Contains-dedup_nat xs x there) h)
   where
-    moved : (xs ys : List ℕ) → ((x : ℕ) → Contains xs x → Contains ys x) → list_any p xs ≡ true → list_any p ys ≡ true
+    moved : (xs ys : List ℕ) → ((x : ℕ) → Contains xs x → Contains ys x) → list_any p xs ≡ true
+        → list_any p ys ≡ true
     moved xs ys keeps h =
         let any = Any-from_list_any p xs h in
         let there = keeps any.1 (any.0, any.2, any.3) in

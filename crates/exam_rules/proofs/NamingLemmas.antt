@@ -21,19 +21,22 @@ use Rattle.exam_rules.specs.declared.exam_pair.ExamPair.{ExamPair}
 
 -- of the exams of a line it names either or none
 pub named_after : (a e f : ℕ) (line : PeriodRule) (b : Bool)
-    → (is_after e f line && (is_one_of a e f && b)) ≡ (is_after e f line && (line_names line a && b))
+    → (is_after e f line && (is_one_of a e f && b))
+    ≡ (is_after e f line && (line_names line a && b))
 named_after a e f (After x y) b = grind (arith, nat_tests)
 named_after a e f (Coincidence x y) b = refl
 named_after a e f (Exclusion x y) b = refl
 
 pub named_coincidence : (a e f : ℕ) (line : PeriodRule) (b : Bool)
-    → (is_coincidence e f line && (is_one_of a e f && b)) ≡ (is_coincidence e f line && (line_names line a && b))
+    → (is_coincidence e f line && (is_one_of a e f && b))
+    ≡ (is_coincidence e f line && (line_names line a && b))
 named_coincidence a e f (After x y) b = refl
 named_coincidence a e f (Coincidence x y) b = grind (arith, nat_tests)
 named_coincidence a e f (Exclusion x y) b = refl
 
 pub named_exclusion : (a e f : ℕ) (line : PeriodRule) (b : Bool)
-    → (is_exclusion e f line && (is_one_of a e f && b)) ≡ (is_exclusion e f line && (line_names line a && b))
+    → (is_exclusion e f line && (is_one_of a e f && b))
+    ≡ (is_exclusion e f line && (line_names line a && b))
 named_exclusion a e f (After x y) b = refl
 named_exclusion a e f (Coincidence x y) b = refl
 named_exclusion a e f (Exclusion x y) b = grind (arith, nat_tests)
@@ -44,13 +47,15 @@ AreNamed names = (a e f : ℕ) (line : PeriodRule) (b : Bool)
     → (names e f line && (is_one_of a e f && b)) ≡ (names e f line && (line_names line a && b))
 
 -- a line that does not name the exam has no pair with it
-pub line_skipped : (names : ℕ → ℕ → PeriodRule → Bool) → AreNamed names → (a e f : ℕ) (line : PeriodRule) (b : Bool)
+pub line_skipped : (names : ℕ → ℕ → PeriodRule → Bool) → AreNamed names
+    → (a e f : ℕ) (line : PeriodRule) (b : Bool)
     → line_names line a ≡ false → false ≡ (names e f line && (is_one_of a e f && b))
 line_skipped names are a e f line b none =
     sym (are a e f line b ∙ ap (λ c. names e f line && (c && b)) none ∙ and_false (names e f line))
 
 -- a line that does has pairs with it alone
-pub line_taken : (names : ℕ → ℕ → PeriodRule → Bool) → AreNamed names → (a e f : ℕ) (line : PeriodRule) (b : Bool)
+pub line_taken : (names : ℕ → ℕ → PeriodRule → Bool) → AreNamed names
+    → (a e f : ℕ) (line : PeriodRule) (b : Bool)
     → line_names line a ≡ true → (names e f line && b) ≡ (names e f line && (is_one_of a e f && b))
 line_taken names are a e f line b named =
     sym (are a e f line b ∙ ap (λ c. names e f line && (c && b)) named)
@@ -68,12 +73,14 @@ abbrev pub is_with : ℕ → ℕ → ℕ → ℕ → Bool
 is_with a i e f = ((a == e) && nat_lt f i) || ((a == f) && nat_lt e i)
 
 -- what was there before, and the pairs of exam a and one below i that pass a test
-pub record AreFoundWith (a : ℕ) (test : ℕ → ℕ → Bool) (before : List ExamPair) (i : ℕ) (found : List ExamPair) : Type 0 where
+pub record AreFoundWith (a : ℕ) (test : ℕ → ℕ → Bool) (before : List ExamPair) (i : ℕ)
+    (found : List ExamPair) : Type 0 where
   pub members : (e f : ℕ) → list_any (is_pair e f) found
       ≡ (list_any (is_pair e f) before || (is_with a i e f && test e f))
 
 -- one more exam, before a and behind it
-pub with_more : {a : ℕ} {test : ℕ → ℕ → Bool} {before : List ExamPair} {i : ℕ} {found two : List ExamPair}
+pub with_more : {a : ℕ} {test : ℕ → ℕ → Bool} {before : List ExamPair} {i : ℕ}
+    {found two : List ExamPair}
     (one : List ExamPair) {first second : ℕ → ℕ → Bool}
     → AreFoundWith a test before i found
     → ((e f : ℕ) → list_any (is_pair e f) one ≡ (list_any (is_pair e f) found || first e f))
@@ -84,14 +91,18 @@ pub with_more : {a : ℕ} {test : ℕ → ℕ → Bool} {before : List ExamPair}
 with_more {a} {test} {before} {i} {found} {two} one {first} {second} so_far adds_first adds_second is_first is_second =
     record { members = λ e f. step e f }
   where
-    at_first : (e f : ℕ) → (((i == e) && (a == f)) && test i a) ≡ (((i == e) && (a == f)) && test e f)
+    at_first : (e f : ℕ) → (((i == e) && (a == f)) && test i a)
+        ≡ (((i == e) && (a == f)) && test e f)
     at_first e f = grind (arith, nat_tests)
 
-    at_second : (e f : ℕ) → (((a == e) && (i == f)) && test a i) ≡ (((a == e) && (i == f)) && test e f)
+    at_second : (e f : ℕ) → (((a == e) && (i == f)) && test a i)
+        ≡ (((a == e) && (i == f)) && test e f)
     at_second e f = grind (arith, nat_tests)
 
     joined : (e f : ℕ) (b c : Bool)
-        → (((b || (is_with a i e f && c)) || (((i == e) && (a == f)) && c)) || (((a == e) && (i == f)) && c))
+        → (((b || (is_with a i e f && c)) || (((i == e) && (a == f))
+        && c)) || (((a == e) && (i == f))
+        && c))
         ≡ (b || (is_with a (i + 1) e f && c))
     joined e f true c = refl
     joined e f false true = grind (arith, nat_tests)
@@ -101,23 +112,31 @@ with_more {a} {test} {before} {i} {found} {two} one {first} {second} so_far adds
         ≡ (list_any (is_pair e f) before || (is_with a (i + 1) e f && test e f))
     step e f =
         adds_second e f
-        ∙ ap₂ (λ b c. b || c) (adds_first e f ∙ ap₂ (λ b c. b || c) (so_far.members e f) (is_first e f ∙ at_first e f)) (is_second e f ∙ at_second e f)
+        ∙ ap₂ (λ b c. b || c)
+        (adds_first e f
+        ∙ ap₂ (λ b c. b || c) (so_far.members e f) (is_first e f ∙ at_first e f))
+        (is_second e f ∙ at_second e f)
         ∙ joined e f (list_any (is_pair e f) before) (test e f)
 
 -- with all exams
-pub with_all : {a : ℕ} {test : ℕ → ℕ → Bool} {before : List ExamPair} {i n : ℕ} {found : List ExamPair}
+pub with_all : {a : ℕ} {test : ℕ → ℕ → Bool} {before : List ExamPair} {i n : ℕ}
+    {found : List ExamPair}
     → AreFoundWith a test before i found → i ≡ n → ((e f : ℕ) → test e f ≡ true → (e < n) × (f < n))
-    → (e f : ℕ) → list_any (is_pair e f) found ≡ (list_any (is_pair e f) before || (is_one_of a e f && test e f))
+    → (e f : ℕ) → list_any (is_pair e f) found
+    ≡ (list_any (is_pair e f) before || (is_one_of a e f && test e f))
 with_all {a} {test} {before} {i} {n} {found} all end exist e f =
     all.members e f
     ∙ ap (λ m. list_any (is_pair e f) before || (is_with a m e f && test e f)) end
     ∙ ap (λ b. list_any (is_pair e f) before || b) (within (test e f) (λ h. exist e f h))
   where
-    within : (b : Bool) → (b ≡ true → (e < n) × (f < n)) → (is_with a n e f && b) ≡ (is_one_of a e f && b)
+    within : (b : Bool) → (b ≡ true → (e < n) × (f < n))
+        → (is_with a n e f && b) ≡ (is_one_of a e f && b)
     within false h = grind (arith, nat_tests)
     within true h =
         let parts = h refl in
-        ap₂ (λ b c. (((a == e) && b) || ((a == f) && c)) && true) (lt-ltb f n parts.1) (lt-ltb e n parts.0) ∙ plain (a == e) (a == f)
+        ap₂ (λ b c. (((a == e) && b) || ((a == f) && c)) && true) (lt-ltb f n parts.1)
+        (lt-ltb e n parts.0)
+        ∙ plain (a == e) (a == f)
       where
         plain : (b c : Bool) → (((b && true) || (c && true)) && true) ≡ ((b || c) && true)
         plain true c = refl
@@ -127,45 +146,60 @@ with_all {a} {test} {before} {i} {n} {found} all end exist e f =
 -- ---- rule by rule
 
 -- the first of a rule's breaches that passes
-pub first_of_rule : (named : Breach → Bool) (test : ExamPair → Bool) (r : BreachRule) (ps : List ExamPair)
+pub first_of_rule : (named : Breach → Bool) (test : ExamPair → Bool) (r : BreachRule)
+    (ps : List ExamPair)
     → find named (map (breach r) (filter test ps))
     ≡ option_map (breach r) (slice_get (filter (λ p. named (breach r p) && test p) ps) 0)
 first_of_rule named test r [] = refl
-first_of_rule named test r (p ∷ ps) = go (test p) (named (breach r p)) refl (first_of_rule named test r ps)
+first_of_rule named test r (p ∷ ps) =
+    go (test p) (named (breach r p)) refl (first_of_rule named test r ps)
   where
     go : (b c : Bool) → named (breach r p) ≡ c
         → find named (map (breach r) (filter test ps))
         ≡ option_map (breach r) (slice_get (filter (λ p. named (breach r p) && test p) ps) 0)
         → find named (map (breach r) (cond b (p ∷ filter test ps) (filter test ps)))
-        ≡ option_map (breach r) (slice_get (cond (c && b) (p ∷ filter (λ p. named (breach r p) && test p) ps) (filter (λ p. named (breach r p) && test p) ps)) 0)
-    go true true is more = ap (λ x. cond x (Some (breach r p)) (find named (map (breach r) (filter test ps)))) is
-    go true false is more = ap (λ x. cond x (Some (breach r p)) (find named (map (breach r) (filter test ps)))) is ∙ more
+        ≡ option_map (breach r)
+        (slice_get (cond (c && b) (p ∷ filter (λ p. named (breach r p) && test p) ps)
+        (filter (λ p. named (breach r p) && test p) ps)) 0)
+    go true true is more =
+        ap (λ x. cond x (Some (breach r p)) (find named (map (breach r) (filter test ps)))) is
+    go true false is more =
+        ap (λ x. cond x (Some (breach r p)) (find named (map (breach r) (filter test ps)))) is
+        ∙ more
     go false true is more = more
     go false false is more = more
 
 -- the first breach that passes, of those of some rules
-abbrev pub first_in : (Breach → Bool) → (BreachRule → List ExamPair) → List BreachRule → Option Breach
+abbrev pub first_in : (Breach → Bool) → (BreachRule → List ExamPair)
+    → List BreachRule → Option Breach
 first_in named f rs = find named (flat_map (λ r. map (breach r) (f r)) rs)
 
-rule_and_rest : (named : Breach → Bool) (f : BreachRule → List ExamPair) (rs : List BreachRule) (i : ℕ) (d : BreachRule)
+rule_and_rest : (named : Breach → Bool) (f : BreachRule → List ExamPair) (rs : List BreachRule)
+    (i : ℕ) (d : BreachRule)
     → i < length rs
     → first_in named f (drop i rs)
-    ≡ option_or (find named (map (breach (get_or rs i d)) (f (get_or rs i d)))) (first_in named f (drop (i + 1) rs))
+    ≡ option_or (find named (map (breach (get_or rs i d)) (f (get_or rs i d))))
+    (first_in named f (drop (i + 1) rs))
 rule_and_rest named f rs i d within =
     let r : BreachRule = get_or rs i d in
     at_drop_more (first_in named f) rs i d within
-    ∙ find-append named (map (breach r) (f r)) (flat_map (λ r. map (breach r) (f r)) (drop (i + 1) rs))
+    ∙ find-append named (map (breach r) (f r))
+    (flat_map (λ r. map (breach r) (f r)) (drop (i + 1) rs))
 
 -- a rule without such a breach
-pub rule_passed : (named : Breach → Bool) (f : BreachRule → List ExamPair) (rs : List BreachRule) (i : ℕ) (d : BreachRule)
+pub rule_passed : (named : Breach → Bool) (f : BreachRule → List ExamPair) (rs : List BreachRule)
+    (i : ℕ) (d : BreachRule)
     → i < length rs → find named (map (breach (get_or rs i d)) (f (get_or rs i d))) ≡ None
     → first_in named f (drop i rs) ≡ first_in named f (drop (i + 1) rs)
 rule_passed named f rs i d within none =
-    rule_and_rest named f rs i d within ∙ ap (λ o. option_or o (first_in named f (drop (i + 1) rs))) none
+    rule_and_rest named f rs i d within
+    ∙ ap (λ o. option_or o (first_in named f (drop (i + 1) rs))) none
 
 -- the first rule with one
-pub rule_broken : (named : Breach → Bool) (f : BreachRule → List ExamPair) (rs : List BreachRule) (i : ℕ) (d : BreachRule) (b : Breach)
+pub rule_broken : (named : Breach → Bool) (f : BreachRule → List ExamPair) (rs : List BreachRule)
+    (i : ℕ) (d : BreachRule) (b : Breach)
     → i < length rs → find named (map (breach (get_or rs i d)) (f (get_or rs i d))) ≡ Some b
     → first_in named f (drop i rs) ≡ Some b
 rule_broken named f rs i d b within some =
-    rule_and_rest named f rs i d within ∙ ap (λ o. option_or o (first_in named f (drop (i + 1) rs))) some
+    rule_and_rest named f rs i d within
+    ∙ ap (λ o. option_or o (first_in named f (drop (i + 1) rs))) some

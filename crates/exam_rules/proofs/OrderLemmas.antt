@@ -12,19 +12,22 @@ use Rattle.exam_rules.specs.declared.exam_pair.ExamPair.{ExamPair}
 
 pub exam_pair_cmp_total : IsTotalOrder exam_pair_cmp
 exam_pair_cmp_total =
-    then_total (on_total (λ (b : ExamPair). b.exam) nat_cmp_total) (on_total (λ (b : ExamPair). b.other) nat_cmp_total)
+    then_total (on_total (λ (b : ExamPair). b.exam) nat_cmp_total)
+    (on_total (λ (b : ExamPair). b.other) nat_cmp_total)
 
 pub contains_head : {X : Type 0} (x : X) (xs : List X) → Contains (x ∷ xs) x
 contains_head x xs = (0, omega arith, refl)
 
-pub contains_later : {X : Type 0} (x : X) (xs : List X) (y : X) → Contains xs y → Contains (x ∷ xs) y
+pub contains_later : {X : Type 0} (x : X) (xs : List X) (y : X) → Contains xs y
+    → Contains (x ∷ xs) y
 contains_later x xs y h = (suc h.0, omega (arith, h.1), h.2)
 
 pub none_in_nil : {X : Type 0} {y : X} → Contains [] y → ⊥
 none_in_nil h = omega (arith, h.1)
 
 -- an element is the first one or a later one
-pub first_or_later : {X : Type 0} (x : X) (xs : List X) (y : X) → Contains (x ∷ xs) y → (x ≡ y) ⊎ Contains xs y
+pub first_or_later : {X : Type 0} (x : X) (xs : List X) (y : X) → Contains (x ∷ xs) y
+    → (x ≡ y) ⊎ Contains xs y
 first_or_later {X} x xs y h = go h.0 h.1 h.2
   where
     go : (k : ℕ) → k < length (x ∷ xs) → get_or (x ∷ xs) k y ≡ y → (x ≡ y) ⊎ Contains xs y
@@ -48,7 +51,8 @@ unfolding IsStrictlySortedBy
 sorted_nil R = tt
 
 pub sorted_cons : {K : Type 0} (R : K → K → Ordering) (x : K) (xs : List K)
-    → AllByRecursion (λ y. R x y ≡ Less) xs → IsStrictlySortedBy R xs → IsStrictlySortedBy R (x ∷ xs)
+    → AllByRecursion (λ y. R x y ≡ Less) xs → IsStrictlySortedBy R xs
+    → IsStrictlySortedBy R (x ∷ xs)
 unfolding IsStrictlySortedBy
 sorted_cons R x xs above up = (above, up)
 
@@ -63,7 +67,8 @@ sorted_append R (x ∷ xs) ys a b h =
 -- two lists that are strictly sorted and have the same elements are equal
 pub same_sorted : {K : Type 0} {R : K → K → Ordering} → IsTotalOrder R → (xs ys : List K)
     → IsStrictlySortedBy R xs → IsStrictlySortedBy R ys
-    → ((x : K) → Contains xs x → Contains ys x) → ((x : K) → Contains ys x → Contains xs x) → xs ≡ ys
+    → ((x : K) → Contains xs x → Contains ys x)
+    → ((x : K) → Contains ys x → Contains xs x) → xs ≡ ys
 unfolding IsStrictlySortedBy
 same_sorted o [] [] a b to from = refl
 same_sorted o [] (y ∷ ys) a b to from = absurd (none_in_nil (from y (contains_head y ys)))
@@ -81,7 +86,8 @@ same_sorted {K} {R} o (x ∷ xs) (y ∷ ys) a b to from =
   where
     below : (R : K → K → Ordering) (x : K) (xs : List K) (z : K)
         → AllByRecursion (λ y. R x y ≡ Less) xs → Contains xs z → R x z ≡ Less
-    below R x xs z h k = All-contains (λ y. R x y ≡ Less) xs z (All-from_recursion (λ y. R x y ≡ Less) xs h) k
+    below R x xs z h k =
+        All-contains (λ y. R x y ≡ Less) xs z (All-from_recursion (λ y. R x y ≡ Less) xs h) k
 
     clash : IsTotalOrder R → (x y : K) → R y x ≡ Less → R x y ≡ Less → ⊥
     clash o x y p q = less_once (R x y) (R y x) q p (o.antisymm x y)
@@ -93,7 +99,8 @@ same_sorted {K} {R} o (x ∷ xs) (y ∷ ys) a b to from =
             not_less e = cc
 
     keep : IsTotalOrder R → (x y : K) (xs ys : List K) (z : K) → x ≡ y
-        → AllByRecursion (λ y. R x y ≡ Less) xs → Contains xs z → Contains (y ∷ ys) z → Contains ys z
+        → AllByRecursion (λ y. R x y ≡ Less) xs → Contains xs z
+        → Contains (y ∷ ys) z → Contains ys z
     keep o x y xs ys z same above h k =
         elim (first_or_later y ys z k) as (λ _. Contains ys z) [
           | inr later ↦ later
@@ -113,7 +120,8 @@ ties a b = grind (arith, nat_tests)
 pub same_pair : IsEquivalence exam_pair_eq × ((a b : ExamPair) → exam_pair_eq a b ≡ true → a ≡ b)
 same_pair = (
   record { refl = λ a. own a; symm = λ a b. turned a b; congr = λ a b c h. along a b c h },
-  λ a b h. fields a b (eqb-true a.exam b.exam (and_parts _ _ h).0) (eqb-true a.other b.other (and_parts _ _ h).1),
+  λ a b h. fields a b (eqb-true a.exam b.exam (and_parts _ _ h).0)
+      (eqb-true a.other b.other (and_parts _ _ h).1),
 )
   where
     own : (a : ExamPair) → exam_pair_eq a a ≡ true

@@ -15,7 +15,8 @@ use Rattle.exam_rules.specs.Places.{PlaceExists, where_placed, where_both, both_
 use Rattle.exam_rules.specs.Breaches.{breaks, outlasts, is_overfull}
 
 -- an exam whose place passes a test exists
-pub placed_exists : (T : Placing) (test : Place → Bool) (e : ℕ) → where_placed test (place_of T e) ≡ true
+pub placed_exists : (T : Placing) (test : Place → Bool) (e : ℕ)
+    → where_placed test (place_of T e) ≡ true
     → e < length T
 placed_exists T test e h = elim (cases_lt e (length T)) as (λ _. e < length T) [
   | inl within ↦ within
@@ -33,7 +34,8 @@ second_placed test None q h = absurd (true≢false (sym h))
 second_placed test (Some p) None h = h
 second_placed test (Some p) (Some q) h = refl
 
-pub both_exist : (T : Placing) (test : Place → Place → Bool) (e f : ℕ) → both_placed T test e f ≡ true
+pub both_exist : (T : Placing) (test : Place → Place → Bool) (e f : ℕ)
+    → both_placed T test e f ≡ true
     → (e < length T) × (f < length T)
 both_exist T test e f h = (
   placed_exists T (λ x. true) e (first_placed test (place_of T e) (place_of T f) h),
@@ -41,7 +43,8 @@ both_exist T test e f h = (
 )
 
 -- the exams that break a rule exist
-pub breaking_exist : (I : Session) (E : Enrolled) (T : Placing) (r : BreachRule) (n : ℕ) → length T ≡ n → (e f : ℕ)
+pub breaking_exist : (I : Session) (E : Enrolled) (T : Placing) (r : BreachRule) (n : ℕ)
+    → length T ≡ n → (e f : ℕ)
     → breaks I E T r e f ≡ true → (e < n) × (f < n)
 breaking_exist I E T Duration n same e f h =
     let parts = and_parts (e == f) (outlasts I T e) h in
@@ -50,29 +53,39 @@ breaking_exist I E T Duration n same e f h =
     (omega arith, omega arith)
 breaking_exist I E T Clash n same e f h =
     let rest = (and_parts (nat_lt e f) (in_one_period T e f && share_student E e f) h).1 in
-    subst (λ m. (e < m) × (f < m)) same (both_exist T _ e f (and_parts (in_one_period T e f) (share_student E e f) rest).0)
+    subst (λ m. (e < m) × (f < m)) same
+    (both_exist T _ e f (and_parts (in_one_period T e f) (share_student E e f) rest).0)
 breaking_exist I E T Capacity n same e f h =
     let parts = and_parts (e == f) (is_overfull I E T e) h in
     let here : e < length T = placed_exists T _ e parts.1 in
     let twice : e ≡ f = eqb-true e f parts.0 in
     (omega arith, omega arith)
 breaking_exist I E T After n same e f h =
-    let rest = (and_parts (list_any (is_after e f) I.period_rules) (not (e == f) && is_not_after T e f) h).1 in
-    subst (λ m. (e < m) × (f < m)) same (both_exist T _ e f (and_parts (not (e == f)) (is_not_after T e f) rest).1)
+    let rest = (and_parts (list_any (is_after e f) I.period_rules)
+    (not (e == f) && is_not_after T e f) h).1 in
+    subst (λ m. (e < m) × (f < m)) same
+    (both_exist T _ e f (and_parts (not (e == f)) (is_not_after T e f) rest).1)
 breaking_exist I E T Coincidence n same e f h =
     let apart : Bool = not (share_student E e f) && in_two_periods T e f in
-    let rest = (and_parts (list_any (is_coincidence e f) I.period_rules) (nat_lt e f && apart) h).1 in
+    let rest = (and_parts (list_any (is_coincidence e f) I.period_rules)
+    (nat_lt e f && apart) h).1 in
     let last = (and_parts (nat_lt e f) apart rest).1 in
-    subst (λ m. (e < m) × (f < m)) same (both_exist T _ e f (and_parts (not (share_student E e f)) (in_two_periods T e f) last).1)
+    subst (λ m. (e < m) × (f < m)) same
+    (both_exist T _ e f (and_parts (not (share_student E e f)) (in_two_periods T e f) last).1)
 breaking_exist I E T Exclusion n same e f h =
-    let rest = (and_parts (list_any (is_exclusion e f) I.period_rules) (nat_lt e f && in_one_period T e f) h).1 in
-    subst (λ m. (e < m) × (f < m)) same (both_exist T _ e f (and_parts (nat_lt e f) (in_one_period T e f) rest).1)
+    let rest = (and_parts (list_any (is_exclusion e f) I.period_rules)
+    (nat_lt e f && in_one_period T e f) h).1 in
+    subst (λ m. (e < m) × (f < m)) same
+    (both_exist T _ e f (and_parts (nat_lt e f) (in_one_period T e f) rest).1)
 breaking_exist I E T RoomExclusive n same e f h =
-    let rest = (and_parts (list_any (is_exclusive e) I.room_rules) (not (e == f) && in_one_place T e f) h).1 in
-    subst (λ m. (e < m) × (f < m)) same (both_exist T _ e f (and_parts (not (e == f)) (in_one_place T e f) rest).1)
+    let rest = (and_parts (list_any (is_exclusive e) I.room_rules)
+    (not (e == f) && in_one_place T e f) h).1 in
+    subst (λ m. (e < m) × (f < m)) same
+    (both_exist T _ e f (and_parts (not (e == f)) (in_one_place T e f) rest).1)
 
 -- an exam's place exists
-pub place_exists : (I : Session) (T : Placing) (e : ℕ) (p : Place) → All (PlaceExists I) T → e < length T
+pub place_exists : (I : Session) (T : Placing) (e : ℕ) (p : Place)
+    → All (PlaceExists I) T → e < length T
     → place_of T e ≡ Some p → PlaceExists I (Some p)
 place_exists I T e p all within here = subst (PlaceExists I) here (all e None within)
 
@@ -80,4 +93,5 @@ place_exists I T e p all within here = subst (PlaceExists I) here (all e None wi
 pub its_place_exists : (I : Session) (T : Placing) (e : ℕ) (p : Place) → All (PlaceExists I) T
     → place_of T e ≡ Some p → PlaceExists I (Some p)
 its_place_exists I T e p all here =
-    place_exists I T e p all (placed_exists T (λ x. true) e (ap (where_placed (λ x. true)) here)) here
+    place_exists I T e p all
+    (placed_exists T (λ x. true) e (ap (where_placed (λ x. true)) here)) here

@@ -32,46 +32,62 @@ use Rattle.exam_score.proofs.FoldLemmas.{index_from_chain, map_push}
 abbrev pub is_sitter : ℕ → ℕ → Sitter → Bool
 is_sitter s e x = eqb x.student s && eqb x.exam e
 
-other_sitter : (s e : ℕ) (x y : Sitter) → ComesBefore (pair_of x) (pair_of y) → is_sitter s e x ≡ true → is_sitter s e y ≡ false
+other_sitter : (s e : ℕ) (x y : Sitter) → ComesBefore (pair_of x) (pair_of y)
+    → is_sitter s e x ≡ true → is_sitter s e y ≡ false
 other_sitter s e x y before is =
     let parts = and_parts (eqb x.student s) (eqb x.exam e) is in
     let own_student = eqb-true x.student s parts.0 in
     let own_exam = eqb-true x.exam e parts.1 in
-    elim before as (λ _. is_sitter s e y ≡ false) [ inl less ↦ grind (arith, nat_tests) | inr same ↦ grind (arith, nat_tests) ]
+    elim before as (λ _. is_sitter s e y ≡ false)
+    [ inl less ↦ grind (arith, nat_tests) | inr same ↦ grind (arith, nat_tests) ]
 
 -- pairs in order have none twice
-once : (s e : ℕ) (xs : List Sitter) → IsChain (λ x y. ComesBefore (pair_of x) (pair_of y)) xs → count_by (is_sitter s e) xs ≤ 1
+once : (s e : ℕ) (xs : List Sitter) → IsChain (λ x y. ComesBefore (pair_of x) (pair_of y)) xs
+    → count_by (is_sitter s e) xs ≤ 1
 once s e [] h = omega arith
 once s e (x ∷ xs) h = go (is_sitter s e x) refl (once s e xs h.1)
   where
-    go : (b : Bool) → is_sitter s e x ≡ b → count_by (is_sitter s e) xs ≤ 1 → count_by (is_sitter s e) (x ∷ xs) ≤ 1
+    go : (b : Bool) → is_sitter s e x ≡ b → count_by (is_sitter s e) xs ≤ 1
+        → count_by (is_sitter s e) (x ∷ xs) ≤ 1
     go true is more =
-        let none = sum_by-none (λ y. cond (is_sitter s e y) 1 0) xs (each_weaker (λ y. ComesBefore (pair_of x) (pair_of y)) (λ y. ◌≡◌ {A = ℕ} (cond (is_sitter s e y) 1 0) 0) (λ y before. ap (λ b. cond b 1 0) (other_sitter s e x y before is)) xs h.0) in
+        let none = sum_by-none (λ y. cond (is_sitter s e y) 1 0) xs
+        (each_weaker (λ y. ComesBefore (pair_of x) (pair_of y))
+        (λ y. ◌≡◌ {A = ℕ} (cond (is_sitter s e y) 1 0) 0)
+        (λ y before. ap (λ b. cond b 1 0) (other_sitter s e x y before is)) xs h.0) in
         let one : ◌≡◌ {A = ℕ} (cond (is_sitter s e x) 1 0) 1 = ap (λ b. cond b 1 0) is in
         omega (arith, sum_by-cons (λ y. cond (is_sitter s e y) 1 0) x xs, none, one)
     go false is more =
         let none : ◌≡◌ {A = ℕ} (cond (is_sitter s e x) 1 0) 0 = ap (λ b. cond b 1 0) is in
         omega (arith, sum_by-cons (λ y. cond (is_sitter s e y) 1 0) x xs, none, more)
 
-each_mapped : (P : Pair → Type 0) (xs : List Sitter) → AllByRecursion P (map pair_of xs) → AllByRecursion (λ x. P (pair_of x)) xs
+each_mapped : (P : Pair → Type 0) (xs : List Sitter) → AllByRecursion P (map pair_of xs)
+    → AllByRecursion (λ x. P (pair_of x)) xs
 each_mapped P [] h = tt
 each_mapped P (x ∷ xs) h = (h.0, each_mapped P xs h.1)
 
-each_of_mapped : (P : Pair → Type 0) (xs : List Sitter) → AllByRecursion (λ x. P (pair_of x)) xs → AllByRecursion P (map pair_of xs)
+each_of_mapped : (P : Pair → Type 0) (xs : List Sitter) → AllByRecursion (λ x. P (pair_of x)) xs
+    → AllByRecursion P (map pair_of xs)
 each_of_mapped P [] h = tt
 each_of_mapped P (x ∷ xs) h = (h.0, each_of_mapped P xs h.1)
 
-chain_mapped : (xs : List Sitter) → IsChain ComesBefore (map pair_of xs) → IsChain (λ x y. ComesBefore (pair_of x) (pair_of y)) xs
+chain_mapped : (xs : List Sitter) → IsChain ComesBefore (map pair_of xs)
+    → IsChain (λ x y. ComesBefore (pair_of x) (pair_of y)) xs
 chain_mapped [] h = tt
 chain_mapped (x ∷ xs) h = (each_mapped (ComesBefore (pair_of x)) xs h.0, chain_mapped xs h.1)
 
-each_filter : {X : Type 0} (P : X → Type 0) (t : X → Bool) (xs : List X) → AllByRecursion P xs → AllByRecursion P (filter t xs)
+each_filter : {X : Type 0} (P : X → Type 0) (t : X → Bool) (xs : List X) → AllByRecursion P xs
+    → AllByRecursion P (filter t xs)
 each_filter P t [] h = tt
-each_filter P t (x ∷ xs) h = (elim (t x) as (λ b. AllByRecursion P (cond b (x ∷ filter t xs) (filter t xs))) [ true ↦ (h.0, each_filter P t xs h.1) | false ↦ each_filter P t xs h.1 ])
+each_filter P t (x ∷ xs) h =
+    (elim (t x) as (λ b. AllByRecursion P (cond b (x ∷ filter t xs) (filter t xs)))
+    [ true ↦ (h.0, each_filter P t xs h.1) | false ↦ each_filter P t xs h.1 ])
 
-chain_filter : {X : Type 0} (R : X → X → Type 0) (t : X → Bool) (xs : List X) → IsChain R xs → IsChain R (filter t xs)
+chain_filter : {X : Type 0} (R : X → X → Type 0) (t : X → Bool) (xs : List X) → IsChain R xs
+    → IsChain R (filter t xs)
 chain_filter R t [] h = tt
-chain_filter R t (x ∷ xs) h = (elim (t x) as (λ b. IsChain R (cond b (x ∷ filter t xs) (filter t xs))) [ true ↦ (each_filter (R x) t xs h.0, chain_filter R t xs h.1) | false ↦ chain_filter R t xs h.1 ])
+chain_filter R t (x ∷ xs) h =
+    (elim (t x) as (λ b. IsChain R (cond b (x ∷ filter t xs) (filter t xs)))
+    [ true ↦ (each_filter (R x) t xs h.0, chain_filter R t xs h.1) | false ↦ chain_filter R t xs h.1 ])
 
 -- ---- in order
 
@@ -79,23 +95,30 @@ abbrev pub sitter_cmp : Sitter → Sitter → Ordering
 sitter_cmp x y = ordering_then (nat_cmp x.student y.student) (nat_cmp x.exam y.exam)
 
 sitter_cmp_total : IsTotalOrder sitter_cmp
-sitter_cmp_total = then_total (on_total (λ (x : Sitter). x.student) nat_cmp_total) (on_total (λ (x : Sitter). x.exam) nat_cmp_total)
+sitter_cmp_total =
+    then_total (on_total (λ (x : Sitter). x.student) nat_cmp_total)
+    (on_total (λ (x : Sitter). x.exam) nat_cmp_total)
 
-sooner : (x y : Sitter) → is_lt (sitter_cmp y x) ≡ false → is_sitter x.student x.exam y ≡ false → IsSooner x y
+sooner : (x y : Sitter) → is_lt (sitter_cmp y x) ≡ false
+    → is_sitter x.student x.exam y ≡ false → IsSooner x y
 sooner x y h other = elim (cases_lt x.student y.student) as (λ _. IsSooner x y) [
   | inl less ↦ inl less
   | inr more ↦
-      (let same : x.student ≡ y.student = elim (cases_lt y.student x.student) as (λ _. x.student ≡ y.student) [ inl less ↦ absurd (first x y h less) | inr not_more ↦ omega (arith, more, not_more) ] in
+      (let same : x.student ≡ y.student = elim (cases_lt y.student x.student)
+      as (λ _. x.student ≡ y.student)
+      [ inl less ↦ absurd (first x y h less) | inr not_more ↦ omega (arith, more, not_more) ] in
       inr (same, elim (cases_lt x.exam y.exam) as (λ _. x.exam < y.exam) [ inl less ↦ less | inr not_less ↦ absurd (second x y h other (sym same) not_less) ]))
 ]
   where
     first : (x y : Sitter) → is_lt (sitter_cmp y x) ≡ false → y.student < x.student → ⊥
     first x y h less = grind (arith, nat_tests)
 
-    second : (x y : Sitter) → is_lt (sitter_cmp y x) ≡ false → is_sitter x.student x.exam y ≡ false → y.student ≡ x.student → y.exam ≤ x.exam → ⊥
+    second : (x y : Sitter) → is_lt (sitter_cmp y x) ≡ false → is_sitter x.student x.exam y ≡ false
+        → y.student ≡ x.student → y.exam ≤ x.exam → ⊥
     second x y h other same not_less = grind (arith, nat_tests)
 
-none_each : (s e : ℕ) (xs : List Sitter) → count_by (is_sitter s e) xs ≡ 0 → AllByRecursion (λ y. is_sitter s e y ≡ false) xs
+none_each : (s e : ℕ) (xs : List Sitter) → count_by (is_sitter s e) xs ≡ 0
+    → AllByRecursion (λ y. is_sitter s e y ≡ false) xs
 none_each s e [] h = tt
 none_each s e (x ∷ xs) h =
     let split = sum_by-cons (λ y. cond (is_sitter s e y) 1 0) x xs in
@@ -105,34 +128,52 @@ none_each s e (x ∷ xs) h =
     zero_is true k = absurd (omega (arith, k))
     zero_is false k = refl
 
-each_sooner : (x : Sitter) (ys : List Sitter) → AllByRecursion (λ y. is_lt (sitter_cmp y x) ≡ false) ys → AllByRecursion (λ y. is_sitter x.student x.exam y ≡ false) ys → AllByRecursion (IsSooner x) ys
+each_sooner : (x : Sitter) (ys : List Sitter)
+    → AllByRecursion (λ y. is_lt (sitter_cmp y x) ≡ false) ys
+    → AllByRecursion (λ y. is_sitter x.student x.exam y ≡ false) ys → AllByRecursion (IsSooner x) ys
 each_sooner x [] h k = tt
 each_sooner x (y ∷ ys) h k = (sooner x y h.0 k.0, each_sooner x ys h.1 k.1)
 
-strictly : (xs : List Sitter) → IsChain (λ x y. is_lt (sitter_cmp y x) ≡ false) xs → ((s e : ℕ) → count_by (is_sitter s e) xs ≤ 1) → IsChain IsSooner xs
+strictly : (xs : List Sitter) → IsChain (λ x y. is_lt (sitter_cmp y x) ≡ false) xs
+    → ((s e : ℕ) → count_by (is_sitter s e) xs ≤ 1) → IsChain IsSooner xs
 strictly [] h k = tt
 strictly (x ∷ xs) h k =
-    let own : ◌≡◌ {A = ℕ} (cond (is_sitter x.student x.exam x) 1 0) 1 = ap₂ (λ a b. cond (a && b) 1 0) (eq-eqb x.student x.student refl) (eq-eqb x.exam x.exam refl) in
-    let none : count_by (is_sitter x.student x.exam) xs ≡ 0 = omega (arith, sum_by-cons (λ y. cond (is_sitter x.student x.exam y) 1 0) x xs, own, k x.student x.exam) in
+    let own : ◌≡◌ {A = ℕ} (cond (is_sitter x.student x.exam x) 1 0) 1 =
+    ap₂ (λ a b. cond (a && b) 1 0) (eq-eqb x.student x.student refl)
+    (eq-eqb x.exam x.exam refl) in
+    let none : count_by (is_sitter x.student x.exam) xs ≡ 0 =
+    omega (arith, sum_by-cons (λ y. cond (is_sitter x.student x.exam y) 1 0) x xs, own, k x.student x.exam) in
     (each_sooner x xs h.0 (none_each x.student x.exam xs none), strictly xs h.1 (λ s e. omega (arith, sum_by-cons (λ y. cond (is_sitter s e y) 1 0) x xs, k s e)))
 
-pub sitters_in_order : (E : Enrolled) (edited : List ℕ) (sitters sorted : List Sitter) → AreEnrolments E → map pair_of sitters ≡ pairs_concerned E edited
+pub sitters_in_order : (E : Enrolled) (edited : List ℕ) (sitters sorted : List Sitter)
+    → AreEnrolments E → map pair_of sitters ≡ pairs_concerned E edited
     → IsPermutation sitters sorted → IsSorted sitter_cmp sorted → AllPairs IsSooner sorted
 sitters_in_order E edited sitters sorted known are moved order =
-    let chain : IsChain ComesBefore (map pair_of sitters) = subst (IsChain ComesBefore) (sym are) (chain_filter ComesBefore (λ p. sits_among E edited p.student) (pairs_of E) (chain_from_index ComesBefore (pairs_of E) (are_pairs E known).ordered)) in
+    let chain : IsChain ComesBefore (map pair_of sitters) =
+    subst (IsChain ComesBefore) (sym are)
+    (chain_filter ComesBefore (λ p. sits_among E edited p.student) (pairs_of E)
+    (chain_from_index ComesBefore (pairs_of E) (are_pairs E known).ordered)) in
     let counts : (s e : ℕ) → count_by (is_sitter s e) sorted ≤ 1
-    = λ s e. (let same = sum_by-IsPermutation (λ y. cond (is_sitter s e y) 1 0) sitters sorted moved in omega (arith, same, once s e sitters (chain_mapped sitters chain))) in
+    = λ s e. (let same = sum_by-IsPermutation
+    (λ y. cond (is_sitter s e y) 1 0) sitters sorted moved in
+    omega (arith, same, once s e sitters (chain_mapped sitters chain))) in
     let weak : AllPairs (λ x y. is_lt (sitter_cmp y x) ≡ false) sorted
-    = λ i j d l m. sorted_far (λ x y. is_lt (sitter_cmp x y)) (ranks_by sitter_cmp_total (λ x. x)) sorted order i j d (omega arith) m in
-    index_from_chain IsSooner sorted (strictly sorted (chain_from_index (λ x y. is_lt (sitter_cmp y x) ≡ false) sorted weak) counts)
+    = λ i j d l m.
+    sorted_far (λ x y. is_lt (sitter_cmp x y))
+    (ranks_by sitter_cmp_total (λ x. x)) sorted order i j d (omega arith) m in
+    index_from_chain IsSooner sorted
+    (strictly sorted
+    (chain_from_index (λ x y. is_lt (sitter_cmp y x) ≡ false) sorted weak) counts)
 
 filter_few : {X : Type 0} (t : X → Bool) (xs : List X) → length (filter t xs) ≤ length xs
 filter_few t [] = omega arith
 filter_few t (x ∷ xs) =
     let h = filter_few t xs in
-    elim (t x) as (λ b. length (cond b (x ∷ filter t xs) (filter t xs)) ≤ length (x ∷ xs)) [ true ↦ omega arith | false ↦ omega arith ]
+    elim (t x) as (λ b. length (cond b (x ∷ filter t xs) (filter t xs)) ≤ length (x ∷ xs))
+    [ true ↦ omega arith | false ↦ omega arith ]
 
-pub sitters_few : (E : Enrolled) (edited : List ℕ) (sitters sorted : List Sitter) → AreEnrolments E → map pair_of sitters ≡ pairs_concerned E edited
+pub sitters_few : (E : Enrolled) (edited : List ℕ) (sitters sorted : List Sitter) → AreEnrolments E
+    → map pair_of sitters ≡ pairs_concerned E edited
     → IsPermutation sitters sorted → length sorted ≤ 200000
 sitters_few E edited sitters sorted known are moved =
     let same = length_permutation sitters sorted moved in
@@ -145,7 +186,8 @@ sitters_few E edited sitters sorted known are moved =
 
 -- ---- folded one after the other
 
-each_earlier : (xs : List Sitter) (i : ℕ) (d : Sitter) → i < length xs → AllPairs IsSooner xs → AllByRecursion (λ x. IsSooner x (get_or xs i d)) (take i xs)
+each_earlier : (xs : List Sitter) (i : ℕ) (d : Sitter) → i < length xs → AllPairs IsSooner xs
+    → AllByRecursion (λ x. IsSooner x (get_or xs i d)) (take i xs)
 each_earlier xs i d lt order =
     recursion_from_All (λ x. IsSooner x (get_or xs i d)) (take i xs)
     (λ k e m. (let within : k < i = (let l = length-take i xs in omega (arith, l, m)) in
@@ -153,43 +195,62 @@ each_earlier xs i d lt order =
     (subst (λ y. IsSooner (get_or xs k e) y) (get_or_default xs i e d lt) (order k i e within lt))))
 
 -- the last part of what holds for all
-each_last : {X : Type 0} (P : X → Type 0) (xs ys : List X) → AllByRecursion P (xs ++ ys) → AllByRecursion P ys
+each_last : {X : Type 0} (P : X → Type 0) (xs ys : List X) → AllByRecursion P (xs ++ ys)
+    → AllByRecursion P ys
 each_last P [] ys h = h
 each_last P (x ∷ xs) ys h = each_last P xs ys h.1
 
-pub next_follows : (fold : Folded) (xs : List Sitter) (i : ℕ) (d : Sitter) → i < length xs → AllPairs IsSooner xs → StandsFor fold (map pair_of (take i xs)) → CanFollow fold (pair_of (get_or xs i d))
+pub next_follows : (fold : Folded) (xs : List Sitter) (i : ℕ) (d : Sitter) → i < length xs
+    → AllPairs IsSooner xs → StandsFor fold (map pair_of (take i xs))
+    → CanFollow fold (pair_of (get_or xs i d))
 next_follows fold xs i d lt order h =
     let pair : Pair = pair_of (get_or xs i d) in
     All-from_recursion (λ p. ComesEarlier p pair) fold.current
     (each_last (λ p. ComesEarlier p pair) h.closed fold.current
-    (subst (AllByRecursion (λ p. ComesEarlier p pair)) h.parts (each_of_mapped (λ p. ComesEarlier p pair) (take i xs) (each_earlier xs i d lt order))))
+    (subst (AllByRecursion (λ p. ComesEarlier p pair)) h.parts
+    (each_of_mapped (λ p. ComesEarlier p pair) (take i xs) (each_earlier xs i d lt order))))
 
-pub fold_few : (fold : Folded) (xs : List Sitter) (i : ℕ) → i < length xs → length xs ≤ 200000 → StandsFor fold (map pair_of (take i xs)) → fold.count < 200000
-fold_few fold xs i lt few h = omega (arith, h.count, length-map (take i xs) pair_of, length-take i xs, lt, few)
+pub fold_few : (fold : Folded) (xs : List Sitter) (i : ℕ) → i < length xs → length xs ≤ 200000
+    → StandsFor fold (map pair_of (take i xs)) → fold.count < 200000
+fold_few fold xs i lt few h =
+    omega (arith, h.count, length-map (take i xs) pair_of, length-take i xs, lt, few)
 
 -- one more is folded
-pub stands_next : (fold : Folded) (xs : List Sitter) (i : ℕ) (d : Sitter) → i < length xs → StandsFor fold (map pair_of (take i xs) ++ pair_of (get_or xs i d) ∷ []) → StandsFor fold (map pair_of (take (i + 1) xs))
+pub stands_next : (fold : Folded) (xs : List Sitter) (i : ℕ) (d : Sitter) → i < length xs
+    → StandsFor fold (map pair_of (take i xs) ++ pair_of (get_or xs i d) ∷ [])
+    → StandsFor fold (map pair_of (take (i + 1) xs))
 stands_next fold xs i d lt h =
-    subst (StandsFor fold) (sym (ap (map pair_of) (take_more xs i d lt) ∙ map_push pair_of (take i xs) (get_or xs i d))) h
+    subst (StandsFor fold)
+    (sym (ap (map pair_of) (take_more xs i d lt)
+    ∙ map_push pair_of (take i xs) (get_or xs i d)))
+    h
 
 -- what is told of the edit is told of the fold
-pub edit_is : (fold : Folded) (s : Session) (E : Enrolled) (old new : Placing) (edited : List ℕ) (pairs : List Pair) (sizes : List ℕ) (parts : Penalty) → IsFoldOf fold s old new edited
-    → AreEnrolments E → Fits s E new → IsPermutation (pairs_concerned E edited) pairs → AreSizes E sizes → DiffersAtMost edited old new → parts ≡ track s E old
+pub edit_is : (fold : Folded) (s : Session) (E : Enrolled) (old new : Placing) (edited : List ℕ)
+    (pairs : List Pair) (sizes : List ℕ) (parts : Penalty)
+    → IsFoldOf fold s old new edited
+    → AreEnrolments E → Fits s E new → IsPermutation (pairs_concerned E edited) pairs
+    → AreSizes E sizes → DiffersAtMost edited old new → parts ≡ track s E old
     → IsOfEdit fold E pairs sizes parts
 edit_is fold s E old new edited pairs sizes parts is known fits moved sized same scored = record {
   enrolments = known;
-  fits = subst (λ z. Fits z E fold.later) (sym is.session) (subst (λ t. Fits s E t) (sym is.after) fits);
+  fits = subst (λ z. Fits z E fold.later) (sym is.session)
+      (subst (λ t. Fits s E t) (sym is.after) fits);
   concerned = subst (λ es. IsPermutation (pairs_concerned E es) pairs) (sym is.exams) moved;
   sized = sized;
   others = subst (λ es. DiffersAtMost es fold.earlier fold.later) (sym is.exams)
-      (subst (λ t. DiffersAtMost edited t fold.later) (sym is.before) (subst (λ t. DiffersAtMost edited old t) (sym is.after) same));
+      (subst (λ t. DiffersAtMost edited t fold.later) (sym is.before)
+      (subst (λ t. DiffersAtMost edited old t) (sym is.after) same));
   scored = scored ∙ (λ i. track (sym is.session i) E (sym is.before i));
 }
 
 -- so what the fold gives is of the edit
-pub track_is : (fold : Folded) (s : Session) (E : Enrolled) (old new : Placing) (edited : List ℕ) (r : Option Penalty) → IsFoldOf fold s old new edited
+pub track_is : (fold : Folded) (s : Session) (E : Enrolled) (old new : Placing) (edited : List ℕ)
+    (r : Option Penalty)
+    → IsFoldOf fold s old new edited
     → r ≡ Some (track fold.instance E fold.later) → r ≡ Some (track s E new)
-track_is fold s E old new edited r is scored = scored ∙ (λ i. Some (track (is.session i) E (is.after i)))
+track_is fold s E old new edited r is scored =
+    scored ∙ (λ i. Some (track (is.session i) E (is.after i)))
 
 pub some_is : (r : Option Penalty) (x y : Penalty) → r ≡ Some x → r ≡ Some y → x ≡ y
 some_is r x y a b = ap (λ (o : Option Penalty). unwrap_or o x) (sym a ∙ b)

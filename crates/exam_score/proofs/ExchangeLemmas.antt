@@ -40,16 +40,21 @@ flip true e = sym e
 flip false e = refl
 
 -- what fails for all of a list fails for each of it
-fails_among : (test : ℕ → Bool) (exams : List ℕ) (e : ℕ) → list_any test exams ≡ false → has_number exams e ≡ true → test e ≡ false
+fails_among : (test : ℕ → Bool) (exams : List ℕ) (e : ℕ) → list_any test exams ≡ false
+    → has_number exams e ≡ true → test e ≡ false
 fails_among test [] e none among = absurd (true≢false (sym among))
-fails_among test (k ∷ ks) e none among = go (eqb k e) refl among (fails_among test ks e (or_parts (test k) (list_any test ks) none).1)
+fails_among test (k ∷ ks) e none among =
+    go (eqb k e) refl among (fails_among test ks e (or_parts (test k) (list_any test ks) none).1)
   where
-    go : (b : Bool) → eqb k e ≡ b → (b || has_number ks e) ≡ true → (has_number ks e ≡ true → test e ≡ false) → test e ≡ false
-    go true is h more = ap test (sym (eqb-true k e is)) ∙ (or_parts (test k) (list_any test ks) none).0
+    go : (b : Bool) → eqb k e ≡ b → (b || has_number ks e) ≡ true
+        → (has_number ks e ≡ true → test e ≡ false) → test e ≡ false
+    go true is h more =
+        ap test (sym (eqb-true k e is)) ∙ (or_parts (test k) (list_any test ks) none).0
     go false is h more = more h
 
 -- an exam that a student sits is none of those that she doesn't sit
-not_among : (E : Enrolled) (s e : ℕ) (exams : List ℕ) → has E s e ≡ true → sits_among E exams s ≡ false → has_number exams e ≡ false
+not_among : (E : Enrolled) (s e : ℕ) (exams : List ℕ) → has E s e ≡ true
+    → sits_among E exams s ≡ false → has_number exams e ≡ false
 not_among E s e exams sits none = go (has_number exams e) refl
   where
     go : (b : Bool) → has_number exams e ≡ b → has_number exams e ≡ false
@@ -58,28 +63,35 @@ not_among E s e exams sits none = go (has_number exams e) refl
 
 -- ---- the students who are not concerned
 
-kept_pass : {X : Type 0} (t : X → Bool) (xs : List X) → AllByRecursion (λ x. t x ≡ true) (filter t xs)
+kept_pass : {X : Type 0} (t : X → Bool) (xs : List X)
+    → AllByRecursion (λ x. t x ≡ true) (filter t xs)
 kept_pass t [] = tt
 kept_pass {X} t (x ∷ xs) = go (t x) refl (kept_pass t xs)
   where
-    go : (b : Bool) → t x ≡ b → AllByRecursion (λ y. t y ≡ true) (filter t xs) → AllByRecursion (λ y. t y ≡ true) (cond b (x ∷ filter t xs) (filter t xs))
+    go : (b : Bool) → t x ≡ b → AllByRecursion (λ y. t y ≡ true) (filter t xs)
+        → AllByRecursion (λ y. t y ≡ true) (cond b (x ∷ filter t xs) (filter t xs))
     go true e more = (e, more)
     go false e more = more
 
-each_kept : {X : Type 0} (P Q : X → Type 0) (t : X → Bool) → ((x : X) → P x → t x ≡ true → Q x) → (xs : List X) → AllByRecursion P xs → AllByRecursion Q (filter t xs)
+each_kept : {X : Type 0} (P Q : X → Type 0) (t : X → Bool) → ((x : X) → P x → t x ≡ true → Q x)
+    → (xs : List X) → AllByRecursion P xs → AllByRecursion Q (filter t xs)
 each_kept P Q t h [] a = tt
 each_kept {X} P Q t h (x ∷ xs) a = go (t x) refl (each_kept P Q t h xs a.1)
   where
-    go : (b : Bool) → t x ≡ b → AllByRecursion Q (filter t xs) → AllByRecursion Q (cond b (x ∷ filter t xs) (filter t xs))
+    go : (b : Bool) → t x ≡ b → AllByRecursion Q (filter t xs)
+        → AllByRecursion Q (cond b (x ∷ filter t xs) (filter t xs))
     go true e more = (h x a.0 e, more)
     go false e more = more
 
-chain_of_each : {X : Type 0} (P : X → Type 0) (R : X → X → Type 0) → ((x y : X) → P x → P y → R x y) → (xs : List X) → AllByRecursion P xs → IsChain R xs
+chain_of_each : {X : Type 0} (P : X → Type 0) (R : X → X → Type 0) → ((x y : X) → P x → P y → R x y)
+    → (xs : List X) → AllByRecursion P xs → IsChain R xs
 chain_of_each P R h [] a = tt
-chain_of_each P R h (x ∷ xs) a = (each_weaker P (R x) (λ y k. h x y a.0 k) xs a.1, chain_of_each P R h xs a.1)
+chain_of_each P R h (x ∷ xs) a =
+    (each_weaker P (R x) (λ y k. h x y a.0 k) xs a.1, chain_of_each P R h xs a.1)
 
 -- a student's pairs make nothing with the pairs of the others
-apart : (w : ℕ → ℕ → ℕ) (t : ℕ → Bool) (b : Bool) (p q : Pair) → t p.student ≡ b → t q.student ≡ not b → later_cost w p q ≡ 0
+apart : (w : ℕ → ℕ → ℕ) (t : ℕ → Bool) (b : Bool) (p q : Pair) → t p.student ≡ b
+    → t q.student ≡ not b → later_cost w p q ≡ 0
 apart w t b p q hp hq =
     cond-false (eqb q.student p.student) (w p.exam q.exam) 0
     (ne_eqb q.student p.student (λ e. clash b (sym hp ∙ ap t (sym e) ∙ hq)))
@@ -90,43 +102,65 @@ apart w t b p q hp hq =
 
 -- the sum over all pairs, by the students that pass a test and the others
 by_test : (w : ℕ → ℕ → ℕ) (t : ℕ → Bool) (ps : List Pair)
-    → sum_pairs (later_cost w) ps ≡ sum_pairs (later_cost w) (filter (λ p. t p.student) ps) + sum_pairs (later_cost w) (filter (λ p. not (t p.student)) ps)
+    → sum_pairs (later_cost w) ps ≡ sum_pairs (later_cost w) (filter (λ p. t p.student) ps)
+    + sum_pairs (later_cost w) (filter (λ p. not (t p.student)) ps)
 by_test w t [] = refl
 by_test w t (p ∷ ps) = go (t p.student) refl (by_test w t ps)
   where
     no_passes : AllByRecursion (λ q. t q.student ≡ false) (filter (λ p. not (t p.student)) ps)
-    no_passes = each_weaker (λ q. not (t q.student) ≡ true) (λ q. t q.student ≡ false) (λ q e. flip (t q.student) e) (filter (λ p. not (t p.student)) ps) (kept_pass (λ p. not (t p.student)) ps)
+    no_passes = each_weaker (λ q. not (t q.student) ≡ true) (λ q. t q.student ≡ false)
+        (λ q e. flip (t q.student) e) (filter (λ p. not (t p.student)) ps)
+        (kept_pass (λ p. not (t p.student)) ps)
 
     go : (b : Bool) → t p.student ≡ b
-        → sum_pairs (later_cost w) ps ≡ sum_pairs (later_cost w) (filter (λ p. t p.student) ps) + sum_pairs (later_cost w) (filter (λ p. not (t p.student)) ps)
+        → sum_pairs (later_cost w) ps ≡ sum_pairs (later_cost w) (filter (λ p. t p.student) ps)
+        + sum_pairs (later_cost w) (filter (λ p. not (t p.student)) ps)
         → sum_by (later_cost w p) ps + sum_pairs (later_cost w) ps
-        ≡ sum_pairs (later_cost w) (cond b (p ∷ filter (λ p. t p.student) ps) (filter (λ p. t p.student) ps)) + sum_pairs (later_cost w) (cond (not b) (p ∷ filter (λ p. not (t p.student)) ps) (filter (λ p. not (t p.student)) ps))
+        ≡ sum_pairs (later_cost w)
+        (cond b (p ∷ filter (λ p. t p.student) ps) (filter (λ p. t p.student) ps))
+        + sum_pairs (later_cost w)
+        (cond (not b) (p ∷ filter (λ p. not (t p.student)) ps)
+        (filter (λ p. not (t p.student)) ps))
     go true e more =
-        let split = sum_by-filter_both (λ p. t p.student) (λ p. not (t p.student)) (λ _. refl) (later_cost w p) ps in
-        let none = sum_by-none (later_cost w p) (filter (λ p. not (t p.student)) ps) (each_weaker (λ q. t q.student ≡ false) (λ q. later_cost w p q ≡ 0) (λ q h. apart w t true p q e h) (filter (λ p. not (t p.student)) ps) no_passes) in
+        let split = sum_by-filter_both (λ p. t p.student) (λ p. not (t p.student)) (λ _. refl)
+        (later_cost w p) ps in
+        let none = sum_by-none (later_cost w p) (filter (λ p. not (t p.student)) ps)
+        (each_weaker (λ q. t q.student ≡ false) (λ q. later_cost w p q ≡ 0)
+        (λ q h. apart w t true p q e h) (filter (λ p. not (t p.student)) ps) no_passes) in
         omega arith
     go false e more =
-        let split = sum_by-filter_both (λ p. t p.student) (λ p. not (t p.student)) (λ _. refl) (later_cost w p) ps in
-        let none = sum_by-none (later_cost w p) (filter (λ p. t p.student) ps) (each_weaker (λ q. t q.student ≡ true) (λ q. later_cost w p q ≡ 0) (λ q h. apart w t false p q e h) (filter (λ p. t p.student) ps) (kept_pass (λ p. t p.student) ps)) in
+        let split = sum_by-filter_both (λ p. t p.student) (λ p. not (t p.student)) (λ _. refl)
+        (later_cost w p) ps in
+        let none = sum_by-none (later_cost w p) (filter (λ p. t p.student) ps)
+        (each_weaker (λ q. t q.student ≡ true) (λ q. later_cost w p q ≡ 0)
+        (λ q h. apart w t false p q e h) (filter (λ p. t p.student) ps)
+        (kept_pass (λ p. t p.student) ps)) in
         omega arith
 
 -- each pair of a list is there
-there_each : (ps : List Pair) → AllByRecursion (λ p. list_any (is_pair p.student p.exam) ps ≡ true) ps
+there_each : (ps : List Pair)
+    → AllByRecursion (λ p. list_any (is_pair p.student p.exam) ps ≡ true) ps
 there_each [] = tt
 there_each (p ∷ ps) = (
-  ap₂ (λ a b. (a && b) || list_any (is_pair p.student p.exam) ps) (eq-eqb p.student p.student refl) (eq-eqb p.exam p.exam refl),
-  each_weaker (λ q. list_any (is_pair q.student q.exam) ps ≡ true) (λ q. list_any (is_pair q.student q.exam) (p ∷ ps) ≡ true)
-      (λ q h. later (is_pair q.student q.exam p) (list_any (is_pair q.student q.exam) ps) h) ps (there_each ps),
+  ap₂ (λ a b. (a && b) || list_any (is_pair p.student p.exam) ps) (eq-eqb p.student p.student refl)
+      (eq-eqb p.exam p.exam refl),
+  each_weaker (λ q. list_any (is_pair q.student q.exam) ps ≡ true)
+      (λ q. list_any (is_pair q.student q.exam) (p ∷ ps) ≡ true)
+      (λ q h. later (is_pair q.student q.exam p) (list_any (is_pair q.student q.exam) ps) h) ps
+      (there_each ps),
 )
   where
     later : (a b : Bool) → b ≡ true → (a || b) ≡ true
     later true b h = refl
     later false b h = h
 
-sat_each : (E : Enrolled) → AreEnrolments E → AllByRecursion (λ p. has E p.student p.exam ≡ true) (pairs_of E)
+sat_each : (E : Enrolled) → AreEnrolments E
+    → AllByRecursion (λ p. has E p.student p.exam ≡ true) (pairs_of E)
 sat_each E known =
-    each_weaker (λ p. list_any (is_pair p.student p.exam) (pairs_of E) ≡ true) (λ p. has E p.student p.exam ≡ true)
-    (λ p h. sym ((are_pairs E known).members p.student p.exam) ∙ h) (pairs_of E) (there_each (pairs_of E))
+    each_weaker (λ p. list_any (is_pair p.student p.exam) (pairs_of E) ≡ true)
+    (λ p. has E p.student p.exam ≡ true)
+    (λ p h. sym ((are_pairs E known).members p.student p.exam) ∙ h) (pairs_of E)
+    (there_each (pairs_of E))
 
 -- ---- the pairs of the students who are concerned
 
@@ -138,42 +172,65 @@ picked_none true n h = h
 picked_none false n h = refl
 
 -- in any order
-any_order : (cost : ℕ → ℕ → ℕ) (at : ℕ → Option ℕ) → ((p q : ℕ) → cost p q ≡ cost q p) → ((p : ℕ) → cost p p ≡ 0) → (xs ys : List Pair) → IsPermutation xs ys
-    → sum_pairs (later_cost (λ e f. cost_between cost (at e) (at f))) xs ≡ sum_pairs (later_cost (λ e f. cost_between cost (at e) (at f))) ys
+any_order : (cost : ℕ → ℕ → ℕ) (at : ℕ → Option ℕ) → ((p q : ℕ) → cost p q ≡ cost q p)
+    → ((p : ℕ) → cost p p ≡ 0) → (xs ys : List Pair) → IsPermutation xs ys
+    → sum_pairs (later_cost (λ e f. cost_between cost (at e) (at f))) xs
+    ≡ sum_pairs (later_cost (λ e f. cost_between cost (at e) (at f))) ys
 any_order cost at either nothing xs ys moved =
     sym (sum_pairs-IsPermutation (later_cost (λ e f. cost_between cost (at e) (at f)))
-    (λ p. picked_none (eqb p.student p.student) (cost_between cost (at p.exam) (at p.exam)) (between_none cost nothing (at p.exam)))
-    (λ p q. ap₂ (λ b n. cond b n 0) (eqb-swap q.student p.student) (between_swap cost either (at p.exam) (at q.exam))) xs ys moved)
+    (λ p. picked_none (eqb p.student p.student) (cost_between cost (at p.exam) (at p.exam))
+    (between_none cost nothing (at p.exam)))
+    (λ p q. ap₂ (λ b n. cond b n 0) (eqb-swap q.student p.student)
+    (between_swap cost either (at p.exam) (at q.exam)))
+    xs ys moved)
 
-sums_with : {X : Type 0} (g h k m : X → X → ℕ) → ((x y : X) → g x y + h x y ≡ k x y + m x y) → (xs : List X)
+sums_with : {X : Type 0} (g h k m : X → X → ℕ)
+    → ((x y : X) → g x y + h x y ≡ k x y + m x y) → (xs : List X)
     → sum_pairs g xs + sum_pairs h xs ≡ sum_pairs k xs + sum_pairs m xs
 sums_with g h k m same [] = refl
 sums_with g h k m same (x ∷ xs) =
-    let own = sym (sum_by-add (g x) (h x) xs) ∙ sum_by-same _ _ (same x) xs ∙ sum_by-add (k x) (m x) xs in
+    let own = sym (sum_by-add (g x) (h x) xs) ∙ sum_by-same _ _ (same x) xs
+    ∙ sum_by-add (k x) (m x) xs in
     let more = sums_with g h k m same xs in
     omega arith
 
 -- the part of all pairs, and what the edited exams cost those who are concerned
-part_exchanged : (cost : ℕ → ℕ → ℕ) (E : Enrolled) (old new : Placing) (edited : List ℕ) (pairs : List Pair) → ((p q : ℕ) → cost p q ≡ cost q p) → ((p : ℕ) → cost p p ≡ 0)
-    → AreEnrolments E → IsPermutation (pairs_concerned E edited) pairs → DiffersAtMost edited old new
-    → pair_part cost E (period_of new) + students_cost cost old edited pairs ≡ pair_part cost E (period_of old) + students_cost cost new edited pairs
+part_exchanged : (cost : ℕ → ℕ → ℕ) (E : Enrolled) (old new : Placing) (edited : List ℕ)
+    (pairs : List Pair)
+    → ((p q : ℕ) → cost p q ≡ cost q p) → ((p : ℕ) → cost p p ≡ 0)
+    → AreEnrolments E → IsPermutation (pairs_concerned E edited) pairs
+    → DiffersAtMost edited old new
+    → pair_part cost E (period_of new) + students_cost cost old edited pairs
+    ≡ pair_part cost E (period_of old) + students_cost cost new edited pairs
 part_exchanged cost E old new edited pairs either nothing known moved same =
     let v : ℕ → ℕ → ℕ = λ e f. cost_between cost (period_of old e) (period_of old f) in
     let w : ℕ → ℕ → ℕ = λ e f. cost_between cost (period_of new e) (period_of new f) in
     let all : List Pair = pairs_of E in
     let before = by_test v (sits_among E edited) all in
     let after = by_test w (sits_among E edited) all in
-    let alone : AllByRecursion (λ p. has_number edited p.exam ≡ false) (filter (λ p. not (sits_among E edited p.student)) all)
-    = each_kept (λ p. has E p.student p.exam ≡ true) (λ p. has_number edited p.exam ≡ false) (λ p. not (sits_among E edited p.student))
-    (λ p sits e. not_among E p.student p.exam edited sits (flip (sits_among E edited p.student) e)) all (sat_each E known) in
-    let others : sum_pairs (later_cost w) (filter (λ p. not (sits_among E edited p.student)) all) ≡ sum_pairs (later_cost v) (filter (λ p. not (sits_among E edited p.student)) all)
-    = sum_pairs-agree (later_cost w) (later_cost v) (filter (λ p. not (sits_among E edited p.student)) all)
-    (chain_of_each (λ p. has_number edited p.exam ≡ false) (λ p q. later_cost w p q ≡ later_cost v p q)
-    (λ p q a b. ap (λ n. cond (eqb q.student p.student) n 0) (ap₂ (cost_between cost) (period_same p.exam a) (period_same q.exam b))) (filter (λ p. not (sits_among E edited p.student)) all) alone) in
-    let old_sum = any_order cost (period_of old) either nothing (pairs_concerned E edited) pairs moved in
-    let new_sum = any_order cost (period_of new) either nothing (pairs_concerned E edited) pairs moved in
-    let edits : sum_pairs (later_cost w) pairs + students_cost cost old edited pairs ≡ sum_pairs (later_cost v) pairs + students_cost cost new edited pairs
-    = sums_with (later_cost w) (later_cost (edited_cost cost old edited)) (later_cost v) (later_cost (edited_cost cost new edited)) edits_of pairs in
+    let alone : AllByRecursion (λ p. has_number edited p.exam ≡ false)
+    (filter (λ p. not (sits_among E edited p.student)) all)
+    = each_kept (λ p. has E p.student p.exam ≡ true) (λ p. has_number edited p.exam ≡ false)
+    (λ p. not (sits_among E edited p.student))
+    (λ p sits e. not_among E p.student p.exam edited sits (flip (sits_among E edited p.student) e))
+    all (sat_each E known) in
+    let others : sum_pairs (later_cost w) (filter (λ p. not (sits_among E edited p.student)) all)
+    ≡ sum_pairs (later_cost v) (filter (λ p. not (sits_among E edited p.student)) all)
+    = sum_pairs-agree (later_cost w) (later_cost v)
+    (filter (λ p. not (sits_among E edited p.student)) all)
+    (chain_of_each (λ p. has_number edited p.exam ≡ false)
+    (λ p q. later_cost w p q ≡ later_cost v p q)
+    (λ p q a b. ap (λ n. cond (eqb q.student p.student) n 0)
+    (ap₂ (cost_between cost) (period_same p.exam a) (period_same q.exam b)))
+    (filter (λ p. not (sits_among E edited p.student)) all) alone) in
+    let old_sum =
+    any_order cost (period_of old) either nothing (pairs_concerned E edited) pairs moved in
+    let new_sum =
+    any_order cost (period_of new) either nothing (pairs_concerned E edited) pairs moved in
+    let edits : sum_pairs (later_cost w) pairs + students_cost cost old edited pairs
+    ≡ sum_pairs (later_cost v) pairs + students_cost cost new edited pairs
+    = sums_with (later_cost w) (later_cost (edited_cost cost old edited)) (later_cost v)
+    (later_cost (edited_cost cost new edited)) edits_of pairs in
     let old_part = by_placed cost old all ∙ part_of_rows cost E old known in
     let new_part = by_placed cost new all ∙ part_of_rows cost E new known in
     omega (arith, before, after, others, old_sum, new_sum, old_part, new_part, edits)
@@ -186,16 +243,23 @@ part_exchanged cost E old new edited pairs either nothing known moved same =
         period_in (Some at) = Some at.period
 
     edits_of : (p q : Pair)
-        → later_cost (λ e f. cost_between cost (period_of new e) (period_of new f)) p q + later_cost (edited_cost cost old edited) p q
-        ≡ later_cost (λ e f. cost_between cost (period_of old e) (period_of old f)) p q + later_cost (edited_cost cost new edited) p q
+        → later_cost (λ e f. cost_between cost (period_of new e) (period_of new f)) p q
+        + later_cost (edited_cost cost old edited) p q
+        ≡ later_cost (λ e f. cost_between cost (period_of old e) (period_of old f)) p q
+        + later_cost (edited_cost cost new edited) p q
     edits_of p q =
         by_students (eqb q.student p.student) (has_number edited p.exam || has_number edited q.exam)
-        (cost_between cost (period_of new p.exam) (period_of new q.exam)) (cost_between cost (period_of old p.exam) (period_of old q.exam))
-        (λ none. ap₂ (cost_between cost) (period_same p.exam (or_parts (has_number edited p.exam) (has_number edited q.exam) none).0)
-        (period_same q.exam (or_parts (has_number edited p.exam) (has_number edited q.exam) none).1))
+        (cost_between cost (period_of new p.exam) (period_of new q.exam))
+        (cost_between cost (period_of old p.exam) (period_of old q.exam))
+        (λ none. ap₂ (cost_between cost)
+        (period_same p.exam
+        (or_parts (has_number edited p.exam) (has_number edited q.exam) none).0)
+        (period_same q.exam
+        (or_parts (has_number edited p.exam) (has_number edited q.exam) none).1))
       where
         by_students : (same edit : Bool) (m n : ℕ) → (edit ≡ false → m ≡ n)
-            → cond same m 0 + cond same (cond edit n 0) 0 ≡ cond same n 0 + cond same (cond edit m 0) 0
+            → cond same m 0 + cond same (cond edit n 0) 0
+            ≡ cond same n 0 + cond same (cond edit m 0) 0
         by_students true true m n h = omega arith
         by_students true false m n h = omega (arith, h refl)
         by_students false edit m n h = refl
@@ -204,7 +268,8 @@ part_exchanged cost E old new edited pairs either nothing known moved same =
 
 -- where only the terms that pass a test differ
 sums_exchanged : (f g : ℕ → ℕ) (test : ℕ → Bool) → ((e : ℕ) → test e ≡ false → g e ≡ f e) → (n : ℕ)
-    → sum_below n g + sum_below n (λ e. cond (test e) (f e) 0) ≡ sum_below n f + sum_below n (λ e. cond (test e) (g e) 0)
+    → sum_below n g + sum_below n (λ e. cond (test e) (f e) 0)
+    ≡ sum_below n f + sum_below n (λ e. cond (test e) (g e) 0)
 sums_exchanged f g test same zero = refl
 sums_exchanged f g test same (suc n) =
     let more = sums_exchanged f g test same n in
@@ -216,70 +281,132 @@ sums_exchanged f g test same (suc n) =
     one false e = omega (arith, same n e)
 
 -- an untouched place has its exams from before
-untouched : (s : Session) (edited : List ℕ) (old new : Placing) (p r : ℕ) → DiffersAtMost edited old new → is_touched edited old new p r ≡ false → durations s new p r ≡ durations s old p r
+untouched : (s : Session) (edited : List ℕ) (old new : Placing) (p r : ℕ)
+    → DiffersAtMost edited old new → is_touched edited old new p r ≡ false
+    → durations s new p r ≡ durations s old p r
 untouched s edited old new p r same none =
     sum_below-same _ _ (λ m. ap (λ n. cond (nat_lt 0 n) 1 0)
-    (sum_below-same _ _ (λ e. ap (λ b. cond (b && eqb (minutes_of (slice_get s.exams e)) m) 1 0) (stays e (has_number edited e) refl)) (length s.exams))) duration_count
+    (sum_below-same _ _
+    (λ e. ap (λ b. cond (b && eqb (minutes_of (slice_get s.exams e)) m) 1 0)
+    (stays e (has_number edited e) refl))
+    (length s.exams)))
+    duration_count
   where
-    stays : (e : ℕ) (b : Bool) → has_number edited e ≡ b → is_at p r (place_of new e) ≡ is_at p r (place_of old e)
+    stays : (e : ℕ) (b : Bool) → has_number edited e ≡ b
+        → is_at p r (place_of new e) ≡ is_at p r (place_of old e)
     stays e true among =
-        let neither = or_parts (is_at p r (place_of old e)) (is_at p r (place_of new e)) (fails_among (λ e. is_at p r (place_of old e) || is_at p r (place_of new e)) edited e none among) in
+        let neither =
+        or_parts (is_at p r (place_of old e)) (is_at p r (place_of new e))
+        (fails_among (λ e. is_at p r (place_of old e) || is_at p r (place_of new e)) edited
+        e none among) in
         neither.1 ∙ sym neither.0
     stays e false among = ap (is_at p r) (same e among)
 
 mixed_exchanged : (s : Session) (edited : List ℕ) (old new : Placing) → DiffersAtMost edited old new
-    → mixed_part s new + mixed_where s old (is_touched edited old new) ≡ mixed_part s old + mixed_where s new (is_touched edited old new)
+    → mixed_part s new + mixed_where s old (is_touched edited old new)
+    ≡ mixed_part s old + mixed_where s new (is_touched edited old new)
 mixed_exchanged s edited old new same =
-    sym (sum_below-add (room_mixed s new) (room_mixed_where s old (is_touched edited old new)) (length s.rooms))
-    ∙ sum_below-same _ _ (λ r. sums_exchanged (λ p. (durations s old p r - 1) * s.weights.mixed) (λ p. (durations s new p r - 1) * s.weights.mixed) (λ p. is_touched edited old new p r)
-    (λ p none. ap (λ n. (n - 1) * s.weights.mixed) (untouched s edited old new p r same none)) (length s.periods)) (length s.rooms)
-    ∙ sum_below-add (room_mixed s old) (room_mixed_where s new (is_touched edited old new)) (length s.rooms)
+    sym (sum_below-add (room_mixed s new) (room_mixed_where s old (is_touched edited old new))
+    (length s.rooms))
+    ∙ sum_below-same _ _
+    (λ r. sums_exchanged (λ p. (durations s old p r - 1) * s.weights.mixed)
+    (λ p. (durations s new p r - 1) * s.weights.mixed) (λ p. is_touched edited old new p r)
+    (λ p none. ap (λ n. (n - 1) * s.weights.mixed) (untouched s edited old new p r same none))
+    (length s.periods))
+    (length s.rooms)
+    ∙ sum_below-add (room_mixed s old) (room_mixed_where s new (is_touched edited old new))
+    (length s.rooms)
 
-front_among : (s : Session) (E : Enrolled) (t : Placing) (edited sizes : List ℕ) → AreSizes E sizes → length E ≡ length s.exams
-    → sum_among s edited (λ e. front_by s sizes (place_of t e) e) ≡ sum_among s edited (exam_front s E t)
+front_among : (s : Session) (E : Enrolled) (t : Placing) (edited sizes : List ℕ) → AreSizes E sizes
+    → length E ≡ length s.exams
+    → sum_among s edited (λ e. front_by s sizes (place_of t e) e)
+    ≡ sum_among s edited (exam_front s E t)
 front_among s E t edited sizes are exams =
-    sum_below-within _ _ (length s.exams) (λ e lt. ap (λ n. cond (has_number edited e) n 0) (front_by_sizes s E t sizes e are exams (omega arith)))
+    sum_below-within _ _ (length s.exams)
+    (λ e lt. ap (λ n. cond (has_number edited e) n 0)
+    (front_by_sizes s E t sizes e are exams (omega arith)))
 
-front_exchanged : (s : Session) (E : Enrolled) (old new : Placing) (edited sizes : List ℕ) → AreSizes E sizes → length E ≡ length s.exams → DiffersAtMost edited old new
-    → front_part s E new + sum_among s edited (λ e. front_by s sizes (place_of old e) e) ≡ front_part s E old + sum_among s edited (λ e. front_by s sizes (place_of new e) e)
+front_exchanged : (s : Session) (E : Enrolled) (old new : Placing) (edited sizes : List ℕ)
+    → AreSizes E sizes → length E ≡ length s.exams → DiffersAtMost edited old new
+    → front_part s E new + sum_among s edited (λ e. front_by s sizes (place_of old e) e)
+    ≡ front_part s E old + sum_among s edited (λ e. front_by s sizes (place_of new e) e)
 front_exchanged s E old new edited sizes are exams same =
     ap (λ n. front_part s E new + n) (front_among s E old edited sizes are exams)
     ∙ sums_exchanged (exam_front s E old) (exam_front s E new) (has_number edited)
-    (λ e none. ap (λ o. cond (is_largest s E e && is_late s o) s.weights.front 0) (same e none)) (length s.exams)
+    (λ e none. ap (λ o. cond (is_largest s E e && is_late s o) s.weights.front 0) (same e none))
+    (length s.exams)
     ∙ ap (λ n. front_part s E old + n) (sym (front_among s E new edited sizes are exams))
 
 -- ---- the whole
 
 -- what the fold's sums and its open student make
-sums_of_all : (s : Session) (t : Placing) (edited : List ℕ) (sum : PersonalPenalty) (closed current pairs : List Pair) → sum ≡ personal_sum s t edited closed → pairs ≡ closed ++ current
-    → AllByRecursion (λ p. AllByRecursion (λ q. p.student < q.student) current) closed → plus sum (personal_sum s t edited current) ≡ personal_sum s t edited pairs
+sums_of_all : (s : Session) (t : Placing) (edited : List ℕ) (sum : PersonalPenalty)
+    (closed current pairs : List Pair)
+    → sum ≡ personal_sum s t edited closed → pairs ≡ closed ++ current
+    → AllByRecursion (λ p. AllByRecursion (λ q. p.student < q.student) current) closed
+    → plus sum (personal_sum s t edited current) ≡ personal_sum s t edited pairs
 sums_of_all s t edited sum closed current pairs is parts others =
-    ap (λ p. plus p (personal_sum s t edited current)) is ∙ sym (sum_apart s t edited closed current others) ∙ ap (personal_sum s t edited) (sym parts)
+    ap (λ p. plus p (personal_sum s t edited current)) is
+    ∙ sym (sum_apart s t edited closed current others)
+    ∙ ap (personal_sum s t edited) (sym parts)
 
-pub track_exchanged : (fold : Folded) (E : Enrolled) (pairs : List Pair) (sizes : List ℕ) (old : Penalty) → StandsFor fold pairs → IsOfEdit fold E pairs sizes old
+pub track_exchanged : (fold : Folded) (E : Enrolled) (pairs : List Pair)
+    (sizes : List ℕ) (old : Penalty)
+    → StandsFor fold pairs → IsOfEdit fold E pairs sizes old
     → IsExchanged old (going fold sizes) (coming fold sizes) (track fold.instance E fold.later)
 track_exchanged fold E pairs sizes old h is =
     let s = fold.instance in
     let others = others_each h.closed fold.current h.others in
-    let before = sums_of_all s fold.earlier fold.edited fold.before h.closed fold.current pairs h.before h.parts others in
-    let after = sums_of_all s fold.later fold.edited fold.after h.closed fold.current pairs h.after h.parts others in
-    let row = part_exchanged (row_cost s.periods s.weights) E fold.earlier fold.later fold.edited pairs (row_cost-swap s.periods s.weights) (row_cost-none s.periods s.weights) is.enrolments is.concerned is.others in
-    let day = part_exchanged (day_cost s.periods s.weights) E fold.earlier fold.later fold.edited pairs (day_cost-swap s.periods s.weights) (day_cost-none s.periods s.weights) is.enrolments is.concerned is.others in
-    let spread = part_exchanged (spread_cost s.periods s.weights) E fold.earlier fold.later fold.edited pairs (spread_cost-swap s.periods s.weights) (spread_cost-none s.periods s.weights) is.enrolments is.concerned is.others in
+    let before =
+    sums_of_all s fold.earlier fold.edited fold.before h.closed fold.current pairs h.before
+    h.parts others in
+    let after = sums_of_all s fold.later fold.edited fold.after h.closed fold.current pairs h.after
+    h.parts others in
+    let row = part_exchanged (row_cost s.periods s.weights) E fold.earlier fold.later fold.edited
+    pairs (row_cost-swap s.periods s.weights)
+    (row_cost-none s.periods s.weights) is.enrolments is.concerned is.others in
+    let day = part_exchanged (day_cost s.periods s.weights) E fold.earlier fold.later fold.edited
+    pairs (day_cost-swap s.periods s.weights)
+    (day_cost-none s.periods s.weights) is.enrolments is.concerned is.others in
+    let spread =
+    part_exchanged (spread_cost s.periods s.weights) E fold.earlier fold.later fold.edited pairs
+    (spread_cost-swap s.periods s.weights)
+    (spread_cost-none s.periods s.weights) is.enrolments is.concerned is.others in
     record {
-      row = ap (λ p. pair_part (row_cost s.periods s.weights) E (period_of fold.later) + p.row) before ∙ row ∙ ap₂ (λ a b. a + b) (ap (λ p. p.row) (sym is.scored)) (ap (λ p. p.row) (sym after));
-      day = ap (λ p. pair_part (day_cost s.periods s.weights) E (period_of fold.later) + p.day) before ∙ day ∙ ap₂ (λ a b. a + b) (ap (λ p. p.day) (sym is.scored)) (ap (λ p. p.day) (sym after));
-      spread = ap (λ p. pair_part (spread_cost s.periods s.weights) E (period_of fold.later) + p.spread) before ∙ spread ∙ ap₂ (λ a b. a + b) (ap (λ p. p.spread) (sym is.scored)) (ap (λ p. p.spread) (sym after));
-      mixed = mixed_exchanged s fold.edited fold.earlier fold.later is.others ∙ ap (λ p. p.mixed + (coming fold sizes).mixed) (sym is.scored);
-      front = front_exchanged s E fold.earlier fold.later fold.edited sizes is.sized is.fits.enrolments is.others ∙ ap (λ p. p.front + (coming fold sizes).front) (sym is.scored);
-      period = sums_exchanged (λ e. exam_period s (place_of fold.earlier e)) (λ e. exam_period s (place_of fold.later e)) (has_number fold.edited) (λ e none. ap (exam_period s) (is.others e none)) (length s.exams) ∙ ap (λ p. p.period + (coming fold sizes).period) (sym is.scored);
-      room = sums_exchanged (λ e. exam_room s (place_of fold.earlier e)) (λ e. exam_room s (place_of fold.later e)) (has_number fold.edited) (λ e none. ap (exam_room s) (is.others e none)) (length s.exams) ∙ ap (λ p. p.room + (coming fold sizes).room) (sym is.scored);
+      row = ap (λ p. pair_part (row_cost s.periods s.weights) E (period_of fold.later) + p.row)
+          before
+          ∙ row
+          ∙ ap₂ (λ a b. a + b) (ap (λ p. p.row) (sym is.scored)) (ap (λ p. p.row) (sym after));
+      day = ap (λ p. pair_part (day_cost s.periods s.weights) E (period_of fold.later) + p.day)
+          before
+          ∙ day
+          ∙ ap₂ (λ a b. a + b) (ap (λ p. p.day) (sym is.scored)) (ap (λ p. p.day) (sym after));
+      spread = ap (λ p. pair_part (spread_cost s.periods s.weights) E
+          (period_of fold.later) + p.spread)
+          before
+          ∙ spread ∙ ap₂ (λ a b. a + b) (ap (λ p. p.spread) (sym is.scored))
+          (ap (λ p. p.spread) (sym after));
+      mixed = mixed_exchanged s fold.edited fold.earlier fold.later is.others
+          ∙ ap (λ p. p.mixed + (coming fold sizes).mixed) (sym is.scored);
+      front = front_exchanged s E fold.earlier fold.later fold.edited sizes is.sized
+          is.fits.enrolments is.others
+          ∙ ap (λ p. p.front + (coming fold sizes).front) (sym is.scored);
+      period = sums_exchanged (λ e. exam_period s (place_of fold.earlier e))
+          (λ e. exam_period s (place_of fold.later e)) (has_number fold.edited)
+          (λ e none. ap (exam_period s) (is.others e none)) (length s.exams)
+          ∙ ap (λ p. p.period + (coming fold sizes).period) (sym is.scored);
+      room = sums_exchanged (λ e. exam_room s (place_of fold.earlier e))
+          (λ e. exam_room s (place_of fold.later e)) (has_number fold.edited)
+          (λ e none. ap (exam_room s) (is.others e none)) (length s.exams)
+          ∙ ap (λ p. p.room + (coming fold sizes).room) (sym is.scored);
     }
 
 -- an exchange has one outcome
-pub exchange_is : (old goes comes new : Penalty) (r : Option Penalty) → IfSome r (IsExchanged old goes comes) → IfNone r (CannotExchange old goes comes)
+pub exchange_is : (old goes comes new : Penalty) (r : Option Penalty)
+    → IfSome r (IsExchanged old goes comes) → IfNone r (CannotExchange old goes comes)
     → IsExchanged old goes comes new → total_of new < 2 ^ 62 → r ≡ Some new
-exchange_is old goes comes new None made none is small = absurd (let great = none new is in omega (arith, great, small))
+exchange_is old goes comes new None made none is small =
+    absurd (let great = none new is in omega (arith, great, small))
 exchange_is old goes comes new (Some x) made none is small =
     let row : x.row ≡ new.row = omega (arith, made.row, is.row) in
     let day : x.day ≡ new.day = omega (arith, made.day, is.day) in
@@ -291,9 +418,15 @@ exchange_is old goes comes new (Some x) made none is small =
     λ i. Some (record { row = row i; day = day i; spread = spread i; mixed = mixed i; front = front i; period = period i; room = room i })
 
 -- so it gives the new penalty
-pub exchange_scores : (fold : Folded) (E : Enrolled) (pairs : List Pair) (sizes : List ℕ) (old : Penalty) (r : Option Penalty) → IsInstance fold.instance
-    → IfSome r (IsExchanged old (going fold sizes) (coming fold sizes)) → IfNone r (CannotExchange old (going fold sizes) (coming fold sizes))
-    → StandsFor fold pairs → IsOfEdit fold E pairs sizes old → r ≡ Some (track fold.instance E fold.later)
+pub exchange_scores : (fold : Folded) (E : Enrolled) (pairs : List Pair) (sizes : List ℕ)
+    (old : Penalty) (r : Option Penalty)
+    → IsInstance fold.instance
+    → IfSome r (IsExchanged old (going fold sizes) (coming fold sizes))
+    → IfNone r (CannotExchange old (going fold sizes) (coming fold sizes))
+    → StandsFor fold pairs → IsOfEdit fold E pairs sizes old
+    → r ≡ Some (track fold.instance E fold.later)
 exchange_scores fold E pairs sizes old r known made none h is =
-    exchange_is old (going fold sizes) (coming fold sizes) (track fold.instance E fold.later) r made none
-    (track_exchanged fold E pairs sizes old h is) (penalty_small fold.instance E fold.later known is.enrolments is.fits)
+    exchange_is old (going fold sizes) (coming fold sizes)
+    (track fold.instance E fold.later) r made none
+    (track_exchanged fold E pairs sizes old h is)
+    (penalty_small fold.instance E fold.later known is.enrolments is.fits)

@@ -14,7 +14,8 @@ use Rattle.exam_score.specs.Front.{AreSizes, is_larger_by, front_by}
 use Rattle.exam_score.specs.Track.{is_larger, is_late, exam_front}
 
 -- a count over the first elements, by their places
-counted : (p : ℕ → Bool) (xs : List ℕ) (n : ℕ) → n ≤ length xs → count_by p (take n xs) ≡ count_below n (λ f. p (slice_index xs f))
+counted : (p : ℕ → Bool) (xs : List ℕ) (n : ℕ) → n ≤ length xs
+    → count_by p (take n xs) ≡ count_below n (λ f. p (slice_index xs f))
 counted p xs zero h = refl
 counted p xs (suc n) h =
     ap (λ k. count_by p (take k xs)) (sym (add-one n))
@@ -22,17 +23,21 @@ counted p xs (suc n) h =
     ∙ ap (λ k. k + cond (p (slice_index xs n)) 1 0) (counted p xs n (omega arith))
 
 -- a test that is one test below e, and another from e on
-split : (r p q : ℕ → Bool) (e k n : ℕ) → n ≡ e + k → ((f : ℕ) → f < e → r f ≡ p f) → ((f : ℕ) → e ≤ f → r f ≡ q f)
+split : (r p q : ℕ → Bool) (e k n : ℕ) → n ≡ e + k → ((f : ℕ) → f < e → r f ≡ p f)
+    → ((f : ℕ) → e ≤ f → r f ≡ q f)
     → count_below n r + count_below e q ≡ count_below e p + count_below n q
 split r p q e zero n is below above =
     let same : n ≡ e = omega arith in
     ap (λ m. count_below m r + count_below e q) same
-    ∙ ap (λ m. m + count_below e q) (sum_below-within (λ f. cond (r f) 1 0) (λ f. cond (p f) 1 0) e (λ f l. ap (λ b. cond b 1 0) (below f l)))
+    ∙ ap (λ m. m + count_below e q)
+    (sum_below-within (λ f. cond (r f) 1 0) (λ f. cond (p f) 1 0) e
+    (λ f l. ap (λ b. cond b 1 0) (below f l)))
     ∙ ap (λ m. count_below e p + count_below m q) (sym same)
 split r p q e (suc k) zero is below above = absurd (omega arith)
 split r p q e (suc k) (suc n) is below above =
     let more = split r p q e k n (omega arith) below above in
-    let here : ◌≡◌ {A = ℕ} (cond (r n) 1 0) (cond (q n) 1 0) = ap (λ b. cond b 1 0) (above n (omega arith)) in
+    let here : ◌≡◌ {A = ℕ} (cond (r n) 1 0) (cond (q n) 1 0) =
+    ap (λ b. cond b 1 0) (above n (omega arith)) in
     omega arith
 
 larger_before : (a b f e : ℕ) → f < e → (nat_lt a b || ((b == a) && nat_lt f e)) ≡ nat_le a b
@@ -44,29 +49,40 @@ larger_after a b f e h = grind (arith, nat_tests)
 -- of the exams before it those that are as large, and of the others those that are larger
 pub larger_count : (sizes : List ℕ) (e : ℕ) → e < length sizes
     → count_below (length sizes) (λ f. is_larger_by sizes f e)
-    ≡ count_by (λ x. nat_le (slice_index sizes e) x) (take e sizes) + count_by (λ x. nat_lt (slice_index sizes e) x) (drop e sizes)
+    ≡ count_by (λ x. nat_le (slice_index sizes e) x) (take e sizes)
+    + count_by (λ x. nat_lt (slice_index sizes e) x) (drop e sizes)
 larger_count sizes e h =
     let a = slice_index sizes e in
-    let parts = split (λ f. is_larger_by sizes f e) (λ f. nat_le a (slice_index sizes f)) (λ f. nat_lt a (slice_index sizes f)) e (length sizes - e) (length sizes) (omega arith)
-    (λ f l. larger_before a (slice_index sizes f) f e l) (λ f l. larger_after a (slice_index sizes f) f e l) in
+    let parts = split (λ f. is_larger_by sizes f e) (λ f. nat_le a (slice_index sizes f))
+    (λ f. nat_lt a (slice_index sizes f)) e (length sizes - e) (length sizes) (omega arith)
+    (λ f l. larger_before a (slice_index sizes f) f e l)
+    (λ f l. larger_after a (slice_index sizes f) f e l) in
     let first = counted (λ x. nat_le a x) sizes e (omega arith) in
     let first_greater = counted (λ x. nat_lt a x) sizes e (omega arith) in
     let all_greater = counted (λ x. nat_lt a x) sizes (length sizes) (omega arith) in
-    let whole : count_by (λ x. nat_lt a x) (take (length sizes) sizes) ≡ count_by (λ x. nat_lt a x) sizes = ap (count_by (λ x. nat_lt a x)) (take_all (length sizes) sizes (omega arith)) in
+    let whole : count_by (λ x. nat_lt a x) (take (length sizes) sizes)
+    ≡ count_by (λ x. nat_lt a x) sizes =
+    ap (count_by (λ x. nat_lt a x)) (take_all (length sizes) sizes (omega arith)) in
     let rest = sum_by-take-drop (λ x. cond (nat_lt a x) 1 0) sizes e in
     omega arith
 
 -- by the sizes or by the enrolments
-pub front_by_sizes : (s : Session) (E : Enrolled) (t : Placing) (sizes : List ℕ) (e : ℕ) → AreSizes E sizes → length E ≡ length s.exams → e < length E
+pub front_by_sizes : (s : Session) (E : Enrolled) (t : Placing) (sizes : List ℕ) (e : ℕ)
+    → AreSizes E sizes → length E ≡ length s.exams → e < length E
     → front_by s sizes (place_of t e) e ≡ exam_front s E t e
 front_by_sizes s E t sizes e are exams within =
     let long : length sizes ≡ length s.exams = omega (arith, are.count) in
     let same : (f : ℕ) → f < length sizes → is_larger_by sizes f e ≡ is_larger E f e
-    = λ f l. ap₂ (λ a b. nat_lt a b || ((b == a) && nat_lt f e)) (are.each e (omega (arith, are.count))) (are.each f l) in
-    let count : count_below (length sizes) (λ f. is_larger_by sizes f e) ≡ count_below (length s.exams) (λ f. is_larger E f e)
-    = sum_below-within (λ f. cond (is_larger_by sizes f e) 1 0) (λ f. cond (is_larger E f e) 1 0) (length sizes) (λ f l. ap (λ b. cond b 1 0) (same f l))
+    = λ f l. ap₂ (λ a b. nat_lt a b || ((b == a) && nat_lt f e))
+    (are.each e (omega (arith, are.count))) (are.each f l) in
+    let count : count_below (length sizes) (λ f. is_larger_by sizes f e)
+    ≡ count_below (length s.exams) (λ f. is_larger E f e)
+    = sum_below-within (λ f. cond (is_larger_by sizes f e) 1 0) (λ f. cond (is_larger E f e) 1 0)
+    (length sizes) (λ f l. ap (λ b. cond b 1 0) (same f l))
     ∙ ap (λ n. count_below n (λ f. is_larger E f e)) long in
-    ap (λ n. if nat_lt n s.weights.front_exams && is_late s (place_of t e) then s.weights.front else 0) count
+    ap (λ n. if nat_lt n s.weights.front_exams && is_late s (place_of t e) then s.weights.front
+    else 0)
+    count
 
 sizes_push : (E : Enrolled) (xs : List ℕ) (n e : ℕ)
     → ((f : ℕ) → f < length xs → slice_index xs f ≡ size_of E f) → n ≡ size_of E (length xs)

@@ -30,7 +30,8 @@ mixed_none s t =
     ∙ sum_below-zeros (length s.rooms)
 
 -- a sum of which all terms pass or none
-sum_if : (b : Bool) (g : ℕ → ℕ) (n : ℕ) → sum_below n (λ e. cond b (g e) 0) ≡ cond b (sum_below n g) 0
+sum_if : (b : Bool) (g : ℕ → ℕ) (n : ℕ) → sum_below n (λ e. cond b (g e) 0)
+    ≡ cond b (sum_below n g) 0
 sum_if true g n = refl
 sum_if false g n = sum_below-zeros n
 
@@ -67,10 +68,12 @@ one_place s t f None =
     or_false false = refl
 one_place s t f (Some at) =
     sum_below-same _ _ by_room (length s.rooms)
-    ∙ sum_below-add (room_mixed_where s t f) (λ r. cond (eqb at.room r) (of_period r) 0) (length s.rooms)
+    ∙ sum_below-add (room_mixed_where s t f) (λ r. cond (eqb at.room r) (of_period r) 0)
+    (length s.rooms)
     ∙ ap (λ n. mixed_where s t f + n)
     (sum_below-at of_period at.room (length s.rooms)
-    ∙ in_order (ltb at.room (length s.rooms)) (ltb at.period (length s.periods)) (f at.period at.room)
+    ∙ in_order (ltb at.room (length s.rooms)) (ltb at.period (length s.periods))
+    (f at.period at.room)
     (mixed s t at.period at.room))
   where
     term : ℕ → ℕ → ℕ
@@ -82,8 +85,10 @@ one_place s t f (Some at) =
     by_room : (r : ℕ) → room_mixed_where s t (or_at f (Some at)) r
         ≡ room_mixed_where s t f r + cond (eqb at.room r) (of_period r) 0
     by_room r =
-        sum_below-same _ _ (λ p. one_term (f p r) (eqb at.period p) (eqb at.room r) (mixed s t p r)) (length s.periods)
-        ∙ sum_below-add _ (λ p. cond (eqb at.room r) (cond (eqb at.period p) (term r p) 0) 0) (length s.periods)
+        sum_below-same _ _ (λ p. one_term (f p r) (eqb at.period p) (eqb at.room r) (mixed s t p r))
+        (length s.periods)
+        ∙ sum_below-add _ (λ p. cond (eqb at.room r) (cond (eqb at.period p) (term r p) 0) 0)
+        (length s.periods)
         ∙ ap (λ n. room_mixed_where s t f r + n)
         (sum_if (eqb at.room r) (λ p. cond (eqb at.period p) (term r p) 0) (length s.periods)
         ∙ ap (λ n. cond (eqb at.room r) n 0) (sum_below-at (term r) at.period (length s.periods)))
@@ -93,7 +98,8 @@ beside : (s : Session) (t : Placing) (f : ℕ → ℕ → Bool) (o : Option Plac
     → b ≡ is_at at.period at.room o
     → further_mixed s t (or_at f o) (Some at) ≡ cond b 0 (further_mixed s t f (Some at))
 beside s t f o at b is =
-    ap (λ c. cond (exists && not (f at.period at.room || c)) (mixed s t at.period at.room) 0) (sym is)
+    ap (λ c. cond (exists && not (f at.period at.room || c)) (mixed s t at.period at.room) 0)
+    (sym is)
     ∙ by_case exists (f at.period at.room) b (mixed s t at.period at.room)
   where
     exists : Bool
@@ -110,7 +116,8 @@ beside s t f o at b is =
 
 -- ---- the two places of one exam more
 
-turned : (others earlier later : Bool) → ((others || earlier) || later) ≡ ((earlier || later) || others)
+turned : (others earlier later : Bool) → ((others || earlier) || later)
+    ≡ ((earlier || later) || others)
 turned true true later = refl
 turned true false true = refl
 turned true false false = refl
@@ -120,20 +127,24 @@ turned false false false = refl
 
 -- the earlier place and then the later one
 both_places : (s : Session) (t : Placing) (e : ℕ) (edited : List ℕ) (old new : Placing)
-    → mixed_where s t (is_touched edited old new) + (further_mixed s t (is_touched edited old new) (place_of old e)
+    → mixed_where s t (is_touched edited old new)
+    + (further_mixed s t (is_touched edited old new) (place_of old e)
     + further_mixed s t (or_at (is_touched edited old new) (place_of old e)) (place_of new e))
     ≡ mixed_where s t (is_touched (e ∷ edited) old new)
 both_places s t e edited old new =
     let f = is_touched edited old new in
     let first = one_place s t f (place_of old e) in
     let second = one_place s t (or_at f (place_of old e)) (place_of new e) in
-    let whole = mixed_same s t (or_at (or_at f (place_of old e)) (place_of new e)) (is_touched (e ∷ edited) old new)
+    let whole = mixed_same s t (or_at (or_at f (place_of old e)) (place_of new e))
+    (is_touched (e ∷ edited) old new)
     (λ p r. turned (f p r) (is_at p r (place_of old e)) (is_at p r (place_of new e))) in
     omega arith
 
 -- where there is no later place
-pub earlier_place : (s : Session) (t : Placing) (e : ℕ) (edited : List ℕ) (old new : Placing) → place_of new e ≡ None
-    → mixed_where s t (is_touched edited old new) + further_mixed s t (is_touched edited old new) (place_of old e)
+pub earlier_place : (s : Session) (t : Placing) (e : ℕ) (edited : List ℕ) (old new : Placing)
+    → place_of new e ≡ None
+    → mixed_where s t (is_touched edited old new)
+    + further_mixed s t (is_touched edited old new) (place_of old e)
     ≡ mixed_where s t (is_touched (e ∷ edited) old new)
 earlier_place s t e edited old new none =
     let f = is_touched edited old new in
@@ -143,14 +154,18 @@ earlier_place s t e edited old new none =
     omega arith
 
 -- where there is one, which may be the earlier one
-pub later_place : (s : Session) (t : Placing) (e : ℕ) (edited : List ℕ) (old new : Placing) (at : Place) (b : Bool)
+pub later_place : (s : Session) (t : Placing) (e : ℕ) (edited : List ℕ) (old new : Placing)
+    (at : Place) (b : Bool)
     → place_of new e ≡ Some at → b ≡ is_at at.period at.room (place_of old e)
-    → mixed_where s t (is_touched edited old new) + (further_mixed s t (is_touched edited old new) (place_of old e)
+    → mixed_where s t (is_touched edited old new)
+    + (further_mixed s t (is_touched edited old new) (place_of old e)
     + cond b 0 (further_mixed s t (is_touched edited old new) (Some at)))
     ≡ mixed_where s t (is_touched (e ∷ edited) old new)
 later_place s t e edited old new at b is here =
     let f = is_touched edited old new in
     let both = both_places s t e edited old new in
-    let later : further_mixed s t (or_at f (place_of old e)) (place_of new e) ≡ cond b 0 (further_mixed s t f (Some at))
-    = ap (further_mixed s t (or_at f (place_of old e))) is ∙ beside s t f (place_of old e) at b here in
+    let later : further_mixed s t (or_at f (place_of old e)) (place_of new e)
+    ≡ cond b 0 (further_mixed s t f (Some at))
+    = ap (further_mixed s t (or_at f (place_of old e))) is
+    ∙ beside s t f (place_of old e) at b here in
     omega arith

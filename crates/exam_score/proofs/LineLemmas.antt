@@ -14,25 +14,33 @@ use Rattle.exam_score.specs.declared.lines.Line.{Line}
 
 -- ---- one more
 
-slice_get-push : {X : Type 0} (xs : List X) (x : X) (q : ℕ) → q ≡ length xs → slice_get (xs ++ x ∷ []) q ≡ Some x
+slice_get-push : {X : Type 0} (xs : List X) (x : X) (q : ℕ) → q ≡ length xs
+    → slice_get (xs ++ x ∷ []) q ≡ Some x
 slice_get-push [] x zero is = refl
 slice_get-push [] x (suc q) is = absurd (omega arith)
 slice_get-push (y ∷ ys) x zero is = absurd (omega arith)
 slice_get-push (y ∷ ys) x (suc q) is = slice_get-push ys x q (omega arith)
 
-slice_get-kept : {X : Type 0} (xs : List X) (x : X) (q : ℕ) → q < length xs → slice_get (xs ++ x ∷ []) q ≡ slice_get xs q
+slice_get-kept : {X : Type 0} (xs : List X) (x : X) (q : ℕ) → q < length xs
+    → slice_get (xs ++ x ∷ []) q ≡ slice_get xs q
 slice_get-kept [] x q lt = absurd (omega arith)
 slice_get-kept (y ∷ ys) x zero lt = refl
 slice_get-kept (y ∷ ys) x (suc q) lt = slice_get-kept ys x q (omega arith)
 
-pub line_more : (s : Session) (p : ℕ) (line : List PairCosts) → ((q : ℕ) → q < length line → slice_get line q ≡ Some (costs_of s p q))
-    → (q : ℕ) → q < length (line ++ costs_of s p (length line) ∷ []) → slice_get (line ++ costs_of s p (length line) ∷ []) q ≡ Some (costs_of s p q)
-line_more s p line each q lt = elim (cases_lt q (length line)) as (λ _. slice_get (line ++ costs_of s p (length line) ∷ []) q ≡ Some (costs_of s p q)) [
-  | inl before ↦ slice_get-kept line (costs_of s p (length line)) q before ∙ each q before
-  | inr after ↦
-      (let last : q ≡ length line = omega (arith, length-append line (costs_of s p (length line) ∷ [])) in
-      slice_get-push line (costs_of s p (length line)) q last ∙ ap (λ n. Some (costs_of s p n)) (sym last))
-]
+pub line_more : (s : Session) (p : ℕ) (line : List PairCosts)
+    → ((q : ℕ) → q < length line → slice_get line q ≡ Some (costs_of s p q))
+    → (q : ℕ) → q < length (line ++ costs_of s p (length line) ∷ [])
+    → slice_get (line ++ costs_of s p (length line) ∷ []) q ≡ Some (costs_of s p q)
+line_more s p line each q lt =
+    elim (cases_lt q (length line))
+    as (λ _. slice_get (line ++ costs_of s p (length line) ∷ []) q ≡ Some (costs_of s p q)) [
+      | inl before ↦ slice_get-kept line (costs_of s p (length line)) q before ∙ each q before
+      | inr after ↦
+          (let last : q
+          ≡ length line = omega (arith, length-append line (costs_of s p (length line) ∷ [])) in
+          slice_get-push line (costs_of s p (length line)) q last
+          ∙ ap (λ n. Some (costs_of s p n)) (sym last))
+    ]
 
 pub table_more : (P : ℕ → Line → Type 0) (lines : List Line) (new : Line) → P (length lines) new
     → ((p : ℕ) (line : Line) → slice_get lines p ≡ Some line → P p line)
@@ -49,18 +57,30 @@ table_more P lines new is each p line found = elim (cases_lt p (length lines)) a
 
 -- ---- beyond the periods
 
-no_row : (periods : List Period) (weights : Weights) (p q : ℕ) → length periods ≤ q → row_cost periods weights q p ≡ 0
-no_row periods weights p q h = ap (λ o. if share_date o (slice_get periods p) && (gap q p == 1) then weights.row else 0) (slice_get_past periods q h)
+no_row : (periods : List Period) (weights : Weights) (p q : ℕ) → length periods ≤ q
+    → row_cost periods weights q p ≡ 0
+no_row periods weights p q h =
+    ap (λ o. if share_date o (slice_get periods p) && (gap q p == 1) then weights.row else 0)
+    (slice_get_past periods q h)
 
-no_day : (periods : List Period) (weights : Weights) (p q : ℕ) → length periods ≤ q → day_cost periods weights q p ≡ 0
-no_day periods weights p q h = ap (λ o. if share_date o (slice_get periods p) && nat_le 2 (gap q p) then weights.day else 0) (slice_get_past periods q h)
+no_day : (periods : List Period) (weights : Weights) (p q : ℕ) → length periods ≤ q
+    → day_cost periods weights q p ≡ 0
+no_day periods weights p q h =
+    ap (λ o. if share_date o (slice_get periods p) && nat_le 2 (gap q p) then weights.day else 0)
+    (slice_get_past periods q h)
 
-no_spread : (periods : List Period) (weights : Weights) (p q : ℕ) → length periods ≤ q → spread_cost periods weights q p ≡ 0
-no_spread periods weights p q h = ap (λ b. if (b && nat_lt p (length periods)) && (nat_le 1 (gap q p) && nat_le (gap q p) weights.spread) then 1 else 0) (le-ltb q (length periods) h)
+no_spread : (periods : List Period) (weights : Weights) (p q : ℕ) → length periods ≤ q
+    → spread_cost periods weights q p ≡ 0
+no_spread periods weights p q h =
+    ap (λ b. if (b && nat_lt p (length periods))
+    && (nat_le 1 (gap q p) && nat_le (gap q p) weights.spread) then 1 else 0)
+    (le-ltb q (length periods) h)
 
 -- a period beyond the line costs nothing
-pub beyond_costs : (s : Session) (p q : ℕ) (line : List PairCosts) → IsLine s p line → slice_get line q ≡ None → costs_of s p q ≡ record { row = 0; day = 0; spread = 0 }
-beyond_costs s p q line is none = λ i. record { row = no_row s.periods s.weights p q past i; day = no_day s.periods s.weights p q past i; spread = no_spread s.periods s.weights p q past i }
+pub beyond_costs : (s : Session) (p q : ℕ) (line : List PairCosts) → IsLine s p line
+    → slice_get line q ≡ None → costs_of s p q ≡ record { row = 0; day = 0; spread = 0 }
+beyond_costs s p q line is none =
+    λ i. record { row = no_row s.periods s.weights p q past i; day = no_day s.periods s.weights p q past i; spread = no_spread s.periods s.weights p q past i }
   where
     past : length s.periods ≤ q
     past = elim (cases_lt q (length line)) as (λ _. length s.periods ≤ q) [
@@ -72,11 +92,15 @@ beyond_costs s p q line is none = λ i. record { row = no_row s.periods s.weight
         clash x e = cc
 
 -- nor does any period with it
-pub row_beyond : (s : Session) (p q : ℕ) → length s.periods ≤ p → row_cost s.periods s.weights q p ≡ 0
+pub row_beyond : (s : Session) (p q : ℕ) → length s.periods ≤ p
+    → row_cost s.periods s.weights q p ≡ 0
 row_beyond s p q past = row_cost-swap s.periods s.weights q p ∙ no_row s.periods s.weights q p past
 
-pub day_beyond : (s : Session) (p q : ℕ) → length s.periods ≤ p → day_cost s.periods s.weights q p ≡ 0
+pub day_beyond : (s : Session) (p q : ℕ) → length s.periods ≤ p
+    → day_cost s.periods s.weights q p ≡ 0
 day_beyond s p q past = day_cost-swap s.periods s.weights q p ∙ no_day s.periods s.weights q p past
 
-pub spread_beyond : (s : Session) (p q : ℕ) → length s.periods ≤ p → spread_cost s.periods s.weights q p ≡ 0
-spread_beyond s p q past = spread_cost-swap s.periods s.weights q p ∙ no_spread s.periods s.weights q p past
+pub spread_beyond : (s : Session) (p q : ℕ) → length s.periods ≤ p
+    → spread_cost s.periods s.weights q p ≡ 0
+spread_beyond s p q past =
+    spread_cost-swap s.periods s.weights q p ∙ no_spread s.periods s.weights q p past

@@ -23,13 +23,19 @@ use Rattle.exam_score.specs.declared.mixed.Stay.{Stay}
 
 -- ---- one exam more
 
-pub counts_more_some : (s : Session) (t : Placing) (e : ℕ) (stays : List Stay) (at : Place) (x : Exam)
+pub counts_more_some : (s : Session) (t : Placing) (e : ℕ) (stays : List Stay)
+    (at : Place) (x : Exam)
     → place_of t e ≡ Some at → slice_get s.exams e ≡ Some x
     → ((p r m : ℕ) → count_by (is_stay p r m) stays ≡ count_below e (lasts s t p r m))
-    → (p r m : ℕ) → count_by (is_stay p r m) (stays ++ record { period = at.period; room = at.room; minutes = x.minutes } ∷ []) ≡ count_below (e + 1) (lasts s t p r m)
+    → (p r m : ℕ)
+    → count_by (is_stay p r m)
+    (stays ++ record { period = at.period; room = at.room; minutes = x.minutes } ∷ [])
+    ≡ count_below (e + 1) (lasts s t p r m)
 counts_more_some s t e stays at x placed is known p r m =
-    sum_by_push (λ z. cond (is_stay p r m z) 1 0) stays (record { period = at.period; room = at.room; minutes = x.minutes })
-    ∙ ap₂ (λ a b. a + b) (known p r m) (λ i. cond (is_at p r (sym placed i) && (minutes_of (sym is i) == m)) 1 0)
+    sum_by_push (λ z. cond (is_stay p r m z) 1 0) stays
+    (record { period = at.period; room = at.room; minutes = x.minutes })
+    ∙ ap₂ (λ a b. a + b) (known p r m)
+    (λ i. cond (is_at p r (sym placed i) && (minutes_of (sym is i) == m)) 1 0)
     ∙ sym (sum_below_more (λ e. cond (lasts s t p r m e) 1 0) e)
 
 pub counts_more_none : (s : Session) (t : Placing) (e : ℕ) (stays : List Stay)
@@ -38,7 +44,8 @@ pub counts_more_none : (s : Session) (t : Placing) (e : ℕ) (stays : List Stay)
     → (p r m : ℕ) → count_by (is_stay p r m) stays ≡ count_below (e + 1) (lasts s t p r m)
 counts_more_none s t e stays unplaced known p r m =
     known p r m ∙ sym (add-zero (count_below e (lasts s t p r m)))
-    ∙ (λ i. count_below e (lasts s t p r m) + cond (is_at p r (sym unplaced i) && (minutes_of (slice_get s.exams e) == m)) 1 0)
+    ∙ (λ i. count_below e (lasts s t p r m)
+    + cond (is_at p r (sym unplaced i) && (minutes_of (slice_get s.exams e) == m)) 1 0)
     ∙ sym (sum_below_more (λ e. cond (lasts s t p r m e) 1 0) e)
 
 -- ---- durations by the stays
@@ -51,44 +58,61 @@ stay_durations xs p r = count_below duration_count (λ m. nat_lt 0 (count_by (is
 abbrev fresh : ℕ → ℕ
 fresh n = cond (nat_lt 0 n) 0 1
 
-one_term : (b : Bool) (n : ℕ) → ◌≡◌ {A = ℕ} (cond (nat_lt 0 (cond b 1 0 + n)) 1 0) (cond (nat_lt 0 n) 1 0 + cond b (fresh n) 0)
+one_term : (b : Bool) (n : ℕ)
+    → ◌≡◌ {A = ℕ} (cond (nat_lt 0 (cond b 1 0 + n)) 1 0)
+    (cond (nat_lt 0 n) 1 0 + cond b (fresh n) 0)
 one_term true n = grind (arith, nat_tests)
 one_term false n = ap (λ k. cond (nat_lt 0 k) 1 0) (zero-add n) ∙ sym (add-zero _)
 
 -- one more that lasts k
-one_more : (h : ℕ → ℕ) (k n : ℕ) → k < n → count_below n (λ m. nat_lt 0 (cond (eqb k m) 1 0 + h m)) ≡ count_below n (λ m. nat_lt 0 (h m)) + fresh (h k)
+one_more : (h : ℕ → ℕ) (k n : ℕ) → k < n → count_below n (λ m. nat_lt 0 (cond (eqb k m) 1 0 + h m))
+    ≡ count_below n (λ m. nat_lt 0 (h m)) + fresh (h k)
 one_more h k n lt =
     sum_below-same _ _ (λ m. one_term (eqb k m) (h m)) n
     ∙ sum_below-add (λ m. cond (nat_lt 0 (h m)) 1 0) (λ m. cond (eqb k m) (fresh (h m)) 0) n
-    ∙ ap (λ j. count_below n (λ m. nat_lt 0 (h m)) + j) (sum_below-at (λ m. fresh (h m)) k n ∙ cond-true (ltb k n) (fresh (h k)) 0 (lt-ltb k n lt))
+    ∙ ap (λ j. count_below n (λ m. nat_lt 0 (h m)) + j)
+    (sum_below-at (λ m. fresh (h m)) k n ∙ cond-true (ltb k n) (fresh (h k)) 0 (lt-ltb k n lt))
 
 -- what one more makes of all durations but one
 less_one : (d n : ℕ) → (d + fresh n) - 1 ≡ (d - 1) + cond (nat_lt 0 d) (fresh n) 0
 less_one d n = grind (arith, nat_tests)
 
 -- at one place: one more stay
-place_more : (x : Stay) (xs : List Stay) (b : Bool) (p r n : ℕ) → x.minutes < n → ((x.period == p) && (x.room == r)) ≡ b
+place_more : (x : Stay) (xs : List Stay) (b : Bool) (p r n : ℕ) → x.minutes < n
+    → ((x.period == p) && (x.room == r)) ≡ b
     → count_below n (λ m. nat_lt 0 (count_by (is_stay p r m) (x ∷ xs))) - 1
     ≡ (count_below n (λ m. nat_lt 0 (count_by (is_stay p r m) xs)) - 1)
-    + cond b (cond (nat_lt 0 (count_below n (λ m. nat_lt 0 (count_by (is_stay p r m) xs)))) (fresh (count_by (is_stay p r x.minutes) xs)) 0) 0
+    + cond b (cond (nat_lt 0 (count_below n (λ m. nat_lt 0 (count_by (is_stay p r m) xs))))
+    (fresh (count_by (is_stay p r x.minutes) xs)) 0) 0
 place_more x xs b p r n lt is =
     ap (λ k. k - 1) (sum_below-same _ _ (λ m. ap (λ k. cond (nat_lt 0 k) 1 0)
-    (sum_by-cons (λ y. cond (is_stay p r m y) 1 0) x xs ∙ ap (λ c. cond (c && (x.minutes == m)) 1 0 + count_by (is_stay p r m) xs) is)) n)
+    (sum_by-cons (λ y. cond (is_stay p r m y) 1 0) x xs
+    ∙ ap (λ c. cond (c && (x.minutes == m)) 1 0 + count_by (is_stay p r m) xs) is))
+    n)
     ∙ both b
   where
     both : (b : Bool)
-        → count_below n (λ m. nat_lt 0 (cond (b && (x.minutes == m)) 1 0 + count_by (is_stay p r m) xs)) - 1
+        → count_below n
+        (λ m. nat_lt 0 (cond (b && (x.minutes == m)) 1 0 + count_by (is_stay p r m) xs)) - 1
         ≡ (count_below n (λ m. nat_lt 0 (count_by (is_stay p r m) xs)) - 1)
-        + cond b (cond (nat_lt 0 (count_below n (λ m. nat_lt 0 (count_by (is_stay p r m) xs)))) (fresh (count_by (is_stay p r x.minutes) xs)) 0) 0
-    both true = ap (λ k. k - 1) (one_more (λ m. count_by (is_stay p r m) xs) x.minutes n lt) ∙ less_one (count_below n (λ m. nat_lt 0 (count_by (is_stay p r m) xs))) (count_by (is_stay p r x.minutes) xs)
-    both false = ap (λ k. k - 1) (sum_below-same _ _ (λ m. ap (λ k. cond (nat_lt 0 k) 1 0) (zero-add (count_by (is_stay p r m) xs))) n) ∙ sym (add-zero _)
+        + cond b (cond (nat_lt 0 (count_below n (λ m. nat_lt 0 (count_by (is_stay p r m) xs))))
+        (fresh (count_by (is_stay p r x.minutes) xs)) 0) 0
+    both true = ap (λ k. k - 1) (one_more (λ m. count_by (is_stay p r m) xs) x.minutes n lt)
+        ∙ less_one (count_below n (λ m. nat_lt 0 (count_by (is_stay p r m) xs)))
+        (count_by (is_stay p r x.minutes) xs)
+    both false =
+        ap (λ k. k - 1)
+        (sum_below-same _ _
+        (λ m. ap (λ k. cond (nat_lt 0 k) 1 0) (zero-add (count_by (is_stay p r m) xs))) n)
+        ∙ sym (add-zero _)
 
 -- over all places: what stands at one place
 one_place : (u : ℕ → ℕ → ℕ) (a b periods rooms : ℕ) → a < periods → b < rooms
     → sum_below rooms (λ r. sum_below periods (λ p. cond ((a == p) && (b == r)) (u p r) 0)) ≡ u a b
 one_place u a b periods rooms ha hb =
     sum_below-same _ _ (λ r. sum_below-same _ _ (λ p. turned (a == p) (b == r) (u p r)) periods
-    ∙ sum_below-at (λ p. cond (b == r) (u p r) 0) a periods ∙ cond-true (ltb a periods) _ 0 (lt-ltb a periods ha)) rooms
+    ∙ sum_below-at (λ p. cond (b == r) (u p r) 0) a periods
+    ∙ cond-true (ltb a periods) _ 0 (lt-ltb a periods ha)) rooms
     ∙ sum_below-at (λ r. u a r) b rooms ∙ cond-true (ltb b rooms) _ 0 (lt-ltb b rooms hb)
   where
     turned : (c d : Bool) (n : ℕ) → cond (c && d) n 0 ≡ cond c (cond d n 0) 0
@@ -96,16 +120,25 @@ one_place u a b periods rooms ha hb =
     turned false d n = refl
 
 abbrev pub all_but_one : List Stay → ℕ → ℕ → ℕ
-all_but_one xs periods rooms = sum_below rooms (λ r. sum_below periods (λ p. stay_durations xs p r - 1))
+all_but_one xs periods rooms =
+    sum_below rooms (λ r. sum_below periods (λ p. stay_durations xs p r - 1))
 
-more_stays : (x : Stay) (xs : List Stay) (periods rooms : ℕ) → x.period < periods → x.room < rooms → x.minutes < duration_count
+more_stays : (x : Stay) (xs : List Stay) (periods rooms : ℕ) → x.period < periods → x.room < rooms
+    → x.minutes < duration_count
     → all_but_one (x ∷ xs) periods rooms
-    ≡ all_but_one xs periods rooms + cond (nat_lt 0 (stay_durations xs x.period x.room)) (fresh (count_by (is_stay x.period x.room x.minutes) xs)) 0
+    ≡ all_but_one xs periods rooms + cond (nat_lt 0 (stay_durations xs x.period x.room))
+    (fresh (count_by (is_stay x.period x.room x.minutes) xs)) 0
 more_stays x xs periods rooms hp hr hm =
-    let u : ℕ → ℕ → ℕ = λ p r. cond (nat_lt 0 (stay_durations xs p r)) (fresh (count_by (is_stay p r x.minutes) xs)) 0 in
-    sum_below-same _ _ (λ r. sum_below-same _ _ (λ p. place_more x xs ((x.period == p) && (x.room == r)) p r duration_count hm refl) periods
-    ∙ sum_below-add (λ p. stay_durations xs p r - 1) (λ p. cond ((x.period == p) && (x.room == r)) (u p r) 0) periods) rooms
-    ∙ sum_below-add (λ r. sum_below periods (λ p. stay_durations xs p r - 1)) (λ r. sum_below periods (λ p. cond ((x.period == p) && (x.room == r)) (u p r) 0)) rooms
+    let u : ℕ → ℕ → ℕ =
+    λ p r. cond (nat_lt 0 (stay_durations xs p r))
+    (fresh (count_by (is_stay p r x.minutes) xs)) 0 in
+    sum_below-same _ _
+    (λ r. sum_below-same _ _
+    (λ p. place_more x xs ((x.period == p) && (x.room == r)) p r duration_count hm refl) periods
+    ∙ sum_below-add (λ p. stay_durations xs p r - 1)
+    (λ p. cond ((x.period == p) && (x.room == r)) (u p r) 0) periods) rooms
+    ∙ sum_below-add (λ r. sum_below periods (λ p. stay_durations xs p r - 1))
+    (λ r. sum_below periods (λ p. cond ((x.period == p) && (x.room == r)) (u p r) 0)) rooms
     ∙ ap (λ k. all_but_one xs periods rooms + k) (one_place u x.period x.room periods rooms hp hr)
 
 -- ---- what comes next
@@ -119,29 +152,41 @@ elsewhere : (p r m : ℕ) (z : Stay) → (z.period ≡ p → z.room ≡ r → �
 elsewhere p r m z other = elim (cases_eq z.period p) as (λ _. is_stay p r m z ≡ false) [
   | inl here ↦ elim (cases_eq z.room r) as (λ _. is_stay p r m z ≡ false) [
     | inl there ↦ absurd (other here there)
-    | inr there ↦ ap (λ b. ((z.period == p) && b) && (z.minutes == m)) (ne_eqb z.room r there) ∙ and-none (z.period == p) (z.minutes == m)
+    | inr there ↦ ap (λ b. ((z.period == p) && b) && (z.minutes == m)) (ne_eqb z.room r there)
+        ∙ and-none (z.period == p) (z.minutes == m)
   ]
   | inr here ↦ ap (λ b. (b && (z.room == r)) && (z.minutes == m)) (ne_eqb z.period p here)
 ]
 
-not_so_long : (p r m : ℕ) (z : Stay) → (z.period ≡ p → z.room ≡ r → z.minutes ≡ m → ⊥) → is_stay p r m z ≡ false
+not_so_long : (p r m : ℕ) (z : Stay) → (z.period ≡ p → z.room ≡ r → z.minutes ≡ m → ⊥)
+    → is_stay p r m z ≡ false
 not_so_long p r m z other = elim (cases_eq z.minutes m) as (λ _. is_stay p r m z ≡ false) [
   | inl long ↦ elsewhere p r m z (λ a b. other a b long)
-  | inr long ↦ ap (λ b. ((z.period == p) && (z.room == r)) && b) (ne_eqb z.minutes m long) ∙ and-last ((z.period == p) && (z.room == r))
+  | inr long ↦ ap (λ b. ((z.period == p) && (z.room == r)) && b) (ne_eqb z.minutes m long)
+      ∙ and-last ((z.period == p) && (z.room == r))
 ]
   where
     and-last : (c : Bool) → (c && false) ≡ false
     and-last true = refl
     and-last false = refl
 
-right_there : (p r m : ℕ) (z : Stay) → z.period ≡ p → z.room ≡ r → z.minutes ≡ m → is_stay p r m z ≡ true
-right_there p r m z a b c = λ i. ((eq-eqb z.period p a i) && (eq-eqb z.room r b i)) && (eq-eqb z.minutes m c i)
+right_there : (p r m : ℕ) (z : Stay) → z.period ≡ p → z.room ≡ r → z.minutes ≡ m
+    → is_stay p r m z ≡ true
+right_there p r m z a b c =
+    λ i. ((eq-eqb z.period p a i) && (eq-eqb z.room r b i)) && (eq-eqb z.minutes m c i)
 
-none_of : (p r m : ℕ) (xs : List Stay) → AllByRecursion (λ z. is_stay p r m z ≡ false) xs → count_by (is_stay p r m) xs ≡ 0
-none_of p r m xs h = sum_by-none (λ z. cond (is_stay p r m z) 1 0) xs (each_weaker (λ z. is_stay p r m z ≡ false) (λ z. ◌≡◌ {A = ℕ} (cond (is_stay p r m z) 1 0) 0) (λ z e. ap (λ b. cond b 1 0) e) xs h)
+none_of : (p r m : ℕ) (xs : List Stay) → AllByRecursion (λ z. is_stay p r m z ≡ false) xs
+    → count_by (is_stay p r m) xs ≡ 0
+none_of p r m xs h =
+    sum_by-none (λ z. cond (is_stay p r m z) 1 0) xs
+    (each_weaker (λ z. is_stay p r m z ≡ false) (λ z. ◌≡◌ {A = ℕ} (cond (is_stay p r m z) 1 0) 0)
+    (λ z e. ap (λ b. cond b 1 0) e) xs h)
 
-nothing_there : (p r : ℕ) (xs : List Stay) → ((m : ℕ) → count_by (is_stay p r m) xs ≡ 0) → stay_durations xs p r ≡ 0
-nothing_there p r xs h = sum_below-same _ _ (λ m. ap (λ k. cond (nat_lt 0 k) 1 0) (h m)) duration_count ∙ sum_below-zeros duration_count
+nothing_there : (p r : ℕ) (xs : List Stay) → ((m : ℕ) → count_by (is_stay p r m) xs ≡ 0)
+    → stay_durations xs p r ≡ 0
+nothing_there p r xs h =
+    sum_below-same _ _ (λ m. ap (λ k. cond (nat_lt 0 k) 1 0) (h m)) duration_count
+    ∙ sum_below-zeros duration_count
 
 at_least : (f : ℕ → ℕ) (k n : ℕ) → k < n → f k ≤ sum_below n f
 at_least f k zero lt = absurd (omega arith)
@@ -151,7 +196,8 @@ at_least f k (suc n) lt = elim (cases_lt k n) as (λ _. f k ≤ sum_below n f + 
 ]
 
 -- from x over y to z: what is back at the place of x was never away
-back_place : (x y z : Stay) → NotAfter x y → NotAfter y z → z.period ≡ x.period → z.room ≡ x.room → (y.period ≡ x.period) × (y.room ≡ x.room)
+back_place : (x y z : Stay) → NotAfter x y → NotAfter y z → z.period ≡ x.period → z.room ≡ x.room
+    → (y.period ≡ x.period) × (y.room ≡ x.room)
 back_place x y z xy yz zp zr =
     let a = xy.periods in
     let b = yz.periods in
@@ -161,7 +207,8 @@ back_place x y z xy yz zp zr =
     let yr : y.room ≡ x.room = omega arith in
     (yp, yr)
 
-back_minutes : (x y z : Stay) → NotAfter x y → NotAfter y z → z.period ≡ x.period → z.room ≡ x.room → z.minutes ≡ x.minutes → y.minutes ≡ x.minutes
+back_minutes : (x y z : Stay) → NotAfter x y → NotAfter y z → z.period ≡ x.period → z.room ≡ x.room
+    → z.minutes ≡ x.minutes → y.minutes ≡ x.minutes
 back_minutes x y z xy yz zp zr zm =
     let place = back_place x y z xy yz zp zr in
     let a = xy.minutes (sym place.0) (sym place.1) in
@@ -169,27 +216,36 @@ back_minutes x y z xy yz zp zr zm =
     omega arith
 
 self_after : (x : Stay) → NotAfter x x
-self_after x = record { periods = omega arith; rooms = λ _. omega arith; minutes = λ _ _. omega arith }
+self_after x =
+    record { periods = omega arith; rooms = λ _. omega arith; minutes = λ _ _. omega arith }
 
 -- the next one is of another place: then so are all
-next_elsewhere : (x y : Stay) (ys : List Stay) → NotAfter x y → AllByRecursion (NotAfter y) ys → (y.period ≡ x.period → y.room ≡ x.room → ⊥)
-    → cond (nat_lt 0 (stay_durations (y ∷ ys) x.period x.room)) (fresh (count_by (is_stay x.period x.room x.minutes) (y ∷ ys))) 0 ≡ 0
+next_elsewhere : (x y : Stay) (ys : List Stay) → NotAfter x y → AllByRecursion (NotAfter y) ys
+    → (y.period ≡ x.period → y.room ≡ x.room → ⊥)
+    → cond (nat_lt 0 (stay_durations (y ∷ ys) x.period x.room))
+    (fresh (count_by (is_stay x.period x.room x.minutes) (y ∷ ys))) 0 ≡ 0
 next_elsewhere x y ys xy later other =
     ap (λ k. cond (nat_lt 0 k) (fresh (count_by (is_stay x.period x.room x.minutes) (y ∷ ys))) 0)
     (nothing_there x.period x.room (y ∷ ys) (λ m. none_of x.period x.room m (y ∷ ys) (
       elsewhere x.period x.room m y other,
       each_weaker (NotAfter y) (λ z. is_stay x.period x.room m z ≡ false)
-          (λ z yz. elsewhere x.period x.room m z (λ zp zr. let back = back_place x y z xy yz zp zr in other back.0 back.1)) ys later,
+          (λ z yz. elsewhere x.period x.room m z
+          (λ zp zr. let back = back_place x y z xy yz zp zr in other back.0 back.1))
+          ys later,
     )))
 
 -- of one place and duration: then there is no further duration
-next_same : (x y : Stay) (ys : List Stay) → y.period ≡ x.period → y.room ≡ x.room → y.minutes ≡ x.minutes
-    → cond (nat_lt 0 (stay_durations (y ∷ ys) x.period x.room)) (fresh (count_by (is_stay x.period x.room x.minutes) (y ∷ ys))) 0 ≡ 0
+next_same : (x y : Stay) (ys : List Stay) → y.period ≡ x.period → y.room ≡ x.room
+    → y.minutes ≡ x.minutes
+    → cond (nat_lt 0 (stay_durations (y ∷ ys) x.period x.room))
+    (fresh (count_by (is_stay x.period x.room x.minutes) (y ∷ ys))) 0 ≡ 0
 next_same x y ys a b c =
     let counted = sum_by-cons (λ z. cond (is_stay x.period x.room x.minutes z) 1 0) y ys in
-    let here : ◌≡◌ {A = ℕ} (cond (is_stay x.period x.room x.minutes y) 1 0) 1 = ap (λ b. cond b 1 0) (right_there x.period x.room x.minutes y a b c) in
+    let here : ◌≡◌ {A = ℕ} (cond (is_stay x.period x.room x.minutes y) 1 0) 1 =
+    ap (λ b. cond b 1 0) (right_there x.period x.room x.minutes y a b c) in
     let some : 0 < count_by (is_stay x.period x.room x.minutes) (y ∷ ys) = omega arith in
-    ap (λ b. cond (nat_lt 0 (stay_durations (y ∷ ys) x.period x.room)) (cond b 0 1) 0) (lt-ltb 0 _ some)
+    ap (λ b. cond (nat_lt 0 (stay_durations (y ∷ ys) x.period x.room)) (cond b 0 1) 0)
+    (lt-ltb 0 _ some)
     ∙ nothing (nat_lt 0 (stay_durations (y ∷ ys) x.period x.room))
   where
     nothing : (b : Bool) → ◌≡◌ {A = ℕ} (cond b 0 0) 0
@@ -197,36 +253,68 @@ next_same x y ys a b c =
     nothing false = refl
 
 -- of one place and another duration: then it is a further one
-next_further : (x y : Stay) (ys : List Stay) → NotAfter x y → AllByRecursion (NotAfter y) ys → y.minutes < duration_count → y.period ≡ x.period → y.room ≡ x.room → y.minutes ≢ x.minutes
-    → cond (nat_lt 0 (stay_durations (y ∷ ys) x.period x.room)) (fresh (count_by (is_stay x.period x.room x.minutes) (y ∷ ys))) 0 ≡ 1
+next_further : (x y : Stay) (ys : List Stay) → NotAfter x y → AllByRecursion (NotAfter y) ys
+    → y.minutes < duration_count → y.period ≡ x.period → y.room ≡ x.room → y.minutes ≢ x.minutes
+    → cond (nat_lt 0 (stay_durations (y ∷ ys) x.period x.room))
+    (fresh (count_by (is_stay x.period x.room x.minutes) (y ∷ ys))) 0 ≡ 1
 next_further x y ys xy later exists a b other =
     let counted = sum_by-cons (λ z. cond (is_stay x.period x.room y.minutes z) 1 0) y ys in
-    let here : ◌≡◌ {A = ℕ} (cond (is_stay x.period x.room y.minutes y) 1 0) 1 = ap (λ b. cond b 1 0) (right_there x.period x.room y.minutes y a b refl) in
+    let here : ◌≡◌ {A = ℕ} (cond (is_stay x.period x.room y.minutes y) 1 0) 1 =
+    ap (λ b. cond b 1 0) (right_there x.period x.room y.minutes y a b refl) in
     let some : 0 < count_by (is_stay x.period x.room y.minutes) (y ∷ ys) = omega arith in
-    let term : ◌≡◌ {A = ℕ} (cond (nat_lt 0 (count_by (is_stay x.period x.room y.minutes) (y ∷ ys))) 1 0) 1 = ap (λ b. cond b 1 0) (lt-ltb 0 _ some) in
-    let least = at_least (λ m. cond (nat_lt 0 (count_by (is_stay x.period x.room m) (y ∷ ys))) 1 0) y.minutes duration_count exists in
+    let term : ◌≡◌ {A = ℕ}
+    (cond (nat_lt 0 (count_by (is_stay x.period x.room y.minutes) (y ∷ ys))) 1 0) 1 =
+    ap (λ b. cond b 1 0) (lt-ltb 0 _ some) in
+    let least = at_least (λ m. cond (nat_lt 0 (count_by (is_stay x.period x.room m) (y ∷ ys))) 1 0)
+    y.minutes duration_count exists in
     let used : 0 < stay_durations (y ∷ ys) x.period x.room = omega arith in
     let absent : count_by (is_stay x.period x.room x.minutes) (y ∷ ys) ≡ 0
     = none_of x.period x.room x.minutes (y ∷ ys) (
       not_so_long x.period x.room x.minutes y (λ _ _ m. other m),
       each_weaker (NotAfter y) (λ z. is_stay x.period x.room x.minutes z ≡ false)
-          (λ z yz. not_so_long x.period x.room x.minutes z (λ zp zr zm. other (back_minutes x y z xy yz zp zr zm))) ys later,
+          (λ z yz. not_so_long x.period x.room x.minutes z
+          (λ zp zr zm. other (back_minutes x y z xy yz zp zr zm)))
+          ys later,
     ) in
     ap₂ (λ b n. cond b (fresh n) 0) (lt-ltb 0 _ used) absent
 
-next_is : (x : Stay) (xs : List Stay) → AllByRecursion (NotAfter x) xs → IsChain NotAfter xs → AllByRecursion (λ z. z.minutes < duration_count) xs
-    → cond (nat_lt 0 (stay_durations xs x.period x.room)) (fresh (count_by (is_stay x.period x.room x.minutes) xs)) 0 ≡ next_differs x xs
+next_is : (x : Stay) (xs : List Stay) → AllByRecursion (NotAfter x) xs → IsChain NotAfter xs
+    → AllByRecursion (λ z. z.minutes < duration_count) xs
+    → cond (nat_lt 0 (stay_durations xs x.period x.room))
+    (fresh (count_by (is_stay x.period x.room x.minutes) xs)) 0
+    ≡ next_differs x xs
 next_is x [] after chain short = ap (λ k. cond (nat_lt 0 k) 1 0) (sum_below-zeros duration_count)
 next_is x (y ∷ ys) after chain short =
-    elim (cases_eq y.period x.period) as (λ _. cond (nat_lt 0 (stay_durations (y ∷ ys) x.period x.room)) (fresh (count_by (is_stay x.period x.room x.minutes) (y ∷ ys))) 0 ≡ next_differs x (y ∷ ys)) [
-      | inl a ↦ elim (cases_eq y.room x.room) as (λ _. cond (nat_lt 0 (stay_durations (y ∷ ys) x.period x.room)) (fresh (count_by (is_stay x.period x.room x.minutes) (y ∷ ys))) 0 ≡ next_differs x (y ∷ ys)) [
-        | inl b ↦ elim (cases_eq y.minutes x.minutes) as (λ _. cond (nat_lt 0 (stay_durations (y ∷ ys) x.period x.room)) (fresh (count_by (is_stay x.period x.room x.minutes) (y ∷ ys))) 0 ≡ next_differs x (y ∷ ys)) [
-          | inl c ↦ next_same x y ys a b c ∙ sym (λ i. cond ((eq-eqb y.period x.period a i && eq-eqb y.room x.room b i) && not (eq-eqb y.minutes x.minutes c i)) 1 0)
-          | inr c ↦ next_further x y ys after.0 chain.0 short.0 a b c ∙ sym (λ i. cond ((eq-eqb y.period x.period a i && eq-eqb y.room x.room b i) && not (ne_eqb y.minutes x.minutes c i)) 1 0)
-        ]
-        | inr b ↦ next_elsewhere x y ys after.0 chain.0 (λ _ r. b r) ∙ sym (λ i. cond ((eq-eqb y.period x.period a i && ne_eqb y.room x.room b i) && not (y.minutes == x.minutes)) 1 0)
-      ]
-      | inr a ↦ next_elsewhere x y ys after.0 chain.0 (λ p _. a p) ∙ sym (λ i. cond ((ne_eqb y.period x.period a i && (y.room == x.room)) && not (y.minutes == x.minutes)) 1 0)
+    elim (cases_eq y.period x.period)
+    as (λ _. cond (nat_lt 0 (stay_durations (y ∷ ys) x.period x.room))
+    (fresh (count_by (is_stay x.period x.room x.minutes) (y ∷ ys))) 0
+    ≡ next_differs x (y ∷ ys)) [
+      | inl a ↦ elim (cases_eq y.room x.room)
+          as (λ _. cond (nat_lt 0 (stay_durations (y ∷ ys) x.period x.room))
+          (fresh (count_by (is_stay x.period x.room x.minutes) (y ∷ ys))) 0
+          ≡ next_differs x (y ∷ ys)) [
+            | inl b ↦ elim (cases_eq y.minutes x.minutes)
+                as (λ _. cond (nat_lt 0 (stay_durations (y ∷ ys) x.period x.room))
+                (fresh (count_by (is_stay x.period x.room x.minutes) (y ∷ ys))) 0
+                ≡ next_differs x (y ∷ ys)) [
+                  | inl c ↦ next_same x y ys a b c
+                      ∙ sym (λ i. cond
+                      ((eq-eqb y.period x.period a i && eq-eqb y.room x.room b i)
+                      && not (eq-eqb y.minutes x.minutes c i)) 1 0)
+                  | inr c ↦ next_further x y ys after.0 chain.0 short.0 a b c
+                      ∙ sym (λ i. cond
+                      ((eq-eqb y.period x.period a i && eq-eqb y.room x.room b i)
+                      && not (ne_eqb y.minutes x.minutes c i)) 1 0)
+                ]
+            | inr b ↦ next_elsewhere x y ys after.0 chain.0 (λ _ r. b r)
+                ∙ sym (λ i. cond
+                ((eq-eqb y.period x.period a i && ne_eqb y.room x.room b i)
+                && not (y.minutes == x.minutes)) 1 0)
+          ]
+      | inr a ↦ next_elsewhere x y ys after.0 chain.0 (λ p _. a p)
+          ∙ sym (λ i. cond
+          ((ne_eqb y.period x.period a i && (y.room == x.room)) && not (y.minutes == x.minutes)) 1
+          0)
     ]
 
 -- ---- along the whole list
@@ -235,31 +323,46 @@ short : (s : Session) (z : Stay) → StayExists s z → z.minutes < duration_cou
 unfolding duration_count
 short s z e = let h = e.minutes in omega arith
 
-pub further_is : (s : Session) (xs : List Stay) → IsChain NotAfter xs → AllByRecursion (StayExists s) xs
+pub further_is : (s : Session) (xs : List Stay) → IsChain NotAfter xs
+    → AllByRecursion (StayExists s) xs
     → all_but_one xs (length s.periods) (length s.rooms) ≡ further xs
 further_is s [] chain exist =
-    sum_below-same _ _ (λ r. sum_below-same _ _ (λ p. ap (λ k. k - 1) (sum_below-zeros duration_count)) (length s.periods) ∙ sum_below-zeros (length s.periods)) (length s.rooms)
+    sum_below-same _ _
+    (λ r. sum_below-same _ _ (λ p. ap (λ k. k - 1) (sum_below-zeros duration_count))
+    (length s.periods)
+    ∙ sum_below-zeros (length s.periods))
+    (length s.rooms)
     ∙ sum_below-zeros (length s.rooms)
 further_is s (x ∷ xs) chain exist =
     let here = exist.0 in
-    let more = more_stays x xs (length s.periods) (length s.rooms) here.period here.room (short s x here) in
-    let next = next_is x xs chain.0 chain.1 (each_weaker (StayExists s) (λ z. z.minutes < duration_count) (short s) xs exist.1) in
+    let more = more_stays x xs (length s.periods) (length s.rooms) here.period here.room
+    (short s x here) in
+    let next = next_is x xs chain.0 chain.1
+    (each_weaker (StayExists s) (λ z. z.minutes < duration_count) (short s) xs exist.1) in
     let others = further_is s xs chain.1 exist.1 in
     omega arith
 
 -- ---- the order of the stays
 
 abbrev pub stay_cmp : Stay → Stay → Ordering
-stay_cmp x y = ordering_then (nat_cmp x.period y.period) (ordering_then (nat_cmp x.room y.room) (nat_cmp x.minutes y.minutes))
+stay_cmp x y =
+    ordering_then (nat_cmp x.period y.period)
+    (ordering_then (nat_cmp x.room y.room) (nat_cmp x.minutes y.minutes))
 
 stay_cmp_total : IsTotalOrder stay_cmp
-stay_cmp_total = then_total (on_total (λ (x : Stay). x.period) nat_cmp_total) (then_total (on_total (λ (x : Stay). x.room) nat_cmp_total) (on_total (λ (x : Stay). x.minutes) nat_cmp_total))
+stay_cmp_total =
+    then_total (on_total (λ (x : Stay). x.period) nat_cmp_total)
+    (then_total (on_total (λ (x : Stay). x.room) nat_cmp_total)
+    (on_total (λ (x : Stay). x.minutes) nat_cmp_total))
 
 not_less : (x y : Stay) → is_lt (stay_cmp y x) ≡ false → NotAfter x y
 not_less x y h = record {
-  periods = elim (cases_lt y.period x.period) as (λ _. x.period ≤ y.period) [ inl less ↦ absurd (first x y h less) | inr more ↦ more ];
-  rooms = λ p. elim (cases_lt y.room x.room) as (λ _. x.room ≤ y.room) [ inl less ↦ absurd (second x y h (sym p) less) | inr more ↦ more ];
-  minutes = λ p r. elim (cases_lt y.minutes x.minutes) as (λ _. x.minutes ≤ y.minutes) [ inl less ↦ absurd (third x y h (sym p) (sym r) less) | inr more ↦ more ];
+  periods = elim (cases_lt y.period x.period) as (λ _. x.period ≤ y.period)
+      [ inl less ↦ absurd (first x y h less) | inr more ↦ more ];
+  rooms = λ p. elim (cases_lt y.room x.room) as (λ _. x.room ≤ y.room)
+      [ inl less ↦ absurd (second x y h (sym p) less) | inr more ↦ more ];
+  minutes = λ p r. elim (cases_lt y.minutes x.minutes) as (λ _. x.minutes ≤ y.minutes)
+      [ inl less ↦ absurd (third x y h (sym p) (sym r) less) | inr more ↦ more ];
 }
   where
     first : (x y : Stay) → is_lt (stay_cmp y x) ≡ false → y.period < x.period → ⊥
@@ -268,31 +371,46 @@ not_less x y h = record {
     second : (x y : Stay) → is_lt (stay_cmp y x) ≡ false → y.period ≡ x.period → y.room < x.room → ⊥
     second x y h p less = grind (arith, nat_tests)
 
-    third : (x y : Stay) → is_lt (stay_cmp y x) ≡ false → y.period ≡ x.period → y.room ≡ x.room → y.minutes < x.minutes → ⊥
+    third : (x y : Stay) → is_lt (stay_cmp y x) ≡ false → y.period ≡ x.period → y.room ≡ x.room
+        → y.minutes < x.minutes → ⊥
     third x y h p r less = grind (arith, nat_tests)
 
 in_order : (xs : List Stay) → IsSorted stay_cmp xs → AllPairs NotAfter xs
 in_order xs h i j d l m =
-    not_less (get_or xs i d) (get_or xs j d) (sorted_far (λ x y. is_lt (stay_cmp x y)) (ranks_by stay_cmp_total (λ x. x)) xs h i j d (omega arith) m)
+    not_less (get_or xs i d) (get_or xs j d)
+    (sorted_far (λ x y. is_lt (stay_cmp x y)) (ranks_by stay_cmp_total (λ x. x)) xs h i j d
+    (omega arith) m)
 
 -- the part of the penalty along stays in order
-pub mixed_is : (s : Session) (t : Placing) (stays sorted : List Stay) → AreStays s t stays → IsPermutation stays sorted → IsSorted stay_cmp sorted
+pub mixed_is : (s : Session) (t : Placing) (stays sorted : List Stay) → AreStays s t stays
+    → IsPermutation stays sorted → IsSorted stay_cmp sorted
     → further sorted * s.weights.mixed ≡ mixed_part s t
 mixed_is s t stays sorted are moved order =
     let w = s.weights.mixed in
-    let whole = further_is s sorted (chain_from_index NotAfter sorted (in_order sorted order)) (recursion_from_All (StayExists s) sorted (All-permutation (StayExists s) stays sorted moved are.exist)) in
-    let counts : (p r m : ℕ) → count_by (is_stay p r m) sorted ≡ lasting s t p r m = λ p r m. sum_by-IsPermutation (λ z. cond (is_stay p r m z) 1 0) stays sorted moved ∙ are.counts p r m in
+    let whole = further_is s sorted (chain_from_index NotAfter sorted (in_order sorted order))
+    (recursion_from_All (StayExists s) sorted
+    (All-permutation (StayExists s) stays sorted moved are.exist)) in
+    let counts : (p r m : ℕ) → count_by (is_stay p r m) sorted ≡ lasting s t p r m =
+    λ p r m. sum_by-IsPermutation (λ z. cond (is_stay p r m z) 1 0) stays sorted moved
+    ∙ are.counts p r m in
     ap (λ n. n * w) (sym whole)
-    ∙ sym (sum_below-times (λ r. sum_below (length s.periods) (λ p. stay_durations sorted p r - 1)) w (length s.rooms))
-    ∙ sum_below-same _ _ (λ r. sym (sum_below-times (λ p. stay_durations sorted p r - 1) w (length s.periods))
-    ∙ sum_below-same _ _ (λ p i. (count_below duration_count (λ m. nat_lt 0 (counts p r m i)) - 1) * w) (length s.periods)) (length s.rooms)
+    ∙ sym (sum_below-times (λ r. sum_below (length s.periods) (λ p. stay_durations sorted p r - 1))
+    w (length s.rooms))
+    ∙ sum_below-same _ _
+    (λ r. sym (sum_below-times (λ p. stay_durations sorted p r - 1) w (length s.periods))
+    ∙ sum_below-same _ _
+    (λ p i. (count_below duration_count (λ m. nat_lt 0 (counts p r m i)) - 1) * w)
+    (length s.periods))
+    (length s.rooms)
 
 -- what a placed exam's stay has exists
-pub stay_exists : (s : Session) (t : Placing) (e : ℕ) (at : Place) (x : Exam) → IsInstance s → Suits s t → e < length t → place_of t e ≡ Some at → slice_get s.exams e ≡ Some x
+pub stay_exists : (s : Session) (t : Placing) (e : ℕ) (at : Place) (x : Exam) → IsInstance s
+    → Suits s t → e < length t → place_of t e ≡ Some at → slice_get s.exams e ≡ Some x
     → StayExists s (record { period = at.period; room = at.room; minutes = x.minutes })
 stay_exists s t e at x known fits within placed is =
     let there : PlaceExists s (Some at) = rw placed at (fits.places e None within) in
-    let long : (get_or s.exams e x).minutes ≤ 1440 = known.limits.exams e x (let h = fits.exams in omega arith) in
+    let long : (get_or s.exams e x).minutes ≤ 1440 =
+    known.limits.exams e x (let h = fits.exams in omega arith) in
     record {
       period = there.0;
       room = there.1;

@@ -31,27 +31,42 @@ none_or true = refl
 none_or false = refl
 
 beside_placed : (cost : ℕ → ℕ → ℕ) (t : Placing) (s x : ℕ) (ps : List Pair)
-    → sum_by (λ q. cond (eqb q.student s) (cost_between cost (Some x) (period_of t q.exam)) 0) ps ≡ sum_by (row_pair cost (row_at x s)) (filter_map (row_of t) ps)
+    → sum_by (λ q. cond (eqb q.student s) (cost_between cost (Some x) (period_of t q.exam)) 0) ps
+    ≡ sum_by (row_pair cost (row_at x s)) (filter_map (row_of t) ps)
 beside_placed cost t s x [] = refl
 beside_placed cost t s x (q ∷ ps) =
     let rows : List Row = filter_map (row_of t) ps in
-    sum_by-cons (λ q. cond (eqb q.student s) (cost_between cost (Some x) (period_of t q.exam)) 0) q ps
-    ∙ ap (λ n. cond (eqb q.student s) (cost_between cost (Some x) (period_of t q.exam)) 0 + n) (beside_placed cost t s x ps)
-    ∙ (elim (period_of t q.exam) as (λ o. cond (eqb q.student s) (cost_between cost (Some x) o) 0 + sum_by (row_pair cost (row_at x s)) rows
-    ≡ sum_by (row_pair cost (row_at x s)) (cons_option (option_map (λ period. row_at period q.student) o) rows)) [
-      | None ↦ ap (λ n. n + sum_by (row_pair cost (row_at x s)) rows) (none_or (eqb q.student s)) ∙ zero-add _
+    sum_by-cons (λ q. cond (eqb q.student s) (cost_between cost (Some x) (period_of t q.exam)) 0) q
+    ps
+    ∙ ap (λ n. cond (eqb q.student s) (cost_between cost (Some x) (period_of t q.exam)) 0 + n)
+    (beside_placed cost t s x ps)
+    ∙ (elim (period_of t q.exam)
+    as (λ o. cond (eqb q.student s) (cost_between cost (Some x) o) 0
+    + sum_by (row_pair cost (row_at x s)) rows
+    ≡ sum_by (row_pair cost (row_at x s))
+    (cons_option (option_map (λ period. row_at period q.student) o) rows)) [
+      | None ↦ ap (λ n. n + sum_by (row_pair cost (row_at x s)) rows) (none_or (eqb q.student s))
+          ∙ zero-add _
       | Some y ↦ sym (sum_by-cons (row_pair cost (row_at x s)) (row_at y q.student) rows)
     ])
 
 pub by_placed : (cost : ℕ → ℕ → ℕ) (t : Placing) (ps : List Pair)
-    → sum_pairs (later_cost (λ e f. cost_between cost (period_of t e) (period_of t f))) ps ≡ cost_with cost (filter_map (row_of t) ps)
+    → sum_pairs (later_cost (λ e f. cost_between cost (period_of t e) (period_of t f))) ps
+    ≡ cost_with cost (filter_map (row_of t) ps)
 by_placed cost t [] = refl
 by_placed cost t (p ∷ ps) =
     let rows : List Row = filter_map (row_of t) ps in
-    ap (λ n. sum_by (later_cost (λ e f. cost_between cost (period_of t e) (period_of t f)) p) ps + n) (by_placed cost t ps)
-    ∙ (elim (period_of t p.exam) as (λ o. sum_by (λ q. cond (eqb q.student p.student) (cost_between cost o (period_of t q.exam)) 0) ps + cost_with cost rows
+    ap (λ n. sum_by (later_cost (λ e f. cost_between cost (period_of t e) (period_of t f)) p) ps
+    + n)
+    (by_placed cost t ps)
+    ∙ (elim (period_of t p.exam)
+    as (λ o. sum_by
+    (λ q. cond (eqb q.student p.student) (cost_between cost o (period_of t q.exam)) 0) ps
+    + cost_with cost rows
     ≡ cost_with cost (cons_option (option_map (λ period. row_at period p.student) o) rows)) [
-      | None ↦ ap (λ n. n + cost_with cost rows) (sum_by-same _ _ (λ q. none_or (eqb q.student p.student)) ps ∙ sum_by-zeros ps) ∙ zero-add _
+      | None ↦ ap (λ n. n + cost_with cost rows)
+          (sum_by-same _ _ (λ q. none_or (eqb q.student p.student)) ps ∙ sum_by-zeros ps)
+          ∙ zero-add _
       | Some x ↦ ap (λ n. n + cost_with cost rows) (beside_placed cost t p.student x ps)
     ])
 
@@ -61,14 +76,19 @@ eqb-swap : (a b : ℕ) → eqb a b ≡ eqb b a
 eqb-swap a b = grind (arith, nat_tests)
 
 row_pair-none : (cost : ℕ → ℕ → ℕ) → ((p : ℕ) → cost p p ≡ 0) → (x : Row) → row_pair cost x x ≡ 0
-row_pair-none cost nothing x = ap (λ n. cond (eqb x.student x.student) n 0) (nothing x.period) ∙ none_or (eqb x.student x.student)
+row_pair-none cost nothing x = ap (λ n. cond (eqb x.student x.student) n 0) (nothing x.period)
+    ∙ none_or (eqb x.student x.student)
 
-row_pair-turned : (cost : ℕ → ℕ → ℕ) → ((p q : ℕ) → cost p q ≡ cost q p) → (x y : Row) → row_pair cost x y ≡ row_pair cost y x
-row_pair-turned cost either x y = ap₂ (λ b n. cond b n 0) (eqb-swap y.student x.student) (either x.period y.period)
+row_pair-turned : (cost : ℕ → ℕ → ℕ) → ((p q : ℕ) → cost p q ≡ cost q p) → (x y : Row)
+    → row_pair cost x y ≡ row_pair cost y x
+row_pair-turned cost either x y =
+    ap₂ (λ b n. cond b n 0) (eqb-swap y.student x.student) (either x.period y.period)
 
 -- the part of the penalty is the cost over the rows
-pub part_of_rows : (cost : ℕ → ℕ → ℕ) (E : Enrolled) (t : Placing) → AreEnrolments E → cost_with cost (filter_map (row_of t) (pairs_of E)) ≡ pair_part cost E (period_of t)
-part_of_rows cost E t known = sym (by_placed cost t (pairs_of E)) ∙ sym (part_by_rows cost E (period_of t) (are_pairs E known))
+pub part_of_rows : (cost : ℕ → ℕ → ℕ) (E : Enrolled) (t : Placing) → AreEnrolments E
+    → cost_with cost (filter_map (row_of t) (pairs_of E)) ≡ pair_part cost E (period_of t)
+part_of_rows cost E t known = sym (by_placed cost t (pairs_of E))
+    ∙ sym (part_by_rows cost E (period_of t) (are_pairs E known))
 
 -- ---- by tallies
 
@@ -76,12 +96,17 @@ turned_product : (a b c : ℕ) → a * b * c ≡ c * b * a
 turned_product a b c = mul_comm (a * b) c ∙ ap (λ n. c * n) (mul_comm a b) ∙ sym (mul_assoc c b a)
 
 -- the cost over pairs of tallies is that over pairs of the rows that they count
-tallied_cost : (cost : ℕ → ℕ → ℕ) (rows : List Row) (tallies : List Tally) → ((p q : ℕ) → cost p q ≡ cost q p) → ((p : ℕ) → cost p p ≡ 0)
-    → ((f : Row → ℕ) → sum_by f rows ≡ sum_by (tally_sum f) tallies) → tally_cost cost tallies ≡ cost_with cost rows
+tallied_cost : (cost : ℕ → ℕ → ℕ) (rows : List Row) (tallies : List Tally)
+    → ((p q : ℕ) → cost p q ≡ cost q p) → ((p : ℕ) → cost p p ≡ 0)
+    → ((f : Row → ℕ) → sum_by f rows ≡ sum_by (tally_sum f) tallies)
+    → tally_cost cost tallies ≡ cost_with cost rows
 tallied_cost cost rows tallies either nothing counted =
-    let by_rows = sum_pairs-twice (row_pair cost) (row_pair-none cost nothing) (row_pair-turned cost either) rows in
+    let by_rows =
+    sum_pairs-twice (row_pair cost) (row_pair-none cost nothing)
+    (row_pair-turned cost either) rows in
     let by_tallies = sum_pairs-twice (tally_pair cost) none turned tallies in
-    let same : sum_by (λ x. sum_by (row_pair cost x) rows) rows ≡ sum_by (λ x. sum_by (tally_pair cost x) tallies) tallies
+    let same : sum_by (λ x. sum_by (row_pair cost x) rows) rows
+    ≡ sum_by (λ x. sum_by (tally_pair cost x) tallies) tallies
     = sum_by-same _ _ (λ x. counted (row_pair cost x)) rows
     ∙ counted (λ r. sum_by (tally_sum (row_pair cost r)) tallies)
     ∙ sum_by-same _ _ each tallies in
@@ -94,23 +119,33 @@ tallied_cost cost rows tallies either nothing counted =
 
     turned : (x y : Tally) → tally_pair cost x y ≡ tally_pair cost y x
     turned x y =
-        ap (λ n. x.exams * n * y.exams) (row_pair-turned cost either (row_at x.period x.student) (row_at y.period y.student))
-        ∙ turned_product x.exams (row_pair cost (row_at y.period y.student) (row_at x.period x.student)) y.exams
+        ap (λ n. x.exams * n * y.exams)
+        (row_pair-turned cost either (row_at x.period x.student) (row_at y.period y.student))
+        ∙ turned_product x.exams
+        (row_pair cost (row_at y.period y.student) (row_at x.period x.student)) y.exams
 
-    each : (x : Tally) → tally_sum (λ r. sum_by (tally_sum (row_pair cost r)) tallies) x ≡ sum_by (tally_pair cost x) tallies
+    each : (x : Tally) → tally_sum (λ r. sum_by (tally_sum (row_pair cost r)) tallies) x
+        ≡ sum_by (tally_pair cost x) tallies
     each x =
         mul_comm x.exams (sum_by (tally_sum (row_pair cost (row_at x.period x.student))) tallies)
         ∙ sym (sum_by-times (tally_sum (row_pair cost (row_at x.period x.student))) x.exams tallies)
-        ∙ sum_by-same _ _ (λ y. turned_product y.exams (row_pair cost (row_at x.period x.student) (row_at y.period y.student)) x.exams) tallies
+        ∙ sum_by-same _ _
+        (λ y. turned_product y.exams
+        (row_pair cost (row_at x.period x.student) (row_at y.period y.student)) x.exams)
+        tallies
 
 -- the tallies of a timetable's sittings count the rows of its pairs
-pub tallied_rows : (E : Enrolled) (t : Placing) (sittings : List Sitting) (tallies : List Tally) → length t ≡ length E
-    → ((g : ℕ → ℕ → ℕ) → sum_by (λ x. g x.exam x.period) sittings ≡ sum_below (length t) (λ e. if_placed (g e) (period_of t e)))
+pub tallied_rows : (E : Enrolled) (t : Placing) (sittings : List Sitting) (tallies : List Tally)
+    → length t ≡ length E
+    → ((g : ℕ → ℕ → ℕ) → sum_by (λ x. g x.exam x.period) sittings
+    ≡ sum_below (length t) (λ e. if_placed (g e) (period_of t e)))
     → AreCounted E sittings tallies
     → (f : Row → ℕ) → sum_by f (filter_map (row_of t) (pairs_of E)) ≡ sum_by (tally_sum f) tallies
 tallied_rows E t sittings tallies long all counted f =
     rows_by_exam f E t
-    ∙ ap (λ n. sum_below n (λ e. if_placed (λ p. sum_by (λ s. f (row_at p s)) (students E e)) (period_of t e))) (sym long)
+    ∙ ap (λ n. sum_below n
+    (λ e. if_placed (λ p. sum_by (λ s. f (row_at p s)) (students E e)) (period_of t e)))
+    (sym long)
     ∙ sym (all (λ e p. sum_by (λ s. f (row_at p s)) (students E e)))
     ∙ counted f
 
@@ -120,7 +155,8 @@ sum_ones : {X : Type 0} (xs : List X) → sum_by (λ x. 1) xs ≡ length xs
 sum_ones {X} [] = refl
 sum_ones {X} (x ∷ xs) = omega (arith, sum_by-cons (λ (x : X). 1) x xs, sum_ones xs)
 
-few_rows : (E : Enrolled) (t : Placing) → AreEnrolments E → length (filter_map (row_of t) (pairs_of E)) ≤ 200000
+few_rows : (E : Enrolled) (t : Placing) → AreEnrolments E
+    → length (filter_map (row_of t) (pairs_of E)) ≤ 200000
 few_rows E t known =
     let few = rows_few t (pairs_of E) in
     let is = (are_pairs E known).count in
@@ -128,22 +164,28 @@ few_rows E t known =
     omega arith
 
 -- no more students sit the sittings than there are pairs
-pub few_seats : (E : Enrolled) (t : Placing) (sittings : List Sitting) → AreEnrolments E → length t ≡ length E
-    → ((g : ℕ → ℕ → ℕ) → sum_by (λ x. g x.exam x.period) sittings ≡ sum_below (length t) (λ e. if_placed (g e) (period_of t e)))
+pub few_seats : (E : Enrolled) (t : Placing) (sittings : List Sitting) → AreEnrolments E
+    → length t ≡ length E
+    → ((g : ℕ → ℕ → ℕ) → sum_by (λ x. g x.exam x.period) sittings
+    ≡ sum_below (length t) (λ e. if_placed (g e) (period_of t e)))
     → sum_by (λ x. size_of E x.exam) sittings ≤ 200000
 few_seats E t sittings known long all =
-    let sizes : sum_by (λ x. size_of E x.exam) sittings ≡ sum_by (λ x. sum_by (λ s. 1) (students E x.exam)) sittings
+    let sizes : sum_by (λ x. size_of E x.exam) sittings
+    ≡ sum_by (λ x. sum_by (λ s. 1) (students E x.exam)) sittings
     = sum_by-same _ _ (λ (x : Sitting). sym (sum_ones (students E x.exam))) sittings in
-    let rows : sum_by (λ x. sum_by (λ s. 1) (students E x.exam)) sittings ≡ length (filter_map (row_of t) (pairs_of E))
+    let rows : sum_by (λ x. sum_by (λ s. 1) (students E x.exam)) sittings
+    ≡ length (filter_map (row_of t) (pairs_of E))
     = all (λ e p. sum_by (λ s. 1) (students E e))
-    ∙ ap (λ n. sum_below n (λ e. if_placed (λ p. sum_by (λ s. 1) (students E e)) (period_of t e))) long
+    ∙ ap (λ n. sum_below n (λ e. if_placed (λ p. sum_by (λ s. 1) (students E e)) (period_of t e)))
+    long
     ∙ sym (rows_by_exam (λ r. 1) E t) ∙ sum_ones (filter_map (row_of t) (pairs_of E)) in
     let few = few_rows E t known in
     omega arith
 
 -- nor do tallies count more rows
 pub few_tallied : (E : Enrolled) (t : Placing) (tallies : List Tally) → AreEnrolments E
-    → ((f : Row → ℕ) → sum_by f (filter_map (row_of t) (pairs_of E)) ≡ sum_by (tally_sum f) tallies) → row_count tallies ≤ 200000
+    → ((f : Row → ℕ) → sum_by f (filter_map (row_of t) (pairs_of E)) ≡ sum_by (tally_sum f) tallies)
+    → row_count tallies ≤ 200000
 few_tallied E t tallies known counted =
     let rows = sum_ones (filter_map (row_of t) (pairs_of E)) in
     let same = counted (λ r. 1) in
@@ -164,12 +206,14 @@ pub record IsPart (cost : ℕ → ℕ → ℕ) (E : Enrolled) (t : Placing) (n :
   pub sum : n ≡ pair_part cost E (period_of t)
   pub small : n ≤ 4000000000000000
 
-pub is_part : (cost : ℕ → ℕ → ℕ) (E : Enrolled) (t : Placing) (n : ℕ) (tallies : List Tally) → AreEnrolments E
+pub is_part : (cost : ℕ → ℕ → ℕ) (E : Enrolled) (t : Placing) (n : ℕ) (tallies : List Tally)
+    → AreEnrolments E
     → ((p q : ℕ) → cost p q ≡ cost q p) → ((p : ℕ) → cost p p ≡ 0) → ((p q : ℕ) → cost p q ≤ 100000)
     → ((f : Row → ℕ) → sum_by f (filter_map (row_of t) (pairs_of E)) ≡ sum_by (tally_sum f) tallies)
     → n ≡ tally_cost cost tallies → IsPart cost E t n
 is_part cost E t n tallies known either nothing small counted is =
     let rows : List Row = filter_map (row_of t) (pairs_of E) in
-    let total : n ≡ cost_with cost rows = is ∙ tallied_cost cost rows tallies either nothing counted in
+    let total : n ≡ cost_with cost rows =
+    is ∙ tallied_cost cost rows tallies either nothing counted in
     let bound = cost_with-small cost rows small (few_rows E t known) in
     record { sum = total ∙ part_of_rows cost E t known; small = omega arith }

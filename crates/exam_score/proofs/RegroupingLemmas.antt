@@ -45,43 +45,56 @@ other_pair s e p q before is =
     let own_student = eqb-true p.student s parts.0 in
     let own_exam = eqb-true p.exam e parts.1 in
     let P : Type 0 = is_pair s e q ≡ false in
-    elim before as (λ _. is_pair s e q ≡ false) [ inl less ↦ grind (arith, nat_tests) | inr same ↦ grind (arith, nat_tests) ]
+    elim before as (λ _. is_pair s e q ≡ false)
+    [ inl less ↦ grind (arith, nat_tests) | inr same ↦ grind (arith, nat_tests) ]
 
 -- one pair of exams: its shared students, as pairs of pairs
 shared_as_pairs : (w : ℕ) (pairs : List Pair) (e f : ℕ) → IsChain ComesBefore pairs
-    → shared_in pairs e f * w ≡ sum_by (λ p. sum_by (λ q. cond (eqb p.exam e) (cond (is_pair p.student f q) w 0) 0) pairs) pairs
+    → shared_in pairs e f * w
+    ≡ sum_by (λ p. sum_by (λ q. cond (eqb p.exam e) (cond (is_pair p.student f q) w 0) 0) pairs)
+    pairs
 shared_as_pairs w pairs e f order =
-    sym (sum_by-times (λ p. cond (eqb p.exam e && list_any (is_pair p.student f) pairs) 1 0) w pairs)
+    sym (sum_by-times
+    (λ p. cond (eqb p.exam e && list_any (is_pair p.student f) pairs) 1 0) w pairs)
     ∙ sum_by-same _ _ (λ p.
     cond_and (eqb p.exam e) (list_any (is_pair p.student f) pairs) w
-    ∙ ap (λ n. cond (eqb p.exam e) n 0) (sum_by-once (is_pair p.student f) w pairs (chain_weaker ComesBefore _ (λ a b. other_pair p.student f a b) pairs order))
+    ∙ ap (λ n. cond (eqb p.exam e) n 0)
+    (sum_by-once (is_pair p.student f) w pairs
+    (chain_weaker ComesBefore _ (λ a b. other_pair p.student f a b) pairs order))
     ∙ cond-sum_by (eqb p.exam e) (λ q. cond (is_pair p.student f q) w 0) pairs) pairs
 
 no_cost : (c : Bool) → ◌≡◌ {A = ℕ} (cond c 0 0) 0
 no_cost c = elim c as (λ c. ◌≡◌ {A = ℕ} (cond c 0 0) 0) [ true ↦ refl | false ↦ refl ]
 
-turn_tests : (a b c : Bool) (n : ℕ) → cond c (cond (a && b) n 0) 0 ≡ cond b (cond c (cond a n 0) 0) 0
+turn_tests : (a b c : Bool) (n : ℕ) → cond c (cond (a && b) n 0) 0
+    ≡ cond b (cond c (cond a n 0) 0) 0
 turn_tests a b c n =
     elim a as (λ a. cond c (cond (a && b) n 0) 0 ≡ cond b (cond c (cond a n 0) 0) 0) [
-      | true ↦ elim b as (λ b. cond c (cond b n 0) 0 ≡ cond b (cond c n 0) 0) [ true ↦ refl | false ↦ no_cost c ]
-      | false ↦ elim b as (λ b. ◌≡◌ {A = ℕ} (cond c 0 0) (cond b (cond c 0 0) 0)) [ true ↦ refl | false ↦ no_cost c ]
+      | true ↦ elim b as (λ b. cond c (cond b n 0) 0 ≡ cond b (cond c n 0) 0)
+          [ true ↦ refl | false ↦ no_cost c ]
+      | false ↦ elim b as (λ b. ◌≡◌ {A = ℕ} (cond c 0 0) (cond b (cond c 0 0) 0))
+          [ true ↦ refl | false ↦ no_cost c ]
     ]
 
 -- two pairs: the one pair of exams that they are of
 one_term : (w : ℕ → ℕ → ℕ) (n : ℕ) (p q : Pair) → q.exam < n
-    → sum_pairs_below n (λ e f. cond (eqb p.exam e) (cond (is_pair p.student f q) (w e f) 0) 0) ≡ pair_cost w p q
+    → sum_pairs_below n (λ e f. cond (eqb p.exam e) (cond (is_pair p.student f q) (w e f) 0) 0)
+    ≡ pair_cost w p q
 one_term w n p q within =
     sum_below-same _ _ (λ f.
     sum_below-at (λ e. cond (is_pair p.student f q) (w e f) 0) p.exam f
     ∙ turn_tests (eqb q.student p.student) (eqb q.exam f) (ltb p.exam f) (w p.exam f)) n
-    ∙ sum_below-at (λ f. cond (ltb p.exam f) (cond (eqb q.student p.student) (w p.exam f) 0) 0) q.exam n
+    ∙ sum_below-at
+    (λ f. cond (ltb p.exam f) (cond (eqb q.student p.student) (w p.exam f) 0) 0) q.exam n
     ∙ cond-true (ltb q.exam n) (pair_cost w p q) 0 (lt-ltb q.exam n within)
 
 -- over all pairs of exams, and over all pairs of pairs
 pub by_pairs : (w : ℕ → ℕ → ℕ) (n : ℕ) (pairs : List Pair) → AreOrdered n pairs
-    → sum_pairs_below n (λ e f. shared_in pairs e f * w e f) ≡ sum_by (λ p. sum_by (λ q. pair_cost w p q) pairs) pairs
+    → sum_pairs_below n (λ e f. shared_in pairs e f * w e f)
+    ≡ sum_by (λ p. sum_by (λ q. pair_cost w p q) pairs) pairs
 by_pairs w n pairs h =
-    let term : ℕ → ℕ → Pair → Pair → ℕ = λ e f p q. cond (eqb p.exam e) (cond (is_pair p.student f q) (w e f) 0) 0 in
+    let term : ℕ → ℕ → Pair → Pair → ℕ =
+    λ e f p q. cond (eqb p.exam e) (cond (is_pair p.student f q) (w e f) 0) 0 in
     sum_below-same _ _ (λ f.
     sum_below-same _ _ (λ e. shared_as_pairs (w e f) pairs e f h.in_order) f
     ∙ sum_below-turned (λ e p. sum_by (term e f p) pairs) f pairs
@@ -89,16 +102,21 @@ by_pairs w n pairs h =
     ∙ sum_below-turned (λ f p. sum_by (λ q. sum_below f (λ e. term e f p q)) pairs) n pairs
     ∙ sum_by-same _ _ (λ p.
     sum_below-turned (λ f q. sum_below f (λ e. term e f p q)) n pairs
-    ∙ sum_by-agree _ _ pairs (each_weaker (λ q. q.exam < n) _ (λ q within. one_term w n p q within) pairs h.exist)) pairs
+    ∙ sum_by-agree _ _ pairs
+    (each_weaker (λ q. q.exam < n) _ (λ q within. one_term w n p q within) pairs h.exist))
+    pairs
 
 pub no_self : (w : ℕ → ℕ → ℕ) (p : Pair) → pair_cost w p p ≡ 0
 no_self w p = cond-false (ltb p.exam p.exam) _ 0 (le-ltb p.exam p.exam (omega arith))
 
 pub no_back : (w : ℕ → ℕ → ℕ) (p q : Pair) → ComesBefore p q → pair_cost w q p ≡ 0
 no_back w p q before =
-    cond-false (ltb q.exam p.exam) _ 0 (le-ltb q.exam p.exam (elim before as (λ _. p.exam ≤ q.exam) [ inl less ↦ omega arith | inr same ↦ omega (arith, same.0) ]))
+    cond-false (ltb q.exam p.exam) _ 0
+    (le-ltb q.exam p.exam (elim before as (λ _. p.exam ≤ q.exam)
+    [ inl less ↦ omega arith | inr same ↦ omega (arith, same.0) ]))
 
-pub in_order_cost : (w : ℕ → ℕ → ℕ) (p q : Pair) → ComesBefore p q → pair_cost w p q ≡ later_cost w p q
+pub in_order_cost : (w : ℕ → ℕ → ℕ) (p q : Pair) → ComesBefore p q
+    → pair_cost w p q ≡ later_cost w p q
 in_order_cost w p q before =
     elim before as (λ _. pair_cost w p q ≡ later_cost w p q)
     [ inl less ↦ cond-true (ltb p.exam q.exam) _ 0 (lt-ltb p.exam q.exam less) | inr same ↦ grind (arith, nat_tests) ]
@@ -108,72 +126,100 @@ pub by_rows : (w : ℕ → ℕ → ℕ) (n : ℕ) (pairs : List Pair) → AreOrd
     → sum_pairs_below n (λ e f. shared_in pairs e f * w e f) ≡ sum_pairs (later_cost w) pairs
 by_rows w n pairs h =
     by_pairs w n pairs h
-    ∙ sum_pairs-square (pair_cost w) (no_self w) pairs (chain_weaker ComesBefore _ (no_back w) pairs h.in_order)
-    ∙ sum_pairs-agree (pair_cost w) (later_cost w) pairs (chain_weaker ComesBefore _ (in_order_cost w) pairs h.in_order)
+    ∙ sum_pairs-square (pair_cost w) (no_self w) pairs
+    (chain_weaker ComesBefore _ (no_back w) pairs h.in_order)
+    ∙ sum_pairs-agree (pair_cost w) (later_cost w) pairs
+    (chain_weaker ComesBefore _ (in_order_cost w) pairs h.in_order)
 
 -- ---- over the students
 
 same_test : (x s : ℕ) (K : ℕ → ℕ) → cond (eqb x s) (K s) 0 ≡ cond (eqb s x) (K x) 0
 same_test x s K =
-    let k : (a b k m : ℕ) → (a ≡ b → k ≡ m) → cond (eqb a b) m 0 ≡ cond (eqb b a) k 0 = λ a b k m e. grind (arith, nat_tests) in
+    let k : (a b k m : ℕ) → (a ≡ b → k ≡ m) → cond (eqb a b) m 0 ≡ cond (eqb b a) k 0 =
+    λ a b k m e. grind (arith, nat_tests) in
     k x s (K x) (K s) (λ e. ap K e)
 
 other_number : (x s t : ℕ) → s ≢ t → eqb s x ≡ true → eqb t x ≡ false
 other_number x s t ne e = grind (arith, nat_tests)
 
 -- one student's term
-sum_by-at : (x : ℕ) (K : ℕ → ℕ) (students : List ℕ) → IsChain (λ s t. s ≢ t) students → list_any (λ s. eqb s x) students ≡ true → sum_by (λ s. cond (eqb x s) (K s) 0) students ≡ K x
+sum_by-at : (x : ℕ) (K : ℕ → ℕ) (students : List ℕ) → IsChain (λ s t. s ≢ t) students
+    → list_any (λ s. eqb s x) students ≡ true → sum_by (λ s. cond (eqb x s) (K s) 0) students ≡ K x
 sum_by-at x K students once there =
     sum_by-same _ _ (λ s. same_test x s K) students
-    ∙ sym (sum_by-once (λ s. eqb s x) (K x) students (chain_weaker (λ s t. s ≢ t) _ (other_number x) students once))
+    ∙ sym (sum_by-once (λ s. eqb s x) (K x) students
+    (chain_weaker (λ s t. s ≢ t) _ (other_number x) students once))
     ∙ cond-true (list_any (λ s. eqb s x) students) (K x) 0 there
 
-pub sum_by-exams_of : (k : ℕ → ℕ) (pairs : List Pair) (s : ℕ) → sum_by k (exams_of pairs s) ≡ sum_by (λ q. cond (eqb q.student s) (k q.exam) 0) pairs
+pub sum_by-exams_of : (k : ℕ → ℕ) (pairs : List Pair) (s : ℕ)
+    → sum_by k (exams_of pairs s) ≡ sum_by (λ q. cond (eqb q.student s) (k q.exam) 0) pairs
 sum_by-exams_of k [] s = refl
 sum_by-exams_of k (p ∷ ps) s =
-    (elim (eqb p.student s) as (λ b. sum_by k (map (λ (p : Pair). p.exam) (cond b (p ∷ filter (λ p. eqb p.student s) ps) (filter (λ p. eqb p.student s) ps))) ≡ cond b (k p.exam) 0 + sum_by k (exams_of ps s))
+    (elim (eqb p.student s)
+    as (λ b. sum_by k
+    (map (λ (p : Pair). p.exam)
+    (cond b (p ∷ filter (λ p. eqb p.student s) ps) (filter (λ p. eqb p.student s) ps)))
+    ≡ cond b (k p.exam) 0 + sum_by k (exams_of ps s))
     [ true ↦ sum_by-cons k p.exam (exams_of ps s) | false ↦ sym (zero-add _) ])
     ∙ ap (λ n. cond (eqb p.student s) (k p.exam) 0 + n) (sum_by-exams_of k ps s)
     ∙ sym (sum_by-cons (λ (q : Pair). cond (eqb q.student s) (k q.exam) 0) p ps)
 
 sum_pairs-exams_of : (w : ℕ → ℕ → ℕ) (p : Pair) (ps : List Pair) (s : ℕ)
-    → sum_pairs w (exams_of (p ∷ ps) s) ≡ cond (eqb p.student s) (sum_by (w p.exam) (exams_of ps s)) 0 + sum_pairs w (exams_of ps s)
+    → sum_pairs w (exams_of (p ∷ ps) s)
+    ≡ cond (eqb p.student s) (sum_by (w p.exam) (exams_of ps s)) 0 + sum_pairs w (exams_of ps s)
 sum_pairs-exams_of w p ps s =
-    elim (eqb p.student s) as (λ b. sum_pairs w (map (λ (p : Pair). p.exam) (cond b (p ∷ filter (λ p. eqb p.student s) ps) (filter (λ p. eqb p.student s) ps))) ≡ cond b (sum_by (w p.exam) (exams_of ps s)) 0 + sum_pairs w (exams_of ps s))
+    elim (eqb p.student s)
+    as (λ b. sum_pairs w
+    (map (λ (p : Pair). p.exam)
+    (cond b (p ∷ filter (λ p. eqb p.student s) ps) (filter (λ p. eqb p.student s) ps)))
+    ≡ cond b (sum_by (w p.exam) (exams_of ps s)) 0 + sum_pairs w (exams_of ps s))
     [ true ↦ refl | false ↦ sym (zero-add _) ]
 
 -- over the pairs of a list, and over the students
-pub by_students : (w : ℕ → ℕ → ℕ) (pairs : List Pair) (students : List ℕ) → AreStudents pairs students
+pub by_students : (w : ℕ → ℕ → ℕ) (pairs : List Pair) (students : List ℕ)
+    → AreStudents pairs students
     → sum_pairs (later_cost w) pairs ≡ sum_by (λ s. sum_pairs w (exams_of pairs s)) students
 by_students w [] students h = sym (sum_by-zeros students)
 by_students w (p ∷ ps) students h =
     let more = by_students w ps students (record { once = h.once; all = h.all.1 }) in
     let split = sum_by-same _ _ (sum_pairs-exams_of w p ps) students
-    ∙ sum_by-add (λ s. cond (eqb p.student s) (sum_by (w p.exam) (exams_of ps s)) 0) (λ s. sum_pairs w (exams_of ps s)) students in
+    ∙ sum_by-add (λ s. cond (eqb p.student s) (sum_by (w p.exam) (exams_of ps s)) 0)
+    (λ s. sum_pairs w (exams_of ps s)) students in
     let own = sum_by-at p.student (λ s. sum_by (w p.exam) (exams_of ps s)) students h.once h.all.0
     ∙ sum_by-exams_of (w p.exam) ps p.student in
     omega arith
 
 -- ---- placed exams
 
-sum_by-placed : (cost : ℕ → ℕ → ℕ) (p : ℕ) (at : ℕ → Option ℕ) (es : List ℕ) → sum_by (λ f. cost_between cost (Some p) (at f)) es ≡ sum_by (cost p) (filter_map at es)
+sum_by-placed : (cost : ℕ → ℕ → ℕ) (p : ℕ) (at : ℕ → Option ℕ) (es : List ℕ)
+    → sum_by (λ f. cost_between cost (Some p) (at f)) es ≡ sum_by (cost p) (filter_map at es)
 sum_by-placed cost p at [] = refl
 sum_by-placed cost p at (e ∷ es) =
     sum_by-cons (λ f. cost_between cost (Some p) (at f)) e es
     ∙ ap (λ n. cost_between cost (Some p) (at e) + n) (sum_by-placed cost p at es)
-    ∙ (elim (at e) as (λ o. cost_between cost (Some p) o + sum_by (cost p) (filter_map at es) ≡ sum_by (cost p) (cons_option o (filter_map at es)))
+    ∙ (elim (at e)
+    as (λ o. cost_between cost (Some p) o + sum_by (cost p) (filter_map at es)
+    ≡ sum_by (cost p) (cons_option o (filter_map at es)))
     [ None ↦ zero-add _ | Some q ↦ sym (sum_by-cons (cost p) q (filter_map at es)) ])
 
-pub sum_pairs-placed : (cost : ℕ → ℕ → ℕ) (at : ℕ → Option ℕ) (es : List ℕ) → sum_pairs (λ e f. cost_between cost (at e) (at f)) es ≡ sum_pairs cost (filter_map at es)
+pub sum_pairs-placed : (cost : ℕ → ℕ → ℕ) (at : ℕ → Option ℕ) (es : List ℕ)
+    → sum_pairs (λ e f. cost_between cost (at e) (at f)) es ≡ sum_pairs cost (filter_map at es)
 sum_pairs-placed cost at [] = refl
 sum_pairs-placed cost at (e ∷ es) =
     ap (λ n. sum_by (λ f. cost_between cost (at e) (at f)) es + n) (sum_pairs-placed cost at es)
-    ∙ (elim (at e) as (λ o. sum_by (λ f. cost_between cost o (at f)) es + sum_pairs cost (filter_map at es) ≡ sum_pairs cost (cons_option o (filter_map at es))) [
+    ∙ (elim (at e)
+    as (λ o. sum_by (λ f. cost_between cost o (at f)) es + sum_pairs cost (filter_map at es)
+    ≡ sum_pairs cost (cons_option o (filter_map at es))) [
       | None ↦ ap (λ n. n + sum_pairs cost (filter_map at es)) (sum_by-zeros es) ∙ zero-add _
       | Some p ↦ ap (λ n. n + sum_pairs cost (filter_map at es)) (sum_by-placed cost p at es)
     ])
 
-pub regrouped : (cost : ℕ → ℕ → ℕ) (exams : ℕ) (pairs : List Pair) (at : ℕ → Option ℕ) (students : List ℕ) → AreOrdered exams pairs → AreStudents pairs students → sum_pairs_below exams (λ e f. shared_in pairs e f * cost_between cost (at e) (at f)) ≡ sum_by (λ s. candidate_cost cost (periods_of pairs at s)) students
+pub regrouped : (cost : ℕ → ℕ → ℕ) (exams : ℕ) (pairs : List Pair) (at : ℕ → Option ℕ)
+    (students : List ℕ)
+    → AreOrdered exams pairs
+    → AreStudents pairs students
+    → sum_pairs_below exams (λ e f. shared_in pairs e f * cost_between cost (at e) (at f))
+    ≡ sum_by (λ s. candidate_cost cost (periods_of pairs at s)) students
 regrouped cost exams pairs at students h k =
     by_rows (λ e f. cost_between cost (at e) (at f)) exams pairs h
     ∙ by_students (λ e f. cost_between cost (at e) (at f)) pairs students k
@@ -181,14 +227,19 @@ regrouped cost exams pairs at students h k =
 
 -- ---- enrolments as their list of pairs
 
-at_within : (n f : ℕ) (xs : List ℕ) (later : List Pair) → f < n → AllByRecursion (λ p. p.exam < n) later → AllByRecursion (λ p. p.exam < n) (pairs_at f xs ++ later)
+at_within : (n f : ℕ) (xs : List ℕ) (later : List Pair) → f < n
+    → AllByRecursion (λ p. p.exam < n) later
+    → AllByRecursion (λ p. p.exam < n) (pairs_at f xs ++ later)
 at_within n f [] later lt h = h
 at_within n f (x ∷ xs) later lt h = (lt, at_within n f xs later lt h)
 
 -- each exam is one of those that are there
-from_within : (n f : ℕ) (E : Enrolled) → f + length E ≤ n → AllByRecursion (λ p. p.exam < n) (pairs_from f E)
+from_within : (n f : ℕ) (E : Enrolled) → f + length E ≤ n
+    → AllByRecursion (λ p. p.exam < n) (pairs_from f E)
 from_within n f [] h = tt
-from_within n f (xs ∷ rest) h = at_within n f xs (pairs_from (f + 1) rest) (omega arith) (from_within n (f + 1) rest (omega arith))
+from_within n f (xs ∷ rest) h =
+    at_within n f xs (pairs_from (f + 1) rest) (omega arith)
+    (from_within n (f + 1) rest (omega arith))
 
 pub are_ordered : (E : Enrolled) → ArePairsOf E (pairs_of E) → AreOrdered (length E) (pairs_of E)
 are_ordered E is = record {
@@ -196,20 +247,28 @@ are_ordered E is = record {
   exist = from_within (length E) 0 E (omega arith);
 }
 
-pub shared_pairs : (E : Enrolled) → ArePairsOf E (pairs_of E) → (e f : ℕ) → shared_in (pairs_of E) e f ≡ shared E e f
-shared_pairs E is e f = (λ i. count_by (λ p. (p.exam == e) && is.members p.student f i) (pairs_of E)) ∙ is.sharing e f
+pub shared_pairs : (E : Enrolled) → ArePairsOf E (pairs_of E) → (e f : ℕ)
+    → shared_in (pairs_of E) e f ≡ shared E e f
+shared_pairs E is e f =
+    (λ i. count_by (λ p. (p.exam == e) && is.members p.student f i) (pairs_of E)) ∙ is.sharing e f
 
 -- over all pairs of exams, and over the pairs in order
 pub part_by_rows : (cost : ℕ → ℕ → ℕ) (E : Enrolled) (at : ℕ → Option ℕ) → ArePairsOf E (pairs_of E)
-    → pair_part cost E at ≡ sum_pairs (later_cost (λ e f. cost_between cost (at e) (at f))) (pairs_of E)
+    → pair_part cost E at ≡ sum_pairs
+    (later_cost (λ e f. cost_between cost (at e) (at f))) (pairs_of E)
 part_by_rows cost E at is =
-    (λ i. sum_pairs_below (length E) (λ e f. sym (shared_pairs E is e f) i * cost_between cost (at e) (at f)))
+    (λ i. sum_pairs_below (length E)
+    (λ e f. sym (shared_pairs E is e f) i * cost_between cost (at e) (at f)))
     ∙ by_rows (λ e f. cost_between cost (at e) (at f)) (length E) (pairs_of E) (are_ordered E is)
 
 -- over all pairs of exams, and over the students
-pub regrouped_by_students : (cost : ℕ → ℕ → ℕ) (E : Enrolled) (at : ℕ → Option ℕ) (students : List ℕ) → ArePairsOf E (pairs_of E) → AreStudentsOf E students
-    → pair_part cost E at ≡ sum_by (λ s. candidate_cost cost (periods_of (pairs_of E) at s)) students
+pub regrouped_by_students : (cost : ℕ → ℕ → ℕ) (E : Enrolled) (at : ℕ → Option ℕ)
+    (students : List ℕ)
+    → ArePairsOf E (pairs_of E) → AreStudentsOf E students
+    → pair_part cost E at ≡ sum_by
+    (λ s. candidate_cost cost (periods_of (pairs_of E) at s)) students
 regrouped_by_students cost E at students is k =
-    (λ i. sum_pairs_below (length E) (λ e f. sym (shared_pairs E is e f) i * cost_between cost (at e) (at f)))
+    (λ i. sum_pairs_below (length E)
+    (λ e f. sym (shared_pairs E is e f) i * cost_between cost (at e) (at f)))
     ∙ regrouped cost (length E) (pairs_of E) at students (are_ordered E is)
     (record { once = chain_from_index _ students k.once; all = recursion_from_All _ (pairs_of E) k.all })

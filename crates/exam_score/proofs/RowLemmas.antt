@@ -9,49 +9,66 @@ use Rattle.exam_model.specs.Timetable.{Placing}
 use Rattle.exam_model.specs.Fits.{period_of}
 use Rattle.exam_score.specs.Rows.{row_of, row_at}
 
-pairs_from-push : (k : ℕ) (E : Enrolled) (xs : List ℕ) → pairs_from k (E ++ xs ∷ []) ≡ pairs_from k E ++ pairs_at (k + length E) xs
+pairs_from-push : (k : ℕ) (E : Enrolled) (xs : List ℕ)
+    → pairs_from k (E ++ xs ∷ []) ≡ pairs_from k E ++ pairs_at (k + length E) xs
 pairs_from-push k [] xs = append-nil (pairs_at k xs) ∙ ap (λ n. pairs_at n xs) (omega arith)
 pairs_from-push k (ys ∷ E) xs =
-    ap (λ ps. pairs_at k ys ++ ps) (pairs_from-push (k + 1) E xs ∙ ap (λ n. pairs_from (k + 1) E ++ pairs_at n xs) (omega arith))
+    ap (λ ps. pairs_at k ys ++ ps)
+    (pairs_from-push (k + 1) E xs
+    ∙ ap (λ n. pairs_from (k + 1) E ++ pairs_at n xs) (omega arith))
     ∙ sym (append_assoc (pairs_at k ys) (pairs_from (k + 1) E) (pairs_at (k + length (ys ∷ E)) xs))
 
-pub pairs_more : (E : Enrolled) (e : ℕ) → e < length E → pairs_of (take (e + 1) E) ≡ pairs_of (take e E) ++ pairs_at e (students E e)
+pub pairs_more : (E : Enrolled) (e : ℕ) → e < length E
+    → pairs_of (take (e + 1) E) ≡ pairs_of (take e E) ++ pairs_at e (students E e)
 pairs_more E e lt =
     ap (pairs_from 0) (take_more E e [] lt) ∙ pairs_from-push 0 (take e E) (students E e)
-    ∙ ap (λ n. pairs_of (take e E) ++ pairs_at n (students E e)) (let l = length-take e E in omega arith)
+    ∙ ap (λ n. pairs_of (take e E) ++ pairs_at n (students E e))
+    (let l = length-take e E in omega arith)
 
-rows_at_some : (t : Placing) (e p : ℕ) → period_of t e ≡ Some p → (xs : List ℕ) → filter_map (row_of t) (pairs_at e xs) ≡ map (row_at p) xs
+rows_at_some : (t : Placing) (e p : ℕ) → period_of t e ≡ Some p → (xs : List ℕ)
+    → filter_map (row_of t) (pairs_at e xs) ≡ map (row_at p) xs
 rows_at_some t e p is [] = refl
 rows_at_some t e p is (x ∷ xs) =
-    ap (λ o. cons_option (option_map (λ period. row_at period x) o) (filter_map (row_of t) (pairs_at e xs))) is
+    ap (λ o. cons_option (option_map (λ period. row_at period x) o)
+    (filter_map (row_of t) (pairs_at e xs)))
+    is
     ∙ ap (λ rows. row_at p x ∷ rows) (rows_at_some t e p is xs)
 
-rows_at_none : (t : Placing) (e : ℕ) → period_of t e ≡ None → (xs : List ℕ) → filter_map (row_of t) (pairs_at e xs) ≡ []
+rows_at_none : (t : Placing) (e : ℕ) → period_of t e ≡ None → (xs : List ℕ)
+    → filter_map (row_of t) (pairs_at e xs) ≡ []
 rows_at_none t e is [] = refl
 rows_at_none t e is (x ∷ xs) =
-    ap (λ o. cons_option (option_map (λ period. row_at period x) o) (filter_map (row_of t) (pairs_at e xs))) is
+    ap (λ o. cons_option (option_map (λ period. row_at period x) o)
+    (filter_map (row_of t) (pairs_at e xs)))
+    is
     ∙ rows_at_none t e is xs
 
 -- the rows of a placed exam come behind those before it
 pub rows_more_some : (E : Enrolled) (t : Placing) (e p : ℕ) → e < length E → period_of t e ≡ Some p
-    → filter_map (row_of t) (pairs_of (take (e + 1) E)) ≡ filter_map (row_of t) (pairs_of (take e E)) ++ map (row_at p) (students E e)
+    → filter_map (row_of t) (pairs_of (take (e + 1) E))
+    ≡ filter_map (row_of t) (pairs_of (take e E)) ++ map (row_at p) (students E e)
 rows_more_some E t e p lt is =
     ap (filter_map (row_of t)) (pairs_more E e lt)
     ∙ filter_map-append (row_of t) (pairs_of (take e E)) (pairs_at e (students E e))
-    ∙ ap (λ rows. filter_map (row_of t) (pairs_of (take e E)) ++ rows) (rows_at_some t e p is (students E e))
+    ∙ ap (λ rows. filter_map (row_of t) (pairs_of (take e E)) ++ rows)
+    (rows_at_some t e p is (students E e))
 
 -- an exam that is not placed has none
 pub rows_more_none : (E : Enrolled) (t : Placing) (e : ℕ) → e < length E → period_of t e ≡ None
-    → filter_map (row_of t) (pairs_of (take (e + 1) E)) ≡ filter_map (row_of t) (pairs_of (take e E))
+    → filter_map (row_of t) (pairs_of (take (e + 1) E))
+    ≡ filter_map (row_of t) (pairs_of (take e E))
 rows_more_none E t e lt is =
     ap (filter_map (row_of t)) (pairs_more E e lt)
     ∙ filter_map-append (row_of t) (pairs_of (take e E)) (pairs_at e (students E e))
-    ∙ ap (λ rows. filter_map (row_of t) (pairs_of (take e E)) ++ rows) (rows_at_none t e is (students E e))
+    ∙ ap (λ rows. filter_map (row_of t) (pairs_of (take e E)) ++ rows)
+    (rows_at_none t e is (students E e))
     ∙ append-nil (filter_map (row_of t) (pairs_of (take e E)))
 
 -- no more rows than pairs
-pub rows_few : (t : Placing) (pairs : List Pair) → length (filter_map (row_of t) pairs) ≤ length pairs
+pub rows_few : (t : Placing) (pairs : List Pair)
+    → length (filter_map (row_of t) pairs) ≤ length pairs
 rows_few t [] = omega arith
 rows_few t (p ∷ ps) =
     let h = rows_few t ps in
-    elim (row_of t p) as (λ o. length (cons_option o (filter_map (row_of t) ps)) ≤ length (p ∷ ps)) [ None ↦ omega arith | Some r ↦ omega arith ]
+    elim (row_of t p) as (λ o. length (cons_option o (filter_map (row_of t) ps)) ≤ length (p ∷ ps))
+    [ None ↦ omega arith | Some r ↦ omega arith ]

@@ -20,19 +20,24 @@ use Rattle.exam_score.proofs.RowLemmas.{rows_more_some, rows_more_none}
 
 -- ---- one exam more
 
-pub sittings_more_some : (g : ℕ → ℕ → ℕ) (t : Placing) (e p : ℕ) (xs : List Sitting) → period_of t e ≡ Some p
+pub sittings_more_some : (g : ℕ → ℕ → ℕ) (t : Placing) (e p : ℕ) (xs : List Sitting)
+    → period_of t e ≡ Some p
     → sum_by (λ x. g x.exam x.period) xs ≡ sum_below e (λ e. if_placed (g e) (period_of t e))
-    → sum_by (λ x. g x.exam x.period) (xs ++ record { period = p; exam = e } ∷ []) ≡ sum_below (e + 1) (λ e. if_placed (g e) (period_of t e))
+    → sum_by (λ x. g x.exam x.period) (xs ++ record { period = p; exam = e } ∷ [])
+    ≡ sum_below (e + 1) (λ e. if_placed (g e) (period_of t e))
 sittings_more_some g t e p xs is known =
     sum_by_push (λ x. g x.exam x.period) xs (record { period = p; exam = e })
     ∙ ap₂ (λ a b. a + b) known (ap (if_placed (g e)) (sym is))
     ∙ sym (sum_below_more (λ e. if_placed (g e) (period_of t e)) e)
 
-pub sittings_more_none : (g : ℕ → ℕ → ℕ) (t : Placing) (e : ℕ) (xs : List Sitting) → period_of t e ≡ None
+pub sittings_more_none : (g : ℕ → ℕ → ℕ) (t : Placing) (e : ℕ) (xs : List Sitting)
+    → period_of t e ≡ None
     → sum_by (λ x. g x.exam x.period) xs ≡ sum_below e (λ e. if_placed (g e) (period_of t e))
     → sum_by (λ x. g x.exam x.period) xs ≡ sum_below (e + 1) (λ e. if_placed (g e) (period_of t e))
 sittings_more_none g t e xs is known =
-    known ∙ sym (add-zero _) ∙ ap (λ n. sum_below e (λ e. if_placed (g e) (period_of t e)) + n) (ap (if_placed (g e)) (sym is))
+    known ∙ sym (add-zero _)
+    ∙ ap (λ n. sum_below e (λ e. if_placed (g e) (period_of t e)) + n)
+    (ap (if_placed (g e)) (sym is))
     ∙ sym (sum_below_more (λ e. if_placed (g e) (period_of t e)) e)
 
 -- ---- the order
@@ -41,17 +46,23 @@ abbrev pub sitting_cmp : Sitting → Sitting → Ordering
 sitting_cmp x y = ordering_then (nat_cmp x.period y.period) (nat_cmp x.exam y.exam)
 
 sitting_cmp_total : IsTotalOrder sitting_cmp
-sitting_cmp_total = then_total (on_total (λ (x : Sitting). x.period) nat_cmp_total) (on_total (λ (x : Sitting). x.exam) nat_cmp_total)
+sitting_cmp_total =
+    then_total (on_total (λ (x : Sitting). x.period) nat_cmp_total)
+    (on_total (λ (x : Sitting). x.exam) nat_cmp_total)
 
 not_less : (x y : Sitting) → is_lt (sitting_cmp y x) ≡ false → x.period ≤ y.period
-not_less x y h = elim (cases_lt y.period x.period) as (λ _. x.period ≤ y.period) [ inl less ↦ absurd (first x y h less) | inr more ↦ more ]
+not_less x y h = elim (cases_lt y.period x.period) as (λ _. x.period ≤ y.period)
+    [ inl less ↦ absurd (first x y h less) | inr more ↦ more ]
   where
     first : (x y : Sitting) → is_lt (sitting_cmp y x) ≡ false → y.period < x.period → ⊥
     first x y h less = grind (arith, nat_tests)
 
-pub sorted_sittings : (xs : List Sitting) → IsSorted sitting_cmp xs → AllPairs (λ x y. x.period ≤ y.period) xs
+pub sorted_sittings : (xs : List Sitting) → IsSorted sitting_cmp xs
+    → AllPairs (λ x y. x.period ≤ y.period) xs
 sorted_sittings xs h i j d l m =
-    not_less (get_or xs i d) (get_or xs j d) (sorted_far (λ x y. is_lt (sitting_cmp x y)) (ranks_by sitting_cmp_total (λ x. x)) xs h i j d (omega arith) m)
+    not_less (get_or xs i d) (get_or xs j d)
+    (sorted_far (λ x y. is_lt (sitting_cmp x y))
+    (ranks_by sitting_cmp_total (λ x. x)) xs h i j d (omega arith) m)
 
 -- ---- the rows of all exams
 
@@ -59,30 +70,42 @@ sorted_sittings xs h i j d l m =
 abbrev exam_sum : (Row → ℕ) → Enrolled → ℕ → ℕ → ℕ
 exam_sum f E e p = sum_by (λ s. f (row_at p s)) (students E e)
 
-mapped : (f : Row → ℕ) (p : ℕ) (xs : List ℕ) → sum_by f (map (row_at p) xs) ≡ sum_by (λ s. f (row_at p s)) xs
+mapped : (f : Row → ℕ) (p : ℕ) (xs : List ℕ)
+    → sum_by f (map (row_at p) xs) ≡ sum_by (λ s. f (row_at p s)) xs
 mapped f p [] = refl
-mapped f p (x ∷ xs) = sum_by-cons f (row_at p x) (map (row_at p) xs) ∙ ap (λ n. f (row_at p x) + n) (mapped f p xs) ∙ sym (sum_by-cons (λ s. f (row_at p s)) x xs)
+mapped f p (x ∷ xs) = sum_by-cons f (row_at p x) (map (row_at p) xs)
+    ∙ ap (λ n. f (row_at p x) + n) (mapped f p xs) ∙ sym (sum_by-cons (λ s. f (row_at p s)) x xs)
 
 rows_below : (f : Row → ℕ) (E : Enrolled) (t : Placing) (n : ℕ) → n ≤ length E
-    → sum_by f (filter_map (row_of t) (pairs_of (take n E))) ≡ sum_below n (λ e. if_placed (exam_sum f E e) (period_of t e))
+    → sum_by f (filter_map (row_of t) (pairs_of (take n E)))
+    ≡ sum_below n (λ e. if_placed (exam_sum f E e) (period_of t e))
 rows_below f E t zero le = refl
 rows_below f E t (suc n) le =
     ap (λ k. sum_by f (filter_map (row_of t) (pairs_of (take k E)))) (sym (add-one n))
     ∙ step (period_of t n) refl (rows_below f E t n (omega arith))
   where
     step : (o : Option ℕ) → period_of t n ≡ o
-        → sum_by f (filter_map (row_of t) (pairs_of (take n E))) ≡ sum_below n (λ e. if_placed (exam_sum f E e) (period_of t e))
-        → sum_by f (filter_map (row_of t) (pairs_of (take (n + 1) E))) ≡ sum_below n (λ e. if_placed (exam_sum f E e) (period_of t e)) + if_placed (exam_sum f E n) (period_of t n)
+        → sum_by f (filter_map (row_of t) (pairs_of (take n E)))
+        ≡ sum_below n (λ e. if_placed (exam_sum f E e) (period_of t e))
+        → sum_by f (filter_map (row_of t) (pairs_of (take (n + 1) E)))
+        ≡ sum_below n (λ e. if_placed (exam_sum f E e) (period_of t e))
+        + if_placed (exam_sum f E n) (period_of t n)
     step None is known =
         ap (sum_by f) (rows_more_none E t n (omega arith) is) ∙ known ∙ sym (add-zero _)
-        ∙ ap (λ m. sum_below n (λ e. if_placed (exam_sum f E e) (period_of t e)) + m) (ap (if_placed (exam_sum f E n)) (sym is))
+        ∙ ap (λ m. sum_below n (λ e. if_placed (exam_sum f E e) (period_of t e)) + m)
+        (ap (if_placed (exam_sum f E n)) (sym is))
     step (Some p) is known =
         ap (sum_by f) (rows_more_some E t n p (omega arith) is)
-        ∙ sum_by-append f (filter_map (row_of t) (pairs_of (take n E))) (map (row_at p) (students E n))
-        ∙ ap₂ (λ a b. a + b) known (mapped f p (students E n) ∙ ap (if_placed (exam_sum f E n)) (sym is))
+        ∙ sum_by-append f (filter_map (row_of t) (pairs_of (take n E)))
+        (map (row_at p) (students E n))
+        ∙ ap₂ (λ a b. a + b) known
+        (mapped f p (students E n) ∙ ap (if_placed (exam_sum f E n)) (sym is))
 
 pub rows_by_exam : (f : Row → ℕ) (E : Enrolled) (t : Placing)
-    → sum_by f (filter_map (row_of t) (pairs_of E)) ≡ sum_below (length E) (λ e. if_placed (λ p. sum_by (λ s. f (row_at p s)) (students E e)) (period_of t e))
+    → sum_by f (filter_map (row_of t) (pairs_of E))
+    ≡ sum_below (length E)
+    (λ e. if_placed (λ p. sum_by (λ s. f (row_at p s)) (students E e)) (period_of t e))
 rows_by_exam f E t =
-    ap (λ F. sum_by f (filter_map (row_of t) (pairs_of F))) (sym (take_all (length E) E (omega arith)))
+    ap (λ F. sum_by f (filter_map (row_of t) (pairs_of F)))
+    (sym (take_all (length E) E (omega arith)))
     ∙ rows_below f E t (length E) (omega arith)

@@ -13,30 +13,41 @@ use Rattle.exam_score.specs.declared.tallies.Tally.{Tally}
 -- ---- the last tally of a slot
 
 -- only the students matter
-last_same : (m : ℕ) (xs ys : List Tally) (slot n k : ℕ) → ((j : ℕ) (d : Tally) → j < k → (get_or xs j d).student ≡ (get_or ys j d).student)
+last_same : (m : ℕ) (xs ys : List Tally) (slot n k : ℕ)
+    → ((j : ℕ) (d : Tally) → j < k → (get_or xs j d).student ≡ (get_or ys j d).student)
     → IsLast xs m slot n k → IsLast ys m slot n k
 last_same m xs ys slot n k same h = record {
   within = h.within;
-  here = λ d some. ap (λ s. slot_of_student m s) (sym (same (n - 1) d (let w = h.within in omega arith))) ∙ h.here d some;
-  none = λ j d from below is. h.none j d from below (ap (λ s. slot_of_student m s) (same j d below) ∙ is);
+  here = λ d some.
+      ap (λ s. slot_of_student m s) (sym (same (n - 1) d (let w = h.within in omega arith)))
+      ∙ h.here d some;
+  none = λ j d from below is.
+      h.none j d from below (ap (λ s. slot_of_student m s) (same j d below) ∙ is);
 }
 
 -- one more of another slot
-last_more : (m : ℕ) (xs : List Tally) (slot n k : ℕ) → ((d : Tally) → slot_of_student m (get_or xs k d).student ≢ slot) → IsLast xs m slot n k → IsLast xs m slot n (k + 1)
+last_more : (m : ℕ) (xs : List Tally) (slot n k : ℕ)
+    → ((d : Tally) → slot_of_student m (get_or xs k d).student ≢ slot) → IsLast xs m slot n k
+    → IsLast xs m slot n (k + 1)
 last_more m xs slot n k other h = record {
   within = let w = h.within in omega arith;
   here = h.here;
   none = λ j d from below. elim (cases_eq j k) [
-    | inl last ↦ (λ is. other d (ap (λ v. slot_of_student m (get_or xs v d).student) (sym last) ∙ is))
+    | inl last ↦
+        (λ is. other d (ap (λ v. slot_of_student m (get_or xs v d).student) (sym last) ∙ is))
     | inr before ↦ h.none j d from (omega arith)
   ];
 }
 
 -- one more of this slot
-last_new : (m : ℕ) (xs : List Tally) (slot k : ℕ) → ((d : Tally) → slot_of_student m (get_or xs k d).student ≡ slot) → IsLast xs m slot (k + 1) (k + 1)
+last_new : (m : ℕ) (xs : List Tally) (slot k : ℕ)
+    → ((d : Tally) → slot_of_student m (get_or xs k d).student ≡ slot)
+    → IsLast xs m slot (k + 1) (k + 1)
 last_new m xs slot k own = record {
   within = omega arith;
-  here = λ d some. ap (λ v. slot_of_student m (get_or xs v d).student) (let e : k + 1 - 1 ≡ k = omega arith in e) ∙ own d;
+  here = λ d some.
+      ap (λ v. slot_of_student m (get_or xs v d).student) (let e : k + 1 - 1 ≡ k = omega arith in e)
+      ∙ own d;
   none = λ j d from below. absurd (omega arith);
 }
 
@@ -48,15 +59,20 @@ pub record AreAlike (xs ys : List Tally) : Type 0 where
   pub period : (j : ℕ) (d : Tally) → (get_or xs j d).period ≡ (get_or ys j d).period
   pub before : (j : ℕ) (d : Tally) → (get_or xs j d).before ≡ (get_or ys j d).before
 
-field_kept : (h : Tally → ℕ) (xs : List Tally) (i : ℕ) (y : Tally) → i < length xs → ((d : Tally) → h (get_or xs i d) ≡ h y)
+field_kept : (h : Tally → ℕ) (xs : List Tally) (i : ℕ) (y : Tally) → i < length xs
+    → ((d : Tally) → h (get_or xs i d) ≡ h y)
     → (j : ℕ) (d : Tally) → h (get_or xs j d) ≡ h (get_or (set xs i y) j d)
 field_kept h xs i y within same j d = elim (cases_eq j i) [
-  | inl here ↦ ap (λ k. h (get_or xs k d)) here ∙ same d ∙ ap h (sym (get_or-set_same xs i y d within)) ∙ ap (λ k. h (get_or (set xs i y) k d)) (sym here)
+  | inl here ↦ ap (λ k. h (get_or xs k d)) here ∙ same d
+      ∙ ap h (sym (get_or-set_same xs i y d within))
+      ∙ ap (λ k. h (get_or (set xs i y) k d)) (sym here)
   | inr other ↦ ap h (sym (get_or-set_other xs i j y d (λ e. omega arith)))
 ]
 
-pub alike_set : (xs : List Tally) (i : ℕ) (y : Tally) → i < length xs → ((d : Tally) → (get_or xs i d).student ≡ y.student)
-    → ((d : Tally) → (get_or xs i d).period ≡ y.period) → ((d : Tally) → (get_or xs i d).before ≡ y.before) → AreAlike xs (set xs i y)
+pub alike_set : (xs : List Tally) (i : ℕ) (y : Tally) → i < length xs
+    → ((d : Tally) → (get_or xs i d).student ≡ y.student)
+    → ((d : Tally) → (get_or xs i d).period ≡ y.period)
+    → ((d : Tally) → (get_or xs i d).before ≡ y.before) → AreAlike xs (set xs i y)
 alike_set xs i y within student period before = record {
   count = length-set xs i y;
   student = field_kept (λ x. x.student) xs i y within student;
@@ -68,9 +84,11 @@ linked_alike : (m : ℕ) (xs ys : List Tally) → AreAlike xs ys → AreLinkedIn
 linked_alike m xs ys same h = record {
   links = λ k d lt.
       let link : IsLast ys m (slot_of_student m (get_or xs k d).student) (get_or xs k d).before k
-      = last_same m xs ys (slot_of_student m (get_or xs k d).student) (get_or xs k d).before k (λ j e l. same.student j e) (h.links k d (let c = same.count in omega arith)) in
+      = last_same m xs ys (slot_of_student m (get_or xs k d).student) (get_or xs k d).before k
+      (λ j e l. same.student j e) (h.links k d (let c = same.count in omega arith)) in
       subst (λ n. IsLast ys m (slot_of_student m (get_or ys k d).student) n k) (same.before k d)
-      (subst (λ s. IsLast ys m (slot_of_student m s) (get_or xs k d).before k) (same.student k d) link);
+      (subst (λ s. IsLast ys m (slot_of_student m s) (get_or xs k d).before k)
+      (same.student k d) link);
   ascending = λ i j d l m.
       let le = h.ascending i j d l (let c = same.count in omega arith) in
       let a = same.period i d in
@@ -78,11 +96,13 @@ linked_alike m xs ys same h = record {
       omega arith;
 }
 
-pub filed_alike : (m : ℕ) (xs ys : List Tally) (last : List ℕ) → AreAlike xs ys → AreFiled xs last m → AreFiled ys last m
+pub filed_alike : (m : ℕ) (xs ys : List Tally) (last : List ℕ) → AreAlike xs ys → AreFiled xs last m
+    → AreFiled ys last m
 filed_alike m xs ys last same h = record {
   count = h.count;
   lasts = λ slot lt. subst (λ k. IsLast ys m slot (get_or last slot 0) k) (sym same.count)
-      (last_same m xs ys slot (get_or last slot 0) (length xs) (λ j e l. same.student j e) (h.lasts slot lt));
+      (last_same m xs ys slot (get_or last slot 0) (length xs) (λ j e l. same.student j e)
+      (h.lasts slot lt));
   linked = linked_alike m xs ys same h.linked;
 }
 
@@ -95,14 +115,19 @@ grown_alike xs ys p same = record {
 }
 
 -- the sum grows by one row
-pub counted_set : (f : Row → ℕ) (xs : List Tally) (i : ℕ) (x : Tally) → i < length xs → x ≡ get_or xs i x
-    → sum_by (tally_sum f) (set xs i (record { student = x.student; period = x.period; exams = x.exams + 1; before = x.before }))
+pub counted_set : (f : Row → ℕ) (xs : List Tally) (i : ℕ) (x : Tally) → i < length xs
+    → x ≡ get_or xs i x
+    → sum_by (tally_sum f)
+    (set xs i (record { student = x.student; period = x.period; exams = x.exams + 1; before = x.before }))
     ≡ sum_by (tally_sum f) xs + f (row_at x.period x.student)
 counted_set f xs i x within is =
-    let y : Tally = record { student = x.student; period = x.period; exams = x.exams + 1; before = x.before } in
+    let y : Tally =
+    record { student = x.student; period = x.period; exams = x.exams + 1; before = x.before } in
     let whole = sum_by-set (tally_sum f) xs i y x within in
-    let old : tally_sum f (get_or xs i x) ≡ x.exams * f (row_at x.period x.student) = ap (tally_sum f) (sym is) in
-    let new : (x.exams + 1) * f (row_at x.period x.student) ≡ x.exams * f (row_at x.period x.student) + f (row_at x.period x.student)
+    let old : tally_sum f (get_or xs i x) ≡ x.exams * f (row_at x.period x.student) =
+    ap (tally_sum f) (sym is) in
+    let new : (x.exams + 1) * f (row_at x.period x.student)
+    ≡ x.exams * f (row_at x.period x.student) + f (row_at x.period x.student)
     = one_more x.exams (f (row_at x.period x.student)) in
     omega arith
   where
@@ -114,62 +139,90 @@ counted_set f xs i x within is =
 
 -- ---- a new tally
 
-get_kept : (xs : List Tally) (x : Tally) (j : ℕ) (d : Tally) → j < length xs → get_or (xs ++ x ∷ []) j d ≡ get_or xs j d
+get_kept : (xs : List Tally) (x : Tally) (j : ℕ) (d : Tally) → j < length xs
+    → get_or (xs ++ x ∷ []) j d ≡ get_or xs j d
 get_kept xs x j d lt = get_or_append_left xs (x ∷ []) d j lt
 
 get_new : (xs : List Tally) (x d : Tally) → get_or (xs ++ x ∷ []) (length xs) d ≡ x
 get_new xs x d = get_or_push xs x d (length xs) refl
 
-student_kept : (xs : List Tally) (x : Tally) (k : ℕ) → k ≤ length xs → (j : ℕ) (d : Tally) → j < k → (get_or xs j d).student ≡ (get_or (xs ++ x ∷ []) j d).student
+student_kept : (xs : List Tally) (x : Tally) (k : ℕ) → k ≤ length xs → (j : ℕ) (d : Tally) → j < k
+    → (get_or xs j d).student ≡ (get_or (xs ++ x ∷ []) j d).student
 student_kept xs x k le j d lt = ap (λ z. z.student) (sym (get_kept xs x j d (omega arith)))
 
-linked_push : (m : ℕ) (xs : List Tally) (x : Tally) → All (λ z. z.period ≤ x.period) xs → IsLast xs m (slot_of_student m x.student) x.before (length xs) → AreLinkedIn xs m → AreLinkedIn (xs ++ x ∷ []) m
+linked_push : (m : ℕ) (xs : List Tally) (x : Tally) → All (λ z. z.period ≤ x.period) xs
+    → IsLast xs m (slot_of_student m x.student) x.before (length xs) → AreLinkedIn xs m
+    → AreLinkedIn (xs ++ x ∷ []) m
 linked_push m xs x not_later link h = record {
   links = λ k d lt. elim (cases_eq k (length xs)) [
-    | inl last ↦ subst (λ v. IsLast (xs ++ x ∷ []) m (slot_of_student m (get_or (xs ++ x ∷ []) v d).student) (get_or (xs ++ x ∷ []) v d).before v) (sym last)
-        (subst (λ z. IsLast (xs ++ x ∷ []) m (slot_of_student m z.student) z.before (length xs)) (sym (get_new xs x d))
-        (last_same m xs (xs ++ x ∷ []) (slot_of_student m x.student) x.before (length xs) (student_kept xs x (length xs) (omega arith)) link))
+    | inl last ↦
+        subst (λ v. IsLast (xs ++ x ∷ []) m (slot_of_student m (get_or (xs ++ x ∷ []) v d).student)
+        (get_or (xs ++ x ∷ []) v d).before v)
+        (sym last)
+        (subst (λ z. IsLast (xs ++ x ∷ []) m (slot_of_student m z.student) z.before (length xs))
+        (sym (get_new xs x d))
+        (last_same m xs (xs ++ x ∷ []) (slot_of_student m x.student) x.before (length xs)
+        (student_kept xs x (length xs) (omega arith)) link))
     | inr other ↦
         (let before : k < length xs = omega (arith, length_push xs x) in
-        subst (λ z. IsLast (xs ++ x ∷ []) m (slot_of_student m z.student) z.before k) (sym (get_kept xs x k d before))
-        (last_same m xs (xs ++ x ∷ []) (slot_of_student m (get_or xs k d).student) (get_or xs k d).before k (student_kept xs x k (omega arith)) (h.links k d before)))
+        subst (λ z. IsLast (xs ++ x ∷ []) m (slot_of_student m z.student) z.before k)
+        (sym (get_kept xs x k d before))
+        (last_same m xs (xs ++ x ∷ []) (slot_of_student m (get_or xs k d).student)
+        (get_or xs k d).before k (student_kept xs x k (omega arith)) (h.links k d before)))
   ];
   ascending = λ i j d l m. elim (cases_eq j (length xs)) [
     | inl last ↦
         (let first = not_later i d (omega arith) in
-        let a : (get_or (xs ++ x ∷ []) i d).period ≡ (get_or xs i d).period = ap (λ z. z.period) (get_kept xs x i d (omega arith)) in
-        let b : (get_or (xs ++ x ∷ []) j d).period ≡ x.period = ap (λ n. (get_or (xs ++ x ∷ []) n d).period) last ∙ ap (λ z. z.period) (get_new xs x d) in
+        let a : (get_or (xs ++ x ∷ []) i d).period ≡ (get_or xs i d).period =
+        ap (λ z. z.period) (get_kept xs x i d (omega arith)) in
+        let b : (get_or (xs ++ x ∷ []) j d).period ≡ x.period =
+        ap (λ n. (get_or (xs ++ x ∷ []) n d).period) last
+        ∙ ap (λ z. z.period) (get_new xs x d) in
         omega arith)
     | inr other ↦
         (let before : j < length xs = omega (arith, length_push xs x) in
         let le = h.ascending i j d l before in
-        let a : (get_or (xs ++ x ∷ []) i d).period ≡ (get_or xs i d).period = ap (λ z. z.period) (get_kept xs x i d (omega arith)) in
-        let b : (get_or (xs ++ x ∷ []) j d).period ≡ (get_or xs j d).period = ap (λ z. z.period) (get_kept xs x j d before) in
+        let a : (get_or (xs ++ x ∷ []) i d).period ≡ (get_or xs i d).period =
+        ap (λ z. z.period) (get_kept xs x i d (omega arith)) in
+        let b : (get_or (xs ++ x ∷ []) j d).period ≡ (get_or xs j d).period =
+        ap (λ z. z.period) (get_kept xs x j d before) in
         omega arith)
   ];
 }
 
-pub filed_push : (m : ℕ) (xs : List Tally) (last : List ℕ) (x : Tally) (slot : ℕ) → AreFiled xs last m → slot < length last → slot_of_student m x.student ≡ slot
-    → x.before ≡ get_or last slot 0 → All (λ z. z.period ≤ x.period) xs → AreFiled (xs ++ x ∷ []) (set last slot (length xs + 1)) m
+pub filed_push : (m : ℕ) (xs : List Tally) (last : List ℕ) (x : Tally) (slot : ℕ)
+    → AreFiled xs last m → slot < length last → slot_of_student m x.student ≡ slot
+    → x.before ≡ get_or last slot 0 → All (λ z. z.period ≤ x.period) xs
+    → AreFiled (xs ++ x ∷ []) (set last slot (length xs + 1)) m
 filed_push m xs last x slot h within own before not_later = record {
   count = length-set last slot (length xs + 1) ∙ h.count;
-  lasts = λ b lt. subst (λ k. IsLast (xs ++ x ∷ []) m b (get_or (set last slot (length xs + 1)) b 0) k) (sym (length_push xs x))
+  lasts = λ b lt.
+      subst (λ k. IsLast (xs ++ x ∷ []) m b (get_or (set last slot (length xs + 1)) b 0) k)
+      (sym (length_push xs x))
       (elim (cases_eq b slot) [
         | inl same ↦
-            subst (λ n. IsLast (xs ++ x ∷ []) m n (get_or (set last slot (length xs + 1)) n 0) (length xs + 1)) (sym same)
-            (subst (λ n. IsLast (xs ++ x ∷ []) m slot n (length xs + 1)) (sym (get_or-set_same last slot (length xs + 1) 0 within))
-            (last_new m (xs ++ x ∷ []) slot (length xs) (λ d. ap (λ z. slot_of_student m z.student) (get_new xs x d) ∙ own)))
+            subst (λ n. IsLast (xs ++ x ∷ []) m n (get_or (set last slot (length xs + 1)) n 0)
+            (length xs + 1))
+            (sym same)
+            (subst (λ n. IsLast (xs ++ x ∷ []) m slot n (length xs + 1))
+            (sym (get_or-set_same last slot (length xs + 1) 0 within))
+            (last_new m (xs ++ x ∷ []) slot (length xs)
+            (λ d. ap (λ z. slot_of_student m z.student) (get_new xs x d) ∙ own)))
         | inr other ↦
             (let differ : b ≢ slot = (λ e. omega arith) in
-            let old : IsLast xs m b (get_or last b 0) (length xs) = h.lasts b (let c = length-set last slot (length xs + 1) in omega arith) in
-            subst (λ n. IsLast (xs ++ x ∷ []) m b n (length xs + 1)) (sym (get_or-set_other last slot b (length xs + 1) 0 differ))
+            let old : IsLast xs m b (get_or last b 0) (length xs) =
+            h.lasts b (let c = length-set last slot (length xs + 1) in omega arith) in
+            subst (λ n. IsLast (xs ++ x ∷ []) m b n (length xs + 1))
+            (sym (get_or-set_other last slot b (length xs + 1) 0 differ))
             (last_more m (xs ++ x ∷ []) b (get_or last b 0) (length xs)
             (λ d is. differ (sym is ∙ ap (λ z. slot_of_student m z.student) (get_new xs x d) ∙ own))
-            (last_same m xs (xs ++ x ∷ []) b (get_or last b 0) (length xs) (student_kept xs x (length xs) (omega arith)) old)))
+            (last_same m xs (xs ++ x ∷ []) b (get_or last b 0) (length xs)
+            (student_kept xs x (length xs) (omega arith)) old)))
       ]);
   linked = linked_push m xs x not_later
       (subst (λ n. IsLast xs m (slot_of_student m x.student) n (length xs)) (sym before)
-      (subst (λ b. IsLast xs m b (get_or last slot 0) (length xs)) (sym own) (h.lasts slot within))) h.linked;
+      (subst (λ b. IsLast xs m b (get_or last slot 0) (length xs)) (sym own) (h.lasts slot within)))
+      h.linked;
 }
 
 pub grown_push : (xs : List Tally) (x : Tally) → Grows xs (xs ++ x ∷ []) x.period 1
@@ -185,12 +238,14 @@ grown_push xs x = record {
 pub counted_push : (f : Row → ℕ) (xs : List Tally) (x : Tally) → x.exams ≡ 1
     → sum_by (tally_sum f) (xs ++ x ∷ []) ≡ sum_by (tally_sum f) xs + f (row_at x.period x.student)
 counted_push f xs x one =
-    sum_by_push (tally_sum f) xs x ∙ ap (λ n. sum_by (tally_sum f) xs + n * f (row_at x.period x.student)) one
+    sum_by_push (tally_sum f) xs x
+    ∙ ap (λ n. sum_by (tally_sum f) xs + n * f (row_at x.period x.student)) one
     ∙ (let w = f (row_at x.period x.student) in omega arith)
 
 -- ---- along the students of an exam, and along the sittings
 
-pub grown_more : (xs ys zs : List Tally) (p n : ℕ) → Grows xs ys p n → Grows ys zs p 1 → Grows xs zs p (n + 1)
+pub grown_more : (xs ys zs : List Tally) (p n : ℕ) → Grows xs ys p n → Grows ys zs p 1
+    → Grows xs zs p (n + 1)
 grown_more xs ys zs p n a b = record {
   longer = let c = a.longer in let d = b.longer in omega arith;
   few = let c = a.few in let d = b.few in omega arith;
@@ -202,14 +257,16 @@ grown_more xs ys zs p n a b = record {
 }
 
 -- where all old tallies are no later, neither are the new ones
-pub grown_no_later : (xs ys : List Tally) (p q n : ℕ) → Grows xs ys p n → All (λ x. x.period ≤ q) xs → p ≤ q → All (λ x. x.period ≤ q) ys
+pub grown_no_later : (xs ys : List Tally) (p q n : ℕ) → Grows xs ys p n → All (λ x. x.period ≤ q) xs
+    → p ≤ q → All (λ x. x.period ≤ q) ys
 grown_no_later xs ys p q n h old le k d lt = elim (cases_lt k (length xs)) [
   | inl before ↦ (let e = h.kept k d before in let f = old k d before in omega arith)
   | inr after ↦ (let e = h.added k d after lt in omega arith)
 ]
 
 -- the last tally of a slot exists
-pub place_within : (m : ℕ) (xs : List Tally) (last : List ℕ) (slot n s p : ℕ) → AreFiled xs last m → slot < m → n ≡ get_or last slot n → Extends xs n s p → n - 1 < length xs
+pub place_within : (m : ℕ) (xs : List Tally) (last : List ℕ) (slot n s p : ℕ) → AreFiled xs last m
+    → slot < m → n ≡ get_or last slot n → Extends xs n s p → n - 1 < length xs
 place_within m xs last slot n s p filed lt is found =
     let within : slot < length last = omega (arith, filed.count) in
     let here : n ≡ get_or last slot 0 = get_or_read last slot n within is 0 in
@@ -226,7 +283,8 @@ grown_none xs p = record {
 }
 
 -- no slot has a tally where there is none
-pub filed_none : (m : ℕ) (xs : List Tally) (last : List ℕ) → xs ≡ [] → length last ≡ m → ((slot : ℕ) → slot < length last → get_or last slot 0 ≡ 0) → AreFiled xs last m
+pub filed_none : (m : ℕ) (xs : List Tally) (last : List ℕ) → xs ≡ [] → length last ≡ m
+    → ((slot : ℕ) → slot < length last → get_or last slot 0 ≡ 0) → AreFiled xs last m
 filed_none m xs last none long clear = record {
   count = long;
   lasts = λ slot lt. record {
@@ -248,8 +306,10 @@ crowd_none sizes slots n long zeros = record {
 }
 
 -- one more in a slot
-pub crowd_more : (sizes : List ℕ) (steps slots n slot : ℕ) → slot < slots → n < 200000 → AreCrowded sizes steps slots n
-    → AreCrowded (set sizes slot (get_or sizes slot 0 + 1)) (steps + get_or sizes slot 0) slots (n + 1)
+pub crowd_more : (sizes : List ℕ) (steps slots n slot : ℕ) → slot < slots → n < 200000
+    → AreCrowded sizes steps slots n
+    → AreCrowded (set sizes slot (get_or sizes slot 0 + 1))
+    (steps + get_or sizes slot 0) slots (n + 1)
 crowd_more sizes steps slots n slot exists few h =
     let within : slot < length sizes = omega (arith, h.count) in
     let own = h.each slot within in
@@ -257,11 +317,14 @@ crowd_more sizes steps slots n slot exists few h =
       count = length-set sizes slot (get_or sizes slot 0 + 1) ∙ h.count;
       each = λ k lt. elim (cases_eq k slot) [
         | inl same ↦
-            (let here : get_or (set sizes slot (get_or sizes slot 0 + 1)) k 0 ≡ get_or sizes slot 0 + 1
-            = ap (λ j. get_or (set sizes slot (get_or sizes slot 0 + 1)) j 0) same ∙ get_or-set_same sizes slot (get_or sizes slot 0 + 1) 0 within in
+            (let here : get_or (set sizes slot (get_or sizes slot 0 + 1)) k 0
+            ≡ get_or sizes slot 0 + 1
+            = ap (λ j. get_or (set sizes slot (get_or sizes slot 0 + 1)) j 0) same
+            ∙ get_or-set_same sizes slot (get_or sizes slot 0 + 1) 0 within in
             omega arith)
         | inr other ↦
-            (let here = get_or-set_other sizes slot k (get_or sizes slot 0 + 1) 0 (λ e. omega arith) in
+            (let here = get_or-set_other sizes slot k (get_or sizes slot 0 + 1) 0
+            (λ e. omega arith) in
             let old = h.each k (omega (arith, length-set sizes slot (get_or sizes slot 0 + 1))) in
             omega arith)
       ];

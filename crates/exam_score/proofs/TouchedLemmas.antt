@@ -14,14 +14,17 @@ use Rattle.exam_model.proofs.SumLemmas.{sum_below-same, sum_below-within, sum_be
 use Rattle.exam_score.specs.Track.{duration_count, is_at, lasts, minutes_of}
 
 -- one number more passes
-flipped : (n : ℕ) (f g : ℕ → Bool) (k : ℕ) → k < n → f k ≡ false → g k ≡ true → ((m : ℕ) → m ≢ k → g m ≡ f m) → count_below n g ≡ count_below n f + 1
+flipped : (n : ℕ) (f g : ℕ → Bool) (k : ℕ) → k < n → f k ≡ false → g k ≡ true
+    → ((m : ℕ) → m ≢ k → g m ≡ f m) → count_below n g ≡ count_below n f + 1
 flipped zero f g k lt off on same = absurd (omega arith)
 flipped (suc n) f g k lt off on same = go (eqb k n) refl (λ less. flipped n f g k less off on same)
   where
-    go : (b : Bool) → eqb k n ≡ b → (k < n → count_below n g ≡ count_below n f + 1) → count_below (suc n) g ≡ count_below (suc n) f + 1
+    go : (b : Bool) → eqb k n ≡ b → (k < n → count_below n g ≡ count_below n f + 1)
+        → count_below (suc n) g ≡ count_below (suc n) f + 1
     go true e below_it =
         let is : k ≡ n = grind (arith, nat_tests) in
-        let below = sum_below-within (λ m. cond (g m) 1 0) (λ m. cond (f m) 1 0) n (λ m l. ap (λ b. cond b 1 0) (same m (λ k. omega arith))) in
+        let below = sum_below-within (λ m. cond (g m) 1 0) (λ m. cond (f m) 1 0) n
+        (λ m l. ap (λ b. cond b 1 0) (same m (λ k. omega arith))) in
         let old : ◌≡◌ {A = ℕ} (cond (f n) 1 0) 0 = ap (λ b. cond b 1 0) (ap f (sym is) ∙ off) in
         let new : ◌≡◌ {A = ℕ} (cond (g n) 1 0) 1 = ap (λ b. cond b 1 0) (ap g (sym is) ∙ on) in
         omega arith
@@ -29,17 +32,22 @@ flipped (suc n) f g k lt off on same = go (eqb k n) refl (λ less. flipped n f g
         let other : n ≢ k = grind (arith, nat_tests) in
         let less : k < n = grind (arith, nat_tests) in
         let more = below_it less in
-        let here : ◌≡◌ {A = ℕ} (cond (g n) 1 0) (cond (f n) 1 0) = ap (λ b. cond b 1 0) (same n other) in
+        let here : ◌≡◌ {A = ℕ} (cond (g n) 1 0) (cond (f n) 1 0) =
+        ap (λ b. cond b 1 0) (same n other) in
         omega arith
 
 -- one more of them at x, if it is here
 one_more : (here : Bool) (x n : ℕ) (counts : ℕ → ℕ) → x < n
-    → count_below n (λ m. nat_lt 0 (counts m + cond (here && eqb x m) 1 0)) ≡ count_below n (λ m. nat_lt 0 (counts m)) + cond (here && not (nat_lt 0 (counts x))) 1 0
-one_more false x n counts lt = sum_below-same _ _ (λ m. ap (λ k. cond (nat_lt 0 k) 1 0) (add-zero (counts m))) n ∙ sym (add-zero _)
+    → count_below n (λ m. nat_lt 0 (counts m + cond (here && eqb x m) 1 0))
+    ≡ count_below n (λ m. nat_lt 0 (counts m)) + cond (here && not (nat_lt 0 (counts x))) 1 0
+one_more false x n counts lt =
+    sum_below-same _ _ (λ m. ap (λ k. cond (nat_lt 0 k) 1 0) (add-zero (counts m))) n
+    ∙ sym (add-zero _)
 one_more true x n counts lt = go (nat_lt 0 (counts x)) refl
   where
     go : (b : Bool) → nat_lt 0 (counts x) ≡ b
-        → count_below n (λ m. nat_lt 0 (counts m + cond (eqb x m) 1 0)) ≡ count_below n (λ m. nat_lt 0 (counts m)) + cond (not b) 1 0
+        → count_below n (λ m. nat_lt 0 (counts m + cond (eqb x m) 1 0))
+        ≡ count_below n (λ m. nat_lt 0 (counts m)) + cond (not b) 1 0
     go true e = sum_below-same _ _ (λ m. ap (λ b. cond b 1 0) (there m)) n ∙ sym (add-zero _)
       where
         there : (m : ℕ) → nat_lt 0 (counts m + cond (eqb x m) 1 0) ≡ nat_lt 0 (counts m)
@@ -47,36 +55,51 @@ one_more true x n counts lt = go (nat_lt 0 (counts x)) refl
           where
             at : (b : Bool) → eqb x m ≡ b → nat_lt 0 (counts m + cond b 1 0) ≡ nat_lt 0 (counts m)
             at true k = (let is : x ≡ m = grind (arith, nat_tests) in
-                let some : nat_lt 0 (counts m) ≡ true = ap (λ j. nat_lt 0 (counts j)) (sym is) ∙ e in grind (arith, nat_tests))
+                let some : nat_lt 0 (counts m) ≡ true =
+                ap (λ j. nat_lt 0 (counts j)) (sym is) ∙ e in
+                grind (arith, nat_tests))
             at false k = ap (nat_lt 0) (add-zero (counts m))
     go false e =
         flipped n (λ m. nat_lt 0 (counts m)) (λ m. nat_lt 0 (counts m + cond (eqb x m) 1 0)) x lt e
-        (here_now) (λ m ne. ap (λ b. nat_lt 0 (counts m + cond b 1 0)) (let k : eqb x m ≡ false = grind (arith, nat_tests) in k) ∙ ap (nat_lt 0) (add-zero (counts m)))
+        (here_now) (λ m ne. ap (λ b. nat_lt 0 (counts m + cond b 1 0))
+        (let k : eqb x m ≡ false = grind (arith, nat_tests) in k)
+        ∙ ap (nat_lt 0) (add-zero (counts m)))
       where
         here_now : nat_lt 0 (counts x + cond (eqb x x) 1 0) ≡ true
         here_now = grind (arith, nat_tests)
 
-of_exam : (xs : List Exam) → AllByRecursion ExamInLimits xs → (i : ℕ) → minutes_of (slice_get xs i) ≤ 1440
+of_exam : (xs : List Exam) → AllByRecursion ExamInLimits xs → (i : ℕ)
+    → minutes_of (slice_get xs i) ≤ 1440
 of_exam [] h i = omega arith
 of_exam (x ∷ xs) h zero = h.0
 of_exam (x ∷ xs) h (suc i) = of_exam xs h.1 i
 
 -- no exam lasts longer than a day
-pub minutes_short : (s : Session) (e : ℕ) → IsInstance s → minutes_of (slice_get s.exams e) < duration_count
+pub minutes_short : (s : Session) (e : ℕ) → IsInstance s
+    → minutes_of (slice_get s.exams e) < duration_count
 unfolding duration_count
-minutes_short s e known = let h = of_exam s.exams (recursion_from_All ExamInLimits s.exams known.limits.exams) e in omega arith
+minutes_short s e known =
+    let h = of_exam s.exams (recursion_from_All ExamInLimits s.exams known.limits.exams) e in
+    omega arith
 
 -- an exam more
-pub durations_more : (s : Session) (t : Placing) (p r e : ℕ) → minutes_of (slice_get s.exams e) < duration_count
+pub durations_more : (s : Session) (t : Placing) (p r e : ℕ)
+    → minutes_of (slice_get s.exams e) < duration_count
     → count_below duration_count (λ m. nat_lt 0 (count_below (e + 1) (lasts s t p r m)))
     ≡ count_below duration_count (λ m. nat_lt 0 (count_below e (lasts s t p r m)))
-    + cond (is_at p r (place_of t e) && not (nat_lt 0 (count_below e (lasts s t p r (minutes_of (slice_get s.exams e)))))) 1 0
+    + cond (is_at p r (place_of t e)
+    && not (nat_lt 0 (count_below e (lasts s t p r (minutes_of (slice_get s.exams e)))))) 1 0
 durations_more s t p r e short =
-    sum_below-same _ _ (λ m. ap (λ k. cond (nat_lt 0 k) 1 0) (sum_below_more (λ e. cond (lasts s t p r m e) 1 0) e)) duration_count
-    ∙ one_more (is_at p r (place_of t e)) (minutes_of (slice_get s.exams e)) duration_count (λ m. count_below e (lasts s t p r m)) short
+    sum_below-same _ _
+    (λ m. ap (λ k. cond (nat_lt 0 k) 1 0)
+    (sum_below_more (λ e. cond (lasts s t p r m e) 1 0) e))
+    duration_count
+    ∙ one_more (is_at p r (place_of t e)) (minutes_of (slice_get s.exams e)) duration_count
+    (λ m. count_below e (lasts s t p r m)) short
 
 -- none passes before the first exam
-pub durations_none : (s : Session) (t : Placing) (p r : ℕ) → count_below duration_count (λ m. nat_lt 0 (count_below 0 (lasts s t p r m))) ≡ 0
+pub durations_none : (s : Session) (t : Placing) (p r : ℕ)
+    → count_below duration_count (λ m. nat_lt 0 (count_below 0 (lasts s t p r m))) ≡ 0
 durations_none s t p r = none duration_count
   where
     none : (n : ℕ) → count_below n (λ m. false) ≡ 0
@@ -86,7 +109,8 @@ durations_none s t p r = none duration_count
 -- ---- the durations that are marked
 
 -- one duration more is marked
-marked_step : (before : List Bool) (k m n : ℕ) → k < length before → get_or before m false ≡ nat_lt 0 n
+marked_step : (before : List Bool) (k m n : ℕ) → k < length before
+    → get_or before m false ≡ nat_lt 0 n
     → get_or (set before k true) m false ≡ nat_lt 0 (n + cond (eqb k m) 1 0)
 marked_step before k m n lt known = go (eqb k m) refl
   where
@@ -94,7 +118,8 @@ marked_step before k m n lt known = go (eqb k m) refl
     go true e =
         let same : k ≡ m = grind (arith, nat_tests) in
         let some : nat_lt 0 (n + 1) ≡ true = grind (arith, nat_tests) in
-        ap (λ j. get_or (set before k true) j false) (sym same) ∙ get_or-set_same before k true false lt ∙ sym some
+        ap (λ j. get_or (set before k true) j false) (sym same)
+        ∙ get_or-set_same before k true false lt ∙ sym some
     go false e =
         let other : m ≢ k = grind (arith, nat_tests) in
         get_or-set_other before k m true false other ∙ known ∙ ap (nat_lt 0) (sym (add-zero n))
@@ -103,10 +128,15 @@ marked_step before k m n lt known = go (eqb k m) refl
 pub marked_here : (s : Session) (t : Placing) (p r e m : ℕ) (before : List Bool)
     → minutes_of (slice_get s.exams e) < length before → is_at p r (place_of t e) ≡ true
     → get_or before m false ≡ nat_lt 0 (count_below e (lasts s t p r m))
-    → get_or (set before (minutes_of (slice_get s.exams e)) true) m false ≡ nat_lt 0 (count_below (e + 1) (lasts s t p r m))
+    → get_or (set before (minutes_of (slice_get s.exams e)) true) m false
+    ≡ nat_lt 0 (count_below (e + 1) (lasts s t p r m))
 marked_here s t p r e m before lt here known =
-    marked_step before (minutes_of (slice_get s.exams e)) m (count_below e (lasts s t p r m)) lt known
-    ∙ ap (λ b. nat_lt 0 (count_below e (lasts s t p r m) + cond (b && eqb (minutes_of (slice_get s.exams e)) m) 1 0)) (sym here)
+    marked_step before (minutes_of (slice_get s.exams e)) m
+    (count_below e (lasts s t p r m)) lt known
+    ∙ ap (λ b. nat_lt 0
+    (count_below e (lasts s t p r m)
+    + cond (b && eqb (minutes_of (slice_get s.exams e)) m) 1 0))
+    (sym here)
     ∙ ap (nat_lt 0) (sym (sum_below_more (λ e. cond (lasts s t p r m e) 1 0) e))
 
 -- one that stands elsewhere marks none
@@ -116,5 +146,8 @@ pub marked_elsewhere : (s : Session) (t : Placing) (p r e m : ℕ) (before : Lis
     → get_or before m false ≡ nat_lt 0 (count_below (e + 1) (lasts s t p r m))
 marked_elsewhere s t p r e m before here known =
     known ∙ ap (nat_lt 0) (sym (add-zero (count_below e (lasts s t p r m))))
-    ∙ ap (λ b. nat_lt 0 (count_below e (lasts s t p r m) + cond (b && eqb (minutes_of (slice_get s.exams e)) m) 1 0)) (sym here)
+    ∙ ap (λ b. nat_lt 0
+    (count_below e (lasts s t p r m)
+    + cond (b && eqb (minutes_of (slice_get s.exams e)) m) 1 0))
+    (sym here)
     ∙ ap (nat_lt 0) (sym (sum_below_more (λ e. cond (lasts s t p r m e) 1 0) e))

@@ -17,90 +17,125 @@ use Rattle.exam_score.specs.declared.tallies.Tally.{Tally}
 -- a tally of another student
 other_student : (cost : ℕ → ℕ → ℕ) (y x : Tally) → y.student ≢ x.student → tally_beside cost y x ≡ 0
 other_student cost y x differ =
-    ap (λ n. x.exams * n) (cond-false (eqb y.student x.student) (cost x.period y.period) 0 (ne_eqb y.student x.student differ)) ∙ mul-zero x.exams
+    ap (λ n. x.exams * n)
+    (cond-false (eqb y.student x.student) (cost x.period y.period) 0
+    (ne_eqb y.student x.student differ))
+    ∙ mul-zero x.exams
 
 -- a tally of a period that costs nothing
-free_period : (cost : ℕ → ℕ → ℕ) (y x : Tally) → cost x.period y.period ≡ 0 → tally_beside cost y x ≡ 0
-free_period cost y x none = ap (λ n. x.exams * cond (eqb y.student x.student) n 0) none ∙ ap (λ n. x.exams * n) (picked (eqb y.student x.student)) ∙ mul-zero x.exams
+free_period : (cost : ℕ → ℕ → ℕ) (y x : Tally) → cost x.period y.period ≡ 0
+    → tally_beside cost y x ≡ 0
+free_period cost y x none = ap (λ n. x.exams * cond (eqb y.student x.student) n 0) none
+    ∙ ap (λ n. x.exams * n) (picked (eqb y.student x.student)) ∙ mul-zero x.exams
   where
     picked : (b : Bool) → ◌≡◌ {A = ℕ} (cond b 0 0) 0
     picked true = refl
     picked false = refl
 
 -- the tallies between one and the next of its slot are of other students
-skipped : (m : ℕ) (cost : ℕ → ℕ → ℕ) (xs : List Tally) (y : Tally) (n k : ℕ) → IsLast xs m (slot_of_student m y.student) n k → k ≤ length xs
+skipped : (m : ℕ) (cost : ℕ → ℕ → ℕ) (xs : List Tally) (y : Tally) (n k : ℕ)
+    → IsLast xs m (slot_of_student m y.student) n k → k ≤ length xs
     → sum_by (tally_beside cost y) (take k xs) ≡ sum_by (tally_beside cost y) (take n xs)
 skipped m cost xs y n k last le =
     let f : Tally → ℕ = tally_beside cost y in
     let split = sum_by-take-drop f (take k xs) n in
-    let first : sum_by f (take n (take k xs)) ≡ sum_by f (take n xs) = ap (sum_by f) (take-take n k xs last.within) in
-    let none : sum_by f (drop n (take k xs)) ≡ 0 = sum_by-none f (drop n (take k xs)) (recursion_from_All (λ x. f x ≡ 0) (drop n (take k xs)) others) in
+    let first : sum_by f (take n (take k xs)) ≡ sum_by f (take n xs) =
+    ap (sum_by f) (take-take n k xs last.within) in
+    let none : sum_by f (drop n (take k xs)) ≡ 0 =
+    sum_by-none f (drop n (take k xs))
+    (recursion_from_All (λ x. f x ≡ 0) (drop n (take k xs)) others) in
     omega arith
   where
     others : All (λ x. tally_beside cost y x ≡ 0) (drop n (take k xs))
     others j d lt =
         let within : n + j < k = omega (arith, length-drop n (take k xs), length-take k xs) in
-        let here : get_or (drop n (take k xs)) j d ≡ get_or xs (n + j) d = get_or-drop n (take k xs) j d ∙ get_or-take k xs (n + j) d within in
+        let here : get_or (drop n (take k xs)) j d ≡ get_or xs (n + j) d =
+        get_or-drop n (take k xs) j d ∙ get_or-take k xs (n + j) d within in
         let apart = last.none (n + j) d (omega arith) within in
         ap (tally_beside cost y) here
-        ∙ other_student cost y (get_or xs (n + j) d) (λ same. apart (ap (λ s. slot_of_student m s) (sym same)))
+        ∙ other_student cost y (get_or xs (n + j) d)
+        (λ same. apart (ap (λ s. slot_of_student m s) (sym same)))
 
 -- ---- one step
 
-pub link_of : (m : ℕ) (xs : List Tally) (y : Tally) (k : ℕ) → AreLinkedIn xs m → k < length xs → ((d : Tally) → get_or xs k d ≡ y) → IsLast xs m (slot_of_student m y.student) y.before k
-link_of m xs y k linked within here = subst_link (get_or xs k y) y (here y) (linked.links k y within)
+pub link_of : (m : ℕ) (xs : List Tally) (y : Tally) (k : ℕ) → AreLinkedIn xs m → k < length xs
+    → ((d : Tally) → get_or xs k d ≡ y) → IsLast xs m (slot_of_student m y.student) y.before k
+link_of m xs y k linked within here =
+    subst_link (get_or xs k y) y (here y) (linked.links k y within)
   where
-    subst_link : (z w : Tally) → z ≡ w → IsLast xs m (slot_of_student m z.student) z.before k → IsLast xs m (slot_of_student m w.student) w.before k
+    subst_link : (z w : Tally) → z ≡ w → IsLast xs m (slot_of_student m z.student) z.before k
+        → IsLast xs m (slot_of_student m w.student) w.before k
     subst_link z w e h = subst (λ v. IsLast xs m (slot_of_student m v.student) v.before k) e h
 
 -- before the first step
-pub walk_starts : (m : ℕ) (cost : ℕ → ℕ → ℕ) (xs : List Tally) (y : Tally) (k : ℕ) → AreLinkedIn xs m → k < length xs → ((d : Tally) → get_or xs k d ≡ y)
+pub walk_starts : (m : ℕ) (cost : ℕ → ℕ → ℕ) (xs : List Tally) (y : Tally) (k : ℕ)
+    → AreLinkedIn xs m → k < length xs → ((d : Tally) → get_or xs k d ≡ y)
     → sum_by (tally_beside cost y) (take y.before xs) ≡ sum_by (tally_beside cost y) (take k xs)
 walk_starts m cost xs y k linked within here =
     sym (skipped m cost xs y y.before k (link_of m xs y k linked within here) (omega arith))
 
 -- a tally of the slot, and on to the one before it
-pub walk_on : (m : ℕ) (cost : ℕ → ℕ → ℕ) (xs : List Tally) (y x : Tally) (n : ℕ) → AreLinkedIn xs m → 0 < n → n ≤ length xs → ((d : Tally) → get_or xs (n - 1) d ≡ x)
+pub walk_on : (m : ℕ) (cost : ℕ → ℕ → ℕ) (xs : List Tally) (y x : Tally) (n : ℕ) → AreLinkedIn xs m
+    → 0 < n → n ≤ length xs → ((d : Tally) → get_or xs (n - 1) d ≡ x)
     → slot_of_student m x.student ≡ slot_of_student m y.student
-    → sum_by (tally_beside cost y) (take n xs) ≡ tally_beside cost y x + sum_by (tally_beside cost y) (take x.before xs)
+    → sum_by (tally_beside cost y) (take n xs)
+    ≡ tally_beside cost y x + sum_by (tally_beside cost y) (take x.before xs)
 walk_on m cost xs y x n linked some le here slot =
     let f : Tally → ℕ = tally_beside cost y in
-    let last = subst (λ s. IsLast xs m s x.before (n - 1)) slot (link_of m xs x (n - 1) linked (omega arith) here) in
+    let last = subst (λ s. IsLast xs m s x.before (n - 1)) slot
+    (link_of m xs x (n - 1) linked (omega arith) here) in
     let rest = skipped m cost xs y x.before (n - 1) last (omega arith) in
-    let more : sum_by f (take (n - 1 + 1) xs) ≡ sum_by f (take (n - 1) xs) + f x = sum_by_more f xs (n - 1) x (omega arith) ∙ ap (λ z. sum_by f (take (n - 1) xs) + f z) (here x) in
-    let same : sum_by f (take n xs) ≡ sum_by f (take (n - 1 + 1) xs) = ap (λ m. sum_by f (take m xs)) (let e : n ≡ n - 1 + 1 = omega arith in e) in
+    let more : sum_by f (take (n - 1 + 1) xs) ≡ sum_by f (take (n - 1) xs) + f x =
+    sum_by_more f xs (n - 1) x (omega arith)
+    ∙ ap (λ z. sum_by f (take (n - 1) xs) + f z) (here x) in
+    let same : sum_by f (take n xs) ≡ sum_by f (take (n - 1 + 1) xs) =
+    ap (λ m. sum_by f (take m xs)) (let e : n ≡ n - 1 + 1 = omega arith in e) in
     omega arith
 
 -- and the next one is of the slot too
-pub slot_on : (m : ℕ) (xs : List Tally) (x : Tally) (n s : ℕ) → AreLinkedIn xs m → 0 < n → n ≤ length xs → ((d : Tally) → get_or xs (n - 1) d ≡ x) → slot_of_student m x.student ≡ s
+pub slot_on : (m : ℕ) (xs : List Tally) (x : Tally) (n s : ℕ) → AreLinkedIn xs m → 0 < n
+    → n ≤ length xs → ((d : Tally) → get_or xs (n - 1) d ≡ x) → slot_of_student m x.student ≡ s
     → (d : Tally) → 0 < x.before → slot_of_student m (get_or xs (x.before - 1) d).student ≡ s
-slot_on m xs x n s linked some le here slot d before = (link_of m xs x (n - 1) linked (omega arith) here).here d before ∙ slot
+slot_on m xs x n s linked some le here slot d before =
+    (link_of m xs x (n - 1) linked (omega arith) here).here d before ∙ slot
 
-pub link_below : (m : ℕ) (xs : List Tally) (x : Tally) (n : ℕ) → AreLinkedIn xs m → 0 < n → n ≤ length xs → ((d : Tally) → get_or xs (n - 1) d ≡ x) → x.before < n
-link_below m xs x n linked some le here = let w = (link_of m xs x (n - 1) linked (omega arith) here).within in omega arith
+pub link_below : (m : ℕ) (xs : List Tally) (x : Tally) (n : ℕ) → AreLinkedIn xs m → 0 < n
+    → n ≤ length xs → ((d : Tally) → get_or xs (n - 1) d ≡ x) → x.before < n
+link_below m xs x n linked some le here =
+    let w = (link_of m xs x (n - 1) linked (omega arith) here).within in omega arith
 
 -- ---- the end
 
 -- from a tally on whose period is below the first that costs anything
-pub walk_ends : (m : ℕ) (cost : ℕ → ℕ → ℕ) (xs : List Tally) (y : Tally) (n first : ℕ) → AreLinkedIn xs m → n ≤ length xs
-    → ((q : ℕ) → q < first → cost q y.period ≡ 0) → ((d : Tally) → 0 < n → (get_or xs (n - 1) d).period < first)
+pub walk_ends : (m : ℕ) (cost : ℕ → ℕ → ℕ) (xs : List Tally) (y : Tally) (n first : ℕ)
+    → AreLinkedIn xs m → n ≤ length xs
+    → ((q : ℕ) → q < first → cost q y.period ≡ 0)
+    → ((d : Tally) → 0 < n → (get_or xs (n - 1) d).period < first)
     → sum_by (tally_beside cost y) (take n xs) ≡ 0
 walk_ends m cost xs y n first linked le free below =
-    sum_by-none (tally_beside cost y) (take n xs) (recursion_from_All (λ x. tally_beside cost y x ≡ 0) (take n xs) each)
+    sum_by-none (tally_beside cost y) (take n xs)
+    (recursion_from_All (λ x. tally_beside cost y x ≡ 0) (take n xs) each)
   where
     each : All (λ x. tally_beside cost y x ≡ 0) (take n xs)
     each j d lt =
         let within : j < n = omega (arith, length-take n xs) in
         let last = below d (omega arith) in
         let less : (get_or xs j d).period < first = elim (cases_eq j (n - 1)) [
-          | inl same ↦ (let e : (get_or xs j d).period ≡ (get_or xs (n - 1) d).period = ap (λ k. (get_or xs k d).period) same in omega arith)
-          | inr other ↦ (let up = linked.ascending j (n - 1) d (omega arith) (omega arith) in omega arith)
+          | inl same ↦
+              (let e : (get_or xs j d).period
+              ≡ (get_or xs (n - 1) d).period = ap (λ k. (get_or xs k d).period) same in
+              omega arith)
+          | inr other ↦
+              (let up = linked.ascending j (n - 1) d (omega arith) (omega arith) in omega arith)
         ] in
-        ap (tally_beside cost y) (get_or-take n xs j d within) ∙ free_period cost y (get_or xs j d) (free (get_or xs j d).period less)
+        ap (tally_beside cost y) (get_or-take n xs j d within)
+        ∙ free_period cost y (get_or xs j d) (free (get_or xs j d).period less)
 
 -- a period that costs nothing with any
-pub beyond_tallies : (cost : ℕ → ℕ → ℕ) (xs : List Tally) (y : Tally) → ((q : ℕ) → cost q y.period ≡ 0) → sum_by (tally_beside cost y) xs ≡ 0
-beyond_tallies cost xs y none = sum_by-same _ _ (λ x. free_period cost y x (none x.period)) xs ∙ sum_by-zeros xs
+pub beyond_tallies : (cost : ℕ → ℕ → ℕ) (xs : List Tally) (y : Tally)
+    → ((q : ℕ) → cost q y.period ≡ 0) → sum_by (tally_beside cost y) xs ≡ 0
+beyond_tallies cost xs y none =
+    sum_by-same _ _ (λ x. free_period cost y x (none x.period)) xs ∙ sum_by-zeros xs
 
 -- ---- bounds
 
@@ -108,7 +143,8 @@ picked-small : (b : Bool) (n m : ℕ) → n ≤ m → cond b n 0 ≤ m
 picked-small true n m h = h
 picked-small false n m h = omega arith
 
-pub beside_small : (cost : ℕ → ℕ → ℕ) (xs : List Tally) (y : Tally) (k : ℕ) → ((p q : ℕ) → cost p q ≤ 100000) → row_count xs ≤ 200000
+pub beside_small : (cost : ℕ → ℕ → ℕ) (xs : List Tally) (y : Tally) (k : ℕ)
+    → ((p q : ℕ) → cost p q ≤ 100000) → row_count xs ≤ 200000
     → sum_by (tally_beside cost y) (take k xs) ≤ 20000000000
 beside_small cost xs y k small few =
     let part = sum_by-take-le (tally_beside cost y) xs k in
@@ -118,43 +154,59 @@ beside_small cost xs y k small few =
   where
     one : (x : Tally) → tally_beside cost y x ≤ tally_sum (λ r. 1) x * 100000
     one x =
-        let h = mul-le x.exams (cond (eqb y.student x.student) (cost x.period y.period) 0) x.exams 100000 (omega arith) (picked-small (eqb y.student x.student) (cost x.period y.period) 100000 (small x.period y.period)) in
+        let h = mul-le x.exams (cond (eqb y.student x.student) (cost x.period y.period) 0) x.exams
+        100000 (omega arith)
+        (picked-small (eqb y.student x.student) (cost x.period y.period) 100000
+        (small x.period y.period)) in
         omega arith
 
-pub exams_few : (xs : List Tally) (k : ℕ) (d : Tally) → k < length xs → row_count xs ≤ 200000 → (get_or xs k d).exams ≤ 200000
-exams_few xs k d within few = let h = get_or-le-sum_by (tally_sum (λ r. 1)) xs k d within in omega arith
+pub exams_few : (xs : List Tally) (k : ℕ) (d : Tally) → k < length xs → row_count xs ≤ 200000
+    → (get_or xs k d).exams ≤ 200000
+exams_few xs k d within few = let h = get_or-le-sum_by (tally_sum (λ r. 1)) xs k d within in
+    omega arith
 
 -- ---- one tally more
 
-pub pairs_more : (cost : ℕ → ℕ → ℕ) (xs : List Tally) (k total more : ℕ) (y : Tally) → k < length xs → y ≡ get_or xs k y
+pub pairs_more : (cost : ℕ → ℕ → ℕ) (xs : List Tally) (k total more : ℕ) (y : Tally) → k < length xs
+    → y ≡ get_or xs k y
     → total ≡ tally_cost cost (take k xs) → more ≡ sum_by (tally_beside cost y) (take k xs)
     → total + more * y.exams ≡ tally_cost cost (take (k + 1) xs)
 pairs_more cost xs k total more y within here was is =
     let step = sum_pairs-more (tally_pair cost) xs k y within in
-    let at : sum_by (λ x. tally_pair cost x (get_or xs k y)) (take k xs) ≡ sum_by (λ x. tally_pair cost x y) (take k xs) = ap (λ z. sum_by (λ x. tally_pair cost x z) (take k xs)) (sym here) in
+    let at : sum_by (λ x. tally_pair cost x (get_or xs k y)) (take k xs)
+    ≡ sum_by (λ x. tally_pair cost x y) (take k xs) =
+    ap (λ z. sum_by (λ x. tally_pair cost x z) (take k xs)) (sym here) in
     let times = sum_by-times (tally_beside cost y) y.exams (take k xs) in
-    let own : more * y.exams ≡ sum_by (tally_beside cost y) (take k xs) * y.exams = ap (λ n. n * y.exams) is in
+    let own : more * y.exams ≡ sum_by (tally_beside cost y) (take k xs) * y.exams =
+    ap (λ n. n * y.exams) is in
     omega arith
 
-pub small_more : (xs : List Tally) (k total more : ℕ) (y : Tally) → k < length xs → y ≡ get_or xs k y
+pub small_more : (xs : List Tally) (k total more : ℕ) (y : Tally) → k < length xs
+    → y ≡ get_or xs k y
     → total ≤ row_count (take k xs) * 20000000000 → more ≤ 20000000000
     → total + more * y.exams ≤ row_count (take (k + 1) xs) * 20000000000
 small_more xs k total more y within here was small =
     let step = sum_by_more (tally_sum (λ r. 1)) xs k y within in
-    let at : tally_sum (λ r. 1) (get_or xs k y) ≡ y.exams * 1 = ap (tally_sum (λ r. 1)) (sym here) in
+    let at : tally_sum (λ r. 1) (get_or xs k y) ≡ y.exams * 1 =
+    ap (tally_sum (λ r. 1)) (sym here) in
     let product = mul-le more y.exams 20000000000 y.exams small (omega arith) in
     omega arith
 
-pub small_within : (xs : List Tally) (k total : ℕ) → row_count xs ≤ 200000 → total ≤ row_count (take k xs) * 20000000000 → total ≤ 4000000000000000
+pub small_within : (xs : List Tally) (k total : ℕ) → row_count xs ≤ 200000
+    → total ≤ row_count (take k xs) * 20000000000 → total ≤ 4000000000000000
 small_within xs k total few was = let h = sum_by-take-le (tally_sum (λ r. 1)) xs k in omega arith
 
 -- ---- rows
 
-pub cost_with-small : (cost : ℕ → ℕ → ℕ) (rows : List Row) → ((p q : ℕ) → cost p q ≤ 100000) → length rows ≤ 200000 → cost_with cost rows ≤ 4000000000000000
+pub cost_with-small : (cost : ℕ → ℕ → ℕ) (rows : List Row) → ((p q : ℕ) → cost p q ≤ 100000)
+    → length rows ≤ 200000 → cost_with cost rows ≤ 4000000000000000
 cost_with-small cost rows small few =
     let bound = sum_pairs-le (row_pair cost) 100000 pair_small rows in
-    let product = mul-le (length rows) (length rows * 100000) 200000 20000000000 few (omega arith) in
+    let product =
+    mul-le (length rows) (length rows * 100000) 200000 20000000000 few (omega arith) in
     omega arith
   where
     pair_small : (x y : Row) → row_pair cost x y ≤ 100000
-    pair_small x y = picked-small (eqb y.student x.student) (cost x.period y.period) 100000 (small x.period y.period)
+    pair_small x y =
+        picked-small (eqb y.student x.student) (cost x.period y.period) 100000
+        (small x.period y.period)

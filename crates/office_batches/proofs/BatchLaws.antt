@@ -18,15 +18,18 @@ use Rattle.office_batches.specs.FirstFault.{first_from, first_of, first_batch_fa
 -- ---- records behind the first
 
 -- the reading goes on behind a record as its change is read
-abbrev going_on : ℕ → List Change → List Record → Result Change FaultKind → Result (List Change) FileFault
+abbrev going_on : ℕ → List Change → List Record → Result Change FaultKind
+    → Result (List Change) FileFault
 going_on line before others c =
-    at_line line (c >>= λ change. Ok (before ++ change ∷ [])) >>= λ now. changes_from (line + 1) now others
+    at_line line (c >>= λ change. Ok (before ++ change ∷ [])) >>= λ now.
+    changes_from (line + 1) now others
 
 step : (line : ℕ) (before : List Change) (fields : Record) (others : List Record) → 2 ≤ line
     → changes_from line before (fields ∷ others) ≡ going_on line before others (change_in fields)
 step line before fields others le =
     ap (λ b. at_line line (if b then (unless (is_header fields) BadHeader >>= λ _. Ok before)
-    else (change_in fields >>= λ change. Ok (before ++ change ∷ []))) >>= λ now. changes_from (line + 1) now others)
+    else (change_in fields >>= λ change. Ok (before ++ change ∷ []))) >>= λ now.
+    changes_from (line + 1) now others)
     (ne_eqb line 1 (λ same. omega arith))
 
 end : (line : ℕ) (before : List Change) → 2 ≤ line → changes_from line before [] ≡ Ok before
@@ -53,9 +56,11 @@ read_from line before (r ∷ rs) (x ∷ xs) le is =
 abbrev Says : List Change → List Record → List Change → Type 0
 Says before rs out = (xs : List Change) × (out ≡ before ++ xs) × (map change_in rs ≡ map Ok xs)
 
-spelled_by : (line : ℕ) (before : List Change) (r : Record) (rs : List Record) (out : List Change) → 2 ≤ line
+spelled_by : (line : ℕ) (before : List Change) (r : Record) (rs : List Record) (out : List Change)
+    → 2 ≤ line
     → changes_from line before (r ∷ rs) ≡ Ok out → (c : Result Change FaultKind) → change_in r ≡ c
-    → ((x : Change) → changes_from (line + 1) (before ++ x ∷ []) rs ≡ Ok out → Says (before ++ x ∷ []) rs out)
+    → ((x : Change) → changes_from (line + 1) (before ++ x ∷ []) rs ≡ Ok out
+    → Says (before ++ x ∷ []) rs out)
     → Says before (r ∷ rs) out
 spelled_by line before r rs out le is (Err what) e later =
     let apart : Err (let f : FileFault = record { line = line; what = what } in f) ≡ Ok out
@@ -77,7 +82,8 @@ spelled_from line before (r ∷ rs) out le is =
 
 fault_as : (line : ℕ) (before : List Change) (r : Record) (rs : List Record) → 2 ≤ line
     → (c : Result Change FaultKind) → change_in r ≡ c
-    → ((x : Change) → first_from (line + 1) rs ≡ fault_of (changes_from (line + 1) (before ++ x ∷ []) rs))
+    → ((x : Change) → first_from (line + 1) rs
+    ≡ fault_of (changes_from (line + 1) (before ++ x ∷ []) rs))
     → first_from line (r ∷ rs) ≡ fault_of (changes_from line before (r ∷ rs))
 fault_as line before r rs le (Err what) e later =
     ap (λ d. at_line_or line (fault_of d) (first_from (line + 1) rs)) e
@@ -127,7 +133,8 @@ batch_spelled b xs is = by_size (nat_le (length b) 1048576) refl
           say = said.2 ∙ ap (map Ok) (sym said.1);
         }
 
-    by_records : length b ≤ 1048576 → (rs : List Record) → records_in b ≡ rs → changes_from 1 [] rs ≡ Ok xs → BatchText b xs
+    by_records : length b ≤ 1048576 → (rs : List Record) → records_in b ≡ rs
+        → changes_from 1 [] rs ≡ Ok xs → BatchText b xs
     by_records le [] are read = absurd (cc)
     by_records le (h ∷ others) are read = by_header h others le are (is_header h) refl read
 
@@ -142,7 +149,8 @@ pub batch_fault : (b : List ℕ) → first_batch_fault b ≡ fault_of (batch_in 
 batch_fault b = by_size (nat_le (length b) 1048576)
   where
     by_header : (others : List Record) (t : Bool)
-        → at_line_or 1 (if t then None else Some BadHeader) (first_from 2 others) ≡ fault_of (headed others t)
+        → at_line_or 1 (if t then None else Some BadHeader) (first_from 2 others)
+        ≡ fault_of (headed others t)
     by_header others true = fault_from 2 [] others (omega arith)
     by_header others false = refl
 
@@ -150,7 +158,9 @@ batch_fault b = by_size (nat_le (length b) 1048576)
     by_records [] = refl
     by_records (h ∷ others) = by_header others (is_header h)
 
-    by_size : (t : Bool) → (if t then first_of (records_in b) else Some (let f : FileFault = record { line = 0; what = TooLong } in f))
+    by_size : (t : Bool)
+        → (if t then first_of (records_in b)
+        else Some (let f : FileFault = record { line = 0; what = TooLong } in f))
         ≡ fault_of (sized b t)
     by_size true = by_records (records_in b)
     by_size false = refl

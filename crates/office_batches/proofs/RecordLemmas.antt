@@ -23,7 +23,8 @@ abbrev pub bytes_of : Bor (List ℕ) → Option (List ℕ)
 bytes_of s = Some s.now
 
 -- behind so many records of a text, with these changes: what is left is read on from here
-pub record IsBehind (text : List ℕ) (reader : Reader (Bor (List ℕ))) (changes : List Change) (before : ℕ)
+pub record IsBehind (text : List ℕ) (reader : Reader (Bor (List ℕ)))
+    (changes : List Change) (before : ℕ)
     : Type 0 where
   pub left : List ℕ
   pub turns : ℕ
@@ -59,7 +60,8 @@ one_more : (a b : Reader (Bor (List ℕ))) (f : Record) (y : List ℕ) → a.con
     → records_from default_config (suc n) a.state y ≡ f ∷ records_from default_config n b.state z)
 unfolding Reached
 one_more a b f y config source reads =
-    let m = rows-more bytes_of a b f default_config a.state y y [] config source (refl, refl) reads in
+    let m = rows-more bytes_of a b f default_config a.state y y [] config source
+    (refl, refl) reads in
     (m.0, m.1, λ n. step_from n a.state b.state y m.0 f m.2.0 m.2.1 m.2.2 m.2.3.0 m.2.3.1)
 
 -- a turn that is left
@@ -81,7 +83,8 @@ started text reader source config trim ready begins = record {
   ready = ready;
   counted = omega arith;
   whole = ap (changes_from 1 []) (sym (all_records text))
-      ∙ ap (λ (s : State). changes_from 1 [] (records_from default_config (length text + 1) s (strip_bom text)))
+      ∙ ap (λ (s : State).
+      changes_from 1 [] (records_from default_config (length text + 1) s (strip_bom text)))
       (sym begins);
 }
 
@@ -89,7 +92,8 @@ module _ (text : List ℕ) (a b : Reader (Bor (List ℕ))) (changes : List Chang
     (f : Record) (at : IsBehind text a changes before) where
   -- what the next record makes of the changes
   read_on : before < length text + 1 → ReadRecord bytes_of a b true f
-      → (left : List ℕ) × (n : ℕ) × (source_of bytes_of b ≡ Some left) × (before + 1 + n ≡ length text + 1)
+      → (left : List ℕ) × (n : ℕ) × (source_of bytes_of b ≡ Some left)
+      × (before + 1 + n ≡ length text + 1)
       × (changes_from 1 [] (records_in text)
       ≡ (at_line (before + 1) (behind (before + 1) changes f) >>= λ now.
       changes_from (before + 1 + 1) now (records_from default_config n b.state left)))
@@ -103,7 +107,9 @@ module _ (text : List ℕ) (a b : Reader (Bor (List ℕ))) (changes : List Chang
         more.1,
         counted,
         at.whole
-            ∙ ap (λ (t : ℕ). changes_from (before + 1) changes (records_from default_config t a.state at.left)) turn.1
+            ∙ ap (λ (t : ℕ). changes_from (before + 1) changes
+            (records_from default_config t a.state at.left))
+            turn.1
             ∙ ap (changes_from (before + 1) changes) (more.2 turn.0),
       )
 
@@ -150,10 +156,13 @@ unfolding records_from
 spent text a changes before at all =
     let none : at.turns ≡ 0 = omega (arith, at.counted) in
     at.whole
-    ∙ ap (λ (t : ℕ). changes_from (before + 1) changes (records_from default_config t a.state at.left)) none
+    ∙ ap (λ (t : ℕ). changes_from (before + 1) changes
+    (records_from default_config t a.state at.left))
+    none
 
 -- behind a header the changes are all
-pub all_changes : (n : ℕ) (changes : List Change) → 1 ≤ n → changes_from (n + 1) changes [] ≡ Ok changes
+pub all_changes : (n : ℕ) (changes : List Change) → 1 ≤ n
+    → changes_from (n + 1) changes [] ≡ Ok changes
 all_changes n changes some =
     let header : 2 ≤ n + 1 = omega arith in
     rw (le-leb 2 (n + 1) header) refl

@@ -45,15 +45,18 @@ unfolding records_from
 same_records zero n s xs le short = absurd (omega arith)
 same_records (suc m) zero s xs le short = absurd (omega arith)
 same_records (suc m) (suc n) s xs le short =
-    by (next_record default_config s [] [] xs) refl (λ t ys few. same_records m n t ys (omega arith) few)
+    by (next_record default_config s [] [] xs) refl
+    (λ t ys few. same_records m n t ys (omega arith) few)
   where
     by : (o : Option Read) → next_record default_config s [] [] xs ≡ o
         → ((t : State) (ys : List ℕ) → length ys < n
         → records_from default_config m t ys ≡ records_from default_config n t ys)
-        → records_next (records_from default_config m) o ≡ records_next (records_from default_config n) o
+        → records_next (records_from default_config m) o
+        ≡ records_next (records_from default_config n) o
     by None is later = refl
     by (Some p) is later =
-        ap (λ (rs : List (List (List ℕ))). p.0 ∷ rs) (elim (left_behind default_config s [] [] xs p is) [
+        ap (λ (rs : List (List (List ℕ))). p.0 ∷ rs)
+        (elim (left_behind default_config s [] [] xs p is) [
           | inl fewer ↦ later p.1 p.2 (omega arith)
           | inr nothing ↦ rw (nothing.0, nothing.1) (none_left m ∙ sym (none_left n))
         ])
@@ -73,7 +76,8 @@ without_mark (x ∷ y ∷ z ∷ rest) =
     choice_within (is_bom x y z) rest (x ∷ y ∷ z ∷ rest) (omega arith)
 
 -- as many turns as bytes, and one, give all records
-pub all_records : (b : List ℕ) → records_from default_config (length b + 1) state.StartRecord (strip_bom b)
+pub all_records : (b : List ℕ)
+    → records_from default_config (length b + 1) state.StartRecord (strip_bom b)
     ≡ records default_config (strip_bom b)
 all_records b =
     let within = without_mark b in

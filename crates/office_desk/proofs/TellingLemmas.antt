@@ -49,7 +49,8 @@ refusal_told says old gives Stays f told is stays same =
 -- any fault of a call
 pub fault_told : {A : Type 0} (says : A → PlainAnswer) (old : OfficeState) (gives : Gives A)
     (Stays : OfficeState → Type 0) (f : StoreFault) (told : PlainAnswer)
-    → Does gives old Stays (Err f) → told ≡ refusal f → Tells (outcome says old gives) old Stays told
+    → Does gives old Stays (Err f) → told ≡ refusal f
+    → Tells (outcome says old gives) old Stays told
 fault_told says old gives Stays Store told does same = inr (same, does.1)
 fault_told says old gives Stays BadSchema told does same = absurd does.0
 fault_told says old gives Stays f told does same =

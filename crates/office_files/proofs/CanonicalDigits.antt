@@ -19,7 +19,8 @@ hundreds n least most =
     let high : n / 10 / 10 ≡ n / 100 = omega arith in
     let mid : n / 10 % 10 ≡ n % 100 / 10 = omega arith in
     let low : n % 10 ≡ n % 100 % 10 = omega arith in
-    rw (decimal_step n (omega arith) (omega arith), tens (n / 10) (omega arith) (omega arith), high, mid, low) refl
+    rw (decimal_step n (omega arith) (omega arith), tens (n / 10) (omega arith) (omega arith), high, mid, low)
+    refl
 
 -- a number of four digits
 thousands : (n : ℕ) → 1000 ≤ n → n ≤ 9999 → decimal n ≡ two_digits (n / 100) ++ two_digits (n % 100)

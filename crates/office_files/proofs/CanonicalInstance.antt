@@ -185,9 +185,12 @@ module _ (counts : Counts) where
   periods_whole ps all some most = record {
     headed = counted_said (codes "Periods") 200 (length ps) is_periods some most (omega arith);
     header = counted_field (codes "Periods") (length ps) is_periods (omega arith);
-    lines = each_of PeriodInLimits (λ p. IsLine (period_text p) (period_fields p)) period_written ps all;
+    lines = each_of PeriodInLimits
+        (λ p. IsLine (period_text p) (period_fields p)) period_written ps all;
     none = each_of PeriodInLimits (λ p. is_header (period_text p) ≡ false)
-        (λ p is. ne_eqb (48 + p.date.day / 10) 91 (λ same. omega (arith, (date_ranges p.date is.0).2.1))) ps all;
+        (λ p is. ne_eqb (48 + p.date.day / 10) 91
+        (λ same. omega (arith, (date_ranges p.date is.0).2.1)))
+        ps all;
     back = reads_within periods_heading (period_line counts) period_text period_fields
         PeriodInLimits 200 (λ done p is lt. period_back p is) [] ps (omega (arith, most)) all;
   }
@@ -212,7 +215,8 @@ module _ (counts : Counts) where
 
   period_rules_whole : (rs : List PeriodRule) → counts.exams ≤ 2000
       → All (PeriodRuleExists counts.exams) rs → length rs ≤ 5000
-      → IsWritten period_rules_heading (period_rule_line counts) period_rule_text period_rule_fields rs
+      → IsWritten period_rules_heading
+      (period_rule_line counts) period_rule_text period_rule_fields rs
   period_rules_whole rs le all most = record {
     headed = plain_said (codes "PeriodHardConstraints") is_period_rules;
     header = plain_field (codes "PeriodHardConstraints") is_period_rules;
@@ -245,7 +249,8 @@ module _ (counts : Counts) where
   }
 
   weightings_whole : (w : Weights) → WeightsInLimits w
-      → IsWritten weightings_heading (weighting_line counts) weighting_text weighting_fields (weightings_of w)
+      → IsWritten weightings_heading (weighting_line counts) weighting_text weighting_fields
+      (weightings_of w)
   weightings_whole w is = record {
     headed = plain_said (codes "InstitutionalWeightings") is_weightings;
     header = plain_field (codes "InstitutionalWeightings") is_weightings;
@@ -303,7 +308,8 @@ period_short p is =
     let line = line_length (period_text p) in
     let last = before_length (decimal p.length) (decimal p.penalty) in
     let mid = before_length (time_text p) (before (decimal p.length) (decimal p.penalty)) in
-    let all = before_length (date_text p.date) (before (time_text p) (before (decimal p.length) (decimal p.penalty))) in
+    let all = before_length (date_text p.date)
+    (before (time_text p) (before (decimal p.length) (decimal p.penalty))) in
     let date : length (date_text p.date) ≡ 10 = refl in
     let time : length (time_text p) ≡ 8 = refl in
     let minutes = four p.length (omega (arith, is.4)) in
@@ -333,7 +339,8 @@ period_rule_short : (n : ℕ) (r : PeriodRule) → n ≤ 2000 → PeriodRuleExis
 period_rule_short n (After a b) le is =
     rule_length a b (codes "AFTER") (omega (arith, is.0)) (omega (arith, is.1)) (omega arith)
 period_rule_short n (Coincidence a b) le is =
-    rule_length a b (codes "EXAM_COINCIDENCE") (omega (arith, is.0)) (omega (arith, is.1)) (omega arith)
+    rule_length a b (codes "EXAM_COINCIDENCE") (omega (arith, is.0))
+    (omega (arith, is.1)) (omega arith)
 period_rule_short n (Exclusion a b) le is =
     rule_length a b (codes "EXCLUSION") (omega (arith, is.0)) (omega (arith, is.1)) (omega arith)
 
@@ -374,11 +381,15 @@ weightings_short w is = (
 )
   where
     front_short : (n k v : ℕ) → n ≤ 100000 → k ≤ 100000 → v ≤ 100000
-        → length (line_of (codes "FRONTLOAD" ++ 44 ∷ (decimal n ++ 44 ∷ (decimal k ++ 44 ∷ decimal v)))) ≤ 36
+        → length (line_of
+        (codes "FRONTLOAD" ++ 44 ∷ (decimal n ++ 44 ∷ (decimal k ++ 44 ∷ decimal v))))
+        ≤ 36
     front_short n k v n_in k_in v_in =
-        let text : List ℕ = codes "FRONTLOAD" ++ 44 ∷ (decimal n ++ 44 ∷ (decimal k ++ 44 ∷ decimal v)) in
+        let text : List ℕ =
+        codes "FRONTLOAD" ++ 44 ∷ (decimal n ++ 44 ∷ (decimal k ++ 44 ∷ decimal v)) in
         let line = line_length text in
-        let word = length-append (codes "FRONTLOAD") (44 ∷ (decimal n ++ 44 ∷ (decimal k ++ 44 ∷ decimal v))) in
+        let word = length-append (codes "FRONTLOAD")
+        (44 ∷ (decimal n ++ 44 ∷ (decimal k ++ 44 ∷ decimal v))) in
         let front = length-append (decimal n) (44 ∷ (decimal k ++ 44 ∷ decimal v)) in
         let back = length-append (decimal k) (44 ∷ decimal v) in
         let one = amount n n_in in
@@ -452,39 +463,59 @@ instance_spelled I E is kept fits =
     let t2 : List ℕ = s2 ++ t3 in
     let a1 = section_written exams_heading exam_line exam_text exam_fields es w1 1 0 t2
     (at_section periods_heading (period_line counts) period_text period_fields I.periods w2 t3) in
-    let a2 = section_written periods_heading (period_line counts) period_text period_fields I.periods w2
-    a1.0 a1.1 t3 (at_section rooms_heading (room_line counts) room_text room_fields I.rooms w3 t4) in
+    let a2 = section_written periods_heading
+    (period_line counts) period_text period_fields I.periods w2
+    a1.0 a1.1 t3
+    (at_section rooms_heading (room_line counts) room_text room_fields I.rooms w3 t4) in
     let a3 = section_written rooms_heading (room_line counts) room_text room_fields I.rooms w3
-    a2.0 a2.1 t4 (at_section period_rules_heading (period_rule_line counts) period_rule_text period_rule_fields I.period_rules w4 t5) in
-    let a4 = section_written period_rules_heading (period_rule_line counts) period_rule_text period_rule_fields I.period_rules w4
-    a3.0 a3.1 t5 (at_section room_rules_heading (room_rule_line counts) room_rule_text room_rule_fields I.room_rules w5 t6) in
-    let a5 = section_written room_rules_heading (room_rule_line counts) room_rule_text room_rule_fields I.room_rules w5
-    a4.0 a4.1 t6 (at_section weightings_heading (weighting_line counts) weighting_text weighting_fields ws w6 []) in
-    let a6 = section_written weightings_heading (weighting_line counts) weighting_text weighting_fields ws w6
+    a2.0 a2.1 t4
+    (at_section period_rules_heading
+    (period_rule_line counts) period_rule_text period_rule_fields I.period_rules w4 t5) in
+    let a4 = section_written period_rules_heading
+    (period_rule_line counts) period_rule_text period_rule_fields I.period_rules w4
+    a3.0 a3.1 t5
+    (at_section room_rules_heading
+    (room_rule_line counts) room_rule_text room_rule_fields I.room_rules w5 t6) in
+    let a5 = section_written room_rules_heading
+    (room_rule_line counts) room_rule_text room_rule_fields I.room_rules w5
+    a4.0 a4.1 t6
+    (at_section weightings_heading
+    (weighting_line counts) weighting_text weighting_fields ws w6 []) in
+    let a6 = section_written weightings_heading
+    (weighting_line counts) weighting_text weighting_fields ws w6
     a5.0 a5.1 [] (λ line at. tt) in
     let whole : canonical_instance I E ≡ s1 ++ t2 = nested s1 s2 s3 s4 s5 s6 in
     let sizes = six_lengths s1 s2 s3 s4 s5 s6 in
     let l1 = exams_short es such in
-    let l1' = length-append (line_of (header_text exams_heading (length es))) (flat_map (λ e. line_of (exam_text e)) es) in
+    let l1' = length-append (line_of (header_text exams_heading (length es)))
+    (flat_map (λ e. line_of (exam_text e)) es) in
     let h1 = counted_short (codes "Exams") (length es) is_exams most in
-    let l2 = section_short periods_heading (period_line counts) period_text period_fields 36 I.periods
+    let l2 = section_short periods_heading
+    (period_line counts) period_text period_fields 36 I.periods
     (counted_short (codes "Periods") (length I.periods) is_periods (omega (arith, counted.1.1)))
-    (each_of PeriodInLimits (λ p. length (line_of (period_text p)) ≤ 36) period_short I.periods limits.periods) in
+    (each_of PeriodInLimits (λ p. length (line_of (period_text p)) ≤ 36) period_short I.periods
+    limits.periods) in
     let l3 = section_short rooms_heading (room_line counts) room_text room_fields 36 I.rooms
     (counted_short (codes "Rooms") (length I.rooms) is_rooms (omega (arith, counted.2.1)))
-    (each_of RoomInLimits (λ r. length (line_of (room_text r)) ≤ 36) room_short I.rooms limits.rooms) in
-    let l4 = section_short period_rules_heading (period_rule_line counts) period_rule_text period_rule_fields 36 I.period_rules
+    (each_of RoomInLimits (λ r. length (line_of (room_text r)) ≤ 36) room_short I.rooms
+    limits.rooms) in
+    let l4 = section_short period_rules_heading
+    (period_rule_line counts) period_rule_text period_rule_fields 36 I.period_rules
     (plain_short (codes "PeriodHardConstraints") is_period_rules)
     (each_of (PeriodRuleExists (length es)) (λ r. length (line_of (period_rule_text r)) ≤ 36)
     (λ r ok. period_rule_short (length es) r most ok) I.period_rules period_rules) in
-    let l5 = section_short room_rules_heading (room_rule_line counts) room_rule_text room_rule_fields 36 I.room_rules
+    let l5 = section_short room_rules_heading
+    (room_rule_line counts) room_rule_text room_rule_fields 36 I.room_rules
     (plain_short (codes "RoomHardConstraints") is_room_rules)
     (each_of (RoomRuleExists (length es)) (λ r. length (line_of (room_rule_text r)) ≤ 36)
     (λ r ok. room_rule_short (length es) r most ok) I.room_rules room_rules) in
-    let l6 = section_short weightings_heading (weighting_line counts) weighting_text weighting_fields 36 ws
-    (plain_short (codes "InstitutionalWeightings") is_weightings) (weightings_short I.weights limits.weights) in
+    let l6 = section_short weightings_heading
+    (weighting_line counts) weighting_text weighting_fields 36 ws
+    (plain_short (codes "InstitutionalWeightings") is_weightings)
+    (weightings_short I.weights limits.weights) in
     record {
-      within = omega (arith, kept.pairs, counted.0.1, counted.1.1, counted.2.1, counted.3, counted.4);
+      within = omega
+          (arith, kept.pairs, counted.0.1, counted.1.1, counted.2.1, counted.3, counted.4);
       said = record {
         exams = es;
         periods = I.periods;
@@ -498,7 +529,9 @@ instance_spelled I E is kept fits =
       behind_rooms = rows a3.0 a3.1 t4;
       behind_period_rules = rows a4.0 a4.1 t5;
       behind_room_rules = rows a5.0 a5.1 t6;
-      exams = subst (λ (t : List ℕ). IsSection exams_heading exam_line (rows 1 0 t) es (rows a1.0 a1.1 t2)) (sym whole) a1.2;
+      exams = subst
+          (λ (t : List ℕ). IsSection exams_heading exam_line (rows 1 0 t) es (rows a1.0 a1.1 t2))
+          (sym whole) a1.2;
       periods = a2.2;
       rooms = a3.2;
       period_rules = a4.2;

@@ -138,9 +138,11 @@ weightings_written w is = (
   (
     weighed_written (codes "TWOINADAY") w.day (record { some = omega arith; plain = refl }) is.1,
     (
-      weighed_written (codes "PERIODSPREAD") w.spread (record { some = omega arith; plain = refl }) is.2,
+      weighed_written (codes "PERIODSPREAD") w.spread
+          (record { some = omega arith; plain = refl }) is.2,
       (
-        weighed_written (codes "NONMIXEDDURATIONS") w.mixed (record { some = omega arith; plain = refl }) is.3,
+        weighed_written (codes "NONMIXEDDURATIONS") w.mixed
+            (record { some = omega arith; plain = refl }) is.3,
         (
           front_written w.front_exams w.front_periods w.front is.4 is.5 is.6,
           tt,
@@ -154,8 +156,10 @@ weightings_written w is = (
         → IsLine (weighting_text (Front n k v)) (weighting_fields (Front n k v))
     front_written n k v n_in k_in v_in =
         let last = line_alone (decimal v) (field_decimal v (omega arith)) in
-        let two = line_comma (decimal k) (decimal v) (decimal v ∷ []) (field_decimal k (omega arith)) last in
-        let three = line_comma (decimal n) (decimal k ++ 44 ∷ decimal v) (decimal k ∷ decimal v ∷ [])
+        let two = line_comma (decimal k) (decimal v) (decimal v ∷ [])
+        (field_decimal k (omega arith)) last in
+        let three = line_comma (decimal n) (decimal k ++ 44 ∷ decimal v)
+        (decimal k ∷ decimal v ∷ [])
         (field_decimal n (omega arith)) two in
         line_comma (codes "FRONTLOAD") (decimal n ++ 44 ∷ (decimal k ++ 44 ∷ decimal v))
         (decimal n ∷ decimal k ∷ decimal v ∷ []) (record { some = omega arith; plain = refl }) three
@@ -227,7 +231,8 @@ pub exam_back : (pairs : ℕ) (e : ExamLine) → e.minutes ≤ 1440
 exam_back pairs e le all up fits =
     let named = all_named e.students all in
     let inside = in_order e.students up in
-    let read = rw (named.0, named.1, inside) at (students_in-within pairs [] (map decimal e.students)
+    let read = rw (named.0, named.1, inside) at (students_in-within pairs []
+    (map decimal e.students)
     (rw (named.0, inside) fits)) in
     rw (number_decimal 1440 e.minutes le (omega arith), read) refl
 
@@ -327,7 +332,8 @@ time_field p =
 
 pub period_written : (p : Period) → PeriodInLimits p → IsLine (period_text p) (period_fields p)
 period_written p is =
-    line_before (date_text p.date) (before (time_text p) (before (decimal p.length) (decimal p.penalty)))
+    line_before (date_text p.date)
+    (before (time_text p) (before (decimal p.length) (decimal p.penalty)))
     (time_text p ∷ decimal p.length ∷ decimal p.penalty ∷ []) (date_field p.date)
     (line_before (time_text p) (before (decimal p.length) (decimal p.penalty))
     (decimal p.length ∷ decimal p.penalty ∷ []) (time_field p)

@@ -81,7 +81,8 @@ end_plain [] e = refl
 end_plain (x ∷ []) e =
     end_alone x (no_blank x (and_parts (plain_byte x) true e).0)
 end_plain (x ∷ y ∷ ys) e =
-    ap (before_end x) (end_plain (y ∷ ys) (and_parts (plain_byte x) (list_all plain_byte (y ∷ ys)) e).1)
+    ap (before_end x)
+    (end_plain (y ∷ ys) (and_parts (plain_byte x) (list_all plain_byte (y ∷ ys)) e).1)
 
 end_some : (b : ℕ) (xs : List ℕ) → 0 < length xs → before_end b xs ≡ b ∷ xs
 end_some b [] some = absurd (omega arith)
@@ -180,7 +181,8 @@ record IsDecimal (n : ℕ) (ds : List ℕ) : Type 0 where
   plain : list_all plain_byte ds ≡ true
   value : read_on 0 ds ≡ n
 
-read_on-push : (n : ℕ) (ds : List ℕ) (d : ℕ) → read_on n (ds ++ d ∷ []) ≡ 10 * read_on n ds + (d - 48)
+read_on-push : (n : ℕ) (ds : List ℕ) (d : ℕ)
+    → read_on n (ds ++ d ∷ []) ≡ 10 * read_on n ds + (d - 48)
 read_on-push n [] d = refl
 read_on-push n (e ∷ ds) d = read_on-push (10 * n + (e - 48)) ds d
 
@@ -227,7 +229,8 @@ decimal_apart c n other lt =
 
 -- a line that begins with it is no header
 pub decimal_first : (n : ℕ) (ys : List ℕ) → n < 2000000000 → is_header (decimal n ++ ys) ≡ false
-decimal_first n ys lt = first (decimal n) (is_decimal n (small n lt)).some (decimal_apart 91 n refl lt)
+decimal_first n ys lt =
+    first (decimal n) (is_decimal n (small n lt)).some (decimal_apart 91 n refl lt)
   where
     first : (ds : List ℕ) → 0 < length ds → AllByRecursion (λ b. b ≢ 91) ds
         → is_header (ds ++ ys) ≡ false

@@ -61,7 +61,8 @@ counted_field word n is lt =
     record {
       some = omega arith;
       plain = list_all-append plain_byte word (58 ∷ (decimal n ++ 93 ∷ []))
-          ∙ rw (is.field.plain, list_all-append plain_byte (decimal n) (93 ∷ []), digits.plain) refl;
+          ∙ rw (is.field.plain, list_all-append plain_byte (decimal n) (93 ∷ []), digits.plain)
+          refl;
     }
 
 pub plain_field : (word : List ℕ) → IsWord word → IsField (91 ∷ (word ++ 93 ∷ []))

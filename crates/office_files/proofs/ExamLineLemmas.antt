@@ -129,7 +129,8 @@ pub students-sorted : (names sorted kept : List ℕ) → IsPermutation names sor
     IsSorted nat_cmp sorted → kept ≡ dedup nat_eq sorted →
     (kept ≡ with_students names []) × IsAscending kept
 students-sorted names sorted kept moved up is =
-    let rises : IsAscending kept = rw is (ascending-increasing (dedup nat_eq sorted) (IsStrictlyIncreasing-dedup sorted up)) in (
+    let rises : IsAscending kept =
+    rw is (ascending-increasing (dedup nat_eq sorted) (IsStrictlyIncreasing-dedup sorted up)) in (
       students-same names kept rises (λ t.
           ap (λ (xs : List ℕ). has_number xs t) is
           ∙ has-dedup sorted t

@@ -22,25 +22,41 @@ among n = record { exams = n; periods = 0; rooms = 0 }
 
 module _ (end n : ℕ) (exams : List ExamLine) (same : length exams ≡ n)
     (lines behind_periods behind_rooms : List Located) (periods : List Period) (rooms : List Room)
-    (are_periods : section_in periods_heading (period_line (among n)) end lines ≡ Ok (periods, behind_periods))
-    (are_rooms : section_in rooms_heading (room_line (among n)) end behind_periods ≡ Ok (rooms, behind_rooms))
+    (are_periods : section_in periods_heading (period_line (among n)) end lines
+    ≡ Ok (periods, behind_periods))
+    (are_rooms : section_in rooms_heading (room_line (among n)) end behind_periods
+    ≡ Ok (rooms, behind_rooms))
     (behind_period_rules : List Located) (period_rules : List PeriodRule)
-    (are_period_rules : section_in period_rules_heading (period_rule_line (among n)) end behind_rooms ≡ Ok (period_rules, behind_period_rules)) where
+    (are_period_rules : section_in period_rules_heading
+    (period_rule_line (among n)) end behind_rooms
+    ≡ Ok (period_rules, behind_period_rules)) where
   -- a fault in the rules on rooms
-  pub faulty_room_rules : (fault : FileFault) → section_in room_rules_heading (room_rule_line (among n)) end behind_period_rules ≡ Err fault → later_sections end exams lines ≡ Err fault
+  pub faulty_room_rules : (fault : FileFault)
+      → section_in room_rules_heading (room_rule_line (among n)) end behind_period_rules ≡ Err fault
+      → later_sections end exams lines ≡ Err fault
   faulty_room_rules fault is = rw (same, are_periods, are_rooms, are_period_rules, is) refl
 
   module _ (behind_room_rules : List Located) (room_rules : List RoomRule)
-      (are_room_rules : section_in room_rules_heading (room_rule_line (among n)) end behind_period_rules ≡ Ok (room_rules, behind_room_rules)) where
+      (are_room_rules : section_in room_rules_heading
+      (room_rule_line (among n)) end behind_period_rules
+      ≡ Ok (room_rules, behind_room_rules)) where
     -- a fault in the weightings
-    pub faulty_weightings : (fault : FileFault) → section_in weightings_heading (weighting_line (among n)) end behind_room_rules ≡ Err fault → later_sections end exams lines ≡ Err fault
-    faulty_weightings fault is = rw (same, are_periods, are_rooms, are_period_rules, are_room_rules, is) refl
+    pub faulty_weightings : (fault : FileFault)
+        → section_in weightings_heading (weighting_line (among n)) end behind_room_rules ≡ Err fault
+        → later_sections end exams lines ≡ Err fault
+    faulty_weightings fault is =
+        rw (same, are_periods, are_rooms, are_period_rules, are_room_rules, is) refl
 
     module _ (behind : List Located) (weightings : List Weighting)
-        (are_weightings : section_in weightings_heading (weighting_line (among n)) end behind_room_rules ≡ Ok (weightings, behind)) where
+        (are_weightings : section_in weightings_heading
+        (weighting_line (among n)) end behind_room_rules
+        ≡ Ok (weightings, behind)) where
       -- a line behind the last section
-      pub faulty_end : (fault : FileFault) → no_more behind ≡ Err fault → later_sections end exams lines ≡ Err fault
-      faulty_end fault is = rw (same, are_periods, are_rooms, are_period_rules, are_room_rules, are_weightings, is) refl
+      pub faulty_end : (fault : FileFault) → no_more behind ≡ Err fault
+          → later_sections end exams lines ≡ Err fault
+      faulty_end fault is =
+          rw (same, are_periods, are_rooms, are_period_rules, are_room_rules, are_weightings, is)
+          refl
 
       -- all sections
       pub all_sections : no_more behind ≡ Ok tt → later_sections end exams lines ≡ Ok (record {
@@ -51,4 +67,6 @@ module _ (end n : ℕ) (exams : List ExamLine) (same : length exams ≡ n)
         room_rules = room_rules;
         weightings = weightings;
       })
-      all_sections is = rw (same, are_periods, are_rooms, are_period_rules, are_room_rules, are_weightings, is) refl
+      all_sections is =
+          rw (same, are_periods, are_rooms, are_period_rules, are_room_rules, are_weightings, is)
+          refl

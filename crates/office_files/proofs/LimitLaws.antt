@@ -60,7 +60,8 @@ sitters_read pairs seen (f ∷ fs) out were is =
     sitters_read pairs (with_student one.0 seen) fs out (record {
       ascending = ascending-with one.0 seen were.ascending;
       numbers = numbers_with one.0 seen (number_le 999999999 f one.0 one.1) were.numbers;
-      few = room_left pairs seen one.0 were.ascending were.few (unless_ok room OutOfRange two.0 two.1);
+      few = room_left pairs seen one.0 were.ascending were.few
+          (unless_ok room OutOfRange two.0 two.1);
     }) two.2
 
 line_sitters : (before : List ExamLine) (fields : List (List ℕ)) (item : ExamLine)
@@ -69,7 +70,8 @@ line_sitters : (before : List ExamLine) (fields : List (List ℕ)) (item : ExamL
 line_sitters before fields item few is =
     let minutes = bind_ok (number 1440 (first fields)) _ item is in
     let sitters = bind_ok (students_in (pairs_on before) [] (rest fields)) _ item minutes.2 in
-    let made : ◌≡◌ {A = ExamLine} (record { minutes = minutes.0; students = sitters.0 }) item = cc in
+    let made : ◌≡◌ {A = ExamLine} (record { minutes = minutes.0; students = sitters.0 }) item =
+    cc in
     subst (λ (x : ExamLine). AreSitters (pairs_on before) x.students) made
     (sitters_read (pairs_on before) [] (rest fields) sitters.0 (record {
       ascending = ascending-none;
@@ -93,7 +95,8 @@ no_exam = record { minutes = 0; students = [] }
 abbrev no_line : Located
 no_line = record { line = 0; start = 0; end = 0; text = [] }
 
-module _ (lines : List Located) (items : List ExamLine) (spelled : Spell exam_line lines items) where
+module _ (lines : List Located) (items : List ExamLine)
+    (spelled : Spell exam_line lines items) where
   item_at : (k : ℕ) → k < length items → pairs_on (take k items) ≤ 200000
       → AreSitters (pairs_on (take k items)) (get_or items k no_exam).students
   item_at k within few =
@@ -125,7 +128,8 @@ module _ (lines : List Located) (items : List ExamLine) (spelled : Spell exam_li
   students_at e within =
       get_or_from_slice_get enrolled e (get_or items e no_exam).students []
       (slice_get-map (λ (x : ExamLine). x.students) items e
-      ∙ ap (λ o. option_map (λ (x : ExamLine). x.students) o) (slice_get-get_or items e no_exam within))
+      ∙ ap (λ o. option_map (λ (x : ExamLine). x.students) o)
+      (slice_get-get_or items e no_exam within))
 
   listed_within : (1 ≤ length items) × (length items ≤ 2000) → AreEnrolments enrolled
   listed_within many = record {
@@ -161,7 +165,8 @@ pub enrolments_within : (b : List ℕ) (I : Session) (E : Enrolled) → Instance
 enrolments_within b I E t =
     subst AreEnrolments (sym t.enrolled)
     (listed_within t.exams.body t.said.exams t.exams.spelled
-    (counted_section exams_heading exam_line 2000 (lines_of b) t.said.exams t.behind_exams refl t.exams))
+    (counted_section exams_heading exam_line 2000
+    (lines_of b) t.said.exams t.behind_exams refl t.exams))
 
 pub one_number : (b : List ℕ) (I : Session) (E : Enrolled) → InstanceText b I E
     → length E ≡ length I.exams

@@ -36,7 +36,9 @@ named pairs seen [] out is t =
     ap (λ xs. has_number xs t) (sym same) ∙ or-false (has_number seen t)
 named pairs seen (f ∷ fs) out is t =
     let one = bind_ok (number 999999999 f) _ out is in
-    let two = bind_ok (unless (has_number seen one.0 || nat_lt (pairs + length seen) 200000) OutOfRange) _ out one.2 in
+    let two = bind_ok
+    (unless (has_number seen one.0 || nat_lt (pairs + length seen) 200000) OutOfRange) _ out
+    one.2 in
     named pairs (with_student one.0 seen) fs out two.2 t
     ∙ ap (λ b. b || name_student fs t) (has-with one.0 seen t)
     ∙ or_moved (one.0 == t) (has_number seen t) (name_student fs t)
@@ -47,7 +49,8 @@ line_named : (before : List ExamLine) (fields : List (List ℕ)) (item : ExamLin
 line_named before fields item t is =
     let minutes = bind_ok (number 1440 (first fields)) _ item is in
     let students = bind_ok (students_in (pairs_on before) [] (rest fields)) _ item minutes.2 in
-    let made : ◌≡◌ {A = ExamLine} (record { minutes = minutes.0; students = students.0 }) item = cc in
+    let made : ◌≡◌ {A = ExamLine} (record { minutes = minutes.0; students = students.0 }) item =
+    cc in
     ap (λ (x : ExamLine). has_number x.students t) (sym made)
     ∙ named (pairs_on before) [] (rest fields) students.0 students.1 t
 
@@ -66,7 +69,8 @@ pub sits_as_named : (b : List ℕ) (I : Session) (E : Enrolled) (s e : ℕ) (lin
 sits_as_named b I E s e line t lt at =
     let items = t.said.exams in
     let body = t.exams.body in
-    let many : length I.exams ≡ length items = ap (λ (x : Session). length x.exams) t.session ∙ length-map items exam_of in
+    let many : length I.exams ≡ length items =
+    ap (λ (x : Session). length x.exams) t.session ∙ length-map items exam_of in
     let within : e < length items = omega arith in
     let d : ExamLine = record { minutes = 0; students = [] } in
     let item = get_or items e d in
@@ -78,6 +82,7 @@ sits_as_named b I E s e line t lt at =
     let listed : slice_index_or E e [] ≡ item.students
     = ap (λ (xs : Enrolled). slice_index_or xs e []) t.enrolled
     ∙ get_or_from_slice_get (map (λ (x : ExamLine). x.students) items) e item.students []
-    (slice_get-map (λ (x : ExamLine). x.students) items e ∙ ap (λ o. option_map (λ (x : ExamLine). x.students) o) here) in
+    (slice_get-map (λ (x : ExamLine). x.students) items e
+    ∙ ap (λ o. option_map (λ (x : ExamLine). x.students) o) here) in
     ap (λ (xs : List ℕ). has_number xs s) listed
     ∙ line_named (take e items) (fields_of line.text) item s read

@@ -62,10 +62,12 @@ all_told = refl
 
 byte_told : (b : ℕ) → b < 256 → digit_told b ≡ true
 byte_told b lt =
-    let at : get_or (range_with_len 0 256) b 0 ≡ b = omega (arith, get_or-range_with_len 0 256 b 0 lt) in
+    let at : get_or (range_with_len 0 256) b 0 ≡ b =
+    omega (arith, get_or-range_with_len 0 256 b 0 lt) in
     elim (digit_told b) as (λ t. digit_told b ≡ t → digit_told b ≡ true) [
       | true ↦ λ e. e
-      | false ↦ λ e. absurd (true≢false (sym all_told ∙ list_all_at digit_told (range_with_len 0 256) b 0
+      | false ↦ λ e.
+          absurd (true≢false (sym all_told ∙ list_all_at digit_told (range_with_len 0 256) b 0
           (omega (arith, length-range_with_len 0 256))
           (ap digit_told at ∙ e)))
     ] refl

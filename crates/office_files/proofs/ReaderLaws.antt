@@ -25,19 +25,25 @@ use Rattle.office_files.proofs.SolutionLaws.{solution_is_text, text_is_solution,
 
 module _ {X : Type 0} (view : X → Session × Enrolled) (b : List ℕ) where
   -- what is answered is spelled so
-  pub instance_reading : (r : Result X FileFault) → Gives view r (instance_in b) → IfOk r (λ x. InstanceText b (view x).0 (view x).1)
+  pub instance_reading : (r : Result X FileFault) → Gives view r (instance_in b)
+      → IfOk r (λ x. InstanceText b (view x).0 (view x).1)
   instance_reading (Ok x) is = read_is_text b (view x).0 (view x).1 is
   instance_reading (Err f) is = tt
 
   -- a text that is refused, but for memory, spells nothing
-  pub instance_only : (r : Result X FileFault) → Gives view r (instance_in b) → IfErr r (λ f. f.what ≢ NoMemory → (I : Session) (E : Enrolled) → InstanceText b I E → ⊥)
+  pub instance_only : (r : Result X FileFault) → Gives view r (instance_in b)
+      → IfErr r (λ f. f.what ≢ NoMemory → (I : Session) (E : Enrolled) → InstanceText b I E → ⊥)
   instance_only (Ok x) is = tt
   instance_only (Err f) is = λ other I E text.
       let same = sym (text_is_read b I E text) ∙ is other in cc
 
   -- and nothing else
-  pub instance_one : (r : Result X FileFault) → Gives view r (instance_in b) → IfOk r (λ x. (I : Session) (E : Enrolled) → InstanceText b I E → (I ≡ (view x).0) × (E ≡ (view x).1))
-  instance_one (Ok x) is = λ I E text. one_reading b I (view x).0 E (view x).1 text (read_is_text b (view x).0 (view x).1 is)
+  pub instance_one : (r : Result X FileFault) → Gives view r (instance_in b)
+      → IfOk r (λ x. (I : Session) (E : Enrolled) → InstanceText b I E
+      → (I ≡ (view x).0) × (E ≡ (view x).1))
+  instance_one (Ok x) is =
+      λ I E text. one_reading b I (view x).0 E (view x).1 text
+      (read_is_text b (view x).0 (view x).1 is)
   instance_one (Err f) is = tt
 
   -- as many exams as the instance has
@@ -53,18 +59,21 @@ module _ {X : Type 0} (view : X → Session × Enrolled) (b : List ℕ) where
 
 module _ {X : Type 0} (view : X → Placing) (I : Session) (b : List ℕ) where
   -- what is answered is spelled so
-  pub solution_reading : (r : Result X FileFault) → Gives view r (solution_in I b) → IfOk r (λ x. SolutionText b I (view x))
+  pub solution_reading : (r : Result X FileFault) → Gives view r (solution_in I b)
+      → IfOk r (λ x. SolutionText b I (view x))
   solution_reading (Ok x) is = solution_is_text I b (view x) is
   solution_reading (Err f) is = tt
 
   -- a text that is refused, but for memory, spells nothing
-  pub solution_only : (r : Result X FileFault) → Gives view r (solution_in I b) → IfErr r (λ f. f.what ≢ NoMemory → (T : Placing) → SolutionText b I T → ⊥)
+  pub solution_only : (r : Result X FileFault) → Gives view r (solution_in I b)
+      → IfErr r (λ f. f.what ≢ NoMemory → (T : Placing) → SolutionText b I T → ⊥)
   solution_only (Ok x) is = tt
   solution_only (Err f) is = λ other T text.
       let same = sym (text_is_solution I b T text) ∙ is other in cc
 
   -- and nothing else
-  pub solution_one : (r : Result X FileFault) → Gives view r (solution_in I b) → IfOk r (λ x. (T : Placing) → SolutionText b I T → T ≡ view x)
+  pub solution_one : (r : Result X FileFault) → Gives view r (solution_in I b)
+      → IfOk r (λ x. (T : Placing) → SolutionText b I T → T ≡ view x)
   solution_one (Ok x) is = λ T text.
       let same = sym (text_is_solution I b T text) ∙ is in cc
   solution_one (Err f) is = tt
@@ -79,7 +88,8 @@ module _ {X : Type 0} (view : X → Placing) (I : Session) (b : List ℕ) where
       let read = bind_ok (items_of (place_line counts) [] (lines_of b)) _ (view x) is in
       let all = unless (length read.0 == counts.exams) CountMismatch in
       let whole = bind_ok (at_line (line_count b + 1) all) _ (view x) read.2 in
-      let same : map Some read.0 ≡ view x = sym (ok_same _ (view x) (map Some read.0) refl (sym whole.2)) in
+      let same : map Some read.0 ≡ view x =
+      sym (ok_same _ (view x) (map Some read.0) refl (sym whole.2)) in
       let exist = places_exist counts (lines_of b) read.0 (omega arith) (omega arith) read.1 in
       subst (All (PlaceExists I)) same (All-map (PlaceExists I) Some read.0
       (All-weaker (IsAmong counts) (λ p. PlaceExists I (Some p))

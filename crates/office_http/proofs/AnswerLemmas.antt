@@ -13,7 +13,8 @@ use Rattle.office_model.proofs.ToldLemmas.{shown_stays}
 use Rattle.office_http.specs.Replying.{IsReplyOf, RepliesTo}
 
 -- a step whose answer is put into words, or of which nothing is told after all
-pub replied : (asked : PlainAsked) (old new : OfficeState) (answer : PlainAnswer) (reply : PlainReply)
+pub replied : (asked : PlainAsked) (old new : OfficeState) (answer : PlainAnswer)
+    (reply : PlainReply)
     → Steps old asked.caller asked.command answer new → IsReplyOf answer reply
     → RepliesTo (Ok asked) old reply new
 replied asked old new answer reply step (inl is) = (answer, step, is)
@@ -26,7 +27,8 @@ replied asked old new answer reply step (inr k) = (
 same : (said : Result PlainAsked Refusal) (why : Refusal) (office : OfficeState)
     → said ≡ Err why → RepliesTo said office (refusal_reply why) office
 same said why office is =
-    subst (λ (s : Result PlainAsked Refusal). RepliesTo s office (refusal_reply why) office) (sym is)
+    subst (λ (s : Result PlainAsked Refusal). RepliesTo s office (refusal_reply why) office)
+    (sym is)
     (refl, refl)
 
 -- what is refused unread changes nothing

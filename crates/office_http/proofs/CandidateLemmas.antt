@@ -22,7 +22,8 @@ said_by s (Some command) = Ok (record { caller = Cand s; command = command })
 said_by s None = Err refusal.Candidate
 
 said_is : (s : ℕ) (command : Option PlainCommand)
-    → (else_err refusal.Candidate command >>= (λ asked. Ok (record { caller = Cand s; command = asked })))
+    → (else_err refusal.Candidate
+    command >>= (λ asked. Ok (record { caller = Cand s; command = asked })))
     ≡ said_by s command
 said_is s None = refl
 said_is s (Some command) = refl

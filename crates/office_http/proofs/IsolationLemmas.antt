@@ -160,7 +160,8 @@ quiet_each s (asks request ∷ items) old new output (mid, reply, rest, step, is
     let later = transcript items mid rest new told in
     All-cons (Sees s (view_of s old)) first later refl
     (All-weaker (Sees s (view_of s mid)) (Sees s (view_of s old))
-    (λ e h. h ∙ leaves s old mid request reply step (All-head (IsHersOrQuiet s) first later q)) later
+    (λ e h. h ∙ leaves s old mid request reply step (All-head (IsHersOrQuiet s) first later q))
+    later
     (quiet_each s items mid new rest told (All-tail (IsHersOrQuiet s) first later q)))
 
 told_one : (s : ℕ) (view : View) (e : Entry) → TellsHerView e → Sees s view e → TellsView s view e
@@ -284,7 +285,8 @@ exchanges (e ∷ es) = with_asked e.asked (exchanges es)
 
 one_more : (s : ℕ) (said : Result PlainAsked Refusal) (old mid new : OfficeState)
     (reply : PlainReply) (told : RepliesTo said old reply mid) (later : List Change)
-    (xs : List Exchange) → IfSome (asked_in said old reply mid told) (λ x. KeepsPublication x.answer)
+    (xs : List Exchange)
+    → IfSome (asked_in said old reply mid told) (λ x. KeepsPublication x.answer)
     → RunWith s later mid xs new
     → RunWith s (changes_by s old (asked_in said old reply mid told) ++ later) old
     (with_asked (asked_in said old reply mid told) xs) new

@@ -81,7 +81,8 @@ module _ {S : Type 0} (store : Ghosts S) where
     broken_front items output begins x = λ clean office now.
         let kept = told_clean (x.last ∷ []) x.mid (x.sent ++ x.unsent) new x.told_last clean in
         let first = told_leads x.whole old x.front x.mid x.told kept office now in
-        let last = told_leads (x.last ∷ []) x.mid (x.sent ++ x.unsent) new x.told_last clean first.0 first.2 in (
+        let last = told_leads (x.last ∷ []) x.mid
+        (x.sent ++ x.unsent) new x.told_last clean first.0 first.2 in (
           last.0,
           (
             items,

@@ -236,5 +236,6 @@ pub no_end : ¬ (HasEnd [])
 unfolding ends_as_head
 no_end x =
     both_ways (ends_as_head []) refl
-    (sym (ap (λ (n : ℕ). ends_as_head (take n [])) (let e : x.size ≡ 0 = omega (arith, x.within) in e))
+    (sym (ap (λ (n : ℕ). ends_as_head (take n []))
+    (let e : x.size ≡ 0 = omega (arith, x.within) in e))
     ∙ x.ends)

@@ -121,7 +121,8 @@ by_kept : (s number : ℕ) (bytes : List ℕ) (r : Records) (kept : Option KeptB
 by_kept s number bytes r kept (Err fault) h = tt
 by_kept s number bytes r None (Ok changes) h = new_batch s number bytes changes r h
 by_kept s number bytes r (Some kept) (Ok changes) h =
-    bind (λ x. view_of s x.1 ≡ view_of s (Some r)) (unless (same_bytes kept.bytes bytes) BatchDiffers)
+    bind (λ x. view_of s x.1 ≡ view_of s (Some r))
+    (unless (same_bytes kept.bytes bytes) BatchDiffers)
     (λ _. Ok (kept.counts, Some r)) (λ _. refl)
 
 pub no_session : {A : Type 0} (P : A → Type 0) (read : Result (List Change) FileFault)

@@ -35,7 +35,8 @@ FollowsIn s changes (Some r) new = (r' : Records) × (new ≡ Some r') × Follow
 
 -- lines in file order make of her exams what those that name her do
 enrolled_own : (s : ℕ) (changes : List Change) (E F : Enrolled) (n : Counts) → AreSame s E F
-    → IfOk (enrolled changes E n) (λ done. AreSame s done.1 (after_changes (changes_to s changes) F))
+    → IfOk (enrolled changes E n)
+    (λ done. AreSame s done.1 (after_changes (changes_to s changes) F))
 enrolled_own s [] E F n h = h
 enrolled_own s (change ∷ changes) E F n h =
     bind _ (unless (nat_le (pair_count (after_change change E)) 200000) TooMany)
@@ -134,7 +135,8 @@ same_view : (s : ℕ) (one other : Records) → one.session ≡ other.session
 same_view s one other e f g = λ i. view_from (e i) (g i) (f i) (rows_of s (rows_now (f i)))
 
 -- what follows the same changes gives her the same view
-pub follows_alike : (s : ℕ) (xs : List Change) (old one other : OfficeState) → FollowsIn s xs old one
+pub follows_alike : (s : ℕ) (xs : List Change) (old one other : OfficeState)
+    → FollowsIn s xs old one
     → FollowsIn s xs old other → view_of s one ≡ view_of s other
 follows_alike s xs None one other h k = ap (view_of s) (h ∙ sym k)
 follows_alike s xs (Some r) one other h k =

@@ -81,9 +81,11 @@ load_leaves bytes old = if_given _ (loaded bytes old) (λ x is.
     let two = bind_ok (unless (is_none old) Loaded) _ x one.2 in
     let I : Session = one.0.0 in
     let E : Enrolled = one.0.1 in
-    let text = read_is_text bytes I E (named_ok (λ f. Refused (refusal.File f)) (instance_in bytes) one.0 one.1) in
+    let text = read_is_text bytes I E
+    (named_ok (λ f. Refused (refusal.File f)) (instance_in bytes) one.0 one.1) in
     let session = session_within bytes I E text in
-    let enrolled = are_enrolled I E (enrolments_within bytes I E text) (one_number bytes I E text) in
+    let enrolled =
+    are_enrolled I E (enrolments_within bytes I E text) (one_number bytes I E text) in
     given_with _ _ x (fresh_records I E session enrolled) two.2)
 
 module _ (r : Records) (are : AreRecords r) where
@@ -100,7 +102,8 @@ module _ (r : Records) (are : AreRecords r) where
       let one = bind_ok (unless (is_draft_number d) NoDraft) _ x is in
       let two = bind_ok (unless (is_none (r.draft d)) DraftTaken) _ x one.2 in
       let three = bind_ok (first_timetable bytes r.session) _ x two.2 in
-      let number = both_true (nat_le 1 d) (nat_le d 8) (unless_ok (is_draft_number d) NoDraft one.0 one.1) in
+      let number =
+      both_true (nat_le 1 d) (nat_le d 8) (unless_ok (is_draft_number d) NoDraft one.0 one.1) in
       let fits = first_fits bytes three.0 three.1 in
       given_with _ _ x
       (made_records r d three.0 (leb-true 1 d number.0) (leb-true d 8 number.1) fits are) three.2)
@@ -115,7 +118,8 @@ module _ (r : Records) (are : AreRecords r) where
             places = All-replicate (PlaceExists r.session) (length r.session.exams) None tt;
           })
       first_fits (b ∷ bytes) T is =
-          let read = named_ok (λ f. Refused (refusal.File f)) (solution_in r.session (b ∷ bytes)) T is in
+          let read = named_ok (λ f. Refused (refusal.File f))
+          (solution_in r.session (b ∷ bytes)) T is in
           let suits = timetable_suits (b ∷ bytes) r.session T are.session
           (solution_is_text r.session (b ∷ bytes) T read) in
           record {
@@ -144,7 +148,8 @@ module _ (r : Records) (are : AreRecords r) where
   publish_leaves d = if_given _ (draft_published d (Some r)) (λ x is.
       let one = bind_ok (else_err NoDraft (r.draft d)) _ x is in
       let refused = publish_refusal r.session r.enrolments one.0 in
-      let two = bind_ok (named (λ f. Refused (refusal.Publish f)) (unless_refused refused)) _ x one.2 in
+      let two = bind_ok
+      (named (λ f. Refused (refusal.Publish f)) (unless_refused refused)) _ x one.2 in
       let there = draft_is (r.draft d) one.0 one.1 in
       let permitted = none_refused refused two.0
       (named_ok (λ f. Refused (refusal.Publish f)) (unless_refused refused) two.0 two.1) in
@@ -157,7 +162,8 @@ any answer = Unit {0}
 
 -- whatever a command that is carried out gives, there is an office after it, if a batch leaves one
 keeps : (old : OfficeState) (command : PlainCommand) → IsOffice old → HasSmallNumbers command
-    → ((number : ℕ) (bytes : List ℕ) → number ≤ 999999999 → Leaves (batch_enrolled number bytes old))
+    → ((number : ℕ) (bytes : List ℕ) → number ≤ 999999999
+    → Leaves (batch_enrolled number bytes old))
     → Keeps IsOffice any old command
 keeps old (load (Given bytes)) is small batches =
     whatever IsOffice any now_loaded (loaded bytes old) (load_leaves bytes old)
@@ -218,7 +224,8 @@ keeps old publication_rooms is small batches = tt
 
 pub step_leaves : (old : OfficeState) (caller : Caller) (command : PlainCommand) → IsOffice old
     → HasSmallNumbers command
-    → ((number : ℕ) (bytes : List ℕ) → number ≤ 999999999 → Leaves (batch_enrolled number bytes old))
+    → ((number : ℕ) (bytes : List ℕ) → number ≤ 999999999
+    → Leaves (batch_enrolled number bytes old))
     → IsOffice (step old caller command).0
 step_leaves old caller command is small batches =
     step_law IsOffice any old is caller command (keeps old command is small batches) tt

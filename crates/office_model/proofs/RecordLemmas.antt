@@ -77,13 +77,15 @@ owner_records r e d exists few h = record {
     department x true = few
     department x false = h.departments x
 
-    exam : (x : ℕ) (b : Bool) → eqb x e ≡ b → cond b d (r.owner_of x) ≢ 0 → x < length r.session.exams
+    exam : (x : ℕ) (b : Bool) → eqb x e ≡ b → cond b d (r.owner_of x) ≢ 0
+        → x < length r.session.exams
     exam x true f has = grind (arith, nat_tests, f, exists)
     exam x false f has = h.owned x has
 
 -- ---- drafts
 
-pub made_records : (r : Records) (d : ℕ) (T : Placing) → 1 ≤ d → d ≤ 8 → Fits r.session r.enrolments T
+pub made_records : (r : Records) (d : ℕ) (T : Placing) → 1 ≤ d → d ≤ 8
+    → Fits r.session r.enrolments T
     → AreRecords r → AreRecords (record r { draft = set_at d (Some T) r.draft })
 made_records r d T low high fits h = record {
   session = h.session;
@@ -205,7 +207,8 @@ module _ (I : Session) (E : Enrolled) (T : Placing) (fits : Fits I E T) where
       → after_put I E T e at ≡ Ok new → Fits I E new
   put_fits e at new exist is =
       let place = (both_true (exam_exists I e) (place_exists I at) exist).1 in
-      let both = both_true (nat_lt at.period (length I.periods)) (nat_lt at.room (length I.rooms)) place in
+      let both = both_true (nat_lt at.period (length I.periods))
+      (nat_lt at.room (length I.rooms)) place in
       subst (Fits I E) (unbroken_is I E (e ∷ []) (slice_set T e (Some at)) new is)
       (fits_set I E T e (Some at) (
         ltb-true at.period (length I.periods) both.0,

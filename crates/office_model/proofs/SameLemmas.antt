@@ -31,10 +31,14 @@ own_in : (E F : Enrolled) (e s : ℕ) (one other : List ℕ) → AreSame s E F
     → has (set E e one) s f ≡ has (set F e other) s f
 own_in E F e s one other h same f = elim (cases_lt e (length E)) [
   | inl lt ↦ elim (cases_eq f e) [
-    | inl here ↦ rw (here, get_or-set_same E e one [] lt, get_or-set_same F e other [] (subst (λ n. e < n) h.exams lt)) same
-    | inr away ↦ rw (get_or-set_other E e f one [] away, get_or-set_other F e f other [] away) (h.sat f)
+    | inl here ↦
+        rw (here, get_or-set_same E e one [] lt, get_or-set_same F e other [] (subst (λ n. e < n) h.exams lt))
+        same
+    | inr away ↦
+        rw (get_or-set_other E e f one [] away, get_or-set_other F e f other [] away) (h.sat f)
   ]
-  | inr past ↦ rw (set_past E e one past, set_past F e other (subst (λ n. n ≤ e) h.exams past)) (h.sat f)
+  | inr past ↦
+      rw (set_past E e one past, set_past F e other (subst (λ n. n ≤ e) h.exams past)) (h.sat f)
 ]
 
 -- a list of one exam that says the same of her as before
@@ -75,8 +79,10 @@ pub line_same : (s : ℕ) (change : Change) (E F : Enrolled) → AreSame s E F
 line_same s change E F h = go change.add
   where
     go : (b : Bool) → AreSame s
-        (if b then with_pair E change.student change.exam else without_pair E change.student change.exam)
-        (if b then with_pair F change.student change.exam else without_pair F change.student change.exam)
+        (if b then with_pair E change.student change.exam
+        else without_pair E change.student change.exam)
+        (if b then with_pair F change.student change.exam
+        else without_pair F change.student change.exam)
     go true = with_both s change.student change.exam E F h
     go false = without_both s change.student change.exam E F h
 
@@ -93,7 +99,8 @@ pub other_same : (s : ℕ) (change : Change) (E : Enrolled) → (change.student 
 other_same s change E other = go change.add
   where
     go : (b : Bool) → AreSame s
-        (if b then with_pair E change.student change.exam else without_pair E change.student change.exam) E
+        (if b then with_pair E change.student change.exam
+        else without_pair E change.student change.exam) E
     go true =
         set_same E change.exam s (with_student change.student (students E change.exam))
         (has-with change.student (students E change.exam) s ∙ rw other refl)

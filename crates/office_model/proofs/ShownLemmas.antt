@@ -31,7 +31,8 @@ module _ (old : OfficeState) where
   pub session_stays : (says : _ → PlainAnswer) → (outcome says old (session_shown old)).0 ≡ old
   session_stays says = still says old (session_shown old) (session_same old)
 
-  pub draft_stays : (says : _ → PlainAnswer) (d : ℕ) → (outcome says old (draft_shown d old)).0 ≡ old
+  pub draft_stays : (says : _ → PlainAnswer) (d : ℕ)
+      → (outcome says old (draft_shown d old)).0 ≡ old
   draft_stays says d = still says old (draft_shown d old) (draft_same d old)
 
   pub in_session_stays : (says : _ → PlainAnswer) (d : ℕ)

@@ -77,7 +77,8 @@ module _ (published : Option Publication) where
           → ((list_any (λ x. eqb x e) enrolled || list_any (λ row. eqb row.exam e) seats) ≡ true
           → place_of_seat (seat_in seats e) (place_in (places_in published enrolled) e)
           ≡ published_place published e)
-          → place_of_seat (cond b (Some row) (seat_in seats e)) (place_in (places_in published enrolled) e)
+          → place_of_seat (cond b (Some row) (seat_in seats e))
+          (place_in (places_in published enrolled) e)
           ≡ published_place published e
       go true same later = sym at.0 ∙ ap (published_place published) (eqb-true row.exam e same)
       go false same later = later (rw same at has)
@@ -102,7 +103,8 @@ module _ (I : Session) (published : Option Publication) (enrolled : List ℕ)
       → map (view_row I.periods enrolled places seats) es
       ≡ shown_from (view_from I enrolled published seats) es (map (published_place published) es)
   rows_are [] within = refl
-  rows_are (x ∷ es) within = cc (row_is x (within x here), rows_are es (λ e has. within e (there e has)))
+  rows_are (x ∷ es) within =
+      cc (row_is x (within x here), rows_are es (λ e has. within e (there e has)))
     where
       here : list_any (λ y. eqb y x) (x ∷ es) ≡ true
       here = ap (λ b. b || list_any (λ y. eqb y x) es) (eq-eqb x x refl)
@@ -118,6 +120,7 @@ module _ (I : Session) (published : Option Publication) (enrolled : List ℕ)
   pub rows_shown : map (view_row I.periods enrolled places seats) (her_exams enrolled seats)
       ≡ shown_exams (view_from I enrolled published seats)
   rows_shown = rows_are (her_exams enrolled seats) (λ e has.
-      sym (ap (λ b. list_any (λ x. eqb x e) enrolled || b) (any_map (λ x. eqb x e) (λ row. row.exam) seats))
+      sym (ap (λ b. list_any (λ x. eqb x e) enrolled || b)
+      (any_map (λ x. eqb x e) (λ row. row.exam) seats))
       ∙ sym (list_any-append (λ x. eqb x e) enrolled (map (λ row. row.exam) seats))
       ∙ sym (has_ascending (enrolled ++ map (λ row. row.exam) seats) e) ∙ has)

@@ -20,7 +20,8 @@ behind-some (w ∷ word) (b ∷ text) rest e = go (w == b) refl (behind-some wor
     go : (v : Bool) → (w == b) ≡ v → (behind word text ≡ Some rest → text ≡ word ++ rest) →
         b ∷ text ≡ w ∷ (word ++ rest)
     go true same more = let first = eqb-true w b same in let others = more (rw same at e) in cc
-    go false other more = absurd (let none : ◌≡◌ {A = Option (List ℕ)} None (Some rest) = rw other at e in cc)
+    go false other more =
+        absurd (let none : ◌≡◌ {A = Option (List ℕ)} None (Some rest) = rw other at e in cc)
 
 -- where the word isn't at the front, nothing stands behind it
 pub behind-none : (word text : List ℕ) → ((rest : List ℕ) → text ≢ word ++ rest) →

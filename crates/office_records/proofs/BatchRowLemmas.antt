@@ -142,7 +142,8 @@ short_by_rows found batches rows all =
     (subst (AllByRecursion Picked) (sym rows) (recursion_from_All Picked found all)))
 
 -- an office's batches are not too long
-pub stored_short : (t : Tables) (o : OfficeState) → StandsForOffice t o → IsOffice o → All IsShort t.batch
+pub stored_short : (t : Tables) (o : OfficeState) → StandsForOffice t o → IsOffice o
+    → All IsShort t.batch
 stored_short t None stands is =
     subst (λ (u : Tables). All IsShort u.batch) (sym stands)
     (λ k d none. absurd (omega (arith, none)))

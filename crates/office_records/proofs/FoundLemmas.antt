@@ -66,7 +66,8 @@ module _ (I : Session) (mark : Bool) (places : List PlacedRow) (seats : List Sea
     marked_none : ArePublicationRows mark places seats None → ⊥
     marked_none are = true≢false (sym marked ∙ are.marked)
 
-    places_are : (p : Publication) → ArePublicationRows mark places seats (Some p) → IsPublication I p
+    places_are : (p : Publication) → ArePublicationRows mark places seats (Some p)
+        → IsPublication I p
         → ArePlaces I places p.timetable
     places_are p are is = record {
       exams = is.rows.exams;

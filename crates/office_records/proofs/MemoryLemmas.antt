@@ -81,7 +81,8 @@ no_students (suc n) (suc e) = no_students n e
 -- no pairs are enrolments
 no_enrolments : (n : ℕ) → 1 ≤ n → n ≤ 2000 → AreEnrolments (no_pairs n)
 no_enrolments n low high = record {
-  exams = let long : length (no_pairs n) ≡ n = length-replicate n [] in (omega (arith, long), omega (arith, long));
+  exams = let long : length (no_pairs n) ≡ n = length-replicate n [] in
+      (omega (arith, long), omega (arith, long));
   ascending = λ e lt. rw (no_students n e) (λ i j below within. absurd (omega arith));
   pairs = let sums = sum_by-replicate {X = List ℕ} length n [] in omega (arith, sums);
   numbers = λ e. rw (no_students n e) (λ s is. absurd (true≢false (sym is)));
@@ -143,7 +144,8 @@ same_enrolments I E F e f p =
 
 module _ (db : Database) (p q : Tables) (held : Stands db p) (held2 : Stands db q) where
   metas : IsPermutation p.meta q.meta
-  metas = same_rows keyed meta_columns meta_back meta_is p.meta q.meta (db.trees 0) held.meta held2.meta
+  metas = same_rows keyed meta_columns meta_back meta_is p.meta q.meta
+      (db.trees 0) held.meta held2.meta
 
   enrols : IsPermutation p.enrol q.enrol
   enrols = same_rows keyless enrol_columns columns_back columns_are p.enrol q.enrol (db.trees 2)

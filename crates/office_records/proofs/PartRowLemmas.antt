@@ -18,7 +18,8 @@ no_row = record { kind = 0; no = 0; penalty = 0; mixed = 0 }
 abbrev pub plain_row : ℕ → ℕ → ℕ → PartShareRow
 plain_row kind n share = record { kind = kind; no = n; penalty = share; mixed = 0 }
 
-pub length-plain : (kind n : ℕ) (shares : List ℕ) → length (plain_rows kind n shares) ≡ length shares
+pub length-plain : (kind n : ℕ) (shares : List ℕ)
+    → length (plain_rows kind n shares) ≡ length shares
 length-plain kind n [] = refl
 length-plain kind n (share ∷ shares) = ap (λ m. suc m) (length-plain kind (n + 1) shares)
 

@@ -27,7 +27,8 @@ back [] = refl
 back (share ∷ shares) = ap (λ l. share ∷ l) (back shares)
 
 -- rows are those of one list of shares
-pub same_shares : (own others : List Share) → map student_share_row own ≡ map student_share_row others
+pub same_shares : (own others : List Share)
+    → map student_share_row own ≡ map student_share_row others
     → own ≡ others
 same_shares own others same = sym (back own) ∙ ap (map share_back) same ∙ back others
 

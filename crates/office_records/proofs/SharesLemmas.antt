@@ -69,7 +69,8 @@ both f (x ∷ xs) a b = (record { student = a.0; total = b.0 }, both f xs a.1 b.
 pub small : (I : Session) (p : Publication) → IsInstance I → HasPlacesAndSeats I p
     → AreSmall (shares_of I p.rows p.timetable)
 small I p known has =
-    published_small I p.rows p.timetable (shares_of I p.rows p.timetable) known has.rows has.numbered
+    published_small I p.rows p.timetable
+    (shares_of I p.rows p.timetable) known has.rows has.numbered
     (adds_up I p.rows p.timetable known has.rows has.numbered)
 
 pub are_personal : (I : Session) (p : Publication) → IsInstance I → HasPlacesAndSeats I p

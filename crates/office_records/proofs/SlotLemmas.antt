@@ -241,7 +241,8 @@ module _ (I : Session) (d : ℕ) (found : List SlotRow) (row : SlotRow) (T : Pla
 
         placed : All (PlaceExists I) (set T row.exam (Some (place_in row)))
         placed =
-            All-set (PlaceExists I) T row.exam (Some (place_in row)) (put.free.period, put.free.room)
+            All-set (PlaceExists I) T row.exam (Some (place_in row))
+            (put.free.period, put.free.room)
             are.places
 
         row_is : slot_row d row.exam (place_in row) ≡ row
@@ -271,7 +272,8 @@ module _ (I : Session) (d : ℕ) (found : List SlotRow) (row : SlotRow) (T : Pla
       where
         says : get_or U row.exam None ≡ Some (place_in row)
         says =
-            all_at (λ (r : SlotRow). get_or U r.exam None ≡ Some (place_in r)) (slots_at d found) row
+            all_at (λ (r : SlotRow). get_or U r.exam None ≡ Some (place_in r))
+            (slots_at d found) row
             (slots_at d rest)
             (subst (AllByRecursion (λ (r : SlotRow). get_or U r.exam None ≡ Some (place_in r)))
             (parted rest)

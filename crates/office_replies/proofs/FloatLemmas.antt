@@ -20,7 +20,8 @@ exams_no_float : (T : Placing) (exams : List ℕ)
 exams_no_float T [] = refl
 exams_no_float T (e ∷ exams) = rw (exam_no_float e (place_of T e)) (exams_no_float T exams)
 
-pub draft_no_float : (d : ℕ) (T : Placing) (penalty : ℕ) → has_float (draft_data d T penalty) ≡ false
+pub draft_no_float : (d : ℕ) (T : Placing) (penalty : ℕ)
+    → has_float (draft_data d T penalty) ≡ false
 draft_no_float d T penalty = rw (exams_no_float T (range_with_len 0 (length T))) refl
 
 -- ---- of a candidate

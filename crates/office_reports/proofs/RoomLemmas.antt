@@ -14,7 +14,8 @@ spaces s (suc n) = ap (λ xs. s ∷ xs) (spaces s n)
 
 -- spaces before digits, and none behind them
 before_alone : (n : ℕ) (numeral : List ℕ) →
-    (((repeat (n - 0 - 0) (32 ∷ []) ++ []) ++ []) ++ []) ++ (numeral ++ repeat ((n - 0 - 0) - (n - 0 - 0)) (32 ∷ []))
+    (((repeat (n - 0 - 0) (32 ∷ []) ++ []) ++ []) ++ [])
+    ++ (numeral ++ repeat ((n - 0 - 0) - (n - 0 - 0)) (32 ∷ []))
     ≡ replicate n 32 ++ numeral
 before_alone n numeral =
     let all : n - 0 - 0 ≡ n = omega arith in

@@ -124,7 +124,8 @@ module _ (db : Database) (found : Found) (batches : List Batch)
   found_batches short = record {
     rows = rows;
     apart = two_by_two (λ (b c : Batch). b.no ≢ c.no) batches
-        (keys_once batch_columns (λ (b : Batch). b.no) (λ b. refl) batches (db.trees 14) held.batch);
+        (keys_once batch_columns (λ (b : Batch). b.no) (λ b. refl) batches
+        (db.trees 14) held.batch);
     short = short;
   }
 

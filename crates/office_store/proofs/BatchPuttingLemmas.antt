@@ -89,7 +89,8 @@ all_made lines drafts row t =
 pub batch_made : (number : ℕ) (bytes : List ℕ) (new : NewBatch) (lines : List PutLine)
     (drafts : List InsertDraft) → lines ≡ new.lines.items → drafts ≡ new.drafts.items
     → (t : Tables)
-    → with_batch (stored_batch (record { no = number; bytes = bytes; counts = new.counts })) (after_all (λ (it : InsertDraft). with_draft it.row) drafts
+    → with_batch (stored_batch (record { no = number; bytes = bytes; counts = new.counts }))
+    (after_all (λ (it : InsertDraft). with_draft it.row) drafts
     (no_drafts (after_all (λ (it : PutLine). line_put it.change) lines t)))
     ≡ new_batch_put number bytes new t
 batch_made number bytes new lines drafts a b t =
@@ -187,13 +188,15 @@ module _ (number : ℕ) (bytes : List ℕ) (changes : List Change)
             again = drafts_moved r.session new.enrolments rows (reverse rows) slots r.draft
                 (IsPermutation-reverse rows) made.drafts
 
-            enrolled_kept : ((t : Tables) → Stands a t → Stands b (new_batch_put number bytes new t))
+            enrolled_kept : ((t : Tables) → Stands a t
+                → Stands b (new_batch_put number bytes new t))
                 → IsKept b (Some (keeping.records_with_batch number bytes r done))
             enrolled_kept makes = record {
               held = new_batch_put number bytes new here.held;
               tables = makes here.held here.tables;
               stands = subst (λ (l : List Change). StandsLoaded
-                  (batch_put l (reverse rows) row here.held) (keeping.records_with_batch number bytes r done))
+                  (batch_put l (reverse rows) row here.held)
+                  (keeping.records_with_batch number bytes r done))
                   (sym made.lines)
                   (batch_stands number bytes changes r done here.office made.after here.held
                   (reverse rows) slots again small (counted r.enrolments done made.after)
@@ -202,7 +205,8 @@ module _ (number : ℕ) (bytes : List ℕ) (changes : List Change)
                   (Some (keeping.records_with_batch number bytes r done))) (sym made.lines)
                   (batch_sound number bytes changes r done here.office made.after here.held
                   (reverse rows) slots again here.sound);
-              office = leaves (Some r) (Some (keeping.records_with_batch number bytes r done)) new.counts
+              office = leaves (Some r)
+                  (Some (keeping.records_with_batch number bytes r done)) new.counts
                   here.office gives;
             }
 

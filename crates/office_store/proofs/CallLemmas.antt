@@ -195,7 +195,8 @@ module _ (d : ℕ) (rows : List DraftRow) (n : ℕ) (long : n ≡ length rows) (
       ∙ dropped_none of.records d (none_there empty o kept of.records of.is)
 
   pub drop_moves : (b : Database) → is_some m ≡ true → false ≡ eqb n 0
-      → ((t : Tables) → Stands a t → Stands b (draft_removed d t)) → Moves (draft_dropped d) tt a b m m
+      → ((t : Tables) → Stands a t → Stands b (draft_removed d t))
+      → Moves (draft_dropped d) tt a b m m
   drop_moves b loaded some makes o kept is =
       let of = has_records o m is loaded in (
         _,

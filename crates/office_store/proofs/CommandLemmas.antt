@@ -15,7 +15,8 @@ use Rattle.office_store.proofs.ReadLemmas.{does_now}
 use Rattle.office_store.proofs.RunLemmas.{at_hand, nothing_kept, now_still}
 
 -- where an office stands and this is in memory of it, the command gives this, and leads to another
-abbrev pub Moves : {A : Type 0} → (OfficeState → Gives A) → A → Database → Database → Memory → Memory
+abbrev pub Moves : {A : Type 0} → (OfficeState → Gives A) → A → Database → Database
+    → Memory → Memory
     → Type 0
 Moves command x a b m n = (o : OfficeState) → IsKept a o → memory_of o ≡ m
     → (new : OfficeState) × (command o ≡ Ok (x, new)) × IsKept b new × (memory_of new ≡ n)
@@ -56,7 +57,8 @@ module _ {S : Type 0} (g : Ghosts S) (before mid inside : Held S)
       let here = there clean o now in
       shown (says o) o (Now (state g mid)) result (told clean o here.0 here.1) (λ _. here.0)
 
-module _ {S A : Type 0} (g : Ghosts S) (command : OfficeState → Gives A) (before mid inside : Held S)
+module _ {S A : Type 0} (g : Ghosts S) (command : OfficeState → Gives A)
+    (before mid inside : Held S)
     (m : Memory) (view : inside ≡ mid) (rest : IsAtRest (state g inside) m)
     (awake : HasCleanDisk (state g mid) → IsAwake (state g mid))
     (stays : HasCleanDisk (state g mid) → (o : OfficeState) → Now (state g before) o
@@ -74,16 +76,19 @@ module _ {S A : Type 0} (g : Ghosts S) (command : OfficeState → Gives A) (befo
 
   -- a command that only shows
   pub shows : (result : Result A StoreFault)
-      → (HasCleanDisk (state g mid) → (o : OfficeState) → IsKept (state g mid).now o → memory_of o ≡ m
+      → (HasCleanDisk (state g mid) → (o : OfficeState) → IsKept (state g mid).now o
+      → memory_of o ≡ m
       → Does (command o) o (λ new. new ≡ o) result)
       → Runs g command before mid result
   shows result does clean o now =
       let there = found clean o now in
-      does_now (command o) o (Now (state g mid)) result (does clean o there.0 there.1) (λ _. there.0)
+      does_now (command o) o (Now (state g mid)) result
+      (does clean o there.0 there.1) (λ _. there.0)
 
   pub runs : (after : Held S) (n : Memory) (x : A)
       → (HasCleanDisk (state g after) → HasCleanDisk (state g inside))
-      → (HasCleanDisk (state g after) → Moves command x (state g inside).now (state g after).now m n)
+      → (HasCleanDisk (state g after)
+      → Moves command x (state g inside).now (state g after).now m n)
       → Runs g command before after (Ok x)
   runs after n x clean moves is_clean o now =
       let there = found (subst (λ h. HasCleanDisk (state g h)) view (clean is_clean)) o now in
@@ -98,7 +103,8 @@ pub stays_by : {S : Type 0} (g : Ghosts S) (before mid : Held S)
 stays_by g before mid still clean o = now_still (state g before) (state g mid) o (still clean)
 
 -- and what is said of each office that stands there
-pub seen : {S : Type 0} (g : Ghosts S) (mid inside : Held S) → inside ≡ mid → (P : OfficeState → Type 0)
+pub seen : {S : Type 0} (g : Ghosts S) (mid inside : Held S) → inside ≡ mid
+    → (P : OfficeState → Type 0)
     → (HasCleanDisk (state g mid) → (o : OfficeState) → IsKept (state g mid).now o → P o)
     → HasCleanDisk (state g inside) → (o : OfficeState) → IsKept (state g inside).now o → P o
 seen g mid inside view P tells clean o kept =

@@ -67,7 +67,9 @@ gathered pairs [] h =
     subst (λ l. IsPermutation l []) (sym (none_pass pairs)) (IsPermutation-refl [])
 gathered pairs (s ∷ ss) h =
     subst (λ l. IsPermutation (filter (λ p. has_number (s ∷ ss) p.student) pairs)
-    (l ++ flat_map (hers pairs) ss)) (filter_agree (λ (p : Pair). eqb s p.student) (λ p. eqb p.student s) (λ p. turned s p.student) pairs)
+    (l ++ flat_map (hers pairs) ss))
+    (filter_agree (λ (p : Pair). eqb s p.student) (λ p. eqb p.student s)
+    (λ p. turned s p.student) pairs)
     (IsPermutation-trans _ _ _
     (apart (λ p. eqb s p.student) (λ p. has_number ss p.student) pairs
     (λ p is. not_above s p.student ss h.0 is))
@@ -149,7 +151,8 @@ each_earlier exams i d lt up =
     (subst (λ f. get_or exams k 0 < f) (get_or_default exams i 0 d lt) (up k i within lt))))
   where
     taken : (k c : ℕ) → k < i → get_or (take i exams) k c ≡ get_or exams k 0
-    taken k c within = get_or-take i exams k c within ∙ get_or_default exams k c 0 (omega (arith, within, lt))
+    taken k c within =
+        get_or-take i exams k c within ∙ get_or_default exams k c 0 (omega (arith, within, lt))
 
 -- the pairs so far, and those of the open student so far: an exam more can follow
 pub can_follow : (fold : Folded) (pairs : List Pair) (s : ℕ) (exams : List ℕ) (i d : ℕ)

@@ -112,7 +112,8 @@ pub edit_gives : (d : ℕ) (change : Edit) (r : Records) (T new : Placing) → r
 edit_gives d change r T new there made = rw (there, made) refl
 
 refused_so : (d : ℕ) (change : Edit) (r : Records) (T : Placing) (e : StoreFault)
-    → r.draft d ≡ Some T → named (λ f. Refused (refusal.Edit f)) (edited r.session r.enrolments T change) ≡ Err e
+    → r.draft d ≡ Some T
+    → named (λ f. Refused (refusal.Edit f)) (edited r.session r.enrolments T change) ≡ Err e
     → draft_edited d change (Some r) ≡ Err e
 refused_so d change r T e there is = rw (there, is) refl
 
@@ -243,7 +244,8 @@ edit_stored a b o d change new row total exams of number parts is_total are kept
   office = Some (record of.records { draft = set_at d (Some new.0) of.records.draft });
   gives = ap (draft_edited d change) of.is
       ∙ edit_gives d change of.records of.old new.0 of.draft of.edits
-      ∙ ap (λ n. Ok (n, Some (record of.records { draft = set_at d (Some new.0) of.records.draft })))
+      ∙ ap (λ n. Ok
+      (n, Some (record of.records { draft = set_at d (Some new.0) of.records.draft })))
       (sym (is_total ∙ ap total_of of.scored));
   kept = subst (λ n. IsKept b
       (Some (record of.records { draft = set_at n (Some new.0) of.records.draft }))) number
@@ -310,7 +312,8 @@ module _ {S : Type 0} (g : Ghosts S) (first mid inside : Conn S) (view : inside 
       let here = subst (λ h. HasCleanDisk (state g h)) view clean in
       let there = subst (λ h. IsKept (state g h).now o) view kept in
       let was = subst (λ db. IsKept db o) (still here (opened here).0).1 there in
-      let stored = edit_stored (state g inside).now (state g after).now o d change new row total exams
+      let stored =
+      edit_stored (state g inside).now (state g after).now o d change new row total exams
       (edits here o was) number parts is_total are kept makes in (
         stored.office,
         stored.gives,

@@ -37,7 +37,8 @@ one_more_at : (e : ℕ) (xs : List ℕ) (i : ℕ) (d : ℕ) → i < length xs
 one_more_at e xs i d lt =
     ap (λ l. map enrol_row (pairs_at e l)) (take_more xs i d lt)
     ∙ ap (map enrol_row) (map-append _ (take i xs) (get_or xs i d ∷ []))
-    ∙ map-append enrol_row (pairs_at e (take i xs)) (record { exam = e; student = get_or xs i d } ∷ [])
+    ∙ map-append enrol_row (pairs_at e (take i xs))
+    (record { exam = e; student = get_or xs i d } ∷ [])
 
 -- one student more
 pub added : (rows : List EnrolRow) (e : ℕ) (xs : List ℕ) (i : ℕ) (d : ℕ) → i < length xs
@@ -76,7 +77,8 @@ module _ (I : Session) (E : Enrolled) (text : List ℕ) (rows : List EnrolRow)
   session_stands = record {
     meta = ap (λ b. record { published = false; instance = b } ∷ []) is_text;
     owner = λ e. refl;
-    enrol = subst (λ l. IsPermutation l (map enrol_row (pairs_of E))) (sym (append-nil (reverse rows)))
+    enrol = subst (λ l. IsPermutation l (map enrol_row (pairs_of E)))
+        (sym (append-nil (reverse rows)))
         (subst (λ l. IsPermutation (reverse rows) l) are_rows
         (IsPermutation-sym _ _ (IsPermutation-reverse rows)));
     draft = λ d. refl;
@@ -86,7 +88,8 @@ module _ (I : Session) (E : Enrolled) (text : List ℕ) (rows : List EnrolRow)
   }
 
   -- the database stands for the office with that session alone
-  session_kept : (a b : Database) → IsKept a None → ((t : Tables) → Stands a t → Stands b (session_put text rows t))
+  session_kept : (a b : Database) → IsKept a None
+      → ((t : Tables) → Stands a t → Stands b (session_put text rows t))
       → IsInstance I → AreEnrolled I E → IsKept b (Some (fresh (I, E)))
   session_kept a b kept makes is are = record {
     held = session_put text rows empty_tables;
@@ -102,7 +105,8 @@ module _ (I : Session) (E : Enrolled) (text : List ℕ) (rows : List EnrolRow)
 -- ---- the command
 
 -- a text that is read has a list of students for each exam
-pub as_many : (b : List ℕ) (I : Session) (E : Enrolled) → InstanceText b I E → length E ≡ length I.exams
+pub as_many : (b : List ℕ) (I : Session) (E : Enrolled) → InstanceText b I E
+    → length E ≡ length I.exams
 as_many b I E text =
     let exams = ap (λ (I : Session). length I.exams) text.session in
     let lists = ap length text.enrolled in

@@ -45,7 +45,8 @@ module _ (t : Tables) (r : Records) (e d : ℕ) (h : StandsLoaded t r) where
   row = record { exam = e; dept = d }
 
   one : (x : ℕ) (b : Bool) → eqb x e ≡ b → eqb d 0 ≡ false
-      → map (λ (o : OwnerRow). o.dept) (owners_at x (row ∷ left)) ≡ some_dept (cond b d (r.owner_of x))
+      → map (λ (o : OwnerRow). o.dept) (owners_at x (row ∷ left))
+      ≡ some_dept (cond b d (r.owner_of x))
   one x true f is =
       let passes : eqb e x ≡ true = grind (arith, nat_tests, f) in
       ap (λ c. map (λ (o : OwnerRow). o.dept) (cond c (row ∷ owners_at x left) (owners_at x left)))
@@ -110,7 +111,8 @@ owner_sound t r e d false h = record { scored = h.scored; shared = h.shared }
 
 -- the database stands for the office with that owner
 pub owner_kept : (a b : Database) (r : Records) (e d : ℕ) → IsKept a (Some r)
-    → ((t : Tables) → Stands a t → Stands b (owner_put e d t)) → e < length r.session.exams → d ≤ 999
+    → ((t : Tables) → Stands a t → Stands b (owner_put e d t))
+    → e < length r.session.exams → d ≤ 999
     → IsKept b (Some (record r { owner_of = set_at e d r.owner_of }))
 owner_kept a b r e d kept makes exists few = record {
   held = owner_put e d kept.held;
@@ -135,7 +137,8 @@ owned_nowhere r e d none =
 
 -- ---- the command, by what is in memory
 
-module _ (a : Database) (m : Memory) (I : Session) (E : Enrolled) (at_hand : m ≡ Some (I, E)) (e d : ℕ) where
+module _ (a : Database) (m : Memory) (I : Session) (E : Enrolled)
+    (at_hand : m ≡ Some (I, E)) (e d : ℕ) where
   pub owner_moves : (b : Database) → e < length I.exams → d ≤ 999 → (n : ℕ) → n ≡ e
       → (new : Option InsertOwner) → new ≡ new_owner n d
       → ((t : Tables) → Stands a t → Stands b (comes new (without_owner n t)))
@@ -149,7 +152,8 @@ module _ (a : Database) (m : Memory) (I : Session) (E : Enrolled) (at_hand : m �
         _,
         ap (owned e d) of.is ∙ owned_there of.records e d there,
         owner_kept a b of.records e d (subst (IsKept a) of.is kept)
-            (subst (λ n. (t : Tables) → Stands a t → Stands b (owner_put n d t)) same makes) there few,
+            (subst (λ n. (t : Tables) → Stands a t → Stands b (owner_put n d t)) same makes) there
+            few,
         ap memory_of (sym of.is) ∙ is,
       )
 
@@ -174,7 +178,8 @@ pub owner_read : (t : Tables) (o : OfficeState) (e : ℕ) (rows : List OwnerRow)
     → map (λ r. r.dept) rows ≡ some_dept (owner_in e o)
 owner_read t None e rows stands p =
     few 0 true _ (subst (λ l. IsPermutation l (map (λ (r : OwnerRow). r.dept) rows))
-    (ap (λ (t : Tables). map (λ (r : OwnerRow). r.dept) (filter (λ r. eqb r.exam e) t.owner)) stands)
+    (ap (λ (t : Tables). map (λ (r : OwnerRow). r.dept) (filter (λ r. eqb r.exam e) t.owner))
+    stands)
     (IsPermutation-map (λ (r : OwnerRow). r.dept) _ _ p))
 owner_read t (Some r) e rows stands p =
     few (r.owner_of e) (eqb (r.owner_of e) 0) _

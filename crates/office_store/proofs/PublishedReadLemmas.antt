@@ -66,7 +66,8 @@ student_shares_read t None rows stands sound p =
 student_shares_read t (Some r) rows stands sound p =
     IsPermutation-trans _ _ _ (IsPermutation-sym _ _ p) sound.shared.of_students
 
-pub part_shares_read : (t : Tables) (o : OfficeState) (rows : List PartShareRow) → StandsForOffice t o
+pub part_shares_read : (t : Tables) (o : OfficeState) (rows : List PartShareRow)
+    → StandsForOffice t o
     → IsSound t o → IsPermutation t.share_part rows → IsPermutation rows (part_rows_in o)
 part_shares_read t None rows stands sound p =
     IsPermutation-sym _ _ (subst (λ (t : Tables). IsPermutation t.share_part rows) stands p)
@@ -76,7 +77,8 @@ part_shares_read t (Some r) rows stands sound p =
 -- ---- what the rows tell
 
 -- the records of what is at hand, where the rows are theirs
-module _ (o : OfficeState) (I : Session) (E : Enrolled) (m : Memory) (kept_in : m ≡ Some (I, E)) where
+module _ (o : OfficeState) (I : Session) (E : Enrolled) (m : Memory)
+    (kept_in : m ≡ Some (I, E)) where
   pub published_told : (office : IsOffice o) → memory_of o ≡ m → (places : List PlacedRow)
       (seats : List SeatRow) → StandsPublished places seats (published_in o)
       → (result : Result (Option Shown) StoreFault)
@@ -123,11 +125,13 @@ mark_of : (published : Option Publication) (I : Session) → IsInstance I
     → n ≡ length (placed_rows published) → (mark : Bool) → (IsTrue mark ↔ (1 ≤ n))
     → mark ≡ is_some published
 mark_of None I known is n long false tells = refl
-mark_of None I known is n long true tells = absurd (let one = tells.0 refl in omega (arith, one, long))
+mark_of None I known is n long true tells =
+    absurd (let one = tells.0 refl in omega (arith, one, long))
 mark_of (Some p) I known is n long true tells = refl
 mark_of (Some p) I known is n long false tells =
     let rows = (is p refl).rows in
-    let some = has_place p.timetable (omega (arith, rows.exams, known.limits.counts)) rows.complete in
+    let some = has_place p.timetable
+    (omega (arith, rows.exams, known.limits.counts)) rows.complete in
     let no = tells.1 (omega (arith, some, long)) in
     absurd cc
 
@@ -177,7 +181,8 @@ module _ (I : Session) (places : List PlacedRow) (seats : List SeatRow) (mark : 
       (are_published r.session r.published is.publication)))
 
   -- they aren't bad
-  pub found_good : ((published : Option Publication) → ArePublicationRows mark places seats published
+  pub found_good : ((published : Option Publication)
+      → ArePublicationRows mark places seats published
       → ArePublished I published → ⊥) → ⊥
   found_good none =
       none r.published (marked_rows r is places seats rows mark marks)
@@ -206,7 +211,8 @@ has_part I p known none =
     = length-map-range_with_len _ 0 (length I.exams) in
     go (exam_shares I p.rows p.timetable) _ (omega (arith, long, known.limits.counts)) none
   where
-    go : (xs : List ℕ) (more : List PartShareRow) → 1 ≤ length xs → plain_rows 0 0 xs ++ more ≡ [] → ⊥
+    go : (xs : List ℕ) (more : List PartShareRow) → 1 ≤ length xs
+        → plain_rows 0 0 xs ++ more ≡ [] → ⊥
     go [] more some none = omega (arith, some)
     go (x ∷ xs) more some none = absurd cc
 
@@ -220,7 +226,8 @@ shares_none r is students parts shared none = go r.published shared
     go None shared = refl
     go (Some p) shared =
         absurd (has_part r.session p is.session
-        (nil_from_length _ (let long = length_permutation _ _ shared.of_parts in omega (arith, long, none))))
+        (nil_from_length _ (let long = length_permutation _ _ shared.of_parts in
+        omega (arith, long, none))))
 
 pub shares_some : (r : Records) (I : Session) → AreRecords r → r.session ≡ I
     → (students : List StudentShareRow) (parts : List PartShareRow)
@@ -235,7 +242,8 @@ shares_some r I is same students parts shared some shares only =
   where
     go : (published : Option Publication) → AreShared I published students parts
         → Some shares ≡ option_map (λ (p : Publication). shares_of I p.rows p.timetable) published
-    go None shared = absurd (let long = length_permutation _ _ shared.of_parts in omega (arith, long, some))
+    go None shared =
+        absurd (let long = length_permutation _ _ shared.of_parts in omega (arith, long, some))
     go (Some p) shared = ap Some (only p shared)
 
     told : (published : Option Publication)
@@ -278,7 +286,8 @@ add_up (Some r) is shares e = subst (AddUpIn (Some r)) (sym e) (go r.published i
         let known = each p refl in (
           (r.session, p),
           refl,
-          adds_up r.session p.rows p.timetable is.session known.rows (are_numbered r.session p known),
+          adds_up r.session p.rows p.timetable is.session known.rows
+              (are_numbered r.session p known),
         )
 
 -- and so do the rows that it keeps

@@ -34,14 +34,16 @@ still_kept a b settled kept opened =
     (was, elim (kept.now opened) [ inl same ↦ same | inr back ↦ back ∙ sym (settled was) ])
 
 -- a transaction that failed
-pub still_undone : (a b : State) → (IsTrue a.is_open → a.now ≡ a.committed) → Undone a b → IsStill a b
+pub still_undone : (a b : State) → (IsTrue a.is_open → a.now ≡ a.committed)
+    → Undone a b → IsStill a b
 still_undone a b settled undone opened =
     let was = undone.was_open opened in
     (was, undone.now opened ∙ sym (settled was))
 
 -- ---- what is in memory
 
-pub at_hand : (s : State) (m : Memory) (o : OfficeState) → IsAtRest s m → HasCleanDisk s → IsTrue s.is_open
+pub at_hand : (s : State) (m : Memory) (o : OfficeState) → IsAtRest s m → HasCleanDisk s
+    → IsTrue s.is_open
     → IsKept s.now o → memory_of o ≡ m
 at_hand s m o rest clean opened kept =
     let here = rest clean opened in
@@ -58,7 +60,8 @@ pub record IsKeptOf (o : OfficeState) (I : Session) (E : Enrolled) : Type 0 wher
   pub session : records.session ≡ I
   pub enrolments : records.enrolments ≡ E
 
-pub kept_of : (o : OfficeState) (I : Session) (E : Enrolled) → memory_of o ≡ Some (I, E) → IsKeptOf o I E
+pub kept_of : (o : OfficeState) (I : Session) (E : Enrolled) → memory_of o ≡ Some (I, E)
+    → IsKeptOf o I E
 kept_of None I E h = absurd cc
 kept_of (Some r) I E h = record {
   records = r;

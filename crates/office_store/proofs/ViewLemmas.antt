@@ -232,7 +232,8 @@ her_enrolments t r c stands is =
     ∙ ap (map (her_row c)) (sym (sat_is r.enrolments c)))
     (IsPermutation-filter (λ (x : EnrolRow). eqb x.student c) _ _ stands.enrol)
 
-pub rows_read : (t : Tables) (r : Records) (c : ℕ) (found : List EnrolRow) → StandsForOffice t (Some r)
+pub rows_read : (t : Tables) (r : Records) (c : ℕ) (found : List EnrolRow)
+    → StandsForOffice t (Some r)
     → AreRecords r
     → IsInOrder HerEnrolsRise (filter (λ (x : EnrolRow). eqb x.student c) t.enrol) found
     → found ≡ map (her_row c) (exams_sat r.enrolments c)
@@ -240,7 +241,8 @@ rows_read t r c found stands is order =
     order (map (her_row c) (exams_sat r.enrolments c)) (her_enrolments t r c stands is)
     (rows_rise c (exams_sat r.enrolments c) (sat_rise r.enrolments c))
 
-pub enrols_read : (t : Tables) (o : OfficeState) (c : ℕ) (found : List EnrolRow) → StandsForOffice t o
+pub enrols_read : (t : Tables) (o : OfficeState) (c : ℕ) (found : List EnrolRow)
+    → StandsForOffice t o
     → IsOffice o
     → IsInOrder HerEnrolsRise (filter (λ (x : EnrolRow). eqb x.student c) t.enrol) found
     → map (λ (r : EnrolRow). r.exam) found ≡ exams_in c o
@@ -327,7 +329,8 @@ rows_for published es = flat_map (λ e. one_or_none (row_for published e)) es
 her_places : (t : Tables) (r : Records) (c : ℕ) → StandsForOffice t (Some r) → AreRecords r
     → IsPermutation (placed_of c t) (rows_for r.published (exams_sat r.enrolments c))
 her_places t r c stands is =
-    let by : EnrolRow → List PlacedRow = λ x. filter (λ (p : PlacedRow). eqb p.exam x.exam) t.placed in
+    let by : EnrolRow → List PlacedRow =
+    λ x. filter (λ (p : PlacedRow). eqb p.exam x.exam) t.placed in
     IsPermutation-trans _ _ _
     (IsPermutation-flat_map by _ _ (her_enrolments t r c stands is))
     (subst (λ l. IsPermutation l (rows_for r.published (exams_sat r.enrolments c)))
@@ -374,7 +377,8 @@ places_back published (e ∷ es) = go (published_place published e) (places_back
     go None more = more
     go (Some at) more = ap (λ l. (e, at) ∷ l) more
 
-pub places_read : (t : Tables) (o : OfficeState) (c : ℕ) (found : List PlacedRow) → StandsForOffice t o
+pub places_read : (t : Tables) (o : OfficeState) (c : ℕ) (found : List PlacedRow)
+    → StandsForOffice t o
     → IsOffice o → IsInOrder PlacementsRise (placed_of c t) found
     → map place_in_row found ≡ places_in (published_in o) (exams_in c o)
 places_read t None c found stands is order =
@@ -429,7 +433,8 @@ her_seats_rise r c is (Some p) e =
     (chain_from_index RowBefore p.rows (is.publication p e).rows.in_order))
     (hers c p.rows)
 
-pub her_seats_read : (t : Tables) (o : OfficeState) (c : ℕ) (found : List SeatRow) → StandsForOffice t o
+pub her_seats_read : (t : Tables) (o : OfficeState) (c : ℕ) (found : List SeatRow)
+    → StandsForOffice t o
     → IsOffice o
     → IsInOrder HerSeatsRise (filter (λ (x : SeatRow). eqb x.student c) t.seat) found
     → found ≡ map stored_seat (rows_of c (rows_now (published_in o)))
@@ -452,7 +457,8 @@ pub her_shares_read : (t : Tables) (o : OfficeState) (c : ℕ) (found : List Stu
     → IsPermutation (filter (λ (x : StudentShareRow). eqb x.student c) (student_rows_in o)) found
 her_shares_read t None c found stands sound p =
     subst (λ (t : Tables).
-    IsPermutation (filter (λ (x : StudentShareRow). eqb x.student c) t.share_student) found) stands p
+    IsPermutation (filter (λ (x : StudentShareRow). eqb x.student c) t.share_student) found) stands
+    p
 her_shares_read t (Some r) c found stands sound p =
     IsPermutation-trans _ _ _
     (IsPermutation-filter (λ (x : StudentShareRow). eqb x.student c) _ _
@@ -595,7 +601,8 @@ module _ (r : Records) (I : Session) (c : ℕ) (is : AreRecords r) (same : r.ses
   her_seat_rows = rows_of c (rows_now r.published)
 
   -- no seat is beyond a limit
-  pub not_bad : ((own : List publish.SeatRow) → AreNumbered own → map stored_seat own ≡ seats → ⊥) → ⊥
+  pub not_bad : ((own : List publish.SeatRow) → AreNumbered own → map stored_seat own ≡ seats → ⊥)
+      → ⊥
   not_bad nobody = nobody her_seat_rows (hers_numbered r c is) (sym hers.of_seats)
 
   pub view_shown : (enrolled : List ℕ) (at : List (ℕ × Place)) (own : List publish.SeatRow)
@@ -682,9 +689,11 @@ pub told_of_same : (I : Session) (rows : List ViewRow) (enrolled exams : List �
     → rows ≡ shown_exams (view_from I exams published seats)
 told_of_same I rows enrolled exams at places own seats p q s told =
     subst (λ (l : List publish.SeatRow). (published : Option Publication)
-    → AreOfPublication published exams places l → rows ≡ shown_exams (view_from I exams published l)) s
+    → AreOfPublication published exams places l
+    → rows ≡ shown_exams (view_from I exams published l)) s
     (subst (λ (l : List (ℕ × Place)). (published : Option Publication)
-    → AreOfPublication published exams l own → rows ≡ shown_exams (view_from I exams published own)) q
+    → AreOfPublication published exams l own
+    → rows ≡ shown_exams (view_from I exams published own)) q
     (subst (λ (l : List ℕ). (published : Option Publication) → AreOfPublication published l at own
     → rows ≡ shown_exams (view_from I l published own)) p told))
 

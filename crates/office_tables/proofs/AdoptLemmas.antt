@@ -108,9 +108,11 @@ session_found db meta owners enrols m o e None (inl none) = λ t plain stands.
     subst (IsFoundMeta (db.trees 0)) none m plain.row
     (subst (λ l. Holds keyed (map meta_columns l) (db.trees 0)) plain.meta stands.meta)
 session_found db meta owners enrols m o e None (inr (inl none)) = λ t plain stands.
-    subst (IsFound FitsOwner owner_columns keyed (db.trees 1)) none o t.owner plain.owner stands.owner
+    subst (IsFound FitsOwner owner_columns keyed (db.trees 1)) none o t.owner
+    plain.owner stands.owner
 session_found db meta owners enrols m o e None (inr (inr none)) = λ t plain stands.
-    subst (IsFound FitsEnrol enrol_columns keyless (db.trees 2)) none e t.enrol plain.enrol stands.enrol
+    subst (IsFound FitsEnrol enrol_columns keyless (db.trees 2)) none e t.enrol
+    plain.enrol stands.enrol
 
 pub drafts_found : (db : Database) (drafts : Option (Vec DraftRow Global))
     (slots : Option (Vec SlotRow Global))
@@ -122,7 +124,8 @@ drafts_found db drafts slots d s (Some found) is = record {
   slot = subst (IsFound FitsSlot slot_columns keyless (db.trees 5)) is.1 s;
 }
 drafts_found db drafts slots d s None (inl none) = λ t plain stands.
-    subst (IsFound FitsDraft draft_columns keyed (db.trees 4)) none d t.draft plain.draft stands.draft
+    subst (IsFound FitsDraft draft_columns keyed (db.trees 4)) none d t.draft
+    plain.draft stands.draft
 drafts_found db drafts slots d s None (inr none) = λ t plain stands.
     subst (IsFound FitsSlot slot_columns keyless (db.trees 5)) none s t.slot plain.slot stands.slot
 
@@ -149,7 +152,8 @@ publication_found db placements seats students parts p s n k None (inr (inl none
     t.seat plain.seat
     stands.seat
 publication_found db placements seats students parts p s n k None (inr (inr (inl none))) =
-    λ t plain stands. subst (IsFound FitsStudentShare share_student_columns keyed (db.trees 11)) none n
+    λ t plain stands.
+    subst (IsFound FitsStudentShare share_student_columns keyed (db.trees 11)) none n
     t.share_student plain.share_student stands.share_student
 publication_found db placements seats students parts p s n k None (inr (inr (inr none))) =
     λ t plain stands. subst (IsFound FitsPartShare share_part_columns keyless (db.trees 12)) none k

@@ -68,7 +68,8 @@ is_batch q whole (found, is) =
     let unchanged : column q 4 ≡ Int (pos found.unchanged) = ap (λ (l : Row). column l 3) is in
     dropped 0 5 q whole.long ∙ rw (no, whole.blob, added, dropped_is, unchanged) refl
 
-all_same : (f : Row → Row) (rows : List Row) → AllByRecursion (λ q. q ≡ f q) rows → rows ≡ map f rows
+all_same : (f : Row → Row) (rows : List Row) → AllByRecursion (λ q. q ≡ f q) rows
+    → rows ≡ map f rows
 all_same f [] h = refl
 all_same f (q ∷ rows) h = ap₂ (λ x xs. x ∷ xs) h.0 (all_same f rows h.1)
 
@@ -122,7 +123,8 @@ module _ (db : Database) (is : db.schema ≡ office_schema) (sound : IsDatabase 
         record { rowids = holds.rowids; same = subst (IsPermutation shown) rows u.2 },
       )
   batches_found None none = λ batches fit holds.
-      let typed : map picked (map batch_columns batches) ≡ map counts_columns (map counts_of batches) =
+      let typed : map picked (map batch_columns batches)
+      ≡ map counts_columns (map counts_of batches) =
       map-map picked batch_columns batches ∙ sym (map-map counts_columns counts_of batches) in
       let same : IsPermutation (map counts_shown (db.trees 14))
       (map counts_columns (map counts_of batches)) =

@@ -58,6 +58,7 @@ added old new row count t stands h =
     ) refl in
     let fresh : are_fresh stored (new_row ∷ []) ≡ true = rw (cast_int row.no) at is.fresh in
     batch_changed old.now new.now t stands done.0 (row ∷ t.batch) is.tables
-    (rw rows (holds_more keyed (map batch_columns t.batch) stored new_row (batch_columns row) refl refl
+    (rw rows (holds_more keyed (map batch_columns t.batch) stored new_row
+    (batch_columns row) refl refl
     fresh
     stands.batch))

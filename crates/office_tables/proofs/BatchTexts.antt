@@ -30,8 +30,10 @@ use Rattle.office_tables.proofs.RecordsBack.{batch_of, number}
 use Rattle.office_tables.proofs.TableLemmas.{keys_once, once_moved}
 
 -- a number is kept once
-pub kept_once : (db : Database) (t : Tables) → Stands db t → IsAscending (λ a b. a.no ≢ b.no) t.batch
-kept_once db t stands = keys_once batch_columns (λ (b : Batch). b.no) (λ b. refl) t.batch (db.trees 14)
+pub kept_once : (db : Database) (t : Tables) → Stands db t
+    → IsAscending (λ a b. a.no ≢ b.no) t.batch
+kept_once db t stands =
+    keys_once batch_columns (λ (b : Batch). b.no) (λ b. refl) t.batch (db.trees 14)
     stands.batch
 
 -- ---- SELECT no, bytes, added, dropped, unchanged FROM batch WHERE no = ?1 ORDER BY no
@@ -113,7 +115,8 @@ last_alone xs (z ∷ rest) (Some y) is some few =
 
 pub batch_of_read : (db : Database) (n : ℕ) (t : Tables) → Stands db t
     → (found rest : List BatchRow) (last : Option BatchRow)
-    → IsReadOf (λ r. batch_columns (batch_from r)) 5 (Int (pos n) ∷ []) batch_of_query db.trees found
+    → IsReadOf (λ r. batch_columns (batch_from r)) 5
+    (Int (pos n) ∷ []) batch_of_query db.trees found
     → found ≡ rest ++ option_to_list last → IsSome last ↔ (0 < length found)
     → filter (λ r. r.no == n) t.batch ≡ map batch_from (option_to_list last)
 batch_of_read db n t stands found rest last is ends some =

@@ -28,12 +28,14 @@ pub record Defines (schema : Schema) (text : List ℕ) (table : Table) : Type 0 
   pub plain : IsPlain (understood schema text)
 
 -- so where it has run the table is there
-pub makes : (schema : Schema) (text : List ℕ) (table : Table) (old new : State) → Defines schema text table
+pub makes : (schema : Schema) (text : List ℕ) (table : Table) (old new : State)
+    → Defines schema text table
     → lacks_sequence (created schema table) ≡ false
     → HasRun text [] old new → Leads (IsBlank schema) (IsBlank (created schema table)) old new
 makes schema text table old new it counted ran = (
   ran.inside,
-  creates text old new ran.count schema (record table { tree = 0 }) it.plain it.command it.whole it.defined counted ran.executed,
+  creates text old new ran.count schema
+      (record table { tree = 0 }) it.plain it.command it.whole it.defined counted ran.executed,
 )
 
 abbrev pub meta_text : List ℕ
@@ -44,7 +46,8 @@ unfolding understood everything
 meta_defined = record { command = refl; whole = refl; defined = refl; plain = (refl, refl) }
 
 abbrev pub owner_text : List ℕ
-owner_text = codes "CREATE TABLE owner (exam INTEGER NOT NULL PRIMARY KEY, dept INTEGER NOT NULL) STRICT"
+owner_text =
+    codes "CREATE TABLE owner (exam INTEGER NOT NULL PRIMARY KEY, dept INTEGER NOT NULL) STRICT"
 
 pub owner_defined : Defines schema_1 owner_text owner_table
 unfolding understood everything
@@ -90,7 +93,8 @@ share_student_text = codes "CREATE TABLE share_student (student INTEGER NOT NULL
 
 pub share_student_defined : Defines schema_7 share_student_text share_student_table
 unfolding understood everything
-share_student_defined = record { command = refl; whole = refl; defined = refl; plain = (refl, refl) }
+share_student_defined =
+    record { command = refl; whole = refl; defined = refl; plain = (refl, refl) }
 
 abbrev pub share_part_text : List ℕ
 share_part_text = codes "CREATE TABLE share_part (kind INTEGER NOT NULL, no INTEGER NOT NULL, penalty INTEGER NOT NULL, mixed INTEGER NOT NULL, PRIMARY KEY (kind, no)) STRICT"

@@ -29,7 +29,8 @@ abbrev pub insert_text : List ℕ
 insert_text = codes "INSERT INTO draft (no, in_row, in_day, spread, mixed, front, period, room) VALUES (?1, ?2, ?3, ?4, ?5, ?6, ?7, ?8)"
 
 abbrev insert_terms : List Term
-insert_terms = col 0 0 ∷ lit Null ∷ col 0 1 ∷ col 0 2 ∷ col 0 3 ∷ col 0 4 ∷ col 0 5 ∷ col 0 6 ∷ col 0 7 ∷ []
+insert_terms =
+    col 0 0 ∷ lit Null ∷ col 0 1 ∷ col 0 2 ∷ col 0 3 ∷ col 0 4 ∷ col 0 5 ∷ col 0 6 ∷ col 0 7 ∷ []
 
 insert_is : command_of (understood office_schema insert_text) ≡ Insert 3 (Values insert_terms 9)
 unfolding understood everything
@@ -47,18 +48,25 @@ added old new row count t stands h =
     3 draft_table refl insert_terms 9 insert_is (λ taken news. refl) h in
     let is = done.1 in
     let stored = old.now.trees 4 in
-    let new_row : Row = Int (pos row.no) ∷ Null ∷ Int (pos row.in_row) ∷ Int (pos row.in_day) ∷ Int (pos row.spread) ∷ Int (pos row.mixed) ∷ Int (pos row.front) ∷ Int (pos row.period) ∷ Int (pos row.room) ∷ [] in
-    let rows : new.now.trees 4 ≡ put_row new_row stored = is.rows ∙ rw (cast_null, cast_int row.no, cast_int row.in_row, cast_int row.in_day, cast_int row.spread, cast_int row.mixed, cast_int row.front, cast_int row.period, cast_int row.room) refl in
+    let new_row : Row =
+    Int (pos row.no) ∷ Null ∷ Int (pos row.in_row) ∷ Int (pos row.in_day) ∷ Int (pos row.spread)
+    ∷ Int (pos row.mixed) ∷ Int (pos row.front) ∷ Int (pos row.period)
+    ∷ Int (pos row.room) ∷ [] in
+    let rows : new.now.trees 4 ≡ put_row new_row stored =
+    is.rows ∙ rw (cast_null, cast_int row.no, cast_int row.in_row, cast_int row.in_day, cast_int row.spread, cast_int row.mixed, cast_int row.front, cast_int row.period, cast_int row.room)
+    refl in
     let fresh : are_fresh stored (new_row ∷ []) ≡ true = rw (cast_int row.no) at is.fresh in
     draft_changed old.now new.now t stands done.0 (row ∷ t.draft) is.tables
-    (rw rows (holds_more keyed (map draft_columns t.draft) stored new_row (draft_columns row) refl refl fresh stands.draft))
+    (rw rows (holds_more keyed (map draft_columns t.draft) stored new_row
+    (draft_columns row) refl refl fresh stands.draft))
 
 -- ---- DELETE WHERE no = ?1
 
 abbrev pub delete_text : List ℕ
 delete_text = codes "DELETE FROM draft WHERE no = ?1"
 
-delete_is : command_of (understood office_schema delete_text) ≡ Delete 3 (record { lets = []; body = one_table 4 (equals 0 0 ∷ []) rowids [] })
+delete_is : command_of (understood office_schema delete_text)
+    ≡ Delete 3 (record { lets = []; body = one_table 4 (equals 0 0 ∷ []) rowids [] })
 unfolding understood everything
 delete_is = refl
 
@@ -80,9 +88,11 @@ deleted old new number count t stands h =
     let answer = answered 4 (equals 0 0 ∷ []) _ [] old.now.trees params done.0 done.2 in
     let rows : new.now.trees 4 ≡ filter (λ r. not (test r)) stored =
     is.rows ∙ left_of test stored done.0 stands.draft.rowids answer in
-    let same = shown_filter keyed draft_columns (λ r. not (test r)) (λ row. not (shown_test row)) (λ r. not (r.no == number))
+    let same = shown_filter keyed draft_columns (λ r. not (test r)) (λ row. not (shown_test row))
+    (λ r. not (r.no == number))
     (λ r. refl) (λ x. ap not (equal_numbers x.no number)) stored t.draft stands.draft.same in
-    draft_changed old.now new.now t stands done.1 (filter (λ r. not (r.no == number)) t.draft) is.tables
+    draft_changed old.now new.now t stands done.1
+    (filter (λ r. not (r.no == number)) t.draft) is.tables
     (rw rows (record { rowids = rowids_filter (λ r. not (test r)) stored stands.draft.rowids; same = same }))
 
 -- ---- DELETE

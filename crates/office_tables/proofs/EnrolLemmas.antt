@@ -48,10 +48,12 @@ added old new row count t stands h =
     let is = done.1 in
     let stored = old.now.trees 2 in
     let new_row : Row = Int (next_rowid stored) ∷ enrol_columns row in
-    let rows : new.now.trees 2 ≡ put_row new_row stored = is.rows ∙ rw (cast_null, cast_int row.student, cast_int row.exam) refl in
+    let rows : new.now.trees 2 ≡ put_row new_row stored =
+    is.rows ∙ rw (cast_null, cast_int row.student, cast_int row.exam) refl in
     let fresh : are_fresh stored (new_row ∷ []) ≡ true = rw (cast_null) at is.fresh in
     enrol_changed old.now new.now t stands done.0 (row ∷ t.enrol) is.tables
-    (rw rows (holds_more keyless (map enrol_columns t.enrol) stored new_row (enrol_columns row) refl refl fresh stands.enrol))
+    (rw rows (holds_more keyless (map enrol_columns t.enrol) stored new_row
+    (enrol_columns row) refl refl fresh stands.enrol))
 
 -- ---- DELETE WHERE student = ?1 AND exam = ?2
 

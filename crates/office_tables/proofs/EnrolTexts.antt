@@ -65,7 +65,8 @@ module _ (db : Database) (number : ℕ) (t : Tables) (stands : Stands db t) wher
   shown : IsPermutation (map (eval_all enrol_terms)
       (matches db.trees (equals 1 0 ∷ []) (inner 2 end) (given ∷ []))) (map enrol_columns hers)
   shown =
-      table_shown enrol_columns keyless enrol_picked given 2 (equals 1 0 ∷ []) enrol_terms enrol_shown
+      table_shown enrol_columns keyless enrol_picked given 2
+      (equals 1 0 ∷ []) enrol_terms enrol_shown
       (λ x. refl) (passes given (equals 0 0 ∷ [])) (λ r.
       ap (λ v. is_true (binary (Compare Eq Binary) v (Int (pos number))) && true) (column_less r 0))
       (λ r. r.student == number) (λ x. equal_numbers x.student number) db.trees t.enrol

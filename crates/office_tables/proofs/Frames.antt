@@ -34,7 +34,8 @@ abbrev pub Others : ℕ → Trees → Trees → Type 0
 Others tree old new =
     AllByRecursion (λ (t : Table). t.tree ≢ tree → new t.tree ≡ old t.tree) office_schema.tables
 
-still : (show : Row → Row) (rows old new : List Row) → new ≡ old → Holds show rows old → Holds show rows new
+still : (show : Row → Row) (rows old new : List Row) → new ≡ old → Holds show rows old
+    → Holds show rows new
 still show rows old new same = subst (Holds show rows) (sym same)
 
 -- a table with no row shows none
@@ -42,7 +43,8 @@ pub holds_none : (show : Row → Row) (stored : List Row) → stored ≡ [] → 
 holds_none show stored none =
     rw none (record { rowids = record { ints = tt; apart = tt }; same = IsPermutation-refl _ })
 
-module _ (old new : Database) (t : Tables) (stands : Stands old t) (schema : new.schema ≡ office_schema) where
+module _ (old new : Database) (t : Tables) (stands : Stands old t)
+    (schema : new.schema ≡ office_schema) where
   pub meta_changed : (rows : List Meta) → Others 0 old.trees new.trees
       → Holds keyed (map meta_columns rows) (new.trees 0) → Stands new (record t { meta = rows })
   meta_changed rows others held = record {
@@ -76,7 +78,8 @@ module _ (old new : Database) (t : Tables) (stands : Stands old t) (schema : new
   }
 
   pub enrol_changed : (rows : List EnrolRow) → Others 2 old.trees new.trees
-      → Holds keyless (map enrol_columns rows) (new.trees 2) → Stands new (record t { enrol = rows })
+      → Holds keyless (map enrol_columns rows) (new.trees 2)
+      → Stands new (record t { enrol = rows })
   enrol_changed rows others held = record {
     schema = schema;
     meta = still keyed _ _ _ (others.0 (omega arith)) stands.meta;
@@ -124,7 +127,8 @@ module _ (old new : Database) (t : Tables) (stands : Stands old t) (schema : new
   }
 
   pub placed_changed : (rows : List PlacedRow) → Others 7 old.trees new.trees
-      → Holds keyed (map placed_columns rows) (new.trees 7) → Stands new (record t { placed = rows })
+      → Holds keyed (map placed_columns rows) (new.trees 7)
+      → Stands new (record t { placed = rows })
   placed_changed rows others held = record {
     schema = schema;
     meta = still keyed _ _ _ (others.0 (omega arith)) stands.meta;
@@ -156,7 +160,8 @@ module _ (old new : Database) (t : Tables) (stands : Stands old t) (schema : new
   }
 
   pub share_student_changed : (rows : List StudentShareRow) → Others 11 old.trees new.trees
-      → Holds keyed (map share_student_columns rows) (new.trees 11) → Stands new (record t { share_student = rows })
+      → Holds keyed (map share_student_columns rows) (new.trees 11)
+      → Stands new (record t { share_student = rows })
   share_student_changed rows others held = record {
     schema = schema;
     meta = still keyed _ _ _ (others.0 (omega arith)) stands.meta;
@@ -172,7 +177,8 @@ module _ (old new : Database) (t : Tables) (stands : Stands old t) (schema : new
   }
 
   pub share_part_changed : (rows : List PartShareRow) → Others 12 old.trees new.trees
-      → Holds keyless (map share_part_columns rows) (new.trees 12) → Stands new (record t { share_part = rows })
+      → Holds keyless (map share_part_columns rows) (new.trees 12)
+      → Stands new (record t { share_part = rows })
   share_part_changed rows others held = record {
     schema = schema;
     meta = still keyed _ _ _ (others.0 (omega arith)) stands.meta;

@@ -20,7 +20,8 @@ module _ {X : Type 0} (fits : X → Type 0) (row_of : X → Row) (width : ℕ) (
   -- a row of none is among more rows too
   pub still_unread : (row : Row) → IsGathered fits row_of width rows None
       → IsGathered fits row_of width (rows ++ row ∷ []) None
-  still_unread row (other, has, none) = (other, Contains-append_left rows (row ∷ []) other has, none)
+  still_unread row (other, has, none) =
+      (other, Contains-append_left rows (row ∷ []) other has, none)
 
   pub now_unread : (row : Row) → IsUnread fits row_of width row
       → IsGathered fits row_of width (rows ++ row ∷ []) None

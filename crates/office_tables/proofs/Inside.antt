@@ -12,17 +12,21 @@ use Rattle.office_tables.specs.Standing.{Stands}
 use Rattle.office_tables.specs.Steps.{Within, HasRun, Makes}
 
 -- what answers `Ok` was inside
-pub inside_of : {T E Z : Type 0} {x : T} {e : E} (b : Bool) → (b ≡ false → (◌≡◌ {A = Result T E} (Ok x) (Err e)) × Z) → IsTrue b
+pub inside_of : {T E Z : Type 0} {x : T} {e : E} (b : Bool)
+    → (b ≡ false → (◌≡◌ {A = Result T E} (Ok x) (Err e)) × Z) → IsTrue b
 inside_of true h = refl
 inside_of false h = absurd (let is = (h refl).0 in cc)
 
-pub keeps_commit : (sql : List ℕ) (params : Row) (old new : State) (r : Result ℕ Error) → ExecutesInside 0 sql params old new r → KeepsCommit old new
-keeps_commit sql params old new (Ok count) h = record { was_open = λ _. h.1.was_open; committed = λ _. h.1.committed_is }
+pub keeps_commit : (sql : List ℕ) (params : Row) (old new : State) (r : Result ℕ Error)
+    → ExecutesInside 0 sql params old new r → KeepsCommit old new
+keeps_commit sql params old new (Ok count) h =
+    record { was_open = λ _. h.1.was_open; committed = λ _. h.1.committed_is }
 keeps_commit sql params old new (Err e) (inl h) = elim h.1 [
   | inl same ↦ record { was_open = λ _. same.0.was_open; committed = λ _. same.0.committed_is }
   | inr undone ↦ record { was_open = undone.was_open; committed = λ o. (undone.undone o).1 }
 ]
-keeps_commit sql params old new (Err e) (inr h) = record { was_open = λ _. h.2.0.was_open; committed = λ _. h.2.0.committed_is }
+keeps_commit sql params old new (Err e) (inr h) =
+    record { was_open = λ _. h.2.0.was_open; committed = λ _. h.2.0.committed_is }
 
 -- a state that is clean now was clean before
 pub clean_before : (old new : State) → Within old new → HasCleanDisk new → HasCleanDisk old
@@ -30,7 +34,8 @@ clean_before old new w clean = omega (arith, w.survives.clean)
 
 pub within_then : (a b c : State) → Within a b → Within b c → Within a c
 within_then a b c p q = record {
-  survives = survives_then a b c _ _ (λ _. ⊥) (λ _ db none. none) (λ _ db none. none) p.survives q.survives;
+  survives = survives_then a b c _ _ (λ _. ⊥) (λ _ db none. none)
+      (λ _ db none. none) p.survives q.survives;
   kept = λ clean.
       let first = p.kept (clean_before b c q clean) in
       let second = q.kept clean in
@@ -43,12 +48,15 @@ within_same a = record {
   kept = λ _. record { was_open = λ o. o; committed = λ _. refl };
 }
 
-pub makes_then : (f g : Tables → Tables) (a b c : State) → Makes f a b → Makes g b c → Makes (λ t. g (f t)) a c
+pub makes_then : (f g : Tables → Tables) (a b c : State) → Makes f a b → Makes g b c
+    → Makes (λ t. g (f t)) a c
 makes_then f g a b c p q = (q.0, λ t h. q.1 (f t) (p.1 t h))
 
 -- where a statement has run, the tables have changed as it changes them
-pub changes_by : (f : Tables → Tables) (sql : List ℕ) (params : Row) (old new : State) (r : Result (Unit {0}) Error)
-    → ((count : ℕ) (t : Tables) → Stands old.now t → Executes sql params old new (Ok count) → Stands new.now (f t))
+pub changes_by : (f : Tables → Tables) (sql : List ℕ) (params : Row) (old new : State)
+    (r : Result (Unit {0}) Error)
+    → ((count : ℕ) (t : Tables) → Stands old.now t → Executes sql params old new (Ok count)
+    → Stands new.now (f t))
     → OnOk r (HasRun sql params old new) → OnOk r (Makes f old new)
 changes_by f sql params old new r step =
     on_ok_weaker r (λ ran. (ran.inside, λ t stands. step ran.count t stands ran.executed))

@@ -123,7 +123,8 @@ one_placed : (student : ℕ) (trees : Trees) (placed : List PlacedRow)
     (map placed_columns (filter (λ p. (e.student == student) && (p.exam == e.exam)) placed))
 one_placed student trees placed same e =
     let params : Row = Int (pos student) ∷ [] in
-    let kept = IsPermutation-map picked _ _ (IsPermutation-filter (suits params (enrol_columns e)) _ _
+    let kept = IsPermutation-map picked _ _
+    (IsPermutation-filter (suits params (enrol_columns e)) _ _
     same) in
     let typed : map picked (filter (suits params (enrol_columns e)) (map placed_columns placed))
     ≡ map placed_columns (filter (λ p. (e.student == student) && (p.exam == e.exam)) placed) =
@@ -141,7 +142,8 @@ hers_alone : (student : ℕ) (placed : List PlacedRow) (enrols : List EnrolRow)
     (filter (λ e. e.student == student) enrols))
 hers_alone student placed [] = refl
 hers_alone student placed (e ∷ enrols) =
-    sym (map-flat_map placed_columns (λ x. filter (λ p. (x.student == student) && (p.exam == x.exam))
+    sym (map-flat_map placed_columns
+    (λ x. filter (λ p. (x.student == student) && (p.exam == x.exam))
     placed) (e ∷ enrols))
     ∙ ap (map placed_columns) (go (e ∷ enrols))
   where
@@ -179,4 +181,5 @@ placements_of_read db student t stands found is =
     (IsPermutation-trans _ _ _ stored
     (rw (flat_map-map (suited params db.trees) enrol_columns t.enrol) typed)) in
     read placement_of placed_columns 3 (λ x. refl) (λ x. refl) (inner 2 (inner 7 end)) tests columns
-    (0 ∷ []) (λ (x : PlacedRow). x.exam ∷ []) (λ x. refl) db.trees params (placed_of student t) found rows is
+    (0 ∷ []) (λ (x : PlacedRow). x.exam ∷ []) (λ x. refl) db.trees params
+    (placed_of student t) found rows is

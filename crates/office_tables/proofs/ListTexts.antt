@@ -46,7 +46,8 @@ owner_whole db is sound =
       wide = omega arith;
     })
     (db.trees 1)
-    (rows_long owner_table (take 1 owner_table.columns) (int (codes "dept")) refl refl refl db.trees (db.trees 1)
+    (rows_long owner_table (take 1 owner_table.columns)
+    (int (codes "dept")) refl refl refl db.trees (db.trees 1)
     (typed_rows db is sound).1.0 (present_rows db is sound).1.0)
 
 pub owner_lists : ListsTable 2 1 keyed owner_text
@@ -75,7 +76,8 @@ enrol_whole db is sound =
     all_weaker _ (λ r. IsListed 2 keyless r (listed enrol_terms r))
     (λ r long. record { columns = sym (dropped 1 2 r long); number = refl; wide = omega arith })
     (db.trees 2)
-    (rows_long enrol_table (take 1 enrol_table.columns) (int (codes "exam")) refl refl refl db.trees (db.trees 2)
+    (rows_long enrol_table (take 1 enrol_table.columns)
+    (int (codes "exam")) refl refl refl db.trees (db.trees 2)
     (typed_rows db is sound).1.1.0 (present_rows db is sound).1.1.0)
 
 pub enrol_lists : ListsTable 2 2 keyless enrol_text
@@ -93,7 +95,8 @@ draft_terms =
 draft_is : Lists 4 draft_terms by_number draft_text
 unfolding understood everything
 draft_is = record {
-  names = codes "no" ∷ codes "in_row" ∷ codes "in_day" ∷ codes "spread" ∷ codes "mixed" ∷ codes "front" ∷ codes "period" ∷ codes "room" ∷ codes "no" ∷ [];
+  names = codes "no" ∷ codes "in_row" ∷ codes "in_day" ∷ codes "spread" ∷ codes "mixed"
+      ∷ codes "front" ∷ codes "period" ∷ codes "room" ∷ codes "no" ∷ [];
   selects = refl;
   unlisted = refl;
   plain = (refl, refl);
@@ -109,7 +112,8 @@ draft_whole db is sound =
       wide = omega arith;
     })
     (db.trees 4)
-    (rows_long draft_table (take 7 draft_table.columns) (int (codes "room")) refl refl refl db.trees (db.trees 4)
+    (rows_long draft_table (take 7 draft_table.columns)
+    (int (codes "room")) refl refl refl db.trees (db.trees 4)
     (typed_rows db is sound).1.1.1.0 (present_rows db is sound).1.1.1.0)
 
 pub draft_lists : ListsTable 8 4 keyed draft_text
@@ -138,7 +142,8 @@ slot_whole db is sound =
     all_weaker _ (λ r. IsListed 4 keyless r (listed slot_terms r))
     (λ r long. record { columns = sym (dropped 1 4 r long); number = refl; wide = omega arith })
     (db.trees 5)
-    (rows_long slot_table (take 3 slot_table.columns) (int (codes "room")) refl refl refl db.trees (db.trees 5)
+    (rows_long slot_table (take 3 slot_table.columns)
+    (int (codes "room")) refl refl refl db.trees (db.trees 5)
     (typed_rows db is sound).1.1.1.1.0 (present_rows db is sound).1.1.1.1.0)
 
 pub slot_lists : ListsTable 4 5 keyless slot_text
@@ -171,7 +176,8 @@ placed_whole db is sound =
       wide = omega arith;
     })
     (db.trees 7)
-    (rows_long placed_table (take 2 placed_table.columns) (int (codes "room")) refl refl refl db.trees (db.trees 7)
+    (rows_long placed_table (take 2 placed_table.columns)
+    (int (codes "room")) refl refl refl db.trees (db.trees 7)
     (typed_rows db is sound).1.1.1.1.1.0 (present_rows db is sound).1.1.1.1.1.0)
 
 pub placed_lists : ListsTable 3 7 keyed placed_text
@@ -188,7 +194,8 @@ seat_terms = col 1 1 ∷ col 1 2 ∷ col 1 3 ∷ col 1 4 ∷ col 1 5 ∷ col 1 0
 seat_is : Lists 8 seat_terms by_number seat_text
 unfolding understood everything
 seat_is = record {
-  names = codes "student" ∷ codes "exam" ∷ codes "period" ∷ codes "room" ∷ codes "seat" ∷ codes "rowid" ∷ [];
+  names = codes "student" ∷ codes "exam" ∷ codes "period" ∷ codes "room" ∷ codes "seat"
+      ∷ codes "rowid" ∷ [];
   selects = refl;
   unlisted = refl;
   plain = (refl, refl);
@@ -204,7 +211,8 @@ seat_whole db is sound =
       wide = omega arith;
     })
     (db.trees 8)
-    (rows_long seat_table (take 4 seat_table.columns) (int (codes "seat")) refl refl refl db.trees (db.trees 8)
+    (rows_long seat_table (take 4 seat_table.columns)
+    (int (codes "seat")) refl refl refl db.trees (db.trees 8)
     (typed_rows db is sound).1.1.1.1.1.1.0 (present_rows db is sound).1.1.1.1.1.1.0)
 
 pub seat_lists : ListsTable 5 8 keyless seat_text
@@ -213,7 +221,8 @@ seat_lists = record { terms = seat_terms; lists = seat_is; whole = seat_whole }
 -- ---- share_student
 
 abbrev pub share_student_text : List ℕ
-share_student_text = codes "SELECT student, in_row, in_day, spread, rowid FROM share_student ORDER BY rowid"
+share_student_text =
+    codes "SELECT student, in_row, in_day, spread, rowid FROM share_student ORDER BY rowid"
 
 abbrev share_student_terms : List Term
 share_student_terms = col 1 0 ∷ col 1 2 ∷ col 1 3 ∷ col 1 4 ∷ col 1 0 ∷ []
@@ -237,11 +246,13 @@ share_student_whole db is sound =
       wide = omega arith;
     })
     (db.trees 11)
-    (rows_long share_student_table (take 3 share_student_table.columns) (int (codes "spread")) refl refl refl db.trees (db.trees 11)
+    (rows_long share_student_table (take 3 share_student_table.columns)
+    (int (codes "spread")) refl refl refl db.trees (db.trees 11)
     (typed_rows db is sound).1.1.1.1.1.1.1.0 (present_rows db is sound).1.1.1.1.1.1.1.0)
 
 pub share_student_lists : ListsTable 4 11 keyed share_student_text
-share_student_lists = record { terms = share_student_terms; lists = share_student_is; whole = share_student_whole }
+share_student_lists =
+    record { terms = share_student_terms; lists = share_student_is; whole = share_student_whole }
 
 -- ---- share_part
 
@@ -270,11 +281,13 @@ share_part_whole db is sound =
       wide = omega arith;
     })
     (db.trees 12)
-    (rows_long share_part_table (take 3 share_part_table.columns) (int (codes "mixed")) refl refl refl db.trees (db.trees 12)
+    (rows_long share_part_table (take 3 share_part_table.columns)
+    (int (codes "mixed")) refl refl refl db.trees (db.trees 12)
     (typed_rows db is sound).1.1.1.1.1.1.1.1.0 (present_rows db is sound).1.1.1.1.1.1.1.1.0)
 
 pub share_part_lists : ListsTable 4 12 keyless share_part_text
-share_part_lists = record { terms = share_part_terms; lists = share_part_is; whole = share_part_whole }
+share_part_lists =
+    record { terms = share_part_terms; lists = share_part_is; whole = share_part_whole }
 
 -- ---- batch
 
@@ -329,5 +342,6 @@ meta_whole db is sound =
     all_weaker _ (λ r. listed meta_terms r ≡ keyed r)
     (λ r long. ap (λ l. column r 0 ∷ l) (sym (dropped 2 3 r long)))
     (db.trees 0)
-    (rows_long meta_table (take 3 meta_table.columns) (blob (codes "instance")) refl refl refl db.trees (db.trees 0)
+    (rows_long meta_table (take 3 meta_table.columns)
+    (blob (codes "instance")) refl refl refl db.trees (db.trees 0)
     (typed_rows db is sound).0 (present_rows db is sound).0)

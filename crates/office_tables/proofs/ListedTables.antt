@@ -39,7 +39,8 @@ module _ (tree : ℕ) (shown : List Term) (order : List (Term × Key)) (sql : Li
       let q = one_table tree [] shown order in
       let command = command_is q lists.names _ lists.selects in
       subst (λ trees. IsAnswer q trees [] rows) (overlay_none old.now.trees)
-      (selects sql [] old new office_schema has lists.plain _ lists.names command lists.unlisted rows h)
+      (selects sql [] old new office_schema has lists.plain _ lists.names command
+      lists.unlisted rows h)
 
   plain_now : IsPlain (understood old.now.schema sql)
   plain_now = subst (λ s. IsPlain (understood s sql)) (sym has) lists.plain

@@ -11,7 +11,8 @@ use Rattle.office_schema.specs.Schema.{office_schema}
 use Rattle.office_tables.specs.Standing.{Stands}
 use Rattle.office_tables.specs.Tables.{Tables}
 
-open_rows : (old new : State) (sql : List ℕ) (c : Compiled) (params : Row) (rows : List Row) (r : Option Returning)
+open_rows : (old new : State) (sql : List ℕ) (c : Compiled) (params : Row) (rows : List Row)
+    (r : Option Returning)
     → ShowsRows old new sql c params rows r → IsTrue old.is_open
 open_rows old new sql c params rows None h = h.3.0.was_open
 open_rows old new sql c params rows (Some what) h = h.1.shown.was_open

@@ -32,7 +32,8 @@ first_alone (y ∷ []) x long first = ap (λ v. v ∷ []) (sym first)
 first_alone (y ∷ z ∷ xs) x long first = absurd (omega (arith, long))
 
 -- the row that stands alone has the number 0
-rowids_of_one : (stored : List Row) (m : Meta) → IsPermutation (map keyed stored) (meta_columns m ∷ [])
+rowids_of_one : (stored : List Row) (m : Meta)
+    → IsPermutation (map keyed stored) (meta_columns m ∷ [])
     → HasRowids stored
 rowids_of_one stored m same =
     let ints = all_from_map (λ r. IsTrue (is_int (rowid r))) keyed stored

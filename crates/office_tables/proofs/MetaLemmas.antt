@@ -41,25 +41,31 @@ unfolding understood everything
 insert_plain = (refl, refl)
 
 pub added : (old new : State) (row : Meta) (count : ℕ) (t : Tables) → Stands old.now t
-    → Executes insert_text (Int (pos (flag row.published)) ∷ Blob row.instance ∷ []) old new (Ok count)
+    → Executes insert_text (Int (pos (flag row.published)) ∷ Blob row.instance ∷ [])
+    old new (Ok count)
     → Stands new.now (record t { meta = row ∷ t.meta })
 added old new row count t stands h =
     let done = inserts insert_text _ old new count office_schema stands.schema insert_plain
     0 meta_table refl insert_terms 5 insert_is (λ taken news. refl) h in
     let is = done.1 in
     let stored = old.now.trees 0 in
-    let new_row : Row = Int (pos 0) ∷ Null ∷ Int (pos 1) ∷ Int (pos (flag row.published)) ∷ Blob row.instance ∷ [] in
-    let rows : new.now.trees 0 ≡ put_row new_row stored = is.rows ∙ rw (cast_int 0, cast_int 1, cast_null, cast_int (flag row.published)) refl in
+    let new_row : Row =
+    Int (pos 0) ∷ Null ∷ Int (pos 1) ∷ Int (pos (flag row.published))
+    ∷ Blob row.instance ∷ [] in
+    let rows : new.now.trees 0 ≡ put_row new_row stored =
+    is.rows ∙ rw (cast_int 0, cast_int 1, cast_null, cast_int (flag row.published)) refl in
     let fresh : are_fresh stored (new_row ∷ []) ≡ true = rw (cast_int 0) at is.fresh in
     meta_changed old.now new.now t stands done.0 (row ∷ t.meta) is.tables
-    (rw rows (holds_more keyed (map meta_columns t.meta) stored new_row (meta_columns row) refl refl fresh stands.meta))
+    (rw rows (holds_more keyed (map meta_columns t.meta) stored new_row
+    (meta_columns row) refl refl fresh stands.meta))
 
 -- ---- DELETE
 
 abbrev pub delete_text : List ℕ
 delete_text = codes "DELETE FROM meta"
 
-delete_is : command_of (understood office_schema delete_text) ≡ Delete 0 (record { lets = []; body = one_table 0 ([]) rowids [] })
+delete_is : command_of (understood office_schema delete_text)
+    ≡ Delete 0 (record { lets = []; body = one_table 0 ([]) rowids [] })
 unfolding understood everything
 delete_is = refl
 
@@ -77,14 +83,16 @@ deleted old new count t stands h =
     let answer = answered 0 [] _ [] old.now.trees [] done.0 done.2 in
     let rows : new.now.trees 0 ≡ [] =
     is.rows ∙ left_of (λ r. true) stored done.0 stands.meta.rowids answer ∙ none_left stored in
-    meta_changed old.now new.now t stands done.1 [] is.tables (holds_none keyed (new.now.trees 0) rows)
+    meta_changed old.now new.now t stands done.1 [] is.tables
+    (holds_none keyed (new.now.trees 0) rows)
   where
     none_left : (xs : List Row) → filter (λ r. not true) xs ≡ []
     none_left [] = refl
     none_left (x ∷ xs) = none_left xs
 
 -- tables with no row hold none
-pub blank_stands : (db : Database) → IsBlank office_schema db → Stands db (record empty_tables { meta = [] })
+pub blank_stands : (db : Database) → IsBlank office_schema db
+    → Stands db (record empty_tables { meta = [] })
 blank_stands db blank = record {
   schema = blank.schema_is;
   meta = holds_none keyed _ (blank.empty.0);

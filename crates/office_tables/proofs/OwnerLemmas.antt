@@ -48,17 +48,20 @@ added old new row count t stands h =
     let is = done.1 in
     let stored = old.now.trees 1 in
     let new_row : Row = Int (pos row.exam) ∷ Null ∷ Int (pos row.dept) ∷ [] in
-    let rows : new.now.trees 1 ≡ put_row new_row stored = is.rows ∙ rw (cast_null, cast_int row.exam, cast_int row.dept) refl in
+    let rows : new.now.trees 1 ≡ put_row new_row stored =
+    is.rows ∙ rw (cast_null, cast_int row.exam, cast_int row.dept) refl in
     let fresh : are_fresh stored (new_row ∷ []) ≡ true = rw (cast_int row.exam) at is.fresh in
     owner_changed old.now new.now t stands done.0 (row ∷ t.owner) is.tables
-    (rw rows (holds_more keyed (map owner_columns t.owner) stored new_row (owner_columns row) refl refl fresh stands.owner))
+    (rw rows (holds_more keyed (map owner_columns t.owner) stored new_row
+    (owner_columns row) refl refl fresh stands.owner))
 
 -- ---- DELETE WHERE exam = ?1
 
 abbrev pub delete_text : List ℕ
 delete_text = codes "DELETE FROM owner WHERE exam = ?1"
 
-delete_is : command_of (understood office_schema delete_text) ≡ Delete 1 (record { lets = []; body = one_table 1 (equals 0 0 ∷ []) rowids [] })
+delete_is : command_of (understood office_schema delete_text)
+    ≡ Delete 1 (record { lets = []; body = one_table 1 (equals 0 0 ∷ []) rowids [] })
 unfolding understood everything
 delete_is = refl
 
@@ -80,7 +83,9 @@ deleted old new exam count t stands h =
     let answer = answered 1 (equals 0 0 ∷ []) _ [] old.now.trees params done.0 done.2 in
     let rows : new.now.trees 1 ≡ filter (λ r. not (test r)) stored =
     is.rows ∙ left_of test stored done.0 stands.owner.rowids answer in
-    let same = shown_filter keyed owner_columns (λ r. not (test r)) (λ row. not (shown_test row)) (λ r. not (r.exam == exam))
+    let same = shown_filter keyed owner_columns (λ r. not (test r)) (λ row. not (shown_test row))
+    (λ r. not (r.exam == exam))
     (λ r. refl) (λ x. ap not (equal_numbers x.exam exam)) stored t.owner stands.owner.same in
-    owner_changed old.now new.now t stands done.1 (filter (λ r. not (r.exam == exam)) t.owner) is.tables
+    owner_changed old.now new.now t stands done.1
+    (filter (λ r. not (r.exam == exam)) t.owner) is.tables
     (rw rows (record { rowids = rowids_filter (λ r. not (test r)) stored stands.owner.rowids; same = same }))

@@ -66,7 +66,8 @@ placement_added old new row count t stands h =
     is.rows ∙ rw (cast_null, cast_int row.exam, cast_int row.period, cast_int row.room) refl in
     let fresh : are_fresh stored (new_row ∷ []) ≡ true = rw (cast_int row.exam) at is.fresh in
     placed_changed old.now new.now t stands done.0 (row ∷ t.placed) is.tables
-    (rw rows (holds_more keyed (map placed_columns t.placed) stored new_row (placed_columns row) refl refl
+    (rw rows (holds_more keyed (map placed_columns t.placed) stored new_row
+    (placed_columns row) refl refl
     fresh
     stands.placed))
 
@@ -138,7 +139,8 @@ seat_added old new row count t stands h =
     ) refl in
     let fresh : are_fresh stored (new_row ∷ []) ≡ true = rw (cast_null) at is.fresh in
     seat_changed old.now new.now t stands done.0 (row ∷ t.seat) is.tables
-    (rw rows (holds_more keyless (map seat_columns t.seat) stored new_row (seat_columns row) refl refl fresh
+    (rw rows (holds_more keyless (map seat_columns t.seat) stored new_row
+    (seat_columns row) refl refl fresh
     stands.seat))
 
 -- ---- DELETE FROM seat WHERE student = ?1

@@ -55,7 +55,8 @@ pub placements_read : (db : Database) (t : Tables) → Stands db t → (found : 
     → IsReadOf placed_columns 3 [] placements_query db.trees found
     → IsPermutation t.placed found × Rises (λ (x : PlacedRow). x.exam ∷ []) found
 placements_read db t stands found is =
-    read placement_of placed_columns 3 (λ x. refl) (λ x. refl) (inner 7 end) [] placed_terms (0 ∷ [])
+    read placement_of placed_columns 3 (λ x. refl) (λ x. refl)
+    (inner 7 end) [] placed_terms (0 ∷ [])
     (λ (x : PlacedRow). x.exam ∷ []) (λ x. refl) db.trees [] t.placed found
     (subst (λ l. IsPermutation (map (eval_all placed_terms)
     (matches db.trees [] (inner 7 end) ([] ∷ []))) (map placed_columns l))

@@ -18,7 +18,8 @@ abbrev pub IsNarrow : Value → Type 0
 IsNarrow v = (n : ℕ) × (v ≡ Int (pos n)) × (n < 2 ^ 32)
 
 -- where a column does not read, and each record would have one that does
-pub refuses : {T : Type 0} (row : Row) (row_of : T → Row) (Fits : T → Type 0) (width at : ℕ) → at < width
+pub refuses : {T : Type 0} (row : Row) (row_of : T → Row) (Fits : T → Type 0) (width at : ℕ)
+    → at < width
     → (Readable : Value → Type 0)
     → ((made : T) → Fits made → row_of made ≡ columns_from 0 width row → Readable (column row at))
     → (r : Result T Error) (e : Error) → IsErrAnd r (λ y. y ≡ e)
@@ -30,12 +31,15 @@ refuses row row_of Fits width at below Readable reads (Err y) e is unread =
     λ other wide made fits same. unread (λ k. other (is ∙ k)) (omega arith) (reads made fits same)
 
 -- what is read of one row more
-pub one_read : {T : Type 0} (row_of : T → Row) (shown : Row → Row) (made : List T) (rows : List Row) (at : ℕ) (d : Row)
-    (x : T) (more : List T) → at < length rows → more ≡ made ++ x ∷ [] → row_of x ≡ shown (get_or rows at d)
+pub one_read : {T : Type 0} (row_of : T → Row) (shown : Row → Row) (made : List T) (rows : List Row)
+    (at : ℕ) (d : Row)
+    (x : T) (more : List T) → at < length rows → more ≡ made ++ x ∷ []
+    → row_of x ≡ shown (get_or rows at d)
     → map row_of made ≡ map shown (take at rows) → map row_of more ≡ map shown (take (at + 1) rows)
 one_read row_of shown made rows at d x more below is one before =
     ap (map row_of) is
     ∙ map-append row_of made (x ∷ [])
     ∙ ap (λ l. l ++ row_of x ∷ []) before
     ∙ ap (λ r. map shown (take at rows) ++ r ∷ []) one
-    ∙ sym (ap (map shown) (take_more rows at d below) ∙ map-append shown (take at rows) (get_or rows at d ∷ []))
+    ∙ sym (ap (map shown) (take_more rows at d below)
+    ∙ map-append shown (take at rows) (get_or rows at d ∷ []))

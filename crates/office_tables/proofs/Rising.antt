@@ -95,7 +95,8 @@ module _ (shown : List Term) (at : ℕ) where
       → column (eval_all shown y) at ≡ Int b
       → is_lt (sort_cmp (ordered_by shown at) y x) ≡ false → a ≢ b → a <ℤ b
   ordered x y a b p q low apart =
-      let is = by_one _ _ b a (sym (shown_column shown at y) ∙ q) (sym (shown_column shown at x) ∙ p)
+      let is = by_one _ _ b a (sym (shown_column shown at y) ∙ q)
+      (sym (shown_column shown at x) ∙ p)
       in not_less a b (sym (ap is_lt is) ∙ low) apart
 
   first_below : (x : Env) (n : ℤ) → column (eval_all shown x) at ≡ Int n
@@ -119,7 +120,8 @@ module _ (shown : List Term) (at : ℕ) where
   rising_from_sorted (x ∷ envs) sorted once =
       let tail : IsSorted (sort_cmp (ordered_by shown at)) envs = λ k d low within.
       rw add-one (rw add-one at (sorted (suc k) d (omega arith) (omega arith))) in
-      let rest = rising_from_sorted envs tail (record { ints = once.ints.1; apart = once.apart.1 }) in
+      let rest = rising_from_sorted envs tail
+      (record { ints = once.ints.1; apart = once.apart.1 }) in
       let v = column (eval_all shown x) at in
       let is : v ≡ Int (id_in v) = int_is v once.ints.0 in (
         id_in v ∷ rest.0,
@@ -134,7 +136,8 @@ abbrev pub EndsWith : Option ℤ → List ℤ → Type 0
 EndsWith None numbers = numbers ≡ []
 EndsWith (Some top) numbers = (before : List ℤ) × (numbers ≡ before ++ top ∷ [])
 
-at_end : (P : ℤ → Type 0) (before : List ℤ) (top : ℤ) → AllByRecursion P (before ++ top ∷ []) → P top
+at_end : (P : ℤ → Type 0) (before : List ℤ) (top : ℤ)
+    → AllByRecursion P (before ++ top ∷ []) → P top
 at_end P [] top h = h.0
 at_end P (x ∷ before) top h = at_end P before top h.1
 
@@ -189,7 +192,8 @@ none_more at rows row numbers last same ends none rise =
     none parts.0 parts.1
     (above_last numbers last parts.0 ends (subst (IsAscending Below) parts.2 rise.2))
 
-all-take : (P : ℤ → Type 0) (i : ℕ) (xs : List ℤ) → AllByRecursion P xs → AllByRecursion P (take i xs)
+all-take : (P : ℤ → Type 0) (i : ℕ) (xs : List ℤ) → AllByRecursion P xs
+    → AllByRecursion P (take i xs)
 all-take P zero xs h = tt
 all-take P (suc i) [] h = tt
 all-take P (suc i) (x ∷ xs) h = (h.0, all-take P i xs h.1)

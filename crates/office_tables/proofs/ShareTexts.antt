@@ -87,7 +87,8 @@ student_shares_of_means = record {
 
 pub student_shares_of_read : (db : Database) (number : ℕ) (t : Tables) → Stands db t
     → (found : List StudentShareRow)
-    → IsReadOf share_student_columns 4 (Int (pos number) ∷ []) student_shares_of_query db.trees found
+    → IsReadOf share_student_columns 4
+    (Int (pos number) ∷ []) student_shares_of_query db.trees found
     → IsPermutation (filter (λ r. r.student == number) t.share_student) found
     × Rises (λ (x : StudentShareRow). x.student ∷ []) found
 student_shares_of_read db number t stands found is =
@@ -135,7 +136,8 @@ pub part_shares_read : (db : Database) (t : Tables) → Stands db t → (found :
     → IsPermutation t.share_part found × Rises (λ (x : PartShareRow). x.kind ∷ x.no ∷ []) found
 part_shares_read db t stands found is =
     read part_share_of share_part_columns 4 (λ x. refl) (λ x. refl) (inner 12 end) []
-    share_part_terms (0 ∷ 1 ∷ []) (λ (x : PartShareRow). x.kind ∷ x.no ∷ []) (λ x. refl) db.trees [] t.share_part found
+    share_part_terms (0 ∷ 1 ∷ []) (λ (x : PartShareRow). x.kind ∷ x.no ∷ [])
+    (λ x. refl) db.trees [] t.share_part found
     (subst (λ l. IsPermutation (map (eval_all share_part_terms)
     (matches db.trees [] (inner 12 end) ([] ∷ []))) (map share_part_columns l))
     (every (λ _. true) t.share_part (λ x. refl))

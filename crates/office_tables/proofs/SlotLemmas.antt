@@ -52,17 +52,21 @@ added old new row count t stands h =
     let is = done.1 in
     let stored = old.now.trees 5 in
     let new_row : Row = Int (next_rowid stored) ∷ slot_columns row in
-    let rows : new.now.trees 5 ≡ put_row new_row stored = is.rows ∙ rw (cast_null, cast_int row.draft, cast_int row.exam, cast_int row.period, cast_int row.room) refl in
+    let rows : new.now.trees 5 ≡ put_row new_row stored =
+    is.rows ∙ rw (cast_null, cast_int row.draft, cast_int row.exam, cast_int row.period, cast_int row.room)
+    refl in
     let fresh : are_fresh stored (new_row ∷ []) ≡ true = rw (cast_null) at is.fresh in
     slot_changed old.now new.now t stands done.0 (row ∷ t.slot) is.tables
-    (rw rows (holds_more keyless (map slot_columns t.slot) stored new_row (slot_columns row) refl refl fresh stands.slot))
+    (rw rows (holds_more keyless (map slot_columns t.slot) stored new_row
+    (slot_columns row) refl refl fresh stands.slot))
 
 -- ---- DELETE WHERE draft = ?1
 
 abbrev pub delete_draft_text : List ℕ
 delete_draft_text = codes "DELETE FROM slot WHERE draft = ?1"
 
-delete_draft_is : command_of (understood office_schema delete_draft_text) ≡ Delete 4 (record { lets = []; body = one_table 5 (equals 1 0 ∷ []) rowids [] })
+delete_draft_is : command_of (understood office_schema delete_draft_text)
+    ≡ Delete 4 (record { lets = []; body = one_table 5 (equals 1 0 ∷ []) rowids [] })
 unfolding understood everything
 delete_draft_is = refl
 
@@ -75,7 +79,8 @@ pub delete_draftd : (old new : State) (draft : ℕ) (count : ℕ) (t : Tables) �
     → Stands new.now (record t { slot = filter (λ r. not (r.draft == draft)) t.slot })
 delete_draftd old new draft count t stands h =
     let params = Int (pos draft) ∷ [] in
-    let done = deletes delete_draft_text params old new count office_schema stands.schema delete_draft_plain
+    let done = deletes delete_draft_text params old new count office_schema stands.schema
+    delete_draft_plain
     4 slot_table refl _ delete_draft_is (λ taken news. refl) h in
     let is = done.3 in
     let stored = old.now.trees 5 in
@@ -84,9 +89,13 @@ delete_draftd old new draft count t stands h =
     let answer = answered 5 (equals 1 0 ∷ []) _ [] old.now.trees params done.0 done.2 in
     let rows : new.now.trees 5 ≡ filter (λ r. not (test r)) stored =
     is.rows ∙ left_of test stored done.0 stands.slot.rowids answer in
-    let same = shown_filter keyless slot_columns (λ r. not (test r)) (λ row. not (shown_test row)) (λ r. not (r.draft == draft))
-    (λ r. ap (λ v. not (is_true (binary (Compare Eq Binary) v (Int (pos draft))) && true)) (column_less r 0)) (λ x. ap not (equal_numbers x.draft draft)) stored t.slot stands.slot.same in
-    slot_changed old.now new.now t stands done.1 (filter (λ r. not (r.draft == draft)) t.slot) is.tables
+    let same = shown_filter keyless slot_columns (λ r. not (test r)) (λ row. not (shown_test row))
+    (λ r. not (r.draft == draft))
+    (λ r. ap (λ v. not (is_true (binary (Compare Eq Binary) v (Int (pos draft))) && true))
+    (column_less r 0))
+    (λ x. ap not (equal_numbers x.draft draft)) stored t.slot stands.slot.same in
+    slot_changed old.now new.now t stands done.1
+    (filter (λ r. not (r.draft == draft)) t.slot) is.tables
     (rw rows (record { rowids = rowids_filter (λ r. not (test r)) stored stands.slot.rowids; same = same }))
 
 -- ---- DELETE WHERE draft = ?1 AND exam = ?2
@@ -94,7 +103,8 @@ delete_draftd old new draft count t stands h =
 abbrev pub delete_text : List ℕ
 delete_text = codes "DELETE FROM slot WHERE draft = ?1 AND exam = ?2"
 
-delete_is : command_of (understood office_schema delete_text) ≡ Delete 4 (record { lets = []; body = one_table 5 (equals 1 0 ∷ equals 2 1 ∷ []) rowids [] })
+delete_is : command_of (understood office_schema delete_text)
+    ≡ Delete 4 (record { lets = []; body = one_table 5 (equals 1 0 ∷ equals 2 1 ∷ []) rowids [] })
 unfolding understood everything
 delete_is = refl
 
@@ -104,7 +114,8 @@ delete_plain = (refl, refl)
 
 pub deleted : (old new : State) (draft : ℕ) (exam : ℕ) (count : ℕ) (t : Tables) → Stands old.now t
     → Executes delete_text (Int (pos draft) ∷ Int (pos exam) ∷ []) old new (Ok count)
-    → Stands new.now (record t { slot = filter (λ r. not ((r.draft == draft) && (r.exam == exam))) t.slot })
+    → Stands new.now
+    (record t { slot = filter (λ r. not ((r.draft == draft) && (r.exam == exam))) t.slot })
 deleted old new draft exam count t stands h =
     let params = Int (pos draft) ∷ Int (pos exam) ∷ [] in
     let done = deletes delete_text params old new count office_schema stands.schema delete_plain
@@ -113,10 +124,14 @@ deleted old new draft exam count t stands h =
     let stored = old.now.trees 5 in
     let test = passes params (equals 1 0 ∷ equals 2 1 ∷ []) in
     let shown_test = λ (row : Row). passes params (equals 0 0 ∷ equals 1 1 ∷ []) row in
-    let answer = answered 5 (equals 1 0 ∷ equals 2 1 ∷ []) _ [] old.now.trees params done.0 done.2 in
+    let answer =
+    answered 5 (equals 1 0 ∷ equals 2 1 ∷ []) _ [] old.now.trees params done.0 done.2 in
     let rows : new.now.trees 5 ≡ filter (λ r. not (test r)) stored =
     is.rows ∙ left_of test stored done.0 stands.slot.rowids answer in
-    let same = shown_filter keyless slot_columns (λ r. not (test r)) (λ row. not (shown_test row)) (λ r. not ((r.draft == draft) && (r.exam == exam)))
-    (λ r. rw (column_less r 0, column_less r 1) refl) (λ x. ap not (equal_pairs x.draft draft x.exam exam)) stored t.slot stands.slot.same in
-    slot_changed old.now new.now t stands done.1 (filter (λ r. not ((r.draft == draft) && (r.exam == exam))) t.slot) is.tables
+    let same = shown_filter keyless slot_columns (λ r. not (test r)) (λ row. not (shown_test row))
+    (λ r. not ((r.draft == draft) && (r.exam == exam)))
+    (λ r. rw (column_less r 0, column_less r 1) refl)
+    (λ x. ap not (equal_pairs x.draft draft x.exam exam)) stored t.slot stands.slot.same in
+    slot_changed old.now new.now t stands done.1
+    (filter (λ r. not ((r.draft == draft) && (r.exam == exam))) t.slot) is.tables
     (rw rows (record { rowids = rowids_filter (λ r. not (test r)) stored stands.slot.rowids; same = same }))

@@ -27,7 +27,8 @@ use Rattle.sqlite.specs.State.{State, mode_of, Writes, Executes, Shown}
 use Rattle.sqlite.proofs.Callers.{IsPlain, command_of, statement_of, runs_as, reads_as, one_step}
 
 -- a part that gave a value did not stop on the way
-pub went : {B E R : Type 0} {b : B} {Stops : E → Type 0} → ((stop : E) × Stops stop × (Ok b ≡ Err stop)) ⊎ R → R
+pub went : {B E R : Type 0} {b : B} {Stops : E → Type 0}
+    → ((stop : E) × Stops stop × (Ok b ≡ Err stop)) ⊎ R → R
 went (inl stopped) = absurd (let e = stopped.2 in cc)
 went (inr on) = on
 
@@ -36,87 +37,135 @@ same_value e = cc
 
 -- a table with no AUTOINCREMENT and no default that reads the time
 abbrev pub simple : Table → Table
-simple base = record base { stamps = record { places = []; terms = []; formats = [] }; is_counted = false }
+simple base =
+    record base { stamps = record { places = []; terms = []; formats = [] }; is_counted = false }
 
-module _ (sql : List ℕ) (params : Row) (old new : State) (count : ℕ) (schema : Schema) (has : old.now.schema ≡ schema) (plain : IsPlain (understood schema sql))
+module _ (sql : List ℕ) (params : Row) (old new : State) (count : ℕ) (schema : Schema)
+    (has : old.now.schema ≡ schema) (plain : IsPlain (understood schema sql))
     (at : ℕ) (base : Table) (found : slice_get schema.tables at ≡ Some (simple base)) where
   abbrev table : Table
   table = simple base
 
-  pub inserts : (terms : List Term) (width : ℕ) → command_of (understood schema sql) ≡ Insert at (Values terms width)
-      → ((taken news : List Row) → works schema Enforced 0 base.tree taken news ≡ []) → Executes sql params old new (Ok count)
-      → (new.now.schema ≡ schema) × Applies schema Enforced old.now.trees (edit_of old.now.trees (simple base) [] Chosen 0 (value_rows params width (length terms / width) terms)) new.now.trees
+  pub inserts : (terms : List Term) (width : ℕ)
+      → command_of (understood schema sql) ≡ Insert at (Values terms width)
+      → ((taken news : List Row) → works schema Enforced 0 base.tree taken news ≡ [])
+      → Executes sql params old new (Ok count)
+      → (new.now.schema ≡ schema)
+      × Applies schema Enforced old.now.trees
+      (edit_of old.now.trees (simple base) [] Chosen 0
+      (value_rows params width (length terms / width) terms)) new.now.trees
   inserts terms width is quiet h =
       let command = Insert at (Values terms width) in
       let text = statement_of sql (understood schema sql) in
-      let w : Writes old new None command text params count = runs_as sql params old new schema has command is plain count h in
-      let all = subst (λ s. Does old.step_limit (mode_of old) params (record old.now { schema = s }) text None command (Ok (w.tally, new.now))) has w.changed in
+      let w : Writes old new None command text params count =
+      runs_as sql params old new schema has command is plain count h in
+      let all = subst
+      (λ s. Does old.step_limit (mode_of old) params
+      (record old.now { schema = s }) text None command (Ok (w.tally, new.now)))
+      has w.changed in
       let done = went (rw found at all) in
       let now = ap (λ (p : Tally × Database). p.1) (same_value (went (went done.2).2).2) in
       let given = went done.1 in
       let written = went (went given.2).2 in
       let counted = went written.2 in
-      let trees : done.0.trees ≡ written.0 = ap (λ (it : Written). it.trees) (same_value counted.2) ∙ same_value counted.1 in
+      let trees : done.0.trees ≡ written.0 =
+      ap (λ (it : Written). it.trees) (same_value counted.2) ∙ same_value counted.1 in
       let edit = edit_of old.now.trees table [] Chosen 0 given.0 in
-      let applied : Applies schema Enforced old.now.trees edit written.0 = one_step schema Enforced old.now.trees written.0 edit (quiet (taken_by old.now.trees edit) edit.news) written.1 in
-      let rows = given.1.1 ∙ ap (λ ps. value_rows ps width (length terms / width) terms) (append-nil params) in (
+      let applied : Applies schema Enforced old.now.trees edit written.0 =
+      one_step schema Enforced old.now.trees written.0 edit
+      (quiet (taken_by old.now.trees edit) edit.news) written.1 in
+      let rows = given.1.1
+      ∙ ap (λ ps. value_rows ps width (length terms / width) terms) (append-nil params) in (
         ap (λ (d : Database). d.schema) now,
-        subst₂ (λ xs t. Applies schema Enforced old.now.trees (edit_of old.now.trees table [] Chosen 0 xs) t) rows (sym trees ∙ sym (ap (λ (d : Database). d.trees) now)) applied,
+        subst₂ (λ xs t. Applies schema Enforced old.now.trees
+            (edit_of old.now.trees table [] Chosen 0 xs) t)
+            rows
+            (sym trees ∙ sym (ap (λ (d : Database). d.trees) now)) applied,
       )
 
-  pub deletes : (q : Query) → command_of (understood schema sql) ≡ Delete at (record { lets = []; body = q })
-      → ((taken news : List Row) → works schema Enforced 0 base.tree taken news ≡ []) → Executes sql params old new (Ok count)
-      → (rows : List Row) × (new.now.schema ≡ schema) × IsAnswer q (overlay old.now.trees []) params rows
-      × Applies schema Enforced old.now.trees (edit_of old.now.trees (simple base) (ids_of rows) Given 0 []) new.now.trees
+  pub deletes : (q : Query) → command_of (understood schema sql)
+      ≡ Delete at (record { lets = []; body = q })
+      → ((taken news : List Row) → works schema Enforced 0 base.tree taken news ≡ [])
+      → Executes sql params old new (Ok count)
+      → (rows : List Row) × (new.now.schema ≡ schema)
+      × IsAnswer q (overlay old.now.trees []) params rows
+      × Applies schema Enforced old.now.trees
+      (edit_of old.now.trees (simple base) (ids_of rows) Given 0 []) new.now.trees
   deletes q is quiet h =
       let command = Delete at (record { lets = []; body = q }) in
       let text = statement_of sql (understood schema sql) in
-      let w : Writes old new None command text params count = runs_as sql params old new schema has command is plain count h in
-      let all = subst (λ s. Does old.step_limit (mode_of old) params (record old.now { schema = s }) text None command (Ok (w.tally, new.now))) has w.changed in
+      let w : Writes old new None command text params count =
+      runs_as sql params old new schema has command is plain count h in
+      let all = subst
+      (λ s. Does old.step_limit (mode_of old) params
+      (record old.now { schema = s }) text None command (Ok (w.tally, new.now)))
+      has w.changed in
       let done = went (rw found at all) in
       let now = ap (λ (p : Tally × Database). p.1) (same_value (went (went done.2).2).2) in
       let given = went done.1 in
       let written = went given.2 in
-      let trees : done.0.trees ≡ written.0 = ap (λ (it : Written). it.trees) (same_value written.2) in
+      let trees : done.0.trees ≡ written.0 =
+      ap (λ (it : Written). it.trees) (same_value written.2) in
       let edit = edit_of old.now.trees table (ids_of given.0) Given 0 [] in
-      let applied : Applies schema Enforced old.now.trees edit written.0 = one_step schema Enforced old.now.trees written.0 edit (quiet (taken_by old.now.trees edit) edit.news) written.1 in
+      let applied : Applies schema Enforced old.now.trees edit written.0 =
+      one_step schema Enforced old.now.trees written.0 edit
+      (quiet (taken_by old.now.trees edit) edit.news) written.1 in
       let answer : IsAnswer q (overlay old.now.trees []) params given.0 = given.1.answer Null in (
         given.0,
         ap (λ (d : Database). d.schema) now,
         answer,
-        subst (Applies schema Enforced old.now.trees edit) (sym trees ∙ sym (ap (λ (d : Database). d.trees) now)) applied,
+        subst (Applies schema Enforced old.now.trees edit)
+            (sym trees ∙ sym (ap (λ (d : Database). d.trees) now)) applied,
       )
 
 -- a query of known meaning answers by it
-pub selects : (sql : List ℕ) (params : Row) (old new : State) (schema : Schema) → old.now.schema ≡ schema → IsPlain (understood schema sql) → (q : Query) (names : List (List ℕ))
-    → command_of (understood schema sql) ≡ Select (record { lets = []; body = q }) names → reads_listing schema sql ≡ false
-    → (rows : List Row) → Shown sql params old new rows → IsAnswer q (overlay old.now.trees []) params rows
+pub selects : (sql : List ℕ) (params : Row) (old new : State) (schema : Schema)
+    → old.now.schema ≡ schema → IsPlain (understood schema sql)
+    → (q : Query) (names : List (List ℕ))
+    → command_of (understood schema sql) ≡ Select (record { lets = []; body = q }) names
+    → reads_listing schema sql ≡ false
+    → (rows : List Row) → Shown sql params old new rows
+    → IsAnswer q (overlay old.now.trees []) params rows
 selects sql params old new schema has plain q names is unlisted rows shown =
-    (reads_as sql params old new schema has (Select (record { lets = []; body = q }) names) is plain unlisted rows shown).answer Null
+    (reads_as sql params old new schema has
+    (Select (record { lets = []; body = q }) names) is plain unlisted rows shown).answer Null
 
 -- ---- CREATE TABLE
 
-blank_kept : (tables : List Table) (old new : Trees) → KeepsRows tables old new → AllByRecursion (λ t. old t.tree ≡ []) tables → AllByRecursion (λ t. new t.tree ≡ []) tables
+blank_kept : (tables : List Table) (old new : Trees) → KeepsRows tables old new
+    → AllByRecursion (λ t. old t.tree ≡ []) tables → AllByRecursion (λ t. new t.tree ≡ []) tables
 blank_kept [] old new keeps blank = tt
-blank_kept (t ∷ tables) old new keeps blank = (keeps.0 ∙ blank.0, blank_kept tables old new keeps.1 blank.1)
+blank_kept (t ∷ tables) old new keeps blank =
+    (keeps.0 ∙ blank.0, blank_kept tables old new keeps.1 blank.1)
 
-all_push : (P : Table → Type 0) (tables : List Table) (t : Table) → AllByRecursion P tables → P t → AllByRecursion P (tables ++ t ∷ [])
+all_push : (P : Table → Type 0) (tables : List Table) (t : Table) → AllByRecursion P tables → P t
+    → AllByRecursion P (tables ++ t ∷ [])
 all_push P [] t all last = (last, tt)
 all_push P (x ∷ tables) t all last = (all.0, all_push P tables t all.1 last)
 
-pub creates : (sql : List ℕ) (old new : State) (count : ℕ) (schema : Schema) (table : Table) → IsPlain (understood schema sql) → command_of (understood schema sql) ≡ CreateTable
-    → statement_of sql (understood schema sql) ≡ sql → table_defined_by sql ≡ Ok table → lacks_sequence (created schema table) ≡ false
-    → Executes sql [] old new (Ok count) → IsBlank schema old.now → IsBlank (created schema table) new.now
+pub creates : (sql : List ℕ) (old new : State) (count : ℕ) (schema : Schema) (table : Table)
+    → IsPlain (understood schema sql) → command_of (understood schema sql) ≡ CreateTable
+    → statement_of sql (understood schema sql) ≡ sql → table_defined_by sql ≡ Ok table
+    → lacks_sequence (created schema table) ≡ false
+    → Executes sql [] old new (Ok count) → IsBlank schema old.now
+    → IsBlank (created schema table) new.now
 creates sql old new count schema table plain is whole defined uncounted h blank =
-    let w = subst (λ t. Writes old new None CreateTable t [] count) whole (runs_as sql [] old new schema blank.schema_is CreateTable is plain count h) in
+    let w = subst (λ t. Writes old new None CreateTable t [] count) whole
+    (runs_as sql [] old new schema blank.schema_is CreateTable is plain count h) in
     let all = went w.changed in
     let first = went all.1 in
     let made = first.1 in
     let same : made.table ≡ table = same_value (sym made.defined ∙ defined) in
-    let schema_is : first.0.schema ≡ created schema table = made.is ∙ ap (λ s. created s made.table) blank.schema_is ∙ ap (created schema) same in
+    let schema_is : first.0.schema ≡ created schema table =
+    made.is ∙ ap (λ s. created s made.table) blank.schema_is ∙ ap (created schema) same in
     let fine : lacks_sequence first.0.schema ≡ false = ap lacks_sequence schema_is ∙ uncounted in
-    let now : new.now ≡ first.0 = ap (λ (p : Tally × Database). p.1) (same_value all.2) ∙ same_value (rw fine at first.2) in
-    let empty : first.0.trees (next_tree schema) ≡ [] = subst (λ s. first.0.trees (next_tree s) ≡ []) blank.schema_is made.empty in
-    let kept = subst (λ s. KeepsRows s.tables old.now.trees first.0.trees) blank.schema_is made.others in
-    let full : AllByRecursion (λ t. first.0.trees t.tree ≡ []) (created schema table).tables = all_push _ schema.tables (record table { tree = next_tree schema }) (blank_kept schema.tables old.now.trees first.0.trees kept blank.empty) empty in
+    let now : new.now ≡ first.0 =
+    ap (λ (p : Tally × Database). p.1) (same_value all.2) ∙ same_value (rw fine at first.2) in
+    let empty : first.0.trees (next_tree schema) ≡ [] =
+    subst (λ s. first.0.trees (next_tree s) ≡ []) blank.schema_is made.empty in
+    let kept = subst (λ s. KeepsRows s.tables old.now.trees first.0.trees)
+    blank.schema_is made.others in
+    let full : AllByRecursion (λ t. first.0.trees t.tree ≡ []) (created schema table).tables =
+    all_push _ schema.tables (record table { tree = next_tree schema })
+    (blank_kept schema.tables old.now.trees first.0.trees kept blank.empty) empty in
     record { schema_is = ap (λ (d : Database). d.schema) now ∙ schema_is; empty = subst (λ (d : Database). AllByRecursion (λ t. d.trees t.tree ≡ []) (created schema table).tables) (sym now) full }

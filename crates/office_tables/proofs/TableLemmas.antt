@@ -19,13 +19,18 @@ use Rattle.sqlite_rules.specs.Lists.{Has}
 use Rattle.sqlite_rules.proofs.ListLemmas.{all_has}
 
 -- a row under a free rowid is one more
-pub put_free : (new : Row) (rows : List Row) → is_taken rows new ≡ false → IsPermutation (put_row new rows) (new ∷ rows)
+pub put_free : (new : Row) (rows : List Row) → is_taken rows new ≡ false
+    → IsPermutation (put_row new rows) (new ∷ rows)
 put_free new [] free = IsPermutation-refl _
 put_free new (r ∷ rows) free = go (value_cmp (rowid r) (rowid new)) free (put_free new rows)
   where
-    go : (o : Ordering) → (is_eq o || is_taken rows new) ≡ false → (is_taken rows new ≡ false → IsPermutation (put_row new rows) (new ∷ rows))
-        → IsPermutation (match_ordering o (r ∷ put_row new rows) (new ∷ rows) (new ∷ r ∷ rows)) (new ∷ r ∷ rows)
-    go Less f more = IsPermutation-trans _ _ _ (IsPermutation-cons r _ _ (more f)) (IsPermutation-middle (r ∷ []) new rows)
+    go : (o : Ordering) → (is_eq o || is_taken rows new) ≡ false
+        → (is_taken rows new ≡ false → IsPermutation (put_row new rows) (new ∷ rows))
+        → IsPermutation (match_ordering o (r ∷ put_row new rows) (new ∷ rows) (new ∷ r ∷ rows))
+        (new ∷ r ∷ rows)
+    go Less f more =
+        IsPermutation-trans _ _ _ (IsPermutation-cons r _ _ (more f))
+        (IsPermutation-middle (r ∷ []) new rows)
     go Equal f more = absurd (cc)
     go Greater f more = IsPermutation-refl _
 
@@ -45,8 +50,10 @@ abbrev Moved : List Row → List Row → Type 0
 Moved xs ys = ((v : Value) → Misses v xs → Misses v ys) × (Apart xs → Apart ys)
 
 moved : (xs ys : List Row) → IsPermutation xs ys → Moved xs ys
-moved = along_permutation Moved (λ xs. (λ v h. h, λ h. h)) (λ x xs ys h. (λ v k. (k.0, h.0 v k.1), λ k. (h.0 (rowid x) k.0, h.1 k.1)))
-    (λ x y xs. (λ v k. (k.1.0, (k.0, k.1.1)), λ k. ((λ e. k.0.0 (sym e), k.1.0), (k.0.1, k.1.1)))) (λ xs ys zs a b. (λ v h. b.0 v (a.0 v h), λ h. b.1 (a.1 h)))
+moved = along_permutation Moved (λ xs. (λ v h. h, λ h. h))
+    (λ x xs ys h. (λ v k. (k.0, h.0 v k.1), λ k. (h.0 (rowid x) k.0, h.1 k.1)))
+    (λ x y xs. (λ v k. (k.1.0, (k.0, k.1.1)), λ k. ((λ e. k.0.0 (sym e), k.1.0), (k.0.1, k.1.1))))
+    (λ xs ys zs a b. (λ v h. b.0 v (a.0 v h), λ h. b.1 (a.1 h)))
 
 pub rowids_moved : (xs ys : List Row) → IsPermutation xs ys → HasRowids xs → HasRowids ys
 rowids_moved xs ys same h = record {
@@ -60,14 +67,18 @@ misses new (r ∷ rows) free =
     let parts = or_false _ _ free in
     (λ e. let tie = ap is_eq (ap (value_cmp (rowid r)) e ∙ tied_itself value_cmp_total (rowid r)) in absurd (let both = sym parts.0 ∙ tie in cc), misses new rows parts.1)
 
-pub rowids_put : (new : Row) (rows : List Row) → IsTrue (is_int (rowid new)) → is_taken rows new ≡ false → HasRowids rows → HasRowids (put_row new rows)
+pub rowids_put : (new : Row) (rows : List Row) → IsTrue (is_int (rowid new))
+    → is_taken rows new ≡ false → HasRowids rows → HasRowids (put_row new rows)
 rowids_put new rows int free h =
-    rowids_moved (new ∷ rows) (put_row new rows) (IsPermutation-sym _ _ (put_free new rows free)) (record { ints = (int, h.ints); apart = (misses new rows free, h.apart) })
+    rowids_moved (new ∷ rows) (put_row new rows) (IsPermutation-sym _ _ (put_free new rows free))
+    (record { ints = (int, h.ints); apart = (misses new rows free, h.apart) })
 
 pub rowids_filter : (p : Row → Bool) (rows : List Row) → HasRowids rows → HasRowids (filter p rows)
-rowids_filter p rows h = record { ints = all-filter _ p rows h.ints; apart = ascending-filter _ p rows h.apart }
+rowids_filter p rows h =
+    record { ints = all-filter _ p rows h.ints; apart = ascending-filter _ p rows h.apart }
 
-pub rowid_once : (rows : List Row) (a b : Row) → HasRowids rows → Has rows a → Has rows b → rowid a ≡ rowid b → a ≡ b
+pub rowid_once : (rows : List Row) (a b : Row) → HasRowids rows → Has rows a → Has rows b
+    → rowid a ≡ rowid b → a ≡ b
 rowid_once rows a b h = go rows h.apart
   where
     go : (rs : List Row) → Apart rs → Has rs a → Has rs b → rowid a ≡ rowid b → a ≡ b
@@ -78,13 +89,15 @@ rowid_once rows a b h = go rows h.apart
     go (r ∷ rs) up (inr x) (inr y) e = go rs up.1 x y e
 
 -- the table shows one more row
-pub holds_more : (show : Row → Row) (rows stored : List Row) (new row : Row) → show new ≡ row → IsTrue (is_int (rowid new)) → are_fresh stored (new ∷ []) ≡ true
+pub holds_more : (show : Row → Row) (rows stored : List Row) (new row : Row) → show new ≡ row
+    → IsTrue (is_int (rowid new)) → are_fresh stored (new ∷ []) ≡ true
     → Holds show rows stored → Holds show (row ∷ rows) (put_row new stored)
 holds_more show rows stored new row is int fresh h =
     let free = not-true _ (and_parts _ _ fresh).0 in
     record {
       rowids = rowids_put new stored int free h.rowids;
-      same = IsPermutation-trans _ _ _ (IsPermutation-map show _ _ (put_free new stored free)) (rw is (IsPermutation-cons row _ _ h.same));
+      same = IsPermutation-trans _ _ _ (IsPermutation-map show _ _ (put_free new stored free))
+          (rw is (IsPermutation-cons row _ _ h.same));
     }
 
 -- the numbers of the rows of a table that are its keys come once

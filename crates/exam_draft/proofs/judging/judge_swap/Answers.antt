@@ -41,7 +41,8 @@ pub returns-in_err-refuse_broken-clause-refused : goal.returns-in_err-refuse_bro
 returns-in_err-refuse_broken-clause-refused c =
     let p = err_from_is_err_and c.from_residual-in_err-refuse_broken.result
     c.from_residual-in_err-refuse_broken.ensures.1 in
-    let is = judged_is (goal.at.returns-in_err-refuse_broken-clause-refused c).After-refuse_broken in
+    let is = judged_is
+    (goal.at.returns-in_err-refuse_broken-clause-refused c).After-refuse_broken in
     rw (p.1, p.2)
     (subst (λ (edited : Edited). Refuses edited c.in_err-refuse_broken.field-0.0)
     is c.in_err-refuse_broken.ensures.refused)

@@ -7,7 +7,8 @@ use Rattle.exam_publish.proofs.comparison.changed.Goals as goal
 
 pub returns-clause-members : goal.returns-clause-members
 returns-clause-members c s =
-    ap (λ xs. has_number xs s) c.in_order.ensures ∙ has_ascending c.in_ok-found.found.items s ∙ c.in_ok-found.ensures s
+    ap (λ xs. has_number xs s) c.in_order.ensures ∙ has_ascending c.in_ok-found.found.items s
+    ∙ c.in_ok-found.ensures s
 
 pub returns-clause-ascending : goal.returns-clause-ascending
 returns-clause-ascending c = rw c.in_order.ensures (ascends c.in_ok-found.found.items)
@@ -15,5 +16,6 @@ returns-clause-ascending c = rw c.in_order.ensures (ascends c.in_ok-found.found.
 pub returns-clause-listed : goal.returns-clause-listed
 returns-clause-listed c =
     c.in_order.ensures
-    ∙ listed c.args.old.now c.args.new.now (ascending c.in_ok-found.found.items) (ascends c.in_ok-found.found.items)
+    ∙ listed c.args.old.now c.args.new.now (ascending c.in_ok-found.found.items)
+    (ascends c.in_ok-found.found.items)
     (λ s. has_ascending c.in_ok-found.found.items s ∙ c.in_ok-found.ensures s)

@@ -4,4 +4,7 @@ use Rattle.exam_publish.specs.Tallies.{AreTallied}
 use Rattle.exam_publish.proofs.durations.durations.Given as goal
 
 abbrev pub invariant-stays : goal.invariant-stays
-invariant-stays l = AreTallied (λ k. 1) (is_in_slot l.instance) (length l.instance.periods * length l.instance.rooms) (take l.stay-index l.stay-items) l.kinds.items
+invariant-stays l =
+    AreTallied (λ k. 1) (is_in_slot l.instance)
+    (length l.instance.periods * length l.instance.rooms)
+    (take l.stay-index l.stay-items) l.kinds.items

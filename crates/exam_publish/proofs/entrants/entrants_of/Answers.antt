@@ -9,9 +9,12 @@ pub exams-preserved-in_default : goal.exams-preserved-in_default
 exams-preserved-in_default c =
     let T = c.args.timetable.now in
     let e = c.exams.exam in
-    let none : place_of T e ≡ None = ap (place_of T) (sym c.new-exam.ensures) ∙ sym c.get.ensures ∙ c.in_default.is in
-    let lt : e < length c.args.enrolments.now = omega (arith, c.exams-test.true, c.exams-exam-end.ensures.count) in
-    exam_nowhere c.args.enrolments.now T c.args.old.now e c.exams.found.items lt none c.exams.invariant
+    let none : place_of T e ≡ None =
+    ap (place_of T) (sym c.new-exam.ensures) ∙ sym c.get.ensures ∙ c.in_default.is in
+    let lt : e < length c.args.enrolments.now =
+    omega (arith, c.exams-test.true, c.exams-exam-end.ensures.count) in
+    exam_nowhere c.args.enrolments.now T c.args.old.now e c.exams.found.items lt none
+    c.exams.invariant
 
 pub exams-preserved : goal.exams-preserved
 exams-preserved c =
@@ -20,8 +23,13 @@ exams-preserved c =
     let old = c.args.old.now in
     let e = c.exams.exam in
     let at = c.in-Some.place in
-    let here : place_of T e ≡ Some at = ap (place_of T) (sym c.new-exam.ensures) ∙ sym c.get.ensures ∙ c.in-Some.is in
+    let here : place_of T e ≡ Some at =
+    ap (place_of T) (sym c.new-exam.ensures) ∙ sym c.get.ensures ∙ c.in-Some.is in
     let lt : e < length E = omega (arith, c.exams-test.true, c.exams-exam-end.ensures.count) in
     let same = c.students.ensures.all ∙ ap (students E) c.new-exam.ensures in
-    exam_more E T old e at c.exams.found.items c.add_entrants.new.found.items lt here c.exams.invariant
-    (c.in_ok-add_entrants.ensures ∙ ap₂ (λ k xs. c.exams.found.items ++ map (λ (s : ℕ). entrant old (record { exam = k; student = s }) at) xs) c.new-exam.ensures same)
+    exam_more E T old e at c.exams.found.items c.add_entrants.new.found.items lt here
+    c.exams.invariant
+    (c.in_ok-add_entrants.ensures
+    ∙ ap₂ (λ k xs. c.exams.found.items
+    ++ map (λ (s : ℕ). entrant old (record { exam = k; student = s }) at) xs)
+    c.new-exam.ensures same)

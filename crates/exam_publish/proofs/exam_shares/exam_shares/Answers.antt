@@ -14,10 +14,13 @@ exams-preserved c =
     let T = c.args.timetable.now in
     let e = c.exams.exam in
     let front : ℕ → ℕ = exam_front I (enrolled_in (length I.exams) rows) T in
-    let within : e < length I.exams = omega (arith, c.exams-test.true, c.exams-exam-end.ensures.count) in
+    let within : e < length I.exams =
+    omega (arith, c.exams-test.true, c.exams-exam-end.ensures.count) in
     let own : c.front_share.result ≡ front e
     = c.front_share.ensures.share
-    ∙ ap₂ (λ sizes at. front_by I sizes at c.new-exam.result) c.deref.ensures.value (c.get-place.ensures ∙ ap (place_of T) c.new-exam.ensures)
+    ∙ ap₂ (λ sizes at. front_by I sizes at c.new-exam.result) c.deref.ensures.value
+    (c.get-place.ensures ∙ ap (place_of T) c.new-exam.ensures)
     ∙ ap (front_by I c.in_ok-sizes.sizes.items (place_of T e)) c.new-exam.ensures
     ∙ front_is I rows T c.in_ok-sizes.sizes.items e c.in_ok-sizes.ensures within in
-    c.in_ok-push.ensures.items ∙ ap₂ (λ xs x. xs ++ x ∷ []) c.exams.invariant own ∙ sym (map-range_with_len_more front 0 e e (omega arith))
+    c.in_ok-push.ensures.items ∙ ap₂ (λ xs x. xs ++ x ∷ []) c.exams.invariant own
+    ∙ sym (map-range_with_len_more front 0 e e (omega arith))

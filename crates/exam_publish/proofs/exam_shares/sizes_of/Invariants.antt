@@ -4,4 +4,5 @@ use Rattle.exam_publish.specs.Tallies.{AreTallied}
 use Rattle.exam_publish.proofs.exam_shares.sizes_of.Given as goal
 
 abbrev pub invariant-rows : goal.invariant-rows
-invariant-rows l = AreTallied (λ e. 1) is_of_exam (length l.instance.exams) (take l.row-index l.rows) l.sizes.items
+invariant-rows l =
+    AreTallied (λ e. 1) is_of_exam (length l.instance.exams) (take l.row-index l.rows) l.sizes.items

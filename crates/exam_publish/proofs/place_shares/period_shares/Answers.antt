@@ -16,7 +16,8 @@ use Rattle.exam_publish.proofs.place_shares.period_shares.Goals as goal
 pub exams-init : goal.exams-init
 exams-init c =
     let I = c.args.instance.now in
-    untallied (λ p. period_penalty (slice_get I.periods p)) is_in_period (length I.periods) _ c.in_ok-shares.shares.items
+    untallied (λ p. period_penalty (slice_get I.periods p)) is_in_period
+    (length I.periods) _ c.in_ok-shares.shares.items
     (c.in_ok-shares.ensures.items_if_clones_equal (λ y h. h)) c.periods.ensures.count
 
 pub exams-preserved-in_default : goal.exams-preserved-in_default
@@ -26,17 +27,23 @@ exams-preserved-in_default c =
     let e = c.exams.exam in
     let shares = c.exams.shares.items in
     let amount : ℕ → ℕ = λ p. period_penalty (slice_get I.periods p) in
-    let within : e < length T = omega (arith, c.exams-test.true, c.exams-exam-end.ensures.count, c.requires.exams) in
-    let unplaced : place_of T e ≡ None = ap (place_of T) (sym c.new.ensures) ∙ sym c.get.ensures ∙ c.in_default.is in
-    subst (λ xs. AreTallied amount is_in_period (length I.periods) xs shares) (sym (take_more T e None within ∙ ap (λ o. take e T ++ o ∷ []) unplaced))
-    (tally_other amount is_in_period (length I.periods) (take e T) shares None c.exams.invariant (λ k. refl))
+    let within : e < length T =
+    omega (arith, c.exams-test.true, c.exams-exam-end.ensures.count, c.requires.exams) in
+    let unplaced : place_of T e ≡ None =
+    ap (place_of T) (sym c.new.ensures) ∙ sym c.get.ensures ∙ c.in_default.is in
+    subst (λ xs. AreTallied amount is_in_period (length I.periods) xs shares)
+    (sym (take_more T e None within ∙ ap (λ o. take e T ++ o ∷ []) unplaced))
+    (tally_other amount is_in_period (length I.periods)
+    (take e T) shares None c.exams.invariant (λ k. refl))
 
 pub index-requires : goal.index-requires
 index-requires c =
     let T = c.args.timetable.now in
     let e = c.exams.exam in
-    let within : e < length T = omega (arith, c.exams-test.true, c.exams-exam-end.ensures.count, c.requires.exams) in
-    let here : place_of T e ≡ Some c.in-Some.place = ap (place_of T) (sym c.new.ensures) ∙ sym c.get.ensures ∙ c.in-Some.is in
+    let within : e < length T =
+    omega (arith, c.exams-test.true, c.exams-exam-end.ensures.count, c.requires.exams) in
+    let here : place_of T e ≡ Some c.in-Some.place =
+    ap (place_of T) (sym c.new.ensures) ∙ sym c.get.ensures ∙ c.in-Some.is in
     let place = subst (PlaceExists c.args.instance.now) here (c.requires.places e None within) in
     omega (arith, c.get-period.ensures, place.0, c.exams.invariant.count)
 
@@ -51,25 +58,39 @@ exams-preserved c =
     let n = length I.periods in
     let new = c.index.result.now + c.from.result in
     let amount : ℕ → ℕ = λ p. period_penalty (slice_get I.periods p) in
-    let within : e < length T = omega (arith, c.exams-test.true, c.exams-exam-end.ensures.count, c.requires.exams) in
-    let here : place_of T e ≡ Some at = ap (place_of T) (sym c.new.ensures) ∙ sym c.get.ensures ∙ c.in-Some.is in
+    let within : e < length T =
+    omega (arith, c.exams-test.true, c.exams-exam-end.ensures.count, c.requires.exams) in
+    let here : place_of T e ≡ Some at =
+    ap (place_of T) (sym c.new.ensures) ∙ sym c.get.ensures ∙ c.in-Some.is in
     let place = subst (PlaceExists I) here (c.requires.places e None within) in
     let key = c.get-period.ensures in
-    let lt : c.get-period.result < length shares = omega (arith, key, place.0, c.exams.invariant.count) in
-    let old : c.index.result.now ≡ slice_index shares at.period = get_or_read shares c.get-period.result c.index.result.now lt c.index.ensures 0 ∙ ap (λ k. get_or shares k 0) key in
+    let lt : c.get-period.result < length shares =
+    omega (arith, key, place.0, c.exams.invariant.count) in
+    let old : c.index.result.now ≡ slice_index shares at.period =
+    get_or_read shares c.get-period.result c.index.result.now lt c.index.ensures 0
+    ∙ ap (λ k. get_or shares k 0) key in
     let costs : amount at.period ≡ x.penalty = ap period_penalty c.period.ensures in
     let limit = (c.periods.ensures.kept.limits.periods at.period x place.0).5 in
-    let small : IsAmount x.penalty = subst (λ (p : Period). IsAmount p.penalty) (get_or_from_slice_get I.periods at.period x x c.period.ensures) limit in
-    let more = tally_more amount is_in_period n (take e T) shares (Some at) at.period new c.exams.invariant place.0 (λ k. refl) (omega (arith, costs, small))
+    let small : IsAmount x.penalty =
+    subst (λ (p : Period). IsAmount p.penalty)
+    (get_or_from_slice_get I.periods at.period x x c.period.ensures) limit in
+    let more = tally_more amount is_in_period n (take e T) shares
+    (Some at) at.period new c.exams.invariant place.0 (λ k. refl) (omega (arith, costs, small))
     (ap₂ (λ a b. a + b) old (c.from.ensures ∙ sym costs)) in
-    subst (λ xs. AreTallied amount is_in_period n xs (slice_set shares c.get-period.result new)) (sym (take_more T e None within ∙ ap (λ o. take e T ++ o ∷ []) here))
-    (subst (λ k. AreTallied amount is_in_period n (take e T ++ Some at ∷ []) (slice_set shares k new)) (sym key) more)
+    subst (λ xs. AreTallied amount is_in_period n xs (slice_set shares c.get-period.result new))
+    (sym (take_more T e None within ∙ ap (λ o. take e T ++ o ∷ []) here))
+    (subst (λ k. AreTallied amount is_in_period n (take e T ++ Some at ∷ [])
+    (slice_set shares k new))
+    (sym key) more)
 
 pub returns : goal.returns
 returns c =
     let I = c.args.instance.now in
     let T = c.args.timetable.now in
     let amount : ℕ → ℕ = λ p. period_penalty (slice_get I.periods p) in
-    tallied_list amount is_in_period (length I.periods) (take c.exams.exam T) c.exams.shares.items c.exams.invariant
-    ∙ ap (λ xs. map (λ k. amount k * count_by (is_in_period k) xs) (range_with_len 0 (length I.periods)))
-    (take_all c.exams.exam T (omega (arith, c.exams-test.false, c.exams-exam-end.ensures.count, c.requires.exams)))
+    tallied_list amount is_in_period (length I.periods)
+    (take c.exams.exam T) c.exams.shares.items c.exams.invariant
+    ∙ ap (λ xs. map (λ k. amount k * count_by (is_in_period k) xs)
+    (range_with_len 0 (length I.periods)))
+    (take_all c.exams.exam T
+    (omega (arith, c.exams-test.false, c.exams-exam-end.ensures.count, c.requires.exams)))

@@ -6,4 +6,6 @@ use Rattle.exam_publish.specs.Tallies.{AreTallied}
 use Rattle.exam_publish.proofs.place_shares.period_shares.Given as goal
 
 abbrev pub invariant-exams : goal.invariant-exams
-invariant-exams l = AreTallied (λ p. period_penalty (slice_get l.instance.periods p)) is_in_period (length l.instance.periods) (take l.exam l.timetable) l.shares.items
+invariant-exams l =
+    AreTallied (λ p. period_penalty (slice_get l.instance.periods p)) is_in_period
+    (length l.instance.periods) (take l.exam l.timetable) l.shares.items

@@ -16,7 +16,8 @@ use Rattle.exam_publish.proofs.place_shares.room_penalties.Goals as goal
 pub exams-init : goal.exams-init
 exams-init c =
     let I = c.args.instance.now in
-    untallied (λ p. room_penalty (slice_get I.rooms p)) is_in_room (length I.rooms) _ c.in_ok-shares.shares.items
+    untallied (λ p. room_penalty (slice_get I.rooms p)) is_in_room
+    (length I.rooms) _ c.in_ok-shares.shares.items
     (c.in_ok-shares.ensures.items_if_clones_equal (λ y h. h)) c.rooms.ensures.count
 
 pub exams-preserved-in_default : goal.exams-preserved-in_default
@@ -26,17 +27,23 @@ exams-preserved-in_default c =
     let e = c.exams.exam in
     let shares = c.exams.shares.items in
     let amount : ℕ → ℕ = λ p. room_penalty (slice_get I.rooms p) in
-    let within : e < length T = omega (arith, c.exams-test.true, c.exams-exam-end.ensures.count, c.requires.exams) in
-    let unplaced : place_of T e ≡ None = ap (place_of T) (sym c.new.ensures) ∙ sym c.get.ensures ∙ c.in_default.is in
-    subst (λ xs. AreTallied amount is_in_room (length I.rooms) xs shares) (sym (take_more T e None within ∙ ap (λ o. take e T ++ o ∷ []) unplaced))
-    (tally_other amount is_in_room (length I.rooms) (take e T) shares None c.exams.invariant (λ k. refl))
+    let within : e < length T =
+    omega (arith, c.exams-test.true, c.exams-exam-end.ensures.count, c.requires.exams) in
+    let unplaced : place_of T e ≡ None =
+    ap (place_of T) (sym c.new.ensures) ∙ sym c.get.ensures ∙ c.in_default.is in
+    subst (λ xs. AreTallied amount is_in_room (length I.rooms) xs shares)
+    (sym (take_more T e None within ∙ ap (λ o. take e T ++ o ∷ []) unplaced))
+    (tally_other amount is_in_room (length I.rooms)
+    (take e T) shares None c.exams.invariant (λ k. refl))
 
 pub index-requires : goal.index-requires
 index-requires c =
     let T = c.args.timetable.now in
     let e = c.exams.exam in
-    let within : e < length T = omega (arith, c.exams-test.true, c.exams-exam-end.ensures.count, c.requires.exams) in
-    let here : place_of T e ≡ Some c.in-Some.place = ap (place_of T) (sym c.new.ensures) ∙ sym c.get.ensures ∙ c.in-Some.is in
+    let within : e < length T =
+    omega (arith, c.exams-test.true, c.exams-exam-end.ensures.count, c.requires.exams) in
+    let here : place_of T e ≡ Some c.in-Some.place =
+    ap (place_of T) (sym c.new.ensures) ∙ sym c.get.ensures ∙ c.in-Some.is in
     let place = subst (PlaceExists c.args.instance.now) here (c.requires.places e None within) in
     omega (arith, c.get-room.ensures, place.1, c.exams.invariant.count)
 
@@ -51,25 +58,38 @@ exams-preserved c =
     let n = length I.rooms in
     let new = c.index.result.now + c.from.result in
     let amount : ℕ → ℕ = λ p. room_penalty (slice_get I.rooms p) in
-    let within : e < length T = omega (arith, c.exams-test.true, c.exams-exam-end.ensures.count, c.requires.exams) in
-    let here : place_of T e ≡ Some at = ap (place_of T) (sym c.new.ensures) ∙ sym c.get.ensures ∙ c.in-Some.is in
+    let within : e < length T =
+    omega (arith, c.exams-test.true, c.exams-exam-end.ensures.count, c.requires.exams) in
+    let here : place_of T e ≡ Some at =
+    ap (place_of T) (sym c.new.ensures) ∙ sym c.get.ensures ∙ c.in-Some.is in
     let place = subst (PlaceExists I) here (c.requires.places e None within) in
     let key = c.get-room.ensures in
-    let lt : c.get-room.result < length shares = omega (arith, key, place.1, c.exams.invariant.count) in
-    let old : c.index.result.now ≡ slice_index shares at.room = get_or_read shares c.get-room.result c.index.result.now lt c.index.ensures 0 ∙ ap (λ k. get_or shares k 0) key in
+    let lt : c.get-room.result < length shares =
+    omega (arith, key, place.1, c.exams.invariant.count) in
+    let old : c.index.result.now ≡ slice_index shares at.room =
+    get_or_read shares c.get-room.result c.index.result.now lt c.index.ensures 0
+    ∙ ap (λ k. get_or shares k 0) key in
     let costs : amount at.room ≡ x.penalty = ap room_penalty c.room.ensures in
     let limit = (c.rooms.ensures.kept.limits.rooms at.room x place.1).1 in
-    let small : IsAmount x.penalty = subst (λ (p : Room). IsAmount p.penalty) (get_or_from_slice_get I.rooms at.room x x c.room.ensures) limit in
-    let more = tally_more amount is_in_room n (take e T) shares (Some at) at.room new c.exams.invariant place.1 (λ k. refl) (omega (arith, costs, small))
+    let small : IsAmount x.penalty =
+    subst (λ (p : Room). IsAmount p.penalty)
+    (get_or_from_slice_get I.rooms at.room x x c.room.ensures) limit in
+    let more = tally_more amount is_in_room n (take e T) shares
+    (Some at) at.room new c.exams.invariant place.1 (λ k. refl) (omega (arith, costs, small))
     (ap₂ (λ a b. a + b) old (c.from.ensures ∙ sym costs)) in
-    subst (λ xs. AreTallied amount is_in_room n xs (slice_set shares c.get-room.result new)) (sym (take_more T e None within ∙ ap (λ o. take e T ++ o ∷ []) here))
-    (subst (λ k. AreTallied amount is_in_room n (take e T ++ Some at ∷ []) (slice_set shares k new)) (sym key) more)
+    subst (λ xs. AreTallied amount is_in_room n xs (slice_set shares c.get-room.result new))
+    (sym (take_more T e None within ∙ ap (λ o. take e T ++ o ∷ []) here))
+    (subst (λ k. AreTallied amount is_in_room n (take e T ++ Some at ∷ []) (slice_set shares k new))
+    (sym key) more)
 
 pub returns : goal.returns
 returns c =
     let I = c.args.instance.now in
     let T = c.args.timetable.now in
     let amount : ℕ → ℕ = λ p. room_penalty (slice_get I.rooms p) in
-    tallied_list amount is_in_room (length I.rooms) (take c.exams.exam T) c.exams.shares.items c.exams.invariant
-    ∙ ap (λ xs. map (λ k. amount k * count_by (is_in_room k) xs) (range_with_len 0 (length I.rooms)))
-    (take_all c.exams.exam T (omega (arith, c.exams-test.false, c.exams-exam-end.ensures.count, c.requires.exams)))
+    tallied_list amount is_in_room (length I.rooms)
+    (take c.exams.exam T) c.exams.shares.items c.exams.invariant
+    ∙ ap (λ xs. map (λ k. amount k * count_by (is_in_room k) xs)
+    (range_with_len 0 (length I.rooms)))
+    (take_all c.exams.exam T
+    (omega (arith, c.exams-test.false, c.exams-exam-end.ensures.count, c.requires.exams)))

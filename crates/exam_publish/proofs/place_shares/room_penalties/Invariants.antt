@@ -6,4 +6,6 @@ use Rattle.exam_publish.specs.Tallies.{AreTallied}
 use Rattle.exam_publish.proofs.place_shares.room_penalties.Given as goal
 
 abbrev pub invariant-exams : goal.invariant-exams
-invariant-exams l = AreTallied (λ r. room_penalty (slice_get l.instance.rooms r)) is_in_room (length l.instance.rooms) (take l.exam l.timetable) l.shares.items
+invariant-exams l =
+    AreTallied (λ r. room_penalty (slice_get l.instance.rooms r)) is_in_room
+    (length l.instance.rooms) (take l.exam l.timetable) l.shares.items

@@ -32,16 +32,23 @@ rooms-preserved c =
     let w = I.weights.mixed in
     let ps = c.deref-penalty-items.result.now in
     let kinds = c.in_ok-kinds.kinds.items in
-    let listed : ps ≡ map (penalty_in I T) (range_with_len 0 n) = c.deref-penalty-items.ensures.value ∙ c.in_ok-penalties.ensures in
-    let lt : k < n = omega (arith, c.rooms-test.true, ap length listed, length-map-range_with_len (penalty_in I T) 0 n) in
+    let listed : ps ≡ map (penalty_in I T) (range_with_len 0 n) =
+    c.deref-penalty-items.ensures.value ∙ c.in_ok-penalties.ensures in
+    let lt : k < n =
+    omega (arith, c.rooms-test.true, ap length listed, length-map-range_with_len (penalty_in I T) 0 n) in
     let penalty : get_or ps k 0 ≡ penalty_in I T k
-    = ap (λ xs. get_or xs k 0) listed ∙ get_or-map-range_with_len (penalty_in I T) 0 n k k 0 lt (omega arith) in
+    = ap (λ xs. get_or xs k 0) listed
+    ∙ get_or-map-range_with_len (penalty_in I T) 0 n k k 0 lt (omega arith) in
     let mixed : c.mixed_in.result ≡ room_mixed I T k
     = c.mixed_in.ensures
-    ∙ ap₂ (λ ks r. sum_below (length I.periods) (λ p. (slice_index ks (p * n + r) - 1) * w)) c.deref.ensures.value c.new.ensures
+    ∙ ap₂ (λ ks r. sum_below (length I.periods) (λ p. (slice_index ks (p * n + r) - 1) * w))
+    c.deref.ensures.value c.new.ensures
     ∙ mixed_is I T kinds k c.in_ok-kinds.ensures lt in
-    let own : ◌≡◌ {A = RoomShare} (record { penalty = get_or ps k 0; mixed = c.mixed_in.result }) (room_share I T k) = λ i. record { penalty = penalty i; mixed = mixed i } in
-    c.in_ok-push.ensures.items ∙ ap₂ (λ xs (x : RoomShare). xs ++ x ∷ []) c.rooms.invariant own ∙ sym (map-range_with_len_more (room_share I T) 0 k k (omega arith))
+    let own : ◌≡◌ {A = RoomShare} (record { penalty = get_or ps k 0; mixed = c.mixed_in.result })
+    (room_share I T k) =
+    λ i. record { penalty = penalty i; mixed = mixed i } in
+    c.in_ok-push.ensures.items ∙ ap₂ (λ xs (x : RoomShare). xs ++ x ∷ []) c.rooms.invariant own
+    ∙ sym (map-range_with_len_more (room_share I T) 0 k k (omega arith))
 
 pub returns : goal.returns
 returns c =
@@ -49,5 +56,6 @@ returns c =
     let T = c.args.timetable.now in
     let same = ap length (c.deref-penalty-items.ensures.value ∙ c.in_ok-penalties.ensures) in
     let long = length-map-range_with_len (penalty_in I T) 0 (length I.rooms) in
-    let all : c.rooms.room ≡ length I.rooms = omega (arith, c.rooms-test.false, c.rooms.auto.room-end, same, long) in
+    let all : c.rooms.room ≡ length I.rooms =
+    omega (arith, c.rooms-test.false, c.rooms.auto.room-end, same, long) in
     c.rooms.invariant ∙ ap (λ n. map (room_share I T) (range_with_len 0 n)) all

@@ -5,4 +5,5 @@ use Rattle.exam_publish.proofs.place_shares.room_shares.Given as goal
 
 -- the rooms so far
 abbrev pub invariant-rooms : goal.invariant-rooms
-invariant-rooms l = l.shares.items ≡ map (room_share l.instance l.timetable) (range_with_len 0 l.room)
+invariant-rooms l =
+    l.shares.items ≡ map (room_share l.instance l.timetable) (range_with_len 0 l.room)

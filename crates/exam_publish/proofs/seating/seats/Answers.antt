@@ -16,7 +16,8 @@ held_seats-requires c =
     let E = c.args.enrolments.now in
     let T = c.args.timetable.now in
     let old = c.args.old.now in
-    subst (All KeepsSmallSeat) (sym (c.deref.ensures.value ∙ c.in_ok-entrants.ensures)) (entrants_keep I T old (pairs_of E) c.rooms.ensures.kept c.requires.old_seated.within)
+    subst (All KeepsSmallSeat) (sym (c.deref.ensures.value ∙ c.in_ok-entrants.ensures))
+    (entrants_keep I T old (pairs_of E) c.rooms.ensures.kept c.requires.old_seated.within)
 
 pub seat_all-requires : goal.seat_all-requires
 seat_all-requires c =
@@ -25,12 +26,16 @@ seat_all-requires c =
     let T = c.args.timetable.now in
     let old = c.args.old.now in
     let first = c.deref.ensures.value ∙ c.in_ok-entrants.ensures in
-    let second : c.deref-2.result.now ≡ entrants (pairs_of E) T old = c.deref-2.ensures.value ∙ c.in_ok-entrants.ensures in
+    let second : c.deref-2.result.now ≡ entrants (pairs_of E) T old =
+    c.deref-2.ensures.value ∙ c.in_ok-entrants.ensures in
     record {
       exist = subst (All (EntrantExists I)) (sym second) (entrants_exist I E T old c.requires.fits);
-      few = subst (λ (xs : List Entrant). length xs ≤ 200000) (sym second) (entrants_few E T old c.pairs.ensures.kept);
-      held = subst (λ (xs : List Entrant). AreHeld (kept_rows xs) c.deref-3.result.now) (first ∙ sym second)
-          (subst (AreHeld (kept_rows c.deref.result.now)) (sym c.deref-3.ensures.value) c.in_ok-held.ensures);
+      few = subst (λ (xs : List Entrant). length xs ≤ 200000) (sym second)
+          (entrants_few E T old c.pairs.ensures.kept);
+      held = subst (λ (xs : List Entrant). AreHeld (kept_rows xs) c.deref-3.result.now)
+          (first ∙ sym second)
+          (subst (AreHeld (kept_rows c.deref.result.now))
+          (sym c.deref-3.ensures.value) c.in_ok-held.ensures);
     }
 
 pub returns : goal.returns
@@ -39,8 +44,10 @@ returns c =
     let E = c.args.enrolments.now in
     let T = c.args.timetable.now in
     let old = c.args.old.now in
-    let rows : c.in_ok-rows.rows.items ≡ seat_rows (pairs_of E) T old = c.in_ok-rows.ensures ∙ ap rows_for (c.deref-2.ensures.value ∙ c.in_ok-entrants.ensures) in
-    let are = are_seats I E T old c.requires.fits c.pairs.ensures.kept c.requires.permitted c.requires.old_seated in
+    let rows : c.in_ok-rows.rows.items ≡ seat_rows (pairs_of E) T old =
+    c.in_ok-rows.ensures ∙ ap rows_for (c.deref-2.ensures.value ∙ c.in_ok-entrants.ensures) in
+    let are = are_seats I E T old c.requires.fits c.pairs.ensures.kept c.requires.permitted
+    c.requires.old_seated in
     record {
       rows = rows;
       pairs = ap (map row_pair) rows ∙ are.pairs;

@@ -9,6 +9,7 @@ pub returns : goal.returns
 returns c =
     let key : SeatRow → ℕ = λ row. row.student in
     subst (λ rows. AreSorted rows c.sort_by_key.new.self.items) c.in_ok-sorted.ensures.items
-    (are_sorted c.in_ok-sorted.sorted.items c.sort_by_key.new.self.items c.in_ok-sort_by_key.ensures.permutation
+    (are_sorted c.in_ok-sorted.sorted.items c.sort_by_key.new.self.items
+    c.in_ok-sort_by_key.ensures.permutation
     (c.in_ok-sort_by_key.ensures.sorted key (always_returns_same _ _ _ (λ a r f k. search rules)))
     (c.in_ok-sort_by_key.ensures.stable key (always_returns_same _ _ _ (λ a r f k. search rules))))

@@ -19,11 +19,14 @@ personal-requires c =
     let got : slice_get rest 0 ≡ Some r = sym c.in-Some.ensures.value in
     let is : r ≡ get_or rest 0 r = sym (get_or_from_slice_get rest 0 r r got) in
     let some : 0 < length rest = slice_get_within rest 0 r got in
-    let own = own_is I rows rest c.students.shares.items r c.count_own.result c.students.invariant is some c.count_own.ensures in
+    let own = own_is I rows rest c.students.shares.items r c.count_own.result c.students.invariant
+    is some c.count_own.ensures in
     let period : SeatRow → ℕ = λ row. row.period in
     let periods : c.deref.result.now ≡ map period (rows_of s rows)
-    = c.deref.ensures.value ∙ c.in_ok-periods.ensures ∙ ap (map period) (c.split_at.ensures.front ∙ own) in
-    let few = few_rows I rows T s c.requires (omega (arith, c.exams-kept.ensures.kept, c.requires.exams)) in
+    = c.deref.ensures.value ∙ c.in_ok-periods.ensures
+    ∙ ap (map period) (c.split_at.ensures.front ∙ own) in
+    let few = few_rows I rows T s c.requires
+    (omega (arith, c.exams-kept.ensures.kept, c.requires.exams)) in
     omega (arith, ap length periods, length-map (rows_of s rows) period, few)
 
 pub students-preserved : goal.students-preserved
@@ -42,7 +45,10 @@ students-preserved c =
     let own = own_is I rows rest shares r n c.students.invariant is some c.count_own.ensures in
     let period : SeatRow → ℕ = λ row. row.period in
     let periods : c.deref.result.now ≡ map period (rows_of s rows)
-    = c.deref.ensures.value ∙ c.in_ok-periods.ensures ∙ ap (map period) (c.split_at.ensures.front ∙ own) in
+    = c.deref.ensures.value ∙ c.in_ok-periods.ensures
+    ∙ ap (map period) (c.split_at.ensures.front ∙ own) in
     subst (IsShared I rows more) (sym c.split_at.ensures.back)
     (shared_more I rows rest shares more r n c.students.invariant is some c.count_own.ensures
-    (c.in_ok-push.ensures.items ∙ ap (λ parts. shares ++ (s, parts) ∷ []) (c.personal.ensures ∙ ap (personal_of I.periods I.weights) periods)))
+    (c.in_ok-push.ensures.items
+    ∙ ap (λ parts. shares ++ (s, parts) ∷ [])
+    (c.personal.ensures ∙ ap (personal_of I.periods I.weights) periods)))

@@ -10,6 +10,10 @@ returns c test n just =
     let is = dedup_is _ _ _ c.dedup.ensures.filtered in
     let moved = c.sort_unstable.ensures.permutation in
     passing_is test n _ _ just
-    (rw is (IsStrictlySortedBy-dedup exam_pair_cmp_total {E = exam_pair_eq} ties _ c.sort_unstable.ensures.sorted))
-    (λ p h. rw is (Contains-dedup {E = exam_pair_eq} same_pair.0 same_pair.1 _ p (Contains-permutation _ _ p moved h)))
-    (λ p h. Contains-permutation _ _ p (IsPermutation-sym _ _ moved) (Contains-from_dedup _ _ p (rw is at h)))
+    (rw is (IsStrictlySortedBy-dedup exam_pair_cmp_total {E = exam_pair_eq} ties _
+    c.sort_unstable.ensures.sorted))
+    (λ p h. rw is
+    (Contains-dedup {E = exam_pair_eq} same_pair.0 same_pair.1 _ p
+    (Contains-permutation _ _ p moved h)))
+    (λ p h. Contains-permutation _ _ p (IsPermutation-sym _ _ moved)
+    (Contains-from_dedup _ _ p (rw is at h)))

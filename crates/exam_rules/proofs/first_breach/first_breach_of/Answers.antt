@@ -23,14 +23,18 @@ returns-in-Some-clause-first c =
     let p : ExamPair = c.in-Some.pair.now in
     let listed = c.deref.ensures.value ∙ c.in_ok-pairs.ensures in
     let found : find named (map (breach r) (pairs_breaking I E T r)) ≡ Some (breach r p) =
-    first_of_rule named broken r (exam_pairs (length I.exams)) ∙ ap (option_map (breach r)) (sym (ap (λ ps. slice_get ps 0) listed) ∙ sym c.in-Some.ensures.value)
+    first_of_rule named broken r (exam_pairs (length I.exams))
+    ∙ ap (option_map (breach r))
+    (sym (ap (λ ps. slice_get ps 0) listed) ∙ sym c.in-Some.ensures.value)
     in
     sym (c.rules.invariant
-    ∙ rule_broken named (pairs_breaking I E T) c.rules-2.result c.rules.rule-index Duration (breach r p) (omega (arith, ap length c.rules-2.ensures)) found)
+    ∙ rule_broken named (pairs_breaking I E T) c.rules-2.result c.rules.rule-index Duration
+    (breach r p) (omega (arith, ap length c.rules-2.ensures)) found)
 
 pub returns-in-Some-clause-least : goal.returns-in-Some-clause-least
 returns-in-Some-clause-least c =
-    least_found c.args.instance.now c.args.enrolments.now c.args.timetable.now c.args.edited.now c.requires.fits.timetable
+    least_found c.args.instance.now c.args.enrolments.now c.args.timetable.now c.args.edited.now
+    c.requires.fits.timetable
     _ (returns-in-Some-clause-first c)
 
 pub rules-preserved : goal.rules-preserved
@@ -43,10 +47,13 @@ rules-preserved c =
     let broken : ExamPair → Bool = λ p. breaks I E T r p.exam p.other in
     let listed = c.deref.ensures.value ∙ c.in_ok-pairs.ensures in
     let none : find named (map (breach r) (pairs_breaking I E T r)) ≡ None =
-    first_of_rule named broken r (exam_pairs (length I.exams)) ∙ ap (option_map (breach r)) (sym (ap (λ ps. slice_get ps 0) listed) ∙ sym c.in_default.ensures.value)
+    first_of_rule named broken r (exam_pairs (length I.exams))
+    ∙ ap (option_map (breach r))
+    (sym (ap (λ ps. slice_get ps 0) listed) ∙ sym c.in_default.ensures.value)
     in
     c.rules.invariant
-    ∙ rule_passed named (pairs_breaking I E T) c.rules-2.result c.rules.rule-index Duration (omega (arith, ap length c.rules-2.ensures)) none
+    ∙ rule_passed named (pairs_breaking I E T) c.rules-2.result c.rules.rule-index Duration
+    (omega (arith, ap length c.rules-2.ensures)) none
 
 pub returns-clause-first : goal.returns-clause-first
 returns-clause-first c =
@@ -56,5 +63,6 @@ returns-clause-first c =
 
 pub returns-clause-least : goal.returns-clause-least
 returns-clause-least c =
-    least_found c.args.instance.now c.args.enrolments.now c.args.timetable.now c.args.edited.now c.requires.fits.timetable
+    least_found c.args.instance.now c.args.enrolments.now c.args.timetable.now c.args.edited.now
+    c.requires.fits.timetable
     None (returns-clause-first c)

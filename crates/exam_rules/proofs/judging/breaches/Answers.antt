@@ -14,8 +14,10 @@ rules-preserved c =
     let all : List BreachRule = c.rules-2.result in
     let n = c.rules.rule-index in
     let r : BreachRule = get_or all n Duration in
-    next_rule f (take n all) r c.rules.invariant c.in_ok-push_all.ensures (c.deref-in-rules.ensures.value ∙ c.in_ok-pairs.ensures)
-    ∙ ap (flat_map (λ r. map (breach r) (f r))) (sym (take_more all n Duration (omega (arith, ap length c.rules-2.ensures))))
+    next_rule f (take n all) r c.rules.invariant c.in_ok-push_all.ensures
+    (c.deref-in-rules.ensures.value ∙ c.in_ok-pairs.ensures)
+    ∙ ap (flat_map (λ r. map (breach r) (f r)))
+    (sym (take_more all n Duration (omega (arith, ap length c.rules-2.ensures))))
 
 pub returns : goal.returns
 returns c =
@@ -26,7 +28,8 @@ returns c =
     let n = c.rules.rule-index in
     let listed : c.rules.found.items ≡ breaches_of I E T
     = c.rules.invariant
-    ∙ ap (flat_map (λ r. map (breach r) (pairs_breaking I E T r))) (take_all n all (omega (arith, ap length c.rules-2.ensures)) ∙ c.rules-2.ensures)
+    ∙ ap (flat_map (λ r. map (breach r) (pairs_breaking I E T r)))
+    (take_all n all (omega (arith, ap length c.rules-2.ensures)) ∙ c.rules-2.ensures)
     in
     record {
       members = λ b. rw listed (breaches_have I E T c.requires.timetable b);

@@ -11,4 +11,5 @@ pub returns-in-Exclusion : goal.returns-in-Exclusion
 returns-in-Exclusion c = search (rules, c.exclusion_pairs.ensures c.args.site.now.enrolments.now)
 
 pub returns-in-RoomExclusive : goal.returns-in-RoomExclusive
-returns-in-RoomExclusive c = search (rules, c.exclusive_pairs.ensures c.args.site.now.enrolments.now)
+returns-in-RoomExclusive c =
+    search (rules, c.exclusive_pairs.ensures c.args.site.now.enrolments.now)

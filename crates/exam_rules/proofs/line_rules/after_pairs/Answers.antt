@@ -13,6 +13,7 @@ pub returns : goal.returns
 returns c E =
     c.in_order.ensures (breaks c.args.instance.now E c.args.timetable.now After) _
     (record {
-      members = rw c.period_rules-line-items.ensures.rules at (found_all c.lines.invariant c.lines-test.false);
+      members = rw c.period_rules-line-items.ensures.rules at (found_all c.lines.invariant
+          c.lines-test.false);
       exist = breaking_exist c.args.instance.now E c.args.timetable.now After _ c.requires;
     })

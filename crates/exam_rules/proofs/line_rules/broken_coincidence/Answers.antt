@@ -8,7 +8,9 @@ pub returns-in-Coincidence : goal.returns-in-Coincidence
 returns-in-Coincidence c e f =
     let a : ℕ = c.in-Coincidence.a in
     let b : ℕ = c.in-Coincidence.b in
-    let apart : ℕ → ℕ → Bool = λ e f. not (share_student c.args.enrolments.now e f) && in_two_periods c.args.timetable.now e f in
+    let apart : ℕ → ℕ → Bool =
+    λ e f. not (share_student c.args.enrolments.now e f)
+    && in_two_periods c.args.timetable.now e f in
     let less : a < b = grind (arith, nat_tests) in
     rw c.in-Coincidence.is
     (c.pair_if.ensures e f

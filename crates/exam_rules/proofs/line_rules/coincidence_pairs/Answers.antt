@@ -11,8 +11,11 @@ lines-preserved c =
 
 pub returns : goal.returns
 returns c =
-    c.in_order.ensures (breaks c.args.instance.now c.args.enrolments.now c.args.timetable.now Coincidence) _
+    c.in_order.ensures
+    (breaks c.args.instance.now c.args.enrolments.now c.args.timetable.now Coincidence) _
     (record {
-      members = rw c.period_rules-line-items.ensures.rules at (found_all c.lines.invariant c.lines-test.false);
-      exist = breaking_exist c.args.instance.now c.args.enrolments.now c.args.timetable.now Coincidence _ c.requires.timetable;
+      members = rw c.period_rules-line-items.ensures.rules at (found_all c.lines.invariant
+          c.lines-test.false);
+      exist = breaking_exist c.args.instance.now c.args.enrolments.now c.args.timetable.now
+          Coincidence _ c.requires.timetable;
     })

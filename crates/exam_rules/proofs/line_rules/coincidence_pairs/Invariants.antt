@@ -6,4 +6,7 @@ use Rattle.exam_rules.proofs.line_rules.coincidence_pairs.Given as goal
 
 abbrev pub invariant-lines : goal.invariant-lines
 invariant-lines l =
-    AreFound is_coincidence (λ e f. nat_lt e f && (not (share_student l.enrolments e f) && in_two_periods l.timetable e f)) [] l.line-items l.line-index l.found.items
+    AreFound is_coincidence
+    (λ e f. nat_lt e f
+    && (not (share_student l.enrolments e f) && in_two_periods l.timetable e f))
+    [] l.line-items l.line-index l.found.items

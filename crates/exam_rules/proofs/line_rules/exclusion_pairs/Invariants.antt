@@ -6,4 +6,5 @@ use Rattle.exam_rules.proofs.line_rules.exclusion_pairs.Given as goal
 
 abbrev pub invariant-lines : goal.invariant-lines
 invariant-lines l =
-    AreFound is_exclusion (λ e f. nat_lt e f && in_one_period l.timetable e f) [] l.line-items l.line-index l.found.items
+    AreFound is_exclusion (λ e f. nat_lt e f && in_one_period l.timetable e f) [] l.line-items
+    l.line-index l.found.items

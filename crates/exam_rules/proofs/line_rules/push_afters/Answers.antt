@@ -10,21 +10,28 @@ use Rattle.exam_rules.proofs.line_rules.push_afters.Goals as goal
 
 pub lines-preserved-then-not-names : goal.lines-preserved-then-not-names
 lines-preserved-then-not-names c =
-    let test : ℕ → ℕ → Bool = λ e f. not (e == f) && is_not_after c.args.site.now.timetable.now e f in
+    let test : ℕ → ℕ → Bool =
+    λ e f. not (e == f) && is_not_after c.args.site.now.timetable.now e f in
     found_more c.lines.invariant c.lines-test.true c.line-item.is
     (λ e f. sym (or_false (list_any (is_pair e f) c.lines.found.items)))
-    (λ e f. line_skipped is_after named_after c.args.exam e f c.line-item.result (test e f) (sym c.names.ensures ∙ c.if-not-names.true))
+    (λ e f. line_skipped is_after named_after c.args.exam e f c.line-item.result (test e f)
+    (sym c.names.ensures ∙ c.if-not-names.true))
 
 pub lines-preserved : goal.lines-preserved
 lines-preserved c =
-    let test : ℕ → ℕ → Bool = λ e f. not (e == f) && is_not_after c.args.site.now.timetable.now e f in
+    let test : ℕ → ℕ → Bool =
+    λ e f. not (e == f) && is_not_after c.args.site.now.timetable.now e f in
     found_more c.lines.invariant c.lines-test.true c.line-item.is c.in_ok-push_some.ensures
     (λ e f. c.broken_after.ensures e f
-    ∙ line_taken is_after named_after c.args.exam e f c.line-item.result (test e f) (sym c.names.ensures ∙ c.if-not-names.false))
+    ∙ line_taken is_after named_after c.args.exam e f c.line-item.result (test e f)
+    (sym c.names.ensures ∙ c.if-not-names.false))
 
 pub returns : goal.returns
 returns c e f =
-    let test : ℕ → ℕ → Bool = λ e f. not (e == f) && is_not_after c.args.site.now.timetable.now e f in
-    rw c.period_rules-line-items.ensures.rules at (found_all c.lines.invariant c.lines-test.false e f)
+    let test : ℕ → ℕ → Bool =
+    λ e f. not (e == f) && is_not_after c.args.site.now.timetable.now e f in
+    rw c.period_rules-line-items.ensures.rules at (found_all c.lines.invariant
+    c.lines-test.false e f)
     ∙ ap (λ b. list_any (is_pair e f) c.args.found.now.items || b)
-    (and_swap (list_any (is_after e f) c.args.site.now.instance.now.period_rules) (is_one_of c.args.exam e f) (test e f))
+    (and_swap (list_any (is_after e f) c.args.site.now.instance.now.period_rules)
+    (is_one_of c.args.exam e f) (test e f))

@@ -4,4 +4,5 @@ use Rattle.exam_rules.proofs.loads.loads_of.Given as goal
 
 abbrev pub invariant-exams : goal.invariant-exams
 invariant-exams l =
-    AreLoads l.enrolments l.timetable (length l.instance.periods) (length l.instance.rooms) l.exam l.loads.items
+    AreLoads l.enrolments l.timetable (length l.instance.periods)
+    (length l.instance.rooms) l.exam l.loads.items

@@ -10,7 +10,8 @@ others-init c = found_none
 pub is_clash-clash-requires-clause-near : goal.is_clash-clash-requires-clause-near
 is_clash-clash-requires-clause-near c =
     let x : ℕ = c.other-item.result in
-    c.requires.near x (list_any_at (λ k. k == x) c.args.group.now c.others.other-index x c.others-test.true
+    c.requires.near x
+    (list_any_at (λ k. k == x) c.args.group.now c.others.other-index x c.others-test.true
     (eq-eqb _ _ (sym c.other-item.is)))
 
 pub others-preserved : goal.others-preserved
@@ -19,7 +20,8 @@ others-preserved c =
     let x : ℕ = c.other-item.result in
     let test : ℕ → ℕ → Bool = λ e f. nat_lt e f && share_student c.args.enrolments.now e f in
     found_more c.others.invariant c.others-test.true c.other-item.is c.in_ok-push_some.ensures
-    (λ e f. c.pair_if.ensures e f ∙ ap (λ b. ((k == e) && (x == f)) && b) c.is_clash-clash.ensures ∙ at_pair k x test e f)
+    (λ e f. c.pair_if.ensures e f ∙ ap (λ b. ((k == e) && (x == f)) && b) c.is_clash-clash.ensures
+    ∙ at_pair k x test e f)
 
 pub returns : goal.returns
 returns c = found_all c.others.invariant c.others-test.false

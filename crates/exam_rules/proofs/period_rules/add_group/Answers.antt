@@ -12,7 +12,8 @@ pub exams-init : goal.exams-init
 exams-init c = found_none
 
 pub add_clashes-requires-clause-near : goal.add_clashes-requires-clause-near
-add_clashes-requires-clause-near c = λ f h k. c.near_of-near.ensures f (λ s sits. c.mark.ensures f s h sits) k
+add_clashes-requires-clause-near c =
+    λ f h k. c.near_of-near.ensures f (λ s sits. c.mark.ensures f s h sits) k
 
 pub exams-preserved : goal.exams-preserved
 exams-preserved c =
@@ -25,4 +26,5 @@ pub returns : goal.returns
 returns c e f =
     found_all c.exams.invariant c.exams-test.false e f
     ∙ ap (λ b. list_any (is_pair e f) c.args.found.now.items || b)
-    (and_assoc (has_number c.args.group.now e) (has_number c.args.group.now f) (nat_lt e f && share_student c.args.enrolments.now e f))
+    (and_assoc (has_number c.args.group.now e) (has_number c.args.group.now f)
+    (nat_lt e f && share_student c.args.enrolments.now e f))

@@ -25,7 +25,9 @@ add_group-requires c =
 pub groups-preserved : goal.groups-preserved
 groups-preserved c =
     found_more c.groups.invariant c.groups-test.true c.group-item.is c.in_ok-add_group.ensures
-    (λ e f. ap (λ g. (has_number g e && has_number g f) && (nat_lt e f && share_student c.args.enrolments.now e f)) c.as_slice.ensures)
+    (λ e f. ap (λ g. (has_number g e && has_number g f)
+    && (nat_lt e f && share_student c.args.enrolments.now e f))
+    c.as_slice.ensures)
 
 pub returns : goal.returns
 returns c =

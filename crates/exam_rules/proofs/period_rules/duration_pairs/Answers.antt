@@ -13,7 +13,8 @@ exams-preserved c =
     let k : ℕ = c.exams.exam in
     let test : ℕ → Bool = outlasts c.args.instance.now c.args.timetable.now in
     below_more c.exams.invariant c.in_ok-push_some.ensures
-    (λ e f. rw (c.outlasts-too_long.ensures, c.new-exam.ensures) at (c.pair_if.ensures e f) ∙ twice k test e f)
+    (λ e f. rw (c.outlasts-too_long.ensures, c.new-exam.ensures) at (c.pair_if.ensures e f)
+    ∙ twice k test e f)
 
 pub returns : goal.returns
 returns c E =

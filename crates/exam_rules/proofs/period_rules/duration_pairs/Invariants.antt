@@ -4,4 +4,5 @@ use Rattle.exam_rules.proofs.FindingLemmas.{AreFoundBelow}
 use Rattle.exam_rules.proofs.period_rules.duration_pairs.Given as goal
 
 abbrev pub invariant-exams : goal.invariant-exams
-invariant-exams l = AreFoundBelow (λ e f. (e == f) && outlasts l.instance l.timetable e) l.exam l.found.items
+invariant-exams l =
+    AreFoundBelow (λ e f. (e == f) && outlasts l.instance l.timetable e) l.exam l.found.items

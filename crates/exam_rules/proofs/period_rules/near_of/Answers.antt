@@ -8,8 +8,10 @@ pub returns : goal.returns
 returns c f marked share =
     let E = c.args.enrolments.now in
     let own : List ℕ = students E c.args.exam in
-    let any = Any-from_list_any (λ s. has E s f) own (sym (shared_any (λ s. has E s f) own) ∙ share) in
+    let any = Any-from_list_any (λ s. has E s f) own
+    (sym (shared_any (λ s. has E s f) own) ∙ share) in
     let among : has_number own any.1 ≡ true =
     list_any_at (λ t. t == any.1) own any.0 any.1 any.2 (eq-eqb _ _ any.3)
     in
-    c.of.ensures any.1 f (ap (λ xs. has_number xs any.1) c.students.ensures.all ∙ among) (marked any.1 any.4)
+    c.of.ensures any.1 f (ap (λ xs. has_number xs any.1) c.students.ensures.all ∙ among)
+    (marked any.1 any.4)

@@ -7,7 +7,9 @@ use Rattle.exam_rules.proofs.period_rules.push_clashes.Goals as goal
 
 pub others-preserved : goal.others-preserved
 others-preserved c =
-    let test : ℕ → ℕ → Bool = breaks c.args.site.now.instance.now c.args.site.now.enrolments.now c.args.site.now.timetable.now Clash in
+    let test : ℕ → ℕ → Bool =
+    breaks c.args.site.now.instance.now c.args.site.now.enrolments.now
+    c.args.site.now.timetable.now Clash in
     with_more _ c.others.invariant c.in_ok-push_some.ensures c.in_ok-push_some-2.ensures
     (λ e f. rw (c.clashes-before.ensures, c.new-other.ensures) at (c.pair_if.ensures e f))
     (λ e f. rw (c.clashes-after.ensures, c.new-other.ensures) at (c.pair_if-in-others.ensures e f))
@@ -15,4 +17,5 @@ others-preserved c =
 pub returns : goal.returns
 returns c =
     with_all c.others.invariant (omega arith)
-    (breaking_exist c.args.site.now.instance.now c.args.site.now.enrolments.now c.args.site.now.timetable.now Clash _ c.requires.fits.timetable)
+    (breaking_exist c.args.site.now.instance.now c.args.site.now.enrolments.now
+    c.args.site.now.timetable.now Clash _ c.requires.fits.timetable)

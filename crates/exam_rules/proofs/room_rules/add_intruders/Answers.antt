@@ -12,7 +12,9 @@ others-preserved c =
     let x : ℕ = c.other-item.result in
     let test : ℕ → ℕ → Bool = λ e f. not (e == f) && in_one_place c.args.timetable.now e f in
     found_more c.others.invariant c.others-test.true c.other-item.is c.in_ok-push_some.ensures
-    (λ e f. c.pair_if.ensures e f ∙ ap (λ b. ((k == e) && (x == f)) && b) c.is_intruder-intruder.ensures ∙ at_pair k x test e f)
+    (λ e f. c.pair_if.ensures e f
+    ∙ ap (λ b. ((k == e) && (x == f)) && b) c.is_intruder-intruder.ensures
+    ∙ at_pair k x test e f)
 
 pub returns : goal.returns
 returns c = found_all c.others.invariant c.others-test.false

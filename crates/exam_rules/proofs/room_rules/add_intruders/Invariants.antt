@@ -5,5 +5,6 @@ use Rattle.exam_rules.proofs.room_rules.add_intruders.Given as goal
 
 abbrev pub invariant-others : goal.invariant-others
 invariant-others l =
-    AreFound {X = ℕ} (λ e f k. k == f) (λ e f. (l.exam == e) && (not (e == f) && in_one_place l.timetable e f))
+    AreFound {X = ℕ} (λ e f k. k == f)
+    (λ e f. (l.exam == e) && (not (e == f) && in_one_place l.timetable e f))
     l.fn.found.items l.group l.other-index l.found.items

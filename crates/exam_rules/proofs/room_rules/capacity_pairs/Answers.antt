@@ -34,6 +34,8 @@ exams-preserved c =
 
 pub returns : goal.returns
 returns c =
-    c.in_order.ensures (breaks c.args.instance.now c.args.enrolments.now c.args.timetable.now Capacity) _
+    c.in_order.ensures
+    (breaks c.args.instance.now c.args.enrolments.now c.args.timetable.now Capacity) _
     (below_all c.exams.invariant (omega arith)
-    (breaking_exist c.args.instance.now c.args.enrolments.now c.args.timetable.now Capacity _ c.requires.timetable))
+    (breaking_exist c.args.instance.now c.args.enrolments.now c.args.timetable.now Capacity _
+    c.requires.timetable))

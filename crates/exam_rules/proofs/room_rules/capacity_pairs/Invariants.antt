@@ -5,4 +5,5 @@ use Rattle.exam_rules.proofs.room_rules.capacity_pairs.Given as goal
 
 abbrev pub invariant-exams : goal.invariant-exams
 invariant-exams l =
-    AreFoundBelow (λ e f. (e == f) && is_overfull l.instance l.enrolments l.timetable e) l.exam l.found.items
+    AreFoundBelow (λ e f. (e == f) && is_overfull l.instance l.enrolments l.timetable e)
+    l.exam l.found.items

@@ -26,5 +26,7 @@ returns-clause-exist c =
     let lines : List RoomRule = c.args.instance.now.room_rules in
     let is = dedup_is _ _ _ c.dedup.ensures.filtered in
     let named = rw c.room_rules.ensures.rules at c.in_ok-exams.ensures in
-    let all : All exists (map (λ line. line.0) lines) = All-map exists (λ line. line.0) lines c.room_rules.ensures.kept.numbers.room_rules in
-    rw is (All-dedup _ exists _ (All-permutation exists _ _ c.sort_unstable.ensures.permutation (rw named all)))
+    let all : All exists (map (λ line. line.0) lines) =
+    All-map exists (λ line. line.0) lines c.room_rules.ensures.kept.numbers.room_rules in
+    rw is (All-dedup _ exists _
+    (All-permutation exists _ _ c.sort_unstable.ensures.permutation (rw named all)))

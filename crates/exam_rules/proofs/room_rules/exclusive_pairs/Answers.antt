@@ -32,7 +32,9 @@ exams-preserved c =
     let there = sym c.get.ensures ∙ c.in-Some.is in
     let within = its_place_exists c.args.instance.now _ _ _ c.requires.fits.places there in
     found_more c.exams.invariant c.exams-test.true c.exam-item.is c.in_ok-add_intruders.ensures
-    (λ e f. ap (λ g. has_number g f && ((k == e) && (not (e == f) && in_one_place c.args.timetable.now e f))) c.group_of.ensures
+    (λ e f. ap (λ g. has_number g f
+    && ((k == e) && (not (e == f) && in_one_place c.args.timetable.now e f)))
+    c.group_of.ensures
     ∙ one_place_group c.requires.grouped (omega arith) k c.in-Some.place there within.0 e f)
 
 pub returns : goal.returns
@@ -42,6 +44,8 @@ returns c E =
       members = λ e f.
           found_all c.exams.invariant c.exams-test.false e f
           ∙ ap (λ b. b && (not (e == f) && in_one_place c.args.timetable.now e f))
-          (ap (λ xs. has_number xs e) c.deref-exam-items.ensures.value ∙ c.in_ok-exclusive.ensures.members e);
-      exist = breaking_exist c.args.instance.now E c.args.timetable.now RoomExclusive _ c.requires.fits.exams;
+          (ap (λ xs. has_number xs e) c.deref-exam-items.ensures.value
+          ∙ c.in_ok-exclusive.ensures.members e);
+      exist = breaking_exist c.args.instance.now E c.args.timetable.now RoomExclusive _
+          c.requires.fits.exams;
     })

@@ -5,7 +5,8 @@ use Rattle.exam_score.proofs.candidate.cost_of_pairs.Given as goal
 -- what is counted and what is left make the whole, and the rest is no longer
 abbrev pub invariant-loop-period : goal.invariant-loop-period
 invariant-loop-period g l = record {
-  whole : l.total + candidate_cost (g.C.PairCost.cost_of l.cost) l.rest ≡ candidate_cost (g.C.PairCost.cost_of l.cost) l.periods;
+  whole : l.total + candidate_cost (g.C.PairCost.cost_of l.cost) l.rest
+      ≡ candidate_cost (g.C.PairCost.cost_of l.cost) l.periods;
   shorter : length l.rest ≤ length l.periods;
   bounded : l.total + 200000000 * length l.rest ≤ 200000000 * length l.periods;
 }

@@ -10,7 +10,8 @@ use Rattle.exam_score.proofs.changes.difference.Goals as goal
 
 pub sitters_of-requires : goal.sitters_of-requires
 sitters_of-requires c = record {
-  exist = λ k d lt. (let h = c.requires.exist k d lt in omega (arith, h, c.requires.old.enrolments));
+  exist = λ k d lt.
+      (let h = c.requires.exist k d lt in omega (arith, h, c.requires.old.enrolments));
 }
 
 pub folded-requires : goal.folded-requires
@@ -21,33 +22,46 @@ folded-requires c = record {
 
 pub finish-parts-requires : goal.finish-parts-requires
 finish-parts-requires c = record {
-  sizes = ap length c.deref-2.ensures.value ∙ c.in_ok-sizes.ensures.count ∙ c.requires.old.enrolments
+  sizes = ap length c.deref-2.ensures.value ∙ c.in_ok-sizes.ensures.count
+      ∙ c.requires.old.enrolments
       ∙ ap (λ (s : Session). length s.exams) (sym c.in_ok-fold.ensures.of.session);
 }
 
 -- what the fold gives
-scored : (c : goal.After-finish-parts) → c.finish-parts.result ≡ Some (track c.args.instance.now c.args.enrolments.now c.args.new.now)
+scored : (c : goal.After-finish-parts) → c.finish-parts.result
+    ≡ Some (track c.args.instance.now c.args.enrolments.now c.args.new.now)
 scored c =
     let fold = c.in_ok-fold.fold in
     let pairs = map pair_of c.in_ok-sitters.sitters.items in
-    track_is fold c.args.instance.now c.args.enrolments.now c.args.old.now c.args.new.now c.args.edited.now c.finish-parts.result c.in_ok-fold.ensures.of
+    track_is fold c.args.instance.now c.args.enrolments.now c.args.old.now c.args.new.now
+    c.args.edited.now c.finish-parts.result c.in_ok-fold.ensures.of
     (c.finish-parts.ensures.scored c.args.enrolments.now pairs
-    (subst (λ (xs : List Sitter). StandsFor fold (map pair_of xs)) c.deref.ensures.value c.in_ok-fold.ensures.stands)
-    (edit_is fold c.args.instance.now c.args.enrolments.now c.args.old.now c.args.new.now c.args.edited.now pairs c.deref-2.result.now c.args.old_parts c.in_ok-fold.ensures.of
+    (subst (λ (xs : List Sitter). StandsFor fold (map pair_of xs)) c.deref.ensures.value
+    c.in_ok-fold.ensures.stands)
+    (edit_is fold c.args.instance.now c.args.enrolments.now c.args.old.now c.args.new.now
+    c.args.edited.now pairs c.deref-2.result.now c.args.old_parts c.in_ok-fold.ensures.of
     c.pairs-kept.ensures.kept c.requires.new c.in_ok-sitters.ensures.concerned
-    (subst (λ (ns : List ℕ). AreSizes c.args.enrolments.now ns) (sym c.deref-2.ensures.value) c.in_ok-sizes.ensures) c.requires.others c.requires.scored))
+    (subst (λ (ns : List ℕ). AreSizes c.args.enrolments.now ns)
+    (sym c.deref-2.ensures.value) c.in_ok-sizes.ensures)
+    c.requires.others c.requires.scored))
 
 -- and again, when its result is taken
-scored_last : (c : goal.After-drop-sitters-2) → c.finish-parts.result ≡ Some (track c.args.instance.now c.args.enrolments.now c.args.new.now)
+scored_last : (c : goal.After-drop-sitters-2)
+    → c.finish-parts.result ≡ Some (track c.args.instance.now c.args.enrolments.now c.args.new.now)
 scored_last c =
     let fold = c.in_ok-fold.fold in
     let pairs = map pair_of c.in_ok-sitters.sitters.items in
-    track_is fold c.args.instance.now c.args.enrolments.now c.args.old.now c.args.new.now c.args.edited.now c.finish-parts.result c.in_ok-fold.ensures.of
+    track_is fold c.args.instance.now c.args.enrolments.now c.args.old.now c.args.new.now
+    c.args.edited.now c.finish-parts.result c.in_ok-fold.ensures.of
     (c.finish-parts.ensures.scored c.args.enrolments.now pairs
-    (subst (λ (xs : List Sitter). StandsFor fold (map pair_of xs)) c.deref.ensures.value c.in_ok-fold.ensures.stands)
-    (edit_is fold c.args.instance.now c.args.enrolments.now c.args.old.now c.args.new.now c.args.edited.now pairs c.deref-2.result.now c.args.old_parts c.in_ok-fold.ensures.of
+    (subst (λ (xs : List Sitter). StandsFor fold (map pair_of xs)) c.deref.ensures.value
+    c.in_ok-fold.ensures.stands)
+    (edit_is fold c.args.instance.now c.args.enrolments.now c.args.old.now c.args.new.now
+    c.args.edited.now pairs c.deref-2.result.now c.args.old_parts c.in_ok-fold.ensures.of
     c.pairs-kept.ensures.kept c.requires.new c.in_ok-sitters.ensures.concerned
-    (subst (λ (ns : List ℕ). AreSizes c.args.enrolments.now ns) (sym c.deref-2.ensures.value) c.in_ok-sizes.ensures) c.requires.others c.requires.scored))
+    (subst (λ (ns : List ℕ). AreSizes c.args.enrolments.now ns)
+    (sym c.deref-2.ensures.value) c.in_ok-sizes.ensures)
+    c.requires.others c.requires.scored))
 
 pub unwrap-requires : goal.unwrap-requires
 unwrap-requires c = is_some_of c.finish-parts.result _ (scored c)

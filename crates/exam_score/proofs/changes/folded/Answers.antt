@@ -21,9 +21,11 @@ row-requires c =
     let i = c.loop-sitter.sitter-index in
     let x = c.sitter-item.result in
     record {
-      few = fold_few c.loop-sitter.fold xs i c.loop-sitter-test.true c.requires.few c.loop-sitter.invariant.stands;
+      few = fold_few c.loop-sitter.fold xs i c.loop-sitter-test.true c.requires.few
+          c.loop-sitter.invariant.stands;
       follows = subst (λ y. CanFollow c.loop-sitter.fold (pair_of y)) (sym c.sitter-item.is)
-          (next_follows c.loop-sitter.fold xs i x c.loop-sitter-test.true c.requires.in_order c.loop-sitter.invariant.stands);
+          (next_follows c.loop-sitter.fold xs i x c.loop-sitter-test.true c.requires.in_order
+          c.loop-sitter.invariant.stands);
     }
 
 pub loop-sitter-preserved : goal.loop-sitter-preserved
@@ -33,7 +35,8 @@ loop-sitter-preserved c =
     let x = c.sitter-item.result in
     record {
       stands = stands_next c.row.new.self xs i x c.loop-sitter-test.true
-          (subst (λ y. StandsFor c.row.new.self (map pair_of (take i xs) ++ pair_of y ∷ [])) c.sitter-item.is
+          (subst (λ y. StandsFor c.row.new.self (map pair_of (take i xs) ++ pair_of y ∷ []))
+          c.sitter-item.is
           (c.in_ok-row.ensures.ok (map pair_of (take i xs)) c.loop-sitter.invariant.stands));
       is = record {
         session = c.in_ok-row.ensures.same.0 ∙ c.loop-sitter.invariant.is.session;
@@ -45,6 +48,8 @@ loop-sitter-preserved c =
 
 pub returns : goal.returns
 returns c = record {
-  stands = subst (λ ss. StandsFor c.loop-sitter.fold (map pair_of ss)) (take_all c.loop-sitter.sitter-index c.args.sitters.now c.loop-sitter-test.false) c.loop-sitter.invariant.stands;
+  stands = subst (λ ss. StandsFor c.loop-sitter.fold (map pair_of ss))
+      (take_all c.loop-sitter.sitter-index c.args.sitters.now c.loop-sitter-test.false)
+      c.loop-sitter.invariant.stands;
   of = c.loop-sitter.invariant.is;
 }

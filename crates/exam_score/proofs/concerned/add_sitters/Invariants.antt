@@ -9,4 +9,5 @@ use Rattle.exam_score.proofs.concerned.add_sitters.Given as goal
 abbrev pub invariant-loop-student : goal.invariant-loop-student
 invariant-loop-student l =
     map pair_of l.sitters.items ≡ map pair_of l.fn.sitters.items
-    ++ filter (λ p. sits_among l.enrolments l.edited p.student) (pairs_at l.exam (take l.student-index (students l.enrolments l.exam)))
+    ++ filter (λ p. sits_among l.enrolments l.edited p.student)
+    (pairs_at l.exam (take l.student-index (students l.enrolments l.exam)))

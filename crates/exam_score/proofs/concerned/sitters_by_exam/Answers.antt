@@ -13,6 +13,7 @@ loop-exam-preserved c =
     let test = λ (p : Pair). sits_among E c.args.edited.now p.student in
     let lt : e < length E = omega (arith, c.loop-exam-test.true, c.exams-exam-end.ensures.count) in
     c.in_ok-add_sitters.ensures
-    ∙ ap₂ (λ a b. a ++ b) c.loop-exam.invariant (ap (λ k. filter test (pairs_at k (students E k))) c.new.ensures)
+    ∙ ap₂ (λ a b. a ++ b) c.loop-exam.invariant
+    (ap (λ k. filter test (pairs_at k (students E k))) c.new.ensures)
     ∙ sym (filter-append test (pairs_of (take e E)) (pairs_at e (students E e)))
     ∙ ap (filter test) (sym (pairs_more E e lt))

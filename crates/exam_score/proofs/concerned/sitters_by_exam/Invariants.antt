@@ -7,4 +7,6 @@ use Rattle.exam_score.proofs.concerned.sitters_by_exam.Given as goal
 -- those of the exams so far
 abbrev pub invariant-loop-exam : goal.invariant-loop-exam
 invariant-loop-exam l =
-    map pair_of l.sitters.items ≡ filter (λ p. sits_among l.enrolments l.edited p.student) (pairs_of (take l.exam l.enrolments))
+    map pair_of l.sitters.items
+    ≡ filter (λ p. sits_among l.enrolments l.edited p.student)
+    (pairs_of (take l.exam l.enrolments))

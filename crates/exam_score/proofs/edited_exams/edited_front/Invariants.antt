@@ -8,6 +8,9 @@ use Rattle.exam_score.proofs.edited_exams.edited_front.Given as goal
 -- what the exams before this one make, and a bound on it
 abbrev pub invariant-loop-exam : goal.invariant-loop-exam
 invariant-loop-exam l = record {
-  total : l.total ≡ sum_below l.exam (λ e. cond (has_number l.edited e) (front_by l.instance l.sizes (place_of l.timetable e) e) 0);
+  total : l.total
+      ≡ sum_below l.exam
+      (λ e. cond (has_number l.edited e)
+      (front_by l.instance l.sizes (place_of l.timetable e) e) 0);
   small : l.total ≤ l.exam * 100000;
 }

@@ -9,11 +9,15 @@ loop-other-preserved c =
     let s = c.args.instance.now in
     let p = c.args.period in
     let line = c.loop-other.line.items in
-    let costs : c.costs_between.result ≡ costs_of s p (length line) = c.costs_between.ensures ∙ ap (costs_of s p) (c.new.ensures ∙ sym c.loop-other.invariant.count) in
-    let items : c.push.new.self.items ≡ line ++ costs_of s p (length line) ∷ [] = c.in_ok-push.ensures.items ∙ ap (λ x. line ++ x ∷ []) costs in
+    let costs : c.costs_between.result ≡ costs_of s p (length line) =
+    c.costs_between.ensures
+    ∙ ap (costs_of s p) (c.new.ensures ∙ sym c.loop-other.invariant.count) in
+    let items : c.push.new.self.items ≡ line ++ costs_of s p (length line) ∷ [] =
+    c.in_ok-push.ensures.items ∙ ap (λ x. line ++ x ∷ []) costs in
     let more : record { count : length (line ++ costs_of s p (length line) ∷ []) ≡ c.loop-other.other + 1; each : (q : ℕ) → q < length (line ++ costs_of s p (length line) ∷ []) → slice_get (line ++ costs_of s p (length line) ∷ []) q ≡ Some (costs_of s p q) }
     = record {
-      count = omega (arith, length-append line (costs_of s p (length line) ∷ []), c.loop-other.invariant.count);
+      count = omega
+          (arith, length-append line (costs_of s p (length line) ∷ []), c.loop-other.invariant.count);
       each = line_more s p line c.loop-other.invariant.each;
     } in
     rw items more

@@ -7,6 +7,8 @@ use Rattle.exam_score.proofs.lines.table_of.Given as goal
 abbrev pub invariant-loop-period : goal.invariant-loop-period
 invariant-loop-period l = record {
   count : length l.lines.items ≡ l.period;
-  each : (p : ℕ) (line : Line) → slice_get l.lines.items p ≡ Some line → IsLine l.instance p line.costs.items;
-  first : (p : ℕ) (line : Line) → slice_get l.lines.items p ≡ Some line → IsFirstCost l.instance p line.first;
+  each : (p : ℕ) (line : Line) → slice_get l.lines.items p ≡ Some line
+      → IsLine l.instance p line.costs.items;
+  first : (p : ℕ) (line : Line) → slice_get l.lines.items p ≡ Some line
+      → IsFirstCost l.instance p line.first;
 }

@@ -7,7 +7,8 @@ use Rattle.exam_score.proofs.mixed.stays_of.Given as goal
 -- one for each placed exam before this one
 abbrev pub invariant-loop-exam : goal.invariant-loop-exam
 invariant-loop-exam l = record {
-  counts : (p r m : ℕ) → count_by (is_stay p r m) l.stays.items ≡ count_below l.exam (lasts l.instance l.timetable p r m);
+  counts : (p r m : ℕ) → count_by (is_stay p r m) l.stays.items
+      ≡ count_below l.exam (lasts l.instance l.timetable p r m);
   few : length l.stays.items ≤ l.exam;
   exist : All (StayExists l.instance) l.stays.items;
 }

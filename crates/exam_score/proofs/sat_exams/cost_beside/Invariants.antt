@@ -5,6 +5,7 @@ use Rattle.exam_score.proofs.sat_exams.cost_beside.Given as goal
 -- what the exams seen so far cost, and a bound on it
 abbrev pub invariant-loop-other : goal.invariant-loop-other
 invariant-loop-other g l = record {
-  sum : l.total ≡ sum_by (cost_at (g.C.PairCost.cost_of l.cost) l.timetable l.edited l.exam) (take l.other-index l.others);
+  sum : l.total ≡ sum_by (cost_at (g.C.PairCost.cost_of l.cost) l.timetable l.edited l.exam)
+      (take l.other-index l.others);
   small : l.total ≤ l.other-index * 100000;
 }

@@ -5,6 +5,7 @@ use Rattle.exam_score.proofs.sat_exams.cost_of_exams.Given as goal
 -- what the edited ones of the exams seen so far cost beside all, and a bound on it
 abbrev pub invariant-loop-exam : goal.invariant-loop-exam
 invariant-loop-exam g l = record {
-  sum : l.total ≡ sum_by (edited_beside (g.C.PairCost.cost_of l.cost) l.timetable l.edited l.exams) (take l.exam-index l.exams);
+  sum : l.total ≡ sum_by (edited_beside (g.C.PairCost.cost_of l.cost) l.timetable l.edited l.exams)
+      (take l.exam-index l.exams);
   small : l.total ≤ l.exam-index * 20000000000;
 }

@@ -11,9 +11,14 @@ returns-clause-sum c =
     let edited = c.args.edited.now in
     let exams = c.args.exams.now in
     let row : c.cost_of_exams-row.result ≡ exams_cost (row_cost s.periods s.weights) t edited exams
-    = c.cost_of_exams-row.ensures.cost ∙ ap (λ (cost : ℕ → ℕ → ℕ). exams_cost cost t edited exams) (row_uncapped s c.periods-kept.ensures.kept) in
+    = c.cost_of_exams-row.ensures.cost
+    ∙ ap (λ (cost : ℕ → ℕ → ℕ). exams_cost cost t edited exams)
+    (row_uncapped s c.periods-kept.ensures.kept) in
     let day : c.cost_of_exams-day.result ≡ exams_cost (day_cost s.periods s.weights) t edited exams
-    = c.cost_of_exams-day.ensures.cost ∙ ap (λ (cost : ℕ → ℕ → ℕ). exams_cost cost t edited exams) (day_uncapped s c.periods-kept.ensures.kept) in
-    let spread : c.cost_of_exams-spread.result ≡ exams_cost (spread_cost s.periods s.weights) t edited exams
+    = c.cost_of_exams-day.ensures.cost
+    ∙ ap (λ (cost : ℕ → ℕ → ℕ). exams_cost cost t edited exams)
+    (day_uncapped s c.periods-kept.ensures.kept) in
+    let spread : c.cost_of_exams-spread.result
+    ≡ exams_cost (spread_cost s.periods s.weights) t edited exams
     = c.cost_of_exams-spread.ensures.cost in
     c.of.ensures ∙ (λ i. record { row = row i; day = day i; spread = spread i })

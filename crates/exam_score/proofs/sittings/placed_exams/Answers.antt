@@ -13,14 +13,18 @@ loop-exam-preserved c =
     let t = c.args.timetable.now in
     let e = c.loop-exam.exam in
     let was = c.loop-exam.sittings.items in
-    let within : e < length t = omega (arith, c.loop-exam-test.true, c.exams-exam-end.ensures.count) in
+    let within : e < length t =
+    omega (arith, c.loop-exam-test.true, c.exams-exam-end.ensures.count) in
     elim c.match-get.branch [
       | in-Some+in_ok-push w ↦
           (let p = w.in-Some.place.period in
-          let placed : period_of t e ≡ Some p = ap (period_of t) (sym c.new-exam.ensures) ∙ ap (option_map (λ at. at.period)) (sym w.in-Some.ensures) in
+          let placed : period_of t e ≡ Some p =
+          ap (period_of t) (sym c.new-exam.ensures)
+          ∙ ap (option_map (λ at. at.period)) (sym w.in-Some.ensures) in
           let new : Sitting = record { period = p; exam = e } in
           let items : c.match-get.sittings.items ≡ was ++ new ∷ []
-          = ap (λ v. v.items) w.sittings-is ∙ w.in_ok-push.ensures.items ∙ ap (λ n. was ++ record { period = p; exam = n } ∷ []) c.new-exam.ensures in
+          = ap (λ v. v.items) w.sittings-is ∙ w.in_ok-push.ensures.items
+          ∙ ap (λ n. was ++ record { period = p; exam = n } ∷ []) c.new-exam.ensures in
           let more : record { all : (g : ℕ → ℕ → ℕ) → sum_by (λ x. g x.exam x.period) (was ++ new ∷ []) ≡ sum_below (e + 1) (λ e. if_placed (g e) (period_of t e)); exist : All (λ x. x.exam < length t) (was ++ new ∷ []) }
           = record {
             all = λ g. sittings_more_some g t e p was placed (c.loop-exam.invariant.all g);
@@ -28,7 +32,8 @@ loop-exam-preserved c =
           } in
           rw items more)
       | in_default w ↦
-          (let unplaced : period_of t e ≡ None = ap (period_of t) (sym c.new-exam.ensures) ∙ ap (option_map (λ at. at.period)) (sym c.get.ensures ∙ w.in_default.is) in
+          (let unplaced : period_of t e ≡ None = ap (period_of t) (sym c.new-exam.ensures)
+          ∙ ap (option_map (λ at. at.period)) (sym c.get.ensures ∙ w.in_default.is) in
           rw w.sittings-is (record {
             all = λ g. sittings_more_none g t e was unplaced (c.loop-exam.invariant.all g);
             exist = c.loop-exam.invariant.exist;

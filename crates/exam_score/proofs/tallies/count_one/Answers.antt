@@ -12,10 +12,17 @@ returns-then-extends-clause-counted c =
     let xs = c.args.tallies.now.items in
     let n = c.index-before.result.now in
     let x = c.index-tally.result.now in
-    let last : Extends xs n c.args.student c.args.period = subst (λ ys. Extends ys n c.args.student c.args.period) c.deref.ensures.value (c.extends.ensures.0 c.if-extends.true) in
-    let within : n - 1 < length xs = place_within c.args.slots xs c.args.last.now.items c.slot_of_student-slot.result n c.args.student c.args.period c.requires.filed c.slot_of_student-slot.ensures.exists c.index-before.ensures last in
-    let student : x.student ≡ c.args.student = ap (λ z. z.student) c.index-tally.ensures ∙ last.student x in
-    let period : x.period ≡ c.args.period = ap (λ z. z.period) c.index-tally.ensures ∙ last.period x in
+    let last : Extends xs n c.args.student c.args.period =
+    subst (λ ys. Extends ys n c.args.student c.args.period) c.deref.ensures.value
+    (c.extends.ensures.0 c.if-extends.true) in
+    let within : n - 1 < length xs =
+    place_within c.args.slots xs c.args.last.now.items c.slot_of_student-slot.result n
+    c.args.student c.args.period c.requires.filed c.slot_of_student-slot.ensures.exists
+    c.index-before.ensures last in
+    let student : x.student ≡ c.args.student =
+    ap (λ z. z.student) c.index-tally.ensures ∙ last.student x in
+    let period : x.period ≡ c.args.period =
+    ap (λ z. z.period) c.index-tally.ensures ∙ last.period x in
     λ f. counted_set f xs (n - 1) x within c.index-tally.ensures
     ∙ ap₂ (λ p s. sum_by (tally_sum f) xs + f (row_at p s)) period student
 
@@ -24,9 +31,15 @@ returns-then-extends-clause-filed c =
     let xs = c.args.tallies.now.items in
     let n = c.index-before.result.now in
     let x = c.index-tally.result.now in
-    let last : Extends xs n c.args.student c.args.period = subst (λ ys. Extends ys n c.args.student c.args.period) c.deref.ensures.value (c.extends.ensures.0 c.if-extends.true) in
-    let within : n - 1 < length xs = place_within c.args.slots xs c.args.last.now.items c.slot_of_student-slot.result n c.args.student c.args.period c.requires.filed c.slot_of_student-slot.ensures.exists c.index-before.ensures last in
-    let y : Tally = record { student = x.student; period = x.period; exams = x.exams + 1; before = x.before } in
+    let last : Extends xs n c.args.student c.args.period =
+    subst (λ ys. Extends ys n c.args.student c.args.period) c.deref.ensures.value
+    (c.extends.ensures.0 c.if-extends.true) in
+    let within : n - 1 < length xs =
+    place_within c.args.slots xs c.args.last.now.items c.slot_of_student-slot.result n
+    c.args.student c.args.period c.requires.filed c.slot_of_student-slot.ensures.exists
+    c.index-before.ensures last in
+    let y : Tally =
+    record { student = x.student; period = x.period; exams = x.exams + 1; before = x.before } in
     filed_alike c.args.slots xs (set xs (n - 1) y) c.args.last.now.items
     (alike_set xs (n - 1) y within
     (λ d. ap (λ z. z.student) (get_or_default xs (n - 1) d x within ∙ sym c.index-tally.ensures))
@@ -39,25 +52,33 @@ returns-clause-filed c =
     let xs = c.args.tallies.now.items in
     let last = c.args.last.now.items in
     let slot = c.slot_of_student-slot.result in
-    let y : Tally = record { student = c.args.student; period = c.args.period; exams = 1; before = c.index-before.result.now } in
-    let within : slot < length last = omega (arith, c.slot_of_student-slot.ensures.exists, c.requires.filed.count) in
+    let y : Tally =
+    record { student = c.args.student; period = c.args.period; exams = 1; before = c.index-before.result.now } in
+    let within : slot < length last =
+    omega (arith, c.slot_of_student-slot.ensures.exists, c.requires.filed.count) in
     let items : c.push.new.self.items ≡ xs ++ y ∷ [] = c.in_ok-push.ensures.items in
-    let long : c.len.result ≡ length xs + 1 = omega (arith, c.len.ensures, c.push.new.self.ok.0, ap length items, length_push xs y) in
+    let long : c.len.result ≡ length xs + 1 =
+    omega (arith, c.len.ensures, c.push.new.self.ok.0, ap length items, length_push xs y) in
     subst (λ zs. AreFiled zs (set last slot c.len.result) c.args.slots) (sym items)
     (subst (λ n. AreFiled (xs ++ y ∷ []) (set last slot n) c.args.slots) (sym long)
-    (filed_push c.args.slots xs last y slot c.requires.filed within (sym c.slot_of_student-slot.ensures.slot)
-    (get_or_read last slot c.index-before.result.now within c.index-before.ensures 0) c.requires.not_later))
+    (filed_push c.args.slots xs last y slot c.requires.filed within
+    (sym c.slot_of_student-slot.ensures.slot)
+    (get_or_read last slot c.index-before.result.now within c.index-before.ensures 0)
+    c.requires.not_later))
 
 pub returns-then-extends-clause-crowded : goal.returns-then-extends-clause-crowded
 returns-then-extends-clause-crowded c =
     let xs = c.args.tallies.now.items in
     let x = c.index-tally.result.now in
-    let y : Tally = record { student = x.student; period = x.period; exams = x.exams + 1; before = x.before } in
-    subst (AreCrowded c.args.crowd.now.sizes.items c.args.crowd.now.steps c.args.slots) (sym (length-set xs (c.index-before.result.now - 1) y)) c.requires.crowded
+    let y : Tally =
+    record { student = x.student; period = x.period; exams = x.exams + 1; before = x.before } in
+    subst (AreCrowded c.args.crowd.now.sizes.items c.args.crowd.now.steps c.args.slots)
+    (sym (length-set xs (c.index-before.result.now - 1) y)) c.requires.crowded
 
 pub note-requires : goal.note-requires
 note-requires c =
-    let exists : c.slot_of_student-slot.result < length c.args.crowd.now.sizes.items = omega (arith, c.slot_of_student-slot.ensures.exists, c.requires.crowded.count) in
+    let exists : c.slot_of_student-slot.result < length c.args.crowd.now.sizes.items =
+    omega (arith, c.slot_of_student-slot.ensures.exists, c.requires.crowded.count) in
     record {
       exists = exists;
       few = omega (arith, c.requires.crowded.each c.slot_of_student-slot.result exists, c.requires.few);
@@ -70,9 +91,14 @@ returns-clause-crowded c =
     let sizes = c.args.crowd.now.sizes.items in
     let steps = c.args.crowd.now.steps in
     let slot = c.slot_of_student-slot.result in
-    let y : Tally = record { student = c.args.student; period = c.args.period; exams = 1; before = c.index-before.result.now } in
-    let long : length c.push.new.self.items ≡ length xs + 1 = ap length c.in_ok-push.ensures.items ∙ length_push xs y in
-    let more = crowd_more sizes steps c.args.slots (length xs) slot c.slot_of_student-slot.ensures.exists c.requires.few c.requires.crowded in
+    let y : Tally =
+    record { student = c.args.student; period = c.args.period; exams = 1; before = c.index-before.result.now } in
+    let long : length c.push.new.self.items ≡ length xs + 1 =
+    ap length c.in_ok-push.ensures.items ∙ length_push xs y in
+    let more = crowd_more sizes steps c.args.slots
+    (length xs) slot c.slot_of_student-slot.ensures.exists c.requires.few c.requires.crowded in
     subst (AreCrowded c.note.new.crowd.sizes.items c.note.new.crowd.steps c.args.slots) (sym long)
-    (subst (λ n. AreCrowded c.note.new.crowd.sizes.items n c.args.slots (length xs + 1)) (sym c.note.ensures.steps)
-    (subst (λ zs. AreCrowded zs (steps + get_or sizes slot 0) c.args.slots (length xs + 1)) (sym c.note.ensures.sizes) more))
+    (subst (λ n. AreCrowded c.note.new.crowd.sizes.items n c.args.slots (length xs + 1))
+    (sym c.note.ensures.steps)
+    (subst (λ zs. AreCrowded zs (steps + get_or sizes slot 0) c.args.slots (length xs + 1))
+    (sym c.note.ensures.sizes) more))

@@ -12,7 +12,9 @@ invariant-loop-sitting l = record {
   counted : AreCounted l.enrolments (take l.sitting-index l.sittings) l.tallies.items;
   filed : AreFiled l.tallies.items l.last.items l.slots;
   crowded : AreCrowded l.crowd.sizes.items l.crowd.steps l.slots (length l.tallies.items);
-  few : length l.tallies.items ≤ sum_by (λ x. size_of l.enrolments x.exam) (take l.sitting-index l.sittings);
-  earlier : (k j : ℕ) (d : Tally) (e : Sitting) → k < length l.tallies.items → l.sitting-index ≤ j → j < length l.sittings
+  few : length l.tallies.items ≤ sum_by (λ x. size_of l.enrolments x.exam)
+      (take l.sitting-index l.sittings);
+  earlier : (k j : ℕ) (d : Tally) (e : Sitting) → k < length l.tallies.items → l.sitting-index ≤ j
+      → j < length l.sittings
       → (get_or l.tallies.items k d).period ≤ (get_or l.sittings j e).period;
 }

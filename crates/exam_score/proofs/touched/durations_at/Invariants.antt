@@ -8,7 +8,11 @@ use Rattle.exam_score.proofs.touched.durations_at.Given as goal
 abbrev pub invariant-loop-exam : goal.invariant-loop-exam
 invariant-loop-exam l = record {
   long : length l.marked ≡ duration_count;
-  marked : (m : ℕ) → m < duration_count → get_or l.marked m false ≡ nat_lt 0 (count_below l.exam (lasts l.instance l.timetable l.place.period l.place.room m));
-  count : l.count ≡ count_below duration_count (λ m. nat_lt 0 (count_below l.exam (lasts l.instance l.timetable l.place.period l.place.room m)));
+  marked : (m : ℕ) → m < duration_count → get_or l.marked m false
+      ≡ nat_lt 0 (count_below l.exam (lasts l.instance l.timetable l.place.period l.place.room m));
+  count : l.count
+      ≡ count_below duration_count
+      (λ m. nat_lt 0
+      (count_below l.exam (lasts l.instance l.timetable l.place.period l.place.room m)));
   small : l.count ≤ l.exam;
 }

@@ -10,8 +10,11 @@ returns-in_default-clause-further c =
     let t = c.args.timetable.now in
     let others = c.args.others.now in
     let touched = is_touched others.edited.now others.earlier.now others.later.now in
-    let none : place_of others.later.now c.args.exam ≡ None = sym c.place_in.ensures ∙ c.in_default.is in
-    ap (λ n. mixed_where s t touched + n) (c.place_mixed-first.ensures.further ∙ ap (further_mixed s t touched) c.place_in-earlier.ensures)
+    let none : place_of others.later.now c.args.exam ≡ None =
+    sym c.place_in.ensures ∙ c.in_default.is in
+    ap (λ n. mixed_where s t touched + n)
+    (c.place_mixed-first.ensures.further
+    ∙ ap (further_mixed s t touched) c.place_in-earlier.ensures)
     ∙ earlier_place s t c.args.exam others.edited.now others.earlier.now others.later.now none
 
 pub returns-then-stands_at-clause-further : goal.returns-then-stands_at-clause-further
@@ -21,8 +24,10 @@ returns-then-stands_at-clause-further c =
     let others = c.args.others.now in
     let touched = is_touched others.edited.now others.earlier.now others.later.now in
     ap (λ n. mixed_where s t touched + n)
-    (c.place_mixed-first.ensures.further ∙ ap (further_mixed s t touched) c.place_in-earlier.ensures ∙ sym (add-zero _))
-    ∙ later_place s t c.args.exam others.edited.now others.earlier.now others.later.now c.in-Some.later true (sym c.in-Some.ensures)
+    (c.place_mixed-first.ensures.further ∙ ap (further_mixed s t touched) c.place_in-earlier.ensures
+    ∙ sym (add-zero _))
+    ∙ later_place s t c.args.exam others.edited.now others.earlier.now others.later.now
+    c.in-Some.later true (sym c.in-Some.ensures)
     (sym c.if-stands_at.true ∙ c.stands_at.ensures)
 
 pub returns-clause-further : goal.returns-clause-further
@@ -32,7 +37,9 @@ returns-clause-further c =
     let others = c.args.others.now in
     let touched = is_touched others.edited.now others.earlier.now others.later.now in
     ap₂ (λ m n. mixed_where s t touched + (m + n))
-    (c.place_mixed-first.ensures.further ∙ ap (further_mixed s t touched) c.place_in-earlier.ensures)
+    (c.place_mixed-first.ensures.further
+    ∙ ap (further_mixed s t touched) c.place_in-earlier.ensures)
     c.place_mixed.ensures.further
-    ∙ later_place s t c.args.exam others.edited.now others.earlier.now others.later.now c.in-Some.later false (sym c.in-Some.ensures)
+    ∙ later_place s t c.args.exam others.edited.now others.earlier.now others.later.now
+    c.in-Some.later false (sym c.in-Some.ensures)
     (sym c.if-stands_at.false ∙ c.stands_at.ensures)

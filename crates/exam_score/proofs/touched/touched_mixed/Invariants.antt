@@ -5,8 +5,10 @@ use Rattle.exam_score.proofs.touched.touched_mixed.Given as goal
 -- what is counted, and what the exams that are left touch, make the whole
 abbrev pub invariant-loop-exam : goal.invariant-loop-exam
 invariant-loop-exam l =
-    l.total + mixed_where l.instance l.timetable (is_touched l.left l.touched.earlier.now l.touched.later.now)
-    ≡ mixed_where l.instance l.timetable (is_touched l.touched.edited.now l.touched.earlier.now l.touched.later.now)
+    l.total + mixed_where l.instance l.timetable
+    (is_touched l.left l.touched.earlier.now l.touched.later.now)
+    ≡ mixed_where l.instance l.timetable
+    (is_touched l.touched.edited.now l.touched.earlier.now l.touched.later.now)
 
 abbrev pub decreases-loop-exam : goal.decreases-loop-exam
 decreases-loop-exam l = length l.left

@@ -11,13 +11,21 @@ invariant-loop-other l = record {
   within : l.next ≤ l.at;
   linked : AreLinked l.tallies;
   slot : (d : Tally) → 0 < l.next
-      → slot_of_student linked.slots (get_or l.tallies (l.next - 1) d).student ≡ slot_of_student linked.slots l.tally.student;
-  row : l.sums.row + sum_by (tally_beside (row_cost l.instance.periods l.instance.weights) l.tally) (take l.next l.tallies)
-      ≡ sum_by (tally_beside (row_cost l.instance.periods l.instance.weights) l.tally) (take l.at l.tallies);
-  day : l.sums.day + sum_by (tally_beside (day_cost l.instance.periods l.instance.weights) l.tally) (take l.next l.tallies)
-      ≡ sum_by (tally_beside (day_cost l.instance.periods l.instance.weights) l.tally) (take l.at l.tallies);
-  spread : l.sums.spread + sum_by (tally_beside (spread_cost l.instance.periods l.instance.weights) l.tally) (take l.next l.tallies)
-      ≡ sum_by (tally_beside (spread_cost l.instance.periods l.instance.weights) l.tally) (take l.at l.tallies);
+      → slot_of_student linked.slots (get_or l.tallies (l.next - 1) d).student
+      ≡ slot_of_student linked.slots l.tally.student;
+  row : l.sums.row + sum_by (tally_beside (row_cost l.instance.periods l.instance.weights) l.tally)
+      (take l.next l.tallies)
+      ≡ sum_by (tally_beside (row_cost l.instance.periods l.instance.weights) l.tally)
+      (take l.at l.tallies);
+  day : l.sums.day + sum_by (tally_beside (day_cost l.instance.periods l.instance.weights) l.tally)
+      (take l.next l.tallies)
+      ≡ sum_by (tally_beside (day_cost l.instance.periods l.instance.weights) l.tally)
+      (take l.at l.tallies);
+  spread : l.sums.spread
+      + sum_by (tally_beside (spread_cost l.instance.periods l.instance.weights) l.tally)
+      (take l.next l.tallies)
+      ≡ sum_by (tally_beside (spread_cost l.instance.periods l.instance.weights) l.tally)
+      (take l.at l.tallies);
 }
 
 abbrev pub decreases-loop-other : goal.decreases-loop-other

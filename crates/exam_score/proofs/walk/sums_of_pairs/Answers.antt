@@ -10,7 +10,9 @@ use Rattle.exam_score.proofs.walk.sums_of_pairs.Goals as goal
 pub beside-more-requires : goal.beside-more-requires
 beside-more-requires c = record {
   within = c.loop-at-test.true;
-  here = λ d. get_or_default c.args.tallies.now c.loop-at.at d c.index-tallies-at.result c.loop-at-test.true ∙ sym c.index-tallies-at.is;
+  here = λ d. get_or_default c.args.tallies.now c.loop-at.at d c.index-tallies-at.result
+      c.loop-at-test.true
+      ∙ sym c.index-tallies-at.is;
   table = c.requires.table;
   linked = c.requires.linked;
   few = c.requires.few;
@@ -24,28 +26,57 @@ loop-at-preserved c =
     let at = c.loop-at.at in
     record {
       row = ap (λ n. c.loop-at.sums.row + c.beside-more.result.row * n) c.from-exams.ensures
-          ∙ pairs_more (row_cost s.periods s.weights) xs at c.loop-at.sums.row c.beside-more.result.row y c.loop-at-test.true c.index-tallies-at.is c.loop-at.invariant.row c.beside-more.ensures.row;
+          ∙ pairs_more (row_cost s.periods s.weights) xs at c.loop-at.sums.row
+          c.beside-more.result.row y c.loop-at-test.true c.index-tallies-at.is
+          c.loop-at.invariant.row c.beside-more.ensures.row;
       day = ap (λ n. c.loop-at.sums.day + c.beside-more.result.day * n) c.from-exams.ensures
-          ∙ pairs_more (day_cost s.periods s.weights) xs at c.loop-at.sums.day c.beside-more.result.day y c.loop-at-test.true c.index-tallies-at.is c.loop-at.invariant.day c.beside-more.ensures.day;
-      spread = ap (λ n. c.loop-at.sums.spread + c.beside-more.result.spread * n) c.from-exams.ensures
-          ∙ pairs_more (spread_cost s.periods s.weights) xs at c.loop-at.sums.spread c.beside-more.result.spread y c.loop-at-test.true c.index-tallies-at.is c.loop-at.invariant.spread c.beside-more.ensures.spread;
+          ∙ pairs_more (day_cost s.periods s.weights) xs at c.loop-at.sums.day
+          c.beside-more.result.day y c.loop-at-test.true c.index-tallies-at.is
+          c.loop-at.invariant.day c.beside-more.ensures.day;
+      spread = ap (λ n. c.loop-at.sums.spread + c.beside-more.result.spread * n)
+          c.from-exams.ensures
+          ∙ pairs_more (spread_cost s.periods s.weights) xs at c.loop-at.sums.spread
+          c.beside-more.result.spread y c.loop-at-test.true c.index-tallies-at.is
+          c.loop-at.invariant.spread c.beside-more.ensures.spread;
       small_row =
-          let small : c.beside-more.result.row ≤ 20000000000 = rw c.beside-more.ensures.row (beside_small (row_cost s.periods s.weights) xs y at (row_cost-small s c.periods-kept.ensures.kept) c.requires.few) in
-          let most : c.loop-at.sums.row + c.beside-more.result.row * y.exams ≤ row_count (take (at + 1) xs) * 20000000000
-          = small_more xs at c.loop-at.sums.row c.beside-more.result.row y c.loop-at-test.true c.index-tallies-at.is c.loop-at.invariant.small_row small in
-          let same : c.beside-more.result.row * c.from-exams.result ≡ c.beside-more.result.row * y.exams = ap (λ n. c.beside-more.result.row * n) c.from-exams.ensures in
+          let small : c.beside-more.result.row ≤ 20000000000 =
+          rw c.beside-more.ensures.row
+          (beside_small (row_cost s.periods s.weights) xs
+          y at (row_cost-small s c.periods-kept.ensures.kept) c.requires.few) in
+          let most : c.loop-at.sums.row + c.beside-more.result.row * y.exams ≤ row_count
+          (take (at + 1) xs) * 20000000000
+          = small_more xs at c.loop-at.sums.row c.beside-more.result.row y c.loop-at-test.true
+          c.index-tallies-at.is c.loop-at.invariant.small_row small in
+          let same : c.beside-more.result.row * c.from-exams.result
+          ≡ c.beside-more.result.row * y.exams =
+          ap (λ n. c.beside-more.result.row * n) c.from-exams.ensures in
           omega arith;
       small_day =
-          let small : c.beside-more.result.day ≤ 20000000000 = rw c.beside-more.ensures.day (beside_small (day_cost s.periods s.weights) xs y at (day_cost-small s c.periods-kept.ensures.kept) c.requires.few) in
-          let most : c.loop-at.sums.day + c.beside-more.result.day * y.exams ≤ row_count (take (at + 1) xs) * 20000000000
-          = small_more xs at c.loop-at.sums.day c.beside-more.result.day y c.loop-at-test.true c.index-tallies-at.is c.loop-at.invariant.small_day small in
-          let same : c.beside-more.result.day * c.from-exams.result ≡ c.beside-more.result.day * y.exams = ap (λ n. c.beside-more.result.day * n) c.from-exams.ensures in
+          let small : c.beside-more.result.day ≤ 20000000000 =
+          rw c.beside-more.ensures.day
+          (beside_small (day_cost s.periods s.weights) xs
+          y at (day_cost-small s c.periods-kept.ensures.kept) c.requires.few) in
+          let most : c.loop-at.sums.day + c.beside-more.result.day * y.exams ≤ row_count
+          (take (at + 1) xs) * 20000000000
+          = small_more xs at c.loop-at.sums.day c.beside-more.result.day y c.loop-at-test.true
+          c.index-tallies-at.is c.loop-at.invariant.small_day small in
+          let same : c.beside-more.result.day * c.from-exams.result
+          ≡ c.beside-more.result.day * y.exams =
+          ap (λ n. c.beside-more.result.day * n) c.from-exams.ensures in
           omega arith;
       small_spread =
-          let small : c.beside-more.result.spread ≤ 20000000000 = rw c.beside-more.ensures.spread (beside_small (spread_cost s.periods s.weights) xs y at (λ p q. omega (arith, spread_cost-small s.periods s.weights p q)) c.requires.few) in
-          let most : c.loop-at.sums.spread + c.beside-more.result.spread * y.exams ≤ row_count (take (at + 1) xs) * 20000000000
-          = small_more xs at c.loop-at.sums.spread c.beside-more.result.spread y c.loop-at-test.true c.index-tallies-at.is c.loop-at.invariant.small_spread small in
-          let same : c.beside-more.result.spread * c.from-exams.result ≡ c.beside-more.result.spread * y.exams = ap (λ n. c.beside-more.result.spread * n) c.from-exams.ensures in
+          let small : c.beside-more.result.spread ≤ 20000000000 =
+          rw c.beside-more.ensures.spread
+          (beside_small (spread_cost s.periods s.weights) xs
+          y at (λ p q. omega (arith, spread_cost-small s.periods s.weights p q))
+          c.requires.few) in
+          let most : c.loop-at.sums.spread + c.beside-more.result.spread * y.exams ≤ row_count
+          (take (at + 1) xs) * 20000000000
+          = small_more xs at c.loop-at.sums.spread c.beside-more.result.spread y c.loop-at-test.true
+          c.index-tallies-at.is c.loop-at.invariant.small_spread small in
+          let same : c.beside-more.result.spread * c.from-exams.result
+          ≡ c.beside-more.result.spread * y.exams =
+          ap (λ n. c.beside-more.result.spread * n) c.from-exams.ensures in
           omega arith;
     }
 
@@ -55,11 +86,19 @@ overflow_add-sums c =
     let xs = c.args.tallies.now in
     let y = c.index-tallies-at.result in
     let at = c.loop-at.at in
-    let small : c.beside-more.result.row ≤ 20000000000 = rw c.beside-more.ensures.row (beside_small (row_cost s.periods s.weights) xs y at (row_cost-small s c.periods-kept.ensures.kept) c.requires.few) in
-    let most : c.loop-at.sums.row + c.beside-more.result.row * y.exams ≤ row_count (take (at + 1) xs) * 20000000000
-    = small_more xs at c.loop-at.sums.row c.beside-more.result.row y c.loop-at-test.true c.index-tallies-at.is c.loop-at.invariant.small_row small in
-    let same : c.beside-more.result.row * c.from-exams.result ≡ c.beside-more.result.row * y.exams = ap (λ n. c.beside-more.result.row * n) c.from-exams.ensures in
-    let within = small_within xs (at + 1) (c.loop-at.sums.row + c.beside-more.result.row * y.exams) c.requires.few most in
+    let small : c.beside-more.result.row ≤ 20000000000 =
+    rw c.beside-more.ensures.row
+    (beside_small (row_cost s.periods s.weights) xs
+    y at (row_cost-small s c.periods-kept.ensures.kept) c.requires.few) in
+    let most : c.loop-at.sums.row + c.beside-more.result.row * y.exams ≤ row_count
+    (take (at + 1) xs) * 20000000000
+    = small_more xs at c.loop-at.sums.row c.beside-more.result.row y c.loop-at-test.true
+    c.index-tallies-at.is c.loop-at.invariant.small_row small in
+    let same : c.beside-more.result.row * c.from-exams.result ≡ c.beside-more.result.row * y.exams =
+    ap (λ n. c.beside-more.result.row * n) c.from-exams.ensures in
+    let within =
+    small_within xs (at + 1)
+    (c.loop-at.sums.row + c.beside-more.result.row * y.exams) c.requires.few most in
     omega arith
 
 pub overflow_add-sums-in-loop-at : goal.overflow_add-sums-in-loop-at
@@ -68,11 +107,19 @@ overflow_add-sums-in-loop-at c =
     let xs = c.args.tallies.now in
     let y = c.index-tallies-at.result in
     let at = c.loop-at.at in
-    let small : c.beside-more.result.day ≤ 20000000000 = rw c.beside-more.ensures.day (beside_small (day_cost s.periods s.weights) xs y at (day_cost-small s c.periods-kept.ensures.kept) c.requires.few) in
-    let most : c.loop-at.sums.day + c.beside-more.result.day * y.exams ≤ row_count (take (at + 1) xs) * 20000000000
-    = small_more xs at c.loop-at.sums.day c.beside-more.result.day y c.loop-at-test.true c.index-tallies-at.is c.loop-at.invariant.small_day small in
-    let same : c.beside-more.result.day * c.from-exams.result ≡ c.beside-more.result.day * y.exams = ap (λ n. c.beside-more.result.day * n) c.from-exams.ensures in
-    let within = small_within xs (at + 1) (c.loop-at.sums.day + c.beside-more.result.day * y.exams) c.requires.few most in
+    let small : c.beside-more.result.day ≤ 20000000000 =
+    rw c.beside-more.ensures.day
+    (beside_small (day_cost s.periods s.weights) xs
+    y at (day_cost-small s c.periods-kept.ensures.kept) c.requires.few) in
+    let most : c.loop-at.sums.day + c.beside-more.result.day * y.exams ≤ row_count
+    (take (at + 1) xs) * 20000000000
+    = small_more xs at c.loop-at.sums.day c.beside-more.result.day y c.loop-at-test.true
+    c.index-tallies-at.is c.loop-at.invariant.small_day small in
+    let same : c.beside-more.result.day * c.from-exams.result ≡ c.beside-more.result.day * y.exams =
+    ap (λ n. c.beside-more.result.day * n) c.from-exams.ensures in
+    let within =
+    small_within xs (at + 1)
+    (c.loop-at.sums.day + c.beside-more.result.day * y.exams) c.requires.few most in
     omega arith
 
 pub overflow_add-sums-in-loop-at-2 : goal.overflow_add-sums-in-loop-at-2
@@ -81,11 +128,20 @@ overflow_add-sums-in-loop-at-2 c =
     let xs = c.args.tallies.now in
     let y = c.index-tallies-at.result in
     let at = c.loop-at.at in
-    let small : c.beside-more.result.spread ≤ 20000000000 = rw c.beside-more.ensures.spread (beside_small (spread_cost s.periods s.weights) xs y at (λ p q. omega (arith, spread_cost-small s.periods s.weights p q)) c.requires.few) in
-    let most : c.loop-at.sums.spread + c.beside-more.result.spread * y.exams ≤ row_count (take (at + 1) xs) * 20000000000
-    = small_more xs at c.loop-at.sums.spread c.beside-more.result.spread y c.loop-at-test.true c.index-tallies-at.is c.loop-at.invariant.small_spread small in
-    let same : c.beside-more.result.spread * c.from-exams.result ≡ c.beside-more.result.spread * y.exams = ap (λ n. c.beside-more.result.spread * n) c.from-exams.ensures in
-    let within = small_within xs (at + 1) (c.loop-at.sums.spread + c.beside-more.result.spread * y.exams) c.requires.few most in
+    let small : c.beside-more.result.spread ≤ 20000000000 =
+    rw c.beside-more.ensures.spread
+    (beside_small (spread_cost s.periods s.weights) xs
+    y at (λ p q. omega (arith, spread_cost-small s.periods s.weights p q)) c.requires.few) in
+    let most : c.loop-at.sums.spread + c.beside-more.result.spread * y.exams ≤ row_count
+    (take (at + 1) xs) * 20000000000
+    = small_more xs at c.loop-at.sums.spread c.beside-more.result.spread y c.loop-at-test.true
+    c.index-tallies-at.is c.loop-at.invariant.small_spread small in
+    let same : c.beside-more.result.spread * c.from-exams.result
+    ≡ c.beside-more.result.spread * y.exams =
+    ap (λ n. c.beside-more.result.spread * n) c.from-exams.ensures in
+    let within =
+    small_within xs (at + 1)
+    (c.loop-at.sums.spread + c.beside-more.result.spread * y.exams) c.requires.few most in
     omega arith
 
 pub overflow_mul-sums : goal.overflow_mul-sums
@@ -94,11 +150,19 @@ overflow_mul-sums c =
     let xs = c.args.tallies.now in
     let y = c.index-tallies-at.result in
     let at = c.loop-at.at in
-    let small : c.beside-more.result.row ≤ 20000000000 = rw c.beside-more.ensures.row (beside_small (row_cost s.periods s.weights) xs y at (row_cost-small s c.periods-kept.ensures.kept) c.requires.few) in
-    let most : c.loop-at.sums.row + c.beside-more.result.row * y.exams ≤ row_count (take (at + 1) xs) * 20000000000
-    = small_more xs at c.loop-at.sums.row c.beside-more.result.row y c.loop-at-test.true c.index-tallies-at.is c.loop-at.invariant.small_row small in
-    let same : c.beside-more.result.row * c.from-exams.result ≡ c.beside-more.result.row * y.exams = ap (λ n. c.beside-more.result.row * n) c.from-exams.ensures in
-    let within = small_within xs (at + 1) (c.loop-at.sums.row + c.beside-more.result.row * y.exams) c.requires.few most in
+    let small : c.beside-more.result.row ≤ 20000000000 =
+    rw c.beside-more.ensures.row
+    (beside_small (row_cost s.periods s.weights) xs
+    y at (row_cost-small s c.periods-kept.ensures.kept) c.requires.few) in
+    let most : c.loop-at.sums.row + c.beside-more.result.row * y.exams ≤ row_count
+    (take (at + 1) xs) * 20000000000
+    = small_more xs at c.loop-at.sums.row c.beside-more.result.row y c.loop-at-test.true
+    c.index-tallies-at.is c.loop-at.invariant.small_row small in
+    let same : c.beside-more.result.row * c.from-exams.result ≡ c.beside-more.result.row * y.exams =
+    ap (λ n. c.beside-more.result.row * n) c.from-exams.ensures in
+    let within =
+    small_within xs (at + 1)
+    (c.loop-at.sums.row + c.beside-more.result.row * y.exams) c.requires.few most in
     omega arith
 
 pub overflow_mul-sums-in-loop-at : goal.overflow_mul-sums-in-loop-at
@@ -107,11 +171,19 @@ overflow_mul-sums-in-loop-at c =
     let xs = c.args.tallies.now in
     let y = c.index-tallies-at.result in
     let at = c.loop-at.at in
-    let small : c.beside-more.result.day ≤ 20000000000 = rw c.beside-more.ensures.day (beside_small (day_cost s.periods s.weights) xs y at (day_cost-small s c.periods-kept.ensures.kept) c.requires.few) in
-    let most : c.loop-at.sums.day + c.beside-more.result.day * y.exams ≤ row_count (take (at + 1) xs) * 20000000000
-    = small_more xs at c.loop-at.sums.day c.beside-more.result.day y c.loop-at-test.true c.index-tallies-at.is c.loop-at.invariant.small_day small in
-    let same : c.beside-more.result.day * c.from-exams.result ≡ c.beside-more.result.day * y.exams = ap (λ n. c.beside-more.result.day * n) c.from-exams.ensures in
-    let within = small_within xs (at + 1) (c.loop-at.sums.day + c.beside-more.result.day * y.exams) c.requires.few most in
+    let small : c.beside-more.result.day ≤ 20000000000 =
+    rw c.beside-more.ensures.day
+    (beside_small (day_cost s.periods s.weights) xs
+    y at (day_cost-small s c.periods-kept.ensures.kept) c.requires.few) in
+    let most : c.loop-at.sums.day + c.beside-more.result.day * y.exams ≤ row_count
+    (take (at + 1) xs) * 20000000000
+    = small_more xs at c.loop-at.sums.day c.beside-more.result.day y c.loop-at-test.true
+    c.index-tallies-at.is c.loop-at.invariant.small_day small in
+    let same : c.beside-more.result.day * c.from-exams.result ≡ c.beside-more.result.day * y.exams =
+    ap (λ n. c.beside-more.result.day * n) c.from-exams.ensures in
+    let within =
+    small_within xs (at + 1)
+    (c.loop-at.sums.day + c.beside-more.result.day * y.exams) c.requires.few most in
     omega arith
 
 pub overflow_mul-sums-in-loop-at-2 : goal.overflow_mul-sums-in-loop-at-2
@@ -120,9 +192,18 @@ overflow_mul-sums-in-loop-at-2 c =
     let xs = c.args.tallies.now in
     let y = c.index-tallies-at.result in
     let at = c.loop-at.at in
-    let small : c.beside-more.result.spread ≤ 20000000000 = rw c.beside-more.ensures.spread (beside_small (spread_cost s.periods s.weights) xs y at (λ p q. omega (arith, spread_cost-small s.periods s.weights p q)) c.requires.few) in
-    let most : c.loop-at.sums.spread + c.beside-more.result.spread * y.exams ≤ row_count (take (at + 1) xs) * 20000000000
-    = small_more xs at c.loop-at.sums.spread c.beside-more.result.spread y c.loop-at-test.true c.index-tallies-at.is c.loop-at.invariant.small_spread small in
-    let same : c.beside-more.result.spread * c.from-exams.result ≡ c.beside-more.result.spread * y.exams = ap (λ n. c.beside-more.result.spread * n) c.from-exams.ensures in
-    let within = small_within xs (at + 1) (c.loop-at.sums.spread + c.beside-more.result.spread * y.exams) c.requires.few most in
+    let small : c.beside-more.result.spread ≤ 20000000000 =
+    rw c.beside-more.ensures.spread
+    (beside_small (spread_cost s.periods s.weights) xs
+    y at (λ p q. omega (arith, spread_cost-small s.periods s.weights p q)) c.requires.few) in
+    let most : c.loop-at.sums.spread + c.beside-more.result.spread * y.exams ≤ row_count
+    (take (at + 1) xs) * 20000000000
+    = small_more xs at c.loop-at.sums.spread c.beside-more.result.spread y c.loop-at-test.true
+    c.index-tallies-at.is c.loop-at.invariant.small_spread small in
+    let same : c.beside-more.result.spread * c.from-exams.result
+    ≡ c.beside-more.result.spread * y.exams =
+    ap (λ n. c.beside-more.result.spread * n) c.from-exams.ensures in
+    let within =
+    small_within xs (at + 1)
+    (c.loop-at.sums.spread + c.beside-more.result.spread * y.exams) c.requires.few most in
     omega arith

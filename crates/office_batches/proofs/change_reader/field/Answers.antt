@@ -5,7 +5,8 @@ use Rattle.office_batches.proofs.RecordLemmas.{absent}
 use Rattle.office_batches.proofs.change_reader.field.Goals as goal
 
 pub returns-in-Some : goal.returns-in-Some
-returns-in-Some c = c.trimmed.ensures ∙ ap trimmed (sym (field-get _ _ _ (sym c.in-Some.ensures.value)))
+returns-in-Some c =
+    c.trimmed.ensures ∙ ap trimmed (sym (field-get _ _ _ (sym c.in-Some.ensures.value)))
 
 pub returns-in-None : goal.returns-in-None
 returns-in-None c = ap trimmed (sym (absent _ _ (sym c.in-None.ensures.value)))

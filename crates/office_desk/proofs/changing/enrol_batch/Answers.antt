@@ -7,6 +7,9 @@ use Rattle.office_desk.proofs.changing.enrol_batch.Goals as goal
 
 pub returns-in_err-counts-clause-performs : goal.returns-in_err-counts-clause-performs
 returns-in_err-counts-clause-performs g c caller clean office now =
-    rw c.in_ok-text.ensures (fault_told (now_enrolled c.args.number) office (batch_enrolled c.args.number c.in_ok-text.text.now office)
-    (Now (state g.S.Store c.enrol_batch.new.self)) _ _ (c.in_err-counts.ensures.runs clean office now)
+    rw c.in_ok-text.ensures
+    (fault_told (now_enrolled c.args.number) office
+    (batch_enrolled c.args.number c.in_ok-text.text.now office)
+    (Now (state g.S.Store c.enrol_batch.new.self)) _ _
+    (c.in_err-counts.ensures.runs clean office now)
     (err_told _ _ c.from_residual-in_err-counts.ensures.1))

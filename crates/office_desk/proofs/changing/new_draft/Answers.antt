@@ -7,6 +7,9 @@ use Rattle.office_desk.proofs.changing.new_draft.Goals as goal
 
 pub returns-in_err-penalty-clause-performs : goal.returns-in_err-penalty-clause-performs
 returns-in_err-penalty-clause-performs g c caller clean office now =
-    rw c.in_ok-text.ensures (fault_told (now_drafted c.args.number) office (draft_made c.args.number c.in_ok-text.text.now office)
-    (Now (state g.S.Store c.new_draft.new.self)) _ _ (c.in_err-penalty.ensures.runs clean office now)
+    rw c.in_ok-text.ensures
+    (fault_told (now_drafted c.args.number) office
+    (draft_made c.args.number c.in_ok-text.text.now office)
+    (Now (state g.S.Store c.new_draft.new.self)) _ _
+    (c.in_err-penalty.ensures.runs clean office now)
     (err_told _ _ c.from_residual-in_err-penalty.ensures.1))

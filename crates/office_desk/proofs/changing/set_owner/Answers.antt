@@ -7,6 +7,9 @@ use Rattle.office_desk.proofs.changing.set_owner.Goals as goal
 
 pub returns-in_err-set_owner-clause-performs : goal.returns-in_err-set_owner-clause-performs
 returns-in_err-set_owner-clause-performs g c caller clean office now =
-    rw c.in_ok-dept.ensures (fault_told (λ done. now_owned c.args.exam c.in_ok-dept.dept) office (owned c.args.exam c.in_ok-dept.dept office)
-    (Now (state g.S.Store c.set_owner.new.self)) _ _ (c.in_err-set_owner.ensures.runs clean office now)
+    rw c.in_ok-dept.ensures
+    (fault_told (λ done. now_owned c.args.exam c.in_ok-dept.dept) office
+    (owned c.args.exam c.in_ok-dept.dept office)
+    (Now (state g.S.Store c.set_owner.new.self)) _ _
+    (c.in_err-set_owner.ensures.runs clean office now)
     (err_told _ _ c.from_residual-in_err-set_owner.ensures.1))

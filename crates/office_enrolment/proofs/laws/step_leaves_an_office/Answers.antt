@@ -9,7 +9,8 @@ use Rattle.office_enrolment.proofs.laws.step_leaves_an_office.Goals as goal
 
 -- an office stands after whatever is given, where one stands after each thing that may be
 each_leaves : (gives : Gives Counts)
-    → ((counts : Counts) (new : OfficeState) → gives ≡ Ok (counts, new) → IsOffice new) → Leaves gives
+    → ((counts : Counts) (new : OfficeState) → gives ≡ Ok (counts, new) → IsOffice new)
+    → Leaves gives
 each_leaves (Ok given) leaves = leaves given.0 given.1 refl
 each_leaves (Err fault) leaves = tt
 

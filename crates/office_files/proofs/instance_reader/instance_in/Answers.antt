@@ -10,7 +10,8 @@ use Rattle.office_files.proofs.instance_reader.instance_in.Goals as goal
 pub instance_of-requires : goal.instance_of-requires
 instance_of-requires c =
     let exams = c.in_ok-exams.ensures.found in
-    let many : length exams.0 ≡ c.len.result = omega (arith, length-map exams.0 exam_of, ap length exams.2) in
+    let many : length exams.0 ≡ c.len.result =
+    omega (arith, length-map exams.0 exam_of, ap length exams.2) in
     let later = rw c.in_ok-exams.ensures.same at (c.in_ok-said.ensures.found exams.0 many) in
     record { kept = rw exams.2 (later_is_instance _ _ c.new-sections.result.lines c.exams_section.new.sections.lines exams.0 exams.1 later) }
 
@@ -18,7 +19,8 @@ pub returns-clause-exact : goal.returns-clause-exact
 returns-clause-exact c =
     let text = c.args.source.now in
     let exams = c.in_ok-exams.ensures.found in
-    let many : length exams.0 ≡ c.len.result = omega (arith, length-map exams.0 exam_of, ap length exams.2) in
+    let many : length exams.0 ≡ c.len.result =
+    omega (arith, length-map exams.0 exam_of, ap length exams.2) in
     let first : section_in exams_heading exam_line (line_count text + 1) (lines_of text)
     ≡ Ok (exams.0, c.exams_section.new.sections.lines)
     = rw (c.new-sections.ensures.source, c.new-sections.ensures.lines) at exams.1 in

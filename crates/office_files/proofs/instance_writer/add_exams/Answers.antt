@@ -13,11 +13,14 @@ pub loop-number-preserved : goal.loop-number-preserved
 loop-number-preserved c =
     let exams = c.args.instance.now.exams in
     let E = c.args.enrolments.now in
-    let line : ExamLine = record { minutes = c.exam.result.minutes; students = c.students-students.result.now } in
+    let line : ExamLine =
+    record { minutes = c.exam.result.minutes; students = c.students-students.result.now } in
     let at : slice_get (exam_lines_of exams E) c.loop-number.number ≡ Some line
     = line_at exams E c.loop-number.number c.exam.result c.requires.fits
     (ap (slice_get exams) (sym c.new-exam.ensures) ∙ c.exam.ensures)
-    ∙ ap (λ (ss : List ℕ). Some (let y : ExamLine = record { minutes = c.exam.result.minutes; students = ss } in y)) (ap (students E) (sym c.new-exam.ensures) ∙ sym c.students-students.ensures.all) in
+    ∙ ap (λ (ss : List ℕ).
+    Some (let y : ExamLine = record { minutes = c.exam.result.minutes; students = ss } in y))
+    (ap (students E) (sym c.new-exam.ensures) ∙ sym c.students-students.ensures.all) in
     step (λ x. line_of (exam_text x))
     (string_bytes c.args.text.now ++ line_of (header_text exams_heading (length exams)))
     (string_bytes c.loop-number.text) _ (exam_lines_of exams E) c.loop-number.number line at
@@ -33,6 +36,8 @@ returns c =
     whole (λ x. line_of (exam_text x)) (string_bytes c.args.text.now)
     (line_of (header_text exams_heading (length exams))) (string_bytes c.loop-number.text) lines
     c.loop-number.number
-    (omega (arith, many, c.exams-count.ensures.count, c.loop-number-test.false)) c.loop-number.invariant
-    ∙ ap (λ (n : ℕ). string_bytes c.args.text.now ++ (line_of (header_text exams_heading n) ++ flat))
+    (omega (arith, many, c.exams-count.ensures.count, c.loop-number-test.false))
+    c.loop-number.invariant
+    ∙ ap (λ (n : ℕ). string_bytes c.args.text.now
+    ++ (line_of (header_text exams_heading n) ++ flat))
     (sym many)

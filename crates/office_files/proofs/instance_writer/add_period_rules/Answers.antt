@@ -10,5 +10,6 @@ returns c =
     let rules = c.args.instance.now.period_rules in
     let all = ap length c.period_rules-rule-items.ensures.rules in
     whole (λ x. line_of (period_rule_text x)) (string_bytes c.args.text.now)
-    (line_of (header_text period_rules_heading (length rules))) (string_bytes c.loop-rule.text) rules
+    (line_of (header_text period_rules_heading (length rules)))
+    (string_bytes c.loop-rule.text) rules
     c.loop-rule.rule-index (omega (arith, c.loop-rule-test.false)) c.loop-rule.invariant

@@ -8,5 +8,6 @@ use Rattle.office_files.proofs.instance_writer.add_period_rules.Given as goal
 abbrev pub invariant-loop-rule : goal.invariant-loop-rule
 invariant-loop-rule l =
     string_bytes l.text
-    ≡ string_bytes l.fn.text ++ line_of (header_text period_rules_heading (length l.instance.period_rules))
+    ≡ string_bytes l.fn.text
+    ++ line_of (header_text period_rules_heading (length l.instance.period_rules))
     ++ flat_map (λ x. line_of (period_rule_text x)) (take l.rule-index l.instance.period_rules)

@@ -11,5 +11,7 @@ loop-number-preserved c =
     step (λ x. line_of (period_text x))
     (string_bytes c.args.text.now
     ++ line_of (header_text periods_heading (length c.args.instance.now.periods)))
-    (string_bytes c.loop-number.text) _ c.args.instance.now.periods c.loop-number.number c.period-period.result
-    (ap (slice_get c.args.instance.now.periods) (sym c.new.ensures) ∙ c.period-period.ensures) c.loop-number.invariant c.in_ok-add_period.ensures
+    (string_bytes c.loop-number.text) _ c.args.instance.now.periods c.loop-number.number
+    c.period-period.result
+    (ap (slice_get c.args.instance.now.periods) (sym c.new.ensures) ∙ c.period-period.ensures)
+    c.loop-number.invariant c.in_ok-add_period.ensures

@@ -11,5 +11,7 @@ loop-number-preserved c =
     step (λ x. line_of (room_text x))
     (string_bytes c.args.text.now
     ++ line_of (header_text rooms_heading (length c.args.instance.now.rooms)))
-    (string_bytes c.loop-number.text) _ c.args.instance.now.rooms c.loop-number.number c.room-room.result
-    (ap (slice_get c.args.instance.now.rooms) (sym c.new.ensures) ∙ c.room-room.ensures) c.loop-number.invariant c.in_ok-add_pair.ensures
+    (string_bytes c.loop-number.text) _ c.args.instance.now.rooms c.loop-number.number
+    c.room-room.result
+    (ap (slice_get c.args.instance.now.rooms) (sym c.new.ensures) ∙ c.room-room.ensures)
+    c.loop-number.invariant c.in_ok-add_pair.ensures

@@ -18,7 +18,8 @@ returns c =
     (line_of (weighting_text (Day c.weights-weights.result.day)))
     (line_of (weighting_text (Spread c.weights-weights.result.spread)))
     (line_of (weighting_text (Mixed c.weights-weights.result.mixed)))
-    (line_of (weighting_text (Front c.weights-weights.result.front_exams c.weights-weights.result.front_periods
+    (line_of (weighting_text
+    (Front c.weights-weights.result.front_exams c.weights-weights.result.front_periods
     c.weights-weights.result.front)))
     c.in_ok-push_str.ensures.bytes c.in_ok-add_weighting.ensures c.in_ok-add_weighting-2.ensures
     c.in_ok-add_weighting-3.ensures c.in_ok-add_weighting-4.ensures c.in_ok-add_weighting-5.ensures)

@@ -10,6 +10,7 @@ returns-clause-stays c = λ s input before after office next served run.
     stays_all s run.items office next run.output run.told
 
 pub returns-clause-same : goal.returns-clause-same
-returns-clause-same c = λ s input before after one next served stream written out other last ended first second.
+returns-clause-same c =
+    λ s input before after one next served stream written out other last ended first second.
     same_output s first.items second.items one next other last first.output second.output first.told
     second.told

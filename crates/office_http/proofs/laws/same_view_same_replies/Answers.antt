@@ -3,12 +3,14 @@ use Rattle.office_http.specs.Transcripts.{entries}
 use Rattle.office_http.proofs.laws.same_view_same_replies.Goals as goal
 
 pub returns-clause-agree : goal.returns-clause-agree
-returns-clause-agree c = λ s input before after one next served stream written out other last ended first second.
+returns-clause-agree c =
+    λ s input before after one next served stream written out other last ended first second.
     all_by_view s (entries first) (entries second)
     (each_told first.items one next first.output first.told)
     (each_told second.items other last second.output second.told)
 
 pub returns-clause-quiet : goal.returns-clause-quiet
-returns-clause-quiet c = λ s input before after one next served stream written out other last ended first second.
+returns-clause-quiet c =
+    λ s input before after one next served stream written out other last ended first second.
     both_quiet s first.items second.items one next other last first.output second.output first.told
     second.told

@@ -30,5 +30,6 @@ parse-requires-clause-ended c =
     let P : List ℕ → Type 0 =
     λ l. (n : ℕ) × (c.in-Searching.searched < n) × (n ≤ length l)
     × (ends_as_head (take n l) ≡ true) in
-    let found = subst P c.first.ensures.front (c.may_hold_end.ensures.found c.if-may_hold_end.true) in
+    let found = subst P c.first.ensures.front
+    (c.may_hold_end.ensures.found c.if-may_hold_end.true) in
     found_end c.args.bytes.now found.0 found.2 found.3

@@ -2,4 +2,5 @@ use Rattle.std.proofs.Common.{◌≡◌, ◌++◌, map, take}
 use Rattle.office_model.proofs.views.her_exams.Given as goal
 
 abbrev pub invariant-loop-row : goal.invariant-loop-row
-invariant-loop-row l = l.exams.items ≡ l.enrolled ++ map (λ row. row.exam) (take l.row-index l.seats)
+invariant-loop-row l =
+    l.exams.items ≡ l.enrolled ++ map (λ row. row.exam) (take l.row-index l.seats)

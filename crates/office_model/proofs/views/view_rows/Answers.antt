@@ -12,6 +12,7 @@ returns c =
     let seats = c.args.seats.now in
     IfOk-weaker c.rows_of.result _ _
     (λ rows is published are.
-    is ∙ ap (map (view_row I.periods enrolled places seats)) (c.deref.ensures.value ∙ c.in_ok-exams.ensures)
+    is ∙ ap (map (view_row I.periods enrolled places seats))
+    (c.deref.ensures.value ∙ c.in_ok-exams.ensures)
     ∙ rows_shown I published enrolled places seats are)
     c.rows_of.ensures

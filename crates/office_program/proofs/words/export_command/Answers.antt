@@ -11,6 +11,7 @@ returns c =
     let named : app_of c.after_help.result ≡ new_app (codes "export") =
     ap app_of_fields c.after_help.ensures ∙ ap app_of_fields c.about.ensures ∙ c.new.ensures.app in
     IfOk-weaker c.arg.result _ _ (λ w added.
-    let one : app_of w ≡ export_app = added.shape database.local ∙ ap₂ with_rule named database.rule in
+    let one : app_of w ≡ export_app =
+    added.shape database.local ∙ ap₂ with_rule named database.rule in
     λ old new sub. sub.shape (search rules)
     ∙ ap (λ (a : App). with_subcommand (app_of old) a.top) one) c.arg.ensures

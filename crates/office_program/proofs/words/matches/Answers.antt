@@ -13,7 +13,8 @@ abbrev whole_is : (c : goal.After-try_get_matches_from) → app_of c.in_ok-whole
 whole_is c =
     let named : app_of c.after_help.result ≡ new_app (codes "examoffice") =
     ap app_of_fields c.after_help.ensures ∙ ap app_of_fields c.about.ensures ∙ c.new.ensures.app in
-    let wants : app_of c.subcommand_required.result ≡ wants_subcommand (new_app (codes "examoffice")) =
+    let wants : app_of c.subcommand_required.result
+    ≡ wants_subcommand (new_app (codes "examoffice")) =
     ap app_of_fields c.subcommand_required.ensures ∙ ap wants_subcommand named in
     let judges : app_of c.in_ok-subcommand.field-0 ≡ with_subcommand
     (wants_subcommand (new_app (codes "examoffice"))) check_app.top =

@@ -16,5 +16,6 @@ rows-preserved c =
     let at = c.rows.at in
     let added : c.push.new.self.items ≡ c.rows.shares.items ++ (get_or rows at no_row).penalty ∷ []
     = search rules in
-    plain_more (part_kind_number c.args.kind) rows at no_row c.rows.shares.items c.push.new.self.items
+    plain_more (part_kind_number c.args.kind) rows at no_row c.rows.shares.items
+    c.push.new.self.items
     c.rows-test.true c.rows.invariant (c.if-not-is_plain.ensures.0 refl) added

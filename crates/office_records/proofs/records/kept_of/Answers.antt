@@ -33,7 +33,8 @@ refused : {X : Type 0} (found : Found) (unloaded : Bool) (fault : RecordFault)
     → IsSound (tables_of found batches) (Some r) → AreRecords r → ⊥)
     → IfErr r (λ e. e ≡ BadRows → StandsForNone found)
 refused found unloaded fault (Ok x) empty is same none = tt
-refused found unloaded fault (Err e) empty is same none = λ bad batches rows o. each batches rows o bad
+refused found unloaded fault (Err e) empty is same none =
+    λ bad batches rows o. each batches rows o bad
   where
     each : (batches : List Batch) → map counts_of batches ≡ found.batches.items
         → (o : OfficeState) → e ≡ BadRows → StandsForOffice (tables_of found batches) o
@@ -52,7 +53,8 @@ returns-in_err-check_owners-clause-none c =
     c.from_residual-in_err-check_owners.ensures.1
     (λ bad batches same r stands sound is. none bad r.owner_of
     (subst (λ rows. AreOwners c.in_ok-instance.instance rows r.owner_of) (sym c.deref.ensures.value)
-    (owner_rows found batches r stands sound is c.in_ok-instance.instance c.in_ok-instance.ensures.is)))
+    (owner_rows found batches r stands sound is c.in_ok-instance.instance
+    c.in_ok-instance.ensures.is)))
 
 pub returns-in_err-enrolments-clause-none : goal.returns-in_err-enrolments-clause-none
 returns-in_err-enrolments-clause-none c =
@@ -64,7 +66,8 @@ returns-in_err-enrolments-clause-none c =
     (λ bad batches same r stands sound is. none bad r.enrolments
     (subst (λ rows. AreEnrolRows c.in_ok-instance.instance rows r.enrolments)
     (sym c.deref-2.ensures.value)
-    (enrol_rows found batches r stands sound is c.in_ok-instance.instance c.in_ok-instance.ensures.is)))
+    (enrol_rows found batches r stands sound is c.in_ok-instance.instance
+    c.in_ok-instance.ensures.is)))
 
 pub returns-in_err-check_drafts-clause-none : goal.returns-in_err-check_drafts-clause-none
 returns-in_err-check_drafts-clause-none c =
@@ -90,7 +93,8 @@ returns-in_err-check_published-clause-none c =
     c.from_residual-in_err-check_published.result c.is_unloaded.ensures c.if-is_unloaded.false
     c.from_residual-in_err-check_published.ensures.1
     (λ bad batches same r stands sound is. none bad r.published
-    (published_rows found batches r stands sound is c.in_ok-instance.instance c.in_ok-instance.ensures.is))
+    (published_rows found batches r stands sound is c.in_ok-instance.instance
+    c.in_ok-instance.ensures.is))
 
 pub returns-in_err-check_batches-clause-none : goal.returns-in_err-check_batches-clause-none
 returns-in_err-check_batches-clause-none c =

@@ -29,6 +29,7 @@ columns old new period room used capacity p r is_period is_room written =
 pub loop-exam-init : goal.loop-exam-init
 unfolding written_in
 loop-exam-init c =
-    let written = rw (c.laid_out.ensures, c.laid_out-2.ensures, c.laid_out-3.ensures, c.laid_out-4.ensures)
+    let written =
+    rw (c.laid_out.ensures, c.laid_out-2.ensures, c.laid_out-3.ensures, c.laid_out-4.ensures)
     at c.in_ok-write.ensures.bytes in
     columns _ _ _ _ c.args.used c.args.capacity _ _ c.get-period.ensures c.get-room.ensures written

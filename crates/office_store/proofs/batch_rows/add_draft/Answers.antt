@@ -8,7 +8,8 @@ pub returns-clause-added : goal.returns-clause-added
 returns-clause-added g c clean t held =
     let was : List DraftRow = c.args.drafts.now.items in
     let there : List DraftRow = filter (λ (r : DraftRow). eqb r.no c.args.number) t.draft in
-    let added : c.extend_from_slice.new.self.items ≡ was ++ c.in_ok-rows.rows.items = search rules in
+    let added : c.extend_from_slice.new.self.items ≡ was ++ c.in_ok-rows.rows.items =
+    search rules in
     subst (IsPermutation (was ++ there)) (sym added)
     (IsPermutation-append_right was there c.in_ok-rows.rows.items
     (c.in_ok-rows.ensures.rows clean t held))

@@ -8,7 +8,8 @@ pub returns-clause-added : goal.returns-clause-added
 returns-clause-added g c clean t held =
     let was : List SlotRow = c.args.slots.now.items in
     let there : List SlotRow = filter (λ (r : SlotRow). eqb r.draft c.args.number) t.slot in
-    let added : c.extend_from_slice.new.self.items ≡ was ++ c.in_ok-rows.rows.items = search rules in
+    let added : c.extend_from_slice.new.self.items ≡ was ++ c.in_ok-rows.rows.items =
+    search rules in
     subst (IsPermutation (was ++ there)) (sym added)
     (IsPermutation-append_right was there c.in_ok-rows.rows.items
     (c.in_ok-rows.ensures.rows clean t held))

@@ -3,4 +3,5 @@ use Rattle.office_records.specs.Stands.{slots_from}
 use Rattle.office_store.proofs.drafting.slot_rows.Given as goal
 
 abbrev pub invariant-loop-exam : goal.invariant-loop-exam
-invariant-loop-exam l = map (λ it. it.row) l.rows.items ≡ slots_from l.draft 0 (take l.exam l.timetable)
+invariant-loop-exam l =
+    map (λ it. it.row) l.rows.items ≡ slots_from l.draft 0 (take l.exam l.timetable)

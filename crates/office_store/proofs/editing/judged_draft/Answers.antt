@@ -21,7 +21,8 @@ returns-in_err-old-clause-told c r records here are =
     c.in_ok-parts.ensures.priced in
     let there = there_of c.args.number r c.in_ok-parts.parts told.0 told.1 in
     let places = places_there r c.args.instance.now c.args.enrolments.now here c.args.number
-    c.in_ok-parts.parts there records c.args.found.now.rows.items c.args.found.now.slots.items are in
+    c.in_ok-parts.parts there records c.args.found.now.rows.items
+    c.args.found.now.slots.items are in
     judge_failed c.args.number c.args.edit r c.from_residual-in_err-old.result
     c.in_err-old.field-0.0 c.from_residual-in_err-old.ensures.1
     (λ bad. c.in_err-old.ensures.none bad there.timetable

@@ -12,5 +12,8 @@ returns c =
     let is = dedup_is _ _ _ c.dedup.ensures.filtered in
     let sorted = c.sort_unstable.new.self.items in
     is_ascending c.args.found.items c.dedup.new.self.items
-    (rw is (λ i j l m. AllPairs-from_increasing _ (IsStrictlyIncreasing-dedup sorted c.sort_unstable.ensures.sorted) i j 0 l m))
-    (λ t. ap (λ xs. has_number xs t) is ∙ has_dedup sorted t ∙ sym (list_any-IsPermutation (λ x. eqb x t) c.args.found.items sorted c.sort_unstable.ensures.permutation))
+    (rw is (λ i j l m. AllPairs-from_increasing _
+    (IsStrictlyIncreasing-dedup sorted c.sort_unstable.ensures.sorted) i j 0 l m))
+    (λ t. ap (λ xs. has_number xs t) is ∙ has_dedup sorted t
+    ∙ sym (list_any-IsPermutation
+    (λ x. eqb x t) c.args.found.items sorted c.sort_unstable.ensures.permutation))

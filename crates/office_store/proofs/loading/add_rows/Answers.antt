@@ -19,7 +19,8 @@ loop-student-preserved c =
     let row : InsertEnrol → EnrolRow = λ it. it.row in
     let before = map row c.args.rows.now.items in
     let item : (d : ℕ) → c.get.result ≡ get_or xs i d
-    = λ d. c.get.ensures.number ∙ c.student-item.is ∙ get_or_default xs i _ d c.loop-student-test.true in
+    = λ d. c.get.ensures.number ∙ c.student-item.is
+    ∙ get_or_default xs i _ d c.loop-student-test.true in
     ap (map row) c.in_ok-push.ensures.items
     ∙ map-append row c.loop-student.rows.items
     (record { row = record { student = c.get.result; exam = e } } ∷ [])

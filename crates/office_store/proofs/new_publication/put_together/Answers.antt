@@ -12,7 +12,8 @@ use Rattle.office_store.proofs.new_publication.put_together.Goals as goal
 pub part_shares_put-requires : goal.part_shares_put-requires
 part_shares_put-requires c = record {
   few = subst HasFewParts (sym c.in_ok-shares.ensures.shares)
-      (few_parts c.args.instance.now c.args.rows.now c.args.timetable.now c.in_ok-text.ensures.instance);
+      (few_parts c.args.instance.now c.args.rows.now c.args.timetable.now
+      c.in_ok-text.ensures.instance);
   small = c.in_ok-shares.ensures.small;
 }
 

@@ -107,7 +107,8 @@ returns-clause-found g c clean tables =
     (λ db. IsFound FitsSeat seat_columns keyless (db.trees 8) c.in_ok-seats.seats)
     c.in_ok-seats.ensures.found clean_2 tables in
     let found_3 = found_after at_0 at_2 at_3 stays_2 c.adopt_student_shares.ensures.looks
-    (λ db. IsFound FitsStudentShare share_student_columns keyed (db.trees 11) c.in_ok-students.students)
+    (λ db. IsFound FitsStudentShare share_student_columns keyed (db.trees 11)
+    c.in_ok-students.students)
     c.in_ok-students.ensures.found clean_3 tables in
     let found_4 = found_after at_0 at_3 at_4 stays_3 c.adopt_part_shares.ensures.looks
     (λ db. IsFound FitsPartShare share_part_columns keyless (db.trees 12) c.in_ok-parts.parts)

@@ -11,5 +11,6 @@ returns-clause-makes g c clean inside =
     let old = state g.S.Store c.args.tx.now.conn.now in
     let new = state g.S.Store c.run.new.tx.conn.now in
     on_ok_weaker c.run.result
-    (λ ran. subst (λ s. Leads (IsBlank schema_9) (IsBlank s) old new) whole (makes _ _ _ old new batch_defined refl ran))
+    (λ ran. subst (λ s. Leads (IsBlank schema_9) (IsBlank s) old new) whole
+    (makes _ _ _ old new batch_defined refl ran))
     (c.run.ensures.ran clean inside)

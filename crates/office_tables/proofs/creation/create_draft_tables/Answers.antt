@@ -9,4 +9,5 @@ returns-clause-makes g c clean inside =
     let after_2 = state g.S.Store c.create_slot.new.tx.conn.now in
     let clean_1 = clean_before after_1 after_2 c.create_slot.ensures.within clean in
     let step_1 = c.in_ok-create_draft.ensures.makes clean_1 inside in
-    on_ok_weaker c.create_slot.result (λ last. (last.0, λ blank. last.1 (step_1.1 blank))) (c.create_slot.ensures.makes clean step_1.0)
+    on_ok_weaker c.create_slot.result (λ last. (last.0, λ blank. last.1 (step_1.1 blank)))
+    (c.create_slot.ensures.makes clean step_1.0)

@@ -15,4 +15,6 @@ returns-clause-makes g c clean inside =
     let step_1 = c.in_ok-create_placed.ensures.makes clean_1 inside in
     let step_2 = c.in_ok-create_seat.ensures.makes clean_2 step_1.0 in
     let step_3 = c.in_ok-create_share_student.ensures.makes clean_3 step_2.0 in
-    on_ok_weaker c.create_share_part.result (λ last. (last.0, λ blank. last.1 (step_3.1 (step_2.1 (step_1.1 blank))))) (c.create_share_part.ensures.makes clean step_3.0)
+    on_ok_weaker c.create_share_part.result
+    (λ last. (last.0, λ blank. last.1 (step_3.1 (step_2.1 (step_1.1 blank)))))
+    (c.create_share_part.ensures.makes clean step_3.0)

@@ -12,4 +12,6 @@ returns-clause-makes g c clean inside =
     let clean_1 = clean_before after_1 after_2 c.create_owner.ensures.within clean_2 in
     let step_1 = c.in_ok-create_meta.ensures.makes clean_1 inside in
     let step_2 = c.in_ok-create_owner.ensures.makes clean_2 step_1.0 in
-    on_ok_weaker c.create_enrol.result (λ last. (last.0, λ blank. last.1 (step_2.1 (step_1.1 blank)))) (c.create_enrol.ensures.makes clean step_2.0)
+    on_ok_weaker c.create_enrol.result
+    (λ last. (last.0, λ blank. last.1 (step_2.1 (step_1.1 blank))))
+    (c.create_enrol.ensures.makes clean step_2.0)

@@ -20,7 +20,8 @@ returns-in-Err g c wide made fit same =
 pub loop-row-preserved : goal.loop-row-preserved
 loop-row-preserved g c =
     let shown = columns_from 0 g.R.Record.WIDTH in
-    one_read g.R.Record.columns_of shown c.loop-row.records.items c.args.rows.now c.loop-row.row-index
+    one_read g.R.Record.columns_of shown c.loop-row.records.items c.args.rows.now
+    c.loop-row.row-index
     c.row-item.result c.in-Ok.record _ c.loop-row-test.true c.in_ok-push-in-Ok.ensures.items
     (c.in-Ok.ensures.columns ∙ ap shown c.row-item.is) c.loop-row.invariant
 

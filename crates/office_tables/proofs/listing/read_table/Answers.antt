@@ -51,7 +51,8 @@ returns-clause-found g c tree show lists clean tables =
     let whole = lists.whole old.now tables.schema (tables.live same.0.was_open).0 in
     let list = all_listed tree lists.terms _ old.now.trees rows
     (c.in_ok-rows.ensures.rows tree lists.terms _ lists.lists clean tables) in
-    let rising : IsTrue c.numbers_rise.result = let f = c.if-not-numbers_rise.false in search rules in
+    let rising : IsTrue c.numbers_rise.result =
+    let f = c.if-not-numbers_rise.false in search rules in
     let rise : ColumnRises width rows =
     subst₂ ColumnRises c.WIDTH.ensures c.deref.ensures.value (c.numbers_rise.ensures.0 rising) in
     IfOk-weaker c.read_each.result _ _

@@ -42,5 +42,6 @@ returns-clause-found g c clean tables =
     let first : row ≡ get_or rows 0 row = c.index.ensures in
     IfOk-weaker c.read_meta.result _ _
     (alone old.now tables.schema (tables.live same.0.was_open).0 rows
-    (all_listed 0 _ _ old.now.trees _ (c.in_ok-rows.ensures.rows 0 _ _ meta_is clean tables)) row (first_alone rows row long first))
+    (all_listed 0 _ _ old.now.trees _ (c.in_ok-rows.ensures.rows 0 _ _ meta_is clean tables)) row
+    (first_alone rows row long first))
     c.read_meta.ensures.ok

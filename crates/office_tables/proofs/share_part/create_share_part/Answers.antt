@@ -5,4 +5,5 @@ use Rattle.office_tables.proofs.share_part.create_share_part.Goals as goal
 
 pub returns-clause-makes : goal.returns-clause-makes
 returns-clause-makes g c clean inside =
-    on_ok_weaker c.run.result (makes _ _ _ _ _ share_part_defined refl) (c.run.ensures.ran clean inside)
+    on_ok_weaker c.run.result (makes _ _ _ _ _ share_part_defined refl)
+    (c.run.ensures.ran clean inside)

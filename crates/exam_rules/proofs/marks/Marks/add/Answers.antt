@@ -10,6 +10,7 @@ students-preserved c =
     let slots = c.students.self-inside.slots.items in
     let within : slot < length slots = omega (arith, c.students.invariant.count) in
     let read = get_or_read slots slot c.index.result.now within c.index.ensures 0 in
-    let here : c.index.result.now ≡ get_or slots (x % 65536) 0 = cc (read, c.get-in-students.ensures.number) in
+    let here : c.index.result.now ≡ get_or slots (x % 65536) 0 =
+    cc (read, c.get-in-students.ensures.number) in
     rw (here, c.get-in-students.ensures.number, c.get.ensures)
     (marked_more x c.students.invariant c.students-test.true c.student-item.is)

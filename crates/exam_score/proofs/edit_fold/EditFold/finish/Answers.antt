@@ -15,37 +15,65 @@ folded c =
     let f = c.self.inside in
     record { instance = f.instance.now; earlier = f.earlier.now; later = f.later.now; edited = f.edited.now; count = f.count; before = f.before; after = f.after; current = pairs_sat f.student f.exams.items }
 
-goes_is : (c : goal.After-drop-self-inside) → c.edit_share-goes.result ≡ going c.args.self c.args.sizes.now
+goes_is : (c : goal.After-drop-self-inside)
+    → c.edit_share-goes.result ≡ going c.args.self c.args.sizes.now
 goes_is c =
     let f = c.self.inside in
     let fold : Folded = folded c in
-    let students : c.plus-before.result ≡ plus f.before (personal_sum f.instance.now f.earlier.now f.edited.now (pairs_sat f.student f.exams.items))
-    = c.plus-before.ensures ∙ ap (plus f.before) (c.personal_at-before.ensures.sum ∙ ap (personal_at f.instance.now f.earlier.now f.edited.now) c.deref.ensures.value
-    ∙ sum_of_student f.instance.now f.earlier.now f.edited.now f.student f.exams.items (λ none. (c.self.invariant.started none).1)) in
+    let students : c.plus-before.result
+    ≡ plus f.before
+    (personal_sum f.instance.now f.earlier.now f.edited.now (pairs_sat f.student f.exams.items))
+    = c.plus-before.ensures
+    ∙ ap (plus f.before) (c.personal_at-before.ensures.sum
+    ∙ ap (personal_at f.instance.now f.earlier.now f.edited.now) c.deref.ensures.value
+    ∙ sum_of_student f.instance.now f.earlier.now f.edited.now f.student f.exams.items
+    (λ none. (c.self.invariant.started none).1)) in
     c.edit_share-goes.ensures
-    ∙ ap (edit_share f.instance.now f.earlier.now f.edited.now (is_touched f.edited.now f.earlier.now f.later.now) c.args.sizes.now) students
+    ∙ ap (edit_share f.instance.now f.earlier.now f.edited.now
+    (is_touched f.edited.now f.earlier.now f.later.now) c.args.sizes.now) students
     ∙ ap (λ v. going v c.args.sizes.now) c.self.view_is
 
-comes_is : (c : goal.After-drop-self-inside) → c.edit_share-comes.result ≡ coming c.args.self c.args.sizes.now
+comes_is : (c : goal.After-drop-self-inside)
+    → c.edit_share-comes.result ≡ coming c.args.self c.args.sizes.now
 comes_is c =
     let f = c.self.inside in
     let fold : Folded = folded c in
-    let students : c.plus-after.result ≡ plus f.after (personal_sum f.instance.now f.later.now f.edited.now (pairs_sat f.student f.exams.items))
-    = c.plus-after.ensures ∙ ap (plus f.after) (c.personal_at-after.ensures.sum ∙ ap (personal_at f.instance.now f.later.now f.edited.now) c.deref-2.ensures.value
-    ∙ sum_of_student f.instance.now f.later.now f.edited.now f.student f.exams.items (λ none. (c.self.invariant.started none).1)) in
+    let students : c.plus-after.result
+    ≡ plus f.after
+    (personal_sum f.instance.now f.later.now f.edited.now (pairs_sat f.student f.exams.items))
+    = c.plus-after.ensures
+    ∙ ap (plus f.after) (c.personal_at-after.ensures.sum
+    ∙ ap (personal_at f.instance.now f.later.now f.edited.now) c.deref-2.ensures.value
+    ∙ sum_of_student f.instance.now f.later.now f.edited.now f.student f.exams.items
+    (λ none. (c.self.invariant.started none).1)) in
     c.edit_share-comes.ensures
-    ∙ ap (edit_share f.instance.now f.later.now f.edited.now (is_touched f.edited.now f.earlier.now f.later.now) c.args.sizes.now) students
+    ∙ ap (edit_share f.instance.now f.later.now f.edited.now
+    (is_touched f.edited.now f.earlier.now f.later.now) c.args.sizes.now) students
     ∙ ap (λ v. coming v c.args.sizes.now) c.self.view_is
 
-made_is : (c : goal.After-drop-self-inside) → IfSome c.exchange.result (IsExchanged c.args.old_parts (going c.args.self c.args.sizes.now) (coming c.args.self c.args.sizes.now))
+made_is : (c : goal.After-drop-self-inside)
+    → IfSome c.exchange.result
+    (IsExchanged c.args.old_parts (going c.args.self c.args.sizes.now)
+    (coming c.args.self c.args.sizes.now))
 made_is c =
-    subst (λ goes. IfSome c.exchange.result (IsExchanged c.args.old_parts goes (coming c.args.self c.args.sizes.now))) (goes_is c)
-    (subst (λ comes. IfSome c.exchange.result (IsExchanged c.args.old_parts c.edit_share-goes.result comes)) (comes_is c) c.exchange.ensures.made)
+    subst (λ goes. IfSome c.exchange.result
+    (IsExchanged c.args.old_parts goes (coming c.args.self c.args.sizes.now)))
+    (goes_is c)
+    (subst (λ comes. IfSome c.exchange.result
+    (IsExchanged c.args.old_parts c.edit_share-goes.result comes))
+    (comes_is c) c.exchange.ensures.made)
 
-none_is : (c : goal.After-drop-self-inside) → IfNone c.exchange.result (CannotExchange c.args.old_parts (going c.args.self c.args.sizes.now) (coming c.args.self c.args.sizes.now))
+none_is : (c : goal.After-drop-self-inside)
+    → IfNone c.exchange.result
+    (CannotExchange c.args.old_parts (going c.args.self c.args.sizes.now)
+    (coming c.args.self c.args.sizes.now))
 none_is c =
-    subst (λ goes. IfNone c.exchange.result (CannotExchange c.args.old_parts goes (coming c.args.self c.args.sizes.now))) (goes_is c)
-    (subst (λ comes. IfNone c.exchange.result (CannotExchange c.args.old_parts c.edit_share-goes.result comes)) (comes_is c) c.exchange.ensures.none)
+    subst (λ goes. IfNone c.exchange.result
+    (CannotExchange c.args.old_parts goes (coming c.args.self c.args.sizes.now)))
+    (goes_is c)
+    (subst (λ comes. IfNone c.exchange.result
+    (CannotExchange c.args.old_parts c.edit_share-goes.result comes))
+    (comes_is c) c.exchange.ensures.none)
 
 pub returns-clause-scored : goal.returns-clause-scored
 returns-clause-scored c = λ E pairs h is.

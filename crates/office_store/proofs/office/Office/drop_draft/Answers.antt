@@ -30,7 +30,8 @@ invariant_of-self-2 g c = (
       c.self.invariant.1 c.put.ensures.clean
       (λ k. (c.in_ok-put.ensures.done k).was_open)
       (λ k. drop_moves c.args.number c.in_ok-rows.rows.items _ c.in_ok-rows.rows.ok.0 _
-      (seen g.S.Store c.drafts.new.self c.self.inside.conn c.self.view_is _ c.in_ok-rows.ensures.rows
+      (seen g.S.Store c.drafts.new.self c.self.inside.conn c.self.view_is _
+      c.in_ok-rows.ensures.rows
       (c.put.ensures.clean k))
       c.self.inside.kept _ c.if-is_none.ensures c.if-is_empty.ensures
       (c.in_ok-put.ensures.done k).makes),

@@ -58,9 +58,11 @@ invariant_of-self-2 g c =
           (state g.S.Store c.put.new.conn) c.self.inside.kept c.self.inside.kept
           c.total.result c.self.invariant.1 c.put.ensures.clean
           (λ k. (c.in_ok-put.ensures.done k).was_open)
-          (λ k. edit_moves g.S.Store c.draft_rows.new.self c.edited_draft.new.self c.self.inside.conn
+          (λ k. edit_moves g.S.Store c.draft_rows.new.self c.edited_draft.new.self
+          c.self.inside.conn
           c.self.view_is c.args.number c.args.edit c.put.new.conn c.self.inside.kept
-          (c.in_ok-timetable.timetable, c.in_ok-timetable.parts) c.draft_row-row.result c.total.result
+          (c.in_ok-timetable.timetable, c.in_ok-timetable.parts)
+          c.draft_row-row.result c.total.result
           c.deref.result.now c.deref-2.result.now
           (λ k. c.in_ok-found.ensures.awake (c.edited_draft.ensures.clean k))
           c.edited_draft.ensures.still

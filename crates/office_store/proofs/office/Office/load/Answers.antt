@@ -33,7 +33,8 @@ returns-clause-runs g c =
     (λ k. load_moves c.args.text.now I E c.counts_of-loaded.result c.deref.result.now
     c.deref-2.result.now _ _ c.self.inside.kept c.in-Ok.ensures.exact
     c.counts_of-loaded.ensures.counts (c.deref.ensures.value ∙ c.in_ok-stored.ensures.text)
-    (ap (map (λ (it : InsertEnrol). it.row)) c.deref-2.ensures.value ∙ c.in_ok-rows.ensures) c.counts_of-loaded.ensures.instance are no
+    (ap (map (λ (it : InsertEnrol). it.row)) c.deref-2.ensures.value ∙ c.in_ok-rows.ensures)
+    c.counts_of-loaded.ensures.instance are no
     (c.in_ok-put.ensures.done k).makes)
 
 pub invariant_of-self-2 : goal.invariant_of-self-2

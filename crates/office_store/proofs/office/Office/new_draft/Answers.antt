@@ -37,7 +37,8 @@ pub returns-in_err-parts-clause-runs : goal.returns-in_err-parts-clause-runs
 returns-in_err-parts-clause-runs g c =
     let given = err_from_is_err_and c.from_residual-in_err-parts.result
     c.from_residual-in_err-parts.ensures.1 in
-    subst (Runs g.S.Store (draft_made c.args.number c.args.text.now) c.args.self.now c.drafts.new.self)
+    subst (Runs g.S.Store (draft_made c.args.number c.args.text.now) c.args.self.now
+    c.drafts.new.self)
     (sym (given.1 ∙ ap Err given.2))
     (refuses g.S.Store (draft_made c.args.number c.args.text.now) c.args.self.now c.drafts.new.self
     c.self.inside.conn c.self.inside.kept c.self.view_is c.self.invariant.1
@@ -55,7 +56,8 @@ invariant_of-self-2 g c = (
       c.self.invariant.1 c.put.ensures.clean
       (λ k. (c.in_ok-put.ensures.done k).was_open)
       (λ k. made_moves c.args.number c.in_ok-rows.rows.items _ c.in_ok-rows.rows.ok.0 _
-      (seen g.S.Store c.drafts.new.self c.self.inside.conn c.self.view_is _ c.in_ok-rows.ensures.rows
+      (seen g.S.Store c.drafts.new.self c.self.inside.conn c.self.view_is _
+      c.in_ok-rows.ensures.rows
       (c.put.ensures.clean k))
       c.self.inside.kept c.args.text.now c.in-Some.instance c.in-Some.enrolments c.in-Some.is
       c.if-not-is_draft_number.ensures c.if-not-is_empty.ensures _ c.in_ok-parts.parts

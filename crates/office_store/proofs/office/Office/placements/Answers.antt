@@ -18,7 +18,8 @@ invariant_of-self g c = (
 
 pub returns-clause-rows : goal.returns-clause-rows
 returns-clause-rows g c clean office here =
-    let kept = kept_read (state g.S.Store c.self.inside.conn) (state g.S.Store c.placements.new.conn)
+    let kept = kept_read (state g.S.Store c.self.inside.conn)
+    (state g.S.Store c.placements.new.conn)
     c.self.inside.kept c.self.invariant.1
     (λ k. omega (arith, c.placements.ensures.survives.clean, k))
     (c.is_autocommit-at_rest.ensures.settled

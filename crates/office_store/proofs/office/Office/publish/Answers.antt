@@ -11,7 +11,8 @@ use Rattle.office_store.proofs.office.Office.publish.Goals as goal
 pub returns-in_default-clause-runs : goal.returns-in_default-clause-runs
 returns-in_default-clause-runs g c =
     refuses g.S.Store (draft_published c.args.number) c.args.self.now
-    c.publishing_rows.new.self c.self.inside.conn c.self.inside.kept c.self.view_is c.self.invariant.1
+    c.publishing_rows.new.self c.self.inside.conn c.self.inside.kept c.self.view_is
+    c.self.invariant.1
     c.in_ok-draft.ensures.awake c.in_ok-draft.ensures.still NotLoaded
     (λ _. not_loaded (draft_published c.args.number) _ _ c.in_default.is refl)
 
@@ -22,7 +23,8 @@ returns-in_err-new-clause-runs g c =
     subst (Runs g.S.Store (draft_published c.args.number) c.args.self.now
     c.publishing_rows.new.self) (sym is)
     (refuses g.S.Store (draft_published c.args.number) c.args.self.now
-    c.publishing_rows.new.self c.self.inside.conn c.self.inside.kept c.self.view_is c.self.invariant.1
+    c.publishing_rows.new.self c.self.inside.conn c.self.inside.kept c.self.view_is
+    c.self.invariant.1
     c.in_ok-draft.ensures.awake c.in_ok-draft.ensures.still fault
     (λ k. publish_denied c.in-Some.instance c.in-Some.enrolments c.args.number _ _ _ _ _
     c.self.inside.kept c.in-Some.is (c.in_ok-draft.ensures.draft k)

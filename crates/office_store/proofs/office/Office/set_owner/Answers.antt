@@ -12,7 +12,8 @@ pub returns-in_default-clause-runs : goal.returns-in_default-clause-runs
 returns-in_default-clause-runs g c =
     refuses g.S.Store (owned c.args.exam c.args.dept) c.args.self.now c.look.new.self
     c.self.inside.conn c.self.inside.kept c.self.view_is c.self.invariant.1
-    c.in_ok-look.ensures.awake (stays_by g.S.Store c.args.self.now c.look.new.self c.in_ok-look.ensures.still) NotLoaded
+    c.in_ok-look.ensures.awake
+    (stays_by g.S.Store c.args.self.now c.look.new.self c.in_ok-look.ensures.still) NotLoaded
     (λ _. not_loaded (owned c.args.exam c.args.dept) _ _ c.in_default.is refl)
 
 pub returns-then-get-exams-clause-runs : goal.returns-then-get-exams-clause-runs
@@ -21,8 +22,11 @@ returns-then-get-exams-clause-runs g c =
     = omega (arith, c.exams.ensures.count, c.if-get-exams.true) in
     refuses g.S.Store (owned c.args.exam c.args.dept) c.args.self.now c.look.new.self
     c.self.inside.conn c.self.inside.kept c.self.view_is c.self.invariant.1
-    c.in_ok-look.ensures.awake (stays_by g.S.Store c.args.self.now c.look.new.self c.in_ok-look.ensures.still) (Refused (Edit NoSuch))
-    (λ _. no_exam_denied _ _ c.in-Some.instance c.in-Some.field-0-1 c.in-Some.is c.args.exam c.args.dept
+    c.in_ok-look.ensures.awake
+    (stays_by g.S.Store c.args.self.now c.look.new.self c.in_ok-look.ensures.still)
+    (Refused (Edit NoSuch))
+    (λ _. no_exam_denied _ _ c.in-Some.instance c.in-Some.field-0-1 c.in-Some.is
+    c.args.exam c.args.dept
     none)
 
 pub returns-clause-runs : goal.returns-clause-runs
@@ -31,10 +35,12 @@ returns-clause-runs g c =
     = omega (arith, c.exams.ensures.count, c.if-get-exams.false, c.get.ensures) in
     runs g.S.Store (owned c.args.exam c.args.dept) c.args.self.now c.look.new.self
     c.self.inside.conn c.self.inside.kept c.self.view_is c.self.invariant.1
-    c.in_ok-look.ensures.awake (stays_by g.S.Store c.args.self.now c.look.new.self c.in_ok-look.ensures.still)
+    c.in_ok-look.ensures.awake
+    (stays_by g.S.Store c.args.self.now c.look.new.self c.in_ok-look.ensures.still)
     c.put.new.conn c.self.inside.kept tt c.put.ensures.clean
     (λ k. owner_moves _ _ c.in-Some.instance c.in-Some.field-0-1 c.in-Some.is c.args.exam
-    c.args.dept _ exists c.requires.dept c.get-exam.result c.get-exam.ensures c.new_owner.result c.new_owner.ensures
+    c.args.dept _ exists c.requires.dept c.get-exam.result c.get-exam.ensures c.new_owner.result
+    c.new_owner.ensures
     (c.in_ok-put.ensures.done k).makes)
 
 pub invariant_of-self-2 : goal.invariant_of-self-2
@@ -47,7 +53,8 @@ invariant_of-self-2 g c =
           c.self.invariant.1 c.put.ensures.clean
           (λ k. (c.in_ok-put.ensures.done k).was_open)
           (λ k. owner_moves _ _ c.in-Some.instance c.in-Some.field-0-1 c.in-Some.is c.args.exam
-          c.args.dept _ exists c.requires.dept c.get-exam.result c.get-exam.ensures c.new_owner.result c.new_owner.ensures
+          c.args.dept _ exists c.requires.dept c.get-exam.result c.get-exam.ensures
+          c.new_owner.result c.new_owner.ensures
           (c.in_ok-put.ensures.done k).makes),
       c.self.invariant.2,
     )

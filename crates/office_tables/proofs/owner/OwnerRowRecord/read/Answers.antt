@@ -14,7 +14,8 @@ pub returns-in_err-get-2-clause-refused : goal.returns-in_err-get-2-clause-refus
 returns-in_err-get-2-clause-refused c =
     refuses c.args.row.now owner_columns FitsOwner 2 1 (omega arith) IsNarrow
     (λ made fits same. (made.dept, sym (ap (λ (l : Row). column l 1) same), fits.1))
-    c.from_residual-in_err-get-2.result _ c.from_residual-in_err-get-2.ensures.1 c.in_err-get-2.ensures.kind
+    c.from_residual-in_err-get-2.result _ c.from_residual-in_err-get-2.ensures.1
+    c.in_err-get-2.ensures.kind
 
 pub returns-clause-columns : goal.returns-clause-columns
 returns-clause-columns c =

@@ -7,5 +7,6 @@ pub returns-clause-makes : goal.returns-clause-makes
 returns-clause-makes g c clean inside =
     let old = state g.S.Store c.args.tx.now.conn.now in
     let new = state g.S.Store c.run.new.tx.conn.now in
-    changes_by _ _ _ old new c.run.result (deleted old new c.args.self.now.draft c.args.self.now.exam)
+    changes_by _ _ _ old new c.run.result
+    (deleted old new c.args.self.now.draft c.args.self.now.exam)
     (rw (c.params-to_sql.ensures, c.params-to_sql-2.ensures) at (c.run.ensures.ran clean inside))
