@@ -20,9 +20,9 @@ returns-clause-exact c =
     let exams = c.in_ok-exams.ensures.found in
     let many : length exams.0 ≡ c.len.result = omega (arith, length-map exams.0 exam_of, ap length exams.2) in
     let first : section_in exams_heading exam_line (line_count text + 1) (lines_of text)
-        ≡ Ok (exams.0, c.exams_section.new.sections.lines)
-        = rw (c.new-sections.ensures.source, c.new-sections.ensures.lines) at exams.1 in
+    ≡ Ok (exams.0, c.exams_section.new.sections.lines)
+    = rw (c.new-sections.ensures.source, c.new-sections.ensures.lines) at exams.1 in
     let later = rw (c.in_ok-exams.ensures.same, c.new-sections.ensures.source)
-        at (c.in_ok-said.ensures.found exams.0 many) in
+    at (c.in_ok-said.ensures.found exams.0 many) in
     rw (c.instance_of.ensures.made, exams.2, exams.3)
     (sections_are_read text exams.0 _ _ c.requires.within first later)
