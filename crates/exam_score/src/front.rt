@@ -98,7 +98,7 @@ fn count_larger(sizes: &[u32], size: u32) -> u32
     count
 }
 
-// The number of each exam's students.
+/// The number of each exam's students.
 pub fn sizes_of(alloc: Global, enrolments: &Enrolments) -> Result<Vec<u32>, AllocError>
     ensures { IfOk result (λ sizes. AreSizes enrolments.now sizes.items) }
 {
