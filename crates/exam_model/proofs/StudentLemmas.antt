@@ -9,7 +9,7 @@ use Rattle.std.proofs.lemmas.List.Elements.{filter_agree}
 use Rattle.exam_model.specs.Changes.{with_student, without_student, with_pair, without_pair, exams_sat}
 use Rattle.exam_model.specs.Enrolments.{Enrolled, IsAscending, has_number, students, has}
 use Rattle.exam_model.specs.StudentLists.{Enters, Leaves}
-use Rattle.exam_model.proofs.SameSet.{same_list}
+use Rattle.exam_model.proofs.SameSet.{same_list, tail_ascends}
 
 pub or_twice : (a r : Bool) → (a || r) ≡ (a || (a || r))
 or_twice true r = refl
@@ -85,9 +85,6 @@ ascending_cons x xs above up i zero lt within = absurd (omega arith)
 ascending_cons x xs above up zero (suc j) lt within = above j (omega arith)
 ascending_cons x xs above up (suc i) (suc j) lt within = up i j (omega arith) (omega arith)
 
-pub ascending_tail : (x : ℕ) (xs : List ℕ) → IsAscending (x ∷ xs) → IsAscending xs
-ascending_tail x xs up i j lt within = up (suc i) (suc j) (omega arith) (omega arith)
-
 pub above_first : (x : ℕ) (xs : List ℕ) → IsAscending (x ∷ xs) → Above x xs
 above_first x xs up k within = up 0 (suc k) (omega arith) (omega arith)
 
@@ -102,7 +99,7 @@ pub ascending-with : (s : ℕ) (xs : List ℕ) → IsAscending xs → IsAscendin
 ascending-with s [] up = ascending_cons s [] (λ k within. absurd (omega arith)) up
 ascending-with s (u ∷ us) up =
     let above = above_first u us up in
-    let others = ascending-with s us (ascending_tail u us up) in
+    let others = ascending-with s us (tail_ascends u us up) in
     with_cases s u us IsAscending
     (λ before.
     ascending_cons s (u ∷ us) (above_cons s u us before (above_less s u us before above)) up)
@@ -148,7 +145,7 @@ above_without x s (u ∷ us) above =
 pub ascending-without : (s : ℕ) (xs : List ℕ) → IsAscending xs → IsAscending (without_student s xs)
 ascending-without s [] up = up
 ascending-without s (u ∷ us) up =
-    let others = ascending-without s us (ascending_tail u us up) in
+    let others = ascending-without s us (tail_ascends u us up) in
     elim (u == s)
     as (λ b. IsAscending (if not b then u ∷ without_student s us else without_student s us)) [
       | true ↦ others

@@ -24,6 +24,7 @@ use Rattle.exam_score.specs.Stays.{is_stay, StayExists, AreStays}
 use Rattle.exam_score.specs.declared.mixed.Stay.{Stay}
 use Rattle.exam_publish.specs.Durations.{is_in_slot, AreDurations}
 use Rattle.exam_publish.specs.Tallies.{AreTallied}
+use Rattle.exam_publish.proofs.ListLemmas.{alike}
 use Rattle.exam_model.proofs.PlaceLemmas.{slot_within}
 
 -- ---- the order of the stays
@@ -101,12 +102,6 @@ any_dedup p xs =
         let any = Any-from_list_any p xs h in
         let there = keeps any.1 (any.0, any.2, any.3) in
         list_any_at p ys there.0 any.1 there.1 (ap p there.2 ∙ any.4)
-
-    alike : (a b : Bool) → (a ≡ true → b ≡ true) → (b ≡ true → a ≡ true) → a ≡ b
-    alike true true h k = refl
-    alike true false h k = sym (h refl)
-    alike false true h k = k refl
-    alike false false h k = refl
 
 -- stays of which none is there twice, and each that any exam has
 pub record AreKinds (I : Session) (T : Placing) (kinds : List Stay) : Type 0 where

@@ -120,6 +120,12 @@ pub is_ascending : (xs ys : List ℕ) → IsAscending ys → ((t : ℕ) → has_
 is_ascending xs ys up same =
     same_list ys (ascending xs) up (ascends xs) (λ t. same t ∙ sym (has_ascending xs t))
 
+-- two tests that follow from one another
+pub alike : (a b : Bool) → (a ≡ true → b ≡ true) → (b ≡ true → a ≡ true) → a ≡ b
+alike true b h k = sym (h refl)
+alike false true h k = k refl
+alike false false h k = refl
+
 -- what is left without repeats has each number
 pub has_dedup : (xs : List ℕ) (t : ℕ) → has_number (dedup nat_eq xs) t ≡ has_number xs t
 has_dedup xs t =
@@ -133,9 +139,3 @@ has_dedup xs t =
         let any = Any-from_list_any (λ x. eqb x t) xs h in
         let there = keeps any.1 (any.0, any.2, any.3) in
         list_any_at (λ x. eqb x t) ys there.0 any.1 there.1 (ap (λ x. eqb x t) there.2 ∙ any.4)
-
-    alike : (a b : Bool) → (a ≡ true → b ≡ true) → (b ≡ true → a ≡ true) → a ≡ b
-    alike true true h k = refl
-    alike true false h k = sym (h refl)
-    alike false true h k = k refl
-    alike false false h k = refl

@@ -85,8 +85,8 @@ fn push_students(found: &mut Vec<StudentNo>, rows: &[SeatRow]) -> Result<(), All
     Ok(())
 }
 
-// The students in order, each once.
-fn in_order(mut found: Vec<StudentNo>) -> Vec<StudentNo>
+/// The students in order, each once.
+pub fn in_order(mut found: Vec<StudentNo>) -> Vec<StudentNo>
     ensures { result.items ≡ ascending found.items }
 {
     found.sort_unstable();

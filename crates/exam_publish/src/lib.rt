@@ -17,11 +17,11 @@ mod sharing;
 mod student_shares;
 mod sums;
 
-pub use comparison::changed;
+pub use comparison::{changed, in_order};
 pub use fault::PublishFault;
 pub use laws::{numbered_at_first, seated_as_enrolled, shares_add_up, unchanged_share_stays};
 pub use permission::permit;
 pub use seat_row::SeatRow;
 pub use seating::seats;
 pub use share_lists::{RoomShare, Shares};
-pub use sharing::shares;
+pub use sharing::{shares, tell_numbers};

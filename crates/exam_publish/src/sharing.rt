@@ -44,8 +44,8 @@ pub fn shares(
     Ok(Shares::of(students, exams, periods, rooms))
 }
 
-// Reads the students' numbers for their limit, and does nothing.
-fn tell_numbers(rows: &[SeatRow])
+/// Reads the students' numbers for their limit, and does nothing.
+pub fn tell_numbers(rows: &[SeatRow])
     ensures { AreNumbered rows.now }
 {
     'rows: for row in rows {

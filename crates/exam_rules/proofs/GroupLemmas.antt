@@ -11,7 +11,8 @@ use Rattle.exam_terms.specs.declared.place.Place.{Place}
 use Rattle.exam_rules.specs.Places.{PlaceExists, where_placed, where_both, is_one_place, in_one_period, in_one_place}
 use Rattle.exam_model.specs.Enrolments.{has_number}
 use Rattle.exam_rules.specs.Groups.{stands_in, AreGroups}
-use Rattle.exam_rules.proofs.MemberLemmas.{and_false}
+use Rattle.exam_rules.proofs.MemberLemmas.{and_false, same_tests}
+use Rattle.exam_rules.proofs.NamingLemmas.{and_swap}
 use Rattle.exam_rules.proofs.PlaceLemmas.{placed_exists, its_place_exists}
 
 -- a complete group has just the exams that stand in its period
@@ -66,17 +67,11 @@ one_place_group {T} {periods} {n} {groups} are same k q placed within e f =
         ∙ place_period (place_of T f)
         ∙ sym (ap (λ o. stands_in T q.period f && where_both is_one_place o (place_of T f)) placed)
 
-    moved : (a b c : Bool) → (a && (b && c)) ≡ (b && (a && c))
-    moved true true c = refl
-    moved true false c = refl
-    moved false true c = refl
-    moved false false c = refl
-
     at : (b : Bool) → (k == e) ≡ b
         → (stands_in T q.period f && (b && (not (e == f) && in_one_place T e f)))
         ≡ (b && (not (e == f) && in_one_place T e f))
     at true is =
-        moved (stands_in T q.period f) (not (e == f)) (in_one_place T e f)
+        and_swap (stands_in T q.period f) (not (e == f)) (in_one_place T e f)
         ∙ ap (λ b. not (e == f) && b)
         (sym (subst (λ m. in_one_place T m f ≡ (stands_in T q.period f && in_one_place T m f))
         (eqb-true k e is) here))
@@ -93,12 +88,6 @@ no_place T k unplaced e f = at (k == e) refl
         ∙ ap (λ o. not (e == f) && where_both is_one_place o (place_of T f)) unplaced
         ∙ and_false (not (e == f)))
     at false is = refl
-
--- two tests that follow from one another
-same_tests : (a b : Bool) → (a ≡ true → b ≡ true) → (b ≡ true → a ≡ true) → a ≡ b
-same_tests true b h k = sym (h refl)
-same_tests false true h k = k refl
-same_tests false false h k = refl
 
 -- exams that stand in period k stand in one period
 one_period : (k : ℕ) (p q : Option Place) → where_placed (λ x. k == x.period) p ≡ true

@@ -120,10 +120,16 @@ any_rows e f others exams =
     (λ k. (k == e) && list_any (λ x. x == f) (others k)) (λ k. any_row e f k (others k)) exams
     ∙ any_at e (λ k. list_any (λ x. x == f) (others k)) exams
 
+-- two tests that follow from one another
+pub same_tests : (a b : Bool) → (a ≡ true → b ≡ true) → (b ≡ true → a ≡ true) → a ≡ b
+same_tests true b h k = sym (h refl)
+same_tests false true h k = k refl
+same_tests false false h k = refl
+
 -- what is left of a list without its repeats passes where the list does
 pub any_dedup : (p : ℕ → Bool) (xs : List ℕ) → list_any p (dedup nat_eq xs) ≡ list_any p xs
 any_dedup p xs =
-    same (list_any p (dedup nat_eq xs)) (list_any p xs)
+    same_tests (list_any p (dedup nat_eq xs)) (list_any p xs)
     (λ h. moved (dedup nat_eq xs) xs (λ x there. Contains-from_dedup nat_eq xs x there) h)
     (λ h. moved xs (dedup nat_eq xs) (λ x there. Contains-dedup_nat xs x there) h)
   where
@@ -133,9 +139,3 @@ any_dedup p xs =
         let any = Any-from_list_any p xs h in
         let there = keeps any.1 (any.0, any.2, any.3) in
         list_any_at p ys there.0 any.1 there.1 (ap p there.2 ∙ any.4)
-
-    same : (a b : Bool) → (a ≡ true → b ≡ true) → (b ≡ true → a ≡ true) → a ≡ b
-    same true true h k = refl
-    same true false h k = sym (h refl)
-    same false true h k = k refl
-    same false false h k = refl

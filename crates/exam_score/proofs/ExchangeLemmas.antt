@@ -3,7 +3,6 @@ use Rattle.std.specs.List.{AllByRecursion, list_any}
 use Rattle.std.proofs.Common.{◌≡◌, ℕ, zero, suc, ◌+◌, ◌-◌, ◌*◌, ◌^◌, ◌<◌, Bool, true, false, cond, not, ◌&&◌, ◌||◌, eqb, List, [], ◌∷◌, ◌++◌, length, filter, sum_by, Option, Some, None, IfSome, IfNone, IsPermutation, refl, sym, ◌∙◌, ap, ap₂, arith, ne_eqb, eq-eqb, eqb-true, true≢false}
 use Rattle.std.specs.Prelude.{nat_lt, slice_get}
 use Rattle.std.proofs.lemmas.Bool.{cond-false, or_parts}
-use Rattle.std.proofs.lemmas.Bool.Decides.{nat_tests}
 use Rattle.std.proofs.lemmas.List.Filters.{sum_by-filter_both}
 use Rattle.exam_terms.specs.declared.place.Place.{Place}
 use Rattle.exam_model.specs.Enrolments.{Enrolled, AreEnrolments, has, has_number}
@@ -29,7 +28,7 @@ use Rattle.exam_score.specs.Track.{duration_count, durations, exam_front, exam_p
 use Rattle.exam_score.proofs.EditedLemmas.{between_none, between_swap}
 use Rattle.exam_score.proofs.FoldLemmas.{others_each, sum_apart}
 use Rattle.exam_score.proofs.FrontLemmas.{front_by_sizes}
-use Rattle.exam_score.proofs.PairsLemmas.{by_placed, part_of_rows}
+use Rattle.exam_score.proofs.PairsLemmas.{by_placed, eqb-swap, part_of_rows}
 use Rattle.exam_score.proofs.RegroupingLemmas.{later_cost}
 use Rattle.exam_score.proofs.SmallLemmas.{penalty_small}
 
@@ -163,9 +162,6 @@ sat_each E known =
     (there_each (pairs_of E))
 
 -- ---- the pairs of the students who are concerned
-
-eqb-swap : (a b : ℕ) → eqb a b ≡ eqb b a
-eqb-swap a b = grind (arith, nat_tests)
 
 picked_none : (b : Bool) (n : ℕ) → n ≡ 0 → cond b n 0 ≡ 0
 picked_none true n h = h

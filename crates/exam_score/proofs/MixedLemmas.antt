@@ -20,6 +20,7 @@ use Rattle.exam_model.proofs.SumLemmas.{IsChain, chain_from_index, each_weaker, 
 use Rattle.exam_score.specs.Track.{duration_count, minutes_of, is_at, lasts, lasting, mixed_part}
 use Rattle.exam_score.specs.Stays.{is_stay, StayExists, AreStays, NotAfter, next_differs, further}
 use Rattle.exam_score.specs.declared.mixed.Stay.{Stay}
+use Rattle.exam_score.proofs.WalkLemmas.{none_or}
 
 -- ---- one exam more
 
@@ -246,11 +247,7 @@ next_same x y ys a b c =
     let some : 0 < count_by (is_stay x.period x.room x.minutes) (y ∷ ys) = omega arith in
     ap (λ b. cond (nat_lt 0 (stay_durations (y ∷ ys) x.period x.room)) (cond b 0 1) 0)
     (lt-ltb 0 _ some)
-    ∙ nothing (nat_lt 0 (stay_durations (y ∷ ys) x.period x.room))
-  where
-    nothing : (b : Bool) → ◌≡◌ {A = ℕ} (cond b 0 0) 0
-    nothing true = refl
-    nothing false = refl
+    ∙ none_or (nat_lt 0 (stay_durations (y ∷ ys) x.period x.room))
 
 -- of one place and another duration: then it is a further one
 next_further : (x y : Stay) (ys : List Stay) → NotAfter x y → AllByRecursion (NotAfter y) ys

@@ -1,6 +1,6 @@
 -- The sum over pairs of exams is the sum over rows of placed exams, and over tallies of them.
 use Rattle.std.specs.List.{cons_option}
-use Rattle.std.proofs.Common.{◌≡◌, ℕ, ◌+◌, ◌*◌, ◌≤◌, Bool, true, false, cond, eqb, List, [], ◌∷◌, length, Some, None, option_map, sum_by, filter_map, refl, sym, ◌∙◌, ap, ap₂, arith, zero-add, mul-zero, zero-mul}
+use Rattle.std.proofs.Common.{◌≡◌, ℕ, ◌+◌, ◌*◌, ◌≤◌, cond, eqb, List, [], ◌∷◌, length, Some, None, option_map, sum_by, filter_map, refl, sym, ◌∙◌, ap, ap₂, arith, zero-add, mul-zero, zero-mul}
 use Rattle.std.proofs.Math.Nat.{mul_comm, mul_assoc}
 use Rattle.std.proofs.lemmas.List.Sums.{sum_by-cons}
 use Rattle.std.proofs.lemmas.Bool.Decides.{nat_tests}
@@ -22,13 +22,9 @@ use Rattle.exam_score.specs.declared.tallies.Tally.{Tally}
 use Rattle.exam_score.proofs.RegroupingLemmas.{later_cost, part_by_rows}
 use Rattle.exam_score.proofs.RowLemmas.{rows_few}
 use Rattle.exam_score.proofs.SittingLemmas.{rows_by_exam}
-use Rattle.exam_score.proofs.WalkLemmas.{cost_with-small}
+use Rattle.exam_score.proofs.WalkLemmas.{cost_with-small, none_or}
 
 -- ---- placed exams
-
-none_or : (b : Bool) → ◌≡◌ {A = ℕ} (cond b 0 0) 0
-none_or true = refl
-none_or false = refl
 
 beside_placed : (cost : ℕ → ℕ → ℕ) (t : Placing) (s x : ℕ) (ps : List Pair)
     → sum_by (λ q. cond (eqb q.student s) (cost_between cost (Some x) (period_of t q.exam)) 0) ps
@@ -72,7 +68,7 @@ by_placed cost t (p ∷ ps) =
 
 -- ---- rows
 
-eqb-swap : (a b : ℕ) → eqb a b ≡ eqb b a
+pub eqb-swap : (a b : ℕ) → eqb a b ≡ eqb b a
 eqb-swap a b = grind (arith, nat_tests)
 
 row_pair-none : (cost : ℕ → ℕ → ℕ) → ((p : ℕ) → cost p p ≡ 0) → (x : Row) → row_pair cost x x ≡ 0

@@ -14,6 +14,10 @@ use Rattle.exam_score.specs.declared.tallies.Tally.{Tally}
 
 -- ---- what costs nothing
 
+pub none_or : (b : Bool) → ◌≡◌ {A = ℕ} (cond b 0 0) 0
+none_or true = refl
+none_or false = refl
+
 -- a tally of another student
 other_student : (cost : ℕ → ℕ → ℕ) (y x : Tally) → y.student ≢ x.student → tally_beside cost y x ≡ 0
 other_student cost y x differ =
@@ -26,11 +30,7 @@ other_student cost y x differ =
 free_period : (cost : ℕ → ℕ → ℕ) (y x : Tally) → cost x.period y.period ≡ 0
     → tally_beside cost y x ≡ 0
 free_period cost y x none = ap (λ n. x.exams * cond (eqb y.student x.student) n 0) none
-    ∙ ap (λ n. x.exams * n) (picked (eqb y.student x.student)) ∙ mul-zero x.exams
-  where
-    picked : (b : Bool) → ◌≡◌ {A = ℕ} (cond b 0 0) 0
-    picked true = refl
-    picked false = refl
+    ∙ ap (λ n. x.exams * n) (none_or (eqb y.student x.student)) ∙ mul-zero x.exams
 
 -- the tallies between one and the next of its slot are of other students
 skipped : (m : ℕ) (cost : ℕ → ℕ → ℕ) (xs : List Tally) (y : Tally) (n k : ℕ)

@@ -98,8 +98,8 @@ fn count_larger(sizes: &[u32], size: u32) -> u32
     count
 }
 
-// The number of each exam's students.
-pub(crate) fn sizes_of(alloc: Global, enrolments: &Enrolments) -> Result<Vec<u32>, AllocError>
+/// The number of each exam's students.
+pub fn sizes_of(alloc: Global, enrolments: &Enrolments) -> Result<Vec<u32>, AllocError>
     ensures { IfOk result (λ sizes. AreSizes enrolments.now sizes.items) }
 {
     let mut sizes = Vec::with_capacity(alloc, enrolments.exams() as usize)?;

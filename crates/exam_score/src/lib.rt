@@ -26,7 +26,7 @@ mod walk;
 pub use candidate::personal;
 pub use changes::difference;
 pub use edit_fold::EditFold;
-pub use front::front_share;
+pub use front::{front_share, sizes_of};
 pub use laws::{penalty_is_small, regrouping};
 pub use mixed::{Stay, stays_of};
 pub use pair_costs::{DayCost, RowCost, SpreadCost};

@@ -26,7 +26,14 @@ period_in fields = do
   minutes ← number MAX_MINUTES (first (rest (rest fields)))
   penalty ← number MAX_AMOUNT (first (rest (rest (rest fields))))
   _ ← ended (rest (rest (rest (rest fields))))
-  Ok (record { date = date; hour = time.0; minute = time.1; second = time.2; length = minutes; penalty = penalty })
+  Ok (record {
+    date = date;
+    hour = time.0;
+    minute = time.1;
+    second = time.2;
+    length = minutes;
+    penalty = penalty;
+  })
 
 -- capacity, penalty
 abbrev pub room_in : List (List ℕ) → Result Room FaultKind

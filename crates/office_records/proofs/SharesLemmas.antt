@@ -1,8 +1,7 @@
 -- The shares of a publication, read back from rows.
-use Rattle.std.proofs.Common.{◌≡◌, ℕ, ◌+◌, ◌<◌, ◌≤◌, ◌^◌, List, [], ◌∷◌, ◌++◌, length, map, take, drop, All, Result, Ok, Err, Some, sym, ◌∙◌, ap₂, subst, arith, take-append-drop}
+use Rattle.std.proofs.Common.{◌≡◌, ℕ, ◌+◌, ◌<◌, ◌≤◌, ◌^◌, List, [], ◌∷◌, ◌++◌, length, map, take, drop, All, Some, sym, ◌∙◌, ap₂, subst, arith, take-append-drop}
 use Rattle.std.specs.List.{AllByRecursion}
-use Rattle.std.specs.Prelude.{IfErr, IsPermutation}
-use Rattle.std.specs.Result.{IsErrAnd}
+use Rattle.std.specs.Prelude.{IsPermutation}
 use Rattle.std.proofs.lemmas.List.Elements.{All-from_recursion, recursion_from_All}
 use Rattle.std.proofs.lemmas.List.FromFn.{length-map-range_with_len}
 use Rattle.exam_model.specs.Enrolments.{IsAscending}
@@ -20,8 +19,6 @@ use Rattle.exam_score.specs.Track.{exam_front}
 use Rattle.office_tables.specs.declared.share_part.PartShareRow.{PartShareRow}
 use Rattle.office_tables.specs.declared.share_student.StudentShareRow.{StudentShareRow}
 use Rattle.office_model.specs.Office.{IsPublication, Publication}
-use Rattle.office_records.specs.declared.fault.RecordFault.{RecordFault}
-use Rattle.office_records.specs.declared.fault.RecordFault.TheVariants.{BadRows}
 use Rattle.office_records.specs.Publications.{HasPlacesAndSeats}
 use Rattle.office_records.specs.SharesStored.{AreShared, AreSharesOf, HasFewParts, IsShare, part_rows, plain_rows, room_rows, student_share_row}
 use Rattle.office_records.proofs.PartRowLemmas.{exam_part, long, period_part, room_part, same_plain, same_rooms}
@@ -90,12 +87,6 @@ are_personal I p known has =
 abbrev pub AreOfNone : Session → List StudentShareRow → List PartShareRow → Type 0
 AreOfNone I students parts =
     (p : Publication) → IsPublication I p → AreShared I (Some p) students parts → ⊥
-
--- what a fault says is said of the error that it becomes
-pub passed : {T : Type 0} (r : Result T RecordFault) (fault : RecordFault) (P : Type 0)
-    → IsErrAnd r (λ e. e ≡ fault) → (fault ≡ BadRows → P) → IfErr r (λ e. e ≡ BadRows → P)
-passed (Ok value) fault P is says = tt
-passed (Err e) fault P is says = λ bad. says (sym is ∙ bad)
 
 -- the rows of a publication in their orders
 pub in_order : (I : Session) (p : Publication) (students sorted : List StudentShareRow)

@@ -1,12 +1,12 @@
 // Whether seats are those of a timetable.
 ghost use Rattle.std.specs.Prelude.{◌≡◌, ◌↔◌, All, AllPairs, IfOk, IsTrue};
 ghost use Rattle.exam_model.specs.Fits.{Suits};
-ghost use Rattle.exam_publish.specs.Rows.{AreNumbered, RowsInOrder, comes_before, row_pair};
+ghost use Rattle.exam_publish.specs.Rows.{RowsInOrder, comes_before, row_pair};
 ghost use Rattle.exam_publish.specs.Seats.{HaveOwnSeats};
 ghost use Rattle.office_records.specs.Publications.{HasPlacesAndSeats, IsSeatedRow, is_same_seat, publication};
 
 use exam_model::{Instance, Timetable};
-use exam_publish::SeatRow;
+use exam_publish::{SeatRow, tell_numbers};
 use exam_terms::limits::MAX_PAIRS;
 use std::alloc::{AllocError, Global};
 
@@ -27,15 +27,6 @@ pub(crate) fn have_places_and_seats(
     let few = rows.len() <= MAX_PAIRS as usize;
     let own = have_own_seats(alloc, rows)?;
     Ok(complete && few && own && are_in_order(rows) && are_seated(instance, timetable, rows))
-}
-
-// Reads the students' numbers for their limit, and does nothing.
-pub(crate) fn tell_numbers(rows: &[SeatRow])
-    ensures { AreNumbered rows.now }
-{
-    'rows: for row in rows {
-        let _number = row.student.get();
-    }
 }
 
 // Whether no two rows are of one seat in one period.

@@ -8,12 +8,12 @@ ghost use Rattle.office_records.specs.Publications.{AreFound, ArePlaces, ArePubl
 
 use crate::enrolments::enrolments_of;
 use crate::fault::RecordFault;
-use crate::placed_seats::{have_places_and_seats, tell_numbers};
+use crate::placed_seats::have_places_and_seats;
 use crate::seats::seats_in_order;
 use crate::timetable::timetable_of;
 use exam_model::{ExamNo, Instance, Timetable};
 use exam_publish as publish;
-use exam_publish::{PublishFault, permit};
+use exam_publish::{PublishFault, permit, tell_numbers};
 use office_tables::{EnrolRow, PlacedRow, SeatRow, SlotRow};
 use std::alloc::{AllocError, Global};
 

@@ -18,7 +18,7 @@ flip : (x : Bool) → not x ≡ true → x ≡ false
 flip true h = cc
 flip false h = refl
 
-both : (x y : Bool) → (x && y) ≡ true → (x ≡ true) × (y ≡ true)
+pub both : (x y : Bool) → (x && y) ≡ true → (x ≡ true) × (y ≡ true)
 both true y h = (refl, h)
 both false y h = cc
 

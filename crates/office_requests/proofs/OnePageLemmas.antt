@@ -10,6 +10,7 @@ use Rattle.office_requests.specs.declared.pages.Page.{Page}
 use Rattle.office_requests.specs.Patterns.{takes, rest_of_segment}
 use Rattle.office_requests.specs.Pages.{IsIn}
 use Rattle.office_requests.specs.Pages.{pages, Leads}
+use Rattle.office_requests.proofs.FindLemmas.{both}
 
 -- two patterns part at a byte that each has, or where one ends
 abbrev apart : List ℕ → List ℕ → Bool
@@ -26,10 +27,6 @@ apart_from s (row ∷ rows) = apart s row.0 && apart_from s rows
 abbrev all_apart : List (List ℕ × Page) → Bool
 all_apart [] = true
 all_apart (row ∷ rows) = apart_from row.0 rows && all_apart rows
-
-both : (x y : Bool) → (x && y) ≡ true → (x ≡ true) × (y ≡ true)
-both true y h = (refl, h)
-both false y h = cc
 
 -- a byte of a pattern takes that byte
 literal : (x : ℕ) (s : List ℕ) (b : ℕ) (path : List ℕ) → x < 256 → takes (x ∷ s) (b ∷ path) ≡ true →

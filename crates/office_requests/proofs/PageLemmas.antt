@@ -17,7 +17,7 @@ use Rattle.office_requests.specs.Pages.{pages, Leads}
 use Rattle.std.specs.Prelude.{find}
 use Rattle.office_requests.specs.Pages.{page_of}
 use Rattle.office_requests.proofs.OnePageLemmas.{one_page}
-use Rattle.office_requests.proofs.FindLemmas.{first_found, first_none}
+use Rattle.office_requests.proofs.FindLemmas.{both, first_found, first_none}
 
 abbrev shown : List ℕ × RouteOf Page → List ℕ × Page
 shown row = (row.0, row.1.value)
@@ -38,10 +38,6 @@ is_plain (x ∷ t) = (ltb x param_token || ((x == param_token) && ends_segment t
 abbrev are_plain : List (List ℕ × Page) → Bool
 are_plain [] = true
 are_plain (row ∷ rows) = is_plain row.0 && are_plain rows
-
-both : (x y : Bool) → (x && y) ≡ true → (x ≡ true) × (y ≡ true)
-both true y h = (refl, h)
-both false y h = cc
 
 either : (x y : Bool) → (x || y) ≡ true → (x ≡ true) ⊎ (y ≡ true)
 either true y h = inl refl

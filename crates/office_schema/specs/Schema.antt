@@ -1,6 +1,6 @@
--- The ten tables of an office's file as SQLite keeps them, schema version 1. All are STRICT, all columns
--- are NOT NULL. A table's rows lie in the tree of its number; each key of more than one column, and
--- each UNIQUE, has a tree of its own behind that of its table.
+-- The ten tables of an office's file as SQLite keeps them, schema version 1. All are STRICT, all
+-- columns are NOT NULL. A table's rows lie in the tree of its number; each key of more than one
+-- column, and each UNIQUE, has a tree of its own behind that of its table.
 use Rattle.std.specs.Prelude.{◌≡◌, ℕ, true, false, List, [], ◌∷◌, map, Some, None, Option, codes}
 use Rattle.std.specs.Borrow.{Bor}
 use Rattle.sqlite_value.specs.declared.keys.Collation.TheVariants.{Binary}
@@ -38,7 +38,8 @@ abbrev pub blob : List ℕ → Column
 blob = column_of Blob
 
 -- a table of plain rows, without foreign keys, checks or triggers
-abbrev pub table_of : List ℕ → ℕ → List Column → Option ℕ → List ℕ → List (List ℕ) → List Order → Table
+abbrev pub table_of : List ℕ → ℕ → List Column → Option ℕ → List ℕ → List (List ℕ)
+    → List Order → Table
 table_of name tree columns key primary uniques orders = record {
   name = name;
   tree = tree;

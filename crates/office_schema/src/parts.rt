@@ -30,7 +30,8 @@ pub(crate) fn is_table(
     key: TableKey,
     columns: &[(&str, Kind)],
 ) -> Result<bool, AllocError>
-    ensures { IfOk result (λ is. IsTrue is ↔ (table.now ≡ table_by key name.now tree (columns_of columns.now))) }
+    ensures { IfOk result
+        (λ is. IsTrue is ↔ (table.now ≡ table_by key name.now tree (columns_of columns.now))) }
 {
     Ok(
         has_key(table, key)
@@ -85,7 +86,8 @@ fn has_key(table: &Table, key: TableKey) -> bool
 }
 
 fn has_first_key(table: &Table) -> bool
-    ensures { IsTrue result ↔ ((table.now.key ≡ Some 0) × (table.now.primary ≡ 0 ∷ []) × (table.now.uniques ≡ []) × (table.now.orders ≡ [])) }
+    ensures { IsTrue result ↔ ((table.now.key ≡ Some 0) × (table.now.primary ≡ 0 ∷ [])
+        × (table.now.uniques ≡ []) × (table.now.orders ≡ [])) }
 {
     is_first(table.key)
         && is_zero(table.primary.as_slice())
@@ -94,7 +96,8 @@ fn has_first_key(table: &Table) -> bool
 }
 
 fn has_pair_key(table: &Table) -> bool
-    ensures { IsTrue result ↔ ((table.now.key ≡ None) × (table.now.primary ≡ 1 ∷ 2 ∷ []) × (table.now.uniques ≡ (1 ∷ 2 ∷ []) ∷ []) × (table.now.orders ≡ plain ∷ [])) }
+    ensures { IsTrue result ↔ ((table.now.key ≡ None) × (table.now.primary ≡ 1 ∷ 2 ∷ [])
+        × (table.now.uniques ≡ (1 ∷ 2 ∷ []) ∷ []) × (table.now.orders ≡ plain ∷ [])) }
 {
     table.key.is_none()
         && is_pair(table.primary.as_slice())
@@ -103,7 +106,9 @@ fn has_pair_key(table: &Table) -> bool
 }
 
 fn has_seat_keys(table: &Table) -> bool
-    ensures { IsTrue result ↔ ((table.now.key ≡ None) × (table.now.primary ≡ 1 ∷ 2 ∷ []) × (table.now.uniques ≡ (1 ∷ 2 ∷ []) ∷ (3 ∷ 4 ∷ 5 ∷ []) ∷ []) × (table.now.orders ≡ plain ∷ plain ∷ [])) }
+    ensures { IsTrue result ↔ ((table.now.key ≡ None) × (table.now.primary ≡ 1 ∷ 2 ∷ [])
+        × (table.now.uniques ≡ (1 ∷ 2 ∷ []) ∷ (3 ∷ 4 ∷ 5 ∷ []) ∷ [])
+        × (table.now.orders ≡ plain ∷ plain ∷ [])) }
 {
     table.key.is_none()
         && is_pair(table.primary.as_slice())
@@ -185,8 +190,10 @@ fn has_two_plain(orders: &[Order]) -> bool
 
 // No CHECK, no reference, no default that is computed, no AUTOINCREMENT.
 fn is_plain(alloc: Global, table: &Table) -> Result<bool, AllocError>
-    ensures { IfOk result (λ is. IsTrue is ↔ ((table.now.checks ≡ []) × (table.now.references ≡ []) × (table.now.computed ≡ [])
-        × (table.now.stamps ≡ record { places = []; terms = []; formats = [] }) × (table.now.is_counted ≡ false))) }
+    ensures { IfOk result (λ is. IsTrue is ↔ ((table.now.checks ≡ []) × (table.now.references ≡ [])
+        × (table.now.computed ≡ [])
+        × (table.now.stamps ≡ record { places = []; terms = []; formats = [] })
+        × (table.now.is_counted ≡ false))) }
 {
     Ok(
         has_no_terms(alloc, &table.checks)?
@@ -199,7 +206,8 @@ fn is_plain(alloc: Global, table: &Table) -> Result<bool, AllocError>
 
 // No default reads the time.
 fn is_timeless(alloc: Global, stamps: &Stamps) -> Result<bool, AllocError>
-    ensures { IfOk result (λ is. IsTrue is ↔ (stamps.now ≡ record { places = []; terms = []; formats = [] })) }
+    ensures { IfOk result
+        (λ is. IsTrue is ↔ (stamps.now ≡ record { places = []; terms = []; formats = [] })) }
 {
     Ok(stamps.places.is_empty() && has_no_terms(alloc, &stamps.terms)? && stamps.formats.is_empty())
 }

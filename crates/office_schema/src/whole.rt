@@ -1,4 +1,5 @@
-// Whether a schema is that of an office, found by its value: the ten tables, their five indexes, and no more.
+// Whether a schema is that of an office, found by its value: the ten tables, their five indexes,
+// and no more.
 ghost use Rattle.std.specs.Prelude.{◌≡◌, ◌↔◌, [], ◌∷◌, drop, IfOk, IsTrue};
 ghost use Rattle.office_schema.specs.Schema.{office_schema};
 ghost use Rattle.office_schema.specs.Schema.{meta_table, owner_table, enrol_table, draft_table, slot_table, placed_table, seat_table, share_student_table, share_part_table, batch_table};
@@ -7,8 +8,8 @@ use crate::parts::{TableKey, is_pair_index, is_seat_index, is_table};
 use sqlite_schema::schema::{Index, Kind, Schema, Table};
 use std::alloc::{AllocError, Global};
 
-/// Whether it is the schema of an office's file: the tables in their order and trees, their indexes,
-/// and no further table, view, index or trigger.
+/// Whether it is the schema of an office's file: the tables in their order and trees, their
+/// indexes, and no further table, view, index or trigger.
 pub fn is_office_schema(alloc: Global, schema: &Schema) -> Result<bool, AllocError>
     ensures { IfOk result (λ is. IsTrue is ↔ (schema.now ≡ office_schema)) }
 {
@@ -37,7 +38,8 @@ fn has_tables(alloc: Global, tables: &[Table]) -> Result<bool, AllocError>
 
 // The tables of the publication and of batches.
 fn has_publication_tables(alloc: Global, tables: &[Table]) -> Result<bool, AllocError>
-    ensures { IfOk result (λ is. IsTrue is ↔ (tables.now ≡ placed_table ∷ seat_table ∷ share_student_table ∷ share_part_table ∷ batch_table ∷ [])) }
+    ensures { IfOk result (λ is. IsTrue is ↔ (tables.now ≡ placed_table ∷ seat_table
+        ∷ share_student_table ∷ share_part_table ∷ batch_table ∷ [])) }
 {
     let [placed, seat, share_student, share_part, batch] = tables else {
         return Ok(false);

@@ -60,7 +60,7 @@ none_pass p P Q h (x ∷ xs) e a = go (p x) refl e (λ rest. none_pass p P Q h x
     go true f none more = absurd cc
     go false f none more = (h x a.0 f, more none)
 
-some_is : {X : Type 0} (x y : X) → Some x ≡ Some y → x ≡ y
+pub some_is : {X : Type 0} (x y : X) → Some x ≡ Some y → x ≡ y
 some_is x y e = cc
 
 -- ---- a draft is put in

@@ -44,6 +44,7 @@ use Rattle.office_store.specs.OfficeRows.{AreRowsOf, AreScored}
 use Rattle.office_store.specs.Running.{Does, IsAtRest, IsAwake, IsFault, IsStill}
 use Rattle.office_store.specs.declared.editing.Judged.{Judged}
 use Rattle.office_store.proofs.CommandLemmas.{Moves}
+use Rattle.office_store.proofs.DraftLemmas.{some_is}
 use Rattle.office_store.proofs.EditLemmas.{edit_kept}
 use Rattle.office_store.proofs.ReadLemmas.{places_told}
 use Rattle.office_store.proofs.RunLemmas.{at_hand, nothing_kept}
@@ -53,9 +54,6 @@ use Rattle.office_store.proofs.SlotLemmas.{all_moved, move_made}
 
 ok_is : {X F : Type 0} {x y : X} → ◌≡◌ {A = Result X F} (Ok x) (Ok y) → x ≡ y
 ok_is e = cc
-
-some_is : {X : Type 0} (x y : X) → Some x ≡ Some y → x ≡ y
-some_is x y e = cc
 
 -- a draft that is shown
 pub shown_of : (d : ℕ) (r : Records) (T : Placing) (P : Penalty) (new : OfficeState)

@@ -37,7 +37,7 @@ use Rattle.office_store.specs.Folding.{CanTake, HasTaken, IsEditOf, pairs_of_stu
 use Rattle.office_store.specs.Running.{Tells}
 use Rattle.office_store.specs.declared.editing.Judged.{Judged}
 use Rattle.office_store.specs.Viewing.{her_row}
-use Rattle.office_store.proofs.ConcernedLemmas.{concerned, students_few}
+use Rattle.office_store.proofs.ConcernedLemmas.{concerned, each_append, students_few}
 use Rattle.office_store.proofs.ViewLemmas.{exams_back, own_pairs, rows_read, sat_rise}
 
 -- ---- a connection that reads on
@@ -221,11 +221,6 @@ module _ {S : Type 0} (store : Ghosts S) (all : List ℕ) where
       own n [] l = tt
       own n (e ∷ es) l = (l, own n es l)
 
-      both : {X : Type 0} (P : X → Type 0) (xs ys : List X) → AllByRecursion P xs
-          → AllByRecursion P ys → AllByRecursion P (xs ++ ys)
-      both P [] ys h k = k
-      both P (x ∷ xs) ys h k = (h.0, both P xs ys h.1 k)
-
       each : (ns : List ℕ) → AllByRecursion (λ n. All (λ p. p.student < n) taken.pairs) ns
           → AllByRecursion (λ n. s < n) ns
           → AllByRecursion
@@ -233,7 +228,7 @@ module _ {S : Type 0} (store : Ghosts S) (all : List ℕ) where
       each [] h k = tt
       each (n ∷ ns) h k = (
         All-from_recursion (λ p. p.student < n) (taken.pairs ++ pairs_sat (Some s) exams)
-            (both (λ p. p.student < n) taken.pairs (pairs_sat (Some s) exams)
+            (each_append (λ p. p.student < n) taken.pairs (pairs_sat (Some s) exams)
             (recursion_from_All (λ p. p.student < n) taken.pairs h.0) (own n exams k.0)),
         each ns h.1 k.1,
       )

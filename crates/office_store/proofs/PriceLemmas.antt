@@ -14,15 +14,10 @@ use Rattle.office_records.specs.Stands.{IsScoredRow, once, parts_of}
 use Rattle.office_store.specs.Pricing.{draft_priced}
 use Rattle.office_store.specs.OfficeRows.{AreScored}
 use Rattle.office_store.specs.Running.{Does}
-
-no_row : {X : Type 0} (x : X) (xs : List X) → x ∷ xs ≡ [] → ⊥
-no_row x xs e = absurd cc
+use Rattle.office_store.proofs.ReadLemmas.{no_row, same_head}
 
 one_row : {X : Type 0} (x y z : X) (zs : List X) → x ∷ z ∷ zs ≡ y ∷ [] → ⊥
 one_row x y z zs e = absurd cc
-
-same_head : {X : Type 0} (x y : X) → x ∷ [] ≡ y ∷ [] → x ≡ y
-same_head x y e = cc
 
 -- the row of a draft stores its penalty, which is small
 pub record IsPriced (o : OfficeState) (d : ℕ) (row : DraftRow) : Type 0 where

@@ -54,6 +54,7 @@ use Rattle.office_store.specs.OfficeRows.{AreRowsOf, published_in}
 use Rattle.office_store.specs.Running.{IsFault}
 use Rattle.office_store.specs.declared.new_publication.NewPublication.{NewPublication}
 use Rattle.office_store.proofs.CommandLemmas.{Denies, Moves}
+use Rattle.office_store.proofs.NewBatchLemmas.{taken_back}
 
 -- ---- what the parts of the transaction make of the tables, one after the other
 
@@ -196,12 +197,6 @@ shares_made new gone students parts a b c t =
 
 -- ---- the rows that are put in
 
-backs : {X Y : Type 0} (put : X → Y) (row : Y → X) → ((x : X) → row (put x) ≡ x) → (xs : List X)
-    → map row (map put xs) ≡ xs
-backs put row is [] = refl
-backs put row is (x ∷ xs) =
-    ap (λ y. y ∷ map row (map put xs)) (is x) ∙ ap (λ l. x ∷ l) (backs put row is xs)
-
 -- rows that are put in, one after the other
 put_in : {X : Type 0} (rows xs : List X) → rows ≡ xs → IsPermutation (reverse rows) xs
 put_in rows xs is =
@@ -235,9 +230,9 @@ module _ (r : Records) (T : Placing) (is : AreRecords r) (fits : Fits r.session 
         (map (λ (it : DeleteStudentSeats). it.student) new.seats_gone.items) who
         (map (λ (it : InsertSeat). it.row) new.seats.items) (seat_rows_of who all)
         (ap (map (λ (it : DeleteStudentSeats). it.student)) put.seats_gone
-        ∙ backs _ (λ (it : DeleteStudentSeats). it.student) (λ x. refl) who)
+        ∙ taken_back _ (λ (it : DeleteStudentSeats). it.student) (λ x. refl) who)
         (ap (map (λ (it : InsertSeat). it.row)) put.seats
-        ∙ backs _ (λ (it : InsertSeat). it.row) (λ x. refl) (seat_rows_of who all)))
+        ∙ taken_back _ (λ (it : InsertSeat). it.row) (λ x. refl) (seat_rows_of who all)))
         (republication.seats_put r.published new_one t.seat stored)
 
     share_in : IsPermutation t.share_student (student_share_rows r.session r.published)
@@ -250,9 +245,9 @@ module _ (r : Records) (T : Placing) (is : AreRecords r) (fits : Fits r.session 
         (map (λ (it : DeleteStudentShare). it.student) new.shares_gone.items) who
         (map (λ (it : InsertStudentShare). it.row) new.students.items) (share_rows_of who all)
         (ap (map (λ (it : DeleteStudentShare). it.student)) put.shares_gone
-        ∙ backs _ (λ (it : DeleteStudentShare). it.student) (λ x. refl) who)
+        ∙ taken_back _ (λ (it : DeleteStudentShare). it.student) (λ x. refl) who)
         (ap (map (λ (it : InsertStudentShare). it.row)) put.students
-        ∙ backs _ (λ (it : InsertStudentShare). it.row) (λ x. refl) (share_rows_of who all)))
+        ∙ taken_back _ (λ (it : InsertStudentShare). it.row) (λ x. refl) (share_rows_of who all)))
         (republication.shares_put r.session r.published new_one t.share_student stored)
 
     published_stands : StandsLoaded t r
@@ -266,7 +261,7 @@ module _ (r : Records) (T : Placing) (is : AreRecords r) (fits : Fits r.session 
       published = record {
         placed = put_in _ (placed_from 0 T)
             (ap (map (λ (it : InsertPlacement). it.row)) put.placements
-            ∙ backs _ (λ (it : InsertPlacement). it.row) (λ x. refl) (placed_from 0 T));
+            ∙ taken_back _ (λ (it : InsertPlacement). it.row) (λ x. refl) (placed_from 0 T));
         seat = seat_in h.published.seat;
       };
       batches = h.batches;
@@ -280,7 +275,7 @@ module _ (r : Records) (T : Placing) (is : AreRecords r) (fits : Fits r.session 
         of_students = share_in h.shared.of_students;
         of_parts = put_in _ (part_share_rows r.session (Some new_one))
             (ap (map (λ (it : InsertPartShare). it.row)) put.parts
-            ∙ backs _ (λ (it : InsertPartShare). it.row) (λ x. refl)
+            ∙ taken_back _ (λ (it : InsertPartShare). it.row) (λ x. refl)
             (part_share_rows r.session (Some new_one)));
       };
     }

@@ -23,7 +23,7 @@ use Rattle.office_model.specs.Commands.{Gives, draft_in, draft_shown, session_sh
 use Rattle.office_records.specs.Faults.{store_fault}
 use Rattle.office_store.specs.Running.{Does, IsFault}
 use Rattle.office_store.specs.OfficeRows.{AreRowsOf, AreScored}
-use Rattle.office_store.proofs.DraftLemmas.{slots_are}
+use Rattle.office_store.proofs.DraftLemmas.{slots_are, some_is}
 
 -- the rows of a draft that are read have its penalty
 pub scored_read : (t : Tables) (o : OfficeState) (d : ℕ) (rows : List DraftRow) → IsSound t o
@@ -70,10 +70,10 @@ places_told r d rows slots T is records are =
           (IsPermutation-filter (λ (s : SlotRow). eqb s.draft d) _ _ places);
     }
 
-no_row : {X : Type 0} (x : X) (xs : List X) → x ∷ xs ≡ [] → ⊥
+pub no_row : {X : Type 0} (x : X) (xs : List X) → x ∷ xs ≡ [] → ⊥
 no_row x xs e = absurd cc
 
-same_head : {X : Type 0} (x y : X) → x ∷ [] ≡ y ∷ [] → x ≡ y
+pub same_head : {X : Type 0} (x y : X) → x ∷ [] ≡ y ∷ [] → x ≡ y
 same_head x y e = cc
 
 draft_told : (r : Records) (d : ℕ) (row : DraftRow) (slots : List SlotRow) (o : Option Placing)
@@ -124,9 +124,6 @@ one_told r I E d row slots session enrolments T is =
       places = subst (λ s. AreSlots s d slots T) session is.places;
       parts = is.parts ∙ now;
     }
-
-some_is : {X : Type 0} (x y : X) → Some x ≡ Some y → x ≡ y
-some_is x y e = cc
 
 pub told_at : (o : OfficeState) (I : Session) (E : Enrolled) (d : ℕ) (row : DraftRow)
     (slots : List SlotRow) → IsOffice o → memory_of o ≡ Some (I, E)

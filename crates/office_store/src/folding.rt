@@ -4,9 +4,7 @@ ghost use Rattle.exam_terms.specs.declared.limits.TheConstants.{MAX_PAIRS};
 ghost use Rattle.exam_model.specs.Changes.{exams_sat};
 ghost use Rattle.exam_model.specs.Enrolments.{Enrolled, IsAscending};
 ghost use Rattle.exam_model.specs.Pairs.{Pair};
-ghost use Rattle.exam_publish.specs.Changed.{ascending};
 ghost use Rattle.exam_score.specs.Folds.{IsFoldOf, StandsFor, pairs_sat};
-ghost use Rattle.exam_score.specs.Front.{AreSizes};
 ghost use Rattle.exam_score.specs.Track.{track};
 ghost use Rattle.office_store.specs.FoldReads.{HadEnrolments, HasRead, IsSame};
 ghost use Rattle.office_store.specs.Folding.{CanTake, IsEditOf};
@@ -17,7 +15,8 @@ ghost use Rattle.office_store.specs.Viewing.{her_row};
 use crate::editing::Judged;
 use crate::viewing::exams_of;
 use exam_model::{Enrolments, ExamNo, Instance, StudentNo};
-use exam_score::{EditFold, Parts};
+use exam_publish::in_order;
+use exam_score::{EditFold, Parts, sizes_of};
 use exam_terms::limits::MAX_PAIRS;
 use office_model::StoreFault;
 use office_tables::{EnrolRow, find_enrols_of};
@@ -48,17 +47,6 @@ pub(crate) fn penalty_after<S: Alter>(
         .ok_or(StoreFault::BadSchema)
 }
 
-// The number of each exam's students.
-fn sizes_of(alloc: Global, enrolments: &Enrolments) -> Result<Vec<u32>, AllocError>
-    ensures { IfOk result (λ sizes. AreSizes enrolments.now sizes.items) }
-{
-    let mut sizes = Vec::with_capacity(alloc, enrolments.exams() as usize)?;
-    for exam in 0..enrolments.exams() {
-        sizes.push(enrolments.size(ExamNo::new(exam)))?;
-    }
-    Ok(sizes)
-}
-
 // The students who sit one of these exams, ascending, each once.
 fn students_of_exams(
     alloc: Global,
@@ -73,15 +61,6 @@ fn students_of_exams(
         found.extend_from_slice(enrolments.students(*exam))?;
     }
     Ok(in_order(found))
-}
-
-// The students in order, each once.
-fn in_order(mut found: Vec<StudentNo>) -> Vec<StudentNo>
-    ensures { result.items ≡ ascending found.items }
-{
-    found.sort_unstable();
-    found.dedup();
-    found
 }
 
 // Takes in what the file has of these students, one after the other.

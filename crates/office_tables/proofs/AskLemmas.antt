@@ -1,5 +1,5 @@
 -- What a reader leaves, and the answers of a query, whatever it asks.
-use Rattle.std.proofs.Common.{◌≡◌, ◌+◌, IsSorted, is_lt, subst₂, inl, inr, ℕ, List, [], ◌∷◌, map, cond, Bool, true, false, None, Ok, Err, Result, arith, subst, refl, sym, ap, ◌∙◌, IsTrue}
+use Rattle.std.proofs.Common.{◌≡◌, ◌+◌, IsSorted, is_lt, subst₂, inl, inr, ℕ, List, [], ◌∷◌, map, false, None, Ok, Err, Result, arith, subst, refl, sym, ap, ◌∙◌, IsTrue}
 use Rattle.std.specs.Prelude.{IsPermutation, nat_le, unwrap_or, ◌^◌}
 use Rattle.std.proofs.lemmas.List.{get_or-map, length-map}
 use Rattle.sqlite_value.specs.Order.{Row}
@@ -26,6 +26,7 @@ use Rattle.office_tables.specs.Steps.{Nothing}
 use Rattle.office_tables.specs.Tables.{Tables}
 use Rattle.office_tables.specs.Standing.{Stands}
 use Rattle.office_tables.proofs.LookLemmas.{was_open}
+use Rattle.office_tables.proofs.Queries.{both_alike}
 
 -- ---- what a reader leaves
 
@@ -60,10 +61,6 @@ pub unmapped : {X Y : Type 0} (f : X → Y) (xs : List X) (ys : List Y) → IsPe
 unmapped f xs ys h = let back = pull_back f _ _ h xs refl in (back.0, back.2, back.1)
 
 -- ---- answers
-
-both_alike : {X : Type 0} (b : Bool) (x : X) → cond b x x ≡ x
-both_alike true x = refl
-both_alike false x = refl
 
 pub command_is : (q : Query) (names : List (List ℕ)) (r : Result Compiled CompileError)
     → Selects q names r → command_of r ≡ Select (record { lets = []; body = q }) names

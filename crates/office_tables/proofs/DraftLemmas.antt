@@ -21,7 +21,7 @@ use Rattle.office_tables.proofs.Casts.{cast_int, cast_null}
 use Rattle.office_tables.proofs.Frames.{draft_changed, holds_none}
 use Rattle.office_tables.proofs.Statements.{inserts, deletes}
 use Rattle.office_tables.proofs.TableLemmas.{holds_more, rowids_filter}
-use Rattle.office_tables.proofs.Queries.{answered, passes, shown_filter, left_of, equal_numbers, one_table, equals, rowids}
+use Rattle.office_tables.proofs.Queries.{answered, passes, shown_filter, left_of, none_left, equal_numbers, one_table, equals, rowids}
 
 -- ---- INSERT
 
@@ -108,10 +108,6 @@ clear_is = refl
 clear_plain : IsPlain (understood office_schema clear_text)
 unfolding understood everything
 clear_plain = (refl, refl)
-
-none_left : (xs : List Row) → filter (λ r. not true) xs ≡ []
-none_left [] = refl
-none_left (x ∷ xs) = none_left xs
 
 pub cleared : (old new : State) (count : ℕ) (t : Tables) → Stands old.now t
     → Executes clear_text [] old new (Ok count)

@@ -1,5 +1,5 @@
 -- What each statement on the table meta means, and what it makes of the tables.
-use Rattle.std.proofs.Common.{◌≡◌, ℕ, pos, List, [], ◌∷◌, map, filter, not, codes, true, Ok, refl, ◌∙◌}
+use Rattle.std.proofs.Common.{◌≡◌, ℕ, pos, List, [], ◌∷◌, map, codes, true, Ok, refl, ◌∙◌}
 use Rattle.sqlite_trees.specs.Tree.{put_row}
 use Rattle.sqlite_value.specs.declared.value.Value.TheVariants.{Null, Int, Blob}
 use Rattle.sqlite_value.specs.Order.{Row}
@@ -22,7 +22,7 @@ use Rattle.office_tables.proofs.Casts.{cast_int, cast_null}
 use Rattle.office_tables.proofs.Frames.{meta_changed, holds_none}
 use Rattle.office_tables.proofs.Statements.{inserts, deletes}
 use Rattle.office_tables.proofs.TableLemmas.{holds_more}
-use Rattle.office_tables.proofs.Queries.{answered, left_of, one_table, rowids}
+use Rattle.office_tables.proofs.Queries.{answered, left_of, none_left, one_table, rowids}
 
 -- ---- INSERT
 
@@ -85,10 +85,6 @@ deleted old new count t stands h =
     is.rows ∙ left_of (λ r. true) stored done.0 stands.meta.rowids answer ∙ none_left stored in
     meta_changed old.now new.now t stands done.1 [] is.tables
     (holds_none keyed (new.now.trees 0) rows)
-  where
-    none_left : (xs : List Row) → filter (λ r. not true) xs ≡ []
-    none_left [] = refl
-    none_left (x ∷ xs) = none_left xs
 
 -- tables with no row hold none
 pub blank_stands : (db : Database) → IsBlank office_schema db

@@ -43,7 +43,11 @@ passes params where_ row = list_all (holds (params ∷ row ∷ [])) where_
 abbrev pub shown_of : Row → List Term → Row → Row
 shown_of params shown row = eval_all shown (params ∷ row ∷ [])
 
-both_alike : {X : Type 0} (b : Bool) (x : X) → cond b x x ≡ x
+pub none_left : (xs : List Row) → filter (λ r. not true) xs ≡ []
+none_left [] = refl
+none_left (x ∷ xs) = none_left xs
+
+pub both_alike : {X : Type 0} (b : Bool) (x : X) → cond b x x ≡ x
 both_alike true x = refl
 both_alike false x = refl
 

@@ -23,11 +23,7 @@ use Rattle.office_tables.proofs.Casts.{cast_int, cast_null}
 use Rattle.office_tables.proofs.Frames.{holds_none, share_student_changed, share_part_changed}
 use Rattle.office_tables.proofs.Statements.{inserts, deletes}
 use Rattle.office_tables.proofs.TableLemmas.{holds_more, rowids_filter}
-use Rattle.office_tables.proofs.Queries.{answered, passes, shown_filter, left_of, equal_numbers, one_table, equals, rowids}
-
-none_left : (xs : List Row) → filter (λ r. not true) xs ≡ []
-none_left [] = refl
-none_left (x ∷ xs) = none_left xs
+use Rattle.office_tables.proofs.Queries.{answered, passes, shown_filter, left_of, none_left, equal_numbers, one_table, equals, rowids}
 
 -- ---- INSERT INTO share_student
 

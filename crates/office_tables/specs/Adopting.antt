@@ -64,7 +64,8 @@ pub record HoldsDrafts (db : Database) (found : FoundDrafts) : Type 0 where
 pub record HoldsPublication (db : Database) (found : FoundPublication) : Type 0 where
   pub placed : Holds keyed (map placed_columns found.placements.items) (db.trees 7)
   pub seat : Holds keyless (map seat_columns found.seats.items) (db.trees 8)
-  pub share_student : Holds keyed (map share_student_columns found.student_shares.items) (db.trees 11)
+  pub share_student :
+      Holds keyed (map share_student_columns found.student_shares.items) (db.trees 11)
   pub share_part : Holds keyless (map share_part_columns found.part_shares.items) (db.trees 12)
 
 -- it is what the tables hold, or none, and the file is no office's

@@ -38,7 +38,8 @@ counts_of r = record { no = r.no; added = r.added; dropped = r.dropped; unchange
 
 -- a batch's number and counts, as a SELECT gives them
 abbrev pub counts_columns : BatchCountsRow → Row
-counts_columns r = Int (pos r.no) ∷ Int (pos r.added) ∷ Int (pos r.dropped) ∷ Int (pos r.unchanged) ∷ []
+counts_columns r =
+    Int (pos r.no) ∷ Int (pos r.added) ∷ Int (pos r.dropped) ∷ Int (pos r.unchanged) ∷ []
 
 -- a batch's number and counts have 32 bits
 abbrev pub FitsCounts : BatchCountsRow → Type 0

@@ -1,5 +1,5 @@
--- What a step leaves of a connection: inside a transaction, and after a reader. The store says what a
--- connection shows by states: as it is now, as it was last committed, and what a crash leaves.
+-- What a step leaves of a connection: inside a transaction, and after a reader. The store says what
+-- a connection shows by states: as it is now, as it was last committed, and what a crash leaves.
 use Rattle.std.specs.Prelude.{◌≡◌, ◌⊎◌, ℕ, List, false, IsTrue, IfOk, OnOk, Ok, Result}
 use Rattle.sqlite_trees.specs.Tree.{Trees}
 use Rattle.sqlite_value.specs.Order.{Row}

@@ -27,10 +27,13 @@ pub fn adopt_tables<S: Alter>(
     alloc: Global,
     conn: &mut Connection<S>,
 ) -> Result<Option<Found>, Error>
-    ensures found { HasCleanDisk (state S.Store conn.new) → IfOk result (IsAdopted (state S.Store conn.old).now) }
+    ensures found { HasCleanDisk (state S.Store conn.new)
+        → IfOk result (IsAdopted (state S.Store conn.old).now) }
     ensures same { HasCleanDisk (state S.Store conn.new)
-        → OnOk result ((conn.new ≡ conn.old) ⊎ IsUnchanged (state S.Store conn.old) (state S.Store conn.new)) }
-    ensures kept { HasCleanDisk (state S.Store conn.new) → Keeps (state S.Store conn.old) (state S.Store conn.new) }
+        → OnOk result ((conn.new ≡ conn.old)
+        ⊎ IsUnchanged (state S.Store conn.old) (state S.Store conn.new)) }
+    ensures kept { HasCleanDisk (state S.Store conn.new)
+        → Keeps (state S.Store conn.old) (state S.Store conn.new) }
     ensures mode { conn.old.in_transaction ≡ false → conn.new.in_transaction ≡ false }
     ensures survives { Survives (state S.Store conn.old) (state S.Store conn.new) (λ _. ⊥) }
 {

@@ -30,7 +30,8 @@ pub fn is_bare<S: Alter>(conn: &Connection<S>) -> bool
 /// Makes the tables, which then stand for the office without a session.
 pub fn create_tables<S: Alter>(tx: &mut Transaction<'_, S>) -> Result<(), Error>
     ensures same_reference { tx.new.conn.ghost_name ≡ tx.old.conn.ghost_name }
-    ensures makes { Grows S.Store (IsBlank no_schema) (λ db. Stands db empty_tables) tx.old.conn.now tx.new.conn.now result }
+    ensures makes { Grows S.Store (IsBlank no_schema) (λ db. Stands db empty_tables)
+        tx.old.conn.now tx.new.conn.now result }
     ensures within { Within (state S.Store tx.old.conn.now) (state S.Store tx.new.conn.now) }
 {
     create_session_tables(tx)?;
@@ -42,7 +43,8 @@ pub fn create_tables<S: Alter>(tx: &mut Transaction<'_, S>) -> Result<(), Error>
 // The tables of the session and its students.
 fn create_session_tables<S: Alter>(tx: &mut Transaction<'_, S>) -> Result<(), Error>
     ensures same_reference { tx.new.conn.ghost_name ≡ tx.old.conn.ghost_name }
-    ensures makes { Grows S.Store (IsBlank no_schema) (IsBlank schema_3) tx.old.conn.now tx.new.conn.now result }
+    ensures makes { Grows S.Store (IsBlank no_schema) (IsBlank schema_3)
+        tx.old.conn.now tx.new.conn.now result }
     ensures within { Within (state S.Store tx.old.conn.now) (state S.Store tx.new.conn.now) }
 {
     create_meta(tx)?;
@@ -53,7 +55,8 @@ fn create_session_tables<S: Alter>(tx: &mut Transaction<'_, S>) -> Result<(), Er
 // The tables of drafts.
 fn create_draft_tables<S: Alter>(tx: &mut Transaction<'_, S>) -> Result<(), Error>
     ensures same_reference { tx.new.conn.ghost_name ≡ tx.old.conn.ghost_name }
-    ensures makes { Grows S.Store (IsBlank schema_3) (IsBlank schema_5) tx.old.conn.now tx.new.conn.now result }
+    ensures makes { Grows S.Store (IsBlank schema_3) (IsBlank schema_5)
+        tx.old.conn.now tx.new.conn.now result }
     ensures within { Within (state S.Store tx.old.conn.now) (state S.Store tx.new.conn.now) }
 {
     create_draft(tx)?;
@@ -63,7 +66,8 @@ fn create_draft_tables<S: Alter>(tx: &mut Transaction<'_, S>) -> Result<(), Erro
 // The tables of the publication.
 fn create_publication_tables<S: Alter>(tx: &mut Transaction<'_, S>) -> Result<(), Error>
     ensures same_reference { tx.new.conn.ghost_name ≡ tx.old.conn.ghost_name }
-    ensures makes { Grows S.Store (IsBlank schema_5) (IsBlank schema_9) tx.old.conn.now tx.new.conn.now result }
+    ensures makes { Grows S.Store (IsBlank schema_5) (IsBlank schema_9)
+        tx.old.conn.now tx.new.conn.now result }
     ensures within { Within (state S.Store tx.old.conn.now) (state S.Store tx.new.conn.now) }
 {
     create_placed(tx)?;
@@ -75,7 +79,8 @@ fn create_publication_tables<S: Alter>(tx: &mut Transaction<'_, S>) -> Result<()
 // The table of batches, and the one row about the office.
 fn create_last_table<S: Alter>(tx: &mut Transaction<'_, S>) -> Result<(), Error>
     ensures same_reference { tx.new.conn.ghost_name ≡ tx.old.conn.ghost_name }
-    ensures makes { Grows S.Store (IsBlank schema_9) (λ db. Stands db empty_tables) tx.old.conn.now tx.new.conn.now result }
+    ensures makes { Grows S.Store (IsBlank schema_9) (λ db. Stands db empty_tables)
+        tx.old.conn.now tx.new.conn.now result }
     ensures within { Within (state S.Store tx.old.conn.now) (state S.Store tx.new.conn.now) }
 {
     create_batch(tx)?;

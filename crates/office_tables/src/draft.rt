@@ -35,7 +35,8 @@ pub struct DraftRow {
 // The table of drafts.
 pub(crate) fn create_draft<S: Alter>(tx: &mut Transaction<'_, S>) -> Result<(), Error>
     ensures same_reference { tx.new.conn.ghost_name ≡ tx.old.conn.ghost_name }
-    ensures makes { Grows S.Store (IsBlank schema_3) (IsBlank schema_4) tx.old.conn.now tx.new.conn.now result }
+    ensures makes { Grows S.Store (IsBlank schema_3) (IsBlank schema_4)
+        tx.old.conn.now tx.new.conn.now result }
     ensures within { Within (state S.Store tx.old.conn.now) (state S.Store tx.new.conn.now) }
 {
     run(
@@ -84,8 +85,8 @@ impl Alteration for InsertDraft {
     fn apply<S: Alter>(&self, tx: &mut Transaction<'_, S>) -> Result<(), Error> {
         run(
             tx,
-            "INSERT INTO draft (no, in_row, in_day, spread, mixed, front, period, room) VALUES (?1, \
-             ?2, ?3, ?4, ?5, ?6, ?7, ?8)",
+            "INSERT INTO draft (no, in_row, in_day, spread, mixed, front, period, room) VALUES \
+             (?1, ?2, ?3, ?4, ?5, ?6, ?7, ?8)",
             &stored_columns(self.row),
         )
     }
@@ -144,13 +145,16 @@ pub fn drafts_of<S: Alter>(
     conn: &mut Connection<S>,
     no: u32,
 ) -> Result<Vec<DraftRow>, Error>
-    ensures rows { Reads S.Store (λ t rows. IsPermutation (filter (λ r. r.no == no) t.draft) rows.items) conn.old conn.new result }
+    ensures rows { Reads S.Store
+        (λ t rows. IsPermutation (filter (λ r. r.no == no) t.draft) rows.items)
+        conn.old conn.new result }
     ensures open { AnswersOpen S.Store conn.old conn.new result }
     ensures was_open { OpensNone S.Store conn.old conn.new }
     ensures same { LeavesAll S.Store conn.old conn.new result }
     ensures kept { LeavesCommitted S.Store conn.old conn.new }
     ensures mode { conn.old.in_transaction ≡ false → conn.new.in_transaction ≡ false }
-    ensures survives { Survives (state S.Store conn.old) (state S.Store conn.new) (Nothing (state S.Store conn.old)) }
+    ensures survives { Survives (state S.Store conn.old) (state S.Store conn.new)
+        (Nothing (state S.Store conn.old)) }
 {
     stream(
         alloc,
@@ -166,13 +170,15 @@ pub(crate) fn adopt_drafts<S: Alter>(
     alloc: Global,
     conn: &mut Connection<S>,
 ) -> Result<Option<Vec<DraftRow>>, Error>
-    ensures found { Finds S.Store (λ db. IsFound FitsDraft draft_columns keyed (db.trees 4)) conn.old conn.new result }
+    ensures found { Finds S.Store (λ db. IsFound FitsDraft draft_columns keyed (db.trees 4))
+        conn.old conn.new result }
     ensures same { Leaves S.Store conn.old conn.new result }
     ensures looks { Looks (state S.Store conn.old) (state S.Store conn.new) }
 {
     read_table(
         alloc,
         conn,
-        "SELECT no, in_row, in_day, spread, mixed, front, period, room, rowid FROM draft ORDER BY rowid",
+        "SELECT no, in_row, in_day, spread, mixed, front, period, room, rowid FROM draft ORDER BY \
+         rowid",
     )
 }

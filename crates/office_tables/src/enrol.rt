@@ -28,7 +28,8 @@ pub struct EnrolRow {
 // The table of enrolments.
 pub(crate) fn create_enrol<S: Alter>(tx: &mut Transaction<'_, S>) -> Result<(), Error>
     ensures same_reference { tx.new.conn.ghost_name ≡ tx.old.conn.ghost_name }
-    ensures makes { Grows S.Store (IsBlank schema_2) (IsBlank schema_3) tx.old.conn.now tx.new.conn.now result }
+    ensures makes { Grows S.Store (IsBlank schema_2) (IsBlank schema_3)
+        tx.old.conn.now tx.new.conn.now result }
     ensures within { Within (state S.Store tx.old.conn.now) (state S.Store tx.new.conn.now) }
 {
     run(
@@ -161,7 +162,8 @@ pub(crate) fn adopt_enrols<S: Alter>(
     alloc: Global,
     conn: &mut Connection<S>,
 ) -> Result<Option<Vec<EnrolRow>>, Error>
-    ensures found { Finds S.Store (λ db. IsFound FitsEnrol enrol_columns keyless (db.trees 2)) conn.old conn.new result }
+    ensures found { Finds S.Store (λ db. IsFound FitsEnrol enrol_columns keyless (db.trees 2))
+        conn.old conn.new result }
     ensures same { Leaves S.Store conn.old conn.new result }
     ensures looks { Looks (state S.Store conn.old) (state S.Store conn.new) }
 {

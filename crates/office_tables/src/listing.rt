@@ -21,7 +21,8 @@ pub(crate) fn read_table<S: Alter, R: Record + Drop>(
     sql: &str,
 ) -> Result<Option<Vec<R>>, Error>
     ensures found { (tree : ℕ) (show : Columns → Columns) → ListsTable R.WIDTH tree show sql.now
-        → Finds S.Store (λ db. IsFound R.fits R.columns_of show (db.trees tree)) conn.old conn.new result }
+        → Finds S.Store (λ db. IsFound R.fits R.columns_of show (db.trees tree))
+        conn.old conn.new result }
     ensures same { (tree : ℕ) (show : Columns → Columns) → ListsTable R.WIDTH tree show sql.now
         → Leaves S.Store conn.old conn.new result }
     ensures looks { (tree : ℕ) (show : Columns → Columns) → ListsTable R.WIDTH tree show sql.now

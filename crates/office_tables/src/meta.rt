@@ -13,8 +13,8 @@ use crate::listing::{is_out_of_memory, list_rows};
 use crate::running::run;
 use sqlite::{Alter, Connection, Error, ErrorCode, Row, Transaction, params};
 
-/// The row about the office: whether there is a publication, and the canonical text of the instance,
-/// or nothing before a load.
+/// The row about the office: whether there is a publication, and the canonical text of the
+/// instance, or nothing before a load.
 #[derive(Drop)]
 pub struct MetaRow {
     pub published: bool,
@@ -24,7 +24,8 @@ pub struct MetaRow {
 // The table of the office.
 pub(crate) fn create_meta<S: Alter>(tx: &mut Transaction<'_, S>) -> Result<(), Error>
     ensures same_reference { tx.new.conn.ghost_name ≡ tx.old.conn.ghost_name }
-    ensures makes { Grows S.Store (IsBlank no_schema) (IsBlank schema_1) tx.old.conn.now tx.new.conn.now result }
+    ensures makes { Grows S.Store (IsBlank no_schema) (IsBlank schema_1)
+        tx.old.conn.now tx.new.conn.now result }
     ensures within { Within (state S.Store tx.old.conn.now) (state S.Store tx.new.conn.now) }
 {
     run(
@@ -111,7 +112,8 @@ fn read_meta(row: &Row) -> Result<Option<MetaRow>, Error>
 }
 
 fn is_number(row: &Row, at: usize, number: u64) -> Result<bool, Error>
-    ensures ok { IfOk result (λ is. at < length row.now → (IsTrue is ↔ (column row.now at ≡ Int (pos number)))) }
+    ensures ok { IfOk result (λ is. at < length row.now
+        → (IsTrue is ↔ (column row.now at ≡ Int (pos number)))) }
     ensures memory { IfErr result (λ e. e ≡ Error.SqliteFailure ErrorCode.OutOfMemory) }
 {
     let Some(found) = number_at(row, at)? else {
@@ -150,7 +152,8 @@ fn number_at(row: &Row, at: usize) -> Result<Option<u64>, Error>
 }
 
 fn bytes_at(row: &Row, at: usize) -> Result<Option<Vec<u8>>, Error>
-    ensures ok { IfOk result (λ found. IsColumn Blob row.now at (option_map (λ bytes. bytes.items) found)) }
+    ensures ok { IfOk result
+        (λ found. IsColumn Blob row.now at (option_map (λ bytes. bytes.items) found)) }
     ensures memory { IfErr result (λ e. e ≡ Error.SqliteFailure ErrorCode.OutOfMemory) }
 {
     match row.get(at) {

@@ -26,7 +26,8 @@ pub struct OwnerRow {
 // The table of owners.
 pub(crate) fn create_owner<S: Alter>(tx: &mut Transaction<'_, S>) -> Result<(), Error>
     ensures same_reference { tx.new.conn.ghost_name ≡ tx.old.conn.ghost_name }
-    ensures makes { Grows S.Store (IsBlank schema_1) (IsBlank schema_2) tx.old.conn.now tx.new.conn.now result }
+    ensures makes { Grows S.Store (IsBlank schema_1) (IsBlank schema_2)
+        tx.old.conn.now tx.new.conn.now result }
     ensures within { Within (state S.Store tx.old.conn.now) (state S.Store tx.new.conn.now) }
 {
     run(
@@ -95,13 +96,16 @@ pub fn owners_of<S: Alter>(
     conn: &mut Connection<S>,
     exam: u32,
 ) -> Result<Vec<OwnerRow>, Error>
-    ensures rows { Reads S.Store (λ t rows. IsPermutation (filter (λ r. r.exam == exam) t.owner) rows.items) conn.old conn.new result }
+    ensures rows { Reads S.Store
+        (λ t rows. IsPermutation (filter (λ r. r.exam == exam) t.owner) rows.items)
+        conn.old conn.new result }
     ensures open { AnswersOpen S.Store conn.old conn.new result }
     ensures was_open { OpensNone S.Store conn.old conn.new }
     ensures same { LeavesAll S.Store conn.old conn.new result }
     ensures kept { LeavesCommitted S.Store conn.old conn.new }
     ensures mode { conn.old.in_transaction ≡ false → conn.new.in_transaction ≡ false }
-    ensures survives { Survives (state S.Store conn.old) (state S.Store conn.new) (Nothing (state S.Store conn.old)) }
+    ensures survives { Survives (state S.Store conn.old) (state S.Store conn.new)
+        (Nothing (state S.Store conn.old)) }
 {
     stream(
         alloc,
@@ -116,7 +120,8 @@ pub(crate) fn adopt_owners<S: Alter>(
     alloc: Global,
     conn: &mut Connection<S>,
 ) -> Result<Option<Vec<OwnerRow>>, Error>
-    ensures found { Finds S.Store (λ db. IsFound FitsOwner owner_columns keyed (db.trees 1)) conn.old conn.new result }
+    ensures found { Finds S.Store (λ db. IsFound FitsOwner owner_columns keyed (db.trees 1))
+        conn.old conn.new result }
     ensures same { Leaves S.Store conn.old conn.new result }
     ensures looks { Looks (state S.Store conn.old) (state S.Store conn.new) }
 {

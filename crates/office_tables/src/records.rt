@@ -19,8 +19,9 @@ pub trait Record: Sized {
     // An error says that a column holds no such number, or that memory is refused.
     fn read(row: &Row) -> Result<Self, Error>
         ensures columns { IfOk result (λ made. columns_of made ≡ columns_from 0 WIDTH row.now) }
-        ensures refused { IfErr result (λ e. e ≢ Error.SqliteFailure ErrorCode.OutOfMemory → WIDTH ≤ length row.now
-            → (made : Self) → fits made → columns_of made ≢ columns_from 0 WIDTH row.now) };
+        ensures refused { IfErr result (λ e. e ≢ Error.SqliteFailure ErrorCode.OutOfMemory
+            → WIDTH ≤ length row.now → (made : Self) → fits made
+            → columns_of made ≢ columns_from 0 WIDTH row.now) };
 }
 
 // A number alone.

@@ -30,7 +30,8 @@ pub struct SeatRow {
 // The table of seats.
 pub(crate) fn create_seat<S: Alter>(tx: &mut Transaction<'_, S>) -> Result<(), Error>
     ensures same_reference { tx.new.conn.ghost_name ≡ tx.old.conn.ghost_name }
-    ensures makes { Grows S.Store (IsBlank schema_6) (IsBlank schema_7) tx.old.conn.now tx.new.conn.now result }
+    ensures makes { Grows S.Store (IsBlank schema_6) (IsBlank schema_7)
+        tx.old.conn.now tx.new.conn.now result }
     ensures within { Within (state S.Store tx.old.conn.now) (state S.Store tx.new.conn.now) }
 {
     run(

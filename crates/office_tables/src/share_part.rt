@@ -32,7 +32,8 @@ pub struct PartShareRow {
 // The table of shares of exams, periods and rooms.
 pub(crate) fn create_share_part<S: Alter>(tx: &mut Transaction<'_, S>) -> Result<(), Error>
     ensures same_reference { tx.new.conn.ghost_name ≡ tx.old.conn.ghost_name }
-    ensures makes { Grows S.Store (IsBlank schema_8) (IsBlank schema_9) tx.old.conn.now tx.new.conn.now result }
+    ensures makes { Grows S.Store (IsBlank schema_8) (IsBlank schema_9)
+        tx.old.conn.now tx.new.conn.now result }
     ensures within { Within (state S.Store tx.old.conn.now) (state S.Store tx.new.conn.now) }
 {
     run(
@@ -139,7 +140,8 @@ pub(crate) fn adopt_part_shares<S: Alter>(
     alloc: Global,
     conn: &mut Connection<S>,
 ) -> Result<Option<Vec<PartShareRow>>, Error>
-    ensures found { Finds S.Store (λ db. IsFound FitsPartShare share_part_columns keyless (db.trees 12))
+    ensures found { Finds S.Store
+        (λ db. IsFound FitsPartShare share_part_columns keyless (db.trees 12))
         conn.old conn.new result }
     ensures same { Leaves S.Store conn.old conn.new result }
     ensures looks { Looks (state S.Store conn.old) (state S.Store conn.new) }

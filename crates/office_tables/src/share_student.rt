@@ -32,7 +32,8 @@ pub struct StudentShareRow {
 // The table of candidates' shares.
 pub(crate) fn create_share_student<S: Alter>(tx: &mut Transaction<'_, S>) -> Result<(), Error>
     ensures same_reference { tx.new.conn.ghost_name ≡ tx.old.conn.ghost_name }
-    ensures makes { Grows S.Store (IsBlank schema_7) (IsBlank schema_8) tx.old.conn.now tx.new.conn.now result }
+    ensures makes { Grows S.Store (IsBlank schema_7) (IsBlank schema_8)
+        tx.old.conn.now tx.new.conn.now result }
     ensures within { Within (state S.Store tx.old.conn.now) (state S.Store tx.new.conn.now) }
 {
     run(
@@ -173,7 +174,8 @@ pub(crate) fn adopt_student_shares<S: Alter>(
     conn: &mut Connection<S>,
 ) -> Result<Option<Vec<StudentShareRow>>, Error>
     ensures found { Finds S.Store
-        (λ db. IsFound FitsStudentShare share_student_columns keyed (db.trees 11)) conn.old conn.new result }
+        (λ db. IsFound FitsStudentShare share_student_columns keyed (db.trees 11))
+        conn.old conn.new result }
     ensures same { Leaves S.Store conn.old conn.new result }
     ensures looks { Looks (state S.Store conn.old) (state S.Store conn.new) }
 {

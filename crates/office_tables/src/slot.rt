@@ -28,7 +28,8 @@ pub struct SlotRow {
 // The table of placements in drafts.
 pub(crate) fn create_slot<S: Alter>(tx: &mut Transaction<'_, S>) -> Result<(), Error>
     ensures same_reference { tx.new.conn.ghost_name ≡ tx.old.conn.ghost_name }
-    ensures makes { Grows S.Store (IsBlank schema_4) (IsBlank schema_5) tx.old.conn.now tx.new.conn.now result }
+    ensures makes { Grows S.Store (IsBlank schema_4) (IsBlank schema_5)
+        tx.old.conn.now tx.new.conn.now result }
     ensures within { Within (state S.Store tx.old.conn.now) (state S.Store tx.new.conn.now) }
 {
     run(
@@ -126,13 +127,16 @@ pub fn slots_of<S: Alter>(
     conn: &mut Connection<S>,
     draft: u32,
 ) -> Result<Vec<SlotRow>, Error>
-    ensures rows { Reads S.Store (λ t rows. IsPermutation (filter (λ r. r.draft == draft) t.slot) rows.items) conn.old conn.new result }
+    ensures rows { Reads S.Store
+        (λ t rows. IsPermutation (filter (λ r. r.draft == draft) t.slot) rows.items)
+        conn.old conn.new result }
     ensures open { AnswersOpen S.Store conn.old conn.new result }
     ensures was_open { OpensNone S.Store conn.old conn.new }
     ensures same { LeavesAll S.Store conn.old conn.new result }
     ensures kept { LeavesCommitted S.Store conn.old conn.new }
     ensures mode { conn.old.in_transaction ≡ false → conn.new.in_transaction ≡ false }
-    ensures survives { Survives (state S.Store conn.old) (state S.Store conn.new) (Nothing (state S.Store conn.old)) }
+    ensures survives { Survives (state S.Store conn.old) (state S.Store conn.new)
+        (Nothing (state S.Store conn.old)) }
 {
     stream(
         alloc,
@@ -147,7 +151,8 @@ pub(crate) fn adopt_slots<S: Alter>(
     alloc: Global,
     conn: &mut Connection<S>,
 ) -> Result<Option<Vec<SlotRow>>, Error>
-    ensures found { Finds S.Store (λ db. IsFound FitsSlot slot_columns keyless (db.trees 5)) conn.old conn.new result }
+    ensures found { Finds S.Store (λ db. IsFound FitsSlot slot_columns keyless (db.trees 5))
+        conn.old conn.new result }
     ensures same { Leaves S.Store conn.old conn.new result }
     ensures looks { Looks (state S.Store conn.old) (state S.Store conn.new) }
 {

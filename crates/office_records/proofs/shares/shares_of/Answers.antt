@@ -1,7 +1,8 @@
 use Rattle.std.proofs.Common.{◌≡◌, length, take, drop, arith, sym, ◌∙◌, ap₂}
 use Rattle.exam_publish.specs.Shares.{shares_of, student_shares}
 use Rattle.office_records.proofs.PublicationLemmas.{has_places_and_seats}
-use Rattle.office_records.proofs.SharesLemmas.{AreOfNone, are_personal, as_long, exam_rows, in_order, only_shares, passed, period_rows, rooms_rows}
+use Rattle.office_records.proofs.ResultLemmas.{passed_on}
+use Rattle.office_records.proofs.SharesLemmas.{AreOfNone, are_personal, as_long, exam_rows, in_order, only_shares, period_rows, rooms_rows}
 use Rattle.office_records.proofs.shares.shares_of.Goals as goal
 
 pub returns-then-len-exams-clause-none : goal.returns-then-len-exams-clause-none
@@ -24,7 +25,7 @@ returns-in_err-personal-clause-none c =
     let parts = c.args.parts.now in
     let sorted = c.in_ok-students.students.items in
     let rows = c.in_ok-parts.parts.items in
-    passed c.from_residual-in_err-personal.result c.in_err-personal.field-0.0
+    passed_on c.from_residual-in_err-personal.result c.in_err-personal.field-0.0
     (AreOfNone I students parts) c.from_residual-in_err-personal.ensures.1
     (λ bad p is shared.
     let own = in_order I p students sorted parts rows c.in_ok-students.ensures.only
@@ -42,7 +43,7 @@ returns-in_err-exam_shares-clause-none c =
     let rows = c.in_ok-parts.parts.items in
     let front : c.split_at.result.0.now ≡ take (length I.exams) rows
     = c.split_at.ensures.front ∙ ap₂ take c.exams-exams.ensures.count c.deref-2.ensures.value in
-    passed c.from_residual-in_err-exam_shares.result c.in_err-exam_shares.field-0.0
+    passed_on c.from_residual-in_err-exam_shares.result c.in_err-exam_shares.field-0.0
     (AreOfNone I students parts) c.from_residual-in_err-exam_shares.ensures.1
     (λ bad p is shared.
     let own = in_order I p students sorted parts rows c.in_ok-students.ensures.only
@@ -61,7 +62,7 @@ returns-in_err-period_shares-clause-none c =
     = c.split_at.ensures.back ∙ ap₂ drop c.exams-exams.ensures.count c.deref-2.ensures.value in
     let front : c.split_at-2.result.0.now ≡ take (length I.periods) (drop (length I.exams) rows)
     = c.split_at-2.ensures.front ∙ ap₂ take c.periods-periods.ensures.count back in
-    passed c.from_residual-in_err-period_shares.result c.in_err-period_shares.field-0.0
+    passed_on c.from_residual-in_err-period_shares.result c.in_err-period_shares.field-0.0
     (AreOfNone I students parts) c.from_residual-in_err-period_shares.ensures.1
     (λ bad p is shared.
     let own = in_order I p students sorted parts rows c.in_ok-students.ensures.only
@@ -80,7 +81,7 @@ returns-in_err-room_shares-clause-none c =
     = c.split_at.ensures.back ∙ ap₂ drop c.exams-exams.ensures.count c.deref-2.ensures.value in
     let back : c.split_at-2.result.1.now ≡ drop (length I.periods) (drop (length I.exams) rows)
     = c.split_at-2.ensures.back ∙ ap₂ drop c.periods-periods.ensures.count others in
-    passed c.from_residual-in_err-room_shares.result c.in_err-room_shares.field-0.0
+    passed_on c.from_residual-in_err-room_shares.result c.in_err-room_shares.field-0.0
     (AreOfNone I students parts) c.from_residual-in_err-room_shares.ensures.1
     (λ bad p is shared.
     let own = in_order I p students sorted parts rows c.in_ok-students.ensures.only
