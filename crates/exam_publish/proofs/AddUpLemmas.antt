@@ -24,8 +24,8 @@ use Rattle.exam_publish.specs.declared.seat_row.SeatRow.{SeatRow}
 use Rattle.exam_publish.specs.declared.share_lists.RoomShare.{RoomShare}
 use Rattle.exam_publish.specs.AddUp.{AddUpTo}
 use Rattle.exam_publish.specs.Changed.{rows_of, students_of}
-use Rattle.exam_publish.specs.Rows.{AreNumbered, ArePublishedRows, RowBefore, IsAtExam}
-use Rattle.exam_publish.specs.Shares.{enrolled_in, share_of, student_shares, exam_shares, period_share, period_shares, is_in_period, is_in_room, room_share, room_shares, shares_of}
+use Rattle.exam_publish.specs.Rows.{AreNumbered, ArePublishedRows, RowBefore, IsAtExam, enrolled_in}
+use Rattle.exam_publish.specs.Shares.{share_of, student_shares, exam_shares, period_share, period_shares, is_in_period, is_in_room, room_share, room_shares, shares_of}
 use Rattle.exam_publish.proofs.RowLemmas.{pairs_in, are_enrolments, are_students, her_periods}
 use Rattle.exam_publish.proofs.PlaceLemmas.{rows_exist}
 

@@ -19,7 +19,7 @@ use Rattle.exam_rules.specs.Breaches.{least_breach_of}
 use Rattle.exam_rules.specs.declared.breach.Breach.{Breach}
 use Rattle.exam_publish.specs.Permit.{first_unplaced, least_breach, publish_refusal}
 use Rattle.exam_publish.specs.Seats.{AreSeated}
-use Rattle.exam_publish.specs.Shares.{enrolled_in}
+use Rattle.exam_publish.specs.Rows.{enrolled_in}
 use Rattle.exam_publish.proofs.PermitLemmas.{neither}
 use Rattle.exam_publish.proofs.PublishedLemmas.{same_enrolments}
 use Rattle.exam_publish.proofs.SeatLemmas.{AreSeats, are_seats}

@@ -12,9 +12,8 @@ use Rattle.exam_model.specs.Pairs.{pairs_of}
 use Rattle.exam_model.specs.Timetable.{Placing}
 use Rattle.exam_model.proofs.SumLemmas.{chain_from_index}
 use Rattle.exam_publish.specs.Permit.{RefusesPublication, first_unplaced, least_breach, publish_fault, publish_refusal}
-use Rattle.exam_publish.specs.Rows.{AreNumbered, ArePublishedRows, RowBefore, row_pair}
+use Rattle.exam_publish.specs.Rows.{AreNumbered, ArePublishedRows, RowBefore, row_pair, enrolled_in, students_in}
 use Rattle.exam_publish.specs.Seats.{AreSeated}
-use Rattle.exam_publish.specs.Shares.{enrolled_in, students_in}
 use Rattle.exam_publish.specs.declared.fault.PublishFault.{PublishFault}
 use Rattle.exam_publish.specs.declared.fault.PublishFault.TheVariants.{Broken, NoMemory, Unplaced}
 use Rattle.exam_publish.specs.declared.seat_row.SeatRow.{SeatRow}

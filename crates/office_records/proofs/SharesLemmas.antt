@@ -11,7 +11,8 @@ use Rattle.exam_model.proofs.StudentLemmas.{each_with}
 use Rattle.exam_score.specs.Penalty.{PersonalPenalty, personal_total}
 use Rattle.exam_publish.specs.AddUp.{AreSmall}
 use Rattle.exam_publish.specs.Changed.{rows_of, students_of}
-use Rattle.exam_publish.specs.Shares.{Sharing, enrolled_in, period_share, room_share, share_of, shares_of, student_shares}
+use Rattle.exam_publish.specs.Shares.{Sharing, period_share, room_share, share_of, shares_of, student_shares}
+use Rattle.exam_publish.specs.Rows.{enrolled_in}
 use Rattle.exam_publish.specs.declared.seat_row.SeatRow.{SeatRow}
 use Rattle.exam_publish.proofs.AddUpLemmas.{adds_up}
 use Rattle.exam_publish.proofs.ShareLemmas.{published_small, shares_ascend}

@@ -13,7 +13,8 @@ use Rattle.exam_model.specs.Timetable.{Placing}
 use Rattle.exam_score.specs.Changes.{DiffersAtMost}
 use Rattle.exam_score.specs.Penalty.{Penalty, total_of}
 use Rattle.exam_score.specs.Track.{track}
-use Rattle.exam_draft.specs.Edits.{Edited, IsEditedAt, edited, edited_exams}
+use Rattle.exam_draft.specs.Edits.{Edited, edited}
+use Rattle.exam_draft.specs.Judged.{IsEditedAt, edited_exams}
 use Rattle.exam_draft.specs.declared.edit.Edit.{Edit}
 use Rattle.office_tables.specs.Alterations.{after_all}
 use Rattle.office_tables.specs.Draft.{with_draft, without_draft}

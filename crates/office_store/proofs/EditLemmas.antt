@@ -20,7 +20,8 @@ use Rattle.office_tables.specs.Standing.{Stands}
 use Rattle.office_tables.specs.Draft.{with_draft, without_draft}
 use Rattle.office_tables.specs.declared.draft.DraftRow.{DraftRow}
 use Rattle.office_store.specs.Changes.{edit_put}
-use Rattle.exam_draft.specs.Edits.{edited, edited_exams}
+use Rattle.exam_draft.specs.Edits.{edited}
+use Rattle.exam_draft.specs.Judged.{edited_exams}
 use Rattle.exam_draft.specs.declared.edit.Edit.{Edit}
 use Rattle.exam_draft.specs.declared.edit.Edit.TheVariants as edit
 use Rattle.office_model.specs.Office.{Records, set_at}

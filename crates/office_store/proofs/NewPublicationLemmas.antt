@@ -10,7 +10,8 @@ use Rattle.exam_model.specs.Pairs.{pairs_of}
 use Rattle.exam_model.specs.Timetable.{Placing}
 use Rattle.exam_publish.specs.Permit.{RefusesPublication, publish_refusal}
 use Rattle.exam_publish.specs.Seats.{seat_rows}
-use Rattle.exam_publish.specs.Shares.{enrolled_in, period_share, room_share, shares_of}
+use Rattle.exam_publish.specs.Shares.{period_share, room_share, shares_of}
+use Rattle.exam_publish.specs.Rows.{enrolled_in}
 use Rattle.exam_publish.specs.declared.fault.PublishFault.{PublishFault}
 use Rattle.exam_publish.specs.declared.fault.PublishFault.TheVariants.{Broken, NoMemory, Unplaced}
 use Rattle.exam_publish.specs.declared.seat_row.SeatRow.{SeatRow}

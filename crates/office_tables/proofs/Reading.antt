@@ -10,7 +10,7 @@ use Rattle.sqlite.proofs.StateLemmas.{survives_weaker}
 use Rattle.sqlite.proofs.Callers.{IsPlain, never_commits}
 use Rattle.office_tables.specs.Tables.{Tables}
 use Rattle.office_tables.specs.Standing.{Stands}
-use Rattle.office_tables.specs.Steps.{Nothing, Keeps}
+use Rattle.office_tables.specs.Readers.{Nothing, Keeps}
 
 pub kept_unchanged : (old new : State) → IsUnchanged old new → Keeps old new
 kept_unchanged old new h = record { was_open = λ _. h.0.was_open; now = λ _. inl h.0.now_is; committed = λ _. h.0.committed_is; mode = λ m. h.0.mode ∙ m }

@@ -1,6 +1,6 @@
 use Rattle.std.proofs.Common.{rules, ◌≡◌, ◌∙◌, Err, subst, sym}
 use Rattle.sqlite.specs.Held.{state}
-use Rattle.exam_draft.specs.Edits.{edited_exams}
+use Rattle.exam_draft.specs.Judged.{edited_exams}
 use Rattle.office_model.specs.Commands.{draft_edited}
 use Rattle.office_store.specs.Running.{Runs}
 use Rattle.office_store.proofs.CommandLemmas.{rests, runs}
