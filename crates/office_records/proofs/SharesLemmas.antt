@@ -24,7 +24,8 @@ use Rattle.office_model.specs.Office.{IsPublication, Publication}
 use Rattle.office_records.specs.declared.fault.RecordFault.{RecordFault}
 use Rattle.office_records.specs.declared.fault.RecordFault.TheVariants.{BadRows}
 use Rattle.office_records.specs.Publications.{HasPlacesAndSeats}
-use Rattle.office_records.specs.SharesStored.{AreShared, AreSharesOf, HasFewParts, IsShare, part_rows, plain_rows, room_rows, student_share_row}
+use Rattle.office_records.specs.SharesStored.{AreShared, AreSharesOf, IsShare, student_share_row}
+use Rattle.office_records.specs.PartShares.{HasFewParts, part_rows, plain_rows, room_rows}
 use Rattle.office_records.proofs.PartRowLemmas.{exam_part, long, period_part, room_part, same_plain, same_rooms}
 use Rattle.office_records.proofs.ShareRowLemmas.{same_shares}
 

@@ -7,4 +7,5 @@ pub mod Faults
 pub mod Publications
 pub mod SeatsStored
 pub mod SharesStored
+pub mod PartShares
 pub mod BatchRows

@@ -24,7 +24,7 @@ use Rattle.office_model.specs.declared.fault.Refusal.TheVariants as refusal
 use Rattle.office_model.specs.declared.fault.StoreFault.{StoreFault}
 use Rattle.office_model.specs.declared.fault.StoreFault.TheVariants.{BadSchema, Refused, Store}
 use Rattle.office_records.specs.Memory.{memory_of}
-use Rattle.office_records.specs.SharesStored.{HasFewParts}
+use Rattle.office_records.specs.PartShares.{HasFewParts}
 use Rattle.office_store.specs.NewPublications.{ArePutIn, Publishes}
 use Rattle.office_store.specs.Running.{IsFault}
 use Rattle.office_store.specs.declared.new_publication.NewPublication.{NewPublication}

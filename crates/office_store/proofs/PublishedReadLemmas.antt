@@ -28,7 +28,8 @@ use Rattle.office_records.specs.Faults.{store_fault}
 use Rattle.office_records.specs.Publications.{ArePublicationRows, ArePublished, StandsPublished}
 use Rattle.office_records.specs.Publications.{publication_from}
 use Rattle.office_records.specs.Publications.{placed_from, placed_rows, stored_seat}
-use Rattle.office_records.specs.SharesStored.{AreShared, part_rows, plain_rows}
+use Rattle.office_records.specs.SharesStored.{AreShared}
+use Rattle.office_records.specs.PartShares.{part_rows, plain_rows}
 use Rattle.office_records.specs.Stands.{IsKept, IsSound, StandsForOffice}
 use Rattle.office_records.proofs.ReadableLemmas.{are_numbered}
 use Rattle.office_records.specs.declared.fault.RecordFault.{RecordFault}

@@ -15,7 +15,8 @@ use Rattle.office_model.specs.Commands.{penalty_now}
 use Rattle.office_model.specs.declared.fault.StoreFault.{StoreFault}
 use Rattle.office_records.specs.Publications.{placed_from, stored_seat}
 use Rattle.office_records.specs.SeatsStored.{seat_rows_of}
-use Rattle.office_records.specs.SharesStored.{part_rows, share_rows_of, student_share_row}
+use Rattle.office_records.specs.SharesStored.{share_rows_of, student_share_row}
+use Rattle.office_records.specs.PartShares.{part_rows}
 use Rattle.office_records.specs.Stands.{session_text}
 use Rattle.office_store.specs.Running.{IsFault}
 use Rattle.office_store.specs.declared.new_publication.NewPublication.{NewPublication}

@@ -7,7 +7,8 @@ use Rattle.office_tables.specs.declared.slot.SlotRow.{SlotRow}
 use Rattle.office_tables.specs.declared.share_part.PartShareRow.{PartShareRow}
 use Rattle.office_tables.specs.declared.share_student.StudentShareRow.{StudentShareRow}
 use Rattle.office_model.specs.Office.{OfficeState, Publication}
-use Rattle.office_records.specs.SharesStored.{part_share_rows, student_share_rows}
+use Rattle.office_records.specs.SharesStored.{student_share_rows}
+use Rattle.office_records.specs.PartShares.{part_share_rows}
 use Rattle.office_records.specs.Stands.{IsScoredRow, once, slot_rows}
 use Rattle.office_model.specs.Commands.{draft_in}
 
