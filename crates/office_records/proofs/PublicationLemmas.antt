@@ -24,7 +24,7 @@ use Rattle.office_tables.specs.declared.enrol.EnrolRow.{EnrolRow}
 use Rattle.office_model.specs.Office.{AreEnrolled, IsPublication, Publication}
 use Rattle.office_model.proofs.RecordLemmas.{are_enrolled as enrolled_of_exams}
 use Rattle.office_records.specs.Found.{AreEnrolRows}
-use Rattle.office_records.specs.Publications.{HasPlacesAndSeats, publication, seat_pair}
+use Rattle.office_records.specs.FoundPublications.{HasPlacesAndSeats, publication, seat_pair}
 use Rattle.office_records.specs.Stands.{enrol_row}
 use Rattle.office_records.proofs.MemoryLemmas.{same_enrolments}
 

@@ -16,7 +16,7 @@ use Rattle.office_records.specs.Found.{AreDrafts, AreEnrolRows}
 use Rattle.office_records.specs.FoundBatches.{AreBatchRows, AreFoundBatches}
 use Rattle.office_records.specs.Found.{AreOwners, ArePublication, IsSessionRow, IsUnloaded}
 use Rattle.office_model.specs.Office.{OfficeState, Publication, Records, AreKept, AreRecords, IsOffice, IsPublication}
-use Rattle.office_records.specs.Publications.{ArePublished}
+use Rattle.office_records.specs.FoundPublications.{ArePublished}
 use Rattle.office_records.specs.Memory.{memory_of}
 use Rattle.office_records.specs.Stands.{IsSound, StandsForOffice, StandsLoaded, meta_row}
 use Rattle.office_records.proofs.BatchRowLemmas.{batch_rows, batches_kept, batches_stand}

@@ -23,7 +23,7 @@ use Rattle.office_tables.specs.declared.share_student.StudentShareRow.{StudentSh
 use Rattle.office_model.specs.Office.{IsPublication, Publication}
 use Rattle.office_records.specs.declared.fault.RecordFault.{RecordFault}
 use Rattle.office_records.specs.declared.fault.RecordFault.TheVariants.{BadRows}
-use Rattle.office_records.specs.Publications.{HasPlacesAndSeats}
+use Rattle.office_records.specs.FoundPublications.{HasPlacesAndSeats}
 use Rattle.office_records.specs.SharesStored.{AreShared, AreSharesOf, IsShare, student_share_row}
 use Rattle.office_records.specs.PartShares.{HasFewParts, part_rows, plain_rows, room_rows}
 use Rattle.office_records.proofs.PartRowLemmas.{exam_part, long, period_part, room_part, same_plain, same_rooms}

@@ -5,6 +5,7 @@ pub mod Found
 pub mod NextRow
 pub mod Faults
 pub mod Publications
+pub mod FoundPublications
 pub mod SeatsStored
 pub mod SharesStored
 pub mod PartShares
