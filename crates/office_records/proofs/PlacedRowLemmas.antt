@@ -11,7 +11,7 @@ use Rattle.office_tables.specs.declared.slot.SlotRow.{SlotRow}
 use Rattle.office_records.specs.Found.{AreSlots}
 use Rattle.office_records.specs.Publications.{placed_from, placed_row}
 use Rattle.office_records.specs.FoundPublications.{ArePlaces, placed_slot}
-use Rattle.office_records.specs.Stands.{slots_at, slots_from}
+use Rattle.office_records.specs.TableRows.{slots_at, slots_from}
 use Rattle.office_records.proofs.SlotLemmas.{same_timetable}
 
 -- ---- as places of draft 0

@@ -25,7 +25,7 @@ use Rattle.office_model.specs.Office.{AreEnrolled, IsPublication, Publication}
 use Rattle.office_model.proofs.RecordLemmas.{are_enrolled as enrolled_of_exams}
 use Rattle.office_records.specs.Found.{AreEnrolRows}
 use Rattle.office_records.specs.FoundPublications.{HasPlacesAndSeats, publication, seat_pair}
-use Rattle.office_records.specs.Stands.{enrol_row}
+use Rattle.office_records.specs.TableRows.{enrol_row}
 use Rattle.office_records.proofs.MemoryLemmas.{same_enrolments}
 
 module _ (I : Session) (rows : List SeatRow) (T : Placing) (are : ArePublishedRows I rows T) where

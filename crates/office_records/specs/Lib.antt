@@ -1,5 +1,6 @@
 pub mod Memory
 pub mod Stands
+pub mod TableRows
 pub mod FoundBatches
 pub mod Found
 pub mod NextRow

@@ -21,7 +21,8 @@ use Rattle.office_tables.specs.declared.slot.InsertSlot.{InsertSlot}
 use Rattle.office_tables.proofs.AlterationLemmas.{slots_put}
 use Rattle.office_model.specs.Office.{OfficeState, Records, set_at}
 use Rattle.office_records.specs.Memory.{Memory, memory_of}
-use Rattle.office_records.specs.Stands.{IsKept, once, parts_of}
+use Rattle.office_records.specs.Stands.{IsKept, parts_of}
+use Rattle.office_records.specs.TableRows.{once}
 use Rattle.office_store.specs.NewDraft.{Begins}
 use Rattle.office_store.specs.Changes.{draft_put, draft_removed}
 use Rattle.office_model.specs.Commands.{Gives, draft_dropped, draft_in, draft_made, first_timetable, is_draft_number, named, penalty_now}

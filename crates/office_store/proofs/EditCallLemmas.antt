@@ -33,7 +33,8 @@ use Rattle.office_model.specs.declared.fault.StoreFault.TheVariants.{BadSchema, 
 use Rattle.office_records.specs.Found.{AreSlots}
 use Rattle.office_records.specs.Memory.{Memory, memory_of}
 use Rattle.office_records.specs.Faults.{store_fault}
-use Rattle.office_records.specs.Stands.{IsKept, once, parts_of}
+use Rattle.office_records.specs.Stands.{IsKept, parts_of}
+use Rattle.office_records.specs.TableRows.{once}
 use Rattle.office_records.specs.declared.fault.RecordFault.{RecordFault}
 use Rattle.office_records.specs.declared.fault.RecordFault.TheVariants.{BadRows, NoMemory}
 use Rattle.office_records.proofs.SlotLemmas.{same_timetable}

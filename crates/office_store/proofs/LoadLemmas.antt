@@ -27,7 +27,8 @@ use Rattle.office_model.specs.declared.fault.StoreFault.TheVariants.{Loaded}
 use Rattle.office_model.specs.declared.counts.Loaded as loading
 use Rattle.office_model.proofs.RecordLemmas.{fresh_records}
 use Rattle.office_store.proofs.CommandLemmas.{Denies, Moves}
-use Rattle.office_records.specs.Stands.{StandsLoaded, IsKept, enrol_row}
+use Rattle.office_records.specs.Stands.{StandsLoaded, IsKept}
+use Rattle.office_records.specs.TableRows.{enrol_row}
 
 -- ---- the rows of pairs
 

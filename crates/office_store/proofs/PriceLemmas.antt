@@ -10,7 +10,8 @@ use Rattle.office_model.specs.Commands.{draft_in}
 use Rattle.office_model.specs.Office.{OfficeState, Records, AreRecords, IsOffice}
 use Rattle.office_model.specs.declared.fault.StoreFault.TheVariants.{BadSchema, NoDraft}
 use Rattle.office_records.specs.Memory.{memory_of}
-use Rattle.office_records.specs.Stands.{IsScoredRow, once, parts_of}
+use Rattle.office_records.specs.Stands.{IsScoredRow, parts_of}
+use Rattle.office_records.specs.TableRows.{once}
 use Rattle.office_store.specs.Pricing.{draft_priced}
 use Rattle.office_store.specs.OfficeRows.{AreScored}
 use Rattle.office_store.specs.Running.{Does}

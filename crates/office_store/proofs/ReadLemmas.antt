@@ -15,7 +15,8 @@ use Rattle.office_tables.specs.declared.slot.SlotRow.{SlotRow}
 use Rattle.office_records.specs.Found.{AreSlots}
 use Rattle.office_model.specs.Office.{OfficeState, Records, AreRecords, IsOffice}
 use Rattle.office_records.specs.Memory.{memory_of}
-use Rattle.office_records.specs.Stands.{StandsForOffice, IsSound, IsScoredRow, drafts_at, slots_at, slots_from, slot_rows, parts_of, once}
+use Rattle.office_records.specs.Stands.{StandsForOffice, IsSound, IsScoredRow, parts_of}
+use Rattle.office_records.specs.TableRows.{drafts_at, slots_at, slots_from, slot_rows, once}
 use Rattle.office_records.specs.declared.fault.RecordFault.{RecordFault}
 use Rattle.office_records.specs.declared.fault.RecordFault.TheVariants.{NoMemory, BadRows}
 use Rattle.office_model.specs.declared.fault.StoreFault.{StoreFault}

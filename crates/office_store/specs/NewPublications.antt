@@ -17,7 +17,7 @@ use Rattle.office_records.specs.Publications.{placed_from, stored_seat}
 use Rattle.office_records.specs.SeatsStored.{seat_rows_of}
 use Rattle.office_records.specs.SharesStored.{share_rows_of, student_share_row}
 use Rattle.office_records.specs.PartShares.{part_rows}
-use Rattle.office_records.specs.Stands.{session_text}
+use Rattle.office_records.specs.TableRows.{session_text}
 use Rattle.office_store.specs.Running.{IsFault}
 use Rattle.office_store.specs.declared.new_publication.NewPublication.{NewPublication}
 use Rattle.office_store.specs.RowPuts.{placement_put, her_seats_gone, seat_put, share_gone, student_share_put, part_share_put}

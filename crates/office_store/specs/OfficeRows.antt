@@ -9,7 +9,8 @@ use Rattle.office_tables.specs.declared.share_student.StudentShareRow.{StudentSh
 use Rattle.office_model.specs.Office.{OfficeState, Publication}
 use Rattle.office_records.specs.SharesStored.{student_share_rows}
 use Rattle.office_records.specs.PartShares.{part_share_rows}
-use Rattle.office_records.specs.Stands.{IsScoredRow, once, slot_rows}
+use Rattle.office_records.specs.Stands.{IsScoredRow}
+use Rattle.office_records.specs.TableRows.{once, slot_rows}
 use Rattle.office_model.specs.Commands.{draft_in}
 
 -- each row of a draft has the penalty of its timetable

@@ -8,7 +8,8 @@ ghost use Rattle.office_model.specs.Commands.{draft_dropped, draft_in, draft_mad
 ghost use Rattle.office_model.specs.Office.{OfficeState};
 ghost use Rattle.office_store.specs.OfficeRows.{AreScored};
 ghost use Rattle.office_store.specs.Running.{IsAwake, Now, Runs};
-ghost use Rattle.office_records.specs.Stands.{IsKept, once, slots_from};
+ghost use Rattle.office_records.specs.Stands.{IsKept};
+ghost use Rattle.office_records.specs.TableRows.{once, slots_from};
 
 use crate::fault::Failed;
 use crate::office::Office;
