@@ -18,7 +18,9 @@ use Rattle.exam_model.proofs.SumLemmas.{chain_from_index, sum_by-same, sum_by-ad
 use Rattle.exam_score.specs.Cost.{row_cost, day_cost, spread_cost}
 use Rattle.exam_score.specs.Penalty.{PersonalPenalty}
 use Rattle.exam_score.specs.Regrouping.{pair_part, candidate_cost, periods_of}
-use Rattle.exam_score.specs.Track.{track, exam_period, exam_room, period_penalty, room_penalty, period_part, room_part, exam_front, room_mixed}
+use Rattle.exam_score.specs.Track.{track, exam_period, exam_room, period_penalty, room_penalty, period_part, room_part}
+use Rattle.exam_score.specs.FrontLoad.{exam_front}
+use Rattle.exam_score.specs.MixedDurations.{room_mixed}
 use Rattle.exam_score.proofs.RegroupingLemmas.{regrouped_by_students}
 use Rattle.exam_publish.specs.declared.seat_row.SeatRow.{SeatRow}
 use Rattle.exam_publish.specs.declared.share_lists.RoomShare.{RoomShare}

@@ -9,7 +9,9 @@ use Rattle.exam_model.specs.declared.parts.Weights.{Weights}
 use Rattle.exam_rules.specs.Places.{where_placed}
 use Rattle.exam_score.specs.Penalty.{PersonalPenalty}
 use Rattle.exam_score.specs.Personal.{personal_of}
-use Rattle.exam_score.specs.Track.{exam_front, room_mixed, period_penalty, room_penalty}
+use Rattle.exam_score.specs.Track.{period_penalty, room_penalty}
+use Rattle.exam_score.specs.FrontLoad.{exam_front}
+use Rattle.exam_score.specs.MixedDurations.{room_mixed}
 use Rattle.exam_publish.specs.declared.seat_row.SeatRow.{SeatRow}
 use Rattle.exam_publish.specs.declared.share_lists.RoomShare.{RoomShare}
 use Rattle.exam_publish.specs.Changed.{rows_of, students_of}

@@ -17,7 +17,7 @@ use Rattle.exam_publish.specs.declared.seat_row.SeatRow.{SeatRow}
 use Rattle.exam_publish.proofs.AddUpLemmas.{adds_up}
 use Rattle.exam_publish.proofs.ShareLemmas.{published_small, shares_ascend}
 use Rattle.exam_model.specs.Timetable.{Placing}
-use Rattle.exam_score.specs.Track.{exam_front}
+use Rattle.exam_score.specs.FrontLoad.{exam_front}
 use Rattle.office_tables.specs.declared.share_part.PartShareRow.{PartShareRow}
 use Rattle.office_tables.specs.declared.share_student.StudentShareRow.{StudentShareRow}
 use Rattle.office_model.specs.Office.{IsPublication, Publication}

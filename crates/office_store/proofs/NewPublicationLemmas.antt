@@ -16,7 +16,8 @@ use Rattle.exam_publish.specs.declared.fault.PublishFault.{PublishFault}
 use Rattle.exam_publish.specs.declared.fault.PublishFault.TheVariants.{Broken, NoMemory, Unplaced}
 use Rattle.exam_publish.specs.declared.seat_row.SeatRow.{SeatRow}
 use Rattle.exam_score.specs.Penalty.{total_of}
-use Rattle.exam_score.specs.Track.{exam_front, track}
+use Rattle.exam_score.specs.Track.{track}
+use Rattle.exam_score.specs.FrontLoad.{exam_front}
 use Rattle.office_model.specs.Commands.{draft_shown}
 use Rattle.office_model.specs.Office.{Records}
 use Rattle.office_model.specs.Publishing.{draft_published, rows_now}

@@ -1,6 +1,6 @@
 use Rattle.std.proofs.Common.{◌≡◌, length, map}
 use Rattle.std.specs.List.{range_with_len}
-use Rattle.exam_score.specs.Track.{exam_front}
+use Rattle.exam_score.specs.FrontLoad.{exam_front}
 use Rattle.exam_publish.specs.Rows.{enrolled_in}
 use Rattle.exam_publish.proofs.exam_shares.exam_shares.Given as goal
 
