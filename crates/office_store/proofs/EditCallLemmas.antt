@@ -25,7 +25,8 @@ use Rattle.office_tables.specs.declared.draft.DraftRow.{DraftRow}
 use Rattle.office_tables.specs.declared.slot.SlotRow.{SlotRow}
 use Rattle.office_tables.specs.declared.slot.DeleteSlot.{DeleteSlot}
 use Rattle.office_tables.specs.declared.slot.InsertSlot.{InsertSlot}
-use Rattle.office_model.specs.Commands.{draft_edited, draft_in, draft_shown, named, penalty_now}
+use Rattle.office_model.specs.Commands.{named}
+use Rattle.office_model.specs.DraftCommands.{draft_edited, draft_in, draft_shown, penalty_now}
 use Rattle.office_model.specs.Office.{AreRecords, IsOffice, OfficeState, Records, set_at}
 use Rattle.office_model.specs.declared.fault.Refusal.TheVariants as refusal
 use Rattle.office_model.specs.declared.fault.StoreFault.{StoreFault}

@@ -18,7 +18,7 @@ use Rattle.exam_publish.specs.declared.seat_row.SeatRow.{SeatRow}
 use Rattle.exam_score.specs.Penalty.{total_of}
 use Rattle.exam_score.specs.Track.{track}
 use Rattle.exam_score.specs.FrontLoad.{exam_front}
-use Rattle.office_model.specs.Commands.{draft_shown}
+use Rattle.office_model.specs.DraftCommands.{draft_shown}
 use Rattle.office_model.specs.Office.{Records}
 use Rattle.office_model.specs.Publishing.{draft_published, rows_now}
 use Rattle.office_model.specs.declared.fault.Refusal.TheVariants as refusal

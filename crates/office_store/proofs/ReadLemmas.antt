@@ -20,7 +20,8 @@ use Rattle.office_records.specs.TableRows.{drafts_at, slots_at, slots_from, slot
 use Rattle.office_records.specs.declared.fault.RecordFault.{RecordFault}
 use Rattle.office_records.specs.declared.fault.RecordFault.TheVariants.{NoMemory, BadRows}
 use Rattle.office_model.specs.declared.fault.StoreFault.{StoreFault}
-use Rattle.office_model.specs.Commands.{Gives, draft_in, draft_shown, session_shown}
+use Rattle.office_model.specs.Commands.{Gives, session_shown}
+use Rattle.office_model.specs.DraftCommands.{draft_in, draft_shown}
 use Rattle.office_records.specs.Faults.{store_fault}
 use Rattle.office_store.specs.Running.{Does, IsFault}
 use Rattle.office_store.specs.OfficeRows.{AreRowsOf, AreScored}

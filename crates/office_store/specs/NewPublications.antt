@@ -11,7 +11,7 @@ use Rattle.office_tables.specs.SharePart.{ArePartAmounts}
 use Rattle.office_tables.specs.ShareStudent.{AreStudentAmounts}
 use Rattle.office_model.specs.Office.{Records}
 use Rattle.office_model.specs.Publishing.{draft_published, published_as, rows_now}
-use Rattle.office_model.specs.Commands.{penalty_now}
+use Rattle.office_model.specs.DraftCommands.{penalty_now}
 use Rattle.office_model.specs.declared.fault.StoreFault.{StoreFault}
 use Rattle.office_records.specs.Publications.{placed_from, stored_seat}
 use Rattle.office_records.specs.SeatsStored.{seat_rows_of}
