@@ -1,18 +1,16 @@
 -- What an edit makes of a timetable, or why it is refused: the first reason that holds.
-use Rattle.std.specs.Prelude.{◌≡◌, ℕ, ◌<◌, ◌⊎◌, Bool, not, ◌&&◌, ◌==◌, nat_lt, List, [], ◌∷◌, length, All, Option, Some, None, is_some, Result, Ok, Err, slice_set}
+use Rattle.std.specs.Prelude.{ℕ, Bool, not, ◌&&◌, ◌==◌, nat_lt, List, [], ◌∷◌, length, Option, Some, None, is_some, Result, Ok, Err, slice_set}
 use Rattle.exam_terms.specs.Refusing.{◌>>=◌, unless}
 use Rattle.exam_model.specs.Instance.{Session}
 use Rattle.exam_model.specs.Enrolments.{Enrolled}
 use Rattle.exam_model.specs.Timetable.{Placing, place_of}
-use Rattle.exam_model.specs.Fits.{Fits}
 use Rattle.exam_terms.specs.declared.place.Place.{Place}
 use Rattle.exam_rules.specs.declared.breach.Breach.{Breach}
 use Rattle.exam_rules.specs.Breaches.{least_breach_of}
-use Rattle.exam_score.specs.Changes.{DiffersAtMost}
 use Rattle.exam_draft.specs.declared.edit.Edit.{Edit}
 use Rattle.exam_draft.specs.declared.edit.Edit.TheVariants as edit
 use Rattle.exam_draft.specs.declared.fault.EditFault.{EditFault}
-use Rattle.exam_draft.specs.declared.fault.EditFault.TheVariants.{NoSuch, AlreadyPlaced, NotPlaced, SameExam, Broken, NoMemory}
+use Rattle.exam_draft.specs.declared.fault.EditFault.TheVariants.{NoSuch, AlreadyPlaced, NotPlaced, SameExam, Broken}
 
 -- the edited timetable, or the refusal
 abbrev pub Edited : Type 0
@@ -78,22 +76,3 @@ edited I E T (edit.Place e at) = after_place I E T e at
 edited I E T (edit.Move e at) = after_move I E T e at
 edited I E T (edit.Swap a b) = after_swap I E T a b
 edited I E T (edit.Clear e) = after_clear I T e
-
--- the exams that get or lose a place
-abbrev pub edited_exams : Edit → List ℕ
-edited_exams (edit.Place e at) = e ∷ []
-edited_exams (edit.Move e at) = e ∷ []
-edited_exams (edit.Swap a b) = a ∷ (b ∷ [])
-edited_exams (edit.Clear e) = e ∷ []
-
--- what an edit of these exams keeps: they exist, all of it fits together, and every other exam
--- stands where it stood
-pub record IsEditedAt (I : Session) (E : Enrolled) (old : Placing) (exams : List ℕ)
-    (new : Placing) : Type 0 where
-  pub exist : All (λ e. e < length I.exams) exams
-  pub fits : Fits I E new
-  pub others : DiffersAtMost exams old new
-
--- a call answers this fault for such an edit: its refusal, or out of memory in its place
-abbrev pub Refuses : Edited → EditFault → Type 0
-Refuses edited fault = (edited ≡ Err fault) ⊎ (fault ≡ NoMemory)

@@ -4,7 +4,8 @@ ghost use Rattle.exam_model.specs.Timetable.{unplaced};
 ghost use Rattle.exam_model.specs.Fits.{Fits};
 ghost use Rattle.exam_score.specs.Changes.{DiffersAtMost};
 ghost use Rattle.exam_score.specs.Track.{track};
-ghost use Rattle.exam_draft.specs.Edits.{edited, edited_exams, IsEditedAt, Refuses};
+ghost use Rattle.exam_draft.specs.Edits.{edited};
+ghost use Rattle.exam_draft.specs.Judged.{edited_exams, IsEditedAt, Refuses};
 
 use crate::edit::Edit;
 use crate::fault::EditFault;

@@ -1,6 +1,7 @@
 // An edit of a timetable, as a value.
 ghost use Rattle.std.specs.Prelude.{◌≡◌, IfErr, IfOk, Ok, OnErr, OnOk};
-ghost use Rattle.exam_draft.specs.Edits.{Refuses, edited, edited_exams};
+ghost use Rattle.exam_draft.specs.Edits.{edited};
+ghost use Rattle.exam_draft.specs.Judged.{Refuses, edited_exams};
 
 use crate::draft::Draft;
 use crate::fault::EditFault;

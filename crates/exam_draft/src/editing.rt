@@ -1,7 +1,7 @@
 // The edits of a draft: each is judged first, and changes nothing where it is refused.
 ghost use Rattle.std.specs.Prelude.{◌≡◌, Ok, IfErr, OnOk, OnErr};
 ghost use Rattle.exam_draft.specs.Edits.{after_place, after_move, after_swap, after_clear};
-ghost use Rattle.exam_draft.specs.Edits.{Refuses};
+ghost use Rattle.exam_draft.specs.Judged.{Refuses};
 
 use crate::draft::Draft;
 use crate::edit::Edit;

@@ -2,8 +2,9 @@
 ghost use Rattle.std.specs.Prelude.{◌≡◌, ◌<◌, ◌&&◌, [], ◌∷◌, length, All, Ok, Some, IfErr, IfOk, OnOk};
 ghost use Rattle.exam_model.specs.Fits.{Fits, PlaceExists};
 ghost use Rattle.exam_draft.specs.Edits.{after_place, after_move, after_swap, after_clear};
-ghost use Rattle.exam_draft.specs.Edits.{after_put, edited, edited_exams, if_unbroken, Refuses};
-ghost use Rattle.exam_draft.specs.Edits.{exam_exists, place_exists, is_placed, IsEditedAt};
+ghost use Rattle.exam_draft.specs.Edits.{after_put, edited, if_unbroken};
+ghost use Rattle.exam_draft.specs.Judged.{edited_exams, Refuses, IsEditedAt};
+ghost use Rattle.exam_draft.specs.Edits.{exam_exists, place_exists, is_placed};
 
 use crate::edit::Edit;
 use crate::fault::EditFault;

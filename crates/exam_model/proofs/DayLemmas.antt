@@ -4,7 +4,7 @@ use Rattle.std.proofs.lemmas.Bool.{eqb-true, eqb-false, eq-eqb, ne_eqb}
 use Rattle.std.specs.Prelude.{◌==◌, slice_get}
 use Rattle.exam_calendar.specs.Dates.{is_same_date}
 use Rattle.exam_calendar.specs.declared.date.Date.{Date}
-use Rattle.exam_model.specs.Instance.{share_date, same_day}
+use Rattle.exam_model.specs.Distances.{share_date, same_day}
 use Rattle.exam_model.specs.declared.parts.Period.{Period}
 
 equal-as : (a b : ℕ) (same : Bool) → (a == b) ≡ same → (b == a) ≡ same

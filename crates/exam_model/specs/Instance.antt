@@ -1,6 +1,5 @@
 -- What an instance is: its exams, periods, rooms, rules and weights.
-use Rattle.std.specs.Prelude.{ℕ, ◌+◌, ◌-◌, ◌<◌, Bool, false, List, length, All, Option, Some, None, slice_get}
-use Rattle.exam_calendar.specs.Dates.{is_same_date}
+use Rattle.std.specs.Prelude.{ℕ, ◌<◌, List, length, All}
 use Rattle.exam_model.specs.Limits.{AreCounted, ExamInLimits, PeriodInLimits, RoomInLimits, WeightsInLimits}
 use Rattle.exam_model.specs.declared.parts.Exam.{Exam}
 use Rattle.exam_model.specs.declared.parts.Period.{Period}
@@ -67,17 +66,3 @@ abbrev pub RefusesSession : Session → ModelFault → Type 0
 RefusesSession I Range = InLimits I → ⊥
 RefusesSession I NoSuch = InLimits I × (NumbersExist I → ⊥)
 RefusesSession I NoMemory = Unit {0}
-
--- the distance of two period numbers
-abbrev pub gap : ℕ → ℕ → ℕ
-gap p q = (p - q) + (q - p)
-
--- whether two periods have the same date
-abbrev pub share_date : Option Period → Option Period → Bool
-share_date None q = false
-share_date (Some p) None = false
-share_date (Some p) (Some q) = is_same_date p.date q.date
-
--- whether two periods exist and are of one day
-abbrev pub same_day : List Period → ℕ → ℕ → Bool
-same_day periods p q = share_date (slice_get periods p) (slice_get periods q)

@@ -1,6 +1,7 @@
 pub mod Sums
 pub mod Limits
 pub mod Instance
+pub mod Distances
 pub mod Enrolments
 pub mod StudentLists
 pub mod Pairs

@@ -18,14 +18,16 @@ use Rattle.exam_model.proofs.SumLemmas.{chain_from_index, sum_by-same, sum_by-ad
 use Rattle.exam_score.specs.Cost.{row_cost, day_cost, spread_cost}
 use Rattle.exam_score.specs.Penalty.{PersonalPenalty}
 use Rattle.exam_score.specs.Regrouping.{pair_part, candidate_cost, periods_of}
-use Rattle.exam_score.specs.Track.{track, exam_period, exam_room, period_penalty, room_penalty, period_part, room_part, exam_front, room_mixed}
+use Rattle.exam_score.specs.Track.{track, exam_period, exam_room, period_penalty, room_penalty, period_part, room_part}
+use Rattle.exam_score.specs.FrontLoad.{exam_front}
+use Rattle.exam_score.specs.MixedDurations.{room_mixed}
 use Rattle.exam_score.proofs.RegroupingLemmas.{regrouped_by_students}
 use Rattle.exam_publish.specs.declared.seat_row.SeatRow.{SeatRow}
 use Rattle.exam_publish.specs.declared.share_lists.RoomShare.{RoomShare}
 use Rattle.exam_publish.specs.AddUp.{AddUpTo}
 use Rattle.exam_publish.specs.Changed.{rows_of, students_of}
-use Rattle.exam_publish.specs.Rows.{AreNumbered, ArePublishedRows, RowBefore, IsAtExam}
-use Rattle.exam_publish.specs.Shares.{enrolled_in, share_of, student_shares, exam_shares, period_share, period_shares, is_in_period, is_in_room, room_share, room_shares, shares_of}
+use Rattle.exam_publish.specs.Rows.{AreNumbered, ArePublishedRows, RowBefore, IsAtExam, enrolled_in}
+use Rattle.exam_publish.specs.Shares.{share_of, student_shares, exam_shares, period_share, period_shares, is_in_period, is_in_room, room_share, room_shares, shares_of}
 use Rattle.exam_publish.proofs.RowLemmas.{pairs_in, are_enrolments, are_students, her_periods}
 use Rattle.exam_publish.proofs.PlaceLemmas.{rows_exist}
 

@@ -19,7 +19,7 @@ use Rattle.exam_model.specs.Instance.{Session}
 use Rattle.exam_model.specs.Sums.{sum_below}
 use Rattle.exam_model.specs.Timetable.{Placing}
 use Rattle.exam_model.proofs.SumLemmas.{IsChain, chain_weaker, each_weaker, sum_by-agree, sum_by-once, sum_below-same, sum_below-within, sum_below-turned, sum_below-at}
-use Rattle.exam_score.specs.Track.{duration_count, lasting, durations, room_mixed}
+use Rattle.exam_score.specs.MixedDurations.{duration_count, lasting, durations, room_mixed}
 use Rattle.exam_score.specs.Stays.{is_stay, StayExists, AreStays}
 use Rattle.exam_score.specs.declared.mixed.Stay.{Stay}
 use Rattle.exam_publish.specs.Durations.{is_in_slot, AreDurations}

@@ -12,9 +12,8 @@ use Rattle.exam_model.proofs.SameSet.{same_set}
 use Rattle.exam_model.proofs.SumLemmas.{chain_from_index}
 use Rattle.exam_publish.specs.declared.seat_row.SeatRow.{SeatRow}
 use Rattle.exam_publish.specs.Permit.{publish_refusal}
-use Rattle.exam_publish.specs.Rows.{RowBefore}
+use Rattle.exam_publish.specs.Rows.{RowBefore, students_in, enrolled_in}
 use Rattle.exam_publish.specs.Seats.{AreSeated, seat_rows}
-use Rattle.exam_publish.specs.Shares.{students_in, enrolled_in}
 use Rattle.exam_publish.proofs.PlaceLemmas.{rows_exist}
 use Rattle.exam_publish.proofs.RowLemmas.{pairs_in, are_enrolments, rows_numbered}
 use Rattle.exam_publish.proofs.SeatLemmas.{are_seats}

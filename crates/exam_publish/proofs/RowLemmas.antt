@@ -14,9 +14,8 @@ use Rattle.exam_model.proofs.PairLemmas.{are_pairs}
 use Rattle.exam_model.proofs.SumLemmas.{IsChain, each_weaker, chain_weaker}
 use Rattle.exam_score.specs.Regrouping.{periods_of, AreStudentsOf}
 use Rattle.exam_publish.specs.declared.seat_row.SeatRow.{SeatRow}
-use Rattle.exam_publish.specs.Rows.{row_pair, RowBefore, IsAtExam}
+use Rattle.exam_publish.specs.Rows.{row_pair, RowBefore, IsAtExam, students_in, enrolled_in}
 use Rattle.exam_publish.specs.Changed.{rows_of, has_row, students_of}
-use Rattle.exam_publish.specs.Shares.{students_in, enrolled_in}
 use Rattle.exam_publish.proofs.ListLemmas.{any_map, has_ascending, chain_ascending, ascending_from_chain, index_from_chain, each_map}
 use Rattle.exam_publish.proofs.SeatingLemmas.{length_pairs}
 

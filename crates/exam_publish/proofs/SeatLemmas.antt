@@ -20,7 +20,8 @@ use Rattle.exam_model.proofs.PairLemmas.{are_pairs}
 use Rattle.exam_model.proofs.SumLemmas.{IsChain, chain_from_index, chain_weaker, each_weaker, sum_by-agree, sum_below-same, sum_below-turned, sum_below-at, cond-sum_by}
 use Rattle.exam_rules.specs.declared.breach.Breach.{Breach}
 use Rattle.exam_rules.specs.declared.breach.BreachRule.TheVariants.{Capacity}
-use Rattle.exam_rules.specs.Breaches.{breaches_of, is_overfull, is_too_small}
+use Rattle.exam_rules.specs.Breaches.{breaches_of}
+use Rattle.exam_rules.specs.HardRules.{is_overfull, is_too_small}
 use Rattle.exam_rules.specs.Places.{where_placed, is_one_place, load_at}
 use Rattle.exam_rules.proofs.BreachLemmas.{breaches_have}
 use Rattle.exam_publish.specs.declared.entrants.Entrant.{Entrant}

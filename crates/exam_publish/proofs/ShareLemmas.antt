@@ -16,8 +16,8 @@ use Rattle.exam_publish.specs.declared.seat_row.SeatRow.{SeatRow}
 use Rattle.exam_publish.specs.declared.share_lists.RoomShare.{RoomShare}
 use Rattle.exam_publish.specs.AddUp.{AddUpTo, AreSmall, share_total}
 use Rattle.exam_publish.specs.Changed.{rows_of, has_row, same_row, same_rows, is_changed, students_of}
-use Rattle.exam_publish.specs.Rows.{RowBefore, AreNumbered, ArePublishedRows}
-use Rattle.exam_publish.specs.Shares.{Sharing, students_in, enrolled_in, share_of, student_shares}
+use Rattle.exam_publish.specs.Rows.{RowBefore, AreNumbered, ArePublishedRows, students_in, enrolled_in}
+use Rattle.exam_publish.specs.Shares.{Sharing, share_of, student_shares}
 use Rattle.exam_publish.proofs.ListLemmas.{any_map, ascends, has_ascending}
 use Rattle.exam_publish.proofs.PlaceLemmas.{rows_exist}
 use Rattle.exam_publish.proofs.RowLemmas.{are_enrolments}

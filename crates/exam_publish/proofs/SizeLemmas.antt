@@ -8,10 +8,10 @@ use Rattle.exam_model.specs.Instance.{Session}
 use Rattle.exam_model.specs.Sums.{count_below}
 use Rattle.exam_model.specs.Timetable.{Placing, place_of}
 use Rattle.exam_model.proofs.SumLemmas.{sum_below-within}
-use Rattle.exam_score.specs.Track.{is_larger, is_late, exam_front}
+use Rattle.exam_score.specs.FrontLoad.{is_larger, is_late, exam_front}
 use Rattle.exam_publish.specs.declared.seat_row.SeatRow.{SeatRow}
 use Rattle.exam_publish.specs.Groups.{is_of_exam}
-use Rattle.exam_publish.specs.Shares.{enrolled_in}
+use Rattle.exam_publish.specs.Rows.{enrolled_in}
 use Rattle.exam_score.specs.Front.{is_larger_by, front_by}
 use Rattle.exam_publish.specs.Tallies.{AreTallied}
 use Rattle.exam_publish.proofs.RowLemmas.{students_at}

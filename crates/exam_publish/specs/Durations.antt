@@ -5,7 +5,7 @@ use Rattle.exam_model.specs.Instance.{Session}
 use Rattle.exam_model.specs.Timetable.{Placing}
 use Rattle.exam_terms.specs.declared.limits.TheConstants.{MAX_EXAMS}
 use Rattle.exam_terms.specs.declared.place.Place.{Place}
-use Rattle.exam_score.specs.Track.{durations}
+use Rattle.exam_score.specs.MixedDurations.{durations}
 use Rattle.exam_score.specs.declared.mixed.Stay.{Stay}
 
 -- a stay's place

@@ -1,8 +1,10 @@
 -- Seat rows: whose they are, and in which order they stand.
-use Rattle.std.specs.Prelude.{◌≡◌, ℕ, ◌<◌, ◌≤◌, Bool, ◌&&◌, ◌||◌, ◌==◌, nat_lt, List, length, Some, All, AllPairs, IsSome}
+use Rattle.std.specs.Prelude.{◌≡◌, ℕ, ◌<◌, ◌≤◌, Bool, ◌&&◌, ◌||◌, ◌==◌, nat_lt, List, length, Some, All, AllPairs, IsSome, map, filter}
+use Rattle.std.specs.List.{range_with_len}
 use Rattle.exam_terms.specs.declared.limits.TheConstants.{MAX_PAIRS, MAX_STUDENT}
 use Rattle.exam_terms.specs.declared.place.Place.{Place}
 use Rattle.exam_model.specs.Instance.{Session}
+use Rattle.exam_model.specs.Enrolments.{Enrolled}
 use Rattle.exam_model.specs.Fits.{PlaceExists}
 use Rattle.exam_model.specs.Pairs.{Pair, ComesBefore}
 use Rattle.exam_model.specs.Timetable.{Placing, place_of}
@@ -15,6 +17,14 @@ row_pair row = record { exam = row.exam; student = row.student }
 -- the place where a row is
 abbrev pub row_place : SeatRow → Place
 row_place row = record { period = row.period; room = row.room }
+
+-- the students of an exam's rows
+abbrev pub students_in : List SeatRow → ℕ → List ℕ
+students_in rows e = map (λ row. row.student) (filter (λ row. row.exam == e) rows)
+
+-- the enrolments that rows are, for so many exams
+abbrev pub enrolled_in : ℕ → List SeatRow → Enrolled
+enrolled_in exams rows = map (students_in rows) (range_with_len 0 exams)
 
 -- whether a pair's exam is smaller, or the same and her number smaller
 abbrev pub comes_before : Pair → Pair → Bool

@@ -1,27 +1,21 @@
 -- Whose share of the penalty is how much: of students by their rows, of exams, periods and rooms.
-use Rattle.std.specs.Prelude.{ℕ, ◌*◌, Bool, ◌==◌, List, map, filter, length, count_by, Option, slice_get}
+use Rattle.std.specs.Prelude.{ℕ, ◌*◌, Bool, ◌==◌, List, map, length, count_by, Option, slice_get}
 use Rattle.std.specs.List.{range_with_len}
 use Rattle.exam_terms.specs.declared.place.Place.{Place}
 use Rattle.exam_model.specs.Instance.{Session}
-use Rattle.exam_model.specs.Enrolments.{Enrolled}
 use Rattle.exam_model.specs.Timetable.{Placing}
 use Rattle.exam_model.specs.declared.parts.Period.{Period}
 use Rattle.exam_model.specs.declared.parts.Weights.{Weights}
 use Rattle.exam_rules.specs.Places.{where_placed}
 use Rattle.exam_score.specs.Penalty.{PersonalPenalty}
 use Rattle.exam_score.specs.Personal.{personal_of}
-use Rattle.exam_score.specs.Track.{exam_front, room_mixed, period_penalty, room_penalty}
+use Rattle.exam_score.specs.Track.{period_penalty, room_penalty}
+use Rattle.exam_score.specs.FrontLoad.{exam_front}
+use Rattle.exam_score.specs.MixedDurations.{room_mixed}
 use Rattle.exam_publish.specs.declared.seat_row.SeatRow.{SeatRow}
 use Rattle.exam_publish.specs.declared.share_lists.RoomShare.{RoomShare}
 use Rattle.exam_publish.specs.Changed.{rows_of, students_of}
-
--- the students of an exam's rows
-abbrev pub students_in : List SeatRow → ℕ → List ℕ
-students_in rows e = map (λ row. row.student) (filter (λ row. row.exam == e) rows)
-
--- the enrolments that rows are, for so many exams
-abbrev pub enrolled_in : ℕ → List SeatRow → Enrolled
-enrolled_in exams rows = map (students_in rows) (range_with_len 0 exams)
+use Rattle.exam_publish.specs.Rows.{enrolled_in}
 
 -- what the periods of a candidate's rows cost her
 abbrev pub share_of : List Period → Weights → List SeatRow → PersonalPenalty

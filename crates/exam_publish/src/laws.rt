@@ -9,10 +9,10 @@ ghost use Rattle.exam_publish.specs.declared.seat_row.SeatRow.{SeatRow};
 ghost use Rattle.exam_publish.specs.AddUp.{AddUpTo};
 ghost use Rattle.exam_publish.specs.Changed.{is_changed, rows_of};
 ghost use Rattle.exam_publish.specs.Permit.{publish_refusal};
-ghost use Rattle.exam_publish.specs.Rows.{AreNumbered, ArePublishedRows};
+ghost use Rattle.exam_publish.specs.Rows.{AreNumbered, ArePublishedRows, enrolled_in};
 ghost use Rattle.exam_publish.specs.Numbered.{numbered_rows};
 ghost use Rattle.exam_publish.specs.Seats.{AreSeated, seat_rows};
-ghost use Rattle.exam_publish.specs.Shares.{enrolled_in, share_of, shares_of};
+ghost use Rattle.exam_publish.specs.Shares.{share_of, shares_of};
 ghost use Rattle.exam_score.specs.Track.{track};
 
 /// The shares of a timetable add up to its penalty, with the enrolments that the rows are: in

@@ -3,8 +3,8 @@ ghost use Rattle.std.specs.Prelude.{◌≡◌, ℕ, length, map, IfOk};
 ghost use Rattle.exam_model.specs.Enrolments.{IsAscending, has_number};
 ghost use Rattle.exam_publish.specs.AddUp.{AddUpTo, AreSmall};
 ghost use Rattle.exam_publish.specs.Changed.{has_row};
-ghost use Rattle.exam_publish.specs.Rows.{AreNumbered, ArePublishedRows};
-ghost use Rattle.exam_publish.specs.Shares.{enrolled_in, shares_of};
+ghost use Rattle.exam_publish.specs.Rows.{AreNumbered, ArePublishedRows, enrolled_in};
+ghost use Rattle.exam_publish.specs.Shares.{shares_of};
 ghost use Rattle.exam_score.specs.Track.{track};
 
 use crate::exam_shares::exam_shares;

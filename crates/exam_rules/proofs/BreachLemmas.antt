@@ -14,7 +14,8 @@ use Rattle.exam_rules.specs.declared.breach.BreachRule.{BreachRule}
 use Rattle.exam_rules.specs.declared.breach.BreachRule.TheVariants.{Duration, Clash, Capacity, After, Coincidence, Exclusion, RoomExclusive}
 use Rattle.exam_rules.specs.declared.exam_pair.ExamPair.{ExamPair}
 use Rattle.exam_rules.specs.Breach.{all_rules, rank_of, breach_cmp, exam_pair_cmp, pair, breach}
-use Rattle.exam_rules.specs.Breaches.{breaks, is_breach, pairs_breaking, breaches_of}
+use Rattle.exam_rules.specs.Breaches.{is_breach, pairs_breaking, breaches_of}
+use Rattle.exam_rules.specs.HardRules.{breaks}
 use Rattle.exam_rules.proofs.OrderLemmas.{contains_head, contains_later, first_or_later, none_in_nil, each_append, each_weaker, sorted_nil, sorted_append}
 use Rattle.exam_rules.proofs.EnumerationLemmas.{passing_sorted, passing_only, passing_all}
 use Rattle.exam_rules.proofs.PlaceLemmas.{breaking_exist}

@@ -12,7 +12,7 @@ use Rattle.exam_rules.specs.declared.breach.BreachRule.{BreachRule}
 use Rattle.exam_rules.specs.declared.breach.BreachRule.TheVariants.{Duration, Clash, Capacity, After, Coincidence, Exclusion, RoomExclusive}
 use Rattle.exam_rules.specs.Lines.{is_after, is_coincidence, is_exclusion, is_exclusive}
 use Rattle.exam_rules.specs.Places.{PlaceExists, where_placed, where_both, both_placed, in_one_period, in_two_periods, is_not_after, in_one_place, share_student}
-use Rattle.exam_rules.specs.Breaches.{breaks, outlasts, is_overfull}
+use Rattle.exam_rules.specs.HardRules.{breaks, outlasts, is_overfull}
 
 -- an exam whose place passes a test exists
 pub placed_exists : (T : Placing) (test : Place → Bool) (e : ℕ)

@@ -5,3 +5,4 @@ pub mod Loads
 pub mod Marks
 pub mod Lines
 pub mod Breaches
+pub mod HardRules

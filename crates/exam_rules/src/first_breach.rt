@@ -3,7 +3,8 @@ ghost use Rattle.std.specs.Prelude.{◌≡◌, ◌<◌, ℕ, ◌&&◌, ◌||◌,
 ghost use Rattle.std.specs.List.{list_any};
 ghost use Rattle.exam_rules.specs.Breach.{is_pair, passing};
 ghost use Rattle.exam_rules.specs.Places.{Fits};
-ghost use Rattle.exam_rules.specs.Breaches.{breaks, is_one_of, name_one, least_breach_of, IsLeastBreachOf};
+ghost use Rattle.exam_rules.specs.Breaches.{is_one_of, name_one, least_breach_of, IsLeastBreachOf};
+ghost use Rattle.exam_rules.specs.HardRules.{breaks};
 
 use crate::breach::{Breach, BreachRule, rules};
 use crate::exam_pair::{ExamPair, in_order, pair_if, push_some};

@@ -7,7 +7,8 @@ ghost use Rattle.exam_rules.specs.declared.breach.BreachRule.TheVariants.{After,
 ghost use Rattle.exam_rules.specs.Breach.{is_pair, is_some_pair};
 ghost use Rattle.exam_rules.specs.Lines.{is_after, is_coincidence, is_exclusion, line_names};
 ghost use Rattle.exam_rules.specs.Places.{Fits, in_one_period, in_two_periods, is_not_after, share_student};
-ghost use Rattle.exam_rules.specs.Breaches.{breaks, pairs_breaking, is_one_of};
+ghost use Rattle.exam_rules.specs.Breaches.{pairs_breaking, is_one_of};
+ghost use Rattle.exam_rules.specs.HardRules.{breaks};
 
 use crate::exam_pair::{ExamPair, in_order, pair_if, push_some};
 use crate::site::Site;

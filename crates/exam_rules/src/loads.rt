@@ -5,7 +5,7 @@ ghost use Rattle.exam_model.specs.Fits.{slot_of};
 ghost use Rattle.exam_model.specs.Timetable.{place_of};
 ghost use Rattle.exam_rules.specs.Places.{Fits, where_placed, is_one_place, load_at};
 ghost use Rattle.exam_rules.specs.Loads.{AreLoads};
-ghost use Rattle.exam_rules.specs.Breaches.{is_too_small};
+ghost use Rattle.exam_rules.specs.HardRules.{is_too_small};
 
 use exam_model::{Enrolments, ExamNo, Instance, Place, Timetable};
 use std::alloc::{AllocError, Global};

@@ -9,7 +9,8 @@ ghost use Rattle.exam_model.specs.Fits.{Suits};
 ghost use Rattle.exam_rules.specs.Groups.{AreGroups};
 ghost use Rattle.exam_rules.specs.Marks.{marks_of, Has};
 ghost use Rattle.exam_rules.specs.Places.{Fits, in_one_period, share_student};
-ghost use Rattle.exam_rules.specs.Breaches.{breaks, outlasts, pairs_breaking, is_one_of};
+ghost use Rattle.exam_rules.specs.Breaches.{pairs_breaking, is_one_of};
+ghost use Rattle.exam_rules.specs.HardRules.{breaks, outlasts};
 
 use crate::exam_pair::{ExamPair, in_order, pair_if, push_some};
 use crate::groups::Group;

@@ -8,7 +8,8 @@ ghost use Rattle.exam_rules.specs.Breach.{is_pair};
 ghost use Rattle.exam_rules.specs.Lines.{is_exclusive};
 ghost use Rattle.exam_rules.specs.Groups.{AreGroups};
 ghost use Rattle.exam_rules.specs.Places.{Fits, in_one_place};
-ghost use Rattle.exam_rules.specs.Breaches.{breaks, is_overfull, pairs_breaking, is_one_of};
+ghost use Rattle.exam_rules.specs.Breaches.{pairs_breaking, is_one_of};
+ghost use Rattle.exam_rules.specs.HardRules.{breaks, is_overfull};
 
 use crate::exam_pair::{ExamPair, in_order, pair_if, push_some};
 use crate::groups::{Group, group_of};

@@ -1,7 +1,8 @@
 -- In an instance the cap on a cost changes nothing.
 use Rattle.std.proofs.Common.{◌≡◌, ℕ, ◌≤◌, Bool, true, false, List, arith, Fits, w32}
 use Rattle.std.specs.Prelude.{min, if◌then◌else◌, ◌&&◌, ◌==◌, nat_le}
-use Rattle.exam_model.specs.Instance.{Session, IsInstance, gap, same_day}
+use Rattle.exam_model.specs.Instance.{Session, IsInstance}
+use Rattle.exam_model.specs.Distances.{gap, same_day}
 use Rattle.exam_score.specs.Cost.{row_cost, day_cost}
 use Rattle.exam_score.specs.Regrouping.{candidate_cost}
 

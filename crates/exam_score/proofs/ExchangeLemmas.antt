@@ -24,7 +24,9 @@ use Rattle.exam_score.specs.EditedCosts.{edited_cost, personal_sum, students_cos
 use Rattle.exam_score.specs.Front.{AreSizes, front_by}
 use Rattle.exam_score.specs.Penalty.{Penalty, PersonalPenalty, plus, total_of}
 use Rattle.exam_score.specs.Regrouping.{pair_part}
-use Rattle.exam_score.specs.Track.{duration_count, durations, exam_front, exam_period, exam_room, front_part, is_at, is_largest, is_late, minutes_of, mixed_part, room_mixed, track}
+use Rattle.exam_score.specs.Track.{exam_period, exam_room, track}
+use Rattle.exam_score.specs.FrontLoad.{exam_front, front_part, is_largest, is_late}
+use Rattle.exam_score.specs.MixedDurations.{duration_count, durations, is_at, minutes_of, mixed_part, room_mixed}
 use Rattle.exam_score.proofs.EditedLemmas.{between_none, between_swap}
 use Rattle.exam_score.proofs.FoldLemmas.{others_each, sum_apart}
 use Rattle.exam_score.proofs.FrontLemmas.{front_by_sizes}

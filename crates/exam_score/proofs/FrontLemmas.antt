@@ -11,7 +11,7 @@ use Rattle.exam_model.specs.Sums.{count_below}
 use Rattle.exam_model.specs.Timetable.{Placing, place_of}
 use Rattle.exam_model.proofs.SumLemmas.{sum_below-within, sum_below_more}
 use Rattle.exam_score.specs.Front.{AreSizes, is_larger_by, front_by}
-use Rattle.exam_score.specs.Track.{is_larger, is_late, exam_front}
+use Rattle.exam_score.specs.FrontLoad.{is_larger, is_late, exam_front}
 
 -- a count over the first elements, by their places
 counted : (p : ℕ → Bool) (xs : List ℕ) (n : ℕ) → n ≤ length xs

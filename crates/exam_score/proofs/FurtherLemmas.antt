@@ -6,7 +6,7 @@ use Rattle.exam_model.specs.Sums.{sum_below}
 use Rattle.exam_model.specs.Timetable.{Placing, place_of}
 use Rattle.exam_model.proofs.SumLemmas.{sum_below-same, sum_below-add, sum_below-at, sum_below-zeros}
 use Rattle.exam_score.specs.Touched.{further_mixed, is_touched, mixed_where, room_mixed_where}
-use Rattle.exam_score.specs.Track.{durations, is_at}
+use Rattle.exam_score.specs.MixedDurations.{durations, is_at}
 
 -- what a period and room make of the mixed part
 abbrev mixed : Session → Placing → ℕ → ℕ → ℕ

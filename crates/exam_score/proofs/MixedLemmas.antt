@@ -17,7 +17,7 @@ use Rattle.exam_model.specs.Sums.{sum_below, count_below}
 use Rattle.exam_model.specs.declared.parts.Exam.{Exam}
 use Rattle.exam_terms.specs.declared.place.Place.{Place}
 use Rattle.exam_model.proofs.SumLemmas.{IsChain, chain_from_index, each_weaker, sum_by-none, sum_below-same, sum_below-zeros, sum_below-add, sum_below-times, sum_below-at, sum_below_more}
-use Rattle.exam_score.specs.Track.{duration_count, minutes_of, is_at, lasts, lasting, mixed_part}
+use Rattle.exam_score.specs.MixedDurations.{duration_count, minutes_of, is_at, lasts, lasting, mixed_part}
 use Rattle.exam_score.specs.Stays.{is_stay, StayExists, AreStays, NotAfter, next_differs, further}
 use Rattle.exam_score.specs.declared.mixed.Stay.{Stay}
 use Rattle.exam_score.proofs.WalkLemmas.{none_or}

@@ -18,7 +18,9 @@ use Rattle.exam_score.specs.Cost.{row_cost, day_cost, spread_cost}
 use Rattle.exam_score.specs.CostOrder.{spread_cost-small}
 use Rattle.exam_score.specs.Touched.{mixed_where, room_mixed_where}
 use Rattle.exam_score.specs.Penalty.{total_of}
-use Rattle.exam_score.specs.Track.{period_penalty, room_penalty, exam_period, exam_room, duration_count, lasting, durations, is_largest, is_late, exam_front, track}
+use Rattle.exam_score.specs.Track.{period_penalty, room_penalty, exam_period, exam_room, track}
+use Rattle.exam_score.specs.FrontLoad.{is_largest, is_late, exam_front}
+use Rattle.exam_score.specs.MixedDurations.{duration_count, lasting, durations}
 use Rattle.exam_score.proofs.CostLemmas.{row_cost-small, day_cost-small}
 use Rattle.exam_score.proofs.PairsLemmas.{part_small}
 

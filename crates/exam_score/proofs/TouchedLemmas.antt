@@ -11,7 +11,7 @@ use Rattle.exam_model.specs.declared.parts.Exam.{Exam}
 use Rattle.exam_model.specs.Sums.{count_below}
 use Rattle.exam_model.specs.Timetable.{Placing, place_of}
 use Rattle.exam_model.proofs.SumLemmas.{sum_below-same, sum_below-within, sum_below_more}
-use Rattle.exam_score.specs.Track.{duration_count, is_at, lasts, minutes_of}
+use Rattle.exam_score.specs.MixedDurations.{duration_count, is_at, lasts, minutes_of}
 
 -- one number more passes
 flipped : (n : ℕ) (f g : ℕ → Bool) (k : ℕ) → k < n → f k ≡ false → g k ≡ true

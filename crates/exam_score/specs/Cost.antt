@@ -1,6 +1,6 @@
 -- What two exams of one student cost by their periods (ITC 2007, soft constraints).
 use Rattle.std.specs.Prelude.{ℕ, Bool, ◌&&◌, ◌==◌, nat_lt, nat_le, List, length, if◌then◌else◌}
-use Rattle.exam_model.specs.Instance.{gap, same_day}
+use Rattle.exam_model.specs.Distances.{gap, same_day}
 use Rattle.exam_model.specs.declared.parts.Period.{Period}
 use Rattle.exam_model.specs.declared.parts.Weights.{Weights}
 

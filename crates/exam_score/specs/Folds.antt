@@ -49,8 +49,6 @@ pub record StandsFor (fold : Folded) (pairs : List Pair) : Type 0 where
 abbrev pub CanFollow : Folded → Pair → Type 0
 CanFollow fold pair = All (λ p. ComesEarlier p pair) fold.current
 
--- ---- the open student
-
 -- the pairs of a student, if there is one, and these exams
 abbrev pub pairs_sat : Option ℕ → List ℕ → List Pair
 pairs_sat None exams = []

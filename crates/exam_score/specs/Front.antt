@@ -4,7 +4,7 @@ use Rattle.exam_model.specs.Enrolments.{Enrolled, size_of}
 use Rattle.exam_model.specs.Instance.{Session}
 use Rattle.exam_model.specs.Sums.{count_below}
 use Rattle.exam_terms.specs.declared.place.Place.{Place}
-use Rattle.exam_score.specs.Track.{is_late}
+use Rattle.exam_score.specs.FrontLoad.{is_late}
 
 -- the number of students of each exam, in the order of the exams
 pub record AreSizes (E : Enrolled) (sizes : List ℕ) : Type 0 where

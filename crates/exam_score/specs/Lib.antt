@@ -6,6 +6,8 @@ pub mod CostLaws
 pub mod Regrouping
 pub mod Personal
 pub mod Track
+pub mod FrontLoad
+pub mod MixedDurations
 pub mod Rows
 pub mod Walk
 pub mod Lines

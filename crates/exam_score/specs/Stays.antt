@@ -3,7 +3,7 @@ use Rattle.std.specs.Prelude.{◌≡◌, ℕ, ◌<◌, ◌≤◌, Bool, ◌&&◌
 use Rattle.exam_terms.specs.declared.limits.TheConstants.{MAX_EXAMS, MAX_MINUTES}
 use Rattle.exam_model.specs.Instance.{Session}
 use Rattle.exam_model.specs.Timetable.{Placing}
-use Rattle.exam_score.specs.Track.{lasting}
+use Rattle.exam_score.specs.MixedDurations.{lasting}
 use Rattle.exam_score.specs.declared.mixed.Stay.{Stay}
 
 -- in this period and room, and so long

@@ -6,7 +6,7 @@ use Rattle.exam_model.specs.Enrolments.{has_number}
 use Rattle.exam_model.specs.Instance.{Session}
 use Rattle.exam_model.specs.Sums.{sum_below}
 use Rattle.exam_model.specs.Timetable.{Placing, place_of}
-use Rattle.exam_score.specs.Track.{durations, is_at}
+use Rattle.exam_score.specs.MixedDurations.{durations, is_at}
 
 -- whether an edited exam stands in this period and room, before the edit or after it
 abbrev pub is_touched : List ℕ → Placing → Placing → ℕ → ℕ → Bool

@@ -5,7 +5,7 @@ ghost use Rattle.exam_model.specs.Fits.{Suits};
 ghost use Rattle.exam_model.specs.Sums.{count_below};
 ghost use Rattle.exam_model.specs.Enrolments.{size_of};
 ghost use Rattle.exam_score.specs.Front.{AreSizes, is_larger_by, front_by};
-ghost use Rattle.exam_score.specs.Track.{front_part, is_late};
+ghost use Rattle.exam_score.specs.FrontLoad.{front_part, is_late};
 
 use exam_model::{Enrolments, ExamNo, Instance, Place, Timetable};
 use std::alloc::{AllocError, Global};

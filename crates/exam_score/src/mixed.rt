@@ -3,7 +3,7 @@ ghost use Rattle.std.specs.Prelude.{◌≡◌, ◌≤◌, ◌<◌, ◌+◌, ◌*
 ghost use Rattle.exam_terms.specs.declared.limits.TheConstants.{MAX_AMOUNT, MAX_EXAMS};
 ghost use Rattle.exam_model.specs.Fits.{Suits};
 ghost use Rattle.exam_score.specs.Stays.{AreStays, next_differs, further};
-ghost use Rattle.exam_score.specs.Track.{mixed_part};
+ghost use Rattle.exam_score.specs.MixedDurations.{mixed_part};
 
 use exam_model::{ExamNo, Instance, PeriodNo, RoomNo, Timetable};
 use std::alloc::{AllocError, Global};

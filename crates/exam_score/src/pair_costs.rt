@@ -1,6 +1,6 @@
 // The costs of two exams of one student (ITC 2007, soft constraints).
 ghost use Rattle.std.specs.Prelude.{◌≡◌, ℕ};
-ghost use Rattle.exam_model.specs.Instance.{same_day};
+ghost use Rattle.exam_model.specs.Distances.{same_day};
 ghost use Rattle.exam_score.specs.Cost.{row_cost, day_cost, spread_cost};
 ghost use Rattle.exam_score.specs.CostLaws.{row_laws, day_laws, spread_laws};
 ghost use Rattle.exam_score.specs.TraitCosts.{row_cost_of, day_cost_of, spread_cost_of};

@@ -3,7 +3,7 @@ ghost use Rattle.std.specs.Prelude.{◌≡◌, ◌≤◌, ◌+◌, ◌-◌, ◌*
 ghost use Rattle.exam_terms.specs.declared.limits.TheConstants.{MAX_AMOUNT, MAX_EXAMS, MAX_MINUTES, MAX_PERIODS, MAX_ROOMS};
 ghost use Rattle.exam_model.specs.Timetable.{place_of};
 ghost use Rattle.exam_score.specs.Touched.{further_mixed, is_touched, mixed_where};
-ghost use Rattle.exam_score.specs.Track.{durations, is_at};
+ghost use Rattle.exam_score.specs.MixedDurations.{durations, is_at};
 
 use crate::sat_exams::place_in;
 use exam_model::{ExamNo, Instance, Place, Timetable};

@@ -8,7 +8,8 @@ use Rattle.office_policy.specs.declared.callers.Caller.TheVariants as caller
 use Rattle.office_model.specs.Answers.{PlainAnswer, refused, text}
 use Rattle.office_model.specs.Candidates as candidates
 use Rattle.office_model.specs.Candidates.{Asked}
-use Rattle.office_model.specs.Commands.{Gives, draft_shown}
+use Rattle.office_model.specs.Commands.{Gives}
+use Rattle.office_model.specs.DraftCommands.{draft_shown}
 use Rattle.office_model.specs.Office.{OfficeState, Publication}
 use Rattle.office_model.specs.Step.{of_published, outcome, told_to}
 use Rattle.office_model.specs.Shown.{ShownView, shown_to}

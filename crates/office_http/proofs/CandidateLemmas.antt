@@ -1,7 +1,8 @@
 -- What a candidate is replied is the text of her view.
 use Rattle.std.proofs.Common.{◌≡◌, ◌⊎◌, ◌∙◌, ℕ, Option, Some, None, Result, Ok, Err, ap, inl, inr, refl, subst}
 use Rattle.exam_terms.specs.Refusing.{◌>>=◌, else_err}
-use Rattle.office_messages.specs.Reply.{PlainReply, unavailable}
+use Rattle.office_messages.specs.Reply.{PlainReply}
+use Rattle.office_messages.specs.FixedReplies.{unavailable}
 use Rattle.office_messages.specs.Stream.{PlainRequest}
 use Rattle.office_policy.specs.Commands.{PlainCommand}
 use Rattle.office_policy.specs.declared.callers.Caller.TheVariants.{Cand}

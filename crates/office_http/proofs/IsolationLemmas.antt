@@ -7,7 +7,8 @@ use Rattle.exam_model.specs.declared.change.Change.{Change}
 use Rattle.sqlite.specs.Held.{Held}
 use Rattle.sqlite.specs.Store.{Ghosts}
 use Rattle.office_messages.specs.Form.{form_of}
-use Rattle.office_messages.specs.Reply.{PlainReply, fault_reply, reply_text, unavailable}
+use Rattle.office_messages.specs.Reply.{PlainReply, reply_text}
+use Rattle.office_messages.specs.FixedReplies.{fault_reply, unavailable}
 use Rattle.office_messages.specs.Messages.{Item, asks, fails}
 use Rattle.office_messages.specs.Serve.{Serves, Told}
 use Rattle.office_messages.specs.Stream.{PlainRequest}

@@ -1,7 +1,8 @@
 -- A candidate's messages, and what she is replied by her view alone.
 use Rattle.std.specs.Prelude.{◌≡◌, ◌⊎◌, ℕ, List, [], ◌∷◌, ◌++◌, Some}
 use Rattle.office_messages.specs.Form.{form_of}
-use Rattle.office_messages.specs.Reply.{PlainReply, fault_reply, reply_text, unavailable}
+use Rattle.office_messages.specs.Reply.{PlainReply, reply_text}
+use Rattle.office_messages.specs.FixedReplies.{fault_reply, unavailable}
 use Rattle.office_messages.specs.Messages.{Item, asks, fails}
 use Rattle.office_messages.specs.Stream.{PlainRequest}
 use Rattle.office_policy.specs.declared.callers.Caller.TheVariants.{Cand}

@@ -2,7 +2,7 @@
 -- were.
 use Rattle.std.specs.Prelude.{◌≡◌, ◌≢◌, ◌⊎◌, ℕ, List, [], All, flat_map, Option, Some, None, IfSome}
 use Rattle.exam_model.specs.declared.change.Change.{Change}
-use Rattle.office_messages.specs.Reply.{unavailable}
+use Rattle.office_messages.specs.FixedReplies.{unavailable}
 use Rattle.office_model.specs.Batches.{changes_to}
 use Rattle.office_model.specs.Office.{OfficeState}
 use Rattle.office_model.specs.Quiet.{IsQuiet, KeepsPublication, new_changes}

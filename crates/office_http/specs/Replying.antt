@@ -3,7 +3,8 @@ use Rattle.std.specs.Prelude.{◌≡◌, ◌⊎◌, ℕ, true, Option, Some, Non
 use Rattle.sqlite.specs.Held.{Held, state}
 use Rattle.sqlite.specs.State.{HasCleanDisk}
 use Rattle.sqlite.specs.Store.{Ghosts}
-use Rattle.office_messages.specs.Reply.{PlainReply, unavailable}
+use Rattle.office_messages.specs.Reply.{PlainReply}
+use Rattle.office_messages.specs.FixedReplies.{unavailable}
 use Rattle.office_messages.specs.Stream.{PlainRequest}
 use Rattle.office_policy.specs.Commands.{PlainCommand}
 use Rattle.office_policy.specs.declared.callers.Caller.TheVariants.{Cand}

@@ -17,7 +17,8 @@ use Rattle.office_messages.specs.declared.look.Stage.{Stage}
 use Rattle.office_messages.specs.declared.look.Stage.TheVariants.{Searching, Reading}
 use Rattle.office_messages.specs.Form.{form_of}
 use Rattle.office_messages.specs.Looks.{Knows}
-use Rattle.office_messages.specs.Reply.{PlainReply, fault_reply, reply_text}
+use Rattle.office_messages.specs.Reply.{PlainReply, reply_text}
+use Rattle.office_messages.specs.FixedReplies.{fault_reply}
 use Rattle.office_messages.specs.Stream.{PlainRequest, RequestAt}
 use Rattle.office_messages.specs.StreamFaults.{FaultAt, Unfinished}
 use Rattle.office_messages.specs.HeadEnds.{HasEnd}

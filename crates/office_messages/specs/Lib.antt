@@ -4,6 +4,7 @@ pub mod Framing
 pub mod Form
 pub mod Statuses
 pub mod Reply
+pub mod FixedReplies
 pub mod Stream
 pub mod HeadEnds
 pub mod StreamFaults

@@ -3,8 +3,6 @@ use Rattle.std.specs.Prelude.{ℕ, List, [], ◌++◌, length, Option, Some, Non
 use Rattle.std.specs.Prelude.{decimal}
 use Rattle.office_messages.specs.declared.form.Form.{Form}
 use Rattle.office_messages.specs.declared.form.Form.TheVariants.{Full, Bare}
-use Rattle.office_messages.specs.declared.framing.Fault.{Fault}
-use Rattle.office_messages.specs.declared.framing.Fault.TheVariants as faults
 use Rattle.office_messages.specs.declared.allow_field.Allow.{Allow}
 use Rattle.office_messages.specs.declared.replies.Content.{Content}
 use Rattle.office_messages.specs.declared.replies.Content.TheVariants.{Json, Text}
@@ -13,7 +11,6 @@ use Rattle.office_messages.specs.declared.replies.Payload.TheVariants.{Fixed, Ma
 use Rattle.office_messages.specs.declared.replies.Reply.{Reply}
 use Rattle.office_messages.specs.Statuses.{status_line}
 use Rattle.office_messages.specs.declared.statuses.Status.{Status}
-use Rattle.office_messages.specs.declared.statuses.Status.TheVariants as status
 
 -- a reply without where it lies in memory
 pub record PlainReply : Type 0 where
@@ -70,15 +67,3 @@ reply_text form r = head_text form r ++ sent_body form r.body
 -- a reply of that status with this body
 abbrev pub json_reply : Status → List ℕ → PlainReply
 json_reply s body = record { status = s; allow = None; content = Json; body = body }
-
--- the reply to a fault
-abbrev pub fault_reply : Fault → PlainReply
-fault_reply faults.Head = json_reply status.BadRequest (codes "{\"error\":\"request\"}")
-fault_reply faults.Host = json_reply status.BadRequest (codes "{\"error\":\"request\"}")
-fault_reply faults.Transfer = json_reply status.NotImplemented (codes "{\"error\":\"transfer\"}")
-fault_reply faults.Length = json_reply status.BadRequest (codes "{\"error\":\"request\"}")
-fault_reply faults.TooLong = json_reply status.PayloadTooLarge (codes "{\"error\":\"length\"}")
-
--- the reply where something was out of reach, as memory
-abbrev pub unavailable : PlainReply
-unavailable = json_reply status.ServiceUnavailable (codes "{\"error\":\"unavailable\"}")

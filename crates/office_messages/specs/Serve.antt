@@ -2,7 +2,8 @@
 use Rattle.std.specs.Prelude.{◌≡◌, ◌≢◌, ℕ, ◌⊎◌, List, [], ◌∷◌, ◌++◌, length, Option, IfSome}
 use Rattle.std.specs.Io.KnownBytes.{Appends}
 use Rattle.office_messages.specs.Form.{form_of}
-use Rattle.office_messages.specs.Reply.{PlainReply, fault_reply, reply_text}
+use Rattle.office_messages.specs.Reply.{PlainReply, reply_text}
+use Rattle.office_messages.specs.FixedReplies.{fault_reply}
 use Rattle.office_messages.specs.Stream.{PlainRequest}
 use Rattle.office_messages.specs.Messages.{Item, asks, fails, Messages, Begins}
 use Rattle.office_messages.specs.declared.connection.End.TheVariants.{Refused}

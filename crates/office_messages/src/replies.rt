@@ -1,7 +1,7 @@
 //! Replies, and those that are always the same.
 ghost use Rattle.std.specs.Prelude.{◌≡◌};
 ghost use Rattle.office_messages.specs.Reply.{plain_reply, payload_bytes, json_reply};
-ghost use Rattle.office_messages.specs.Reply.{fault_reply, unavailable};
+ghost use Rattle.office_messages.specs.FixedReplies.{fault_reply, unavailable};
 
 use crate::allow_field::Allow;
 use crate::framing::Fault;

@@ -9,7 +9,8 @@ use Rattle.office_policy.specs.declared.command.Body.TheVariants.{Given}
 use Rattle.office_policy.specs.declared.policy.Denial.{Denial}
 use Rattle.office_model.specs.Answers.{PlainAnswer, now_enrolled}
 use Rattle.office_model.specs.Batches.{batch_enrolled, changes_to, lines_if_new, kept_in}
-use Rattle.office_model.specs.Commands.{Gives, loaded}
+use Rattle.office_model.specs.Commands.{Gives}
+use Rattle.office_model.specs.Loading.{loaded}
 use Rattle.office_model.specs.Office.{OfficeState}
 use Rattle.office_model.specs.Publishing.{draft_published}
 use Rattle.office_model.specs.Quiet.{KeepsPublication, new_changes, is_batch}

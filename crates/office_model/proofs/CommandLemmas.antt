@@ -22,7 +22,8 @@ use Rattle.office_model.specs.declared.fault.Refusal.TheVariants as refusal
 use Rattle.office_model.specs.Office.{OfficeState, Records, KeptBatch, set_at}
 use Rattle.office_model.specs.Views.{view_of, view_from}
 use Rattle.office_model.specs.Publishing.{rows_now}
-use Rattle.office_model.specs.Commands.{named, when_loaded, owned, draft_made, draft_dropped, draft_edited, is_draft_number, first_timetable}
+use Rattle.office_model.specs.Commands.{named, when_loaded, owned}
+use Rattle.office_model.specs.DraftCommands.{draft_made, draft_dropped, draft_edited, is_draft_number, first_timetable}
 use Rattle.office_model.specs.BatchLines.{after_change, enrolled, counted, no_counts}
 use Rattle.office_model.specs.Batches.{changes_to, newly_enrolled, enrolled_by, batch_enrolled, lines_if_new, kept_in, kept_under, same_bytes}
 

@@ -30,8 +30,10 @@ use Rattle.office_policy.specs.declared.command.Body.TheVariants.{Given, Bad, Lo
 use Rattle.office_model.specs.Answers.{PlainAnswer, now_loaded, now_owned, now_drafted, now_edited}
 use Rattle.office_model.specs.Answers.{now_dropped, now_published, now_enrolled}
 use Rattle.office_model.specs.Batches.{batch_enrolled}
-use Rattle.office_model.specs.Commands.{Gives, draft_dropped, draft_edited, draft_made, first_timetable}
-use Rattle.office_model.specs.Commands.{is_draft_number, loaded, named, owned}
+use Rattle.office_model.specs.Commands.{Gives}
+use Rattle.office_model.specs.DraftCommands.{draft_dropped, draft_edited, draft_made, first_timetable, is_draft_number}
+use Rattle.office_model.specs.Commands.{named, owned}
+use Rattle.office_model.specs.Loading.{loaded}
 use Rattle.office_model.specs.Office.{AreRecords, IsOffice, OfficeState, Records}
 use Rattle.office_model.specs.Publishing.{draft_published, unless_refused}
 use Rattle.office_model.specs.Step.{step}

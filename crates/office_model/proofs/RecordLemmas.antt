@@ -19,12 +19,12 @@ use Rattle.exam_rules.specs.Breaches.{least_breach_of}
 use Rattle.exam_rules.specs.declared.breach.Breach.{Breach}
 use Rattle.exam_publish.specs.Permit.{first_unplaced, least_breach, publish_refusal}
 use Rattle.exam_publish.specs.Seats.{AreSeated}
-use Rattle.exam_publish.specs.Shares.{enrolled_in}
+use Rattle.exam_publish.specs.Rows.{enrolled_in}
 use Rattle.exam_publish.proofs.PermitLemmas.{neither}
 use Rattle.exam_publish.proofs.PublishedLemmas.{same_enrolments}
 use Rattle.exam_publish.proofs.SeatLemmas.{AreSeats, are_seats}
 use Rattle.office_files.proofs.ReadingLaws.{bind_ok, unless_ok}
-use Rattle.office_model.specs.Commands.{fresh}
+use Rattle.office_model.specs.Loading.{fresh}
 use Rattle.office_model.specs.Office.{AreEnrolled, AreRecords, IsPublication, Publication, Records, set_at}
 use Rattle.office_model.specs.Publishing.{published_as, rows_now}
 

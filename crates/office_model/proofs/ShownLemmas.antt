@@ -3,7 +3,8 @@ use Rattle.std.proofs.Common.{◌≡◌, ℕ, Some, None, refl}
 use Rattle.std.specs.Prelude.{Ok, Err, IfOk}
 use Rattle.exam_terms.specs.Refusing.{else_err}
 use Rattle.office_model.specs.Answers.{PlainAnswer}
-use Rattle.office_model.specs.Commands.{Gives, draft_shown, session_shown}
+use Rattle.office_model.specs.Commands.{Gives, session_shown}
+use Rattle.office_model.specs.DraftCommands.{draft_shown}
 use Rattle.office_model.specs.Office.{OfficeState}
 use Rattle.office_model.specs.Step.{outcome, draft_in_session}
 use Rattle.office_model.specs.declared.fault.StoreFault.TheVariants.{NoDraft}

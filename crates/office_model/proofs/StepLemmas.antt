@@ -16,7 +16,9 @@ use Rattle.office_model.specs.Answers.{PlainAnswer, now_loaded, now_owned, now_d
 use Rattle.office_model.specs.Answers.{now_dropped, now_published, now_enrolled}
 use Rattle.office_model.specs.Batches.{batch_enrolled}
 use Rattle.office_model.specs.Candidates.{Asked, whole, one, cost}
-use Rattle.office_model.specs.Commands.{Gives, loaded, owned, draft_made, draft_dropped, draft_edited}
+use Rattle.office_model.specs.Commands.{Gives, owned}
+use Rattle.office_model.specs.DraftCommands.{draft_made, draft_dropped, draft_edited}
+use Rattle.office_model.specs.Loading.{loaded}
 use Rattle.office_model.specs.Office.{OfficeState}
 use Rattle.office_model.specs.Publishing.{draft_published}
 use Rattle.office_model.specs.Step.{outcome, told_to, permitted, if_allowed, allowed_in, step}

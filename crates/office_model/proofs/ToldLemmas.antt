@@ -10,7 +10,9 @@ use Rattle.office_policy.specs.declared.callers.Caller.TheVariants.{Cand}
 use Rattle.office_model.specs.Answers.{PlainAnswer, shows}
 use Rattle.office_model.specs.Batches.{batch_enrolled}
 use Rattle.office_model.specs.Candidates.{answer_to}
-use Rattle.office_model.specs.Commands.{loaded, owned, draft_made, draft_dropped, draft_edited}
+use Rattle.office_model.specs.Commands.{owned}
+use Rattle.office_model.specs.DraftCommands.{draft_made, draft_dropped, draft_edited}
+use Rattle.office_model.specs.Loading.{loaded}
 use Rattle.office_model.specs.Publishing.{draft_published}
 use Rattle.office_model.specs.Office.{OfficeState}
 use Rattle.office_model.specs.Step.{Steps, step, Outcome}

@@ -1,6 +1,8 @@
 pub mod Office
 pub mod Numbers
 pub mod Commands
+pub mod DraftCommands
+pub mod Loading
 pub mod BatchLines
 pub mod Batches
 pub mod Publishing

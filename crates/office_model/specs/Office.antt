@@ -7,9 +7,8 @@ use Rattle.exam_model.specs.Instance.{Session, IsInstance}
 use Rattle.exam_model.specs.Timetable.{Placing}
 use Rattle.exam_publish.specs.declared.seat_row.SeatRow.{SeatRow}
 use Rattle.exam_publish.specs.Permit.{least_breach}
-use Rattle.exam_publish.specs.Rows.{ArePublishedRows}
+use Rattle.exam_publish.specs.Rows.{ArePublishedRows, enrolled_in}
 use Rattle.exam_publish.specs.Seats.{AreSeated}
-use Rattle.exam_publish.specs.Shares.{enrolled_in}
 use Rattle.office_model.specs.declared.counts.Counts.{Counts}
 
 -- what is published: where each exam stands, and who sits where

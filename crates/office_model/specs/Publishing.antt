@@ -7,7 +7,8 @@ use Rattle.exam_publish.specs.Changed.{changed_students}
 use Rattle.exam_publish.specs.Permit.{publish_refusal}
 use Rattle.exam_publish.specs.Seats.{seat_rows}
 use Rattle.exam_publish.specs.declared.seat_row.SeatRow.{SeatRow}
-use Rattle.office_model.specs.Commands.{Gives, named, penalty_now, when_loaded}
+use Rattle.office_model.specs.Commands.{Gives, named, when_loaded}
+use Rattle.office_model.specs.DraftCommands.{penalty_now}
 use Rattle.office_model.specs.Office.{OfficeState, Records, Publication}
 use Rattle.office_model.specs.declared.counts.Published as counts
 use Rattle.office_model.specs.declared.fault.Refusal.TheVariants as refusal

@@ -30,8 +30,10 @@ use Rattle.office_model.specs.Answers.{unpublished, now_enrolled, denied, bad_bo
 use Rattle.office_model.specs.Answers.{refused, unavailable}
 use Rattle.office_model.specs.Batches.{batch_enrolled}
 use Rattle.office_model.specs.Candidates.{Asked, whole, one, cost, told}
-use Rattle.office_model.specs.Commands.{Gives, draft_dropped, draft_edited, draft_made, loaded}
-use Rattle.office_model.specs.Commands.{owned, owner_in, draft_shown, session_shown, when_loaded}
+use Rattle.office_model.specs.Commands.{Gives}
+use Rattle.office_model.specs.DraftCommands.{draft_dropped, draft_edited, draft_made, draft_shown}
+use Rattle.office_model.specs.Loading.{loaded}
+use Rattle.office_model.specs.Commands.{owned, owner_in, session_shown, when_loaded}
 use Rattle.office_model.specs.Office.{OfficeState, Publication, published_enrolments}
 use Rattle.office_model.specs.Publishing.{draft_published}
 use Rattle.office_model.specs.Views.{view_of}

@@ -3,7 +3,7 @@ use Rattle.std.specs.Prelude.{◌≡◌, ℕ, ◌++◌, ◌∷◌, [], List, Opt
 use Rattle.std.specs.Io.KnownBytes.{Appends}
 use Rattle.sqlite.specs.State.{State}
 use Rattle.office_model.specs.Office.{OfficeState}
-use Rattle.office_model.specs.Commands.{NamesFirstFault, SpellsSession, loaded}
+use Rattle.office_model.specs.Loading.{NamesFirstFault, SpellsSession, loaded}
 use Rattle.office_store.specs.Running.{IsFault, Now}
 use Rattle.office_model.specs.declared.counts.Loaded.{Loaded}
 use Rattle.office_program.specs.declared.loading.LoadFault.{LoadFault}

@@ -19,7 +19,8 @@ use Rattle.office_enrolment.specs.Keeping.{records_with_batch}
 use Rattle.office_enrolment.proofs.RowLemmas.{rows_after_batch}
 use Rattle.office_records.specs.BatchRows.{batch_put, enrol_rows}
 use Rattle.office_records.specs.Found.{AreDrafts}
-use Rattle.office_records.specs.Stands.{IsSound, StandsLoaded, parts_of, stored_batch}
+use Rattle.office_records.specs.Stands.{IsSound, StandsLoaded, parts_of}
+use Rattle.office_records.specs.TableRows.{stored_batch}
 use Rattle.office_records.proofs.SameTables.{few_once, few_read}
 
 module _ (number : ℕ) (bytes : List ℕ) (changes : List Change) (r : Records)

@@ -13,7 +13,8 @@ use Rattle.office_tables.specs.Tables.{Batch, Tables}
 use Rattle.office_tables.specs.declared.batch.BatchCountsRow.{BatchCountsRow}
 use Rattle.office_model.specs.Office.{AreKept, IsKeptBatch, IsOffice, KeptBatch, OfficeState}
 use Rattle.office_records.specs.FoundBatches.{AreBatchRows, AreFoundBatches, IsBatchRow, IsShort}
-use Rattle.office_records.specs.Stands.{StandsForOffice, StandsBatches, stored_batch}
+use Rattle.office_records.specs.Stands.{StandsForOffice, StandsBatches}
+use Rattle.office_records.specs.TableRows.{stored_batch}
 
 -- a stored batch as the office keeps it
 abbrev pub kept_batch : Batch → KeptBatch

@@ -17,7 +17,7 @@ use Rattle.office_tables.specs.declared.enrol.EnrolRow.{EnrolRow}
 use Rattle.office_records.proofs.ReorderLemmas.{reordered}
 use Rattle.office_records.specs.Found.{AreEnrolRows}
 use Rattle.office_records.specs.NextRow.{IsNewPair}
-use Rattle.office_records.specs.Stands.{enrol_row}
+use Rattle.office_records.specs.TableRows.{enrol_row}
 
 -- ---- a row among rows
 

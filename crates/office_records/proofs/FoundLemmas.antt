@@ -14,7 +14,8 @@ use Rattle.office_tables.specs.declared.seat.SeatRow.{SeatRow}
 use Rattle.office_tables.specs.declared.share_student.StudentShareRow.{StudentShareRow}
 use Rattle.office_model.specs.Office.{IsPublication, Publication}
 use Rattle.office_records.specs.Found.{ArePublication}
-use Rattle.office_records.specs.Publications.{ArePlaces, ArePublished, ArePublicationRows, HasPlacesAndSeats, publication, stored_seat}
+use Rattle.office_records.specs.Publications.{ArePublicationRows, stored_seat}
+use Rattle.office_records.specs.FoundPublications.{ArePlaces, ArePublished, HasPlacesAndSeats, publication}
 use Rattle.office_records.specs.SharesStored.{AreShared}
 use Rattle.office_records.specs.declared.fault.RecordFault.{RecordFault}
 use Rattle.office_records.specs.declared.fault.RecordFault.TheVariants.{BadRows}

@@ -25,7 +25,8 @@ use Rattle.office_tables.specs.Enrol.{enrol_columns}
 use Rattle.office_tables.specs.declared.enrol.EnrolRow.{EnrolRow}
 use Rattle.office_model.specs.Office.{OfficeState, Records, AreRecords, AreEnrolled}
 use Rattle.office_records.specs.Memory.{memory_of}
-use Rattle.office_records.specs.Stands.{IsKept, StandsForOffice, StandsLoaded, enrol_row, meta_row}
+use Rattle.office_records.specs.Stands.{IsKept, StandsForOffice, StandsLoaded}
+use Rattle.office_records.specs.TableRows.{enrol_row, meta_row}
 
 -- ---- the rows of a table
 

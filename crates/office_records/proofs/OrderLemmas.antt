@@ -18,7 +18,7 @@ use Rattle.exam_publish.specs.Shares.{Sharing}
 use Rattle.office_tables.specs.declared.share_part.PartShareRow.{PartShareRow}
 use Rattle.office_tables.specs.declared.seat.SeatRow.{SeatRow}
 use Rattle.office_records.specs.Publications.{stored_seat}
-use Rattle.office_records.specs.SharesStored.{part_rows, plain_rows, room_rows}
+use Rattle.office_records.specs.PartShares.{part_rows, plain_rows, room_rows}
 
 -- ---- by one number
 

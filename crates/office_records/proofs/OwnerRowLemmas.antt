@@ -8,7 +8,7 @@ use Rattle.exam_model.specs.Instance.{Session}
 use Rattle.office_tables.specs.declared.owner.OwnerRow.{OwnerRow}
 use Rattle.office_records.specs.Found.{AreOwners}
 use Rattle.office_records.specs.NextRow.{IsFirstOwner}
-use Rattle.office_records.specs.Stands.{owners_at, some_dept}
+use Rattle.office_records.specs.TableRows.{owners_at, some_dept}
 
 -- the departments that these rows name, of so many exams
 pub record AreNamed (n : ℕ) (done : List OwnerRow) (noted : List ℕ) : Type 0 where

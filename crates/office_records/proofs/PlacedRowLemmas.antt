@@ -9,8 +9,9 @@ use Rattle.exam_terms.specs.declared.place.Place.{Place}
 use Rattle.office_tables.specs.declared.placed.PlacedRow.{PlacedRow}
 use Rattle.office_tables.specs.declared.slot.SlotRow.{SlotRow}
 use Rattle.office_records.specs.Found.{AreSlots}
-use Rattle.office_records.specs.Publications.{ArePlaces, placed_from, placed_row, placed_slot}
-use Rattle.office_records.specs.Stands.{slots_at, slots_from}
+use Rattle.office_records.specs.Publications.{placed_from, placed_row}
+use Rattle.office_records.specs.FoundPublications.{ArePlaces, placed_slot}
+use Rattle.office_records.specs.TableRows.{slots_at, slots_from}
 use Rattle.office_records.proofs.SlotLemmas.{same_timetable}
 
 -- ---- as places of draft 0

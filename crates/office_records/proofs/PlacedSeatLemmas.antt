@@ -19,7 +19,7 @@ use Rattle.exam_publish.specs.Rows.{RowBefore, RowsInOrder, comes_before, row_pa
 use Rattle.exam_publish.specs.Seats.{HaveOwnSeats}
 use Rattle.exam_publish.proofs.ChangedLemmas.{before_from_test}
 use Rattle.exam_publish.proofs.ListLemmas.{index_from_chain}
-use Rattle.office_records.specs.Publications.{is_same_seat}
+use Rattle.office_records.specs.FoundPublications.{is_same_seat}
 
 -- each next one is related, so each is to all later ones
 chain_from_next : {X : Type 0} (R : X → X → Type 0) → ((x y z : X) → R x y → R y z → R x z)

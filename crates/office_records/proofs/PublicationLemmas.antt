@@ -12,9 +12,8 @@ use Rattle.exam_model.specs.Pairs.{pairs_of}
 use Rattle.exam_model.specs.Timetable.{Placing}
 use Rattle.exam_model.proofs.SumLemmas.{chain_from_index}
 use Rattle.exam_publish.specs.Permit.{RefusesPublication, first_unplaced, least_breach, publish_fault, publish_refusal}
-use Rattle.exam_publish.specs.Rows.{AreNumbered, ArePublishedRows, RowBefore, row_pair}
+use Rattle.exam_publish.specs.Rows.{AreNumbered, ArePublishedRows, RowBefore, row_pair, enrolled_in, students_in}
 use Rattle.exam_publish.specs.Seats.{AreSeated}
-use Rattle.exam_publish.specs.Shares.{enrolled_in, students_in}
 use Rattle.exam_publish.specs.declared.fault.PublishFault.{PublishFault}
 use Rattle.exam_publish.specs.declared.fault.PublishFault.TheVariants.{Broken, NoMemory, Unplaced}
 use Rattle.exam_publish.specs.declared.seat_row.SeatRow.{SeatRow}
@@ -25,8 +24,8 @@ use Rattle.office_tables.specs.declared.enrol.EnrolRow.{EnrolRow}
 use Rattle.office_model.specs.Office.{AreEnrolled, IsPublication, Publication}
 use Rattle.office_model.proofs.RecordLemmas.{are_enrolled as enrolled_of_exams}
 use Rattle.office_records.specs.Found.{AreEnrolRows}
-use Rattle.office_records.specs.Publications.{HasPlacesAndSeats, publication, seat_pair}
-use Rattle.office_records.specs.Stands.{enrol_row}
+use Rattle.office_records.specs.FoundPublications.{HasPlacesAndSeats, publication, seat_pair}
+use Rattle.office_records.specs.TableRows.{enrol_row}
 use Rattle.office_records.proofs.MemoryLemmas.{same_enrolments}
 
 module _ (I : Session) (rows : List SeatRow) (T : Placing) (are : ArePublishedRows I rows T) where

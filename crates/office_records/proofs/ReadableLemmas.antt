@@ -49,10 +49,10 @@ use Rattle.office_model.specs.Office.{OfficeState, Records, Publication, AreReco
 use Rattle.office_model.specs.Office.{IsPublication, published_enrolments}
 use Rattle.office_model.specs.Publishing.{rows_now}
 use Rattle.office_records.specs.Publications.{placed_from, placed_rows, stored_seat}
-use Rattle.office_records.specs.SharesStored.{part_rows, part_share_rows, plain_rows, room_rows}
+use Rattle.office_records.specs.PartShares.{part_rows, part_share_rows, plain_rows, room_rows}
 use Rattle.office_records.specs.SharesStored.{student_share_row, student_share_rows}
-use Rattle.office_records.specs.Stands.{IsKept, IsSound, StandsForOffice, some_dept, once, slot_rows, slots_from}
-use Rattle.office_records.specs.Stands.{enrol_row}
+use Rattle.office_records.specs.Stands.{IsKept, IsSound, StandsForOffice}
+use Rattle.office_records.specs.TableRows.{some_dept, once, slot_rows, slots_from, enrol_row}
 
 -- ---- lists
 

@@ -16,9 +16,10 @@ use Rattle.office_records.specs.Found.{AreDrafts, AreEnrolRows}
 use Rattle.office_records.specs.FoundBatches.{AreBatchRows, AreFoundBatches}
 use Rattle.office_records.specs.Found.{AreOwners, ArePublication, IsSessionRow, IsUnloaded}
 use Rattle.office_model.specs.Office.{OfficeState, Publication, Records, AreKept, AreRecords, IsOffice, IsPublication}
-use Rattle.office_records.specs.Publications.{ArePublished}
+use Rattle.office_records.specs.FoundPublications.{ArePublished}
 use Rattle.office_records.specs.Memory.{memory_of}
-use Rattle.office_records.specs.Stands.{IsSound, StandsForOffice, StandsLoaded, meta_row}
+use Rattle.office_records.specs.Stands.{IsSound, StandsForOffice, StandsLoaded}
+use Rattle.office_records.specs.TableRows.{meta_row}
 use Rattle.office_records.proofs.BatchRowLemmas.{batch_rows, batches_kept, batches_stand}
 use Rattle.office_records.proofs.BatchRowLemmas.{kept_batch, no_batches}
 use Rattle.office_records.proofs.MemoryLemmas.{same_enrolments}

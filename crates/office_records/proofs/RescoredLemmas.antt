@@ -14,7 +14,8 @@ use Rattle.office_tables.specs.declared.draft.DraftRow.{DraftRow}
 use Rattle.office_tables.specs.declared.slot.SlotRow.{SlotRow}
 use Rattle.office_records.specs.BatchRows.{IsRescored}
 use Rattle.office_records.specs.Found.{AreDrafts, AreSlots}
-use Rattle.office_records.specs.Stands.{drafts_at, parts_of, slot_rows, slots_at}
+use Rattle.office_records.specs.Stands.{parts_of}
+use Rattle.office_records.specs.TableRows.{drafts_at, slot_rows, slots_at}
 use Rattle.office_records.proofs.SlotLemmas.{same_timetable}
 
 abbrev no_of : DraftRow → ℕ

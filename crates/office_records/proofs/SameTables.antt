@@ -27,7 +27,8 @@ use Rattle.office_tables.specs.declared.slot.SlotRow.{SlotRow}
 use Rattle.office_model.specs.Office.{OfficeState, Records}
 use Rattle.office_tables.proofs.RecordsBack.{owner_of, enrol_of, draft_of, slot_of, placement_of}
 use Rattle.office_tables.proofs.RecordsBack.{seat_of, student_share_of, part_share_of, batch_of}
-use Rattle.office_records.specs.Stands.{IsScoredRow, IsSound, StandsForOffice, StandsLoaded, some_dept, once}
+use Rattle.office_records.specs.Stands.{IsScoredRow, IsSound, StandsForOffice, StandsLoaded}
+use Rattle.office_records.specs.TableRows.{some_dept, once}
 use Rattle.office_records.proofs.MemoryLemmas.{same_rows, same_one, meta_back, meta_is}
 
 -- ---- lists

@@ -10,17 +10,19 @@ use Rattle.exam_model.proofs.StudentLemmas.{each_with}
 use Rattle.exam_score.specs.Penalty.{PersonalPenalty, personal_total}
 use Rattle.exam_publish.specs.AddUp.{AreSmall}
 use Rattle.exam_publish.specs.Changed.{rows_of, students_of}
-use Rattle.exam_publish.specs.Shares.{Sharing, enrolled_in, period_share, room_share, share_of, shares_of, student_shares}
+use Rattle.exam_publish.specs.Shares.{Sharing, period_share, room_share, share_of, shares_of, student_shares}
+use Rattle.exam_publish.specs.Rows.{enrolled_in}
 use Rattle.exam_publish.specs.declared.seat_row.SeatRow.{SeatRow}
 use Rattle.exam_publish.proofs.AddUpLemmas.{adds_up}
 use Rattle.exam_publish.proofs.ShareLemmas.{published_small, shares_ascend}
 use Rattle.exam_model.specs.Timetable.{Placing}
-use Rattle.exam_score.specs.Track.{exam_front}
+use Rattle.exam_score.specs.FrontLoad.{exam_front}
 use Rattle.office_tables.specs.declared.share_part.PartShareRow.{PartShareRow}
 use Rattle.office_tables.specs.declared.share_student.StudentShareRow.{StudentShareRow}
 use Rattle.office_model.specs.Office.{IsPublication, Publication}
-use Rattle.office_records.specs.Publications.{HasPlacesAndSeats}
-use Rattle.office_records.specs.SharesStored.{AreShared, AreSharesOf, HasFewParts, IsShare, part_rows, plain_rows, room_rows, student_share_row}
+use Rattle.office_records.specs.FoundPublications.{HasPlacesAndSeats}
+use Rattle.office_records.specs.SharesStored.{AreShared, AreSharesOf, IsShare, student_share_row}
+use Rattle.office_records.specs.PartShares.{HasFewParts, part_rows, plain_rows, room_rows}
 use Rattle.office_records.proofs.PartRowLemmas.{exam_part, long, period_part, room_part, same_plain, same_rooms}
 use Rattle.office_records.proofs.ShareRowLemmas.{same_shares}
 

@@ -15,7 +15,7 @@ use Rattle.exam_terms.specs.declared.place.Place.{Place}
 use Rattle.office_tables.specs.declared.slot.SlotRow.{SlotRow}
 use Rattle.office_records.specs.Found.{AreSlots}
 use Rattle.office_records.specs.NextRow.{IsFree, IsPut}
-use Rattle.office_records.specs.Stands.{slots_at, slots_from, slot_row}
+use Rattle.office_records.specs.TableRows.{slots_at, slots_from, slot_row}
 
 -- ---- the rows of a timetable
 

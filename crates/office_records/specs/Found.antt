@@ -20,9 +20,11 @@ use Rattle.office_tables.specs.declared.placed.PlacedRow.{PlacedRow}
 use Rattle.office_tables.specs.declared.seat.SeatRow.{SeatRow}
 use Rattle.office_tables.specs.declared.share_student.StudentShareRow.{StudentShareRow}
 use Rattle.office_model.specs.Office.{AreEnrolled, Publication}
-use Rattle.office_records.specs.Publications.{ArePublicationRows, ArePublished}
+use Rattle.office_records.specs.Publications.{ArePublicationRows}
+use Rattle.office_records.specs.FoundPublications.{ArePublished}
 use Rattle.office_records.specs.SharesStored.{AreShared}
-use Rattle.office_records.specs.Stands.{session_text, enrol_row, slots_from, slot_rows, once, some_dept, owners_at, drafts_at, slots_at, parts_of}
+use Rattle.office_records.specs.Stands.{parts_of}
+use Rattle.office_records.specs.TableRows.{session_text, enrol_row, slots_from, slot_rows, once, some_dept, owners_at, drafts_at, slots_at}
 
 -- the row of this session, whether something is published of it or not
 pub record IsSessionRow (found : Meta) (I : Session) : Type 0 where

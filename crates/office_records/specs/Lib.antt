@@ -1,10 +1,13 @@
 pub mod Memory
 pub mod Stands
+pub mod TableRows
 pub mod FoundBatches
 pub mod Found
 pub mod NextRow
 pub mod Faults
 pub mod Publications
+pub mod FoundPublications
 pub mod SeatsStored
 pub mod SharesStored
+pub mod PartShares
 pub mod BatchRows

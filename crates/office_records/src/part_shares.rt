@@ -5,7 +5,7 @@ ghost use Rattle.exam_publish.specs.AddUp.{AreSmall};
 ghost use Rattle.exam_publish.specs.Shares.{Sharing};
 ghost use Rattle.exam_publish.specs.declared.share_lists.RoomShare.{RoomShare};
 ghost use Rattle.office_tables.specs.SharePart.{ArePartAmounts};
-ghost use Rattle.office_records.specs.SharesStored.{HasFewParts, part_kind_number, part_rows, plain_rows, room_rows};
+ghost use Rattle.office_records.specs.PartShares.{HasFewParts, part_kind_number, part_rows, plain_rows, room_rows};
 
 use crate::fault::RecordFault;
 use exam_publish::{RoomShare, Shares};

@@ -3,7 +3,7 @@ ghost use Rattle.std.specs.Prelude.{◌≡◌, ◌↔◌, All, AllPairs, IfOk, I
 ghost use Rattle.exam_model.specs.Fits.{Suits};
 ghost use Rattle.exam_publish.specs.Rows.{RowsInOrder, comes_before, row_pair};
 ghost use Rattle.exam_publish.specs.Seats.{HaveOwnSeats};
-ghost use Rattle.office_records.specs.Publications.{HasPlacesAndSeats, IsSeatedRow, is_same_seat, publication};
+ghost use Rattle.office_records.specs.FoundPublications.{HasPlacesAndSeats, IsSeatedRow, is_same_seat, publication};
 
 use exam_model::{Instance, Timetable};
 use exam_publish::{SeatRow, tell_numbers};

@@ -4,7 +4,8 @@ ghost use Rattle.exam_model.specs.Timetable.{Placing};
 ghost use Rattle.exam_publish.specs.Rows.{ArePublishedRows};
 ghost use Rattle.exam_publish.specs.Seats.{AreSeated};
 ghost use Rattle.office_model.specs.Office.{IsPublication, Publication};
-ghost use Rattle.office_records.specs.Publications.{AreFound, ArePlaces, ArePublished, ArePublicationRows, placed_from, placed_slot, publication, publication_from, seat_pair};
+ghost use Rattle.office_records.specs.Publications.{ArePublicationRows, placed_from};
+ghost use Rattle.office_records.specs.FoundPublications.{AreFound, ArePlaces, ArePublished, placed_slot, publication, publication_from, seat_pair};
 
 use crate::enrolments::enrolments_of;
 use crate::fault::RecordFault;

@@ -3,7 +3,7 @@ ghost use Rattle.std.specs.Prelude.{◌≡◌, IfErr, IfOk};
 ghost use Rattle.exam_model.specs.Instance.{IsInstance, Session};
 ghost use Rattle.office_tables.specs.Meta.{meta_from};
 ghost use Rattle.office_records.specs.Found.{IsSessionRow};
-ghost use Rattle.office_records.specs.Stands.{session_text};
+ghost use Rattle.office_records.specs.TableRows.{session_text};
 
 use crate::fault::RecordFault;
 use exam_model::{Enrolments, Instance};

@@ -3,7 +3,7 @@ ghost use Rattle.std.specs.Prelude.{◌≡◌, ◌↔◌, IfErr, IfOk, IsTrue, O
 ghost use Rattle.exam_publish.specs.Rows.{ArePublishedRows};
 ghost use Rattle.exam_publish.specs.Shares.{shares_of};
 ghost use Rattle.office_model.specs.Office.{IsPublication, Publication};
-ghost use Rattle.office_records.specs.Publications.{publication};
+ghost use Rattle.office_records.specs.FoundPublications.{publication};
 ghost use Rattle.office_records.specs.SharesStored.{AreShared, AreSharesOf};
 
 use crate::fault::RecordFault;

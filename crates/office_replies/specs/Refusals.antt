@@ -7,7 +7,8 @@ use Rattle.exam_publish.specs.declared.fault.PublishFault.{PublishFault}
 use Rattle.exam_publish.specs.declared.fault.PublishFault.TheVariants as publish
 use Rattle.office_files.specs.declared.fault.FileFault.{FileFault}
 use Rattle.office_reports.specs.Reports.{rule_name}
-use Rattle.office_messages.specs.Reply.{PlainReply, json_reply, unavailable}
+use Rattle.office_messages.specs.Reply.{PlainReply, json_reply}
+use Rattle.office_messages.specs.FixedReplies.{unavailable}
 use Rattle.office_messages.specs.declared.statuses.Status.TheVariants.{BadRequest, Conflict}
 use Rattle.office_requests.specs.Texts.{error_reply}
 use Rattle.office_requests.specs.declared.texts.FixedError.TheVariants as error

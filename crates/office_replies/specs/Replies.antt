@@ -1,6 +1,7 @@
 -- What each answer of the office is as a reply: a status and a body.
 use Rattle.std.specs.Prelude.{ℕ, List, None}
-use Rattle.office_messages.specs.Reply.{PlainReply, json_reply, fault_reply, unavailable}
+use Rattle.office_messages.specs.Reply.{PlainReply, json_reply}
+use Rattle.office_messages.specs.FixedReplies.{fault_reply, unavailable}
 use Rattle.office_messages.specs.declared.framing.Fault.TheVariants.{TooLong}
 use Rattle.office_messages.specs.declared.replies.Content.TheVariants.{Text}
 use Rattle.office_messages.specs.declared.statuses.Status.TheVariants.{Done, Created}

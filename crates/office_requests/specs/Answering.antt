@@ -9,7 +9,8 @@ use Rattle.office_policy.specs.declared.policy.Denial.TheVariants.{P1}
 use Rattle.office_requests.specs.Texts.{error_text, error_reply}
 use Rattle.office_requests.specs.Requests.{PlainAsked, plain_asked}
 use Rattle.office_requests.specs.declared.pages.Page.{Page}
-use Rattle.office_messages.specs.Reply.{PlainReply, unavailable}
+use Rattle.office_messages.specs.Reply.{PlainReply}
+use Rattle.office_messages.specs.FixedReplies.{unavailable}
 use Rattle.office_messages.specs.declared.replies.Content.TheVariants.{Json}
 use Rattle.office_messages.specs.declared.statuses.Status.TheVariants.{MethodNotAllowed}
 use Rattle.office_requests.specs.declared.texts.FixedError.TheVariants as error

@@ -11,7 +11,7 @@ use Rattle.sqlite.specs.State.{State, IsUnchanged}
 use Rattle.sqlite.specs.Store.{Ghosts}
 use Rattle.office_tables.specs.Adopting.{tables_of}
 use Rattle.office_tables.specs.Batch.{counts_of, batch_columns}
-use Rattle.office_tables.specs.Steps.{Keeps}
+use Rattle.office_tables.specs.Readers.{Keeps}
 use Rattle.office_tables.specs.Tables.{Batch, Tables}
 use Rattle.office_tables.specs.Standing.{Stands}
 use Rattle.office_tables.specs.declared.found.Found.{Found}

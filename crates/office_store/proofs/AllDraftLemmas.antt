@@ -16,7 +16,8 @@ use Rattle.office_tables.specs.declared.draft.DraftRow.{DraftRow}
 use Rattle.office_tables.specs.declared.slot.SlotRow.{SlotRow}
 use Rattle.office_model.specs.Office.{AreRecords, Records}
 use Rattle.office_records.specs.Found.{AreDrafts}
-use Rattle.office_records.specs.Stands.{IsScoredRow, IsSound, StandsLoaded, drafts_at, once, slot_rows, slots_at}
+use Rattle.office_records.specs.Stands.{IsScoredRow, IsSound, StandsLoaded}
+use Rattle.office_records.specs.TableRows.{drafts_at, once, slot_rows, slots_at}
 use Rattle.office_records.proofs.SameTables.{few_once, few_read}
 
 module _ {X : Type 0} (key : X → ℕ) where

@@ -37,7 +37,8 @@ use Rattle.office_model.specs.declared.fault.StoreFault.TheVariants.{TooMany}
 use Rattle.office_records.specs.BatchRows.{batch_put, enrol_rows}
 use Rattle.office_records.specs.Found.{AreDrafts}
 use Rattle.office_records.specs.Memory.{Memory, memory_of}
-use Rattle.office_records.specs.Stands.{IsKept, IsSound, StandsLoaded, enrol_row, stored_batch}
+use Rattle.office_records.specs.Stands.{IsKept, IsSound, StandsLoaded}
+use Rattle.office_records.specs.TableRows.{enrol_row, stored_batch}
 use Rattle.office_records.proofs.BatchPutLemmas.{batch_sound, batch_stands, drafts_moved}
 use Rattle.office_store.specs.NewBatches.{AreBatchRowsOf, Enrols, IsNewFor, line_put, new_batch_put}
 use Rattle.office_store.specs.Running.{IsAwake, IsFault, IsStill}

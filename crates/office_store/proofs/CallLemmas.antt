@@ -21,10 +21,12 @@ use Rattle.office_tables.specs.declared.slot.InsertSlot.{InsertSlot}
 use Rattle.office_tables.proofs.AlterationLemmas.{slots_put}
 use Rattle.office_model.specs.Office.{OfficeState, Records, set_at}
 use Rattle.office_records.specs.Memory.{Memory, memory_of}
-use Rattle.office_records.specs.Stands.{IsKept, once, parts_of}
+use Rattle.office_records.specs.Stands.{IsKept, parts_of}
+use Rattle.office_records.specs.TableRows.{once}
 use Rattle.office_store.specs.NewDraft.{Begins}
 use Rattle.office_store.specs.Changes.{draft_put, draft_removed}
-use Rattle.office_model.specs.Commands.{Gives, draft_dropped, draft_in, draft_made, first_timetable, is_draft_number, named, penalty_now}
+use Rattle.office_model.specs.Commands.{Gives, named}
+use Rattle.office_model.specs.DraftCommands.{draft_dropped, draft_in, draft_made, first_timetable, is_draft_number, penalty_now}
 use Rattle.office_store.specs.Running.{IsFault}
 use Rattle.office_model.specs.declared.fault.Refusal.TheVariants.{File}
 use Rattle.office_model.specs.declared.fault.StoreFault.{StoreFault}

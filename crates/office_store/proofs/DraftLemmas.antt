@@ -17,10 +17,11 @@ use Rattle.office_tables.specs.Standing.{Stands}
 use Rattle.office_tables.specs.declared.draft.DraftRow.{DraftRow}
 use Rattle.office_tables.specs.declared.slot.SlotRow.{SlotRow}
 use Rattle.office_store.specs.Changes.{draft_put, draft_removed}
-use Rattle.office_model.specs.Commands.{draft_in}
+use Rattle.office_model.specs.DraftCommands.{draft_in}
 use Rattle.office_model.specs.Office.{OfficeState, Records, set_at}
 use Rattle.office_model.proofs.RecordLemmas.{left_records, made_records}
-use Rattle.office_records.specs.Stands.{StandsForOffice, StandsLoaded, IsSound, IsScoredRow, IsKept, drafts_at, slots_at, slots_from, slot_rows, slot_row, parts_of, once}
+use Rattle.office_records.specs.Stands.{StandsForOffice, StandsLoaded, IsSound, IsScoredRow, IsKept, parts_of}
+use Rattle.office_records.specs.TableRows.{drafts_at, slots_at, slots_from, slot_rows, slot_row, once}
 use Rattle.office_records.proofs.KeyLemmas.{none_of, all_of_other, each_left}
 use Rattle.office_records.proofs.MemoryLemmas.{same_one}
 

@@ -13,7 +13,8 @@ use Rattle.exam_model.specs.Timetable.{Placing}
 use Rattle.exam_score.specs.Changes.{DiffersAtMost}
 use Rattle.exam_score.specs.Penalty.{Penalty, total_of}
 use Rattle.exam_score.specs.Track.{track}
-use Rattle.exam_draft.specs.Edits.{Edited, IsEditedAt, edited, edited_exams}
+use Rattle.exam_draft.specs.Edits.{Edited, edited}
+use Rattle.exam_draft.specs.Judged.{IsEditedAt, edited_exams}
 use Rattle.exam_draft.specs.declared.edit.Edit.{Edit}
 use Rattle.office_tables.specs.Alterations.{after_all}
 use Rattle.office_tables.specs.Draft.{with_draft, without_draft}
@@ -24,7 +25,8 @@ use Rattle.office_tables.specs.declared.draft.DraftRow.{DraftRow}
 use Rattle.office_tables.specs.declared.slot.SlotRow.{SlotRow}
 use Rattle.office_tables.specs.declared.slot.DeleteSlot.{DeleteSlot}
 use Rattle.office_tables.specs.declared.slot.InsertSlot.{InsertSlot}
-use Rattle.office_model.specs.Commands.{draft_edited, draft_in, draft_shown, named, penalty_now}
+use Rattle.office_model.specs.Commands.{named}
+use Rattle.office_model.specs.DraftCommands.{draft_edited, draft_in, draft_shown, penalty_now}
 use Rattle.office_model.specs.Office.{AreRecords, IsOffice, OfficeState, Records, set_at}
 use Rattle.office_model.specs.declared.fault.Refusal.TheVariants as refusal
 use Rattle.office_model.specs.declared.fault.StoreFault.{StoreFault}
@@ -32,7 +34,8 @@ use Rattle.office_model.specs.declared.fault.StoreFault.TheVariants.{BadSchema, 
 use Rattle.office_records.specs.Found.{AreSlots}
 use Rattle.office_records.specs.Memory.{Memory, memory_of}
 use Rattle.office_records.specs.Faults.{store_fault}
-use Rattle.office_records.specs.Stands.{IsKept, once, parts_of}
+use Rattle.office_records.specs.Stands.{IsKept, parts_of}
+use Rattle.office_records.specs.TableRows.{once}
 use Rattle.office_records.specs.declared.fault.RecordFault.{RecordFault}
 use Rattle.office_records.specs.declared.fault.RecordFault.TheVariants.{BadRows, NoMemory}
 use Rattle.office_records.proofs.SlotLemmas.{same_timetable}

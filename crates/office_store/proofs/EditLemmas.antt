@@ -20,11 +20,13 @@ use Rattle.office_tables.specs.Standing.{Stands}
 use Rattle.office_tables.specs.Draft.{with_draft, without_draft}
 use Rattle.office_tables.specs.declared.draft.DraftRow.{DraftRow}
 use Rattle.office_store.specs.Changes.{edit_put}
-use Rattle.exam_draft.specs.Edits.{edited, edited_exams}
+use Rattle.exam_draft.specs.Edits.{edited}
+use Rattle.exam_draft.specs.Judged.{edited_exams}
 use Rattle.exam_draft.specs.declared.edit.Edit.{Edit}
 use Rattle.exam_draft.specs.declared.edit.Edit.TheVariants as edit
 use Rattle.office_model.specs.Office.{Records, set_at}
-use Rattle.office_records.specs.Stands.{StandsLoaded, IsSound, IsScoredRow, IsKept, drafts_at, slots_at, slots_from, slot_rows, parts_of, once}
+use Rattle.office_records.specs.Stands.{StandsLoaded, IsSound, IsScoredRow, IsKept, parts_of}
+use Rattle.office_records.specs.TableRows.{drafts_at, slots_at, slots_from, slot_rows, once}
 use Rattle.office_records.proofs.KeyLemmas.{none_of, all_of_other, each_left}
 use Rattle.office_model.proofs.RecordLemmas.{made_records}
 use Rattle.office_store.proofs.SlotLemmas.{only_slots, others_as_before, places_put}

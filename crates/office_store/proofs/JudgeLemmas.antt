@@ -7,7 +7,8 @@ use Rattle.exam_model.specs.Timetable.{Placing}
 use Rattle.exam_rules.specs.Breaches.{breaches_of}
 use Rattle.exam_rules.specs.declared.breach.Breach.{Breach}
 use Rattle.exam_score.specs.Penalty.{Penalty}
-use Rattle.office_model.specs.Commands.{Gives, draft_shown}
+use Rattle.office_model.specs.Commands.{Gives}
+use Rattle.office_model.specs.DraftCommands.{draft_shown}
 use Rattle.office_model.specs.Office.{OfficeState, Records}
 use Rattle.office_records.specs.Memory.{memory_of}
 use Rattle.office_store.specs.Judging.{draft_judged}

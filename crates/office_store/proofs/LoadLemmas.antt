@@ -20,14 +20,15 @@ use Rattle.office_tables.specs.declared.enrol.InsertEnrol.{InsertEnrol}
 use Rattle.office_tables.specs.declared.enrol.EnrolRow.{EnrolRow}
 use Rattle.office_tables.proofs.AlterationLemmas.{enrols_put}
 use Rattle.office_store.specs.Changes.{session_put}
-use Rattle.office_model.specs.Commands.{fresh, loaded_of, loaded}
+use Rattle.office_model.specs.Loading.{fresh, loaded_of, loaded}
 use Rattle.office_model.specs.Office.{OfficeState, AreEnrolled}
 use Rattle.office_records.specs.Memory.{Memory, memory_of}
 use Rattle.office_model.specs.declared.fault.StoreFault.TheVariants.{Loaded}
 use Rattle.office_model.specs.declared.counts.Loaded as loading
 use Rattle.office_model.proofs.RecordLemmas.{fresh_records}
 use Rattle.office_store.proofs.CommandLemmas.{Denies, Moves}
-use Rattle.office_records.specs.Stands.{StandsLoaded, IsKept, enrol_row}
+use Rattle.office_records.specs.Stands.{StandsLoaded, IsKept}
+use Rattle.office_records.specs.TableRows.{enrol_row}
 
 -- ---- the rows of pairs
 

@@ -10,20 +10,22 @@ use Rattle.exam_model.specs.Pairs.{pairs_of}
 use Rattle.exam_model.specs.Timetable.{Placing}
 use Rattle.exam_publish.specs.Permit.{RefusesPublication, publish_refusal}
 use Rattle.exam_publish.specs.Seats.{seat_rows}
-use Rattle.exam_publish.specs.Shares.{enrolled_in, period_share, room_share, shares_of}
+use Rattle.exam_publish.specs.Shares.{period_share, room_share, shares_of}
+use Rattle.exam_publish.specs.Rows.{enrolled_in}
 use Rattle.exam_publish.specs.declared.fault.PublishFault.{PublishFault}
 use Rattle.exam_publish.specs.declared.fault.PublishFault.TheVariants.{Broken, NoMemory, Unplaced}
 use Rattle.exam_publish.specs.declared.seat_row.SeatRow.{SeatRow}
 use Rattle.exam_score.specs.Penalty.{total_of}
-use Rattle.exam_score.specs.Track.{exam_front, track}
-use Rattle.office_model.specs.Commands.{draft_shown}
+use Rattle.exam_score.specs.Track.{track}
+use Rattle.exam_score.specs.FrontLoad.{exam_front}
+use Rattle.office_model.specs.DraftCommands.{draft_shown}
 use Rattle.office_model.specs.Office.{Records}
 use Rattle.office_model.specs.Publishing.{draft_published, rows_now}
 use Rattle.office_model.specs.declared.fault.Refusal.TheVariants as refusal
 use Rattle.office_model.specs.declared.fault.StoreFault.{StoreFault}
 use Rattle.office_model.specs.declared.fault.StoreFault.TheVariants.{BadSchema, Refused, Store}
 use Rattle.office_records.specs.Memory.{memory_of}
-use Rattle.office_records.specs.SharesStored.{HasFewParts}
+use Rattle.office_records.specs.PartShares.{HasFewParts}
 use Rattle.office_store.specs.NewPublications.{ArePutIn, Publishes}
 use Rattle.office_store.specs.Running.{IsFault}
 use Rattle.office_store.specs.declared.new_publication.NewPublication.{NewPublication}

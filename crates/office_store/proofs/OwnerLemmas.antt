@@ -21,7 +21,8 @@ use Rattle.office_store.proofs.RunLemmas.{kept_of}
 use Rattle.exam_draft.specs.Edits.{exam_exists}
 use Rattle.exam_draft.specs.declared.fault.EditFault.TheVariants.{NoSuch}
 use Rattle.office_model.specs.Commands.{owned, owner_in}
-use Rattle.office_records.specs.Stands.{StandsForOffice, StandsLoaded, IsSound, IsKept, owners_at, some_dept}
+use Rattle.office_records.specs.Stands.{StandsForOffice, StandsLoaded, IsSound, IsKept}
+use Rattle.office_records.specs.TableRows.{owners_at, some_dept}
 use Rattle.office_model.specs.declared.fault.Refusal.TheVariants.{Edit}
 use Rattle.office_model.specs.declared.fault.StoreFault.TheVariants.{Refused}
 use Rattle.office_records.proofs.KeyLemmas.{none_of, all_of_other}

@@ -6,11 +6,12 @@ use Rattle.exam_model.specs.Timetable.{Placing}
 use Rattle.exam_score.specs.Penalty.{Penalty, total_of}
 use Rattle.exam_score.proofs.SmallLemmas.{penalty_small}
 use Rattle.office_tables.specs.declared.draft.DraftRow.{DraftRow}
-use Rattle.office_model.specs.Commands.{draft_in}
+use Rattle.office_model.specs.DraftCommands.{draft_in}
 use Rattle.office_model.specs.Office.{OfficeState, Records, AreRecords, IsOffice}
 use Rattle.office_model.specs.declared.fault.StoreFault.TheVariants.{BadSchema, NoDraft}
 use Rattle.office_records.specs.Memory.{memory_of}
-use Rattle.office_records.specs.Stands.{IsScoredRow, once, parts_of}
+use Rattle.office_records.specs.Stands.{IsScoredRow, parts_of}
+use Rattle.office_records.specs.TableRows.{once}
 use Rattle.office_store.specs.Pricing.{draft_priced}
 use Rattle.office_store.specs.OfficeRows.{AreScored}
 use Rattle.office_store.specs.Running.{Does}

@@ -44,7 +44,8 @@ use Rattle.office_model.proofs.RecordLemmas.{published_records}
 use Rattle.office_records.specs.Memory.{Memory, memory_of}
 use Rattle.office_records.specs.Publications.{StandsPublished, placed_from, stored_seat}
 use Rattle.office_records.specs.SeatsStored.{seat_rows_of, seat_rows_without}
-use Rattle.office_records.specs.SharesStored.{part_share_rows, share_rows_of, share_rows_without}
+use Rattle.office_records.specs.SharesStored.{share_rows_of, share_rows_without}
+use Rattle.office_records.specs.PartShares.{part_share_rows}
 use Rattle.office_records.specs.SharesStored.{student_share_rows}
 use Rattle.office_records.specs.Stands.{IsKept, IsSound, StandsLoaded}
 use Rattle.office_records.proofs.RepublicationLemmas as republication

@@ -25,10 +25,11 @@ use Rattle.office_model.specs.Publishing.{rows_now}
 use Rattle.office_model.specs.declared.fault.StoreFault.{StoreFault}
 use Rattle.office_records.specs.Memory.{Memory, memory_of}
 use Rattle.office_records.specs.Faults.{store_fault}
-use Rattle.office_records.specs.Publications.{ArePublicationRows, ArePublished, StandsPublished}
-use Rattle.office_records.specs.Publications.{publication_from}
+use Rattle.office_records.specs.Publications.{ArePublicationRows, StandsPublished}
+use Rattle.office_records.specs.FoundPublications.{ArePublished, publication_from}
 use Rattle.office_records.specs.Publications.{placed_from, placed_rows, stored_seat}
-use Rattle.office_records.specs.SharesStored.{AreShared, part_rows, plain_rows}
+use Rattle.office_records.specs.SharesStored.{AreShared}
+use Rattle.office_records.specs.PartShares.{part_rows, plain_rows}
 use Rattle.office_records.specs.Stands.{IsKept, IsSound, StandsForOffice}
 use Rattle.office_records.proofs.ReadableLemmas.{are_numbered}
 use Rattle.office_records.specs.declared.fault.RecordFault.{RecordFault}

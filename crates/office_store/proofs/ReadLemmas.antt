@@ -15,11 +15,13 @@ use Rattle.office_tables.specs.declared.slot.SlotRow.{SlotRow}
 use Rattle.office_records.specs.Found.{AreSlots}
 use Rattle.office_model.specs.Office.{OfficeState, Records, AreRecords, IsOffice}
 use Rattle.office_records.specs.Memory.{memory_of}
-use Rattle.office_records.specs.Stands.{StandsForOffice, IsSound, IsScoredRow, drafts_at, slots_at, slots_from, slot_rows, parts_of, once}
+use Rattle.office_records.specs.Stands.{StandsForOffice, IsSound, IsScoredRow, parts_of}
+use Rattle.office_records.specs.TableRows.{drafts_at, slots_at, slots_from, slot_rows, once}
 use Rattle.office_records.specs.declared.fault.RecordFault.{RecordFault}
 use Rattle.office_records.specs.declared.fault.RecordFault.TheVariants.{NoMemory, BadRows}
 use Rattle.office_model.specs.declared.fault.StoreFault.{StoreFault}
-use Rattle.office_model.specs.Commands.{Gives, draft_in, draft_shown, session_shown}
+use Rattle.office_model.specs.Commands.{Gives, session_shown}
+use Rattle.office_model.specs.DraftCommands.{draft_in, draft_shown}
 use Rattle.office_records.specs.Faults.{store_fault}
 use Rattle.office_store.specs.Running.{Does, IsFault}
 use Rattle.office_store.specs.OfficeRows.{AreRowsOf, AreScored}

@@ -21,7 +21,7 @@ use Rattle.office_tables.specs.declared.slot.SlotRow.{SlotRow}
 use Rattle.office_tables.specs.declared.slot.DeleteSlot.{DeleteSlot}
 use Rattle.office_tables.specs.declared.slot.InsertSlot.{InsertSlot}
 use Rattle.office_store.specs.Changes.{moved, new_place, slot_put, slots_put}
-use Rattle.office_records.specs.Stands.{slots_at, slots_from, slot_row}
+use Rattle.office_records.specs.TableRows.{slots_at, slots_from, slot_row}
 
 -- two filters, in either order
 filter_swap : {X : Type 0} (p q : X → Bool) (xs : List X)

@@ -28,7 +28,8 @@ use Rattle.office_model.specs.Office.{AreRecords, IsOffice, OfficeState, Publica
 use Rattle.office_model.specs.Views.{published_place}
 use Rattle.office_model.specs.ViewRows.{AreOfPublication, places_in}
 use Rattle.office_records.specs.Publications.{placed_from, placed_row, placed_rows}
-use Rattle.office_records.specs.Stands.{StandsForOffice, enrol_row, once}
+use Rattle.office_records.specs.Stands.{StandsForOffice}
+use Rattle.office_records.specs.TableRows.{enrol_row, once}
 use Rattle.office_store.specs.OfficeRows.{published_in}
 use Rattle.office_store.specs.Viewing.{exams_in, her_row, place_in_row}
 use Rattle.std.specs.Prelude.{◌^◌, All}

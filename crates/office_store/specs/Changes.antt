@@ -15,7 +15,7 @@ use Rattle.office_tables.specs.declared.enrol.EnrolRow.{EnrolRow}
 use Rattle.office_tables.specs.declared.slot.SlotRow.{SlotRow}
 use Rattle.office_tables.specs.declared.slot.DeleteSlot.{DeleteSlot}
 use Rattle.office_tables.specs.declared.slot.InsertSlot.{InsertSlot}
-use Rattle.office_records.specs.Stands.{slot_row}
+use Rattle.office_records.specs.TableRows.{slot_row}
 
 -- a session is put in, with its enrolments
 abbrev pub session_put : List ℕ → List EnrolRow → Tables → Tables

@@ -6,7 +6,7 @@ use Rattle.exam_model.specs.Fits.{Fits}
 use Rattle.exam_model.specs.Timetable.{Placing}
 use Rattle.exam_score.specs.Penalty.{Penalty}
 use Rattle.exam_score.specs.Track.{track}
-use Rattle.office_model.specs.Commands.{draft_edited}
+use Rattle.office_model.specs.DraftCommands.{draft_edited}
 use Rattle.office_model.specs.Office.{OfficeState, Records}
 use Rattle.office_model.specs.declared.fault.StoreFault.{StoreFault}
 use Rattle.office_store.specs.Running.{IsFault}

@@ -6,7 +6,7 @@ use Rattle.sqlite.specs.Store.{Ghosts}
 use Rattle.exam_model.specs.Enrolments.{Enrolled}
 use Rattle.office_model.specs.Office.{Records}
 use Rattle.office_records.specs.Stands.{IsKept}
-use Rattle.office_tables.specs.Steps.{LeavesCommitted, OpensNone}
+use Rattle.office_tables.specs.Readers.{LeavesCommitted, OpensNone}
 use Rattle.office_tables.specs.Tables.{Tables}
 use Rattle.office_tables.specs.Standing.{Stands}
 

@@ -19,7 +19,7 @@ use Rattle.office_model.specs.declared.fault.StoreFault.{StoreFault}
 use Rattle.office_model.specs.declared.fault.StoreFault.TheVariants.{BatchDiffers}
 use Rattle.office_records.specs.BatchRows.{batch_put}
 use Rattle.office_records.specs.Found.{AreDrafts}
-use Rattle.office_records.specs.Stands.{enrol_row, stored_batch}
+use Rattle.office_records.specs.TableRows.{enrol_row, stored_batch}
 use Rattle.office_store.specs.Running.{IsFault}
 use Rattle.office_store.specs.declared.new_batch.NewBatch.{NewBatch}
 use Rattle.office_store.specs.declared.new_batch.PutLine.{PutLine}

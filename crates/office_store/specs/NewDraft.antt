@@ -7,8 +7,8 @@ use Rattle.exam_model.specs.Timetable.{Placing}
 use Rattle.exam_score.specs.Penalty.{Penalty}
 use Rattle.exam_score.specs.Track.{track}
 use Rattle.office_tables.specs.declared.slot.SlotRow.{SlotRow}
-use Rattle.office_records.specs.Stands.{slots_from}
-use Rattle.office_model.specs.Commands.{first_timetable}
+use Rattle.office_records.specs.TableRows.{slots_from}
+use Rattle.office_model.specs.DraftCommands.{first_timetable}
 
 -- the first timetable of the draft d has this penalty, and its places these rows
 pub record Begins (d : ℕ) (bytes : List ℕ) (I : Session) (E : Enrolled) (penalty : Penalty)

@@ -11,12 +11,13 @@ use Rattle.office_tables.specs.SharePart.{ArePartAmounts}
 use Rattle.office_tables.specs.ShareStudent.{AreStudentAmounts}
 use Rattle.office_model.specs.Office.{Records}
 use Rattle.office_model.specs.Publishing.{draft_published, published_as, rows_now}
-use Rattle.office_model.specs.Commands.{penalty_now}
+use Rattle.office_model.specs.DraftCommands.{penalty_now}
 use Rattle.office_model.specs.declared.fault.StoreFault.{StoreFault}
 use Rattle.office_records.specs.Publications.{placed_from, stored_seat}
 use Rattle.office_records.specs.SeatsStored.{seat_rows_of}
-use Rattle.office_records.specs.SharesStored.{part_rows, share_rows_of, student_share_row}
-use Rattle.office_records.specs.Stands.{session_text}
+use Rattle.office_records.specs.SharesStored.{share_rows_of, student_share_row}
+use Rattle.office_records.specs.PartShares.{part_rows}
+use Rattle.office_records.specs.TableRows.{session_text}
 use Rattle.office_store.specs.Running.{IsFault}
 use Rattle.office_store.specs.declared.new_publication.NewPublication.{NewPublication}
 use Rattle.office_store.specs.RowPuts.{placement_put, her_seats_gone, seat_put, share_gone, student_share_put, part_share_put}

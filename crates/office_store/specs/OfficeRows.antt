@@ -7,9 +7,11 @@ use Rattle.office_tables.specs.declared.slot.SlotRow.{SlotRow}
 use Rattle.office_tables.specs.declared.share_part.PartShareRow.{PartShareRow}
 use Rattle.office_tables.specs.declared.share_student.StudentShareRow.{StudentShareRow}
 use Rattle.office_model.specs.Office.{OfficeState, Publication}
-use Rattle.office_records.specs.SharesStored.{part_share_rows, student_share_rows}
-use Rattle.office_records.specs.Stands.{IsScoredRow, once, slot_rows}
-use Rattle.office_model.specs.Commands.{draft_in}
+use Rattle.office_records.specs.SharesStored.{student_share_rows}
+use Rattle.office_records.specs.PartShares.{part_share_rows}
+use Rattle.office_records.specs.Stands.{IsScoredRow}
+use Rattle.office_records.specs.TableRows.{once, slot_rows}
+use Rattle.office_model.specs.DraftCommands.{draft_in}
 
 -- each row of a draft has the penalty of its timetable
 abbrev pub AreScored : List DraftRow → OfficeState → Type 0

@@ -2,7 +2,8 @@
 use Rattle.std.specs.Prelude.{ℕ, Ok}
 use Rattle.exam_terms.specs.Refusing.{◌>>=◌}
 use Rattle.exam_score.specs.Penalty.{Penalty}
-use Rattle.office_model.specs.Commands.{Gives, draft_shown}
+use Rattle.office_model.specs.Commands.{Gives}
+use Rattle.office_model.specs.DraftCommands.{draft_shown}
 use Rattle.office_model.specs.Office.{OfficeState}
 
 -- the penalty of a draft, with the live enrolments

@@ -2,7 +2,7 @@
 ghost use Rattle.std.specs.Prelude.{◌≡◌, ◌⊎◌, false, IfErr, IfOk, OnOk};
 ghost use Rattle.sqlite.specs.Held.{state};
 ghost use Rattle.sqlite.specs.State.{HasCleanDisk, IsUnchanged};
-ghost use Rattle.office_tables.specs.Steps.{Keeps};
+ghost use Rattle.office_tables.specs.Readers.{Keeps};
 ghost use Rattle.office_model.specs.Office.{OfficeState};
 ghost use Rattle.office_records.specs.Memory.{AreTogether, memory_of};
 ghost use Rattle.office_records.specs.Stands.{IsKept};

@@ -4,8 +4,9 @@ ghost use Rattle.sqlite.specs.Held.{state};
 ghost use Rattle.sqlite.specs.State.{HasCleanDisk, IsUnchanged};
 ghost use Rattle.office_model.specs.Office.{AreRecords, Records};
 ghost use Rattle.office_records.specs.Found.{AreDrafts};
-ghost use Rattle.office_records.specs.Stands.{IsSound, StandsLoaded, drafts_at, slots_at};
-ghost use Rattle.office_tables.specs.Steps.{LeavesCommitted, OpensNone};
+ghost use Rattle.office_records.specs.Stands.{IsSound, StandsLoaded};
+ghost use Rattle.office_records.specs.TableRows.{drafts_at, slots_at};
+ghost use Rattle.office_tables.specs.Readers.{LeavesCommitted, OpensNone};
 ghost use Rattle.office_tables.specs.Standing.{Stands};
 ghost use Rattle.office_tables.specs.Tables.{Tables};
 

@@ -4,11 +4,12 @@ ghost use Rattle.sqlite.specs.Held.{state};
 ghost use Rattle.sqlite.specs.State.{HasCleanDisk};
 ghost use Rattle.exam_model.specs.Fits.{PlaceExists};
 ghost use Rattle.office_store.specs.NewDraft.{Begins};
-ghost use Rattle.office_model.specs.Commands.{draft_dropped, draft_in, draft_made, first_timetable, is_draft_number};
+ghost use Rattle.office_model.specs.DraftCommands.{draft_dropped, draft_in, draft_made, first_timetable, is_draft_number};
 ghost use Rattle.office_model.specs.Office.{OfficeState};
 ghost use Rattle.office_store.specs.OfficeRows.{AreScored};
 ghost use Rattle.office_store.specs.Running.{IsAwake, Now, Runs};
-ghost use Rattle.office_records.specs.Stands.{IsKept, once, slots_from};
+ghost use Rattle.office_records.specs.Stands.{IsKept};
+ghost use Rattle.office_records.specs.TableRows.{once, slots_from};
 
 use crate::fault::Failed;
 use crate::office::Office;

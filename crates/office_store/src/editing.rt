@@ -3,11 +3,13 @@ ghost use Rattle.std.specs.Prelude.{◌≡◌, ◌⊎◌, ◌<◌, length, map, 
 ghost use Rattle.sqlite.specs.Held.{state};
 ghost use Rattle.sqlite.specs.State.{HasCleanDisk};
 ghost use Rattle.exam_model.specs.Fits.{Fits};
-ghost use Rattle.exam_draft.specs.Edits.{IsEditedAt, edited, edited_exams};
+ghost use Rattle.exam_draft.specs.Edits.{edited};
+ghost use Rattle.exam_draft.specs.Judged.{IsEditedAt, edited_exams};
 ghost use Rattle.office_model.specs.Office.{AreRecords, OfficeState, Records};
 ghost use Rattle.office_records.specs.Memory.{memory_of};
 ghost use Rattle.office_records.specs.Stands.{IsKept};
-ghost use Rattle.office_model.specs.Commands.{draft_edited, named};
+ghost use Rattle.office_model.specs.Commands.{named};
+ghost use Rattle.office_model.specs.DraftCommands.{draft_edited};
 ghost use Rattle.office_store.specs.Changes.{moved, new_place};
 ghost use Rattle.office_store.specs.Editing.{Edits, Judges};
 ghost use Rattle.office_store.specs.FoldReads.{HasRead, IsSame};

@@ -5,7 +5,7 @@ ghost use Rattle.std.specs.Prelude.{option_to_list};
 ghost use Rattle.sqlite.specs.Held.{state};
 ghost use Rattle.sqlite.specs.State.{HasCleanDisk, IsUnchanged};
 ghost use Rattle.office_tables.specs.Batch.{batch_from, counts_of};
-ghost use Rattle.office_tables.specs.Steps.{LeavesCommitted};
+ghost use Rattle.office_tables.specs.Readers.{LeavesCommitted};
 ghost use Rattle.office_tables.specs.Standing.{Stands};
 ghost use Rattle.office_tables.specs.Tables.{Tables};
 ghost use Rattle.office_records.specs.FoundBatches.{IsShort};

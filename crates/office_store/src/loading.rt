@@ -5,9 +5,9 @@ ghost use Rattle.sqlite.specs.State.{HasCleanDisk};
 ghost use Rattle.exam_model.specs.Enrolments.{AreEnrolments};
 ghost use Rattle.exam_model.specs.Instance.{IsInstance};
 ghost use Rattle.exam_model.specs.Pairs.{pairs_at, pairs_of};
-ghost use Rattle.office_model.specs.Commands.{NamesFirstFault, SpellsSession, loaded_of, loaded};
+ghost use Rattle.office_model.specs.Loading.{NamesFirstFault, SpellsSession, loaded_of, loaded};
 ghost use Rattle.office_store.specs.Running.{Runs};
-ghost use Rattle.office_records.specs.Stands.{enrol_row};
+ghost use Rattle.office_records.specs.TableRows.{enrol_row};
 
 use crate::office::Office;
 use crate::transactions::put;

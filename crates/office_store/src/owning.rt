@@ -7,7 +7,7 @@ ghost use Rattle.office_model.specs.Commands.{owned, owner_in};
 ghost use Rattle.office_model.specs.Office.{OfficeState};
 ghost use Rattle.office_store.specs.Changes.{new_owner};
 ghost use Rattle.office_store.specs.Running.{IsAwake, Now, ReadsOffice, Runs};
-ghost use Rattle.office_records.specs.Stands.{some_dept};
+ghost use Rattle.office_records.specs.TableRows.{some_dept};
 
 use crate::fault::Failed;
 use crate::office::Office;

@@ -3,10 +3,11 @@ ghost use Rattle.std.specs.Prelude.{◌≡◌, ◌≤◌, ◌^◌, ℕ, IfNone, 
 ghost use Rattle.sqlite.specs.Held.{state};
 ghost use Rattle.sqlite.specs.State.{HasCleanDisk};
 ghost use Rattle.exam_score.specs.Penalty.{total_of};
-ghost use Rattle.office_model.specs.Commands.{draft_in};
+ghost use Rattle.office_model.specs.DraftCommands.{draft_in};
 ghost use Rattle.office_model.specs.Office.{IsOffice, OfficeState};
 ghost use Rattle.office_records.specs.Memory.{memory_of};
-ghost use Rattle.office_records.specs.Stands.{once, parts_of};
+ghost use Rattle.office_records.specs.Stands.{parts_of};
+ghost use Rattle.office_records.specs.TableRows.{once};
 ghost use Rattle.office_store.specs.OfficeRows.{AreScored};
 ghost use Rattle.office_store.specs.Pricing.{draft_priced};
 ghost use Rattle.office_store.specs.Running.{Does, Runs};

@@ -21,7 +21,7 @@ use Rattle.office_tables.specs.declared.placed.PlacedRow.{PlacedRow}
 use Rattle.office_tables.specs.declared.seat.SeatRow.{SeatRow}
 use Rattle.office_tables.specs.declared.share_student.StudentShareRow.{StudentShareRow}
 use Rattle.office_tables.specs.declared.share_part.PartShareRow.{PartShareRow}
-use Rattle.office_tables.specs.Readings.{IsFound, HasTables, Looks}
+use Rattle.office_tables.specs.Finders.{IsFound, HasTables, Looks}
 use Rattle.office_tables.specs.Meta.{IsFoundMeta, meta_columns}
 use Rattle.office_tables.specs.Owner.{FitsOwner, owner_columns}
 use Rattle.office_tables.specs.Enrol.{FitsEnrol, enrol_columns}

@@ -22,7 +22,7 @@ use Rattle.sqlite.proofs.StateLemmas.{survives_weaker}
 use Rattle.sqlite.proofs.Callers.{IsPlain, never_commits, command_of, reads_as}
 use Rattle.office_schema.specs.Schema.{office_schema}
 use Rattle.office_tables.specs.Asking.{asks, Means, Selects}
-use Rattle.office_tables.specs.Steps.{Nothing}
+use Rattle.office_tables.specs.Readers.{Nothing}
 use Rattle.office_tables.specs.Tables.{Tables}
 use Rattle.office_tables.specs.Standing.{Stands}
 use Rattle.office_tables.proofs.LookLemmas.{was_open}

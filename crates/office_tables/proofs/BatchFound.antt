@@ -15,7 +15,7 @@ use Rattle.sqlite_value.specs.Order.{Row, column}
 use Rattle.sqlite.specs.Effect.{Database, IsDatabase}
 use Rattle.office_schema.specs.Schema.{office_schema, int, blob, batch_table}
 use Rattle.office_tables.specs.Batch.{IsFoundBatches, counts_of, counts_columns, FitsCounts}
-use Rattle.office_tables.specs.Readings.{IsFound}
+use Rattle.office_tables.specs.Finders.{IsFound}
 use Rattle.office_tables.specs.Stored.{keyed}
 use Rattle.office_tables.specs.Batch.{batch_columns}
 use Rattle.office_tables.specs.declared.batch.BatchCountsRow.{BatchCountsRow}

@@ -10,7 +10,7 @@ use Rattle.sqlite.specs.Effect.{Database, IsDatabase}
 use Rattle.sqlite.specs.Listing.{understood}
 use Rattle.sqlite.specs.Term.{Term, col}
 use Rattle.sqlite_tied.specs.Compute.{everything}
-use Rattle.office_tables.specs.Readings.{Lists, ListsTable, IsListed, listed}
+use Rattle.office_tables.specs.Listings.{Lists, ListsTable, IsListed, listed}
 use Rattle.office_schema.specs.Schema.{office_schema, int, blob, meta_table, owner_table, enrol_table, draft_table, slot_table, placed_table, seat_table, share_student_table, share_part_table}
 use Rattle.office_tables.specs.Stored.{keyed, keyless}
 use Rattle.office_tables.proofs.WholeRows.{dropped, rows_long, typed_rows, present_rows}

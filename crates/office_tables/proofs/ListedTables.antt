@@ -16,10 +16,12 @@ use Rattle.sqlite.specs.State.{State, Survives, IsUnchanged, FailsToQuery, Shown
 use Rattle.sqlite.specs.Term.{Term, eval_all}
 use Rattle.sqlite.proofs.Callers.{IsPlain, never_commits}
 use Rattle.sqlite.proofs.StateLemmas.{survives_weaker}
-use Rattle.office_tables.specs.Readings.{IsRead, IsFound, ColumnRises, one_table, ordered_by, Lists, listed, IsListed, HasTables}
+use Rattle.office_tables.specs.Readings.{IsRead, ColumnRises}
+use Rattle.office_tables.specs.Finders.{IsFound, HasTables}
+use Rattle.office_tables.specs.Listings.{one_table, ordered_by, Lists, listed, IsListed}
 use Rattle.office_tables.specs.Records.{columns_from}
 use Rattle.office_schema.specs.Schema.{office_schema}
-use Rattle.office_tables.specs.Steps.{Keeps}
+use Rattle.office_tables.specs.Readers.{Keeps}
 use Rattle.office_tables.specs.Stored.{HasRowids}
 use Rattle.office_tables.proofs.AskLemmas.{arranged, command_is, overlay_none}
 use Rattle.office_tables.proofs.Queries.{every, matched, passes}

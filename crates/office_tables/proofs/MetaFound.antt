@@ -9,7 +9,7 @@ use Rattle.sqlite_value.specs.Order.{Row}
 use Rattle.sqlite.specs.Effect.{Database, IsDatabase}
 use Rattle.office_tables.specs.declared.meta.MetaRow.{MetaRow}
 use Rattle.office_tables.specs.Meta.{IsReadMeta, IsFoundMeta, meta_from, meta_columns}
-use Rattle.office_tables.specs.Readings.{listed}
+use Rattle.office_tables.specs.Listings.{listed}
 use Rattle.office_schema.specs.Schema.{office_schema}
 use Rattle.office_tables.specs.Tables.{Meta}
 use Rattle.office_tables.specs.Stored.{HasRowids, Holds, keyed}

@@ -20,7 +20,7 @@ use Rattle.sqlite_rules.proofs.TableLemmas.{int_is}
 use Rattle.sqlite_rules.proofs.ProbeLemmas.{mapped_has}
 use Rattle.std.proofs.lemmas.Int.{ints}
 use Rattle.office_tables.specs.Stored.{HasRowids}
-pub use Rattle.office_tables.specs.Readings.{one_table}
+pub use Rattle.office_tables.specs.Listings.{one_table}
 use Rattle.office_tables.proofs.TableLemmas.{rowid_once}
 use Rattle.sqlite_value.specs.declared.keys.Collation.TheVariants.{Binary}
 use Rattle.sqlite_sql.specs.declared.ops.BinaryOp.TheVariants.{Compare}

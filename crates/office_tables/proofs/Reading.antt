@@ -10,7 +10,7 @@ use Rattle.sqlite.proofs.StateLemmas.{survives_weaker}
 use Rattle.sqlite.proofs.Callers.{IsPlain, never_commits}
 use Rattle.office_tables.specs.Tables.{Tables}
 use Rattle.office_tables.specs.Standing.{Stands}
-use Rattle.office_tables.specs.Steps.{Nothing, Keeps}
+use Rattle.office_tables.specs.Readers.{Nothing, Keeps}
 
 pub kept_unchanged : (old new : State) → IsUnchanged old new → Keeps old new
 kept_unchanged old new h =

@@ -19,7 +19,8 @@ use Rattle.sqlite_value.specs.Order.{Row, column}
 use Rattle.sqlite_value.proofs.OrderLemmas.{value_cmp-Int}
 use Rattle.sqlite.specs.Query.{key_cmp, sort_cmp}
 use Rattle.sqlite.specs.Term.{Term, Env, eval_all}
-use Rattle.office_tables.specs.Readings.{ordered_by, IsNext, ColumnRises}
+use Rattle.office_tables.specs.Readings.{IsNext, ColumnRises}
+use Rattle.office_tables.specs.Listings.{ordered_by}
 use Rattle.office_tables.specs.Stored.{HasRowids}
 use Rattle.office_tables.proofs.OrderLemmas.{shown_column}
 

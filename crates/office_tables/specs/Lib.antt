@@ -5,9 +5,12 @@ pub mod Asking
 pub mod Batch
 pub mod Draft
 pub mod Enrol
+pub mod Finders
+pub mod Listings
 pub mod Meta
 pub mod Owner
 pub mod Placed
+pub mod Readers
 pub mod Readings
 pub mod Records
 pub mod Schema

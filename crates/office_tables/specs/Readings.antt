@@ -1,95 +1,13 @@
--- What is read of a database of which no more is known than its schema.
-use Rattle.std.specs.Prelude.{◌≡◌, ◌≢◌, ◌<◌, ◌<ℤ◌, ℕ, ℤ, ◌≤◌, false, List, [], ◌∷◌, map, length, None, Some, Option, Result, Vec, IfOk, IfSome, OnOk, IsPermutation, slice_index_or}
+-- What is read of the rows of a database of which no more is known than its schema.
+use Rattle.std.specs.Prelude.{◌≡◌, ◌≢◌, ◌<◌, ◌<ℤ◌, ℕ, ℤ, ◌≤◌, List, map, length, None, Some, Option, Vec, IfSome, IsPermutation}
 use Rattle.std.specs.List.{AllByRecursion, Contains}
 use Rattle.std.specs.declared.alloc.Global.{Global}
-use Rattle.sqlite_trees.specs.Tree.{rowid, IsAscending, Trees}
-use Rattle.sqlite_value.specs.declared.keys.Collation.TheVariants.{Binary}
-use Rattle.sqlite_value.specs.declared.keys.Key.{Key}
+use Rattle.sqlite_trees.specs.Tree.{IsAscending, Trees}
 use Rattle.sqlite_value.specs.declared.value.Value.{Value}
-use Rattle.sqlite_value.specs.declared.value.Value.TheVariants.{Int, Null}
-use Rattle.sqlite_value.specs.Keys.{ascending}
+use Rattle.sqlite_value.specs.declared.value.Value.TheVariants.{Int}
 use Rattle.sqlite_value.specs.Order.{Row, column}
-use Rattle.sqlite.specs.declared.error.Error.{Error}
-use Rattle.sqlite.specs.Effect.{Database, IsDatabase}
-use Rattle.sqlite.specs.Held.{Held, state}
-use Rattle.sqlite.specs.Query.{Query, inner, end, IsAnswer}
-use Rattle.sqlite.specs.State.{State, HasCleanDisk, IsLive, IsUnchanged, Survives}
-use Rattle.sqlite.specs.Store.{Ghosts}
-use Rattle.sqlite.specs.Term.{Term, lit, eval_all}
-use Rattle.office_schema.specs.Schema.{office_schema}
-use Rattle.office_tables.specs.Asking.{asks, Means}
+use Rattle.sqlite.specs.Query.{Query, IsAnswer}
 use Rattle.office_tables.specs.Records.{columns_from}
-use Rattle.office_tables.specs.Steps.{Keeps}
-use Rattle.office_tables.specs.Stored.{Holds}
-
--- ---- the text of a query
-
--- SELECT .. FROM a table WHERE .. ORDER BY ..
-abbrev pub one_table : ℕ → List Term → List Term → List (Term × Key) → Query
-one_table tree where_ shown order = asks (inner tree end) where_ shown order
-
--- under the office's schema the text lists all rows of a tree, each shown by these terms, in this
--- order
-abbrev pub Lists : ℕ → List Term → List (Term × Key) → List ℕ → Type 0
-Lists tree shown order = Means office_schema (one_table tree [] shown order)
-
--- what a SELECT shows of a row: the value of each of its terms
-abbrev pub listed : List Term → Row → Row
-listed shown row = eval_all shown ([] ∷ row ∷ [])
-
--- ORDER BY the column that is shown at this place
-abbrev pub ordered_by : List Term → ℕ → List (Term × Key)
-ordered_by shown at = (slice_index_or shown at (lit Null), ascending Binary) ∷ []
-
--- ---- what it shows of a table
-
--- the first columns are those that the stored row shows, and the next is its number
-pub record IsListed (width : ℕ) (show : Row → Row) (stored shown : Row) : Type 0 where
-  pub columns : columns_from 0 width shown ≡ show stored
-  pub number : column shown width ≡ rowid stored
-  pub wide : width ≤ length shown
-
--- the text lists the whole table, in the order of the rows' numbers
-pub record ListsTable (width tree : ℕ) (show : Row → Row) (sql : List ℕ) : Type 0 where
-  pub terms : List Term
-  pub lists : Lists tree terms (ordered_by terms width) sql
-  pub whole : (db : Database) → db.schema ≡ office_schema → IsDatabase db
-      → AllByRecursion (λ r. IsListed width show r (listed terms r)) (db.trees tree)
-
--- the table holds what was found; or it holds no typed rows that fit
-abbrev pub IsFound : {X : Type 0} → (X → Type 0) → (X → Row) → (Row → Row) → List Row
-    → Option (Vec X Global) → Type 0
-IsFound fits row_of show stored (Some found) = Holds show (map row_of found.items) stored
-IsFound {X} fits row_of show stored None =
-    (rows : List X) → AllByRecursion fits rows → Holds show (map row_of rows) stored → ⊥
-
--- ---- what a reader leaves
-
--- it has the office's tables, and their rows obey them
-pub record HasTables (s : State) : Type 0 where
-  pub schema : s.now.schema ≡ office_schema
-  pub live : IsLive s
-
--- on a clean disk, of a database with the tables, what is answered is so
-abbrev pub Finds : {S X : Type 0} → Ghosts S → (Database → X → Type 0)
-    → Held S → Held S → Result X Error → Type 0
-Finds store is old new result =
-    HasCleanDisk (state store new) → HasTables (state store old)
-    → IfOk result (is (state store old).now)
-
--- and an Ok leaves everything as it was
-abbrev pub Leaves : {S X : Type 0} → Ghosts S → Held S → Held S → Result X Error → Type 0
-Leaves store old new result =
-    HasCleanDisk (state store new) → HasTables (state store old)
-    → OnOk result (IsUnchanged (state store old) (state store new))
-
--- whatever is answered
-pub record Looks (old new : State) : Type 0 where
-  pub kept : HasCleanDisk new → HasTables old → Keeps old new
-  pub mode : old.in_transaction ≡ false → new.in_transaction ≡ false
-  pub survives : Survives old new (λ _. HasTables old → ⊥)
-
--- ---- what is read of rows
 
 -- a column holds integers, each below those of all later rows
 abbrev pub ColumnRises : ℕ → List Row → Type 0

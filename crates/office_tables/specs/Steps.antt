@@ -1,17 +1,14 @@
--- What a step leaves of a connection: inside a transaction, and after a reader. The store says what
--- a connection shows by states: as it is now, as it was last committed, and what a crash leaves.
-use Rattle.std.specs.Prelude.{◌≡◌, ◌⊎◌, ℕ, List, false, IsTrue, IfOk, OnOk, Ok, Result}
-use Rattle.sqlite_trees.specs.Tree.{Trees}
+-- What a step leaves of a connection inside a transaction. The store says what a connection shows by
+-- states: as it is now, as it was last committed, and what a crash leaves.
+use Rattle.std.specs.Prelude.{ℕ, List, IsTrue, OnOk, Ok, Result}
 use Rattle.sqlite_value.specs.Order.{Row}
 use Rattle.sqlite.specs.declared.error.Error.{Error}
 use Rattle.sqlite.specs.Effect.{Database}
 use Rattle.sqlite.specs.Held.{Held, state}
-use Rattle.sqlite.specs.State.{State, Executes, HasCleanDisk, Survives, KeepsCommit, IsUnchanged}
+use Rattle.sqlite.specs.State.{State, Executes, HasCleanDisk, Survives, KeepsCommit}
 use Rattle.sqlite.specs.Store.{Ghosts}
 use Rattle.office_tables.specs.Tables.{Tables}
 use Rattle.office_tables.specs.Standing.{Stands}
-
--- ---- inside a transaction
 
 -- whatever is answered: nothing is committed, and a crash leaves what it left before
 pub record Within (old new : State) : Type 0 where
@@ -53,46 +50,3 @@ abbrev pub Changes : {S : Type 0} → Ghosts S → (Tables → Tables)
 Changes store f old new result =
     HasCleanDisk (state store new) → IsTrue old.in_transaction
     → OnOk result (Makes f (state store old) (state store new))
-
--- ---- a reader
-
--- it commits nothing where the tables stand
-abbrev pub Nothing : State → Trees → Type 0
-Nothing old trees = (t : Tables) → Stands old.now t → ⊥
-
--- it leaves the database as it is, or where it failed as the last commit left it
-pub record Keeps (old new : State) : Type 0 where
-  pub was_open : IsTrue new.is_open → IsTrue old.is_open
-  pub now : IsTrue new.is_open → (new.now ≡ old.now) ⊎ (new.now ≡ old.committed)
-  pub committed : IsTrue new.is_open → new.committed ≡ old.committed
-  pub mode : old.in_transaction ≡ false → new.in_transaction ≡ false
-
--- of a connection: on a clean disk, what answers Ok was open
-abbrev pub AnswersOpen : {S X : Type 0} → Ghosts S → Held S → Held S → Result X Error → Type 0
-AnswersOpen store old new result =
-    HasCleanDisk (state store new) → OnOk result (IsTrue (state store old).is_open)
-
--- and what is open afterwards was
-abbrev pub OpensNone : {S : Type 0} → Ghosts S → Held S → Held S → Type 0
-OpensNone store old new =
-    HasCleanDisk (state store new)
-    → IsTrue (state store new).is_open → IsTrue (state store old).is_open
-
--- the same of a connection: on a clean disk, where the tables stand, what is answered is so
-abbrev pub Reads : {S X : Type 0} → Ghosts S → (Tables → X → Type 0)
-    → Held S → Held S → Result X Error → Type 0
-Reads store is old new result =
-    HasCleanDisk (state store new) → (t : Tables) → Stands (state store old).now t
-    → IfOk result (is t)
-
--- and an Ok leaves everything as it was
-abbrev pub LeavesAll : {S X : Type 0} → Ghosts S → Held S → Held S → Result X Error → Type 0
-LeavesAll store old new result =
-    HasCleanDisk (state store new) → (t : Tables) → Stands (state store old).now t
-    → OnOk result (IsUnchanged (state store old) (state store new))
-
--- and an Err does but for what was not committed
-abbrev pub LeavesCommitted : {S : Type 0} → Ghosts S → Held S → Held S → Type 0
-LeavesCommitted store old new =
-    HasCleanDisk (state store new) → (t : Tables) → Stands (state store old).now t
-    → Keeps (state store old) (state store new)

@@ -3,8 +3,8 @@ ghost use Rattle.std.specs.Prelude.{◌≡◌, ◌⊎◌, false, IfOk, OnOk};
 ghost use Rattle.sqlite.specs.Held.{state};
 ghost use Rattle.sqlite.specs.State.{HasCleanDisk, IsUnchanged, Survives};
 ghost use Rattle.office_tables.specs.Adopting.{IsAdopted, IsDrafts, IsFoundDrafts, IsFoundPublication, IsFoundSession, HasAllOfPublication, IsSession, IsWhole};
-ghost use Rattle.office_tables.specs.Readings.{Finds, Leaves, Looks};
-ghost use Rattle.office_tables.specs.Steps.{Keeps};
+ghost use Rattle.office_tables.specs.Finders.{Finds, Leaves, Looks};
+ghost use Rattle.office_tables.specs.Readers.{Keeps};
 
 use crate::batch::{BatchCountsRow, adopt_batches};
 use crate::draft::{DraftRow, adopt_drafts};

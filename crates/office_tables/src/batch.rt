@@ -4,10 +4,11 @@ ghost use Rattle.sqlite.specs.Held.{state};
 ghost use Rattle.sqlite.specs.State.{Survives};
 ghost use Rattle.office_schema.specs.Schema.{office_schema};
 ghost use Rattle.office_tables.specs.Batch.{batch_columns, batch_from, counts_columns, with_batch, FitsBatch, FitsCounts, IsFoundBatches};
-ghost use Rattle.office_tables.specs.Readings.{Finds, Leaves, Looks};
+ghost use Rattle.office_tables.specs.Finders.{Finds, Leaves, Looks};
 ghost use Rattle.office_tables.specs.Schema.{schema_9, IsBlank};
 ghost use Rattle.office_tables.specs.Selections.{NumbersRise};
-ghost use Rattle.office_tables.specs.Steps.{AnswersOpen, Grows, LeavesAll, LeavesCommitted, Nothing, OpensNone, Reads, Within};
+ghost use Rattle.office_tables.specs.Steps.{Grows, Within};
+ghost use Rattle.office_tables.specs.Readers.{AnswersOpen, LeavesAll, LeavesCommitted, Nothing, OpensNone, Reads};
 
 use crate::altering::Alteration;
 use crate::listing::read_table;

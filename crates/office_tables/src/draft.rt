@@ -4,9 +4,10 @@ ghost use Rattle.sqlite.specs.Held.{state};
 ghost use Rattle.sqlite.specs.State.{Survives};
 ghost use Rattle.sqlite.specs.Values.{bound};
 ghost use Rattle.office_tables.specs.Draft.{draft_columns, no_drafts, with_draft, without_draft, AreAmounts, FitsDraft};
-ghost use Rattle.office_tables.specs.Readings.{Finds, IsFound, Leaves, Looks};
+ghost use Rattle.office_tables.specs.Finders.{Finds, IsFound, Leaves, Looks};
 ghost use Rattle.office_tables.specs.Schema.{schema_3, schema_4, IsBlank};
-ghost use Rattle.office_tables.specs.Steps.{AnswersOpen, Grows, LeavesAll, LeavesCommitted, Nothing, OpensNone, Reads, Within};
+ghost use Rattle.office_tables.specs.Steps.{Grows, Within};
+ghost use Rattle.office_tables.specs.Readers.{AnswersOpen, LeavesAll, LeavesCommitted, Nothing, OpensNone, Reads};
 ghost use Rattle.office_tables.specs.Stored.{keyed};
 
 use crate::altering::Alteration;

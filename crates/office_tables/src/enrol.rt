@@ -4,10 +4,11 @@ ghost use Rattle.std.specs.List.{AllByRecursion};
 ghost use Rattle.sqlite.specs.Held.{state};
 ghost use Rattle.sqlite.specs.State.{Survives};
 ghost use Rattle.office_tables.specs.Enrol.{enrol_columns, with_enrol, without_enrol, FitsEnrol, HerEnrolsRise};
-ghost use Rattle.office_tables.specs.Readings.{Finds, IsFound, Leaves, Looks};
+ghost use Rattle.office_tables.specs.Finders.{Finds, IsFound, Leaves, Looks};
 ghost use Rattle.office_tables.specs.Schema.{schema_2, schema_3, IsBlank};
 ghost use Rattle.office_tables.specs.Selections.{IsInOrder};
-ghost use Rattle.office_tables.specs.Steps.{AnswersOpen, Grows, LeavesAll, LeavesCommitted, Nothing, OpensNone, Reads, Within};
+ghost use Rattle.office_tables.specs.Steps.{Grows, Within};
+ghost use Rattle.office_tables.specs.Readers.{AnswersOpen, LeavesAll, LeavesCommitted, Nothing, OpensNone, Reads};
 ghost use Rattle.office_tables.specs.Stored.{keyless};
 
 use crate::altering::Alteration;

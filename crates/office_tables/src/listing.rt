@@ -5,7 +5,9 @@ ghost use Rattle.sqlite.specs.Query.{IsAnswer};
 ghost use Rattle.sqlite.specs.Term.{Term};
 ghost use Rattle.sqlite_value.specs.declared.keys.Key.{Key};
 ghost use Rattle.sqlite_value.specs.Order.{Row as Columns, column};
-ghost use Rattle.office_tables.specs.Readings.{one_table, Finds, IsFound, IsNext, IsRead, Leaves, Lists, ListsTable, Looks, ColumnRises};
+ghost use Rattle.office_tables.specs.Readings.{IsNext, IsRead, ColumnRises};
+ghost use Rattle.office_tables.specs.Finders.{Finds, IsFound, Leaves, Looks};
+ghost use Rattle.office_tables.specs.Listings.{one_table, Lists, ListsTable};
 
 use crate::records::Record;
 use sqlite::types::ValueRef;

@@ -2,7 +2,7 @@
 ghost use Rattle.std.specs.Prelude.{◌≡◌, false, IsTrue, OnErr, OnOk};
 ghost use Rattle.sqlite.specs.Held.{state};
 ghost use Rattle.sqlite.specs.State.{HasCleanDisk, Survives};
-ghost use Rattle.office_tables.specs.Steps.{Keeps, LeavesAll, Nothing};
+ghost use Rattle.office_tables.specs.Readers.{Keeps, LeavesAll, Nothing};
 
 use sqlite::{Alter, Connection, Error};
 

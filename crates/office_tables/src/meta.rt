@@ -4,7 +4,8 @@ ghost use Rattle.sqlite_value.specs.declared.value.Value.TheVariants.{Blob, Int}
 ghost use Rattle.sqlite_value.specs.Order.{column};
 ghost use Rattle.sqlite.specs.Held.{state};
 ghost use Rattle.office_tables.specs.Meta.{flag, no_meta, with_meta, IsFoundMeta, IsReadMeta};
-ghost use Rattle.office_tables.specs.Readings.{Finds, IsColumn, Leaves, Looks};
+ghost use Rattle.office_tables.specs.Readings.{IsColumn};
+ghost use Rattle.office_tables.specs.Finders.{Finds, Leaves, Looks};
 ghost use Rattle.office_tables.specs.Schema.{no_schema, schema_1, IsBlank};
 ghost use Rattle.office_tables.specs.Steps.{Grows, Within};
 

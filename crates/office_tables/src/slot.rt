@@ -2,10 +2,11 @@
 ghost use Rattle.std.specs.Prelude.{◌≡◌, ◌==◌, false, filter, IsPermutation};
 ghost use Rattle.sqlite.specs.Held.{state};
 ghost use Rattle.sqlite.specs.State.{Survives};
-ghost use Rattle.office_tables.specs.Readings.{Finds, IsFound, Leaves, Looks};
+ghost use Rattle.office_tables.specs.Finders.{Finds, IsFound, Leaves, Looks};
 ghost use Rattle.office_tables.specs.Schema.{schema_4, schema_5, IsBlank};
 ghost use Rattle.office_tables.specs.Slot.{slot_columns, with_slot, without_slot, without_slots, FitsSlot};
-ghost use Rattle.office_tables.specs.Steps.{AnswersOpen, Grows, LeavesAll, LeavesCommitted, Nothing, OpensNone, Reads, Within};
+ghost use Rattle.office_tables.specs.Steps.{Grows, Within};
+ghost use Rattle.office_tables.specs.Readers.{AnswersOpen, LeavesAll, LeavesCommitted, Nothing, OpensNone, Reads};
 ghost use Rattle.office_tables.specs.Stored.{keyless};
 
 use crate::altering::Alteration;

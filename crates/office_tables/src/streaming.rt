@@ -9,7 +9,7 @@ ghost use Rattle.sqlite.specs.Values.{bound};
 ghost use Rattle.sqlite_value.specs.Order.{Row as Columns};
 ghost use Rattle.office_tables.specs.Asking.{IsReadOf, Means};
 ghost use Rattle.office_tables.specs.Readings.{IsGathered, IsReadAnswer};
-ghost use Rattle.office_tables.specs.Steps.{AnswersOpen, Keeps, OpensNone};
+ghost use Rattle.office_tables.specs.Readers.{AnswersOpen, Keeps, OpensNone};
 
 use crate::listing::is_out_of_memory;
 use crate::records::Record;

@@ -2,7 +2,8 @@ use Rattle.std.proofs.Common.{◌≡◌, ◌∙◌, [], ◌∷◌, Ok, Some, ap,
 use Rattle.std.specs.Prelude.{slice_set}
 use Rattle.std.proofs.lemmas.Result.{err_from_is_err_and}
 use Rattle.exam_model.specs.Timetable.{Placing}
-use Rattle.exam_draft.specs.Edits.{if_unbroken, Refuses}
+use Rattle.exam_draft.specs.Edits.{if_unbroken}
+use Rattle.exam_draft.specs.Judged.{Refuses}
 use Rattle.exam_draft.proofs.judging.put.Goals as goal
 use Rattle.exam_draft.proofs.judging.put.Goals.{After-refuse_broken}
 

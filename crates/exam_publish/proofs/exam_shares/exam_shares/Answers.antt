@@ -1,8 +1,8 @@
 use Rattle.std.proofs.Common.{◌≡◌, ◌<◌, ◌++◌, ◌∷◌, [], ℕ, length, ap, ap₂, sym, ◌∙◌, arith}
 use Rattle.std.proofs.lemmas.List.FromFn.{map-range_with_len_more}
 use Rattle.exam_model.specs.Timetable.{place_of}
-use Rattle.exam_score.specs.Track.{exam_front}
-use Rattle.exam_publish.specs.Shares.{enrolled_in}
+use Rattle.exam_score.specs.FrontLoad.{exam_front}
+use Rattle.exam_publish.specs.Rows.{enrolled_in}
 use Rattle.exam_score.specs.Front.{front_by}
 use Rattle.exam_publish.proofs.SizeLemmas.{front_is}
 use Rattle.exam_publish.proofs.exam_shares.exam_shares.Goals as goal

@@ -1,7 +1,7 @@
 use Rattle.std.proofs.Common.{◌≡◌, length, map}
 use Rattle.std.specs.List.{range_with_len}
-use Rattle.exam_score.specs.Track.{exam_front}
-use Rattle.exam_publish.specs.Shares.{enrolled_in}
+use Rattle.exam_score.specs.FrontLoad.{exam_front}
+use Rattle.exam_publish.specs.Rows.{enrolled_in}
 use Rattle.exam_publish.proofs.exam_shares.exam_shares.Given as goal
 
 -- the exams so far

@@ -3,7 +3,7 @@ use Rattle.std.specs.List.{range_with_len}
 use Rattle.std.specs.Prelude.{slice_index}
 use Rattle.std.proofs.lemmas.List.FromFn.{length-map-range_with_len, get_or-map-range_with_len, map-range_with_len_more}
 use Rattle.exam_model.specs.Sums.{sum_below}
-use Rattle.exam_score.specs.Track.{room_mixed}
+use Rattle.exam_score.specs.MixedDurations.{room_mixed}
 use Rattle.exam_publish.specs.declared.share_lists.RoomShare.{RoomShare}
 use Rattle.exam_publish.specs.Shares.{penalty_in, room_share}
 use Rattle.exam_publish.proofs.DurationLemmas.{mixed_is}

@@ -3,7 +3,8 @@ use Rattle.exam_model.specs.Enrolments.{IsAscending, has_number}
 use Rattle.exam_score.specs.Penalty.{PersonalPenalty}
 use Rattle.exam_score.specs.Track.{track}
 use Rattle.exam_publish.specs.AddUp.{AddUpTo, AreSmall}
-use Rattle.exam_publish.specs.Shares.{Sharing, enrolled_in, shares_of}
+use Rattle.exam_publish.specs.Shares.{Sharing, shares_of}
+use Rattle.exam_publish.specs.Rows.{enrolled_in}
 use Rattle.exam_publish.proofs.AddUpLemmas.{adds_up}
 use Rattle.exam_publish.proofs.ShareLemmas.{shares_ascend, shares_seated, published_small}
 use Rattle.exam_publish.proofs.sharing.shares.Goals as goal

@@ -1,6 +1,7 @@
 use Rattle.std.proofs.Common.{ℕ, Bool, ◌&&◌, refl}
 use Rattle.std.proofs.lemmas.Bool.{and_parts}
-use Rattle.exam_rules.specs.Breaches.{breaks, name_one}
+use Rattle.exam_rules.specs.Breaches.{name_one}
+use Rattle.exam_rules.specs.HardRules.{breaks}
 use Rattle.exam_rules.proofs.FindingLemmas.{found_none, found_more, found_all}
 use Rattle.exam_rules.proofs.PlaceLemmas.{breaking_exist}
 use Rattle.exam_rules.proofs.first_breach.broken_pairs.Goals as goal

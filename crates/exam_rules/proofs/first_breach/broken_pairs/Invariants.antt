@@ -1,5 +1,6 @@
 use Rattle.std.proofs.Common.{ℕ, []}
-use Rattle.exam_rules.specs.Breaches.{breaks, is_one_of}
+use Rattle.exam_rules.specs.Breaches.{is_one_of}
+use Rattle.exam_rules.specs.HardRules.{breaks}
 use Rattle.exam_rules.proofs.FindingLemmas.{AreFound}
 use Rattle.exam_rules.proofs.first_breach.broken_pairs.Given as goal
 

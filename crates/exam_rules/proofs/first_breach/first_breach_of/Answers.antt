@@ -7,7 +7,8 @@ use Rattle.exam_rules.specs.declared.breach.BreachRule.{BreachRule}
 use Rattle.exam_rules.specs.declared.breach.BreachRule.TheVariants.{Duration}
 use Rattle.exam_rules.specs.declared.exam_pair.ExamPair.{ExamPair}
 use Rattle.exam_rules.specs.Breach.{breach, exam_pairs}
-use Rattle.exam_rules.specs.Breaches.{breaks, name_one, pairs_breaking}
+use Rattle.exam_rules.specs.Breaches.{name_one, pairs_breaking}
+use Rattle.exam_rules.specs.HardRules.{breaks}
 use Rattle.exam_rules.proofs.LeastLemmas.{least_found}
 use Rattle.exam_rules.proofs.NamingLemmas.{first_of_rule, rule_passed, rule_broken}
 use Rattle.exam_rules.proofs.first_breach.first_breach_of.Goals as goal

@@ -1,5 +1,5 @@
 use Rattle.exam_rules.specs.declared.breach.BreachRule.TheVariants.{Coincidence}
-use Rattle.exam_rules.specs.Breaches.{breaks}
+use Rattle.exam_rules.specs.HardRules.{breaks}
 use Rattle.exam_rules.proofs.FindingLemmas.{found_more, found_all}
 use Rattle.exam_rules.proofs.PlaceLemmas.{breaking_exist}
 use Rattle.exam_rules.proofs.line_rules.coincidence_pairs.Goals as goal

@@ -3,7 +3,7 @@ use Rattle.std.proofs.Common.{ℕ, [], ◌&&◌, nat_lt, ◌∙◌, ap, arith, r
 use Rattle.exam_rules.specs.declared.breach.BreachRule.TheVariants.{Clash}
 use Rattle.exam_model.specs.Enrolments.{has_number}
 use Rattle.exam_rules.specs.Places.{share_student, in_one_period}
-use Rattle.exam_rules.specs.Breaches.{breaks}
+use Rattle.exam_rules.specs.HardRules.{breaks}
 use Rattle.exam_rules.proofs.FindingLemmas.{found_none, found_more, found_all}
 use Rattle.exam_rules.proofs.GroupLemmas.{group_exists, in_one_group}
 use Rattle.exam_rules.proofs.NamingLemmas.{and_swap}

@@ -1,6 +1,6 @@
 use Rattle.std.proofs.Common.{ℕ, Bool, ◌∙◌, arith}
 use Rattle.exam_rules.specs.declared.breach.BreachRule.TheVariants.{Duration}
-use Rattle.exam_rules.specs.Breaches.{breaks, outlasts}
+use Rattle.exam_rules.specs.HardRules.{breaks, outlasts}
 use Rattle.exam_rules.proofs.FindingLemmas.{below_none, below_more, below_all, twice}
 use Rattle.exam_rules.proofs.PlaceLemmas.{breaking_exist}
 use Rattle.exam_rules.proofs.period_rules.duration_pairs.Goals as goal

@@ -1,5 +1,5 @@
 use Rattle.std.proofs.Common.{◌==◌, ◌&&◌}
-use Rattle.exam_rules.specs.Breaches.{outlasts}
+use Rattle.exam_rules.specs.HardRules.{outlasts}
 use Rattle.exam_rules.proofs.FindingLemmas.{AreFoundBelow}
 use Rattle.exam_rules.proofs.period_rules.duration_pairs.Given as goal
 

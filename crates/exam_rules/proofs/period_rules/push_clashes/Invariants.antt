@@ -1,5 +1,5 @@
 use Rattle.exam_rules.specs.declared.breach.BreachRule.TheVariants.{Clash}
-use Rattle.exam_rules.specs.Breaches.{breaks}
+use Rattle.exam_rules.specs.HardRules.{breaks}
 use Rattle.exam_rules.proofs.NamingLemmas.{AreFoundWith}
 use Rattle.exam_rules.proofs.period_rules.push_clashes.Given as goal
 

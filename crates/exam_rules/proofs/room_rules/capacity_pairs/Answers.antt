@@ -3,7 +3,7 @@ use Rattle.std.specs.Prelude.{slice_get}
 use Rattle.exam_model.specs.Fits.{slot_of}
 use Rattle.exam_rules.specs.declared.breach.BreachRule.TheVariants.{Capacity}
 use Rattle.exam_rules.specs.Places.{where_placed, load_at, load_below}
-use Rattle.exam_rules.specs.Breaches.{breaks, is_too_small, is_overfull}
+use Rattle.exam_rules.specs.HardRules.{breaks, is_too_small, is_overfull}
 use Rattle.exam_rules.proofs.FindingLemmas.{below_more, below_all, twice}
 use Rattle.exam_rules.proofs.PlaceLemmas.{its_place_exists, breaking_exist}
 use Rattle.exam_rules.proofs.room_rules.capacity_pairs.Goals as goal

@@ -1,5 +1,5 @@
 use Rattle.std.proofs.Common.{◌==◌, ◌&&◌}
-use Rattle.exam_rules.specs.Breaches.{is_overfull}
+use Rattle.exam_rules.specs.HardRules.{is_overfull}
 use Rattle.exam_rules.proofs.FindingLemmas.{AreFoundBelow}
 use Rattle.exam_rules.proofs.room_rules.capacity_pairs.Given as goal
 

@@ -4,7 +4,7 @@ use Rattle.exam_rules.specs.declared.breach.BreachRule.TheVariants.{RoomExclusiv
 use Rattle.exam_rules.specs.Breach.{is_pair}
 use Rattle.exam_model.specs.Enrolments.{has_number}
 use Rattle.exam_rules.specs.Places.{in_one_place}
-use Rattle.exam_rules.specs.Breaches.{breaks}
+use Rattle.exam_rules.specs.HardRules.{breaks}
 use Rattle.exam_rules.proofs.FindingLemmas.{found_none, found_more, found_all, or_false}
 use Rattle.exam_rules.proofs.GroupLemmas.{group_exists, one_place_group, no_place}
 use Rattle.exam_rules.proofs.PlaceLemmas.{its_place_exists, breaking_exist}

@@ -1,6 +1,6 @@
 use Rattle.std.proofs.Common.{ℕ, Bool, arith}
 use Rattle.exam_rules.specs.declared.breach.BreachRule.TheVariants.{RoomExclusive}
-use Rattle.exam_rules.specs.Breaches.{breaks}
+use Rattle.exam_rules.specs.HardRules.{breaks}
 use Rattle.exam_rules.proofs.NamingLemmas.{with_more, with_all}
 use Rattle.exam_rules.proofs.PlaceLemmas.{breaking_exist}
 use Rattle.exam_rules.proofs.room_rules.push_exclusives.Goals as goal

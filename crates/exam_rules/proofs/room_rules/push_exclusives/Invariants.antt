@@ -1,5 +1,5 @@
 use Rattle.exam_rules.specs.declared.breach.BreachRule.TheVariants.{RoomExclusive}
-use Rattle.exam_rules.specs.Breaches.{breaks}
+use Rattle.exam_rules.specs.HardRules.{breaks}
 use Rattle.exam_rules.proofs.NamingLemmas.{AreFoundWith}
 use Rattle.exam_rules.proofs.room_rules.push_exclusives.Given as goal
 

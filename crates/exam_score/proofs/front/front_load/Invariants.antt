@@ -1,6 +1,6 @@
 use Rattle.std.proofs.Common.{◌≡◌, ◌≤◌, ◌*◌}
 use Rattle.exam_model.specs.Sums.{sum_below}
-use Rattle.exam_score.specs.Track.{exam_front}
+use Rattle.exam_score.specs.FrontLoad.{exam_front}
 use Rattle.exam_score.proofs.front.front_load.Given as goal
 
 -- what the exams before this one make, and a bound on it

@@ -3,7 +3,7 @@ use Rattle.std.specs.Prelude.{slice_get}
 use Rattle.exam_model.specs.Timetable.{place_of}
 use Rattle.std.proofs.lemmas.List.Elements.{All-push}
 use Rattle.exam_model.specs.Sums.{count_below}
-use Rattle.exam_score.specs.Track.{lasts}
+use Rattle.exam_score.specs.MixedDurations.{lasts}
 use Rattle.exam_score.specs.Stays.{StayExists, is_stay}
 use Rattle.exam_score.specs.declared.mixed.Stay.{Stay}
 use Rattle.exam_score.proofs.MixedLemmas.{counts_more_some, counts_more_none, stay_exists}

@@ -1,6 +1,6 @@
 use Rattle.std.proofs.Common.{◌≡◌, ◌≤◌, ℕ, length, count_by, All}
 use Rattle.exam_model.specs.Sums.{count_below}
-use Rattle.exam_score.specs.Track.{lasts}
+use Rattle.exam_score.specs.MixedDurations.{lasts}
 use Rattle.exam_score.specs.Stays.{is_stay, StayExists}
 use Rattle.exam_score.proofs.mixed.stays_of.Given as goal
 

@@ -2,7 +2,7 @@ use Rattle.std.proofs.Common.{◌≡◌, ◌≤◌, ℕ, Bool, true, false, ◌�
 use Rattle.std.proofs.lemmas.List.{get_or-replicate, length-replicate}
 use Rattle.exam_model.specs.Sums.{count_below}
 use Rattle.exam_model.specs.Timetable.{place_of}
-use Rattle.exam_score.specs.Track.{duration_count, is_at, lasts, minutes_of}
+use Rattle.exam_score.specs.MixedDurations.{duration_count, is_at, lasts, minutes_of}
 use Rattle.std.specs.Prelude.{nat_lt, slice_get}
 use Rattle.exam_score.proofs.TouchedLemmas.{durations_more, durations_none, marked_here, marked_elsewhere, minutes_short}
 use Rattle.exam_score.proofs.touched.durations_at.Goals as goal

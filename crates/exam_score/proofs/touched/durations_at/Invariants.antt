@@ -1,7 +1,7 @@
 use Rattle.std.proofs.Common.{◌≡◌, ◌<◌, ◌≤◌, ℕ, false, length, get_or}
 use Rattle.std.specs.Prelude.{nat_lt}
 use Rattle.exam_model.specs.Sums.{count_below}
-use Rattle.exam_score.specs.Track.{duration_count, lasts}
+use Rattle.exam_score.specs.MixedDurations.{duration_count, lasts}
 use Rattle.exam_score.proofs.touched.durations_at.Given as goal
 
 -- the durations of the exams before this one, marked and counted

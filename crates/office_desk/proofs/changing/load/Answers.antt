@@ -1,6 +1,6 @@
 use Rattle.sqlite.specs.Held.{state}
 use Rattle.office_model.specs.Answers.{now_loaded}
-use Rattle.office_model.specs.Commands.{loaded}
+use Rattle.office_model.specs.Loading.{loaded}
 use Rattle.office_store.specs.Running.{Now}
 use Rattle.office_desk.proofs.TellingLemmas.{err_told, fault_told}
 use Rattle.office_desk.proofs.changing.load.Goals as goal

@@ -1,6 +1,6 @@
 use Rattle.sqlite.specs.Held.{state}
 use Rattle.office_model.specs.Answers.{now_drafted}
-use Rattle.office_model.specs.Commands.{draft_made}
+use Rattle.office_model.specs.DraftCommands.{draft_made}
 use Rattle.office_store.specs.Running.{Now}
 use Rattle.office_desk.proofs.TellingLemmas.{err_told, fault_told}
 use Rattle.office_desk.proofs.changing.new_draft.Goals as goal

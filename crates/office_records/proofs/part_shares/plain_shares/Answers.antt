@@ -1,6 +1,6 @@
 use Rattle.std.proofs.Common.{◌≡◌, [], ◌∷◌, ◌++◌, get_or, refl, rules}
 use Rattle.std.proofs.lemmas.Bool.{false≢true}
-use Rattle.office_records.specs.SharesStored.{part_kind_number}
+use Rattle.office_records.specs.PartShares.{part_kind_number}
 use Rattle.office_records.proofs.PartRowLemmas.{no_row, plain_is, plain_more}
 use Rattle.office_records.proofs.part_shares.plain_shares.Goals as goal
 

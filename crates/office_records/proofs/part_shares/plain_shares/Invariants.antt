@@ -1,5 +1,5 @@
 use Rattle.std.proofs.Common.{◌≡◌, take}
-use Rattle.office_records.specs.SharesStored.{part_kind_number, plain_rows}
+use Rattle.office_records.specs.PartShares.{part_kind_number, plain_rows}
 use Rattle.office_records.proofs.part_shares.plain_shares.Given as goal
 
 abbrev pub invariant-rows : goal.invariant-rows

@@ -1,5 +1,5 @@
 use Rattle.std.proofs.Common.{ℕ, [], ◌∷◌, ◌++◌, get_or, ap, ◌∙◌}
-use Rattle.office_records.specs.SharesStored.{part_kind_number}
+use Rattle.office_records.specs.PartShares.{part_kind_number}
 use Rattle.office_records.proofs.PartRowLemmas.{plain_added, plain_row}
 use Rattle.office_records.proofs.part_shares.push_plain.Goals as goal
 

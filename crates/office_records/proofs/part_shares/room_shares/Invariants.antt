@@ -1,5 +1,5 @@
 use Rattle.std.proofs.Common.{◌≡◌, take}
-use Rattle.office_records.specs.SharesStored.{room_rows}
+use Rattle.office_records.specs.PartShares.{room_rows}
 use Rattle.office_records.proofs.part_shares.room_shares.Given as goal
 
 abbrev pub invariant-rows : goal.invariant-rows

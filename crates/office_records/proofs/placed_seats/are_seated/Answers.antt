@@ -2,7 +2,7 @@ use Rattle.std.proofs.Common.{refl, subst, arith}
 use Rattle.std.specs.Prelude.{All}
 use Rattle.std.proofs.lemmas.List.{take_all}
 use Rattle.exam_publish.specs.declared.seat_row.SeatRow.{SeatRow}
-use Rattle.office_records.specs.Publications.{IsSeatedRow}
+use Rattle.office_records.specs.FoundPublications.{IsSeatedRow}
 use Rattle.office_records.proofs.PlacedSeatLemmas.{pushed}
 use Rattle.office_records.proofs.placed_seats.are_seated.Goals as goal
 

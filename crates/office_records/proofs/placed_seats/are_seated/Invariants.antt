@@ -1,5 +1,5 @@
 use Rattle.std.specs.Prelude.{All, take}
-use Rattle.office_records.specs.Publications.{IsSeatedRow}
+use Rattle.office_records.specs.FoundPublications.{IsSeatedRow}
 use Rattle.office_records.proofs.placed_seats.are_seated.Given as goal
 
 abbrev pub invariant-rows : goal.invariant-rows

@@ -3,7 +3,7 @@ use Rattle.std.specs.List.{IsAllAdjacentAnswer}
 use Rattle.std.specs.Prelude.{IsPermutation}
 use Rattle.std.proofs.lemmas.Fn.{always_returns_same}
 use Rattle.exam_publish.specs.declared.seat_row.SeatRow.{SeatRow}
-use Rattle.office_records.specs.Publications.{is_same_seat}
+use Rattle.office_records.specs.FoundPublications.{is_same_seat}
 use Rattle.office_records.proofs.PlacedSeatLemmas.{chair, own_seats_are}
 use Rattle.office_records.proofs.placed_seats.have_own_seats.Goals as goal
 

@@ -2,7 +2,8 @@ use Rattle.std.proofs.Common.{◌≡◌, List, Option, Some, None, sym, ap, subs
 use Rattle.std.specs.Prelude.{IfErr}
 use Rattle.std.proofs.lemmas.Result.{IfErr-weaker, on_ok_weaker}
 use Rattle.office_model.specs.Office.{Publication}
-use Rattle.office_records.specs.Publications.{ArePublicationRows, publication, publication_from}
+use Rattle.office_records.specs.Publications.{ArePublicationRows}
+use Rattle.office_records.specs.FoundPublications.{publication, publication_from}
 use Rattle.office_records.specs.SharesStored.{AreShared}
 use Rattle.office_records.specs.declared.fault.RecordFault.TheVariants.{BadRows}
 use Rattle.office_records.proofs.FoundLemmas.{HasAlone, no_such_shares}

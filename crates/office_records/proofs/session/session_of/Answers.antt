@@ -11,7 +11,7 @@ use Rattle.office_files.specs.InstanceText.{instance_in}
 use Rattle.office_tables.specs.Meta.{meta_from}
 use Rattle.office_tables.specs.Tables.{Meta}
 use Rattle.office_records.specs.Found.{IsSessionRow}
-use Rattle.office_records.specs.Stands.{session_text}
+use Rattle.office_records.specs.TableRows.{session_text}
 use Rattle.office_records.specs.declared.fault.RecordFault.{RecordFault}
 use Rattle.office_records.specs.declared.fault.RecordFault.TheVariants.{BadRows}
 use Rattle.office_records.proofs.SessionLemmas.{no_row, row_of}

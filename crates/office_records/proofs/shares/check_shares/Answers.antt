@@ -1,5 +1,5 @@
 use Rattle.std.proofs.Common.{sym, subst}
-use Rattle.office_records.specs.SharesStored.{HasFewParts}
+use Rattle.office_records.specs.PartShares.{HasFewParts}
 use Rattle.office_records.proofs.SharesLemmas.{few_parts}
 use Rattle.office_records.proofs.shares.check_shares.Goals as goal
 

@@ -1,5 +1,5 @@
 use Rattle.std.specs.Prelude.{◌≡◌, map, take}
-use Rattle.office_records.specs.Stands.{slots_from}
+use Rattle.office_records.specs.TableRows.{slots_from}
 use Rattle.office_store.proofs.drafting.slot_rows.Given as goal
 
 abbrev pub invariant-loop-exam : goal.invariant-loop-exam

@@ -2,7 +2,7 @@ use Rattle.std.proofs.Common.{rules, ◌≡◌, ◌<◌, List, length, ◌++◌,
 use Rattle.exam_model.specs.Enrolments.{students}
 use Rattle.exam_model.specs.Pairs.{pairs_at, pairs_of}
 use Rattle.office_tables.specs.declared.enrol.EnrolRow.{EnrolRow}
-use Rattle.office_records.specs.Stands.{enrol_row}
+use Rattle.office_records.specs.TableRows.{enrol_row}
 use Rattle.office_store.proofs.LoadLemmas.{exam_added}
 use Rattle.office_store.proofs.loading.enrol_rows.Goals as goal
 

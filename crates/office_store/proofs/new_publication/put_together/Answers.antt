@@ -3,7 +3,8 @@ use Rattle.exam_model.specs.Enrolments.{IsAscending}
 use Rattle.exam_publish.specs.Shares.{Sharing}
 use Rattle.office_records.specs.Publications.{stored_seat}
 use Rattle.office_records.specs.SeatsStored.{seat_rows_of}
-use Rattle.office_records.specs.SharesStored.{HasFewParts, part_rows, share_rows_of, student_share_row}
+use Rattle.office_records.specs.SharesStored.{share_rows_of, student_share_row}
+use Rattle.office_records.specs.PartShares.{HasFewParts, part_rows}
 use Rattle.office_store.specs.RowPuts.{her_seats_gone, part_share_put, seat_put}
 use Rattle.office_store.specs.RowPuts.{share_gone, student_share_put}
 use Rattle.office_store.proofs.NewPublicationLemmas.{few_parts}

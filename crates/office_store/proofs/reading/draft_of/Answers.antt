@@ -2,7 +2,7 @@ use Rattle.std.proofs.Common.{Ok, refl, sym, ◌∙◌, ap, subst}
 use Rattle.exam_score.specs.Track.{track}
 use Rattle.office_records.specs.Found.{AreSlots}
 use Rattle.office_records.proofs.SlotLemmas.{same_timetable}
-use Rattle.office_model.specs.Commands.{draft_shown}
+use Rattle.office_model.specs.DraftCommands.{draft_shown}
 use Rattle.office_store.proofs.ReadLemmas.{told_first, not_other, fault_of}
 use Rattle.office_store.proofs.reading.draft_of.Goals as goal
 

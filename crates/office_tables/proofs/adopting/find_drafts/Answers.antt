@@ -1,5 +1,5 @@
 use Rattle.sqlite.specs.Held.{state}
-use Rattle.office_tables.specs.Readings.{IsFound}
+use Rattle.office_tables.specs.Finders.{IsFound}
 use Rattle.office_tables.specs.Slot.{FitsSlot, slot_columns}
 use Rattle.office_tables.specs.Stored.{keyless}
 use Rattle.office_tables.proofs.AdoptLemmas.{clean_before, found_after, looks_then, stays_then, drafts_found}

@@ -1,5 +1,5 @@
 use Rattle.sqlite.specs.Held.{state}
-use Rattle.office_tables.specs.Readings.{IsFound}
+use Rattle.office_tables.specs.Finders.{IsFound}
 use Rattle.office_tables.specs.Seat.{FitsSeat, seat_columns}
 use Rattle.office_tables.specs.ShareStudent.{FitsStudentShare, share_student_columns}
 use Rattle.office_tables.specs.SharePart.{FitsPartShare, share_part_columns}

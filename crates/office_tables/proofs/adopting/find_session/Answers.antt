@@ -1,5 +1,5 @@
 use Rattle.sqlite.specs.Held.{state}
-use Rattle.office_tables.specs.Readings.{IsFound}
+use Rattle.office_tables.specs.Finders.{IsFound}
 use Rattle.office_tables.specs.Owner.{FitsOwner, owner_columns}
 use Rattle.office_tables.specs.Enrol.{FitsEnrol, enrol_columns}
 use Rattle.office_tables.specs.Stored.{keyed, keyless}

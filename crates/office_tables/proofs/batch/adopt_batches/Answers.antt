@@ -1,7 +1,7 @@
 use Rattle.sqlite.specs.Held.{state}
 use Rattle.sqlite.specs.State.{IsUnchanged}
 use Rattle.office_tables.specs.Batch.{IsFoundBatches, counts_columns, FitsCounts}
-use Rattle.office_tables.specs.Readings.{IsFound}
+use Rattle.office_tables.specs.Finders.{IsFound}
 use Rattle.office_tables.proofs.BatchFound.{batches_found, ok_both}
 use Rattle.office_tables.proofs.ListTexts.{batch_lists, counts_shown}
 use Rattle.office_tables.proofs.batch.adopt_batches.Goals as goal

@@ -1,6 +1,7 @@
 use Rattle.std.proofs.Common.{◌≡◌, Ok, IfErr, IfOk, subst}
 use Rattle.exam_draft.specs.Drafts.{DraftState}
-use Rattle.exam_draft.specs.Edits.{edited, edited_exams, IsEditedAt, Refuses}
+use Rattle.exam_draft.specs.Edits.{edited}
+use Rattle.exam_draft.specs.Judged.{edited_exams, IsEditedAt, Refuses}
 use Rattle.exam_draft.proofs.draft.Draft.judged.Goals as goal
 
 -- the draft is of the instance, the enrolments and the timetable that it holds

@@ -1,5 +1,5 @@
 use Rattle.std.proofs.Common.{refl, ◌∙◌}
-use Rattle.office_model.specs.Commands.{draft_shown}
+use Rattle.office_model.specs.DraftCommands.{draft_shown}
 use Rattle.office_model.specs.declared.fault.StoreFault.TheVariants.{NotLoaded}
 use Rattle.office_store.proofs.CommandLemmas.{not_loaded, refuses, shows}
 use Rattle.office_store.proofs.office.Office.draft.Goals as goal

@@ -1,6 +1,6 @@
 use Rattle.std.proofs.Common.{rules, ◌≡◌, None, refl}
 use Rattle.sqlite.specs.Held.{state}
-use Rattle.office_model.specs.Commands.{draft_dropped}
+use Rattle.office_model.specs.DraftCommands.{draft_dropped}
 use Rattle.office_model.specs.declared.fault.StoreFault.TheVariants.{NoDraft, NotLoaded}
 use Rattle.office_store.proofs.CallLemmas.{drop_denied, drop_moves}
 use Rattle.office_store.proofs.CommandLemmas.{not_loaded, refuses, rests, runs, seen}

@@ -1,7 +1,7 @@
 use Rattle.std.proofs.Common.{rules, ◌≡◌, ◌∙◌, Err, subst, sym}
 use Rattle.sqlite.specs.Held.{state}
-use Rattle.exam_draft.specs.Edits.{edited_exams}
-use Rattle.office_model.specs.Commands.{draft_edited}
+use Rattle.exam_draft.specs.Judged.{edited_exams}
+use Rattle.office_model.specs.DraftCommands.{draft_edited}
 use Rattle.office_store.specs.Running.{Runs}
 use Rattle.office_store.proofs.CommandLemmas.{rests, runs}
 use Rattle.office_store.proofs.EditCallLemmas.{edit_moves}

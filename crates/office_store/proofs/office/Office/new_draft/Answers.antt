@@ -1,7 +1,7 @@
 use Rattle.std.proofs.Common.{Err, ap, refl, ◌∙◌, sym, subst}
 use Rattle.std.proofs.lemmas.Result.{err_from_is_err_and}
 use Rattle.sqlite.specs.Held.{state}
-use Rattle.office_model.specs.Commands.{draft_made}
+use Rattle.office_model.specs.DraftCommands.{draft_made}
 use Rattle.office_store.specs.Running.{Runs}
 use Rattle.office_model.specs.declared.fault.StoreFault.TheVariants.{DraftTaken, NoDraft, NotLoaded}
 use Rattle.office_store.proofs.CallLemmas.{made_moves, number_denied, taken_denied, text_denied}

@@ -1,0 +1,65 @@
+-- What each command about a draft makes of the office, its refusals in their order.
+use Rattle.std.specs.Prelude.{ℕ, Bool, ◌&&◌, nat_le, List, [], ◌∷◌, length, Option, Some, None, is_none, Result, Ok}
+use Rattle.exam_model.specs.Instance.{Session}
+use Rattle.exam_terms.specs.Refusing.{◌>>=◌, unless, else_err}
+use Rattle.exam_terms.specs.declared.limits.TheConstants.{MAX_DRAFTS}
+use Rattle.exam_model.specs.Timetable.{Placing, unplaced}
+use Rattle.exam_score.specs.Penalty.{Penalty, total_of}
+use Rattle.exam_score.specs.Track.{track}
+use Rattle.exam_draft.specs.declared.edit.Edit.{Edit}
+use Rattle.exam_draft.specs.Edits.{edited}
+use Rattle.office_files.specs.SolutionText.{solution_in}
+use Rattle.office_model.specs.Office.{OfficeState, Records, set_at}
+use Rattle.office_model.specs.declared.fault.Refusal.TheVariants as refusal
+use Rattle.office_model.specs.declared.fault.StoreFault.{StoreFault}
+use Rattle.office_model.specs.declared.fault.StoreFault.TheVariants.{NoDraft, DraftTaken, Refused}
+use Rattle.office_model.specs.Commands.{Gives, named, when_loaded}
+
+-- the penalty of a timetable with the live enrolments
+abbrev pub penalty_now : Records → Placing → ℕ
+penalty_now r T = total_of (track r.session r.enrolments T)
+
+-- a timetable with no exam placed, or the one that a text spells
+abbrev pub first_timetable : List ℕ → Session → Result Placing StoreFault
+first_timetable [] I = Ok (unplaced (length I.exams))
+first_timetable (b ∷ bytes) I = named (λ f. Refused (refusal.File f)) (solution_in I (b ∷ bytes))
+
+-- drafts are numbered from 1 to 8
+abbrev pub is_draft_number : ℕ → Bool
+is_draft_number d = nat_le 1 d && nat_le d MAX_DRAFTS
+
+-- a draft is made where its number is free, of a solution or of nothing
+abbrev pub draft_made : ℕ → List ℕ → OfficeState → Gives ℕ
+draft_made d bytes office = do
+  r ← when_loaded office
+  _ ← unless (is_draft_number d) NoDraft
+  _ ← unless (is_none (r.draft d)) DraftTaken
+  T ← first_timetable bytes r.session
+  Ok (penalty_now r T, Some (record r { draft = set_at d (Some T) r.draft }))
+
+-- a draft is dropped
+abbrev pub draft_dropped : ℕ → OfficeState → Gives (Unit {0})
+draft_dropped d office = do
+  r ← when_loaded office
+  _ ← else_err NoDraft (r.draft d)
+  Ok (tt, Some (record r { draft = set_at d None r.draft }))
+
+-- the timetable of a draft, if there is one
+abbrev pub draft_in : ℕ → OfficeState → Option Placing
+draft_in d None = None
+draft_in d (Some r) = r.draft d
+
+-- a draft, with its penalty
+abbrev pub draft_shown : ℕ → OfficeState → Gives (Placing × Penalty)
+draft_shown d office = do
+  r ← when_loaded office
+  T ← else_err NoDraft (r.draft d)
+  Ok ((T, track r.session r.enrolments T), office)
+
+-- a draft is edited: its penalty afterwards
+abbrev pub draft_edited : ℕ → Edit → OfficeState → Gives ℕ
+draft_edited d change office = do
+  r ← when_loaded office
+  T ← else_err NoDraft (r.draft d)
+  new ← named (λ f. Refused (refusal.Edit f)) (edited r.session r.enrolments T change)
+  Ok (penalty_now r new, Some (record r { draft = set_at d (Some new) r.draft }))

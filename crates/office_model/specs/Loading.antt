@@ -1,0 +1,51 @@
+-- What loading a session makes of the office, its refusals in their order.
+use Rattle.std.specs.Prelude.{◌≡◌, ℕ, List, [], length, Some, None, is_none, Ok}
+use Rattle.exam_model.specs.Enrolments.{Enrolled, pair_count}
+use Rattle.exam_model.specs.Instance.{Session}
+use Rattle.exam_terms.specs.Refusing.{◌>>=◌, unless}
+use Rattle.office_files.specs.FirstFault.{first_fault}
+use Rattle.office_files.specs.InstanceText.{instance_in}
+use Rattle.office_files.specs.declared.fault.FileFault.{FileFault}
+use Rattle.office_model.specs.Office.{OfficeState, Records}
+use Rattle.office_model.specs.declared.counts.Loaded as counts
+use Rattle.office_model.specs.declared.fault.Refusal.TheVariants as refusal
+use Rattle.office_model.specs.declared.fault.StoreFault.{StoreFault}
+use Rattle.office_model.specs.declared.fault.StoreFault.TheVariants.{Loaded, Refused}
+use Rattle.office_model.specs.Commands.{Gives, named}
+
+-- a session with its enrolments, and nothing else
+abbrev pub fresh : Session × Enrolled → Records
+fresh s = record {
+  session = s.0;
+  owner_of = λ e. 0;
+  enrolments = s.1;
+  draft = λ d. None;
+  published = None;
+  batches = [];
+}
+
+-- how much there is of it
+abbrev pub loaded_of : Session × Enrolled → counts.Loaded
+loaded_of s = record {
+  exams = length s.0.exams;
+  pairs = pair_count s.1;
+  periods = length s.0.periods;
+  rooms = length s.0.rooms;
+}
+
+-- the text spells a session of so much
+abbrev pub SpellsSession : List ℕ → counts.Loaded → Type 0
+SpellsSession bytes counts =
+    (s : Session × Enrolled) × (instance_in bytes ≡ Ok s) × (counts ≡ loaded_of s)
+
+-- a text that is refused has this fault first
+abbrev pub NamesFirstFault : List ℕ → StoreFault → Type 0
+NamesFirstFault bytes fault =
+    (f : FileFault) → fault ≡ Refused (refusal.File f) → first_fault bytes ≡ Some f
+
+-- a session is loaded where there is none: the file's fault comes first
+abbrev pub loaded : List ℕ → OfficeState → Gives counts.Loaded
+loaded bytes office = do
+  s ← named (λ f. Refused (refusal.File f)) (instance_in bytes)
+  _ ← unless (is_none office) Loaded
+  Ok (loaded_of s, Some (fresh s))

@@ -1,0 +1,44 @@
+-- What a reader finds and leaves where no more is known of a database than its schema.
+use Rattle.std.specs.Prelude.{◌≡◌, false, List, map, None, Some, Option, Result, Vec, IfOk, OnOk}
+use Rattle.std.specs.List.{AllByRecursion}
+use Rattle.std.specs.declared.alloc.Global.{Global}
+use Rattle.sqlite_value.specs.Order.{Row}
+use Rattle.sqlite.specs.declared.error.Error.{Error}
+use Rattle.sqlite.specs.Effect.{Database}
+use Rattle.sqlite.specs.Held.{Held, state}
+use Rattle.sqlite.specs.State.{State, HasCleanDisk, IsLive, IsUnchanged, Survives}
+use Rattle.sqlite.specs.Store.{Ghosts}
+use Rattle.office_schema.specs.Schema.{office_schema}
+use Rattle.office_tables.specs.Readers.{Keeps}
+use Rattle.office_tables.specs.Stored.{Holds}
+
+-- it has the office's tables, and their rows obey them
+pub record HasTables (s : State) : Type 0 where
+  pub schema : s.now.schema ≡ office_schema
+  pub live : IsLive s
+
+-- on a clean disk, of a database with the tables, what is answered is so
+abbrev pub Finds : {S X : Type 0} → Ghosts S → (Database → X → Type 0)
+    → Held S → Held S → Result X Error → Type 0
+Finds store is old new result =
+    HasCleanDisk (state store new) → HasTables (state store old)
+    → IfOk result (is (state store old).now)
+
+-- and an Ok leaves everything as it was
+abbrev pub Leaves : {S X : Type 0} → Ghosts S → Held S → Held S → Result X Error → Type 0
+Leaves store old new result =
+    HasCleanDisk (state store new) → HasTables (state store old)
+    → OnOk result (IsUnchanged (state store old) (state store new))
+
+-- whatever is answered
+pub record Looks (old new : State) : Type 0 where
+  pub kept : HasCleanDisk new → HasTables old → Keeps old new
+  pub mode : old.in_transaction ≡ false → new.in_transaction ≡ false
+  pub survives : Survives old new (λ _. HasTables old → ⊥)
+
+-- the table holds what was found; or it holds no typed rows that fit
+abbrev pub IsFound : {X : Type 0} → (X → Type 0) → (X → Row) → (Row → Row) → List Row
+    → Option (Vec X Global) → Type 0
+IsFound fits row_of show stored (Some found) = Holds show (map row_of found.items) stored
+IsFound {X} fits row_of show stored None =
+    (rows : List X) → AllByRecursion fits rows → Holds show (map row_of rows) stored → ⊥

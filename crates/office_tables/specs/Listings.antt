@@ -1,0 +1,45 @@
+-- What the text of a query lists of a table.
+use Rattle.std.specs.Prelude.{◌≡◌, ℕ, ◌≤◌, List, [], ◌∷◌, length, slice_index_or}
+use Rattle.std.specs.List.{AllByRecursion}
+use Rattle.sqlite_trees.specs.Tree.{rowid}
+use Rattle.sqlite_value.specs.declared.keys.Collation.TheVariants.{Binary}
+use Rattle.sqlite_value.specs.declared.keys.Key.{Key}
+use Rattle.sqlite_value.specs.declared.value.Value.TheVariants.{Null}
+use Rattle.sqlite_value.specs.Keys.{ascending}
+use Rattle.sqlite_value.specs.Order.{Row, column}
+use Rattle.sqlite.specs.Effect.{Database, IsDatabase}
+use Rattle.sqlite.specs.Query.{Query, inner, end}
+use Rattle.sqlite.specs.Term.{Term, lit, eval_all}
+use Rattle.office_schema.specs.Schema.{office_schema}
+use Rattle.office_tables.specs.Asking.{asks, Means}
+use Rattle.office_tables.specs.Records.{columns_from}
+
+-- SELECT .. FROM a table WHERE .. ORDER BY ..
+abbrev pub one_table : ℕ → List Term → List Term → List (Term × Key) → Query
+one_table tree where_ shown order = asks (inner tree end) where_ shown order
+
+-- under the office's schema the text lists all rows of a tree, each shown by these terms, in this
+-- order
+abbrev pub Lists : ℕ → List Term → List (Term × Key) → List ℕ → Type 0
+Lists tree shown order = Means office_schema (one_table tree [] shown order)
+
+-- what a SELECT shows of a row: the value of each of its terms
+abbrev pub listed : List Term → Row → Row
+listed shown row = eval_all shown ([] ∷ row ∷ [])
+
+-- ORDER BY the column that is shown at this place
+abbrev pub ordered_by : List Term → ℕ → List (Term × Key)
+ordered_by shown at = (slice_index_or shown at (lit Null), ascending Binary) ∷ []
+
+-- the first columns are those that the stored row shows, and the next is its number
+pub record IsListed (width : ℕ) (show : Row → Row) (stored shown : Row) : Type 0 where
+  pub columns : columns_from 0 width shown ≡ show stored
+  pub number : column shown width ≡ rowid stored
+  pub wide : width ≤ length shown
+
+-- the text lists the whole table, in the order of the rows' numbers
+pub record ListsTable (width tree : ℕ) (show : Row → Row) (sql : List ℕ) : Type 0 where
+  pub terms : List Term
+  pub lists : Lists tree terms (ordered_by terms width) sql
+  pub whole : (db : Database) → db.schema ≡ office_schema → IsDatabase db
+      → AllByRecursion (λ r. IsListed width show r (listed terms r)) (db.trees tree)
