@@ -1,4 +1,5 @@
--- An edit once it is judged: its exams, what holds where it is accepted, the fault where it is refused.
+-- An edit once it is judged: its exams, what holds where it is accepted, and the fault where it is
+-- refused.
 use Rattle.std.specs.Prelude.{◌≡◌, ℕ, ◌<◌, ◌⊎◌, List, [], ◌∷◌, length, All, Err}
 use Rattle.exam_model.specs.Instance.{Session}
 use Rattle.exam_model.specs.Enrolments.{Enrolled}

@@ -1,5 +1,5 @@
--- What a step leaves of a connection inside a transaction. The store says what a connection shows by
--- states: as it is now, as it was last committed, and what a crash leaves.
+-- What a step leaves of a connection inside a transaction. The store says what a connection shows
+-- by states: as it is now, as it was last committed, and what a crash leaves.
 use Rattle.std.specs.Prelude.{ℕ, List, IsTrue, OnOk, Ok, Result}
 use Rattle.sqlite_value.specs.Order.{Row}
 use Rattle.sqlite.specs.declared.error.Error.{Error}
