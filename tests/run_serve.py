@@ -28,8 +28,8 @@ from collections import namedtuple
 from serve_cases import (
     CASES, EMPTY, EXAMPLES, FIRST_MOVED, MANY, MOVED_ROOMS, MOVED_TEXT, PENALTY, PENDING, PUBLISHED,
     SECOND_PAGE, SHOWN, SMALL, SOLUTION, STORED, THIRD, UNPLACED, asked_by, at, batch, batch_text,
-    clear, drafted, enrolled, error, me, message, move, place, publish, published, reply, report,
-    text)
+    clear, drafted, enrolled, error, me, message, move, pending, place, publish, published, reply,
+    report, text)
 
 SECONDS = 60
 
@@ -280,6 +280,46 @@ def most_batches(run):
                (batch(10_001, "1,4,drop"), error(404, "number")),
                (batch(9_999, "1,1,add"), enrolled(9_999, 1, 0, 0)),
                (message("PUT", "/batches/1", b"student,exam,action"), enrolled(1, 0, 0, 0))])
+
+
+# Each of 100,000 candidates sits both exams, and takes them in a row in the draft: 7 each.
+PAIRED = "".join(f"{line}\n" for line in [
+    "[Exams:2]", *[", ".join(["60", *map(str, range(100_000))])] * 2, "[Periods:2]",
+    "01:01:2000, 09:00:00, 60, 0", "01:01:2000, 11:00:00, 60, 0", "[Rooms:1]", "100000, 0",
+    "[PeriodHardConstraints]", "[RoomHardConstraints]", "[InstitutionalWeightings]",
+    "TWOINAROW,7"]).encode()
+PAIRED_DRAFT = ("INSERT INTO draft VALUES (1, 700000, 0, 0, 0, 0, 0, 0);"
+                "INSERT INTO slot VALUES (1, 0, 0, 0), (1, 1, 1, 0)")
+
+
+def most_pairs(run):
+    """There are 200,000 pairs: a batch that would pass them at some line is refused and changes
+    nothing, and one that comes back to them is taken."""
+    database, newcomer = run.database(PAIRED), "100000,0,add"
+
+    def by_sqlite3(words):
+        return subprocess.run(["sqlite3", str(database), words], capture_output=True, check=True,
+                              timeout=SECONDS).stdout
+
+    by_sqlite3(PAIRED_DRAFT)
+    before = by_sqlite3(".dump")
+    exchanged(run, "a pair beyond 200,000", database,
+              [(batch(1, newcomer), error(409, "too-many")),
+               (batch(1, newcomer, "0,0,drop"), error(409, "too-many")),
+               (batch(1, "0,0,drop", newcomer, "100000,1,add"), error(409, "too-many")),
+               (PENALTY, text(report(700_000, *[0] * 6, 700_000))),
+               (asked_by(100_000), me(100_000, 0)),
+               (asked_by(0), me(0, 0, pending(0), pending(1)))])
+    run.judge("a pair beyond 200,000, the tables", True, by_sqlite3(".dump") == before)
+    exchanged(run, "200,000 pairs", database,
+              [(batch(1, "0,0,drop", newcomer), enrolled(1, 1, 1, 0)),
+               (PENALTY, text(report(699_993, *[0] * 6, 699_993))),
+               (asked_by(100_000), me(100_000, 0, pending(0))),
+               (asked_by(0), me(0, 0, pending(1))),
+               (batch(2, "0,0,add"), error(409, "too-many")),
+               (batch(2, newcomer), enrolled(2, 0, 0, 1)),
+               (batch(1, "0,0,drop", newcomer), enrolled(1, 1, 1, 0))])
+    run.judge("200,000 pairs, the table", b"200000\n", by_sqlite3("SELECT count(*) FROM enrol"))
 
 
 def stock_curl(run):
@@ -653,7 +693,7 @@ def main():
             tests += [stored_by_hand, adopt_after_republication, last_message, long_message,
                       batches_are_kept, publication_is_told, slow_clients, patient_client,
                       default_patience]
-        for test in [*tests, longest_batch, most_batches]:
+        for test in [*tests, longest_batch, most_batches, most_pairs]:
             test(run)
         kills(run, given.kills)
         killed_amid_batch(run, given.kills // 2)

@@ -251,6 +251,8 @@ CASES = [
          (message("PUT", "/drafts/1/penalty"), error(405, "method", "GET")),
          (message("GET", "/drafts/1/swap/0/1", caller="dept:4"), error(405, "method", "POST")),
          (message("POST", "/instance", caller="cand:1"), forbidden("P1")),
+         (message("POST", "/publication"), error(405, "method", "GET")),
+         (message("POST", "/publication", caller="cand:1"), forbidden("P1")),
          (message("GET", "/drafts/8", caller="cand:2"), forbidden("P1")),
          (message("GET", "/drafts/1", caller="cand:2"), forbidden("P1")),
          (message("GET", "/nowhere"), error(404, "path")),
