@@ -12,9 +12,8 @@ import sys
 
 TOP = pathlib.Path(__file__).resolve().parent.parent
 
-# Who may know SQL: its grammar and its meaning, and the texts of statements. No crate
-# office_statements is there; one of that name would be for statements of any table.
-SQL_CRATES = {"office_schema", "office_tables", "office_statements"}
+# Who may know SQL: its grammar and its meaning, and the texts of statements.
+SQL_CRATES = {"office_schema", "office_tables"}
 SQL_LIBRARIES = {
     "sqlite_sql", "sqlite_items", "sqlite_rules", "sqlite_catalog", "sqlite_resolve", "sqlite_tied",
 }
