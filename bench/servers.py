@@ -10,6 +10,7 @@ from checkers import HERE
 
 SOURCE, BUILT = HERE / "office", HERE / "build" / "office"
 MESSAGES = 100
+DRAFTS = 8
 
 
 def build_office():
@@ -110,3 +111,31 @@ def in_connections(server, questions):
 
 def show(name, ours, theirs, unit):
     print(f"{name:<44}{ours:>12,.1f}{theirs:>12,.1f}{ours / theirs:>8.2f}  {unit}", flush=True)
+
+
+def sizes_of(instance):
+    """How many students each exam has."""
+    exams, *lines = instance.read_text().splitlines()
+    count = int(exams.strip("[]").split(":")[1])
+    return [len(set(line.split(",")[1:])) for line in lines[:count]]
+
+
+def drafts_of(solution):
+    """The messages that make all drafts of a timetable."""
+    return [message("PUT", f"/drafts/{number}", solution.read_bytes())
+            for number in range(1, DRAFTS + 1)]
+
+
+def edits_of(server, solution, sizes, wanted):
+    """An exam of about so many students, its place, and a clear and a place of it in the last
+    draft, of which both are accepted."""
+    places = solution.read_text().splitlines()
+    for exam in sorted(range(len(sizes)), key=lambda exam: (abs(sizes[exam] - wanted), exam)):
+        period, room = map(int, places[exam].split(", "))
+        body = b'{"period":%d,"room":%d}' % (period, room)
+        edits = [message("DELETE", f"/drafts/{DRAFTS}/exams/{exam}"),
+                 message("POST", f"/drafts/{DRAFTS}/exams/{exam}/place", body)]
+        replies = one_after_another(server, edits)[0]
+        if all(reply.startswith(b"HTTP/1.1 200 ") for reply in replies):
+            return exam, (period, room), edits
+    sys.exit("no exam of the timetable can be edited")
