@@ -47,13 +47,17 @@ pub(crate) fn export<'a, W: Write>(
         Ok(conn) => conn,
         Err(error) => return Err(fault_of_open(error)),
     };
-    let (conn, done) = match export_run(rt.alloc(), conn, out) {
-        Ok(conn) => (conn, Ok(0)),
-        Err((fault, conn)) => (conn, Err(fault_of_export(fault))),
-    };
     // A log that can't be copied into the file stays beside it, and is read there.
-    let _ = conn.close();
-    done
+    match export_run(rt.alloc(), conn, out) {
+        Ok(conn) => {
+            let _ = conn.close();
+            Ok(0)
+        }
+        Err((fault, conn)) => {
+            let _ = conn.close();
+            Err(fault_of_export(fault))
+        }
+    }
 }
 
 /// Writes the solution that the office of a database has published. The connection comes back.

@@ -164,13 +164,17 @@ fn load_text<'a, W: Write>(
         Ok(conn) => conn,
         Err(error) => return Err(fault_of_open(error)),
     };
-    let (conn, done) = match load_run(rt.alloc(), conn, text, out) {
-        Ok(conn) => (conn, Ok(0)),
-        Err((fault, conn)) => (conn, Err(fault_of_load(fault))),
-    };
     // A log that can't be copied into the file stays beside it, and is read there.
-    let _ = conn.close();
-    done
+    match load_run(rt.alloc(), conn, text, out) {
+        Ok(conn) => {
+            let _ = conn.close();
+            Ok(0)
+        }
+        Err((fault, conn)) => {
+            let _ = conn.close();
+            Err(fault_of_load(fault))
+        }
+    }
 }
 
 // Answers words that are no command: a mistake in them, or a call for help.
