@@ -3,16 +3,15 @@
 //! `DATABASE DRAFT EXAM PERIOD ROOM INSTANCE SOLUTION ROUNDS`: the exam of the draft is cleared and
 //! placed again, then the solution's timetable is scored, so often; a line for each, in nanoseconds.
 
-use exam_model::{Enrolments, ExamNo, Instance, PeriodNo, Place, RoomNo, Timetable};
+use exam_model::{ExamNo, PeriodNo, Place, RoomNo};
 use exam_score::score;
 use office_files::{instance_text, read_instance, read_solution, solution_text};
 use office_store::{Edit, Office};
 use sqlite::{Alter, Connection};
-use std::env;
-use std::fs;
 use std::io::Write;
 use std::process::ExitCode;
 use std::time::Instant;
+use std::{env, fs};
 
 // The exam that is edited, where it stands, and how often.
 #[derive(Clone, Copy)]
@@ -35,7 +34,12 @@ fn run(rt: &HostRuntime) -> Option<()> {
     let words: Vec<String> = args.collect(rt.alloc()).ok()?;
     let asked = asked_of(&words)?;
     edits(rt, words.get(1)?.as_str(), asked)?;
-    scores(rt, words.get(6)?.as_str(), words.get(7)?.as_str(), asked.rounds)
+    scores(
+        rt,
+        words.get(6)?.as_str(),
+        words.get(7)?.as_str(),
+        asked.rounds,
+    )
 }
 
 fn asked_of(words: &[String]) -> Option<Asked> {
@@ -58,11 +62,14 @@ fn number(words: &[String], at: usize) -> Option<u32> {
 fn edits(rt: &HostRuntime, database: &str, asked: Asked) -> Option<()> {
     let conn = Connection::open(rt, database).ok()?;
     let mut office = Office::open(rt.alloc(), conn).ok()?;
-    let mut round = 0;
-    while round < asked.rounds {
+    for _ in 0..asked.rounds {
         edit(rt, &mut office, asked.draft, Edit::Clear(asked.exam))?;
-        edit(rt, &mut office, asked.draft, Edit::Place(asked.exam, asked.place))?;
-        round += 1;
+        edit(
+            rt,
+            &mut office,
+            asked.draft,
+            Edit::Place(asked.exam, asked.place),
+        )?;
     }
     Some(())
 }
@@ -81,14 +88,12 @@ fn scores(rt: &HostRuntime, instance: &str, solution: &str, rounds: u32) -> Opti
     let mut file = fs::open(rt, solution).ok()?;
     let text = solution_text(rt.alloc(), &mut file).ok()?;
     let timetable = read_solution(rt.alloc(), &text, &session).ok()?;
-    let mut round = 0;
-    while round < rounds {
+    for _ in 0..rounds {
         let began = Instant::now(rt).ok()?;
         let parts = score(rt.alloc(), &session, &enrolments, &timetable).ok()?;
         let taken = began.elapsed(rt).ok()?.as_nanos();
         let penalty = parts.total();
         writeln!(rt.stdout(), "score {taken} {penalty}").ok()?;
-        round += 1;
     }
     Some(())
 }
