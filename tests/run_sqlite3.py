@@ -2,9 +2,10 @@
 """run_sqlite3.py PROGRAM: the databases of the program beside the stock command sqlite3.
 
 What was loaded is read by sqlite3, and held against docs/FORMATS.md and the small example; what
-sqlite3 wrote as drafted and published is found and exported; a database that sqlite3 made, or
-changed so that it stands for no office, is refused, and its dump by sqlite3 is then as it was. A
-failing case is printed with what was expected and what came, and the last line counts the cases.
+sqlite3 wrote as drafted and published is found and exported, and so is what a program before this
+one left; a database that sqlite3 made, or changed so that it stands for no office, is refused, and
+its dump by sqlite3 is then as it was. A failing case is printed with what was expected and what
+came, and the last line counts the cases.
 """
 import pathlib
 import subprocess
@@ -13,6 +14,9 @@ import tempfile
 
 TOP = pathlib.Path(__file__).resolve().parent.parent
 FORMATS, SMALL = TOP / "docs" / "FORMATS.md", TOP / "examples" / "small.exam"
+# An office of the small example as the release of 25 November 2026 left it: an owner, two drafts, a
+# publication, a batch behind it.
+BEFORE = TOP / "tests" / "office_before.sqlite"
 SECONDS = 60
 LOADED = b"loaded exams 4 pairs 6 periods 4 rooms 2\n"
 # The canonical text of the small example, with no student.
@@ -192,13 +196,24 @@ def published(program, folder):
         yield f"the file after an export after: {text}", before, dumped(office)
 
 
+def made_before(program, folder):
+    """The database of a program before this one is an office of this one, which leaves it as it is."""
+    office = folder / "before.db"
+    office.write_bytes(BEFORE.read_bytes())
+    before = 0, dumped(office)[1], b""
+    yield "an export of a program before", EXPORTED, ended(program, "export", "--db", str(office))
+    yield "its session", FOUND, ended(program, "load", "--db", str(office), str(SMALL))
+    yield "its file", before, dumped(office)
+
+
 def main():
     if len(sys.argv) != 2:
         sys.exit("usage: run_sqlite3.py PROGRAM")
     program, count, failed = str(pathlib.Path(sys.argv[1]).resolve()), 0, 0
     with tempfile.TemporaryDirectory() as folder:
         folder = pathlib.Path(folder)
-        made = (*cases(program, folder), *changed(program, folder), *published(program, folder))
+        made = (*cases(program, folder), *changed(program, folder), *published(program, folder),
+                *made_before(program, folder))
         for name, expected, got in made:
             count += 1
             if expected != got:
