@@ -197,7 +197,7 @@ def published(program, folder):
 
 
 def made_before(program, folder):
-    """The database of a program before this one is an office of this one, which leaves it as it is."""
+    """What a program before this one left is an office of this one, which leaves it as it is."""
     office = folder / "before.db"
     office.write_bytes(BEFORE.read_bytes())
     before = 0, dumped(office)[1], b""
