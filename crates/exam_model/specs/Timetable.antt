@@ -9,7 +9,7 @@ Placing = List (Option Place)
 
 -- an exam's place, if it has one
 abbrev pub place_of : Placing → ℕ → Option Place
-place_of t e = slice_index_or t e None
+place_of T e = slice_index_or T e None
 
 -- a timetable of so many exams, none of which is placed
 abbrev pub unplaced : ℕ → Placing
@@ -17,10 +17,10 @@ unplaced exams = replicate exams None
 
 -- a number of exams that a timetable may have
 abbrev pub HasExams : Placing → Type 0
-HasExams t = (1 ≤ length t) × (length t ≤ MAX_EXAMS)
+HasExams T = (1 ≤ length T) × (length T ≤ MAX_EXAMS)
 
 -- the exam has no place, and each smaller one has
-pub record IsFirstUnplaced (t : Placing) (e : ℕ) : Type 0 where
-  pub exists : e < length t
-  pub unplaced : place_of t e ≡ None
-  pub placed_below : (f : ℕ) → f < e → IsSome (place_of t f)
+pub record IsFirstUnplaced (T : Placing) (e : ℕ) : Type 0 where
+  pub exists : e < length T
+  pub unplaced : place_of T e ≡ None
+  pub placed_below : (f : ℕ) → f < e → IsSome (place_of T f)

@@ -8,7 +8,7 @@ use std::alloc::{AllocError, Global};
 use std::marker::Model;
 
 #[derive(Debug, Drop)]
-pub struct Roll {
+pub(crate) struct Roll {
     students: Vec<StudentNo>,
 }
 
@@ -21,7 +21,7 @@ impl Model for Roll {
 }
 
 impl Roll {
-    pub fn new(alloc: Global) -> Roll
+    pub(crate) fn new(alloc: Global) -> Roll
         ensures { result ≡ [] }
     {
         Roll {
@@ -29,14 +29,14 @@ impl Roll {
         }
     }
 
-    pub fn copy(&self, alloc: Global) -> Result<Roll, AllocError>
+    pub(crate) fn copy(&self, alloc: Global) -> Result<Roll, AllocError>
         ensures same { IfOk result (λ made. made ≡ self.now) }
     {
         let students = self.students.to_vec(alloc)?;
         Ok(Roll { students })
     }
 
-    pub fn as_slice(&self) -> &[StudentNo]
+    pub(crate) fn as_slice(&self) -> &[StudentNo]
         ensures all { result.now ≡ self.now }
         ensures ascending { IsAscending self.now }
     {
@@ -44,7 +44,7 @@ impl Roll {
     }
 
     // Puts ascending students into a roll that has none.
-    pub fn fill(&mut self, students: &[StudentNo]) -> Result<(), AllocError>
+    pub(crate) fn fill(&mut self, students: &[StudentNo]) -> Result<(), AllocError>
         requires empty { self.old ≡ [] }
         requires ascending { IsAscending students.now }
         ensures ok { OnOk result (self.new ≡ students.now) }
@@ -64,7 +64,7 @@ impl Roll {
     }
 
     #[tactic(auto, using(crate::proofs::RollLemmas::roll_facts))]
-    pub fn has(&self, student: StudentNo) -> bool
+    pub(crate) fn has(&self, student: StudentNo) -> bool
         ensures { result ≡ has_number self.now student }
     {
         self.search(student).is_ok()
@@ -72,7 +72,7 @@ impl Roll {
 
     // Puts a student in, and answers whether she is new.
     #[tactic(auto, using(crate::proofs::RollLemmas::roll_facts))]
-    pub fn add(&mut self, student: StudentNo) -> Result<bool, AllocError>
+    pub(crate) fn add(&mut self, student: StudentNo) -> Result<bool, AllocError>
         ensures fresh { IfOk result (λ fresh. fresh ≡ not (has_number self.old student)) }
         ensures ok { OnOk result (Enters self.old self.new student) }
         ensures err { OnErr result (self.new ≡ self.old) }
@@ -86,7 +86,7 @@ impl Roll {
 
     // Takes a student out, and answers whether she was there.
     #[tactic(auto, using(crate::proofs::RollLemmas::roll_facts))]
-    pub fn remove(&mut self, student: StudentNo) -> bool
+    pub(crate) fn remove(&mut self, student: StudentNo) -> bool
         ensures removed { result ≡ has_number self.old student }
         ensures left { Leaves self.old self.new student }
     {

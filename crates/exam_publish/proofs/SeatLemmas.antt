@@ -28,7 +28,8 @@ use Rattle.exam_publish.specs.declared.entrants.Entrant.{Entrant}
 use Rattle.exam_publish.specs.declared.seat_row.SeatRow.{SeatRow}
 use Rattle.exam_publish.specs.Numbered.{sits_at}
 use Rattle.exam_publish.specs.Permit.{publish_refusal, first_unplaced, least_breach}
-use Rattle.exam_publish.specs.Rows.{row_pair, row_place, RowBefore, RowsInOrder, IsAtExam, ArePublishedRows}
+use Rattle.exam_publish.specs.Published.{AreSeats}
+use Rattle.exam_publish.specs.Rows.{row_pair, row_place, RowBefore, RowsInOrder, IsAtExam}
 use Rattle.exam_publish.specs.Seats.{IsSeatOf, HasSeat, HaveOwnSeats, AreSeated, seats_at, least_free, new_row, standing_with, rows_beside, seat_rows}
 use Rattle.exam_publish.specs.Entrants.{is_row_at, entrant, entrants, kept_rows}
 use Rattle.exam_publish.proofs.FreeLemmas.{least_is, least_small, length_seats, has_seats, still_taken}
@@ -546,15 +547,9 @@ counted_pairs T old at (p ∷ ps) = go (place_of T p.exam) refl (counted_pairs T
 
 -- ---- all of it
 
-pub record AreSeats (I : Session) (E : Enrolled) (T : Placing)
-    (old rows : List SeatRow) : Type 0 where
-  pub pairs : map row_pair rows ≡ pairs_of E
-  pub seated : AreSeated I rows
-  pub published : ArePublishedRows I rows T
-
 pub are_seats : (I : Session) (E : Enrolled) (T : Placing) (old : List SeatRow) → Fits I E T
     → AreEnrolments E → publish_refusal I E T ≡ None → AreSeated I old
-    → AreSeats I E T old (seat_rows (pairs_of E) T old)
+    → AreSeats I E T (seat_rows (pairs_of E) T old)
 are_seats I E T old fits known permitted was =
     let pairs = pairs_of E in
     let xs : List Entrant = entrants pairs T old in

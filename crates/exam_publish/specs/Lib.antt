@@ -2,6 +2,7 @@ pub mod Permit
 pub mod Rows
 pub mod Entrants
 pub mod Seats
+pub mod Published
 pub mod Numbered
 pub mod Seating
 pub mod Changed

@@ -56,8 +56,8 @@ fn differing(alloc: Global, old: &[SeatRow], new: &[SeatRow]) -> Result<Vec<Stud
     Ok(found)
 }
 
-// Whether a row's exam is smaller, or the same and its student smaller.
-fn is_before(row: &SeatRow, other: &SeatRow) -> bool
+/// Whether a row's exam is smaller, or the same and its student smaller.
+pub fn is_before(row: &SeatRow, other: &SeatRow) -> bool
     ensures { result ≡ comes_before (row_pair row.now) (row_pair other.now) }
 {
     row.exam < other.exam || row.exam == other.exam && row.student < other.student

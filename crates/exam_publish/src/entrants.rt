@@ -12,7 +12,7 @@ use std::alloc::{AllocError, Global};
 
 /// A student of an exam, where the exam stands now, and her old row if that is there.
 #[derive(Clone, Copy)]
-pub struct Entrant {
+pub(crate) struct Entrant {
     pub student: StudentNo,
     pub exam: ExamNo,
     pub place: Place,

@@ -12,7 +12,7 @@ use std::alloc::{AllocError, Global};
 
 /// A seat that is kept; ordered by period, then room, then seat.
 #[derive(Clone, Copy, PartialEq, Eq, PartialOrd, Ord)]
-pub struct Held {
+pub(crate) struct Held {
     pub period: PeriodNo,
     pub room: RoomNo,
     pub seat: u32,

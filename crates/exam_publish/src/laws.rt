@@ -6,9 +6,10 @@ ghost use Rattle.exam_model.specs.Instance.{Session, IsInstance};
 ghost use Rattle.exam_model.specs.Pairs.{pairs_of};
 ghost use Rattle.exam_model.specs.Timetable.{Placing};
 ghost use Rattle.exam_publish.specs.declared.seat_row.SeatRow.{SeatRow};
-ghost use Rattle.exam_publish.specs.AddUp.{AddUpTo};
+ghost use Rattle.exam_publish.specs.AddUp.{AddUpTo, AreSmall};
 ghost use Rattle.exam_publish.specs.Changed.{is_changed, rows_of};
 ghost use Rattle.exam_publish.specs.Permit.{publish_refusal};
+ghost use Rattle.exam_publish.specs.Published.{AreSeats};
 ghost use Rattle.exam_publish.specs.Rows.{AreNumbered, ArePublishedRows, enrolled_in};
 ghost use Rattle.exam_publish.specs.Numbered.{numbered_rows};
 ghost use Rattle.exam_publish.specs.Seats.{AreSeated, seat_rows};
@@ -21,6 +22,21 @@ pub fn shares_add_up()
     ensures { (I : Session) (rows : List SeatRow) (T : Placing) → IsInstance I
         → ArePublishedRows I rows T → AreNumbered rows
         → AddUpTo (track I (enrolled_in (length I.exams) rows) T) (shares_of I rows T) }
+{}
+
+/// No share of a timetable reaches 2^62, nor do all together.
+pub fn shares_are_small()
+    ensures { (I : Session) (rows : List SeatRow) (T : Placing) → IsInstance I
+        → ArePublishedRows I rows T → AreNumbered rows → AreSmall (shares_of I rows T) }
+{}
+
+/// The seats of a timetable that may be published are a publication's rows: one for each enrolment,
+/// at its exam's place, in a seat of the room that nobody else has, whatever rows there were
+/// before.
+pub fn seats_are_rows()
+    ensures { (I : Session) (E : Enrolled) (T : Placing) (old : List SeatRow) → AreEnrolments E
+        → Fits I E T → publish_refusal I E T ≡ None → AreSeated I old
+        → AreSeats I E T (seat_rows (pairs_of E) T old) }
 {}
 
 /// The rows of a timetable that may be published are the enrolments that it was published with,

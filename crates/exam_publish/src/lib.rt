@@ -17,9 +17,12 @@ mod sharing;
 mod student_shares;
 mod sums;
 
-pub use comparison::{changed, in_order};
+pub use comparison::{changed, in_order, is_before};
 pub use fault::PublishFault;
-pub use laws::{numbered_at_first, seated_as_enrolled, shares_add_up, unchanged_share_stays};
+pub use laws::{
+    numbered_at_first, seated_as_enrolled, seats_are_rows, shares_add_up, shares_are_small,
+    unchanged_share_stays,
+};
 pub use permission::permit;
 pub use seat_row::SeatRow;
 pub use seating::seats;

@@ -19,7 +19,7 @@ pub(crate) fn sum_of(numbers: &[u64]) -> Option<u64>
 
 /// What all students' shares have for a row, for a day and for the spread.
 #[derive(Clone, Copy)]
-pub struct StudentSums {
+pub(crate) struct StudentSums {
     pub row: u64,
     pub day: u64,
     pub spread: u64,

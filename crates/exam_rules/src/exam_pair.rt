@@ -7,7 +7,7 @@ use exam_model::ExamNo;
 use std::alloc::AllocError;
 
 #[derive(Clone, Copy, PartialEq, Eq, PartialOrd, Ord)]
-pub struct ExamPair {
+pub(crate) struct ExamPair {
     pub exam: ExamNo,
     pub other: ExamNo,
 }

@@ -1,4 +1,4 @@
-// The first breach that names one of some exams, found from these exams alone.
+// The first breach that names one of some exams, found among the pairs that these exams are in.
 ghost use Rattle.std.specs.Prelude.{◌≡◌, ◌<◌, ℕ, ◌&&◌, ◌||◌, length, All, IfOk, OnOk};
 ghost use Rattle.std.specs.List.{list_any};
 ghost use Rattle.exam_rules.specs.Breach.{is_pair, passing};

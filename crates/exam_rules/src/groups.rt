@@ -9,7 +9,7 @@ use std::marker::Model;
 
 /// The exams of one period.
 #[derive(Drop)]
-pub struct Group {
+pub(crate) struct Group {
     exams: Vec<ExamNo>,
 }
 
@@ -31,7 +31,7 @@ impl Group {
     }
 
     /// The exams, ascending.
-    pub fn as_slice(&self) -> &[ExamNo]
+    pub(crate) fn as_slice(&self) -> &[ExamNo]
         ensures { result.now ≡ self.now }
     {
         &self.exams

@@ -13,7 +13,7 @@ const SLOTS: usize = 65_536;
 // An exam is one of 64 bits, and a student one of many numbers: so a mark may stand for others
 // too, but none is missing.
 #[derive(Drop)]
-pub struct Marks {
+pub(crate) struct Marks {
     slots: Vec<u64>,
 }
 
@@ -29,7 +29,7 @@ impl Model for Marks {
 
 impl Marks {
     /// No marks.
-    pub fn new(alloc: Global) -> Result<Marks, AllocError>
+    pub(crate) fn new(alloc: Global) -> Result<Marks, AllocError>
         ensures { IfOk result (λ marks. marks ≡ replicate 65536 0) }
     {
         let slots = vec![in alloc; 0u64; SLOTS]?;
@@ -37,7 +37,7 @@ impl Marks {
     }
 
     /// Marks an exam for these students.
-    pub fn add(&mut self, students: &[StudentNo], exam: ExamNo)
+    pub(crate) fn add(&mut self, students: &[StudentNo], exam: ExamNo)
         ensures marked { (s : ℕ) → has_number students.now s ≡ true
             → Has (marks_of self.new s) exam }
         ensures kept { (s e : ℕ) → Has (marks_of self.old s) e → Has (marks_of self.new s) e }
@@ -51,7 +51,7 @@ impl Marks {
     }
 
     /// The exams that are marked for one of these students.
-    pub fn of(&self, students: &[StudentNo]) -> u64
+    pub(crate) fn of(&self, students: &[StudentNo]) -> u64
         ensures { (s e : ℕ) → has_number students.now s ≡ true
             → Has (marks_of self.now s) e → Has result e }
     {
@@ -64,7 +64,7 @@ impl Marks {
     }
 
     /// Takes all marks of these students away, so that the next period begins with few.
-    pub fn clear(&mut self, students: &[StudentNo])
+    pub(crate) fn clear(&mut self, students: &[StudentNo])
         ensures cleared { (s : ℕ) → has_number students.now s ≡ true → marks_of self.new s ≡ 0 }
         ensures kept { (s : ℕ) → marks_of self.old s ≡ 0 → marks_of self.new s ≡ 0 }
     {

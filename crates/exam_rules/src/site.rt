@@ -3,7 +3,7 @@ use exam_model::{Enrolments, Instance, Timetable};
 
 /// A session, who sits which exam, and where the exams stand.
 #[derive(Clone, Copy)]
-pub struct Site<'a> {
+pub(crate) struct Site<'a> {
     pub instance: &'a Instance,
     pub enrolments: &'a Enrolments,
     pub timetable: &'a Timetable,

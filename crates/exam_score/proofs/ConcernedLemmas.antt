@@ -226,30 +226,30 @@ stands_next fold xs i d lt h =
     h
 
 -- what is told of the edit is told of the fold
-pub edit_is : (fold : Folded) (s : Session) (E : Enrolled) (old new : Placing) (edited : List ℕ)
+pub edit_is : (fold : Folded) (I : Session) (E : Enrolled) (old new : Placing) (edited : List ℕ)
     (pairs : List Pair) (sizes : List ℕ) (parts : Penalty)
-    → IsFoldOf fold s old new edited
-    → AreEnrolments E → Fits s E new → IsPermutation (pairs_concerned E edited) pairs
-    → AreSizes E sizes → DiffersAtMost edited old new → parts ≡ track s E old
+    → IsFoldOf fold I old new edited
+    → AreEnrolments E → Fits I E new → IsPermutation (pairs_concerned E edited) pairs
+    → AreSizes E sizes → DiffersAtMost edited old new → parts ≡ track I E old
     → IsOfEdit fold E pairs sizes parts
-edit_is fold s E old new edited pairs sizes parts is known fits moved sized same scored = record {
+edit_is fold I E old new edited pairs sizes parts is known fits moved sized same scored = record {
   enrolments = known;
   fits = subst (λ z. Fits z E fold.later) (sym is.session)
-      (subst (λ t. Fits s E t) (sym is.after) fits);
+      (subst (λ T. Fits I E T) (sym is.after) fits);
   concerned = subst (λ es. IsPermutation (pairs_concerned E es) pairs) (sym is.exams) moved;
   sized = sized;
   others = subst (λ es. DiffersAtMost es fold.earlier fold.later) (sym is.exams)
-      (subst (λ t. DiffersAtMost edited t fold.later) (sym is.before)
-      (subst (λ t. DiffersAtMost edited old t) (sym is.after) same));
+      (subst (λ T. DiffersAtMost edited T fold.later) (sym is.before)
+      (subst (λ T. DiffersAtMost edited old T) (sym is.after) same));
   scored = scored ∙ (λ i. track (sym is.session i) E (sym is.before i));
 }
 
 -- so what the fold gives is of the edit
-pub track_is : (fold : Folded) (s : Session) (E : Enrolled) (old new : Placing) (edited : List ℕ)
+pub track_is : (fold : Folded) (I : Session) (E : Enrolled) (old new : Placing) (edited : List ℕ)
     (r : Option Penalty)
-    → IsFoldOf fold s old new edited
-    → r ≡ Some (track fold.instance E fold.later) → r ≡ Some (track s E new)
-track_is fold s E old new edited r is scored =
+    → IsFoldOf fold I old new edited
+    → r ≡ Some (track fold.instance E fold.later) → r ≡ Some (track I E new)
+track_is fold I E old new edited r is scored =
     scored ∙ (λ i. Some (track (is.session i) E (is.after i)))
 
 pub some_is : (r : Option Penalty) (x y : Penalty) → r ≡ Some x → r ≡ Some y → x ≡ y

@@ -10,15 +10,15 @@ picked : (b : Bool) (w : ℕ) → w ≤ 100000 → (if b then w else 0) ≤ 1000
 picked true w h = h
 picked false w h = omega arith
 
-pub row_cost-small : (s : Session) → IsInstance s → (p q : ℕ)
-    → row_cost s.periods s.weights p q ≤ 100000
-row_cost-small s known p q =
-    picked (same_day s.periods p q && (gap p q == 1)) s.weights.row known.limits.weights.0
+pub row_cost-small : (I : Session) → IsInstance I → (p q : ℕ)
+    → row_cost I.periods I.weights p q ≤ 100000
+row_cost-small I known p q =
+    picked (same_day I.periods p q && (gap p q == 1)) I.weights.row known.limits.weights.0
 
-pub day_cost-small : (s : Session) → IsInstance s → (p q : ℕ)
-    → day_cost s.periods s.weights p q ≤ 100000
-day_cost-small s known p q =
-    picked (same_day s.periods p q && nat_le 2 (gap p q)) s.weights.day known.limits.weights.1
+pub day_cost-small : (I : Session) → IsInstance I → (p q : ℕ)
+    → day_cost I.periods I.weights p q ≤ 100000
+day_cost-small I known p q =
+    picked (same_day I.periods p q && nat_le 2 (gap p q)) I.weights.day known.limits.weights.1
 
 min-small : (n : ℕ) → n ≤ 100000 → min n 100000 ≡ n
 min-small n h = omega arith
@@ -30,28 +30,28 @@ capped_fits n cost is = omega arith
 pub one_fits : (n cost : ℕ) → n ≡ cost → cost ≤ 1 → Fits w32 n
 one_fits n cost is small = omega arith
 
-pub row_uncapped : (s : Session) → IsInstance s
-    → ◌≡◌ {A = ℕ → ℕ → ℕ} (λ p q. min (row_cost s.periods s.weights p q) 100000)
-    (row_cost s.periods s.weights)
-row_uncapped s known =
-    λ i p q. min-small (row_cost s.periods s.weights p q) (row_cost-small s known p q) i
+pub row_uncapped : (I : Session) → IsInstance I
+    → ◌≡◌ {A = ℕ → ℕ → ℕ} (λ p q. min (row_cost I.periods I.weights p q) 100000)
+    (row_cost I.periods I.weights)
+row_uncapped I known =
+    λ i p q. min-small (row_cost I.periods I.weights p q) (row_cost-small I known p q) i
 
-pub day_uncapped : (s : Session) → IsInstance s
-    → ◌≡◌ {A = ℕ → ℕ → ℕ} (λ p q. min (day_cost s.periods s.weights p q) 100000)
-    (day_cost s.periods s.weights)
-day_uncapped s known =
-    λ i p q. min-small (day_cost s.periods s.weights p q) (day_cost-small s known p q) i
+pub day_uncapped : (I : Session) → IsInstance I
+    → ◌≡◌ {A = ℕ → ℕ → ℕ} (λ p q. min (day_cost I.periods I.weights p q) 100000)
+    (day_cost I.periods I.weights)
+day_uncapped I known =
+    λ i p q. min-small (day_cost I.periods I.weights p q) (day_cost-small I known p q) i
 
-pub row_known : (s : Session) → IsInstance s → (xs : List ℕ)
-    → candidate_cost (λ p q. min (row_cost s.periods s.weights p q) 100000) xs
-    ≡ candidate_cost (row_cost s.periods s.weights) xs
-row_known s known xs =
+pub row_known : (I : Session) → IsInstance I → (xs : List ℕ)
+    → candidate_cost (λ p q. min (row_cost I.periods I.weights p q) 100000) xs
+    ≡ candidate_cost (row_cost I.periods I.weights) xs
+row_known I known xs =
     λ i. candidate_cost
-    (λ p q. min-small (row_cost s.periods s.weights p q) (row_cost-small s known p q) i) xs
+    (λ p q. min-small (row_cost I.periods I.weights p q) (row_cost-small I known p q) i) xs
 
-pub day_known : (s : Session) → IsInstance s → (xs : List ℕ)
-    → candidate_cost (λ p q. min (day_cost s.periods s.weights p q) 100000) xs
-    ≡ candidate_cost (day_cost s.periods s.weights) xs
-day_known s known xs =
+pub day_known : (I : Session) → IsInstance I → (xs : List ℕ)
+    → candidate_cost (λ p q. min (day_cost I.periods I.weights p q) 100000) xs
+    ≡ candidate_cost (day_cost I.periods I.weights) xs
+day_known I known xs =
     λ i. candidate_cost
-    (λ p q. min-small (day_cost s.periods s.weights p q) (day_cost-small s known p q) i) xs
+    (λ p q. min-small (day_cost I.periods I.weights p q) (day_cost-small I known p q) i) xs

@@ -29,8 +29,8 @@ between_none cost nothing (Some p) = nothing p
 
 -- an exam beside all of these, if it is edited
 abbrev pub edited_beside : (ℕ → ℕ → ℕ) → Placing → List ℕ → List ℕ → ℕ → ℕ
-edited_beside cost t edited exams e =
-    cond (has_number edited e) (sum_by (cost_at cost t edited e) exams) 0
+edited_beside cost T edited exams e =
+    cond (has_number edited e) (sum_by (cost_at cost T edited e) exams) 0
 
 -- all pairs of places in both orders, where no place makes anything with itself
 square_by_pairs : {X : Type 0} (u : X → X → ℕ) → ((x : X) → u x x ≡ 0) → (xs : List X)
@@ -59,26 +59,26 @@ either_once false true e f c d same own = omega arith
 either_once false false e f c d same own = refl
 
 -- each pair is counted at one of its edited exams
-pub edited_once : (cost : ℕ → ℕ → ℕ) (t : Placing) (edited : List ℕ)
+pub edited_once : (cost : ℕ → ℕ → ℕ) (T : Placing) (edited : List ℕ)
     → ((p q : ℕ) → cost p q ≡ cost q p)
     → ((p : ℕ) → cost p p ≡ 0) → (exams : List ℕ)
-    → sum_by (edited_beside cost t edited exams) exams ≡ exams_cost cost t edited exams
-edited_once cost t edited either nothing exams =
-    let u : ℕ → ℕ → ℕ = λ e f. cond (has_number edited e) (cost_at cost t edited e f) 0 in
-    sum_by-same _ _ (λ e. cond-sum_by (has_number edited e) (cost_at cost t edited e) exams) exams
+    → sum_by (edited_beside cost T edited exams) exams ≡ exams_cost cost T edited exams
+edited_once cost T edited either nothing exams =
+    let u : ℕ → ℕ → ℕ = λ e f. cond (has_number edited e) (cost_at cost T edited e f) 0 in
+    sum_by-same _ _ (λ e. cond-sum_by (has_number edited e) (cost_at cost T edited e) exams) exams
     ∙ square_by_pairs u
-    (λ e. own_none (has_number edited e) e (cost_between cost (period_of t e) (period_of t e)))
+    (λ e. own_none (has_number edited e) e (cost_between cost (period_of T e) (period_of T e)))
     exams
     ∙ (λ i. sum_pairs (λ e f. each e f i) exams)
   where
     each : (e f : ℕ)
-        → cond (has_number edited e) (cost_at cost t edited e f) 0
-        + cond (has_number edited f) (cost_at cost t edited f e) 0
-        ≡ edited_cost cost t edited e f
+        → cond (has_number edited e) (cost_at cost T edited e f) 0
+        + cond (has_number edited f) (cost_at cost T edited f e) 0
+        ≡ edited_cost cost T edited e f
     each e f =
         either_once (has_number edited e) (has_number edited f) e f
-        (cost_between cost (period_of t e) (period_of t f))
-        (cost_between cost (period_of t f) (period_of t e))
-        (between_swap cost either (period_of t e) (period_of t f))
-        (λ same. ap (λ x. cost_between cost (period_of t e) (period_of t x)) (sym same)
-        ∙ between_none cost nothing (period_of t e))
+        (cost_between cost (period_of T e) (period_of T f))
+        (cost_between cost (period_of T f) (period_of T e))
+        (between_swap cost either (period_of T e) (period_of T f))
+        (λ same. ap (λ x. cost_between cost (period_of T e) (period_of T x)) (sym same)
+        ∙ between_none cost nothing (period_of T e))

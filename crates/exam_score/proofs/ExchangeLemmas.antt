@@ -279,15 +279,15 @@ sums_exchanged f g test same (suc n) =
     one false e = omega (arith, same n e)
 
 -- an untouched place has its exams from before
-untouched : (s : Session) (edited : List ℕ) (old new : Placing) (p r : ℕ)
+untouched : (I : Session) (edited : List ℕ) (old new : Placing) (p r : ℕ)
     → DiffersAtMost edited old new → is_touched edited old new p r ≡ false
-    → durations s new p r ≡ durations s old p r
-untouched s edited old new p r same none =
+    → durations I new p r ≡ durations I old p r
+untouched I edited old new p r same none =
     sum_below-same _ _ (λ m. ap (λ n. cond (nat_lt 0 n) 1 0)
     (sum_below-same _ _
-    (λ e. ap (λ b. cond (b && eqb (minutes_of (slice_get s.exams e)) m) 1 0)
+    (λ e. ap (λ b. cond (b && eqb (minutes_of (slice_get I.exams e)) m) 1 0)
     (stays e (has_number edited e) refl))
-    (length s.exams)))
+    (length I.exams)))
     duration_count
   where
     stays : (e : ℕ) (b : Bool) → has_number edited e ≡ b
@@ -300,102 +300,102 @@ untouched s edited old new p r same none =
         neither.1 ∙ sym neither.0
     stays e false among = ap (is_at p r) (same e among)
 
-mixed_exchanged : (s : Session) (edited : List ℕ) (old new : Placing) → DiffersAtMost edited old new
-    → mixed_part s new + mixed_where s old (is_touched edited old new)
-    ≡ mixed_part s old + mixed_where s new (is_touched edited old new)
-mixed_exchanged s edited old new same =
-    sym (sum_below-add (room_mixed s new) (room_mixed_where s old (is_touched edited old new))
-    (length s.rooms))
+mixed_exchanged : (I : Session) (edited : List ℕ) (old new : Placing) → DiffersAtMost edited old new
+    → mixed_part I new + mixed_where I old (is_touched edited old new)
+    ≡ mixed_part I old + mixed_where I new (is_touched edited old new)
+mixed_exchanged I edited old new same =
+    sym (sum_below-add (room_mixed I new) (room_mixed_where I old (is_touched edited old new))
+    (length I.rooms))
     ∙ sum_below-same _ _
-    (λ r. sums_exchanged (λ p. (durations s old p r - 1) * s.weights.mixed)
-    (λ p. (durations s new p r - 1) * s.weights.mixed) (λ p. is_touched edited old new p r)
-    (λ p none. ap (λ n. (n - 1) * s.weights.mixed) (untouched s edited old new p r same none))
-    (length s.periods))
-    (length s.rooms)
-    ∙ sum_below-add (room_mixed s old) (room_mixed_where s new (is_touched edited old new))
-    (length s.rooms)
+    (λ r. sums_exchanged (λ p. (durations I old p r - 1) * I.weights.mixed)
+    (λ p. (durations I new p r - 1) * I.weights.mixed) (λ p. is_touched edited old new p r)
+    (λ p none. ap (λ n. (n - 1) * I.weights.mixed) (untouched I edited old new p r same none))
+    (length I.periods))
+    (length I.rooms)
+    ∙ sum_below-add (room_mixed I old) (room_mixed_where I new (is_touched edited old new))
+    (length I.rooms)
 
-front_among : (s : Session) (E : Enrolled) (t : Placing) (edited sizes : List ℕ) → AreSizes E sizes
-    → length E ≡ length s.exams
-    → sum_among s edited (λ e. front_by s sizes (place_of t e) e)
-    ≡ sum_among s edited (exam_front s E t)
-front_among s E t edited sizes are exams =
-    sum_below-within _ _ (length s.exams)
+front_among : (I : Session) (E : Enrolled) (T : Placing) (edited sizes : List ℕ) → AreSizes E sizes
+    → length E ≡ length I.exams
+    → sum_among I edited (λ e. front_by I sizes (place_of T e) e)
+    ≡ sum_among I edited (exam_front I E T)
+front_among I E T edited sizes are exams =
+    sum_below-within _ _ (length I.exams)
     (λ e lt. ap (λ n. cond (has_number edited e) n 0)
-    (front_by_sizes s E t sizes e are exams (omega arith)))
+    (front_by_sizes I E T sizes e are exams (omega arith)))
 
-front_exchanged : (s : Session) (E : Enrolled) (old new : Placing) (edited sizes : List ℕ)
-    → AreSizes E sizes → length E ≡ length s.exams → DiffersAtMost edited old new
-    → front_part s E new + sum_among s edited (λ e. front_by s sizes (place_of old e) e)
-    ≡ front_part s E old + sum_among s edited (λ e. front_by s sizes (place_of new e) e)
-front_exchanged s E old new edited sizes are exams same =
-    ap (λ n. front_part s E new + n) (front_among s E old edited sizes are exams)
-    ∙ sums_exchanged (exam_front s E old) (exam_front s E new) (has_number edited)
-    (λ e none. ap (λ o. cond (is_largest s E e && is_late s o) s.weights.front 0) (same e none))
-    (length s.exams)
-    ∙ ap (λ n. front_part s E old + n) (sym (front_among s E new edited sizes are exams))
+front_exchanged : (I : Session) (E : Enrolled) (old new : Placing) (edited sizes : List ℕ)
+    → AreSizes E sizes → length E ≡ length I.exams → DiffersAtMost edited old new
+    → front_part I E new + sum_among I edited (λ e. front_by I sizes (place_of old e) e)
+    ≡ front_part I E old + sum_among I edited (λ e. front_by I sizes (place_of new e) e)
+front_exchanged I E old new edited sizes are exams same =
+    ap (λ n. front_part I E new + n) (front_among I E old edited sizes are exams)
+    ∙ sums_exchanged (exam_front I E old) (exam_front I E new) (has_number edited)
+    (λ e none. ap (λ o. cond (is_largest I E e && is_late I o) I.weights.front 0) (same e none))
+    (length I.exams)
+    ∙ ap (λ n. front_part I E old + n) (sym (front_among I E new edited sizes are exams))
 
 -- ---- the whole
 
 -- what the fold's sums and its open student make
-sums_of_all : (s : Session) (t : Placing) (edited : List ℕ) (sum : PersonalPenalty)
+sums_of_all : (I : Session) (T : Placing) (edited : List ℕ) (sum : PersonalPenalty)
     (closed current pairs : List Pair)
-    → sum ≡ personal_sum s t edited closed → pairs ≡ closed ++ current
+    → sum ≡ personal_sum I T edited closed → pairs ≡ closed ++ current
     → AllByRecursion (λ p. AllByRecursion (λ q. p.student < q.student) current) closed
-    → plus sum (personal_sum s t edited current) ≡ personal_sum s t edited pairs
-sums_of_all s t edited sum closed current pairs is parts others =
-    ap (λ p. plus p (personal_sum s t edited current)) is
-    ∙ sym (sum_apart s t edited closed current others)
-    ∙ ap (personal_sum s t edited) (sym parts)
+    → plus sum (personal_sum I T edited current) ≡ personal_sum I T edited pairs
+sums_of_all I T edited sum closed current pairs is parts others =
+    ap (λ p. plus p (personal_sum I T edited current)) is
+    ∙ sym (sum_apart I T edited closed current others)
+    ∙ ap (personal_sum I T edited) (sym parts)
 
 pub track_exchanged : (fold : Folded) (E : Enrolled) (pairs : List Pair)
     (sizes : List ℕ) (old : Penalty)
     → StandsFor fold pairs → IsOfEdit fold E pairs sizes old
     → IsExchanged old (going fold sizes) (coming fold sizes) (track fold.instance E fold.later)
 track_exchanged fold E pairs sizes old h is =
-    let s = fold.instance in
+    let I = fold.instance in
     let others = others_each h.closed fold.current h.others in
     let before =
-    sums_of_all s fold.earlier fold.edited fold.before h.closed fold.current pairs h.before
+    sums_of_all I fold.earlier fold.edited fold.before h.closed fold.current pairs h.before
     h.parts others in
-    let after = sums_of_all s fold.later fold.edited fold.after h.closed fold.current pairs h.after
+    let after = sums_of_all I fold.later fold.edited fold.after h.closed fold.current pairs h.after
     h.parts others in
-    let row = part_exchanged (row_cost s.periods s.weights) E fold.earlier fold.later fold.edited
-    pairs (row_cost-swap s.periods s.weights)
-    (row_cost-none s.periods s.weights) is.enrolments is.concerned is.others in
-    let day = part_exchanged (day_cost s.periods s.weights) E fold.earlier fold.later fold.edited
-    pairs (day_cost-swap s.periods s.weights)
-    (day_cost-none s.periods s.weights) is.enrolments is.concerned is.others in
+    let row = part_exchanged (row_cost I.periods I.weights) E fold.earlier fold.later fold.edited
+    pairs (row_cost-swap I.periods I.weights)
+    (row_cost-none I.periods I.weights) is.enrolments is.concerned is.others in
+    let day = part_exchanged (day_cost I.periods I.weights) E fold.earlier fold.later fold.edited
+    pairs (day_cost-swap I.periods I.weights)
+    (day_cost-none I.periods I.weights) is.enrolments is.concerned is.others in
     let spread =
-    part_exchanged (spread_cost s.periods s.weights) E fold.earlier fold.later fold.edited pairs
-    (spread_cost-swap s.periods s.weights)
-    (spread_cost-none s.periods s.weights) is.enrolments is.concerned is.others in
+    part_exchanged (spread_cost I.periods I.weights) E fold.earlier fold.later fold.edited pairs
+    (spread_cost-swap I.periods I.weights)
+    (spread_cost-none I.periods I.weights) is.enrolments is.concerned is.others in
     record {
-      row = ap (λ p. pair_part (row_cost s.periods s.weights) E (period_of fold.later) + p.row)
+      row = ap (λ p. pair_part (row_cost I.periods I.weights) E (period_of fold.later) + p.row)
           before
           ∙ row
           ∙ ap₂ (λ a b. a + b) (ap (λ p. p.row) (sym is.scored)) (ap (λ p. p.row) (sym after));
-      day = ap (λ p. pair_part (day_cost s.periods s.weights) E (period_of fold.later) + p.day)
+      day = ap (λ p. pair_part (day_cost I.periods I.weights) E (period_of fold.later) + p.day)
           before
           ∙ day
           ∙ ap₂ (λ a b. a + b) (ap (λ p. p.day) (sym is.scored)) (ap (λ p. p.day) (sym after));
-      spread = ap (λ p. pair_part (spread_cost s.periods s.weights) E
+      spread = ap (λ p. pair_part (spread_cost I.periods I.weights) E
           (period_of fold.later) + p.spread)
           before
           ∙ spread ∙ ap₂ (λ a b. a + b) (ap (λ p. p.spread) (sym is.scored))
           (ap (λ p. p.spread) (sym after));
-      mixed = mixed_exchanged s fold.edited fold.earlier fold.later is.others
+      mixed = mixed_exchanged I fold.edited fold.earlier fold.later is.others
           ∙ ap (λ p. p.mixed + (coming fold sizes).mixed) (sym is.scored);
-      front = front_exchanged s E fold.earlier fold.later fold.edited sizes is.sized
+      front = front_exchanged I E fold.earlier fold.later fold.edited sizes is.sized
           is.fits.enrolments is.others
           ∙ ap (λ p. p.front + (coming fold sizes).front) (sym is.scored);
-      period = sums_exchanged (λ e. exam_period s (place_of fold.earlier e))
-          (λ e. exam_period s (place_of fold.later e)) (has_number fold.edited)
-          (λ e none. ap (exam_period s) (is.others e none)) (length s.exams)
+      period = sums_exchanged (λ e. exam_period I (place_of fold.earlier e))
+          (λ e. exam_period I (place_of fold.later e)) (has_number fold.edited)
+          (λ e none. ap (exam_period I) (is.others e none)) (length I.exams)
           ∙ ap (λ p. p.period + (coming fold sizes).period) (sym is.scored);
-      room = sums_exchanged (λ e. exam_room s (place_of fold.earlier e))
-          (λ e. exam_room s (place_of fold.later e)) (has_number fold.edited)
-          (λ e none. ap (exam_room s) (is.others e none)) (length s.exams)
+      room = sums_exchanged (λ e. exam_room I (place_of fold.earlier e))
+          (λ e. exam_room I (place_of fold.later e)) (has_number fold.edited)
+          (λ e none. ap (exam_room I) (is.others e none)) (length I.exams)
           ∙ ap (λ p. p.room + (coming fold sizes).room) (sym is.scored);
     }
 

@@ -64,20 +64,20 @@ apart_cost w (p ∷ ps) qs h =
     (ne_eqb q.student p.student (λ e. omega (arith, l, e)))) qs h.0) in
     omega arith
 
-cost_apart : (cost : ℕ → ℕ → ℕ) (t : Placing) (edited : List ℕ) (ps qs : List Pair)
+cost_apart : (cost : ℕ → ℕ → ℕ) (T : Placing) (edited : List ℕ) (ps qs : List Pair)
     → AllByRecursion (λ p. AllByRecursion (λ q. p.student < q.student) qs) ps
-    → students_cost cost t edited (ps ++ qs)
-    ≡ students_cost cost t edited ps + students_cost cost t edited qs
-cost_apart cost t edited ps qs h = apart_cost (edited_cost cost t edited) ps qs h
+    → students_cost cost T edited (ps ++ qs)
+    ≡ students_cost cost T edited ps + students_cost cost T edited qs
+cost_apart cost T edited ps qs h = apart_cost (edited_cost cost T edited) ps qs h
 
-pub sum_apart : (s : Session) (t : Placing) (edited : List ℕ) (ps qs : List Pair)
+pub sum_apart : (I : Session) (T : Placing) (edited : List ℕ) (ps qs : List Pair)
     → AllByRecursion (λ p. AllByRecursion (λ q. p.student < q.student) qs) ps
-    → personal_sum s t edited (ps ++ qs)
-    ≡ plus (personal_sum s t edited ps) (personal_sum s t edited qs)
-sum_apart s t edited ps qs h = λ i. record {
-  row = cost_apart (row_cost s.periods s.weights) t edited ps qs h i;
-  day = cost_apart (day_cost s.periods s.weights) t edited ps qs h i;
-  spread = cost_apart (spread_cost s.periods s.weights) t edited ps qs h i;
+    → personal_sum I T edited (ps ++ qs)
+    ≡ plus (personal_sum I T edited ps) (personal_sum I T edited qs)
+sum_apart I T edited ps qs h = λ i. record {
+  row = cost_apart (row_cost I.periods I.weights) T edited ps qs h i;
+  day = cost_apart (day_cost I.periods I.weights) T edited ps qs h i;
+  spread = cost_apart (spread_cost I.periods I.weights) T edited ps qs h i;
 }
 
 -- the pairs of one student
@@ -96,20 +96,20 @@ own_cost : (w : ℕ → ℕ → ℕ) (s : ℕ) (es : List ℕ)
 own_cost w s [] = refl
 own_cost w s (e ∷ es) = ap₂ (λ m n. m + n) (own_beside w s e es) (own_cost w s es)
 
-cost_of_student : (cost : ℕ → ℕ → ℕ) (t : Placing) (edited : List ℕ) (student : Option ℕ)
+cost_of_student : (cost : ℕ → ℕ → ℕ) (T : Placing) (edited : List ℕ) (student : Option ℕ)
     (es : List ℕ) → (student ≡ None → es ≡ [])
-    → exams_cost cost t edited es ≡ students_cost cost t edited (pairs_sat student es)
-cost_of_student cost t edited None es none = ap (exams_cost cost t edited) (none refl)
-cost_of_student cost t edited (Some s) es none = sym (own_cost (edited_cost cost t edited) s es)
+    → exams_cost cost T edited es ≡ students_cost cost T edited (pairs_sat student es)
+cost_of_student cost T edited None es none = ap (exams_cost cost T edited) (none refl)
+cost_of_student cost T edited (Some s) es none = sym (own_cost (edited_cost cost T edited) s es)
 
 -- what the open student pays
-pub sum_of_student : (s : Session) (t : Placing) (edited : List ℕ) (student : Option ℕ)
+pub sum_of_student : (I : Session) (T : Placing) (edited : List ℕ) (student : Option ℕ)
     (es : List ℕ) → (student ≡ None → es ≡ [])
-    → personal_at s t edited es ≡ personal_sum s t edited (pairs_sat student es)
-sum_of_student s t edited student es none = λ i. record {
-  row = cost_of_student (row_cost s.periods s.weights) t edited student es none i;
-  day = cost_of_student (day_cost s.periods s.weights) t edited student es none i;
-  spread = cost_of_student (spread_cost s.periods s.weights) t edited student es none i;
+    → personal_at I T edited es ≡ personal_sum I T edited (pairs_sat student es)
+sum_of_student I T edited student es none = λ i. record {
+  row = cost_of_student (row_cost I.periods I.weights) T edited student es none i;
+  day = cost_of_student (day_cost I.periods I.weights) T edited student es none i;
+  spread = cost_of_student (spread_cost I.periods I.weights) T edited student es none i;
 }
 
 -- ---- the student of a pair

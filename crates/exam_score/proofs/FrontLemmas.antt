@@ -67,20 +67,20 @@ larger_count sizes e h =
     omega arith
 
 -- by the sizes or by the enrolments
-pub front_by_sizes : (s : Session) (E : Enrolled) (t : Placing) (sizes : List ℕ) (e : ℕ)
-    → AreSizes E sizes → length E ≡ length s.exams → e < length E
-    → front_by s sizes (place_of t e) e ≡ exam_front s E t e
-front_by_sizes s E t sizes e are exams within =
-    let long : length sizes ≡ length s.exams = omega (arith, are.count) in
+pub front_by_sizes : (I : Session) (E : Enrolled) (T : Placing) (sizes : List ℕ) (e : ℕ)
+    → AreSizes E sizes → length E ≡ length I.exams → e < length E
+    → front_by I sizes (place_of T e) e ≡ exam_front I E T e
+front_by_sizes I E T sizes e are exams within =
+    let long : length sizes ≡ length I.exams = omega (arith, are.count) in
     let same : (f : ℕ) → f < length sizes → is_larger_by sizes f e ≡ is_larger E f e
     = λ f l. ap₂ (λ a b. nat_lt a b || ((b == a) && nat_lt f e))
     (are.each e (omega (arith, are.count))) (are.each f l) in
     let count : count_below (length sizes) (λ f. is_larger_by sizes f e)
-    ≡ count_below (length s.exams) (λ f. is_larger E f e)
+    ≡ count_below (length I.exams) (λ f. is_larger E f e)
     = sum_below-within (λ f. cond (is_larger_by sizes f e) 1 0) (λ f. cond (is_larger E f e) 1 0)
     (length sizes) (λ f l. ap (λ b. cond b 1 0) (same f l))
     ∙ ap (λ n. count_below n (λ f. is_larger E f e)) long in
-    ap (λ n. if nat_lt n s.weights.front_exams && is_late s (place_of t e) then s.weights.front
+    ap (λ n. if nat_lt n I.weights.front_exams && is_late I (place_of T e) then I.weights.front
     else 0)
     count
 

@@ -10,7 +10,7 @@ use Rattle.exam_score.specs.MixedDurations.{durations, is_at}
 
 -- what a period and room make of the mixed part
 abbrev mixed : Session → Placing → ℕ → ℕ → ℕ
-mixed s t p r = (durations s t p r - 1) * s.weights.mixed
+mixed I T p r = (durations I T p r - 1) * I.weights.mixed
 
 -- whether a period and room pass, or an exam's place is there
 abbrev or_at : (ℕ → ℕ → Bool) → Option Place → ℕ → ℕ → Bool
@@ -18,16 +18,16 @@ or_at f o p r = f p r || is_at p r o
 
 -- ---- sums over rooms and periods
 
-mixed_same : (s : Session) (t : Placing) (f g : ℕ → ℕ → Bool) → ((p r : ℕ) → f p r ≡ g p r)
-    → mixed_where s t f ≡ mixed_where s t g
-mixed_same s t f g same =
-    sum_below-same _ _ (λ r. sum_below-same _ _ (λ p. ap (λ b. cond b (mixed s t p r) 0) (same p r))
-    (length s.periods)) (length s.rooms)
+mixed_same : (I : Session) (T : Placing) (f g : ℕ → ℕ → Bool) → ((p r : ℕ) → f p r ≡ g p r)
+    → mixed_where I T f ≡ mixed_where I T g
+mixed_same I T f g same =
+    sum_below-same _ _ (λ r. sum_below-same _ _ (λ p. ap (λ b. cond b (mixed I T p r) 0) (same p r))
+    (length I.periods)) (length I.rooms)
 
-pub mixed_none : (s : Session) (t : Placing) → mixed_where s t (λ p r. false) ≡ 0
-mixed_none s t =
-    sum_below-same _ _ (λ r. sum_below-zeros (length s.periods)) (length s.rooms)
-    ∙ sum_below-zeros (length s.rooms)
+pub mixed_none : (I : Session) (T : Placing) → mixed_where I T (λ p r. false) ≡ 0
+mixed_none I T =
+    sum_below-same _ _ (λ r. sum_below-zeros (length I.periods)) (length I.rooms)
+    ∙ sum_below-zeros (length I.rooms)
 
 -- a sum of which all terms pass or none
 sum_if : (b : Bool) (g : ℕ → ℕ) (n : ℕ) → sum_below n (λ e. cond b (g e) 0)
@@ -58,52 +58,52 @@ in_order true false passes n = refl
 in_order false has_period passes n = refl
 
 -- it makes what the place makes, if it exists and did not pass
-one_place : (s : Session) (t : Placing) (f : ℕ → ℕ → Bool) (o : Option Place)
-    → mixed_where s t (or_at f o) ≡ mixed_where s t f + further_mixed s t f o
-one_place s t f None =
-    mixed_same s t (or_at f None) f (λ p r. or_false (f p r)) ∙ sym (add-zero (mixed_where s t f))
+one_place : (I : Session) (T : Placing) (f : ℕ → ℕ → Bool) (o : Option Place)
+    → mixed_where I T (or_at f o) ≡ mixed_where I T f + further_mixed I T f o
+one_place I T f None =
+    mixed_same I T (or_at f None) f (λ p r. or_false (f p r)) ∙ sym (add-zero (mixed_where I T f))
   where
     or_false : (b : Bool) → (b || false) ≡ b
     or_false true = refl
     or_false false = refl
-one_place s t f (Some at) =
-    sum_below-same _ _ by_room (length s.rooms)
-    ∙ sum_below-add (room_mixed_where s t f) (λ r. cond (eqb at.room r) (of_period r) 0)
-    (length s.rooms)
-    ∙ ap (λ n. mixed_where s t f + n)
-    (sum_below-at of_period at.room (length s.rooms)
-    ∙ in_order (ltb at.room (length s.rooms)) (ltb at.period (length s.periods))
+one_place I T f (Some at) =
+    sum_below-same _ _ by_room (length I.rooms)
+    ∙ sum_below-add (room_mixed_where I T f) (λ r. cond (eqb at.room r) (of_period r) 0)
+    (length I.rooms)
+    ∙ ap (λ n. mixed_where I T f + n)
+    (sum_below-at of_period at.room (length I.rooms)
+    ∙ in_order (ltb at.room (length I.rooms)) (ltb at.period (length I.periods))
     (f at.period at.room)
-    (mixed s t at.period at.room))
+    (mixed I T at.period at.room))
   where
     term : ℕ → ℕ → ℕ
-    term r p = cond (f p r) 0 (mixed s t p r)
+    term r p = cond (f p r) 0 (mixed I T p r)
 
     of_period : ℕ → ℕ
-    of_period r = cond (ltb at.period (length s.periods)) (term r at.period) 0
+    of_period r = cond (ltb at.period (length I.periods)) (term r at.period) 0
 
-    by_room : (r : ℕ) → room_mixed_where s t (or_at f (Some at)) r
-        ≡ room_mixed_where s t f r + cond (eqb at.room r) (of_period r) 0
+    by_room : (r : ℕ) → room_mixed_where I T (or_at f (Some at)) r
+        ≡ room_mixed_where I T f r + cond (eqb at.room r) (of_period r) 0
     by_room r =
-        sum_below-same _ _ (λ p. one_term (f p r) (eqb at.period p) (eqb at.room r) (mixed s t p r))
-        (length s.periods)
+        sum_below-same _ _ (λ p. one_term (f p r) (eqb at.period p) (eqb at.room r) (mixed I T p r))
+        (length I.periods)
         ∙ sum_below-add _ (λ p. cond (eqb at.room r) (cond (eqb at.period p) (term r p) 0) 0)
-        (length s.periods)
-        ∙ ap (λ n. room_mixed_where s t f r + n)
-        (sum_if (eqb at.room r) (λ p. cond (eqb at.period p) (term r p) 0) (length s.periods)
-        ∙ ap (λ n. cond (eqb at.room r) n 0) (sum_below-at (term r) at.period (length s.periods)))
+        (length I.periods)
+        ∙ ap (λ n. room_mixed_where I T f r + n)
+        (sum_if (eqb at.room r) (λ p. cond (eqb at.period p) (term r p) 0) (length I.periods)
+        ∙ ap (λ n. cond (eqb at.room r) n 0) (sum_below-at (term r) at.period (length I.periods)))
 
 -- beside another place it makes as much, or nothing where it is the same one
-beside : (s : Session) (t : Placing) (f : ℕ → ℕ → Bool) (o : Option Place) (at : Place) (b : Bool)
+beside : (I : Session) (T : Placing) (f : ℕ → ℕ → Bool) (o : Option Place) (at : Place) (b : Bool)
     → b ≡ is_at at.period at.room o
-    → further_mixed s t (or_at f o) (Some at) ≡ cond b 0 (further_mixed s t f (Some at))
-beside s t f o at b is =
-    ap (λ c. cond (exists && not (f at.period at.room || c)) (mixed s t at.period at.room) 0)
+    → further_mixed I T (or_at f o) (Some at) ≡ cond b 0 (further_mixed I T f (Some at))
+beside I T f o at b is =
+    ap (λ c. cond (exists && not (f at.period at.room || c)) (mixed I T at.period at.room) 0)
     (sym is)
-    ∙ by_case exists (f at.period at.room) b (mixed s t at.period at.room)
+    ∙ by_case exists (f at.period at.room) b (mixed I T at.period at.room)
   where
     exists : Bool
-    exists = ltb at.room (length s.rooms) && ltb at.period (length s.periods)
+    exists = ltb at.room (length I.rooms) && ltb at.period (length I.periods)
 
     by_case : (exists passes b : Bool) (n : ℕ)
         → cond (exists && not (passes || b)) n 0 ≡ cond b 0 (cond (exists && not passes) n 0)
@@ -126,46 +126,46 @@ turned false false true = refl
 turned false false false = refl
 
 -- the earlier place and then the later one
-both_places : (s : Session) (t : Placing) (e : ℕ) (edited : List ℕ) (old new : Placing)
-    → mixed_where s t (is_touched edited old new)
-    + (further_mixed s t (is_touched edited old new) (place_of old e)
-    + further_mixed s t (or_at (is_touched edited old new) (place_of old e)) (place_of new e))
-    ≡ mixed_where s t (is_touched (e ∷ edited) old new)
-both_places s t e edited old new =
+both_places : (I : Session) (T : Placing) (e : ℕ) (edited : List ℕ) (old new : Placing)
+    → mixed_where I T (is_touched edited old new)
+    + (further_mixed I T (is_touched edited old new) (place_of old e)
+    + further_mixed I T (or_at (is_touched edited old new) (place_of old e)) (place_of new e))
+    ≡ mixed_where I T (is_touched (e ∷ edited) old new)
+both_places I T e edited old new =
     let f = is_touched edited old new in
-    let first = one_place s t f (place_of old e) in
-    let second = one_place s t (or_at f (place_of old e)) (place_of new e) in
-    let whole = mixed_same s t (or_at (or_at f (place_of old e)) (place_of new e))
+    let first = one_place I T f (place_of old e) in
+    let second = one_place I T (or_at f (place_of old e)) (place_of new e) in
+    let whole = mixed_same I T (or_at (or_at f (place_of old e)) (place_of new e))
     (is_touched (e ∷ edited) old new)
     (λ p r. turned (f p r) (is_at p r (place_of old e)) (is_at p r (place_of new e))) in
     omega arith
 
 -- where there is no later place
-pub earlier_place : (s : Session) (t : Placing) (e : ℕ) (edited : List ℕ) (old new : Placing)
+pub earlier_place : (I : Session) (T : Placing) (e : ℕ) (edited : List ℕ) (old new : Placing)
     → place_of new e ≡ None
-    → mixed_where s t (is_touched edited old new)
-    + further_mixed s t (is_touched edited old new) (place_of old e)
-    ≡ mixed_where s t (is_touched (e ∷ edited) old new)
-earlier_place s t e edited old new none =
+    → mixed_where I T (is_touched edited old new)
+    + further_mixed I T (is_touched edited old new) (place_of old e)
+    ≡ mixed_where I T (is_touched (e ∷ edited) old new)
+earlier_place I T e edited old new none =
     let f = is_touched edited old new in
-    let both = both_places s t e edited old new in
-    let nothing : further_mixed s t (or_at f (place_of old e)) (place_of new e) ≡ 0
-    = ap (further_mixed s t (or_at f (place_of old e))) none in
+    let both = both_places I T e edited old new in
+    let nothing : further_mixed I T (or_at f (place_of old e)) (place_of new e) ≡ 0
+    = ap (further_mixed I T (or_at f (place_of old e))) none in
     omega arith
 
 -- where there is one, which may be the earlier one
-pub later_place : (s : Session) (t : Placing) (e : ℕ) (edited : List ℕ) (old new : Placing)
+pub later_place : (I : Session) (T : Placing) (e : ℕ) (edited : List ℕ) (old new : Placing)
     (at : Place) (b : Bool)
     → place_of new e ≡ Some at → b ≡ is_at at.period at.room (place_of old e)
-    → mixed_where s t (is_touched edited old new)
-    + (further_mixed s t (is_touched edited old new) (place_of old e)
-    + cond b 0 (further_mixed s t (is_touched edited old new) (Some at)))
-    ≡ mixed_where s t (is_touched (e ∷ edited) old new)
-later_place s t e edited old new at b is here =
+    → mixed_where I T (is_touched edited old new)
+    + (further_mixed I T (is_touched edited old new) (place_of old e)
+    + cond b 0 (further_mixed I T (is_touched edited old new) (Some at)))
+    ≡ mixed_where I T (is_touched (e ∷ edited) old new)
+later_place I T e edited old new at b is here =
     let f = is_touched edited old new in
-    let both = both_places s t e edited old new in
-    let later : further_mixed s t (or_at f (place_of old e)) (place_of new e)
-    ≡ cond b 0 (further_mixed s t f (Some at))
-    = ap (further_mixed s t (or_at f (place_of old e))) is
-    ∙ beside s t f (place_of old e) at b here in
+    let both = both_places I T e edited old new in
+    let later : further_mixed I T (or_at f (place_of old e)) (place_of new e)
+    ≡ cond b 0 (further_mixed I T f (Some at))
+    = ap (further_mixed I T (or_at f (place_of old e))) is
+    ∙ beside I T f (place_of old e) at b here in
     omega arith

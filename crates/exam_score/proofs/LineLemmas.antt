@@ -28,19 +28,19 @@ slice_get-kept [] x q lt = absurd (omega arith)
 slice_get-kept (y ∷ ys) x zero lt = refl
 slice_get-kept (y ∷ ys) x (suc q) lt = slice_get-kept ys x q (omega arith)
 
-pub line_more : (s : Session) (p : ℕ) (line : List PairCosts)
-    → ((q : ℕ) → q < length line → slice_get line q ≡ Some (costs_of s p q))
-    → (q : ℕ) → q < length (line ++ costs_of s p (length line) ∷ [])
-    → slice_get (line ++ costs_of s p (length line) ∷ []) q ≡ Some (costs_of s p q)
-line_more s p line each q lt =
+pub line_more : (I : Session) (p : ℕ) (line : List PairCosts)
+    → ((q : ℕ) → q < length line → slice_get line q ≡ Some (costs_of I p q))
+    → (q : ℕ) → q < length (line ++ costs_of I p (length line) ∷ [])
+    → slice_get (line ++ costs_of I p (length line) ∷ []) q ≡ Some (costs_of I p q)
+line_more I p line each q lt =
     elim (cases_lt q (length line))
-    as (λ _. slice_get (line ++ costs_of s p (length line) ∷ []) q ≡ Some (costs_of s p q)) [
-      | inl before ↦ slice_get-kept line (costs_of s p (length line)) q before ∙ each q before
+    as (λ _. slice_get (line ++ costs_of I p (length line) ∷ []) q ≡ Some (costs_of I p q)) [
+      | inl before ↦ slice_get-kept line (costs_of I p (length line)) q before ∙ each q before
       | inr after ↦
           (let last : q
-          ≡ length line = omega (arith, length-append line (costs_of s p (length line) ∷ [])) in
-          slice_get-push line (costs_of s p (length line)) q last
-          ∙ ap (λ n. Some (costs_of s p n)) (sym last))
+          ≡ length line = omega (arith, length-append line (costs_of I p (length line) ∷ [])) in
+          slice_get-push line (costs_of I p (length line)) q last
+          ∙ ap (λ n. Some (costs_of I p n)) (sym last))
     ]
 
 pub table_more : (P : ℕ → Line → Type 0) (lines : List Line) (new : Line) → P (length lines) new
@@ -78,14 +78,14 @@ no_spread periods weights p q h =
     (le-ltb q (length periods) h)
 
 -- a period beyond the line costs nothing
-pub beyond_costs : (s : Session) (p q : ℕ) (line : List PairCosts) → IsLine s p line
-    → slice_get line q ≡ None → costs_of s p q ≡ record { row = 0; day = 0; spread = 0 }
-beyond_costs s p q line is none =
-    λ i. record { row = no_row s.periods s.weights p q past i; day = no_day s.periods s.weights p q past i; spread = no_spread s.periods s.weights p q past i }
+pub beyond_costs : (I : Session) (p q : ℕ) (line : List PairCosts) → IsLine I p line
+    → slice_get line q ≡ None → costs_of I p q ≡ record { row = 0; day = 0; spread = 0 }
+beyond_costs I p q line is none =
+    λ i. record { row = no_row I.periods I.weights p q past i; day = no_day I.periods I.weights p q past i; spread = no_spread I.periods I.weights p q past i }
   where
-    past : length s.periods ≤ q
-    past = elim (cases_lt q (length line)) as (λ _. length s.periods ≤ q) [
-      | inl within ↦ absurd (clash (costs_of s p q) (sym none ∙ is.each q within))
+    past : length I.periods ≤ q
+    past = elim (cases_lt q (length line)) as (λ _. length I.periods ≤ q) [
+      | inl within ↦ absurd (clash (costs_of I p q) (sym none ∙ is.each q within))
       | inr above ↦ omega (arith, is.count)
     ]
       where
@@ -93,15 +93,15 @@ beyond_costs s p q line is none =
         clash x e = cc
 
 -- nor does any period with it
-pub row_beyond : (s : Session) (p q : ℕ) → length s.periods ≤ p
-    → row_cost s.periods s.weights q p ≡ 0
-row_beyond s p q past = row_cost-swap s.periods s.weights q p ∙ no_row s.periods s.weights q p past
+pub row_beyond : (I : Session) (p q : ℕ) → length I.periods ≤ p
+    → row_cost I.periods I.weights q p ≡ 0
+row_beyond I p q past = row_cost-swap I.periods I.weights q p ∙ no_row I.periods I.weights q p past
 
-pub day_beyond : (s : Session) (p q : ℕ) → length s.periods ≤ p
-    → day_cost s.periods s.weights q p ≡ 0
-day_beyond s p q past = day_cost-swap s.periods s.weights q p ∙ no_day s.periods s.weights q p past
+pub day_beyond : (I : Session) (p q : ℕ) → length I.periods ≤ p
+    → day_cost I.periods I.weights q p ≡ 0
+day_beyond I p q past = day_cost-swap I.periods I.weights q p ∙ no_day I.periods I.weights q p past
 
-pub spread_beyond : (s : Session) (p q : ℕ) → length s.periods ≤ p
-    → spread_cost s.periods s.weights q p ≡ 0
-spread_beyond s p q past =
-    spread_cost-swap s.periods s.weights q p ∙ no_spread s.periods s.weights q p past
+pub spread_beyond : (I : Session) (p q : ℕ) → length I.periods ≤ p
+    → spread_cost I.periods I.weights q p ≡ 0
+spread_beyond I p q past =
+    spread_cost-swap I.periods I.weights q p ∙ no_spread I.periods I.weights q p past

@@ -24,30 +24,30 @@ use Rattle.exam_score.proofs.WalkLemmas.{none_or}
 
 -- ---- one exam more
 
-pub counts_more_some : (s : Session) (t : Placing) (e : ℕ) (stays : List Stay)
+pub counts_more_some : (I : Session) (T : Placing) (e : ℕ) (stays : List Stay)
     (at : Place) (x : Exam)
-    → place_of t e ≡ Some at → slice_get s.exams e ≡ Some x
-    → ((p r m : ℕ) → count_by (is_stay p r m) stays ≡ count_below e (lasts s t p r m))
+    → place_of T e ≡ Some at → slice_get I.exams e ≡ Some x
+    → ((p r m : ℕ) → count_by (is_stay p r m) stays ≡ count_below e (lasts I T p r m))
     → (p r m : ℕ)
     → count_by (is_stay p r m)
     (stays ++ record { period = at.period; room = at.room; minutes = x.minutes } ∷ [])
-    ≡ count_below (e + 1) (lasts s t p r m)
-counts_more_some s t e stays at x placed is known p r m =
+    ≡ count_below (e + 1) (lasts I T p r m)
+counts_more_some I T e stays at x placed is known p r m =
     sum_by_push (λ z. cond (is_stay p r m z) 1 0) stays
     (record { period = at.period; room = at.room; minutes = x.minutes })
     ∙ ap₂ (λ a b. a + b) (known p r m)
     (λ i. cond (is_at p r (sym placed i) && (minutes_of (sym is i) == m)) 1 0)
-    ∙ sym (sum_below_more (λ e. cond (lasts s t p r m e) 1 0) e)
+    ∙ sym (sum_below_more (λ e. cond (lasts I T p r m e) 1 0) e)
 
-pub counts_more_none : (s : Session) (t : Placing) (e : ℕ) (stays : List Stay)
-    → place_of t e ≡ None
-    → ((p r m : ℕ) → count_by (is_stay p r m) stays ≡ count_below e (lasts s t p r m))
-    → (p r m : ℕ) → count_by (is_stay p r m) stays ≡ count_below (e + 1) (lasts s t p r m)
-counts_more_none s t e stays unplaced known p r m =
-    known p r m ∙ sym (add-zero (count_below e (lasts s t p r m)))
-    ∙ (λ i. count_below e (lasts s t p r m)
-    + cond (is_at p r (sym unplaced i) && (minutes_of (slice_get s.exams e) == m)) 1 0)
-    ∙ sym (sum_below_more (λ e. cond (lasts s t p r m e) 1 0) e)
+pub counts_more_none : (I : Session) (T : Placing) (e : ℕ) (stays : List Stay)
+    → place_of T e ≡ None
+    → ((p r m : ℕ) → count_by (is_stay p r m) stays ≡ count_below e (lasts I T p r m))
+    → (p r m : ℕ) → count_by (is_stay p r m) stays ≡ count_below (e + 1) (lasts I T p r m)
+counts_more_none I T e stays unplaced known p r m =
+    known p r m ∙ sym (add-zero (count_below e (lasts I T p r m)))
+    ∙ (λ i. count_below e (lasts I T p r m)
+    + cond (is_at p r (sym unplaced i) && (minutes_of (slice_get I.exams e) == m)) 1 0)
+    ∙ sym (sum_below_more (λ e. cond (lasts I T p r m e) 1 0) e)
 
 -- ---- durations by the stays
 
@@ -316,27 +316,27 @@ next_is x (y ∷ ys) after chain short =
 
 -- ---- along the whole list
 
-short : (s : Session) (z : Stay) → StayExists s z → z.minutes < duration_count
+short : (I : Session) (z : Stay) → StayExists I z → z.minutes < duration_count
 unfolding duration_count
-short s z e = let h = e.minutes in omega arith
+short I z e = let h = e.minutes in omega arith
 
-pub further_is : (s : Session) (xs : List Stay) → IsChain NotAfter xs
-    → AllByRecursion (StayExists s) xs
-    → all_but_one xs (length s.periods) (length s.rooms) ≡ further xs
-further_is s [] chain exist =
+pub further_is : (I : Session) (xs : List Stay) → IsChain NotAfter xs
+    → AllByRecursion (StayExists I) xs
+    → all_but_one xs (length I.periods) (length I.rooms) ≡ further xs
+further_is I [] chain exist =
     sum_below-same _ _
     (λ r. sum_below-same _ _ (λ p. ap (λ k. k - 1) (sum_below-zeros duration_count))
-    (length s.periods)
-    ∙ sum_below-zeros (length s.periods))
-    (length s.rooms)
-    ∙ sum_below-zeros (length s.rooms)
-further_is s (x ∷ xs) chain exist =
+    (length I.periods)
+    ∙ sum_below-zeros (length I.periods))
+    (length I.rooms)
+    ∙ sum_below-zeros (length I.rooms)
+further_is I (x ∷ xs) chain exist =
     let here = exist.0 in
-    let more = more_stays x xs (length s.periods) (length s.rooms) here.period here.room
-    (short s x here) in
+    let more = more_stays x xs (length I.periods) (length I.rooms) here.period here.room
+    (short I x here) in
     let next = next_is x xs chain.0 chain.1
-    (each_weaker (StayExists s) (λ z. z.minutes < duration_count) (short s) xs exist.1) in
-    let others = further_is s xs chain.1 exist.1 in
+    (each_weaker (StayExists I) (λ z. z.minutes < duration_count) (short I) xs exist.1) in
+    let others = further_is I xs chain.1 exist.1 in
     omega arith
 
 -- ---- the order of the stays
@@ -379,37 +379,37 @@ in_order xs h i j d l m =
     (omega arith) m)
 
 -- the part of the penalty along stays in order
-pub mixed_is : (s : Session) (t : Placing) (stays sorted : List Stay) → AreStays s t stays
+pub mixed_is : (I : Session) (T : Placing) (stays sorted : List Stay) → AreStays I T stays
     → IsPermutation stays sorted → IsSorted stay_cmp sorted
-    → further sorted * s.weights.mixed ≡ mixed_part s t
-mixed_is s t stays sorted are moved order =
-    let w = s.weights.mixed in
-    let whole = further_is s sorted (chain_from_index NotAfter sorted (in_order sorted order))
-    (recursion_from_All (StayExists s) sorted
-    (All-permutation (StayExists s) stays sorted moved are.exist)) in
-    let counts : (p r m : ℕ) → count_by (is_stay p r m) sorted ≡ lasting s t p r m =
+    → further sorted * I.weights.mixed ≡ mixed_part I T
+mixed_is I T stays sorted are moved order =
+    let w = I.weights.mixed in
+    let whole = further_is I sorted (chain_from_index NotAfter sorted (in_order sorted order))
+    (recursion_from_All (StayExists I) sorted
+    (All-permutation (StayExists I) stays sorted moved are.exist)) in
+    let counts : (p r m : ℕ) → count_by (is_stay p r m) sorted ≡ lasting I T p r m =
     λ p r m. sum_by-IsPermutation (λ z. cond (is_stay p r m z) 1 0) stays sorted moved
     ∙ are.counts p r m in
     ap (λ n. n * w) (sym whole)
-    ∙ sym (sum_below-times (λ r. sum_below (length s.periods) (λ p. stay_durations sorted p r - 1))
-    w (length s.rooms))
+    ∙ sym (sum_below-times (λ r. sum_below (length I.periods) (λ p. stay_durations sorted p r - 1))
+    w (length I.rooms))
     ∙ sum_below-same _ _
-    (λ r. sym (sum_below-times (λ p. stay_durations sorted p r - 1) w (length s.periods))
+    (λ r. sym (sum_below-times (λ p. stay_durations sorted p r - 1) w (length I.periods))
     ∙ sum_below-same _ _
     (λ p i. (count_below duration_count (λ m. nat_lt 0 (counts p r m i)) - 1) * w)
-    (length s.periods))
-    (length s.rooms)
+    (length I.periods))
+    (length I.rooms)
 
 -- what a placed exam's stay has exists
-pub stay_exists : (s : Session) (t : Placing) (e : ℕ) (at : Place) (x : Exam) → IsInstance s
-    → Suits s t → e < length t → place_of t e ≡ Some at → slice_get s.exams e ≡ Some x
-    → StayExists s (record { period = at.period; room = at.room; minutes = x.minutes })
-stay_exists s t e at x known fits within placed is =
-    let there : PlaceExists s (Some at) = rw placed at (fits.places e None within) in
-    let long : (get_or s.exams e x).minutes ≤ 1440 =
+pub stay_exists : (I : Session) (T : Placing) (e : ℕ) (at : Place) (x : Exam) → IsInstance I
+    → Suits I T → e < length T → place_of T e ≡ Some at → slice_get I.exams e ≡ Some x
+    → StayExists I (record { period = at.period; room = at.room; minutes = x.minutes })
+stay_exists I T e at x known fits within placed is =
+    let there : PlaceExists I (Some at) = rw placed at (fits.places e None within) in
+    let long : (get_or I.exams e x).minutes ≤ 1440 =
     known.limits.exams e x (let h = fits.exams in omega arith) in
     record {
       period = there.0;
       room = there.1;
-      minutes = rw (get_or_from_slice_get s.exams e x x is) at long;
+      minutes = rw (get_or_from_slice_get I.exams e x x is) at long;
     }

@@ -26,17 +26,17 @@ use Rattle.exam_score.proofs.WalkLemmas.{cost_with-small, none_or}
 
 -- ---- placed exams
 
-beside_placed : (cost : ℕ → ℕ → ℕ) (t : Placing) (s x : ℕ) (ps : List Pair)
-    → sum_by (λ q. cond (eqb q.student s) (cost_between cost (Some x) (period_of t q.exam)) 0) ps
-    ≡ sum_by (row_pair cost (row_at x s)) (filter_map (row_of t) ps)
-beside_placed cost t s x [] = refl
-beside_placed cost t s x (q ∷ ps) =
-    let rows : List Row = filter_map (row_of t) ps in
-    sum_by-cons (λ q. cond (eqb q.student s) (cost_between cost (Some x) (period_of t q.exam)) 0) q
+beside_placed : (cost : ℕ → ℕ → ℕ) (T : Placing) (s x : ℕ) (ps : List Pair)
+    → sum_by (λ q. cond (eqb q.student s) (cost_between cost (Some x) (period_of T q.exam)) 0) ps
+    ≡ sum_by (row_pair cost (row_at x s)) (filter_map (row_of T) ps)
+beside_placed cost T s x [] = refl
+beside_placed cost T s x (q ∷ ps) =
+    let rows : List Row = filter_map (row_of T) ps in
+    sum_by-cons (λ q. cond (eqb q.student s) (cost_between cost (Some x) (period_of T q.exam)) 0) q
     ps
-    ∙ ap (λ n. cond (eqb q.student s) (cost_between cost (Some x) (period_of t q.exam)) 0 + n)
-    (beside_placed cost t s x ps)
-    ∙ (elim (period_of t q.exam)
+    ∙ ap (λ n. cond (eqb q.student s) (cost_between cost (Some x) (period_of T q.exam)) 0 + n)
+    (beside_placed cost T s x ps)
+    ∙ (elim (period_of T q.exam)
     as (λ o. cond (eqb q.student s) (cost_between cost (Some x) o) 0
     + sum_by (row_pair cost (row_at x s)) rows
     ≡ sum_by (row_pair cost (row_at x s))
@@ -46,24 +46,24 @@ beside_placed cost t s x (q ∷ ps) =
       | Some y ↦ sym (sum_by-cons (row_pair cost (row_at x s)) (row_at y q.student) rows)
     ])
 
-pub by_placed : (cost : ℕ → ℕ → ℕ) (t : Placing) (ps : List Pair)
-    → sum_pairs (later_cost (λ e f. cost_between cost (period_of t e) (period_of t f))) ps
-    ≡ cost_with cost (filter_map (row_of t) ps)
-by_placed cost t [] = refl
-by_placed cost t (p ∷ ps) =
-    let rows : List Row = filter_map (row_of t) ps in
-    ap (λ n. sum_by (later_cost (λ e f. cost_between cost (period_of t e) (period_of t f)) p) ps
+pub by_placed : (cost : ℕ → ℕ → ℕ) (T : Placing) (ps : List Pair)
+    → sum_pairs (later_cost (λ e f. cost_between cost (period_of T e) (period_of T f))) ps
+    ≡ cost_with cost (filter_map (row_of T) ps)
+by_placed cost T [] = refl
+by_placed cost T (p ∷ ps) =
+    let rows : List Row = filter_map (row_of T) ps in
+    ap (λ n. sum_by (later_cost (λ e f. cost_between cost (period_of T e) (period_of T f)) p) ps
     + n)
-    (by_placed cost t ps)
-    ∙ (elim (period_of t p.exam)
+    (by_placed cost T ps)
+    ∙ (elim (period_of T p.exam)
     as (λ o. sum_by
-    (λ q. cond (eqb q.student p.student) (cost_between cost o (period_of t q.exam)) 0) ps
+    (λ q. cond (eqb q.student p.student) (cost_between cost o (period_of T q.exam)) 0) ps
     + cost_with cost rows
     ≡ cost_with cost (cons_option (option_map (λ period. row_at period p.student) o) rows)) [
       | None ↦ ap (λ n. n + cost_with cost rows)
           (sum_by-same _ _ (λ q. none_or (eqb q.student p.student)) ps ∙ sum_by-zeros ps)
           ∙ zero-add _
-      | Some x ↦ ap (λ n. n + cost_with cost rows) (beside_placed cost t p.student x ps)
+      | Some x ↦ ap (λ n. n + cost_with cost rows) (beside_placed cost T p.student x ps)
     ])
 
 -- ---- rows
@@ -81,10 +81,10 @@ row_pair-turned cost either x y =
     ap₂ (λ b n. cond b n 0) (eqb-swap y.student x.student) (either x.period y.period)
 
 -- the part of the penalty is the cost over the rows
-pub part_of_rows : (cost : ℕ → ℕ → ℕ) (E : Enrolled) (t : Placing) → AreEnrolments E
-    → cost_with cost (filter_map (row_of t) (pairs_of E)) ≡ pair_part cost E (period_of t)
-part_of_rows cost E t known = sym (by_placed cost t (pairs_of E))
-    ∙ sym (part_by_rows cost E (period_of t) (are_pairs E known))
+pub part_of_rows : (cost : ℕ → ℕ → ℕ) (E : Enrolled) (T : Placing) → AreEnrolments E
+    → cost_with cost (filter_map (row_of T) (pairs_of E)) ≡ pair_part cost E (period_of T)
+part_of_rows cost E T known = sym (by_placed cost T (pairs_of E))
+    ∙ sym (part_by_rows cost E (period_of T) (are_pairs E known))
 
 -- ---- by tallies
 
@@ -131,16 +131,16 @@ tallied_cost cost rows tallies either nothing counted =
         tallies
 
 -- the tallies of a timetable's sittings count the rows of its pairs
-pub tallied_rows : (E : Enrolled) (t : Placing) (sittings : List Sitting) (tallies : List Tally)
-    → length t ≡ length E
+pub tallied_rows : (E : Enrolled) (T : Placing) (sittings : List Sitting) (tallies : List Tally)
+    → length T ≡ length E
     → ((g : ℕ → ℕ → ℕ) → sum_by (λ x. g x.exam x.period) sittings
-    ≡ sum_below (length t) (λ e. if_placed (g e) (period_of t e)))
+    ≡ sum_below (length T) (λ e. if_placed (g e) (period_of T e)))
     → AreCounted E sittings tallies
-    → (f : Row → ℕ) → sum_by f (filter_map (row_of t) (pairs_of E)) ≡ sum_by (tally_sum f) tallies
-tallied_rows E t sittings tallies long all counted f =
-    rows_by_exam f E t
+    → (f : Row → ℕ) → sum_by f (filter_map (row_of T) (pairs_of E)) ≡ sum_by (tally_sum f) tallies
+tallied_rows E T sittings tallies long all counted f =
+    rows_by_exam f E T
     ∙ ap (λ n. sum_below n
-    (λ e. if_placed (λ p. sum_by (λ s. f (row_at p s)) (students E e)) (period_of t e)))
+    (λ e. if_placed (λ p. sum_by (λ s. f (row_at p s)) (students E e)) (period_of T e)))
     (sym long)
     ∙ sym (all (λ e p. sum_by (λ s. f (row_at p s)) (students E e)))
     ∙ counted f
@@ -151,65 +151,65 @@ sum_ones : {X : Type 0} (xs : List X) → sum_by (λ x. 1) xs ≡ length xs
 sum_ones {X} [] = refl
 sum_ones {X} (x ∷ xs) = omega (arith, sum_by-cons (λ (x : X). 1) x xs, sum_ones xs)
 
-few_rows : (E : Enrolled) (t : Placing) → AreEnrolments E
-    → length (filter_map (row_of t) (pairs_of E)) ≤ 200000
-few_rows E t known =
-    let few = rows_few t (pairs_of E) in
+few_rows : (E : Enrolled) (T : Placing) → AreEnrolments E
+    → length (filter_map (row_of T) (pairs_of E)) ≤ 200000
+few_rows E T known =
+    let few = rows_few T (pairs_of E) in
     let is = (are_pairs E known).count in
     let most = known.pairs in
     omega arith
 
 -- no more students sit the sittings than there are pairs
-pub few_seats : (E : Enrolled) (t : Placing) (sittings : List Sitting) → AreEnrolments E
-    → length t ≡ length E
+pub few_seats : (E : Enrolled) (T : Placing) (sittings : List Sitting) → AreEnrolments E
+    → length T ≡ length E
     → ((g : ℕ → ℕ → ℕ) → sum_by (λ x. g x.exam x.period) sittings
-    ≡ sum_below (length t) (λ e. if_placed (g e) (period_of t e)))
+    ≡ sum_below (length T) (λ e. if_placed (g e) (period_of T e)))
     → sum_by (λ x. size_of E x.exam) sittings ≤ 200000
-few_seats E t sittings known long all =
+few_seats E T sittings known long all =
     let sizes : sum_by (λ x. size_of E x.exam) sittings
     ≡ sum_by (λ x. sum_by (λ s. 1) (students E x.exam)) sittings
     = sum_by-same _ _ (λ (x : Sitting). sym (sum_ones (students E x.exam))) sittings in
     let rows : sum_by (λ x. sum_by (λ s. 1) (students E x.exam)) sittings
-    ≡ length (filter_map (row_of t) (pairs_of E))
+    ≡ length (filter_map (row_of T) (pairs_of E))
     = all (λ e p. sum_by (λ s. 1) (students E e))
-    ∙ ap (λ n. sum_below n (λ e. if_placed (λ p. sum_by (λ s. 1) (students E e)) (period_of t e)))
+    ∙ ap (λ n. sum_below n (λ e. if_placed (λ p. sum_by (λ s. 1) (students E e)) (period_of T e)))
     long
-    ∙ sym (rows_by_exam (λ r. 1) E t) ∙ sum_ones (filter_map (row_of t) (pairs_of E)) in
-    let few = few_rows E t known in
+    ∙ sym (rows_by_exam (λ r. 1) E T) ∙ sum_ones (filter_map (row_of T) (pairs_of E)) in
+    let few = few_rows E T known in
     omega arith
 
 -- nor do tallies count more rows
-pub few_tallied : (E : Enrolled) (t : Placing) (tallies : List Tally) → AreEnrolments E
-    → ((f : Row → ℕ) → sum_by f (filter_map (row_of t) (pairs_of E)) ≡ sum_by (tally_sum f) tallies)
+pub few_tallied : (E : Enrolled) (T : Placing) (tallies : List Tally) → AreEnrolments E
+    → ((f : Row → ℕ) → sum_by f (filter_map (row_of T) (pairs_of E)) ≡ sum_by (tally_sum f) tallies)
     → row_count tallies ≤ 200000
-few_tallied E t tallies known counted =
-    let rows = sum_ones (filter_map (row_of t) (pairs_of E)) in
+few_tallied E T tallies known counted =
+    let rows = sum_ones (filter_map (row_of T) (pairs_of E)) in
     let same = counted (λ r. 1) in
-    let few = few_rows E t known in
+    let few = few_rows E T known in
     omega arith
 
 -- ---- both facts on a part
 
-pub part_small : (cost : ℕ → ℕ → ℕ) (E : Enrolled) (t : Placing) → AreEnrolments E
-    → ((p q : ℕ) → cost p q ≤ 100000) → pair_part cost E (period_of t) ≤ 4000000000000000
-part_small cost E t known small =
-    let rows : List Row = filter_map (row_of t) (pairs_of E) in
-    let same = part_of_rows cost E t known in
-    let bound = cost_with-small cost rows small (few_rows E t known) in
+pub part_small : (cost : ℕ → ℕ → ℕ) (E : Enrolled) (T : Placing) → AreEnrolments E
+    → ((p q : ℕ) → cost p q ≤ 100000) → pair_part cost E (period_of T) ≤ 4000000000000000
+part_small cost E T known small =
+    let rows : List Row = filter_map (row_of T) (pairs_of E) in
+    let same = part_of_rows cost E T known in
+    let bound = cost_with-small cost rows small (few_rows E T known) in
     omega arith
 
-pub record IsPart (cost : ℕ → ℕ → ℕ) (E : Enrolled) (t : Placing) (n : ℕ) : Type 0 where
-  pub sum : n ≡ pair_part cost E (period_of t)
+pub record IsPart (cost : ℕ → ℕ → ℕ) (E : Enrolled) (T : Placing) (n : ℕ) : Type 0 where
+  pub sum : n ≡ pair_part cost E (period_of T)
   pub small : n ≤ 4000000000000000
 
-pub is_part : (cost : ℕ → ℕ → ℕ) (E : Enrolled) (t : Placing) (n : ℕ) (tallies : List Tally)
+pub is_part : (cost : ℕ → ℕ → ℕ) (E : Enrolled) (T : Placing) (n : ℕ) (tallies : List Tally)
     → AreEnrolments E
     → ((p q : ℕ) → cost p q ≡ cost q p) → ((p : ℕ) → cost p p ≡ 0) → ((p q : ℕ) → cost p q ≤ 100000)
-    → ((f : Row → ℕ) → sum_by f (filter_map (row_of t) (pairs_of E)) ≡ sum_by (tally_sum f) tallies)
-    → n ≡ tally_cost cost tallies → IsPart cost E t n
-is_part cost E t n tallies known either nothing small counted is =
-    let rows : List Row = filter_map (row_of t) (pairs_of E) in
+    → ((f : Row → ℕ) → sum_by f (filter_map (row_of T) (pairs_of E)) ≡ sum_by (tally_sum f) tallies)
+    → n ≡ tally_cost cost tallies → IsPart cost E T n
+is_part cost E T n tallies known either nothing small counted is =
+    let rows : List Row = filter_map (row_of T) (pairs_of E) in
     let total : n ≡ cost_with cost rows =
     is ∙ tallied_cost cost rows tallies either nothing counted in
-    let bound = cost_with-small cost rows small (few_rows E t known) in
-    record { sum = total ∙ part_of_rows cost E t known; small = omega arith }
+    let bound = cost_with-small cost rows small (few_rows E T known) in
+    record { sum = total ∙ part_of_rows cost E T known; small = omega arith }

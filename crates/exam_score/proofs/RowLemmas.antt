@@ -25,50 +25,50 @@ pairs_more E e lt =
     ∙ ap (λ n. pairs_of (take e E) ++ pairs_at n (students E e))
     (let l = length-take e E in omega arith)
 
-rows_at_some : (t : Placing) (e p : ℕ) → period_of t e ≡ Some p → (xs : List ℕ)
-    → filter_map (row_of t) (pairs_at e xs) ≡ map (row_at p) xs
-rows_at_some t e p is [] = refl
-rows_at_some t e p is (x ∷ xs) =
+rows_at_some : (T : Placing) (e p : ℕ) → period_of T e ≡ Some p → (xs : List ℕ)
+    → filter_map (row_of T) (pairs_at e xs) ≡ map (row_at p) xs
+rows_at_some T e p is [] = refl
+rows_at_some T e p is (x ∷ xs) =
     ap (λ o. cons_option (option_map (λ period. row_at period x) o)
-    (filter_map (row_of t) (pairs_at e xs)))
+    (filter_map (row_of T) (pairs_at e xs)))
     is
-    ∙ ap (λ rows. row_at p x ∷ rows) (rows_at_some t e p is xs)
+    ∙ ap (λ rows. row_at p x ∷ rows) (rows_at_some T e p is xs)
 
-rows_at_none : (t : Placing) (e : ℕ) → period_of t e ≡ None → (xs : List ℕ)
-    → filter_map (row_of t) (pairs_at e xs) ≡ []
-rows_at_none t e is [] = refl
-rows_at_none t e is (x ∷ xs) =
+rows_at_none : (T : Placing) (e : ℕ) → period_of T e ≡ None → (xs : List ℕ)
+    → filter_map (row_of T) (pairs_at e xs) ≡ []
+rows_at_none T e is [] = refl
+rows_at_none T e is (x ∷ xs) =
     ap (λ o. cons_option (option_map (λ period. row_at period x) o)
-    (filter_map (row_of t) (pairs_at e xs)))
+    (filter_map (row_of T) (pairs_at e xs)))
     is
-    ∙ rows_at_none t e is xs
+    ∙ rows_at_none T e is xs
 
 -- the rows of a placed exam come behind those before it
-pub rows_more_some : (E : Enrolled) (t : Placing) (e p : ℕ) → e < length E → period_of t e ≡ Some p
-    → filter_map (row_of t) (pairs_of (take (e + 1) E))
-    ≡ filter_map (row_of t) (pairs_of (take e E)) ++ map (row_at p) (students E e)
-rows_more_some E t e p lt is =
-    ap (filter_map (row_of t)) (pairs_more E e lt)
-    ∙ filter_map-append (row_of t) (pairs_of (take e E)) (pairs_at e (students E e))
-    ∙ ap (λ rows. filter_map (row_of t) (pairs_of (take e E)) ++ rows)
-    (rows_at_some t e p is (students E e))
+pub rows_more_some : (E : Enrolled) (T : Placing) (e p : ℕ) → e < length E → period_of T e ≡ Some p
+    → filter_map (row_of T) (pairs_of (take (e + 1) E))
+    ≡ filter_map (row_of T) (pairs_of (take e E)) ++ map (row_at p) (students E e)
+rows_more_some E T e p lt is =
+    ap (filter_map (row_of T)) (pairs_more E e lt)
+    ∙ filter_map-append (row_of T) (pairs_of (take e E)) (pairs_at e (students E e))
+    ∙ ap (λ rows. filter_map (row_of T) (pairs_of (take e E)) ++ rows)
+    (rows_at_some T e p is (students E e))
 
 -- an exam that is not placed has none
-pub rows_more_none : (E : Enrolled) (t : Placing) (e : ℕ) → e < length E → period_of t e ≡ None
-    → filter_map (row_of t) (pairs_of (take (e + 1) E))
-    ≡ filter_map (row_of t) (pairs_of (take e E))
-rows_more_none E t e lt is =
-    ap (filter_map (row_of t)) (pairs_more E e lt)
-    ∙ filter_map-append (row_of t) (pairs_of (take e E)) (pairs_at e (students E e))
-    ∙ ap (λ rows. filter_map (row_of t) (pairs_of (take e E)) ++ rows)
-    (rows_at_none t e is (students E e))
-    ∙ append-nil (filter_map (row_of t) (pairs_of (take e E)))
+pub rows_more_none : (E : Enrolled) (T : Placing) (e : ℕ) → e < length E → period_of T e ≡ None
+    → filter_map (row_of T) (pairs_of (take (e + 1) E))
+    ≡ filter_map (row_of T) (pairs_of (take e E))
+rows_more_none E T e lt is =
+    ap (filter_map (row_of T)) (pairs_more E e lt)
+    ∙ filter_map-append (row_of T) (pairs_of (take e E)) (pairs_at e (students E e))
+    ∙ ap (λ rows. filter_map (row_of T) (pairs_of (take e E)) ++ rows)
+    (rows_at_none T e is (students E e))
+    ∙ append-nil (filter_map (row_of T) (pairs_of (take e E)))
 
 -- no more rows than pairs
-pub rows_few : (t : Placing) (pairs : List Pair)
-    → length (filter_map (row_of t) pairs) ≤ length pairs
-rows_few t [] = omega arith
-rows_few t (p ∷ ps) =
-    let h = rows_few t ps in
-    elim (row_of t p) as (λ o. length (cons_option o (filter_map (row_of t) ps)) ≤ length (p ∷ ps))
+pub rows_few : (T : Placing) (pairs : List Pair)
+    → length (filter_map (row_of T) pairs) ≤ length pairs
+rows_few T [] = omega arith
+rows_few T (p ∷ ps) =
+    let h = rows_few T ps in
+    elim (row_of T p) as (λ o. length (cons_option o (filter_map (row_of T) ps)) ≤ length (p ∷ ps))
     [ None ↦ omega arith | Some r ↦ omega arith ]

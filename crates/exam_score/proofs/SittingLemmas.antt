@@ -20,25 +20,25 @@ use Rattle.exam_score.proofs.RowLemmas.{rows_more_some, rows_more_none}
 
 -- ---- one exam more
 
-pub sittings_more_some : (g : ℕ → ℕ → ℕ) (t : Placing) (e p : ℕ) (xs : List Sitting)
-    → period_of t e ≡ Some p
-    → sum_by (λ x. g x.exam x.period) xs ≡ sum_below e (λ e. if_placed (g e) (period_of t e))
+pub sittings_more_some : (g : ℕ → ℕ → ℕ) (T : Placing) (e p : ℕ) (xs : List Sitting)
+    → period_of T e ≡ Some p
+    → sum_by (λ x. g x.exam x.period) xs ≡ sum_below e (λ e. if_placed (g e) (period_of T e))
     → sum_by (λ x. g x.exam x.period) (xs ++ record { period = p; exam = e } ∷ [])
-    ≡ sum_below (e + 1) (λ e. if_placed (g e) (period_of t e))
-sittings_more_some g t e p xs is known =
+    ≡ sum_below (e + 1) (λ e. if_placed (g e) (period_of T e))
+sittings_more_some g T e p xs is known =
     sum_by_push (λ x. g x.exam x.period) xs (record { period = p; exam = e })
     ∙ ap₂ (λ a b. a + b) known (ap (if_placed (g e)) (sym is))
-    ∙ sym (sum_below_more (λ e. if_placed (g e) (period_of t e)) e)
+    ∙ sym (sum_below_more (λ e. if_placed (g e) (period_of T e)) e)
 
-pub sittings_more_none : (g : ℕ → ℕ → ℕ) (t : Placing) (e : ℕ) (xs : List Sitting)
-    → period_of t e ≡ None
-    → sum_by (λ x. g x.exam x.period) xs ≡ sum_below e (λ e. if_placed (g e) (period_of t e))
-    → sum_by (λ x. g x.exam x.period) xs ≡ sum_below (e + 1) (λ e. if_placed (g e) (period_of t e))
-sittings_more_none g t e xs is known =
+pub sittings_more_none : (g : ℕ → ℕ → ℕ) (T : Placing) (e : ℕ) (xs : List Sitting)
+    → period_of T e ≡ None
+    → sum_by (λ x. g x.exam x.period) xs ≡ sum_below e (λ e. if_placed (g e) (period_of T e))
+    → sum_by (λ x. g x.exam x.period) xs ≡ sum_below (e + 1) (λ e. if_placed (g e) (period_of T e))
+sittings_more_none g T e xs is known =
     known ∙ sym (add-zero _)
-    ∙ ap (λ n. sum_below e (λ e. if_placed (g e) (period_of t e)) + n)
+    ∙ ap (λ n. sum_below e (λ e. if_placed (g e) (period_of T e)) + n)
     (ap (if_placed (g e)) (sym is))
-    ∙ sym (sum_below_more (λ e. if_placed (g e) (period_of t e)) e)
+    ∙ sym (sum_below_more (λ e. if_placed (g e) (period_of T e)) e)
 
 -- ---- the order
 
@@ -76,36 +76,36 @@ mapped f p [] = refl
 mapped f p (x ∷ xs) = sum_by-cons f (row_at p x) (map (row_at p) xs)
     ∙ ap (λ n. f (row_at p x) + n) (mapped f p xs) ∙ sym (sum_by-cons (λ s. f (row_at p s)) x xs)
 
-rows_below : (f : Row → ℕ) (E : Enrolled) (t : Placing) (n : ℕ) → n ≤ length E
-    → sum_by f (filter_map (row_of t) (pairs_of (take n E)))
-    ≡ sum_below n (λ e. if_placed (exam_sum f E e) (period_of t e))
-rows_below f E t zero le = refl
-rows_below f E t (suc n) le =
-    ap (λ k. sum_by f (filter_map (row_of t) (pairs_of (take k E)))) (sym (add-one n))
-    ∙ step (period_of t n) refl (rows_below f E t n (omega arith))
+rows_below : (f : Row → ℕ) (E : Enrolled) (T : Placing) (n : ℕ) → n ≤ length E
+    → sum_by f (filter_map (row_of T) (pairs_of (take n E)))
+    ≡ sum_below n (λ e. if_placed (exam_sum f E e) (period_of T e))
+rows_below f E T zero le = refl
+rows_below f E T (suc n) le =
+    ap (λ k. sum_by f (filter_map (row_of T) (pairs_of (take k E)))) (sym (add-one n))
+    ∙ step (period_of T n) refl (rows_below f E T n (omega arith))
   where
-    step : (o : Option ℕ) → period_of t n ≡ o
-        → sum_by f (filter_map (row_of t) (pairs_of (take n E)))
-        ≡ sum_below n (λ e. if_placed (exam_sum f E e) (period_of t e))
-        → sum_by f (filter_map (row_of t) (pairs_of (take (n + 1) E)))
-        ≡ sum_below n (λ e. if_placed (exam_sum f E e) (period_of t e))
-        + if_placed (exam_sum f E n) (period_of t n)
+    step : (o : Option ℕ) → period_of T n ≡ o
+        → sum_by f (filter_map (row_of T) (pairs_of (take n E)))
+        ≡ sum_below n (λ e. if_placed (exam_sum f E e) (period_of T e))
+        → sum_by f (filter_map (row_of T) (pairs_of (take (n + 1) E)))
+        ≡ sum_below n (λ e. if_placed (exam_sum f E e) (period_of T e))
+        + if_placed (exam_sum f E n) (period_of T n)
     step None is known =
-        ap (sum_by f) (rows_more_none E t n (omega arith) is) ∙ known ∙ sym (add-zero _)
-        ∙ ap (λ m. sum_below n (λ e. if_placed (exam_sum f E e) (period_of t e)) + m)
+        ap (sum_by f) (rows_more_none E T n (omega arith) is) ∙ known ∙ sym (add-zero _)
+        ∙ ap (λ m. sum_below n (λ e. if_placed (exam_sum f E e) (period_of T e)) + m)
         (ap (if_placed (exam_sum f E n)) (sym is))
     step (Some p) is known =
-        ap (sum_by f) (rows_more_some E t n p (omega arith) is)
-        ∙ sum_by-append f (filter_map (row_of t) (pairs_of (take n E)))
+        ap (sum_by f) (rows_more_some E T n p (omega arith) is)
+        ∙ sum_by-append f (filter_map (row_of T) (pairs_of (take n E)))
         (map (row_at p) (students E n))
         ∙ ap₂ (λ a b. a + b) known
         (mapped f p (students E n) ∙ ap (if_placed (exam_sum f E n)) (sym is))
 
-pub rows_by_exam : (f : Row → ℕ) (E : Enrolled) (t : Placing)
-    → sum_by f (filter_map (row_of t) (pairs_of E))
+pub rows_by_exam : (f : Row → ℕ) (E : Enrolled) (T : Placing)
+    → sum_by f (filter_map (row_of T) (pairs_of E))
     ≡ sum_below (length E)
-    (λ e. if_placed (λ p. sum_by (λ s. f (row_at p s)) (students E e)) (period_of t e))
-rows_by_exam f E t =
-    ap (λ F. sum_by f (filter_map (row_of t) (pairs_of F)))
+    (λ e. if_placed (λ p. sum_by (λ s. f (row_at p s)) (students E e)) (period_of T e))
+rows_by_exam f E T =
+    ap (λ F. sum_by f (filter_map (row_of T) (pairs_of F)))
     (sym (take_all (length E) E (omega arith)))
-    ∙ rows_below f E t (length E) (omega arith)
+    ∙ rows_below f E T (length E) (omega arith)

@@ -44,15 +44,15 @@ of_room [] h i = omega arith
 of_room (x ∷ xs) h zero = h.0.1
 of_room (x ∷ xs) h (suc i) = of_room xs h.1 i
 
-period_small : (s : Session) → IsInstance s → (o : Option Place) → exam_period s o ≤ 100000
-period_small s known None = omega arith
-period_small s known (Some at) =
-    of_period s.periods (recursion_from_All PeriodInLimits s.periods known.limits.periods) at.period
+period_small : (I : Session) → IsInstance I → (o : Option Place) → exam_period I o ≤ 100000
+period_small I known None = omega arith
+period_small I known (Some at) =
+    of_period I.periods (recursion_from_All PeriodInLimits I.periods known.limits.periods) at.period
 
-room_small : (s : Session) → IsInstance s → (o : Option Place) → exam_room s o ≤ 100000
-room_small s known None = omega arith
-room_small s known (Some at) =
-    of_room s.rooms (recursion_from_All RoomInLimits s.rooms known.limits.rooms) at.room
+room_small : (I : Session) → IsInstance I → (o : Option Place) → exam_room I o ≤ 100000
+room_small I known None = omega arith
+room_small I known (Some at) =
+    of_room I.rooms (recursion_from_All RoomInLimits I.rooms known.limits.rooms) at.room
 
 most_durations : duration_count ≡ 1441
 unfolding duration_count
@@ -63,26 +63,26 @@ counted_few n test =
     let all = sum_below-le (λ m. cond (test m) 1 0) 1 n (λ m lt. one_or_none (test m)) in
     omega arith
 
-durations_small : (s : Session) (t : Placing) (p r : ℕ) → durations s t p r ≤ 1441
-durations_small s t p r =
-    subst (λ n. durations s t p r ≤ n) most_durations
-    (counted_few duration_count (λ m. nat_lt 0 (lasting s t p r m)))
+durations_small : (I : Session) (T : Placing) (p r : ℕ) → durations I T p r ≤ 1441
+durations_small I T p r =
+    subst (λ n. durations I T p r ≤ n) most_durations
+    (counted_few duration_count (λ m. nat_lt 0 (lasting I T p r m)))
 
 -- of the periods and rooms that pass
-pub mixed_where_small : (s : Session) (t : Placing) (touched : ℕ → ℕ → Bool) → IsInstance s
-    → mixed_where s t touched ≤ 5764000000000
-mixed_where_small s t touched known =
-    let one : (p r : ℕ) → (durations s t p r - 1) * s.weights.mixed ≤ 144100000
-    = λ p r. mul-le-mul (let h = durations_small s t p r in
-    let k : durations s t p r - 1 ≤ 1441 = omega arith in k) known.limits.weights.3 in
-    let periods : length s.periods ≤ 200 = known.limits.counts.1.1 in
-    let rooms : length s.rooms ≤ 200 = known.limits.counts.2.1 in
-    let by_period : (r : ℕ) → room_mixed_where s t touched r ≤ 28820000000
+pub mixed_where_small : (I : Session) (T : Placing) (touched : ℕ → ℕ → Bool) → IsInstance I
+    → mixed_where I T touched ≤ 5764000000000
+mixed_where_small I T touched known =
+    let one : (p r : ℕ) → (durations I T p r - 1) * I.weights.mixed ≤ 144100000
+    = λ p r. mul-le-mul (let h = durations_small I T p r in
+    let k : durations I T p r - 1 ≤ 1441 = omega arith in k) known.limits.weights.3 in
+    let periods : length I.periods ≤ 200 = known.limits.counts.1.1 in
+    let rooms : length I.rooms ≤ 200 = known.limits.counts.2.1 in
+    let by_period : (r : ℕ) → room_mixed_where I T touched r ≤ 28820000000
     = λ r. (let all = sum_below-le
-    (λ p. cond (touched p r) ((durations s t p r - 1) * s.weights.mixed) 0) 144100000
-    (length s.periods) (λ p lt. or_none (touched p r) _ (one p r)) in
+    (λ p. cond (touched p r) ((durations I T p r - 1) * I.weights.mixed) 0) 144100000
+    (length I.periods) (λ p lt. or_none (touched p r) _ (one p r)) in
     omega arith) in
-    let all = sum_below-le (room_mixed_where s t touched) 28820000000 (length s.rooms)
+    let all = sum_below-le (room_mixed_where I T touched) 28820000000 (length I.rooms)
     (λ r lt. by_period r) in
     omega arith
   where
@@ -90,22 +90,22 @@ mixed_where_small s t touched known =
     or_none true n h = h
     or_none false n h = omega arith
 
-pub penalty_small : (s : Session) (E : Enrolled) (t : Placing) → IsInstance s → AreEnrolments E
-    → Fits s E t → total_of (track s E t) < 2 ^ 62
-penalty_small s E t known enrolled fits =
-    let row = part_small (row_cost s.periods s.weights) E t enrolled (row_cost-small s known) in
-    let day = part_small (day_cost s.periods s.weights) E t enrolled (day_cost-small s known) in
-    let one : (p q : ℕ) → spread_cost s.periods s.weights p q ≤ 100000 =
-    λ p q. omega (arith, spread_cost-small s.periods s.weights p q) in
-    let spread = part_small (spread_cost s.periods s.weights) E t enrolled one in
-    let mixed = mixed_where_small s t (λ p r. true) known in
-    let exams : length s.exams ≤ 2000 = known.limits.counts.0.1 in
-    let front = sum_below-le (exam_front s E t) 100000 (length s.exams)
-    (λ e lt. picked (is_largest s E e && is_late s (place_of t e)) s.weights.front
+pub penalty_small : (I : Session) (E : Enrolled) (T : Placing) → IsInstance I → AreEnrolments E
+    → Fits I E T → total_of (track I E T) < 2 ^ 62
+penalty_small I E T known enrolled fits =
+    let row = part_small (row_cost I.periods I.weights) E T enrolled (row_cost-small I known) in
+    let day = part_small (day_cost I.periods I.weights) E T enrolled (day_cost-small I known) in
+    let one : (p q : ℕ) → spread_cost I.periods I.weights p q ≤ 100000 =
+    λ p q. omega (arith, spread_cost-small I.periods I.weights p q) in
+    let spread = part_small (spread_cost I.periods I.weights) E T enrolled one in
+    let mixed = mixed_where_small I T (λ p r. true) known in
+    let exams : length I.exams ≤ 2000 = known.limits.counts.0.1 in
+    let front = sum_below-le (exam_front I E T) 100000 (length I.exams)
+    (λ e lt. picked (is_largest I E e && is_late I (place_of T e)) I.weights.front
     known.limits.weights.6) in
     let period =
-    sum_below-le (λ e. exam_period s (place_of t e)) 100000 (length s.exams)
-    (λ e lt. period_small s known (place_of t e)) in
-    let room = sum_below-le (λ e. exam_room s (place_of t e)) 100000 (length s.exams)
-    (λ e lt. room_small s known (place_of t e)) in
+    sum_below-le (λ e. exam_period I (place_of T e)) 100000 (length I.exams)
+    (λ e lt. period_small I known (place_of T e)) in
+    let room = sum_below-le (λ e. exam_room I (place_of T e)) 100000 (length I.exams)
+    (λ e lt. room_small I known (place_of T e)) in
     omega arith

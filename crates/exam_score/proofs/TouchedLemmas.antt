@@ -75,32 +75,32 @@ of_exam (x ∷ xs) h zero = h.0
 of_exam (x ∷ xs) h (suc i) = of_exam xs h.1 i
 
 -- no exam lasts longer than a day
-pub minutes_short : (s : Session) (e : ℕ) → IsInstance s
-    → minutes_of (slice_get s.exams e) < duration_count
+pub minutes_short : (I : Session) (e : ℕ) → IsInstance I
+    → minutes_of (slice_get I.exams e) < duration_count
 unfolding duration_count
-minutes_short s e known =
-    let h = of_exam s.exams (recursion_from_All ExamInLimits s.exams known.limits.exams) e in
+minutes_short I e known =
+    let h = of_exam I.exams (recursion_from_All ExamInLimits I.exams known.limits.exams) e in
     omega arith
 
 -- an exam more
-pub durations_more : (s : Session) (t : Placing) (p r e : ℕ)
-    → minutes_of (slice_get s.exams e) < duration_count
-    → count_below duration_count (λ m. nat_lt 0 (count_below (e + 1) (lasts s t p r m)))
-    ≡ count_below duration_count (λ m. nat_lt 0 (count_below e (lasts s t p r m)))
-    + cond (is_at p r (place_of t e)
-    && not (nat_lt 0 (count_below e (lasts s t p r (minutes_of (slice_get s.exams e)))))) 1 0
-durations_more s t p r e short =
+pub durations_more : (I : Session) (T : Placing) (p r e : ℕ)
+    → minutes_of (slice_get I.exams e) < duration_count
+    → count_below duration_count (λ m. nat_lt 0 (count_below (e + 1) (lasts I T p r m)))
+    ≡ count_below duration_count (λ m. nat_lt 0 (count_below e (lasts I T p r m)))
+    + cond (is_at p r (place_of T e)
+    && not (nat_lt 0 (count_below e (lasts I T p r (minutes_of (slice_get I.exams e)))))) 1 0
+durations_more I T p r e short =
     sum_below-same _ _
     (λ m. ap (λ k. cond (nat_lt 0 k) 1 0)
-    (sum_below_more (λ e. cond (lasts s t p r m e) 1 0) e))
+    (sum_below_more (λ e. cond (lasts I T p r m e) 1 0) e))
     duration_count
-    ∙ one_more (is_at p r (place_of t e)) (minutes_of (slice_get s.exams e)) duration_count
-    (λ m. count_below e (lasts s t p r m)) short
+    ∙ one_more (is_at p r (place_of T e)) (minutes_of (slice_get I.exams e)) duration_count
+    (λ m. count_below e (lasts I T p r m)) short
 
 -- none passes before the first exam
-pub durations_none : (s : Session) (t : Placing) (p r : ℕ)
-    → count_below duration_count (λ m. nat_lt 0 (count_below 0 (lasts s t p r m))) ≡ 0
-durations_none s t p r = none duration_count
+pub durations_none : (I : Session) (T : Placing) (p r : ℕ)
+    → count_below duration_count (λ m. nat_lt 0 (count_below 0 (lasts I T p r m))) ≡ 0
+durations_none I T p r = none duration_count
   where
     none : (n : ℕ) → count_below n (λ m. false) ≡ 0
     none zero = refl
@@ -125,29 +125,29 @@ marked_step before k m n lt known = go (eqb k m) refl
         get_or-set_other before k m true false other ∙ known ∙ ap (nat_lt 0) (sym (add-zero n))
 
 -- an exam that stands here marks its duration
-pub marked_here : (s : Session) (t : Placing) (p r e m : ℕ) (before : List Bool)
-    → minutes_of (slice_get s.exams e) < length before → is_at p r (place_of t e) ≡ true
-    → get_or before m false ≡ nat_lt 0 (count_below e (lasts s t p r m))
-    → get_or (set before (minutes_of (slice_get s.exams e)) true) m false
-    ≡ nat_lt 0 (count_below (e + 1) (lasts s t p r m))
-marked_here s t p r e m before lt here known =
-    marked_step before (minutes_of (slice_get s.exams e)) m
-    (count_below e (lasts s t p r m)) lt known
+pub marked_here : (I : Session) (T : Placing) (p r e m : ℕ) (before : List Bool)
+    → minutes_of (slice_get I.exams e) < length before → is_at p r (place_of T e) ≡ true
+    → get_or before m false ≡ nat_lt 0 (count_below e (lasts I T p r m))
+    → get_or (set before (minutes_of (slice_get I.exams e)) true) m false
+    ≡ nat_lt 0 (count_below (e + 1) (lasts I T p r m))
+marked_here I T p r e m before lt here known =
+    marked_step before (minutes_of (slice_get I.exams e)) m
+    (count_below e (lasts I T p r m)) lt known
     ∙ ap (λ b. nat_lt 0
-    (count_below e (lasts s t p r m)
-    + cond (b && eqb (minutes_of (slice_get s.exams e)) m) 1 0))
+    (count_below e (lasts I T p r m)
+    + cond (b && eqb (minutes_of (slice_get I.exams e)) m) 1 0))
     (sym here)
-    ∙ ap (nat_lt 0) (sym (sum_below_more (λ e. cond (lasts s t p r m e) 1 0) e))
+    ∙ ap (nat_lt 0) (sym (sum_below_more (λ e. cond (lasts I T p r m e) 1 0) e))
 
 -- one that stands elsewhere marks none
-pub marked_elsewhere : (s : Session) (t : Placing) (p r e m : ℕ) (before : List Bool)
-    → is_at p r (place_of t e) ≡ false
-    → get_or before m false ≡ nat_lt 0 (count_below e (lasts s t p r m))
-    → get_or before m false ≡ nat_lt 0 (count_below (e + 1) (lasts s t p r m))
-marked_elsewhere s t p r e m before here known =
-    known ∙ ap (nat_lt 0) (sym (add-zero (count_below e (lasts s t p r m))))
+pub marked_elsewhere : (I : Session) (T : Placing) (p r e m : ℕ) (before : List Bool)
+    → is_at p r (place_of T e) ≡ false
+    → get_or before m false ≡ nat_lt 0 (count_below e (lasts I T p r m))
+    → get_or before m false ≡ nat_lt 0 (count_below (e + 1) (lasts I T p r m))
+marked_elsewhere I T p r e m before here known =
+    known ∙ ap (nat_lt 0) (sym (add-zero (count_below e (lasts I T p r m))))
     ∙ ap (λ b. nat_lt 0
-    (count_below e (lasts s t p r m)
-    + cond (b && eqb (minutes_of (slice_get s.exams e)) m) 1 0))
+    (count_below e (lasts I T p r m)
+    + cond (b && eqb (minutes_of (slice_get I.exams e)) m) 1 0))
     (sym here)
-    ∙ ap (nat_lt 0) (sym (sum_below_more (λ e. cond (lasts s t p r m e) 1 0) e))
+    ∙ ap (nat_lt 0) (sym (sum_below_more (λ e. cond (lasts I T p r m e) 1 0) e))

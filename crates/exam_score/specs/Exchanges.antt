@@ -20,14 +20,14 @@ use Rattle.exam_score.specs.Touched.{is_touched, mixed_where, sum_among}
 -- and of its exams
 abbrev pub edit_share : Session → Placing → List ℕ → (ℕ → ℕ → Bool) → List ℕ → PersonalPenalty
     → Penalty
-edit_share I t edited touched sizes students = record {
+edit_share I T edited touched sizes students = record {
   row = students.row;
   day = students.day;
   spread = students.spread;
-  mixed = mixed_where I t touched;
-  front = sum_among I edited (λ e. front_by I sizes (place_of t e) e);
-  period = sum_among I edited (λ e. exam_period I (place_of t e));
-  room = sum_among I edited (λ e. exam_room I (place_of t e));
+  mixed = mixed_where I T touched;
+  front = sum_among I edited (λ e. front_by I sizes (place_of T e) e);
+  period = sum_among I edited (λ e. exam_period I (place_of T e));
+  room = sum_among I edited (λ e. exam_room I (place_of T e));
 }
 
 -- what goes

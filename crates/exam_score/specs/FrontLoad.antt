@@ -22,8 +22,8 @@ is_late I (Some at) = nat_le (length I.periods) (at.period + I.weights.front_per
 
 -- what one exam makes of it
 abbrev pub exam_front : Session → Enrolled → Placing → ℕ → ℕ
-exam_front I E t e = if is_largest I E e && is_late I (place_of t e) then I.weights.front else 0
+exam_front I E T e = if is_largest I E e && is_late I (place_of T e) then I.weights.front else 0
 
--- over all exams
+-- the front load: what all exams of the session make of it together
 abbrev pub front_part : Session → Enrolled → Placing → ℕ
-front_part I E t = sum_below (length I.exams) (exam_front I E t)
+front_part I E T = sum_below (length I.exams) (exam_front I E T)

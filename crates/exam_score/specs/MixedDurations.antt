@@ -23,20 +23,20 @@ is_at p r (Some at) = (at.period == p) && (at.room == r)
 
 -- whether an exam stands in a period and room and lasts so many minutes
 abbrev pub lasts : Session → Placing → ℕ → ℕ → ℕ → ℕ → Bool
-lasts I t p r m e = is_at p r (place_of t e) && (minutes_of (slice_get I.exams e) == m)
+lasts I T p r m e = is_at p r (place_of T e) && (minutes_of (slice_get I.exams e) == m)
 
 -- how many exams do
 abbrev pub lasting : Session → Placing → ℕ → ℕ → ℕ → ℕ
-lasting I t p r m = count_below (length I.exams) (lasts I t p r m)
+lasting I T p r m = count_below (length I.exams) (lasts I T p r m)
 
 -- how many different durations there are in a period and room
 abbrev pub durations : Session → Placing → ℕ → ℕ → ℕ
-durations I t p r = count_below duration_count (λ m. nat_lt 0 (lasting I t p r m))
+durations I T p r = count_below duration_count (λ m. nat_lt 0 (lasting I T p r m))
 
 -- a room's share over all periods: each duration but one, and nothing where no exam stands
 abbrev pub room_mixed : Session → Placing → ℕ → ℕ
-room_mixed I t r = sum_below (length I.periods) (λ p. (durations I t p r - 1) * I.weights.mixed)
+room_mixed I T r = sum_below (length I.periods) (λ p. (durations I T p r - 1) * I.weights.mixed)
 
 -- over all rooms
 abbrev pub mixed_part : Session → Placing → ℕ
-mixed_part I t = sum_below (length I.rooms) (room_mixed I t)
+mixed_part I T = sum_below (length I.rooms) (room_mixed I T)

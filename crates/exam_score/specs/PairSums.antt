@@ -10,10 +10,10 @@ use Rattle.exam_score.specs.Regrouping.{pair_part}
 use Rattle.exam_score.specs.declared.walk.PairSums.{PairSums}
 
 -- the numbers are the parts, and none is great
-pub record ArePairParts (I : Session) (E : Enrolled) (t : Placing) (sums : PairSums) : Type 0 where
-  pub row : sums.row ≡ pair_part (row_cost I.periods I.weights) E (period_of t)
-  pub day : sums.day ≡ pair_part (day_cost I.periods I.weights) E (period_of t)
-  pub spread : sums.spread ≡ pair_part (spread_cost I.periods I.weights) E (period_of t)
+pub record ArePairParts (I : Session) (E : Enrolled) (T : Placing) (sums : PairSums) : Type 0 where
+  pub row : sums.row ≡ pair_part (row_cost I.periods I.weights) E (period_of T)
+  pub day : sums.day ≡ pair_part (day_cost I.periods I.weights) E (period_of T)
+  pub spread : sums.spread ≡ pair_part (spread_cost I.periods I.weights) E (period_of T)
   pub few_rows : sums.row ≤ MAX_PAIRS * MAX_PAIRS * MAX_AMOUNT
   pub few_days : sums.day ≤ MAX_PAIRS * MAX_PAIRS * MAX_AMOUNT
   pub few_spread : sums.spread ≤ MAX_PAIRS * MAX_PAIRS * MAX_AMOUNT

@@ -11,4 +11,4 @@ row_at period student = record { student = student; period = period }
 
 -- the row of a pair, if its exam is placed
 abbrev pub row_of : Placing → Pair → Option Row
-row_of t p = option_map (λ period. row_at period p.student) (period_of t p.exam)
+row_of T p = option_map (λ period. row_at period p.student) (period_of T p.exam)

@@ -17,8 +17,8 @@ pub record StayExists (I : Session) (x : Stay) : Type 0 where
   pub minutes : x.minutes ≤ MAX_MINUTES
 
 -- one for each placed exam
-pub record AreStays (I : Session) (t : Placing) (stays : List Stay) : Type 0 where
-  pub counts : (p r m : ℕ) → count_by (is_stay p r m) stays ≡ lasting I t p r m
+pub record AreStays (I : Session) (T : Placing) (stays : List Stay) : Type 0 where
+  pub counts : (p r m : ℕ) → count_by (is_stay p r m) stays ≡ lasting I T p r m
   pub few : length stays ≤ MAX_EXAMS
   pub exist : All (StayExists I) stays
 

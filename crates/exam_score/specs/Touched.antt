@@ -15,22 +15,22 @@ is_touched edited old new p r =
 
 -- the mixed part of one room in the periods that pass
 abbrev pub room_mixed_where : Session → Placing → (ℕ → ℕ → Bool) → ℕ → ℕ
-room_mixed_where I t touched r =
+room_mixed_where I T touched r =
     sum_below (length I.periods) (λ p.
-    if touched p r then (durations I t p r - 1) * I.weights.mixed else 0)
+    if touched p r then (durations I T p r - 1) * I.weights.mixed else 0)
 
 -- the mixed part of the periods and rooms that pass
 abbrev pub mixed_where : Session → Placing → (ℕ → ℕ → Bool) → ℕ
-mixed_where I t touched = sum_below (length I.rooms) (room_mixed_where I t touched)
+mixed_where I T touched = sum_below (length I.rooms) (room_mixed_where I T touched)
 
 -- what one place more makes of the mixed part of the periods and rooms that pass: nothing where it
 -- is no period and room of the session, or passes already
 abbrev pub further_mixed : Session → Placing → (ℕ → ℕ → Bool) → Option Place → ℕ
-further_mixed I t touched None = 0
-further_mixed I t touched (Some at) =
+further_mixed I T touched None = 0
+further_mixed I T touched (Some at) =
     if (nat_lt at.room (length I.rooms) && nat_lt at.period (length I.periods))
     && not (touched at.period at.room)
-    then (durations I t at.period at.room - 1) * I.weights.mixed else 0
+    then (durations I T at.period at.room - 1) * I.weights.mixed else 0
 
 -- g summed over the exams in a list, each of them once
 abbrev pub sum_among : Session → List ℕ → (ℕ → ℕ) → ℕ

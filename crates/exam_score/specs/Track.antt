@@ -36,24 +36,24 @@ abbrev pub exam_room : Session → Option Place → ℕ
 exam_room I None = 0
 exam_room I (Some at) = room_penalty (slice_get I.rooms at.room)
 
--- over all exams
+-- the period part: what their periods cost all exams of the session together
 abbrev pub period_part : Session → Placing → ℕ
-period_part I t = sum_below (length I.exams) (λ e. exam_period I (place_of t e))
+period_part I T = sum_below (length I.exams) (λ e. exam_period I (place_of T e))
 
--- over all exams
+-- the room part: what their rooms cost all exams of the session together
 abbrev pub room_part : Session → Placing → ℕ
-room_part I t = sum_below (length I.exams) (λ e. exam_room I (place_of t e))
+room_part I T = sum_below (length I.exams) (λ e. exam_room I (place_of T e))
 
 -- ---- the whole
 
 -- all seven parts
 abbrev pub track : Session → Enrolled → Placing → Penalty
-track I E t = record {
-  row = pair_part (row_cost I.periods I.weights) E (period_of t);
-  day = pair_part (day_cost I.periods I.weights) E (period_of t);
-  spread = pair_part (spread_cost I.periods I.weights) E (period_of t);
-  mixed = mixed_part I t;
-  front = front_part I E t;
-  period = period_part I t;
-  room = room_part I t;
+track I E T = record {
+  row = pair_part (row_cost I.periods I.weights) E (period_of T);
+  day = pair_part (day_cost I.periods I.weights) E (period_of T);
+  spread = pair_part (spread_cost I.periods I.weights) E (period_of T);
+  mixed = mixed_part I T;
+  front = front_part I E T;
+  period = period_part I T;
+  room = room_part I T;
 }

@@ -11,7 +11,7 @@ use std::alloc::{AllocError, Global};
 
 // A student's enrolment in an exam; ordered by student, and then by exam.
 #[derive(Clone, Copy, PartialEq, Eq, PartialOrd, Ord)]
-pub struct Sitter {
+pub(crate) struct Sitter {
     pub student: StudentNo,
     pub exam: ExamNo,
 }

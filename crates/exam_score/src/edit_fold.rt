@@ -167,7 +167,7 @@ fn edit_share(
     let mixed = touched_mixed(instance, timetable, touched);
     let front = edited_front(instance, sizes, timetable, touched.edited);
     let places = edited_places(instance, timetable, touched.edited);
-    Parts::within(students, mixed, front, places)
+    Parts::of(students, mixed, front, places)
 }
 
 fn is_open(current: Option<StudentNo>, student: StudentNo) -> bool

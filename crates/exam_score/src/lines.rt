@@ -8,7 +8,7 @@ use std::alloc::{AllocError, Global};
 
 // What two periods cost.
 #[derive(Clone, Copy)]
-pub struct PairCosts {
+pub(crate) struct PairCosts {
     pub row: u32,
     pub day: u32,
     pub spread: u32,
@@ -16,7 +16,7 @@ pub struct PairCosts {
 
 // The costs of a period with each period, and the first of these that costs anything.
 #[derive(Drop)]
-pub struct Line {
+pub(crate) struct Line {
     pub costs: Vec<PairCosts>,
     pub first: u32,
 }

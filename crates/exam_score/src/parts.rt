@@ -1,12 +1,10 @@
 // The numbers of a penalty: contracts see them as a record.
-ghost use Rattle.std.specs.Prelude.{◌≡◌, ◌+◌, ◌*◌, ◌^◌, ◌<◌, ◌≤◌, Some, None, IfSome, IfNone};
-ghost use Rattle.exam_terms.specs.declared.limits.TheConstants.{MAX_AMOUNT, MAX_EXAMS, MAX_PAIRS};
+ghost use Rattle.std.specs.Prelude.{◌≡◌, ◌+◌, ◌^◌, ◌<◌, ◌≤◌, Some, None, IfSome, IfNone};
 ghost use Rattle.exam_score.specs.Exchanges.{CannotExchange, IsExchanged};
 ghost use Rattle.exam_score.specs.Penalty.{Penalty, total_of};
 
 use crate::personal_parts::PersonalParts;
 use crate::places::PlaceSums;
-use crate::walk::PairSums;
 use std::marker::Model;
 
 // Totals stay below it.
@@ -94,35 +92,8 @@ impl Parts {
         }
     }
 
-    // The same of numbers that are known to be small.
-    pub(crate) fn of(pairs: PairSums, mixed: u64, front: u64, places: PlaceSums) -> Parts
-        requires pairs { pairs.row + pairs.day + pairs.spread
-            ≤ 3 * (MAX_PAIRS * MAX_PAIRS * MAX_AMOUNT) }
-        requires others { mixed + front + places.periods + places.rooms
-            ≤ 4 * (MAX_EXAMS * MAX_AMOUNT) }
-        ensures { result ≡ record {
-          row = pairs.row;
-          day = pairs.day;
-          spread = pairs.spread;
-          mixed = mixed;
-          front = front;
-          period = places.periods;
-          room = places.rooms;
-        } }
-    {
-        Parts {
-            row: pairs.row,
-            day: pairs.day,
-            spread: pairs.spread,
-            mixed,
-            front,
-            period: places.periods,
-            room: places.rooms,
-        }
-    }
-
     // The same, where the total is known to be within the limit.
-    pub(crate) fn within(pairs: PersonalParts, mixed: u64, front: u64, places: PlaceSums) -> Parts
+    pub(crate) fn of(pairs: PersonalParts, mixed: u64, front: u64, places: PlaceSums) -> Parts
         requires { pairs.row + pairs.day + pairs.spread + mixed + front + places.periods
             + places.rooms < 2 ^ 62 }
         ensures { result ≡ record {

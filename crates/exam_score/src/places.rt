@@ -8,7 +8,7 @@ use exam_model::{ExamNo, Instance, PeriodNo, RoomNo, Timetable};
 
 // The penalties of the exams' periods, and those of their rooms.
 #[derive(Clone, Copy)]
-pub struct PlaceSums {
+pub(crate) struct PlaceSums {
     pub periods: u64,
     pub rooms: u64,
 }

@@ -2,7 +2,7 @@
 use exam_model::{PeriodNo, StudentNo};
 
 #[derive(Clone, Copy)]
-pub struct Row {
+pub(crate) struct Row {
     pub student: StudentNo,
     pub period: PeriodNo,
 }

@@ -9,7 +9,7 @@ use std::alloc::{AllocError, Global};
 
 // An exam in its period; ordered by period, and then by exam.
 #[derive(Clone, Copy, PartialEq, Eq, PartialOrd, Ord)]
-pub struct Sitting {
+pub(crate) struct Sitting {
     pub period: PeriodNo,
     pub exam: ExamNo,
 }

@@ -23,7 +23,7 @@ const FEW_STEPS: u64 = 30_000_000;
 
 // So many exams of one student in one period.
 #[derive(Clone, Copy)]
-pub struct Tally {
+pub(crate) struct Tally {
     pub student: StudentNo,
     pub period: PeriodNo,
     pub exams: u32,

@@ -14,7 +14,7 @@ const DURATIONS: usize = MAX_MINUTES as usize + 1;
 
 // The exams of an edit, and the timetables before and after it.
 #[derive(Clone, Copy)]
-pub struct Touched<'a> {
+pub(crate) struct Touched<'a> {
     pub edited: &'a [ExamNo],
     pub earlier: &'a Timetable,
     pub later: &'a Timetable,

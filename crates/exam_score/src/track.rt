@@ -7,6 +7,7 @@ use crate::front::front_load;
 use crate::mixed::mixed_durations;
 use crate::pairs::pair_parts;
 use crate::parts::Parts;
+use crate::personal_parts::PersonalParts;
 use crate::places::place_penalties;
 use exam_model::{Enrolments, Instance, Timetable};
 use std::alloc::{AllocError, Global};
@@ -22,7 +23,8 @@ pub fn score(
     requires { Fits instance.now enrolments.now timetable.now }
     ensures { IfOk result (λ parts. parts ≡ track instance.now enrolments.now timetable.now) }
 {
-    let pairs = pair_parts(alloc, instance, enrolments, timetable)?;
+    let sums = pair_parts(alloc, instance, enrolments, timetable)?;
+    let pairs = PersonalParts::of(sums.row, sums.day, sums.spread);
     let mixed = mixed_durations(alloc, instance, timetable)?;
     let front = front_load(alloc, instance, enrolments, timetable)?;
     let places = place_penalties(instance, timetable);

@@ -13,7 +13,7 @@ use exam_model::Instance;
 
 // What pairs of exams cost.
 #[derive(Clone, Copy)]
-pub struct PairSums {
+pub(crate) struct PairSums {
     pub row: u64,
     pub day: u64,
     pub spread: u64,

@@ -1,6 +1,6 @@
-#![tactic(auto)]
 //! The examination office's program: it judges solutions of examination timetables by the rules
 //! of the International Timetabling Competition 2007, and loads an office.
+#![tactic(auto)]
 
 use office_program::{refuse_arguments, run_program, words_of};
 use std::env;

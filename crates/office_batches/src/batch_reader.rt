@@ -3,7 +3,7 @@ ghost use Rattle.std.specs.Prelude.{◌≡◌, ◌≤◌, ◌+◌, ◌∷◌, []
 ghost use Rattle.exam_terms.specs.declared.limits.TheConstants.{TEXT_BYTES};
 ghost use Rattle.csv.specs.Records.{fields_of};
 ghost use Rattle.office_files.specs.Faults.{IsOfNoLine};
-ghost use Rattle.office_files.specs.Reading.{Gives, at_line};
+ghost use Rattle.office_files.specs.Reading.{AnswersReading, at_line};
 ghost use Rattle.office_batches.specs.BatchText.{batch_in, behind, changes_from, records_in};
 
 use crate::change_reader::{change_in, is_header};
@@ -18,7 +18,7 @@ use std::alloc::Global;
 /// that of the first faulty field; any fault of the first record is `BadHeader`. `TooLong` (above
 /// 1,048,576 bytes) and `NoMemory` have line 0.
 pub fn read_batch(alloc: Global, text: &[u8]) -> Result<Vec<Change>, FileFault>
-    ensures exact { Gives (λ read. read.items) result (batch_in text.now) }
+    ensures exact { AnswersReading (λ read. read.items) result (batch_in text.now) }
     ensures memory { IfErr result IsOfNoLine }
 {
     if text.len() > TEXT_BYTES {
@@ -30,7 +30,8 @@ pub fn read_batch(alloc: Global, text: &[u8]) -> Result<Vec<Change>, FileFault>
 // The changes of a batch that is not too long.
 fn changes_in(alloc: Global, text: &[u8]) -> Result<Vec<Change>, FileFault>
     requires { length text.now ≤ TEXT_BYTES }
-    ensures exact { Gives (λ read. read.items) result (changes_from 1 [] (records_in text.now)) }
+    ensures exact { AnswersReading (λ read. read.items) result
+        (changes_from 1 [] (records_in text.now)) }
     ensures memory { IfErr result IsOfNoLine }
 {
     let mut reader = ReaderBuilder::new()
@@ -53,7 +54,7 @@ fn changes_in(alloc: Global, text: &[u8]) -> Result<Vec<Change>, FileFault>
 
 // Puts what a record says behind the changes before it.
 fn add_record(changes: &mut Vec<Change>, row: &ByteRecord, line: u32) -> Result<(), FileFault>
-    ensures exact { Gives (λ _. changes.new.items) result
+    ensures exact { AnswersReading (λ _. changes.new.items) result
         (at_line line (behind line changes.old.items (fields_of row.now))) }
     ensures memory { IfErr result IsOfNoLine }
 {

@@ -22,19 +22,19 @@ abbrev pub Both : Option (List ℕ) → Option (List ℕ) → (List ℕ → List
 Both a b P = IfSome a (λ instance. IfSome b (λ solution. P instance solution))
 
 -- readings of both inputs have a judgement
-pub judged : (a b : Option (List ℕ)) (session : Session) (enrolled : Enrolled)
+pub judged : (a b : Option (List ℕ)) (I : Session) (enrolled : Enrolled)
     (placing : Placing) (text : List ℕ) (answer : ℕ)
-    → IfSome a (λ instance. InstanceText instance session enrolled)
-    → IfSome b (λ solution. SolutionText solution session placing)
-    → text ≡ report session enrolled placing
-    → answer ≡ exit_status session enrolled placing
+    → IfSome a (λ instance. InstanceText instance I enrolled)
+    → IfSome b (λ solution. SolutionText solution I placing)
+    → text ≡ report I enrolled placing
+    → answer ≡ exit_status I enrolled placing
     → Both a b (λ instance solution. IsJudgement instance solution text answer)
-judged None b session enrolled placing text answer one two same status = tt
-judged (Some instance) None session enrolled placing text answer one two same status = tt
-judged (Some instance) (Some solution) session enrolled placing text answer one two same status =
+judged None b I enrolled placing text answer one two same status = tt
+judged (Some instance) None I enrolled placing text answer one two same status = tt
+judged (Some instance) (Some solution) I enrolled placing text answer one two same status =
     record {
       read = record {
-        first = record { session = session; enrolled = enrolled; spells = one };
+        first = record { session = I; enrolled = enrolled; spells = one };
         placing = placing;
         spells = two;
       };
@@ -62,16 +62,16 @@ one_of_two [] answer is = inl is
 one_of_two (breach ∷ breaches) answer is = inr is
 
 -- readings of some two texts have a judgement
-pub some_judged : (a b : List ℕ) (session : Session) (enrolled : Enrolled) (placing : Placing)
-    (text : List ℕ) (answer : ℕ) → InstanceText a session enrolled
-    → SolutionText b session placing → text ≡ report session enrolled placing
-    → answer ≡ exit_status session enrolled placing → IsSomeJudgement text answer
-some_judged a b session enrolled placing text answer one two same status = record {
+pub some_judged : (a b : List ℕ) (I : Session) (enrolled : Enrolled) (placing : Placing)
+    (text : List ℕ) (answer : ℕ) → InstanceText a I enrolled
+    → SolutionText b I placing → text ≡ report I enrolled placing
+    → answer ≡ exit_status I enrolled placing → IsSomeJudgement text answer
+some_judged a b I enrolled placing text answer one two same status = record {
   instance = a;
   solution = b;
   judged = record {
     read = record {
-      first = record { session = session; enrolled = enrolled; spells = one };
+      first = record { session = I; enrolled = enrolled; spells = one };
       placing = placing;
       spells = two;
     };
@@ -100,21 +100,21 @@ of_input P None text read same is holds = tt
 of_input P (Some input) text read same is holds = subst P (is ∙ sym same) holds
 
 -- a fault of the solution comes behind the instance's reading
-pub solution_refused : (a b : Option (List ℕ)) (session : Session) (enrolled : Enrolled)
+pub solution_refused : (a b : Option (List ℕ)) (I : Session) (enrolled : Enrolled)
     (input : InputFault) (fault : CheckFault)
-    → IfSome a (λ instance. InstanceText instance session enrolled)
-    → IfSome b (λ solution. RefusesFile (first_solution_fault session solution) input)
+    → IfSome a (λ instance. InstanceText instance I enrolled)
+    → IfSome b (λ solution. RefusesFile (first_solution_fault I solution) input)
     → fault ≡ of_solution input
     → Both a b (λ instance solution. Refuses instance solution fault)
-solution_refused None b session enrolled input fault one bad same = tt
-solution_refused (Some instance) None session enrolled input fault one bad same = tt
-solution_refused (Some instance) (Some solution) session enrolled input fault one bad same =
+solution_refused None b I enrolled input fault one bad same = tt
+solution_refused (Some instance) None I enrolled input fault one bad same = tt
+solution_refused (Some instance) (Some solution) I enrolled input fault one bad same =
     rw same (refuses input bad)
   where
     first : IsRead instance
-    first = record { session = session; enrolled = enrolled; spells = one }
+    first = record { session = I; enrolled = enrolled; spells = one }
 
-    refuses : (f : InputFault) → RefusesFile (first_solution_fault session solution) f
+    refuses : (f : InputFault) → RefusesFile (first_solution_fault I solution) f
         → Refuses instance solution (of_solution f)
     refuses Read bad = first
     refuses (File f) bad = record { first = first; fault = bad }

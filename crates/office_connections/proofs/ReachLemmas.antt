@@ -7,13 +7,13 @@ use Rattle.office_messages.specs.Reply.{PlainReply}
 use Rattle.office_messages.specs.Stream.{PlainRequest}
 use Rattle.office_messages.specs.Messages.{Item, asks, fails}
 use Rattle.office_messages.specs.Serve.{Told, Serves, ServesFront}
-use Rattle.office_connections.specs.Reaches.{Exchange, Exchanges, Reaches}
+use Rattle.office_connections.specs.Reaches.{MessageExchange, Exchanges, Reaches}
 
 module _ {S : Type 0} (Answers : S → PlainRequest → PlainReply → S → Type 0) where
   pub reaches_refl : (s : S) → Reaches Answers s s
   reaches_refl s = ([], refl)
 
-  exchanges_on : (es fs : List Exchange) (old mid new : S) → Exchanges Answers es old mid
+  exchanges_on : (es fs : List MessageExchange) (old mid new : S) → Exchanges Answers es old mid
       → Exchanges Answers fs mid new → Exchanges Answers (es ++ fs) old new
   exchanges_on [] fs old mid new t more = subst (λ (s : S). Exchanges Answers fs s new) t more
   exchanges_on (e ∷ es) fs old mid new (next, step, t) more =
@@ -49,7 +49,7 @@ module _ {S : Type 0} (Answers : S → PlainRequest → PlainReply → S → Typ
 module _ {S : Type 0} (Answers : S → PlainRequest → PlainReply → S → Type 0) (Holds : S → Type 0)
     (keeps : (old : S) (r : PlainRequest) (reply : PlainReply) (new : S)
     → Answers old r reply new → Holds old → Holds new) where
-  exchanges_keep : (es : List Exchange) (old new : S) → Exchanges Answers es old new
+  exchanges_keep : (es : List MessageExchange) (old new : S) → Exchanges Answers es old new
       → Holds old → Holds new
   exchanges_keep [] old new t h = subst Holds (sym t) h
   exchanges_keep (e ∷ es) old new (mid, step, t) h =
@@ -65,7 +65,7 @@ module _ {S T : Type 0} (f : S → T) (Answers : S → PlainRequest → PlainRep
     (Others : T → PlainRequest → PlainReply → T → Type 0)
     (carried : (old : S) (r : PlainRequest) (reply : PlainReply) (new : S)
     → Answers old r reply new → Others (f old) r reply (f new)) where
-  exchanges_along : (es : List Exchange) (old new : S) → Exchanges Answers es old new
+  exchanges_along : (es : List MessageExchange) (old new : S) → Exchanges Answers es old new
       → Exchanges Others es (f old) (f new)
   exchanges_along [] old new t = ap f t
   exchanges_along (e ∷ es) old new (mid, step, t) =
@@ -102,7 +102,7 @@ module _ {S T : Type 0} (Answers : S → PlainRequest → PlainReply → S → T
     (leads : (old : S) (r : PlainRequest) (reply : PlainReply) (new : S)
     → Answers old r reply new → Sound new → (t : T) → Stands old t
     → (u : T) × Others t r reply u × Stands new u) where
-  exchanges_sound : (es : List Exchange) (old new : S) → Exchanges Answers es old new
+  exchanges_sound : (es : List MessageExchange) (old new : S) → Exchanges Answers es old new
       → Sound new → Sound old
   exchanges_sound [] old new t s = subst Sound t s
   exchanges_sound (e ∷ es) old new (mid, step, t) s =
@@ -112,7 +112,7 @@ module _ {S T : Type 0} (Answers : S → PlainRequest → PlainReply → S → T
   pub reaches_sound : (old new : S) → Reaches Answers old new → Sound new → Sound old
   reaches_sound old new (es, t) s = exchanges_sound es old new t s
 
-  exchanges_lead : (es : List Exchange) (old new : S) → Exchanges Answers es old new
+  exchanges_lead : (es : List MessageExchange) (old new : S) → Exchanges Answers es old new
       → Sound new → (t : T) → Stands old t
       → (u : T) × Exchanges Others es t u × Stands new u
   exchanges_lead [] old new is s t h = (t, refl, subst (λ (m : S). Stands m t) (sym is) h)

@@ -6,15 +6,16 @@ use Rattle.office_messages.specs.declared.connection.ServeFault.{ServeFault}
 use Rattle.office_messages.specs.declared.connection.ServeFault.TheVariants as fault
 
 -- the number by which a connection's fault is printed
-abbrev pub number_of : ServeFault → ℕ
-number_of fault.Read = 1
-number_of fault.Write = 2
-number_of fault.TooMany = 3
-number_of fault.NoMemory = 4
+abbrev pub connection_fault_number : ServeFault → ℕ
+connection_fault_number fault.Read = 1
+connection_fault_number fault.Write = 2
+connection_fault_number fault.TooMany = 3
+connection_fault_number fault.NoMemory = 4
 
 -- the line of a connection's fault
 abbrev pub fault_line : ServeFault → List ℕ
-fault_line f = codes "examoffice: connection fault " ++ decimal (number_of f) ++ 10 ∷ []
+fault_line f =
+    codes "examoffice: connection fault " ++ decimal (connection_fault_number f) ++ 10 ∷ []
 
 -- the lines of some faults, one after another
 abbrev pub fault_lines : List ServeFault → List ℕ

@@ -2,7 +2,7 @@
 ghost use Rattle.std.specs.Prelude.{◌≡◌, ◌≤◌, IsTrue, List, OnOk, length};
 ghost use Rattle.std.specs.Io.KnownBytes.{Appends};
 ghost use Rattle.office_messages.specs.declared.connection.ServeFault.{ServeFault};
-ghost use Rattle.office_connections.specs.Lines.{fault_line, fault_lines, number_of};
+ghost use Rattle.office_connections.specs.Lines.{fault_line, fault_lines, connection_fault_number};
 ghost use Rattle.office_connections.specs.Reaches.{Reaches};
 
 use crate::serving::serve_connection;
@@ -92,7 +92,7 @@ fn print_fault<W: Write>(fault: ServeFault, err: &mut W) -> io::Result<()>
 
 // The number by which a fault is printed.
 fn number_of(fault: ServeFault) -> u8
-    ensures { result ≡ number_of fault }
+    ensures { result ≡ connection_fault_number fault }
 {
     fault as u8
 }

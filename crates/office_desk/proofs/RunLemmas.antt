@@ -5,7 +5,7 @@ use Rattle.office_policy.specs.declared.callers.Caller.{Caller}
 use Rattle.office_model.specs.Answers.{PlainAnswer}
 use Rattle.office_model.specs.Office.{OfficeState}
 use Rattle.office_model.specs.Step.{Steps, allowed_in, if_allowed, permitted}
-use Rattle.office_desk.specs.Performing.{Tells}
+use Rattle.office_desk.specs.Performing.{AnswersOutcome}
 
 -- a step after which that office stands
 abbrev pub StepsTo : OfficeState → Caller → PlainCommand → (OfficeState → Type 0) → PlainAnswer
@@ -16,7 +16,8 @@ StepsTo old caller command Stays told =
 -- a command that is permitted and performed
 pub permitted_step : (old : OfficeState) (caller : Caller) (command : PlainCommand)
     (Stays : OfficeState → Type 0) (told : PlainAnswer) → Ok tt ≡ allowed_in old caller command
-    → Tells (permitted old caller command) old Stays told → StepsTo old caller command Stays told
+    → AnswersOutcome (permitted old caller command) old Stays told
+    → StepsTo old caller command Stays told
 permitted_step old caller command Stays told allowed (inl (same, stays)) =
     let outcome = permitted old caller command in (
       outcome.0,

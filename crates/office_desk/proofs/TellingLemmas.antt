@@ -5,7 +5,7 @@ use Rattle.exam_model.specs.Instance.{Session}
 use Rattle.office_policy.specs.declared.callers.Caller.{Caller}
 use Rattle.office_policy.specs.declared.callers.Caller.TheVariants.{Cand, Dept}
 use Rattle.office_policy.specs.declared.callers.Caller.TheVariants as caller
-use Rattle.office_model.specs.Answers.{PlainAnswer, refused, text}
+use Rattle.office_model.specs.Answers.{PlainAnswer, my_cost, refused, text}
 use Rattle.office_model.specs.Candidates as candidates
 use Rattle.office_model.specs.Candidates.{Asked}
 use Rattle.office_model.specs.Commands.{Gives}
@@ -17,19 +17,20 @@ use Rattle.office_model.specs.Views.{view_of}
 use Rattle.office_model.specs.declared.fault.StoreFault.{StoreFault}
 use Rattle.office_model.specs.declared.fault.StoreFault.TheVariants.{BadSchema, Store}
 use Rattle.exam_model.specs.Timetable.{Placing}
-use Rattle.exam_score.specs.Penalty.{Penalty}
+use Rattle.exam_score.specs.Penalty.{Penalty, PersonalPenalty}
 use Rattle.exam_terms.specs.Refusing.{◌>>=◌}
 use Rattle.office_store.specs.Pricing.{draft_priced}
 use Rattle.office_store.specs.Running.{Does}
 use Rattle.office_desk.specs.Answers.{refusal}
-use Rattle.office_desk.specs.Performing.{Tells, TellsView, told_of}
+use Rattle.office_desk.specs.Performing.{AnswersOutcome, AnswersPenalty, AnswersView, told_of}
 use Rattle.office_desk.specs.Answers.{plain_answer}
 use Rattle.office_desk.specs.declared.answer.Answer.{Answer}
 
 -- what a command gives
 pub given_told : {A : Type 0} (says : A → PlainAnswer) (old : OfficeState) (gives : Gives A)
     (Stays : OfficeState → Type 0) (x : A) (told : PlainAnswer)
-    → Does gives old Stays (Ok x) → told ≡ says x → Tells (outcome says old gives) old Stays told
+    → Does gives old Stays (Ok x) → told ≡ says x
+    → AnswersOutcome (outcome says old gives) old Stays told
 given_told says old gives Stays x told does same =
     let is = does.1 in
     inl (
@@ -40,7 +41,8 @@ given_told says old gives Stays x told does same =
 -- its own refusal
 pub refusal_told : {A : Type 0} (says : A → PlainAnswer) (old : OfficeState) (gives : Gives A)
     (Stays : OfficeState → Type 0) (f : StoreFault) (told : PlainAnswer)
-    → gives ≡ Err f → Stays old → told ≡ refused f → Tells (outcome says old gives) old Stays told
+    → gives ≡ Err f → Stays old → told ≡ refused f
+    → AnswersOutcome (outcome says old gives) old Stays told
 refusal_told says old gives Stays f told is stays same =
     inl (
       same ∙ sym (ap (λ g. (outcome says old g).1) is),
@@ -51,7 +53,7 @@ refusal_told says old gives Stays f told is stays same =
 pub fault_told : {A : Type 0} (says : A → PlainAnswer) (old : OfficeState) (gives : Gives A)
     (Stays : OfficeState → Type 0) (f : StoreFault) (told : PlainAnswer)
     → Does gives old Stays (Err f) → told ≡ refusal f
-    → Tells (outcome says old gives) old Stays told
+    → AnswersOutcome (outcome says old gives) old Stays told
 fault_told says old gives Stays Store told does same = inr (same, does.1)
 fault_told says old gives Stays BadSchema told does same = absurd does.0
 fault_told says old gives Stays f told does same =
@@ -72,9 +74,10 @@ priced_as_shown says d office = go (draft_shown d office)
 pub priced_told : (says : Penalty → PlainAnswer) (d : ℕ) (office : OfficeState)
     (Stays : OfficeState → Type 0) (penalty : Penalty) (told : PlainAnswer)
     → Does (draft_priced d office) office Stays (Ok penalty) → told ≡ says penalty
-    → Tells (outcome (λ found. says found.1) office (draft_shown d office)) office Stays told
+    → AnswersOutcome (outcome (λ found. says found.1) office (draft_shown d office)) office Stays
+    told
 priced_told says d office Stays penalty told does same =
-    subst (λ outcome. Tells outcome office Stays told) (priced_as_shown says d office)
+    subst (λ outcome. AnswersOutcome outcome office Stays told) (priced_as_shown says d office)
     (given_told says office (draft_priced d office) Stays penalty told does same)
 
 -- the answer that `?` makes of a fault
@@ -89,12 +92,22 @@ err_told (Err answer) f is = is
 pub view_told : (who : Caller) (asked : Asked) (says : ShownView → PlainAnswer) (old : OfficeState)
     (Stays : OfficeState → Type 0) (view : ShownView) (told : PlainAnswer)
     → ((s : ℕ) → says (shown_to s (view_of s old)) ≡ candidates.told s asked (view_of s old))
-    → TellsView who old Stays (Ok view) → told ≡ says view
-    → Tells (told_to who asked old) old Stays told
+    → AnswersView who old Stays (Ok view) → told ≡ says view
+    → AnswersOutcome (told_to who asked old) old Stays told
 view_told caller.Office asked says old Stays view told same shows is = absurd shows
 view_told (Dept d) asked says old Stays view told same shows is = absurd shows
 view_told (Cand s) asked says old Stays view told same shows is =
     inl (is ∙ ap says shows.0 ∙ same s, shows.1)
+
+-- and what her exams cost her
+pub her_penalty_told : (who : Caller) (old : OfficeState) (Stays : OfficeState → Type 0)
+    (penalty : PersonalPenalty) (told : PlainAnswer) → AnswersPenalty who old Stays (Ok penalty)
+    → told ≡ my_cost penalty
+    → AnswersOutcome (told_to who candidates.cost old) old Stays told
+her_penalty_told caller.Office old Stays penalty told shows is = absurd shows
+her_penalty_told (Dept d) old Stays penalty told shows is = absurd shows
+her_penalty_told (Cand s) old Stays penalty told shows is =
+    inl (is ∙ ap my_cost shows.0, shows.1)
 
 -- ---- what is published
 

@@ -3,6 +3,7 @@ use Rattle.std.specs.Prelude.{◌≡◌, ◌⊎◌, Result, Ok, Err}
 use Rattle.sqlite.specs.Held.{Held, state}
 use Rattle.sqlite.specs.State.{HasCleanDisk}
 use Rattle.sqlite.specs.Store.{Ghosts}
+use Rattle.exam_score.specs.Penalty.{PersonalPenalty}
 use Rattle.office_policy.specs.Commands.{PlainCommand}
 use Rattle.office_policy.specs.declared.callers.Caller.{Caller}
 use Rattle.office_policy.specs.declared.callers.Caller.TheVariants.{Cand}
@@ -11,7 +12,7 @@ use Rattle.office_policy.specs.declared.command.Body.TheVariants.{Given, Bad, Lo
 use Rattle.office_model.specs.Answers.{PlainAnswer, bad_body, long_body, unavailable}
 use Rattle.office_model.specs.Office.{OfficeState}
 use Rattle.office_model.specs.Step.{Outcome, permitted}
-use Rattle.office_model.specs.Shown.{ShownView, shown_to}
+use Rattle.office_model.specs.Shown.{ShownView, shown_penalty, shown_to}
 use Rattle.office_model.specs.Views.{view_of}
 use Rattle.office_store.specs.Running.{Now}
 use Rattle.office_desk.specs.Answers.{plain_answer}
@@ -23,8 +24,8 @@ told_of (Ok answer) = plain_answer answer
 told_of (Err answer) = plain_answer answer
 
 -- the outcome stands and is told; or the office stands as it was, and nothing is told
-abbrev pub Tells : Outcome → OfficeState → (OfficeState → Type 0) → PlainAnswer → Type 0
-Tells outcome old Stays answer =
+abbrev pub AnswersOutcome : Outcome → OfficeState → (OfficeState → Type 0) → PlainAnswer → Type 0
+AnswersOutcome outcome old Stays answer =
     ((answer ≡ outcome.1) × Stays outcome.0) ⊎ ((answer ≡ unavailable) × Stays old)
 
 -- the same, over a disk that returns what was written
@@ -32,7 +33,7 @@ abbrev pub Yields : {S : Type 0} → Ghosts S → (OfficeState → Outcome) → 
     → Result Answer Answer → Type 0
 Yields store command old new result =
     HasCleanDisk (state store new) → (office : OfficeState) → Now (state store old) office
-    → Tells (command office) office (Now (state store new)) (told_of result)
+    → AnswersOutcome (command office) office (Now (state store new)) (told_of result)
 
 -- a command that is permitted, whoever asks
 abbrev pub Performs : {S : Type 0} → Ghosts S → PlainCommand → Held S → Held S
@@ -47,18 +48,33 @@ PerformsFor store caller command old new result =
     Yields store (λ office. permitted office caller command) old new result
 
 -- a candidate is shown her view; of what fails, and to whoever is no candidate, nothing is told
-abbrev pub TellsView : Caller → OfficeState → (OfficeState → Type 0) → Result ShownView Answer
+abbrev pub AnswersView : Caller → OfficeState → (OfficeState → Type 0) → Result ShownView Answer
     → Type 0
-TellsView (Cand s) old Stays (Ok view) = (view ≡ shown_to s (view_of s old)) × Stays old
-TellsView caller old Stays (Ok view) = ⊥
-TellsView caller old Stays (Err answer) = (plain_answer answer ≡ unavailable) × Stays old
+AnswersView (Cand s) old Stays (Ok view) = (view ≡ shown_to s (view_of s old)) × Stays old
+AnswersView caller old Stays (Ok view) = ⊥
+AnswersView caller old Stays (Err answer) = (plain_answer answer ≡ unavailable) × Stays old
 
 -- the same, over a disk that returns what was written
 abbrev pub ShowsView : {S : Type 0} → Ghosts S → Caller → Held S → Held S
     → Result ShownView Answer → Type 0
 ShowsView store caller old new result =
     HasCleanDisk (state store new) → (office : OfficeState) → Now (state store old) office
-    → TellsView caller office (Now (state store new)) result
+    → AnswersView caller office (Now (state store new)) result
+
+-- a candidate is told what her exams cost her, alike
+abbrev pub AnswersPenalty : Caller → OfficeState → (OfficeState → Type 0)
+    → Result PersonalPenalty Answer → Type 0
+AnswersPenalty (Cand s) old Stays (Ok penalty) =
+    (penalty ≡ shown_penalty (view_of s old)) × Stays old
+AnswersPenalty caller old Stays (Ok penalty) = ⊥
+AnswersPenalty caller old Stays (Err answer) = (plain_answer answer ≡ unavailable) × Stays old
+
+-- the same, over a disk that returns what was written
+abbrev pub ShowsPenalty : {S : Type 0} → Ghosts S → Caller → Held S → Held S
+    → Result PersonalPenalty Answer → Type 0
+ShowsPenalty store caller old new result =
+    HasCleanDisk (state store new) → (office : OfficeState) → Now (state store old) office
+    → AnswersPenalty caller office (Now (state store new)) result
 
 -- a body is given, or else that is answered
 abbrev pub IsGiven : {A : Type 0} → Body A → Result A Answer → Type 0

@@ -1,10 +1,12 @@
-// Commands of candidates: each is answered by her view alone. An `Err` says that nothing is told.
+// Commands of candidates: each is answered by her view alone, or by what of it is told. An `Err`
+// says that nothing is told.
 ghost use Rattle.sqlite.specs.Held.{state};
 ghost use Rattle.sqlite.specs.State.{HasCleanDisk};
 ghost use Rattle.office_policy.specs.Commands.{me, my_exam, my_penalty};
-ghost use Rattle.office_desk.specs.Performing.{PerformsFor, ShowsView};
+ghost use Rattle.office_desk.specs.Performing.{PerformsFor, ShowsPenalty, ShowsView};
 
 use crate::answer::Answer;
+use exam_score::PersonalParts;
 use exam_terms::ExamNo;
 use office_model::CandidateView;
 use office_policy::Caller;
@@ -54,8 +56,8 @@ pub(crate) fn my_penalty<S: Alter>(
     ensures clean { HasCleanDisk (state S.Store office.new)
         → HasCleanDisk (state S.Store office.old) }
 {
-    let view = her_view(office, alloc, caller)?;
-    Ok(Answer::MyPenalty(view.personal()))
+    let penalty = her_penalty(office, alloc, caller)?;
+    Ok(Answer::MyPenalty(penalty))
 }
 
 // The view of the candidate who asks. Nobody else is permitted to ask for one.
@@ -73,4 +75,21 @@ fn her_view<S: Alter>(
     };
     let view = office.candidate_view(alloc, student)?;
     Ok(view)
+}
+
+// What her exams cost the candidate who asks. Nobody else is permitted to ask for that.
+fn her_penalty<S: Alter>(
+    office: &mut Office<S>,
+    alloc: Global,
+    caller: Caller,
+) -> Result<PersonalParts, Answer>
+    ensures shows { ShowsPenalty S.Store caller office.old office.new result }
+    ensures clean { HasCleanDisk (state S.Store office.new)
+        → HasCleanDisk (state S.Store office.old) }
+{
+    let Caller::Cand(student) = caller else {
+        return Err(Answer::Unavailable);
+    };
+    let penalty = office.candidate_penalty(alloc, student)?;
+    Ok(penalty)
 }

@@ -17,7 +17,7 @@ pub(crate) fn publication<S: Alter>(office: &mut Office<S>, alloc: Global) -> Re
     ensures clean { HasCleanDisk (state S.Store office.new)
         → HasCleanDisk (state S.Store office.old) }
 {
-    let Some((timetable, _)) = office.publication(alloc)? else {
+    let Some(timetable) = office.published_timetable(alloc)? else {
         return Ok(Answer::Unpublished);
     };
     match write_solution(alloc, &timetable) {

@@ -22,7 +22,7 @@ use Rattle.office_files.specs.InstanceText.{no_more, later_sections, instance_in
 use Rattle.office_files.specs.ItemLines.{period_line, room_line, period_rule_line, room_rule_line}
 use Rattle.office_files.specs.ItemLines.{place_line}
 use Rattle.office_files.specs.Lines.{Located, is_header, lines_of, line_count}
-use Rattle.office_files.specs.Reading.{at_line, items_of, Gives}
+use Rattle.office_files.specs.Reading.{at_line, items_of, AnswersReading}
 use Rattle.office_files.specs.Sections.{section_in, AtHeader}
 use Rattle.office_files.specs.SolutionText.{counts_in, solution_in}
 use Rattle.office_files.specs.Weightings.{weighting_line}
@@ -197,26 +197,26 @@ no_fault_of_solution I b T e = solution_fault I b ∙ ap fault_of e
 
 module _ {X : Type 0} (view : X → Session × Enrolled) (b : List ℕ) where
   -- a refusal of an instance, but for memory, is the first fault of the file
-  pub instance_first : (r : Result X FileFault) → Gives view r (instance_in b) →
+  pub instance_first : (r : Result X FileFault) → AnswersReading view r (instance_in b) →
       IfErr r (λ f. f.what ≢ NoMemory → first_fault b ≡ Some f)
   instance_first (Ok x) is = tt
   instance_first (Err f) is = λ other. first_of_instance b f (is other)
 
   -- and a file that gave one has none
-  pub instance_faultless : (r : Result X FileFault) → Gives view r (instance_in b) →
+  pub instance_faultless : (r : Result X FileFault) → AnswersReading view r (instance_in b) →
       IfOk r (λ _. first_fault b ≡ None)
   instance_faultless (Ok x) is = no_fault_of_instance b (view x) is
   instance_faultless (Err f) is = tt
 
 module _ {X : Type 0} (view : X → Placing) (I : Session) (b : List ℕ) where
   -- a refusal of a solution, but for memory, is the first fault of the file
-  pub solution_first : (r : Result X FileFault) → Gives view r (solution_in I b) →
+  pub solution_first : (r : Result X FileFault) → AnswersReading view r (solution_in I b) →
       IfErr r (λ f. f.what ≢ NoMemory → first_solution_fault I b ≡ Some f)
   solution_first (Ok x) is = tt
   solution_first (Err f) is = λ other. first_of_solution I b f (is other)
 
   -- and a file that gave one has none
-  pub solution_faultless : (r : Result X FileFault) → Gives view r (solution_in I b) →
+  pub solution_faultless : (r : Result X FileFault) → AnswersReading view r (solution_in I b) →
       IfOk r (λ _. first_solution_fault I b ≡ None)
   solution_faultless (Ok x) is = no_fault_of_solution I b (view x) is
   solution_faultless (Err f) is = tt

@@ -20,7 +20,8 @@ use Rattle.office_files.specs.Dates.{or_fault, digits_of, date_if_any, date_of, 
 use Rattle.office_files.specs.ExamStudents.{students_in}
 use Rattle.office_files.specs.ExamLines.{ExamLine, exam_line, exam_of, pairs_on}
 use Rattle.office_files.specs.Fields.{first, rest, ended, split_once}
-use Rattle.office_files.specs.Items.{period_in, room_in, rule_word, rule_by}
+use Rattle.office_files.specs.Items.{period_in, room_in}
+use Rattle.office_files.specs.RuleWords.{rule_word, rule_by}
 use Rattle.office_files.specs.ItemLines.{period_rule_line, room_rule_line, place_line}
 use Rattle.office_files.specs.Numbers.{number}
 use Rattle.office_files.specs.Weightings.{weight_word, has_word, amount_in, front_in, weighting_by}

@@ -13,7 +13,7 @@ use Rattle.office_files.specs.ExamLines.{ExamLine, exam_of}
 use Rattle.office_files.specs.InstanceText.{InstanceText, instance_in}
 use Rattle.office_files.specs.ItemLines.{place_line}
 use Rattle.office_files.specs.Lines.{lines_of, line_count}
-use Rattle.office_files.specs.Reading.{Gives, at_line, items_of}
+use Rattle.office_files.specs.Reading.{AnswersReading, at_line, items_of}
 use Rattle.office_files.specs.SolutionText.{SolutionText, solution_in, timetable_in}
 use Rattle.office_files.specs.declared.counts.Counts.{Counts}
 use Rattle.office_files.specs.declared.fault.FaultKind.TheVariants.{NoMemory, CountMismatch}
@@ -25,20 +25,20 @@ use Rattle.office_files.proofs.SolutionLaws.{solution_is_text, text_is_solution,
 
 module _ {X : Type 0} (view : X → Session × Enrolled) (b : List ℕ) where
   -- what is answered is spelled so
-  pub instance_reading : (r : Result X FileFault) → Gives view r (instance_in b)
+  pub instance_reading : (r : Result X FileFault) → AnswersReading view r (instance_in b)
       → IfOk r (λ x. InstanceText b (view x).0 (view x).1)
   instance_reading (Ok x) is = read_is_text b (view x).0 (view x).1 is
   instance_reading (Err f) is = tt
 
   -- a text that is refused, but for memory, spells nothing
-  pub instance_only : (r : Result X FileFault) → Gives view r (instance_in b)
+  pub instance_only : (r : Result X FileFault) → AnswersReading view r (instance_in b)
       → IfErr r (λ f. f.what ≢ NoMemory → (I : Session) (E : Enrolled) → InstanceText b I E → ⊥)
   instance_only (Ok x) is = tt
   instance_only (Err f) is = λ other I E text.
       let same = sym (text_is_read b I E text) ∙ is other in cc
 
   -- and nothing else
-  pub instance_one : (r : Result X FileFault) → Gives view r (instance_in b)
+  pub instance_one : (r : Result X FileFault) → AnswersReading view r (instance_in b)
       → IfOk r (λ x. (I : Session) (E : Enrolled) → InstanceText b I E
       → (I ≡ (view x).0) × (E ≡ (view x).1))
   instance_one (Ok x) is =
@@ -47,7 +47,7 @@ module _ {X : Type 0} (view : X → Session × Enrolled) (b : List ℕ) where
   instance_one (Err f) is = tt
 
   -- as many exams as the instance has
-  pub instance_fits : (r : Result X FileFault) → Gives view r (instance_in b)
+  pub instance_fits : (r : Result X FileFault) → AnswersReading view r (instance_in b)
       → IfOk r (λ x. length (view x).1 ≡ length (view x).0.exams)
   instance_fits (Ok x) is =
       let text = read_is_text b (view x).0 (view x).1 is in
@@ -59,20 +59,20 @@ module _ {X : Type 0} (view : X → Session × Enrolled) (b : List ℕ) where
 
 module _ {X : Type 0} (view : X → Placing) (I : Session) (b : List ℕ) where
   -- what is answered is spelled so
-  pub solution_reading : (r : Result X FileFault) → Gives view r (solution_in I b)
+  pub solution_reading : (r : Result X FileFault) → AnswersReading view r (solution_in I b)
       → IfOk r (λ x. SolutionText b I (view x))
   solution_reading (Ok x) is = solution_is_text I b (view x) is
   solution_reading (Err f) is = tt
 
   -- a text that is refused, but for memory, spells nothing
-  pub solution_only : (r : Result X FileFault) → Gives view r (solution_in I b)
+  pub solution_only : (r : Result X FileFault) → AnswersReading view r (solution_in I b)
       → IfErr r (λ f. f.what ≢ NoMemory → (T : Placing) → SolutionText b I T → ⊥)
   solution_only (Ok x) is = tt
   solution_only (Err f) is = λ other T text.
       let same = sym (text_is_solution I b T text) ∙ is other in cc
 
   -- and nothing else
-  pub solution_one : (r : Result X FileFault) → Gives view r (solution_in I b)
+  pub solution_one : (r : Result X FileFault) → AnswersReading view r (solution_in I b)
       → IfOk r (λ x. (T : Placing) → SolutionText b I T → T ≡ view x)
   solution_one (Ok x) is = λ T text.
       let same = sym (text_is_solution I b T text) ∙ is in cc
@@ -82,7 +82,7 @@ module _ {X : Type 0} (view : X → Placing) (I : Session) (b : List ℕ) where
   pub solution_places : (counts : Counts)
       → counts.periods ≡ length I.periods → counts.rooms ≡ length I.rooms
       → 1 ≤ length I.periods → 1 ≤ length I.rooms
-      → (r : Result X FileFault) → Gives view r (timetable_in counts b)
+      → (r : Result X FileFault) → AnswersReading view r (timetable_in counts b)
       → IfOk r (λ x. All (PlaceExists I) (view x))
   solution_places counts periods rooms some_period some_room (Ok x) is =
       let read = bind_ok (items_of (place_line counts) [] (lines_of b)) _ (view x) is in

@@ -5,8 +5,8 @@ use Rattle.exam_model.specs.Timetable.{Placing, place_of}
 use Rattle.exam_terms.specs.declared.place.Place.{Place}
 
 -- each exam stands at its place of the list
-pub all_placed : (t : Placing) (places : List Place) → length t ≡ length places
-    → ((k : ℕ) → k < length places → place_of t k ≡ slice_get places k) → t ≡ map Some places
+pub all_placed : (T : Placing) (places : List Place) → length T ≡ length places
+    → ((k : ℕ) → k < length places → place_of T k ≡ slice_get places k) → T ≡ map Some places
 all_placed [] [] same at = refl
 all_placed [] (p ∷ ps) same at = absurd (omega arith)
 all_placed (o ∷ os) [] same at = absurd (omega arith)

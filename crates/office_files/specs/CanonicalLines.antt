@@ -7,17 +7,18 @@ use Rattle.exam_model.specs.declared.rules.PeriodRule.{PeriodRule}
 use Rattle.exam_model.specs.declared.rules.PeriodRule.TheVariants.{After, Coincidence, Exclusion}
 use Rattle.exam_model.specs.declared.rules.RoomRule.{RoomRule}
 use Rattle.exam_calendar.specs.declared.date.Date.{Date}
+use Rattle.office_files.specs.Bytes.{space, comma, colon, line_feed, carriage_return}
 use Rattle.office_files.specs.ExamLines.{ExamLine}
 use Rattle.office_files.specs.declared.weightings.Weighting.{Weighting}
 use Rattle.office_files.specs.declared.weightings.Weighting.TheVariants.{Row, Day, Spread, Mixed, Front}
 
 -- a line and its end, a carriage return and a line feed
 abbrev pub line_of : List ℕ → List ℕ
-line_of text = text ++ 13 ∷ 10 ∷ []
+line_of text = text ++ carriage_return ∷ line_feed ∷ []
 
 -- a field before the others of a line: a comma and a space stand between
 abbrev pub before : List ℕ → List ℕ → List ℕ
-before field others = field ++ 44 ∷ 32 ∷ others
+before field others = field ++ comma ∷ space ∷ others
 
 -- a number below 100 in two digits
 abbrev pub two_digits : ℕ → List ℕ
@@ -26,17 +27,17 @@ two_digits n = (48 + n / 10) ∷ (48 + n % 10) ∷ []
 -- DD:MM:YYYY
 abbrev pub date_text : Date → List ℕ
 date_text d =
-    two_digits d.day ++ 58 ∷ (two_digits d.month ++ 58 ∷ (
+    two_digits d.day ++ colon ∷ (two_digits d.month ++ colon ∷ (
     two_digits (d.year / 100) ++ two_digits (d.year % 100)))
 
 -- HH:MM:SS
 abbrev pub time_text : Period → List ℕ
 time_text p =
-    two_digits p.hour ++ 58 ∷ (two_digits p.minute ++ 58 ∷ two_digits p.second)
+    two_digits p.hour ++ colon ∷ (two_digits p.minute ++ colon ∷ two_digits p.second)
 
 -- duration, students
 abbrev pub exam_text : ExamLine → List ℕ
-exam_text e = decimal e.minutes ++ flat_map (λ s. 44 ∷ 32 ∷ decimal s) e.students
+exam_text e = decimal e.minutes ++ flat_map (λ s. comma ∷ space ∷ decimal s) e.students
 
 -- date, time, length, penalty
 abbrev pub period_text : Period → List ℕ
@@ -60,7 +61,7 @@ room_rule_text r = before (decimal r.0) (codes "ROOM_EXCLUSIVE")
 
 -- a word and its number, a comma alone between them
 abbrev pub weighed : List ℕ → ℕ → List ℕ
-weighed word n = word ++ 44 ∷ decimal n
+weighed word n = word ++ comma ∷ decimal n
 
 -- a weighting; a comma alone stands between its fields
 abbrev pub weighting_text : Weighting → List ℕ
@@ -68,4 +69,5 @@ weighting_text (Row w) = weighed (codes "TWOINAROW") w
 weighting_text (Day w) = weighed (codes "TWOINADAY") w
 weighting_text (Spread g) = weighed (codes "PERIODSPREAD") g
 weighting_text (Mixed w) = weighed (codes "NONMIXEDDURATIONS") w
-weighting_text (Front n k w) = weighed (codes "FRONTLOAD") n ++ 44 ∷ (decimal k ++ 44 ∷ decimal w)
+weighting_text (Front n k w) =
+    weighed (codes "FRONTLOAD") n ++ comma ∷ (decimal k ++ comma ∷ decimal w)

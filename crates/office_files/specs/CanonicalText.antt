@@ -5,6 +5,7 @@ use Rattle.exam_model.specs.Instance.{Session}
 use Rattle.exam_model.specs.Enrolments.{Enrolled}
 use Rattle.exam_model.specs.declared.parts.Exam.{Exam}
 use Rattle.exam_model.specs.declared.parts.Weights.{Weights}
+use Rattle.office_files.specs.Bytes.{colon, opening_bracket, closing_bracket}
 use Rattle.office_files.specs.ExamLines.{ExamLine}
 use Rattle.office_files.specs.Spelled.{exams_heading, periods_heading, rooms_heading}
 use Rattle.office_files.specs.Spelled.{period_rules_heading, room_rules_heading, weightings_heading}
@@ -29,12 +30,12 @@ exam_lines_of (e ∷ es) (students ∷ E) =
 
 -- what stands behind a header's word
 abbrev pub count_text : Option ℕ → ℕ → List ℕ
-count_text None n = 93 ∷ []
-count_text (Some limit) n = 58 ∷ (decimal n ++ 93 ∷ [])
+count_text None n = closing_bracket ∷ []
+count_text (Some limit) n = colon ∷ (decimal n ++ closing_bracket ∷ [])
 
 -- a header: its word, and where the section has a limit the number of its lines
 abbrev pub header_text : Heading → ℕ → List ℕ
-header_text h n = 91 ∷ (h.word ++ count_text h.limit n)
+header_text h n = opening_bracket ∷ (h.word ++ count_text h.limit n)
 
 -- a section: its header, and a line for each of its items
 abbrev pub section_text : {A : Type 0} → Heading → (A → List ℕ) → List A → List ℕ

@@ -3,6 +3,7 @@ use Rattle.std.specs.Prelude.{ℕ, ◌&&◌, nat_le, if◌then◌else◌, List, 
 use Rattle.exam_calendar.specs.Dates.{is_civil}
 use Rattle.exam_calendar.specs.declared.date.Date.{Date}
 use Rattle.exam_terms.specs.Refusing.{◌>>=◌, else_err}
+use Rattle.office_files.specs.Bytes.{colon}
 use Rattle.office_files.specs.Fields.{split_once}
 use Rattle.office_files.specs.Numbers.{number}
 use Rattle.office_files.specs.declared.fault.FaultKind.{FaultKind}
@@ -32,8 +33,8 @@ date_if_any year month day =
 -- DD:MM:YYYY, the day and the month of one digit or two
 abbrev pub date_of : List ℕ → Result Date FaultKind
 date_of text = do
-  front ← else_err BadDate (split_once 58 text)
-  back ← else_err BadDate (split_once 58 front.1)
+  front ← else_err BadDate (split_once colon text)
+  back ← else_err BadDate (split_once colon front.1)
   day ← digits_of BadDate 1 2 99 front.0
   month ← digits_of BadDate 1 2 99 back.0
   year ← digits_of BadDate 4 4 9999 back.1
@@ -42,8 +43,8 @@ date_of text = do
 -- HH:MM:SS, each of one digit or two
 abbrev pub time_of : List ℕ → Result (ℕ × ℕ × ℕ) FaultKind
 time_of text = do
-  front ← else_err BadTime (split_once 58 text)
-  back ← else_err BadTime (split_once 58 front.1)
+  front ← else_err BadTime (split_once colon text)
+  back ← else_err BadTime (split_once colon front.1)
   hour ← digits_of BadTime 1 2 23 front.0
   minute ← digits_of BadTime 1 2 59 back.0
   second ← digits_of BadTime 1 2 59 back.1

@@ -3,6 +3,7 @@ use Rattle.std.specs.Prelude.{◌≡◌, ℕ, ◌≤◌, ◌<◌, ◌^◌, true,
 use Rattle.std.specs.Prelude.{List, [], ◌∷◌, length, take, slice_index, Option, Some, None}
 use Rattle.std.specs.List.{list_all}
 use Rattle.std.specs.Char.{is_ascii_digit}
+use Rattle.office_files.specs.Bytes.{space}
 use Rattle.office_files.specs.Numbers.{read_on, is_number}
 
 -- so many digits at the front of a text say that number
@@ -30,4 +31,4 @@ few_digits text =
 -- a text without a space at its start
 abbrev pub without_space : List ℕ → List ℕ
 without_space [] = []
-without_space (b ∷ bs) = if b == 32 then bs else b ∷ bs
+without_space (b ∷ bs) = if b == space then bs else b ∷ bs

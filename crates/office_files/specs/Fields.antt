@@ -3,6 +3,7 @@ use Rattle.std.specs.Prelude.{ℕ, ◌==◌, if◌then◌else◌, List, [], ◌�
 use Rattle.std.specs.Prelude.{Option, Some, None, option_map, Result, Ok, Err}
 use Rattle.std.specs.List.{onto_first}
 use Rattle.exam_terms.specs.Texts.{trimmed}
+use Rattle.office_files.specs.Bytes.{comma}
 use Rattle.office_files.specs.declared.fault.FaultKind.{FaultKind}
 use Rattle.office_files.specs.declared.fault.FaultKind.TheVariants.{StrayText}
 
@@ -19,7 +20,7 @@ split_once c (b ∷ bs) =
 
 -- the fields of a line, trimmed; behind a last comma there is none
 abbrev pub fields_of : List ℕ → List (List ℕ)
-fields_of line = map trimmed (ended_parts 44 line)
+fields_of line = map trimmed (ended_parts comma line)
 
 -- the first of the fields; a missing field is judged as an empty one
 abbrev pub first : List (List ℕ) → List ℕ

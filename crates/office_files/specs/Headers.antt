@@ -3,6 +3,7 @@ use Rattle.std.specs.Prelude.{ℕ, ◌==◌, nat_lt, List, length, drop, Option,
 use Rattle.std.specs.Str.{str_eq_ignore_ascii_case}
 use Rattle.exam_terms.specs.Refusing.{◌>>=◌, unless, else_err}
 use Rattle.exam_terms.specs.Texts.{trimmed}
+use Rattle.office_files.specs.Bytes.{colon, closing_bracket}
 use Rattle.office_files.specs.Fields.{split_once}
 use Rattle.office_files.specs.Lines.{is_header}
 use Rattle.office_files.specs.Numbers.{number}
@@ -14,7 +15,7 @@ use Rattle.office_files.specs.declared.fault.FaultKind.TheVariants.{OutOfRange, 
 abbrev pub inside_of : List ℕ → Result (List ℕ × List ℕ) FaultKind
 inside_of text = do
   _ ← unless (is_header text) MissingSection
-  else_err MissingSection (split_once 93 (drop 1 text))
+  else_err MissingSection (split_once closing_bracket (drop 1 text))
 
 -- nothing stands behind the closing bracket
 abbrev pub closed : List ℕ → Result (Unit {0}) FaultKind
@@ -31,7 +32,7 @@ plain_header word text = do
 abbrev pub counted_header : List ℕ → ℕ → ℕ → List ℕ → Result (Unit {0}) FaultKind
 counted_header word limit lines text = do
   inside ← inside_of text
-  named ← else_err MissingSection (split_once 58 inside.0)
+  named ← else_err MissingSection (split_once colon inside.0)
   _ ← unless (str_eq_ignore_ascii_case (trimmed named.0) word) MissingSection
   count ← number limit (trimmed named.1)
   _ ← unless (nat_lt 0 count) OutOfRange

@@ -1,5 +1,5 @@
 -- What the fields of a line say (ITC 2007, input format), and those of a line of a solution.
-use Rattle.std.specs.Prelude.{ℕ, ◌-◌, if◌then◌else◌, List, codes, Result, Ok, Err}
+use Rattle.std.specs.Prelude.{ℕ, ◌-◌, List, codes, Result, Ok}
 use Rattle.std.specs.Str.{str_eq_ignore_ascii_case}
 use Rattle.exam_terms.specs.declared.limits.TheConstants.{MAX_AMOUNT, MAX_MINUTES}
 use Rattle.exam_terms.specs.Refusing.{◌>>=◌, unless}
@@ -7,13 +7,11 @@ use Rattle.exam_model.specs.declared.parts.Period.{Period}
 use Rattle.exam_terms.specs.declared.place.Place.{Place}
 use Rattle.exam_model.specs.declared.parts.Room.{Room}
 use Rattle.exam_model.specs.declared.rules.PeriodRule.{PeriodRule}
-use Rattle.exam_model.specs.declared.rules.PeriodRule.TheVariants.{After, Coincidence, Exclusion}
 use Rattle.exam_model.specs.declared.rules.RoomRule.{RoomRule}
 use Rattle.office_files.specs.Dates.{date_of, time_of}
 use Rattle.office_files.specs.Fields.{first, rest, ended}
 use Rattle.office_files.specs.Numbers.{number}
-use Rattle.office_files.specs.declared.rule_word.RuleWord.{RuleWord}
-use Rattle.office_files.specs.declared.rule_word.RuleWord.TheVariants as word
+use Rattle.office_files.specs.RuleWords.{rule_word, rule_by}
 use Rattle.office_files.specs.declared.counts.Counts.{Counts}
 use Rattle.office_files.specs.declared.fault.FaultKind.{FaultKind}
 use Rattle.office_files.specs.declared.fault.FaultKind.TheVariants.{BadWord}
@@ -42,20 +40,6 @@ room_in fields = do
   penalty ← number MAX_AMOUNT (first (rest fields))
   _ ← ended (rest (rest fields))
   Ok (record { capacity = capacity; penalty = penalty })
-
--- the word of a rule on two exams
-abbrev pub rule_word : List ℕ → Result RuleWord FaultKind
-rule_word text =
-    if str_eq_ignore_ascii_case text (codes "AFTER") then Ok word.After
-    else (if str_eq_ignore_ascii_case text (codes "EXAM_COINCIDENCE") then Ok word.Coincidence
-    else (if str_eq_ignore_ascii_case text (codes "EXCLUSION") then Ok word.Exclusion
-    else Err BadWord))
-
--- the rule of that word on two exams
-abbrev pub rule_by : RuleWord → ℕ → ℕ → PeriodRule
-rule_by word.After a b = After a b
-rule_by word.Coincidence a b = Coincidence a b
-rule_by word.Exclusion a b = Exclusion a b
 
 -- exam, word, exam; both exams are among so many
 abbrev pub period_rule_in : ℕ → List (List ℕ) → Result PeriodRule FaultKind

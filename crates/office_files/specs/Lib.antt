@@ -1,3 +1,4 @@
+pub mod Bytes
 pub mod Faults
 pub mod Inputs
 pub mod Fields
@@ -7,6 +8,7 @@ pub mod Dates
 pub mod Lines
 pub mod Tokens
 pub mod Reading
+pub mod RuleWords
 pub mod Items
 pub mod ItemLines
 pub mod Weightings

@@ -3,11 +3,12 @@ use Rattle.std.specs.Prelude.{ℕ, ◌+◌, ◌-◌, ◌<◌, ◌≤◌, Bool, f
 use Rattle.std.specs.Prelude.{List, [], ◌∷◌, length}
 use Rattle.exam_terms.specs.declared.limits.TheConstants.{INSTANCE_BYTES}
 use Rattle.exam_terms.specs.Texts.{trim_start, trimmed}
+use Rattle.office_files.specs.Bytes.{line_feed, carriage_return, opening_bracket}
 use Rattle.office_files.specs.Fields.{ended_parts}
 
 -- how many lines a text has; behind a last line feed there is none
 abbrev pub line_count : List ℕ → ℕ
-line_count text = length (ended_parts 10 text)
+line_count text = length (ended_parts line_feed text)
 
 -- a part of a text, and the place where it starts
 pub record Piece : Type 0 where
@@ -22,7 +23,7 @@ placed start (x ∷ xs) = record { start = start; text = x } ∷ placed (start +
 -- one carriage return at the end is dropped
 abbrev pub without_return : List ℕ → List ℕ
 without_return [] = []
-without_return (b ∷ []) = if b == 13 then [] else b ∷ []
+without_return (b ∷ []) = if b == carriage_return then [] else b ∷ []
 without_return (b ∷ c ∷ cs) = b ∷ without_return (c ∷ cs)
 
 -- what stands on a line of the file, or in a field of it, from one place up to another
@@ -58,12 +59,12 @@ lines_from line (p ∷ ps) =
 
 -- the lines of a text that aren't blank, counted from 1
 abbrev pub lines_of : List ℕ → List Located
-lines_of text = lines_from 1 (placed 0 (ended_parts 10 text))
+lines_of text = lines_from 1 (placed 0 (ended_parts line_feed text))
 
 -- a header begins with an opening bracket
 abbrev pub is_header : List ℕ → Bool
 is_header [] = false
-is_header (b ∷ bs) = b == 91
+is_header (b ∷ bs) = b == opening_bracket
 
 -- how many lines stand before the next header
 abbrev pub section_size : List Located → ℕ

@@ -30,14 +30,16 @@ pub record Spell {A : Type 0} (read : List A → List (List ℕ) → Result A Fa
       → slice_get items i ≡ Some item → read (take i items) (fields_of line.text) ≡ Ok item
 
 -- a call answered what the reading gives
-abbrev pub Reads : {X Y : Type 0} → (X → Y) → Result X FaultKind → Result Y FaultKind → Type 0
-Reads view (Ok x) reading = reading ≡ Ok (view x)
-Reads view (Err what) reading = reading ≡ Err what
+abbrev pub AnswersField : {X Y : Type 0} → (X → Y) → Result X FaultKind → Result Y FaultKind
+    → Type 0
+AnswersField view (Ok x) reading = reading ≡ Ok (view x)
+AnswersField view (Err what) reading = reading ≡ Err what
 
 -- the same, unless memory ran out
-abbrev pub Gives : {X Y : Type 0} → (X → Y) → Result X FileFault → Result Y FileFault → Type 0
-Gives view (Ok x) reading = reading ≡ Ok (view x)
-Gives view (Err fault) reading = fault.what ≢ NoMemory → reading ≡ Err fault
+abbrev pub AnswersReading : {X Y : Type 0} → (X → Y) → Result X FileFault → Result Y FileFault
+    → Type 0
+AnswersReading view (Ok x) reading = reading ≡ Ok (view x)
+AnswersReading view (Err fault) reading = fault.what ≢ NoMemory → reading ≡ Err fault
 
 -- the fault of a reading, if it has one
 abbrev pub fault_of : {A F : Type 0} → Result A F → Option F

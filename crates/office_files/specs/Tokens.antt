@@ -2,6 +2,7 @@
 use Rattle.std.specs.Prelude.{◌≡◌, ℕ, ◌≤◌, if◌then◌else◌}
 use Rattle.std.specs.Prelude.{List, [], ◌∷◌, ◌++◌, map, length, slice_range}
 use Rattle.std.specs.List.{flat_map}
+use Rattle.office_files.specs.Bytes.{comma}
 use Rattle.office_files.specs.Fields.{ended_parts}
 use Rattle.office_files.specs.Lines.{Located, placed, located, lines_of, is_header}
 use Rattle.office_files.specs.declared.lines.Token.{Token}
@@ -14,7 +15,7 @@ token_of t = record { line = t.line; start = t.start; end = t.end; text = t.text
 abbrev pub tokens_in : Located → List Located
 tokens_in row =
     if is_header row.text then row ∷ []
-    else map (located row.line) (placed row.start (ended_parts 44 row.text))
+    else map (located row.line) (placed row.start (ended_parts comma row.text))
 
 -- the fields of a text
 abbrev pub tokens_of : List ℕ → List Located
@@ -23,7 +24,7 @@ tokens_of text = flat_map tokens_in (lines_of text)
 -- what is left of a text: the fields left of a line that was begun, and the lines after it
 abbrev pub tokens_left : ℕ → ℕ → List ℕ → List Located → List Located
 tokens_left line at fields rows =
-    map (located line) (placed at (ended_parts 44 fields)) ++ flat_map tokens_in rows
+    map (located line) (placed at (ended_parts comma fields)) ++ flat_map tokens_in rows
 
 -- the token is that part of the source
 pub record IsSliceOf (source : List ℕ) (t : Located) : Type 0 where
@@ -32,6 +33,6 @@ pub record IsSliceOf (source : List ℕ) (t : Located) : Type 0 where
   pub slice : t.text ≡ slice_range source t.start t.end
 
 -- the tokens lie one behind another between two places
-abbrev pub Runs : ℕ → List Located → ℕ → Type 0
-Runs low [] high = low ≤ high
-Runs low (t ∷ ts) high = (low ≤ t.start) × (t.start ≤ t.end) × Runs t.end ts high
+abbrev pub LieInRow : ℕ → List Located → ℕ → Type 0
+LieInRow low [] high = low ≤ high
+LieInRow low (t ∷ ts) high = (low ≤ t.start) × (t.start ≤ t.end) × LieInRow t.end ts high

@@ -2,7 +2,7 @@
 
 /// How many exams, periods and rooms there are.
 #[derive(Clone, Copy)]
-pub struct Counts {
+pub(crate) struct Counts {
     pub exams: u32,
     pub periods: u32,
     pub rooms: u32,

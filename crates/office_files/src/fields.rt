@@ -11,7 +11,7 @@ use std::marker::Model;
 
 /// The fields of a line that are still to come.
 #[derive(Drop)]
-pub struct Fields<'a> {
+pub(crate) struct Fields<'a> {
     left: &'a [u8],
 }
 
@@ -24,14 +24,14 @@ impl<'a> Model for Fields<'a> {
 impl<'a> Fields<'a> {
     /// The fields of this line, from the first on.
     #[inline]
-    pub fn new(line: &'a [u8]) -> Fields<'a>
+    pub(crate) fn new(line: &'a [u8]) -> Fields<'a>
         ensures { result ≡ fields_of line.now }
     {
         Fields { left: line }
     }
 
     /// The next field, or an empty one where none is left.
-    pub fn next(&mut self) -> &'a [u8]
+    pub(crate) fn next(&mut self) -> &'a [u8]
         ensures field { result.now ≡ first self.old }
         ensures left { self.new ≡ rest self.old }
     {
@@ -45,7 +45,7 @@ impl<'a> Fields<'a> {
 
     /// The number of at most the limit that the next field says; a missing field says none.
     #[inline(always)]
-    pub fn next_number(&mut self, limit: u32) -> Result<u32, FaultKind>
+    pub(crate) fn next_number(&mut self, limit: u32) -> Result<u32, FaultKind>
         ensures number { result ≡ number limit (first self.old) }
         ensures left { self.new ≡ rest self.old }
     {
@@ -60,7 +60,7 @@ impl<'a> Fields<'a> {
 
     /// Whether no field is left.
     #[inline]
-    pub fn is_empty(&self) -> bool
+    pub(crate) fn is_empty(&self) -> bool
         ensures { IsTrue result ↔ (self.now ≡ []) }
     {
         self.left.is_empty()

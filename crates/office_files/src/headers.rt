@@ -1,7 +1,7 @@
 // Judging the header of a section.
 ghost use Rattle.std.specs.Prelude.{◌≡◌, ◌<◌, ℕ, length};
 ghost use Rattle.office_files.specs.Lines.{is_header};
-ghost use Rattle.office_files.specs.Reading.{Reads};
+ghost use Rattle.office_files.specs.Reading.{AnswersField};
 ghost use Rattle.office_files.specs.Headers.{inside_of, closed, plain_header, counted_header};
 ghost use Rattle.office_files.specs.Headers.{header_by};
 
@@ -37,7 +37,7 @@ fn plain_header(word: &[u8], text: &[u8]) -> Result<(), FaultKind>
 
 // What stands between a header's brackets, and what behind them.
 fn inside_of(text: &[u8]) -> Result<(&[u8], &[u8]), FaultKind>
-    ensures { Reads (λ p. (p.0.now, p.1.now)) result (inside_of text.now) }
+    ensures { AnswersField (λ p. (p.0.now, p.1.now)) result (inside_of text.now) }
 {
     if !is_header(text) {
         return Err(FaultKind::MissingSection);

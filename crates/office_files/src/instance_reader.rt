@@ -7,7 +7,7 @@ ghost use Rattle.office_files.specs.ExamLines.{ExamLine, exam_line, exam_of};
 ghost use Rattle.office_files.specs.Faults.{IsOfNoLine};
 ghost use Rattle.office_files.specs.FirstFault.{first_fault};
 ghost use Rattle.office_files.specs.Lines.{line_count};
-ghost use Rattle.office_files.specs.Reading.{Gives};
+ghost use Rattle.office_files.specs.Reading.{AnswersReading};
 ghost use Rattle.office_files.specs.Sections.{section_in};
 ghost use Rattle.office_files.specs.Weights.{with_weightings, no_weights};
 ghost use Rattle.office_files.specs.Spelled.{exams_heading};
@@ -51,7 +51,7 @@ pub fn read_instance(alloc: Global, source: &[u8]) -> Result<(Instance, Enrolmen
     ensures faultless { IfOk result (λ _. first_fault source.now ≡ None) }
 
     // The answer is that of the reading of the text from the top, faults included.
-    ensures exact { Gives (λ read. (read.0, read.1)) result (instance_in source.now) }
+    ensures exact { AnswersReading (λ read. (read.0, read.1)) result (instance_in source.now) }
     ensures memory { IfErr result IsOfNoLine }
 {
     if source.len() > INSTANCE_BYTES {
@@ -63,7 +63,7 @@ pub fn read_instance(alloc: Global, source: &[u8]) -> Result<(Instance, Enrolmen
 // The instance of a file that is not too long.
 fn instance_in(alloc: Global, source: &[u8]) -> Result<(Instance, Enrolments), FileFault>
     requires within { length source.now ≤ INSTANCE_BYTES }
-    ensures exact { Gives (λ r. (r.0, r.1)) result (instance_in source.now) }
+    ensures exact { AnswersReading (λ r. (r.0, r.1)) result (instance_in source.now) }
     ensures memory { IfErr result IsOfNoLine }
 {
     let mut sections = Sections::new(source);

@@ -14,7 +14,7 @@ use exam_model::{ExamNo, Period, PeriodNo, PeriodRule, Place, Room, RoomNo, Room
 use exam_terms::limits::{MAX_AMOUNT, MAX_MINUTES, MAX_RULES};
 
 /// What a line of one kind says, behind the items of the lines before it.
-pub trait LineItem: Sized {
+pub(crate) trait LineItem: Sized {
     ghost reading: { Counts → List Self → List (List ℕ) → Result Self FaultKind };
 
     fn read(counts: Counts, before: &[Self], line: &[u8]) -> Result<Self, FaultKind>

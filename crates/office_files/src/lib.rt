@@ -1,5 +1,5 @@
-#![tactic(auto)]
 //! Readers and writers of instance and solution files.
+#![tactic(auto)]
 
 mod counts;
 mod dates;

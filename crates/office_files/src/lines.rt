@@ -57,7 +57,7 @@ fn cut_line(text: &[u8]) -> (&[u8], &[u8])
 
 /// The lines of a text that are still to come and aren't blank.
 #[derive(Drop)]
-pub struct Lines<'a> {
+pub(crate) struct Lines<'a> {
     left: &'a [u8],
     at: usize,
     line: u32,
@@ -74,7 +74,7 @@ impl<'a> Model for Lines<'a> {
 impl<'a> Lines<'a> {
     /// The lines of this text, from the first on.
     #[inline]
-    pub fn new(source: &'a [u8]) -> Lines<'a>
+    pub(crate) fn new(source: &'a [u8]) -> Lines<'a>
         requires { length source.now ≤ INSTANCE_BYTES }
         ensures { result ≡ lines_of source.now }
     {
@@ -86,7 +86,7 @@ impl<'a> Lines<'a> {
     }
 
     /// The next line that isn't blank.
-    pub fn next(&mut self) -> Option<Token<'a>>
+    pub(crate) fn next(&mut self) -> Option<Token<'a>>
         ensures inside { IfSome result (λ row. (0 < length row.text.now)
             × (row.start + length row.text.now ≤ INSTANCE_BYTES)) }
         ensures row { MatchOption result ((self.old ≡ []) × (self.new ≡ []))
@@ -107,7 +107,7 @@ impl<'a> Lines<'a> {
 
     /// How many lines stand before the next header.
     #[tactic(auto, using(crate::proofs::LineLemmas::size_facts))]
-    pub fn section_size(&self) -> usize
+    pub(crate) fn section_size(&self) -> usize
         ensures size { result ≡ section_size self.now }
         ensures within { result ≤ length self.now }
     {

@@ -1,6 +1,6 @@
 // The words of the rules on two exams.
 ghost use Rattle.std.specs.Prelude.{◌≡◌};
-ghost use Rattle.office_files.specs.Items.{rule_word, rule_by};
+ghost use Rattle.office_files.specs.RuleWords.{rule_word, rule_by};
 
 use crate::fault::FaultKind;
 use crate::words::same_word;
@@ -8,7 +8,7 @@ use exam_model::{ExamNo, PeriodRule};
 
 /// What a rule asks of the periods of two exams.
 #[derive(Clone, Copy)]
-pub enum RuleWord {
+pub(crate) enum RuleWord {
     After,
     Coincidence,
     Exclusion,

@@ -3,7 +3,7 @@ ghost use Rattle.std.specs.Prelude.{◌≡◌, ◌≢◌, ℕ, ◌+◌, ◌≤�
 ghost use Rattle.exam_terms.specs.declared.limits.TheConstants.{INSTANCE_BYTES};
 ghost use Rattle.office_files.specs.Faults.{IsOfNoLine};
 ghost use Rattle.office_files.specs.Lines.{Located, lines_of, line_count, section_size};
-ghost use Rattle.office_files.specs.Reading.{Gives, items_of};
+ghost use Rattle.office_files.specs.Reading.{AnswersReading, items_of};
 ghost use Rattle.office_files.specs.Headers.{Heading};
 ghost use Rattle.office_files.specs.Sections.{opened, section_in};
 ghost use Rattle.office_files.specs.InstanceText.{no_more};
@@ -22,7 +22,8 @@ pub(crate) fn all_items<T: LineItem + Drop>(
     mut lines: Lines<'_>,
     counts: Counts,
 ) -> Result<Vec<T>, FileFault>
-    ensures exact { Gives (λ v. v.items) result (items_of (T.reading counts) [] lines.entry) }
+    ensures exact { AnswersReading (λ v. v.items) result
+        (items_of (T.reading counts) [] lines.entry) }
     ensures memory { IfErr result IsOfNoLine }
 {
     let mut items: Vec<T> = Vec::new(alloc);
@@ -53,14 +54,14 @@ fn add_item<T: LineItem + Drop>(
 
 /// The sections of a file that are still to come.
 #[derive(Drop)]
-pub struct Sections<'a> {
+pub(crate) struct Sections<'a> {
     pub source: &'a [u8],
     pub lines: Lines<'a>,
 }
 
 impl<'a> Sections<'a> {
     /// All sections of this file.
-    pub fn new(source: &'a [u8]) -> Sections<'a>
+    pub(crate) fn new(source: &'a [u8]) -> Sections<'a>
         requires within { length source.now ≤ INSTANCE_BYTES }
         ensures lines { result.lines ≡ lines_of source.now }
         ensures source { result.source.now ≡ source.now }
@@ -73,7 +74,7 @@ impl<'a> Sections<'a> {
 
     // Judges the next header, and answers how many lines its section has.
     #[tactic(auto, using(crate::proofs::SectionLemmas::section_facts))]
-    pub fn open(&mut self, word: &[u8], limit: Option<u32>) -> Result<usize, FileFault>
+    pub(crate) fn open(&mut self, word: &[u8], limit: Option<u32>) -> Result<usize, FileFault>
         requires within { length self.old.source.now ≤ INSTANCE_BYTES }
         ensures opened { OnOk result (opened (record { word = word.now; limit = limit })
             (line_count self.old.source.now + 1) self.old.lines ≡ Ok self.new.lines) }
@@ -99,7 +100,7 @@ impl<'a> Sections<'a> {
     }
 
     /// The items of the next section.
-    pub fn next<T: LineItem + Drop>(
+    pub(crate) fn next<T: LineItem + Drop>(
         &mut self,
         alloc: Global,
         word: &[u8],
@@ -121,7 +122,7 @@ impl<'a> Sections<'a> {
     }
 
     /// Refuses a header behind the last section.
-    pub fn end(&mut self) -> Result<(), FileFault>
+    pub(crate) fn end(&mut self) -> Result<(), FileFault>
         ensures exact { result ≡ no_more self.old.lines }
         ensures memory { IfErr result IsOfNoLine }
     {
@@ -143,7 +144,7 @@ fn items<T: LineItem + Drop>(
     counts: Counts,
 ) -> Result<Vec<T>, FileFault>
     requires there { count ≤ length lines.old }
-    ensures exact { Gives (λ v. v.items) result
+    ensures exact { AnswersReading (λ v. v.items) result
         (items_of (T.reading counts) [] (take count lines.old)) }
     ensures left { OnOk result (lines.new ≡ drop count lines.old) }
     ensures memory { IfErr result IsOfNoLine }

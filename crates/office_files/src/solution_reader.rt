@@ -6,7 +6,7 @@ ghost use Rattle.exam_model.specs.Timetable.{Placing};
 ghost use Rattle.office_files.specs.Faults.{IsOfNoLine};
 ghost use Rattle.office_files.specs.FirstFault.{first_solution_fault};
 ghost use Rattle.office_files.specs.Lines.{line_count};
-ghost use Rattle.office_files.specs.Reading.{Gives};
+ghost use Rattle.office_files.specs.Reading.{AnswersReading};
 ghost use Rattle.office_files.specs.SolutionText.{timetable_in, solution_in, SolutionText};
 
 use crate::counts::Counts;
@@ -41,7 +41,7 @@ pub fn read_solution(
     ensures faultless { IfOk result (λ _. first_solution_fault instance.now source.now ≡ None) }
 
     // The answer is that of the reading of the text from the top, faults included.
-    ensures exact { Gives (λ read. read) result (solution_in instance.now source.now) }
+    ensures exact { AnswersReading (λ read. read) result (solution_in instance.now source.now) }
     ensures memory { IfErr result IsOfNoLine }
 {
     solution_in(alloc, source, instance)
@@ -49,7 +49,7 @@ pub fn read_solution(
 
 // The timetable of a file for an instance.
 fn solution_in(alloc: Global, source: &[u8], instance: &Instance) -> Result<Timetable, FileFault>
-    ensures exact { Gives (λ read. read) result (solution_in instance.now source.now) }
+    ensures exact { AnswersReading (λ read. read) result (solution_in instance.now source.now) }
     ensures exist { IfOk result (λ read. All (PlaceExists instance.now) read) }
     ensures memory { IfErr result IsOfNoLine }
 {
@@ -70,7 +70,7 @@ fn timetable_in(alloc: Global, source: &[u8], counts: Counts) -> Result<Timetabl
     requires within { length source.now ≤ TEXT_BYTES }
     requires some { 1 ≤ counts.exams }
     requires most { counts.exams ≤ MAX_EXAMS }
-    ensures exact { Gives (λ read. read) result (timetable_in counts source.now) }
+    ensures exact { AnswersReading (λ read. read) result (timetable_in counts source.now) }
     ensures memory { IfErr result IsOfNoLine }
 {
     let places: Vec<Place> = all_items(alloc, Lines::new(source), counts)?;

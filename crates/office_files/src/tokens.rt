@@ -4,7 +4,7 @@ ghost use Rattle.std.specs.Iterator.{YieldsFirstBy, item_count};
 ghost use Rattle.std.specs.List.{AllByRecursion};
 ghost use Rattle.exam_terms.specs.declared.limits.TheConstants.{INSTANCE_BYTES};
 ghost use Rattle.office_files.specs.Lines.{Located};
-ghost use Rattle.office_files.specs.Tokens.{token_of, tokens_of, tokens_left, IsSliceOf, Runs};
+ghost use Rattle.office_files.specs.Tokens.{token_of, tokens_of, tokens_left, IsSliceOf, LieInRow};
 
 use crate::fields::cut;
 use crate::lines::{Lines, Token, located};
@@ -37,7 +37,7 @@ impl<'a> Tokens<'a> {
     pub fn new(source: &'a [u8]) -> Tokens<'a>
         requires { length source.now ≤ INSTANCE_BYTES }
         ensures tokens { result ≡ tokens_of source.now }
-        ensures ordered { Runs 0 result (length source.now + 1) }
+        ensures ordered { LieInRow 0 result (length source.now + 1) }
         ensures slices { AllByRecursion (IsSliceOf source.now) result }
     {
         Tokens {

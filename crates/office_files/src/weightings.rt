@@ -16,7 +16,7 @@ use exam_terms::limits::MAX_AMOUNT;
 
 /// The word of a weighting line.
 #[derive(Clone, Copy)]
-pub enum WeightWord {
+pub(crate) enum WeightWord {
     Row,
     Day,
     Spread,
@@ -26,7 +26,7 @@ pub enum WeightWord {
 
 /// What a weighting line says; of the front load how many exams, how many periods, what weight.
 #[derive(Clone, Copy)]
-pub enum Weighting {
+pub(crate) enum Weighting {
     Row(u32),
     Day(u32),
     Spread(u32),

@@ -29,10 +29,10 @@ use Rattle.office_model.proofs.ChangeLemmas.{alike}
 use Rattle.office_model.proofs.QuietLemmas.{quiet_one}
 use Rattle.office_model.proofs.ToldLemmas as model
 use Rattle.office_http.specs.HerMessages.{AreAlike, AreFrom, AsksTheSame, IsFrom, bytes_of, her_output, her_reply}
-use Rattle.office_http.specs.Isolation.{AreAvailable, AreToldAlike, AreToldByView, IsHersOrQuiet, IsQuietFor, IsToldAlike, LeavesPublication, TellsView, changes_by, her_changes}
+use Rattle.office_http.specs.Isolation.{AreAvailable, AreToldAlike, AreToldByView, IsHersOrQuiet, IsQuietFor, IsToldAlike, LeavesPublication, RepliesView, changes_by, her_changes}
 use Rattle.office_http.specs.Transcripts.{Entry, ServesByView, TellsHerView, asked_in, entry, transcript}
 use Rattle.office_http.specs.Replying.{Answered, Replies, RepliesTo, her_text}
-use Rattle.office_http.specs.Serving.{Leads}
+use Rattle.office_http.specs.Serving.{LeadsOffice}
 use Rattle.office_http.proofs.CandidateLemmas.{her_reading, said_by, tells}
 use Rattle.office_http.proofs.ServingLemmas.{serves_leads}
 
@@ -165,19 +165,19 @@ quiet_each s (asks request ∷ items) old new output (mid, reply, rest, step, is
     later
     (quiet_each s items mid new rest told (All-tail (IsHersOrQuiet s) first later q)))
 
-told_one : (s : ℕ) (view : View) (e : Entry) → TellsHerView e → Sees s view e → TellsView s view e
+told_one : (s : ℕ) (view : View) (e : Entry) → TellsHerView e → Sees s view e → RepliesView s view e
 told_one s view e told same is =
     subst (λ v. (e.reply ≡ her_reply s e.request v) ⊎ (e.reply ≡ unavailable)) same (told s is)
 
 -- where each message finds this view, she is told its text
 both_all : (s : ℕ) (view : View) (es : List Entry) → All TellsHerView es → All (Sees s view) es
-    → All (TellsView s view) es
+    → All (RepliesView s view) es
 both_all s view es told same = λ k d lt. told_one s view (get_or es k d) (told k d lt) (same k d lt)
 
 pub quiet_told : (s : ℕ) (items : List Item) (old new : OfficeState) (output : List ℕ)
     (told : Told Replies items old output new)
     → All (IsHersOrQuiet s) (transcript items old output new told)
-    → All (TellsView s (view_of s old)) (transcript items old output new told)
+    → All (RepliesView s (view_of s old)) (transcript items old output new told)
 quiet_told s items old new output told q =
     both_all s (view_of s old) (transcript items old output new told)
     (each_told items old new output told) (quiet_each s items old new output told q)
@@ -193,7 +193,7 @@ asks_same s view one other same =
 pair_alike : (s : ℕ) (x y : Entry) → TellsHerView x → TellsHerView y
     → view_of s x.office ≡ view_of s y.office → IsToldAlike s x y
 pair_alike s x y told said view is also same =
-    let replied = subst (λ v. TellsView s v x) view (told s) in
+    let replied = subst (λ v. RepliesView s v x) view (told s) in
     both_by (her_reply s y.request (view_of s y.office)) x.request y.request x.reply y.reply
     same.method
     (subst (λ r. (x.reply ≡ r) ⊎ (x.reply ≡ unavailable))
@@ -345,9 +345,9 @@ same_changes_bytes s old one other next last items others output text request re
 
 by_view : {S : Type 0} (store : Ghosts S) (input before after : Option (List ℕ))
     (old new : Held S) (result : Result Served ServeFault)
-    → IfOk result (λ served. Leads store
+    → IfOk result (λ served. LeadsOffice store
     (λ office next. Serves Replies input before after office next served) old new)
-    → IfOk result (λ served. Leads store
+    → IfOk result (λ served. LeadsOffice store
     (λ office next. ServesByView input before after office next served) old new)
 by_view store input before after old new (Err fault) h = tt
 by_view store input before after old new (Ok served) h = λ clean office now.
@@ -358,7 +358,7 @@ by_view store input before after old new (Ok served) h = λ clean office now.
 pub serves_by_view : {S : Type 0} (store : Ghosts S) (input before after : Option (List ℕ))
     (old new : Held S) (result : Result Served ServeFault)
     → IfOk result (λ served. Serves (Answered store) input before after old new served)
-    → IfOk result (λ served. Leads store
+    → IfOk result (λ served. LeadsOffice store
     (λ office next. ServesByView input before after office next served) old new)
 serves_by_view store input before after old new result x =
     by_view store input before after old new result

@@ -1,4 +1,5 @@
 mod AnswerLemmas
+mod UnavailableLemmas
 mod CandidateLemmas
 mod ServingLemmas
 mod IsolationLemmas

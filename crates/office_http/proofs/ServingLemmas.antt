@@ -13,7 +13,7 @@ use Rattle.office_messages.proofs.RunLemmas.{told_kept}
 use Rattle.office_model.specs.Office.{OfficeState}
 use Rattle.office_store.specs.Running.{Now}
 use Rattle.office_http.specs.Replying.{Answered, Replies}
-use Rattle.office_http.specs.Serving.{AnswersFront, Leads}
+use Rattle.office_http.specs.Serving.{AnswersFront, LeadsOffice}
 
 abbrev is_write : ServeFault → Bool
 is_write Write = true
@@ -48,7 +48,7 @@ module _ {S : Type 0} (store : Ghosts S) where
   module _ (input before after : Option (List ℕ)) (old new : Held S) where
     pub serves_leads : (result : Result Served ServeFault)
         → IfOk result (λ served. Serves (Answered store) input before after old new served)
-        → IfOk result (λ served. Leads store
+        → IfOk result (λ served. LeadsOffice store
         (λ office next. Serves Replies input before after office next served) old new)
     serves_leads (Err fault) x = tt
     serves_leads (Ok served) x = λ clean office now.
@@ -68,7 +68,7 @@ module _ {S : Type 0} (store : Ghosts S) where
     -- nothing went wrong while a reply went out
     whole_front : (items : List Item) (output : List ℕ) → IfSome input (Begins items 0)
         → Told (Answered store) items old output new → Appends before after output
-        → Leads store (λ office next. (its : List Item) × (out : List ℕ)
+        → LeadsOffice store (λ office next. (its : List Item) × (out : List ℕ)
         × IfSome input (Begins its 0) × Told Replies its office out next
         × Appends before after out) old new
     whole_front items output begins told written = λ clean office now.
@@ -77,7 +77,7 @@ module _ {S : Type 0} (store : Ghosts S) where
 
     broken_front : (items : List Item) (output : List ℕ) → IfSome input (Begins items 0)
         → BreaksOff (Answered store) input before after items output old new
-        → Leads store (AnswersFront input before after Write) old new
+        → LeadsOffice store (AnswersFront input before after Write) old new
     broken_front items output begins x = λ clean office now.
         let kept = told_clean (x.last ∷ []) x.mid (x.sent ++ x.unsent) new x.told_last clean in
         let first = told_leads x.whole old x.front x.mid x.told kept office now in
@@ -106,7 +106,7 @@ module _ {S : Type 0} (store : Ghosts S) where
 
     front_leads : (fault : ServeFault)
         → ServesFront (Answered store) input before after old new fault
-        → Leads store (AnswersFront input before after fault) old new
+        → LeadsOffice store (AnswersFront input before after fault) old new
     front_leads Read x =
         whole_front x.items x.output x.begins x.told (x.written (not_write Read refl))
     front_leads Write x = broken_front x.items x.output x.begins (x.broken refl)
@@ -117,7 +117,7 @@ module _ {S : Type 0} (store : Ghosts S) where
 
     pub serves_front_leads : (result : Result Served ServeFault)
         → IfErr result (λ fault. ServesFront (Answered store) input before after old new fault)
-        → IfErr result (λ fault. Leads store (AnswersFront input before after fault) old new)
+        → IfErr result (λ fault. LeadsOffice store (AnswersFront input before after fault) old new)
     serves_front_leads (Ok served) x = tt
     serves_front_leads (Err fault) x = front_leads fault x
 

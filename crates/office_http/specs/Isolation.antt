@@ -14,8 +14,8 @@ use Rattle.office_http.specs.HerMessages.{IsFrom, her_reply, AsksTheSame, AreAli
 -- ---- views
 
 -- she is told the text of this view, or that the office is unavailable
-abbrev pub TellsView : ℕ → View → Entry → Type 0
-TellsView s view e =
+abbrev pub RepliesView : ℕ → View → Entry → Type 0
+RepliesView s view e =
     IsFrom s e.request → (e.reply ≡ her_reply s e.request view) ⊎ (e.reply ≡ unavailable)
 
 -- the message is quiet for her: what it asks for leaves her view as it was

@@ -25,8 +25,8 @@ AnswersFront input before after fault old new =
 
 -- whatever office stands before, one that it leads to stands afterwards, over a disk that returns
 -- what was written
-abbrev pub Leads : {S : Type 0} → Ghosts S → (OfficeState → OfficeState → Type 0) → Held S → Held S
-    → Type 0
-Leads store LeadsTo old new =
+abbrev pub LeadsOffice : {S : Type 0} → Ghosts S → (OfficeState → OfficeState → Type 0)
+    → Held S → Held S → Type 0
+LeadsOffice store LeadsTo old new =
     HasCleanDisk (state store new) → (office : OfficeState) → Now (state store old) office
     → (next : OfficeState) × LeadsTo office next × Now (state store new) next

@@ -3,14 +3,22 @@ ghost use Rattle.std.specs.Prelude.{◌≡◌, ℕ, List, All, Option};
 ghost use Rattle.office_messages.specs.Reply.{PlainReply};
 ghost use Rattle.office_messages.specs.Messages.{Item};
 ghost use Rattle.office_messages.specs.Serve.{Serves, Told};
+ghost use Rattle.office_messages.specs.Statuses.{code_of};
 ghost use Rattle.office_messages.specs.Stream.{PlainRequest};
 ghost use Rattle.office_messages.specs.declared.connection.Served.{Served};
 ghost use Rattle.office_model.specs.Office.{OfficeState};
 ghost use Rattle.office_model.specs.Views.{view_of};
 ghost use Rattle.office_http.specs.HerMessages.{AreAlike, AreFrom, IsFrom, her_output};
-ghost use Rattle.office_http.specs.Isolation.{AreAvailable, AreToldAlike, AreToldByView, IsHersOrQuiet, IsQuietFor, LeavesPublication, TellsView, her_changes};
+ghost use Rattle.office_http.specs.Isolation.{AreAvailable, AreToldAlike, AreToldByView, IsHersOrQuiet, IsQuietFor, LeavesPublication, RepliesView, her_changes};
 ghost use Rattle.office_http.specs.Transcripts.{TellsHerView, entries, entry, said_in, transcript};
 ghost use Rattle.office_http.specs.Replying.{Replies, TellsCandidate};
+
+/// A message that is replied with a 503 leaves the office as it was, whoever sent it and whatever
+/// it asked for.
+pub fn unavailable_changes_nothing()
+    ensures { (office next : OfficeState) (request : PlainRequest) (reply : PlainReply)
+        → Replies office request reply next → code_of reply.status ≡ 503 → next ≡ office }
+{}
 
 /// A candidate's message is replied the text of her view in the office that it comes to, or that
 /// the office is unavailable. It changes nothing.
@@ -66,7 +74,7 @@ pub fn quiet_messages()
     ensures told { (s : ℕ) (items : List Item) (old new : OfficeState) (output : List ℕ)
         → (told : Told Replies items old output new)
         → All (IsHersOrQuiet s) (transcript items old output new told)
-        → All (TellsView s (view_of s old)) (transcript items old output new told) }
+        → All (RepliesView s (view_of s old)) (transcript items old output new told) }
 {}
 
 /// Two connections to two offices: where the offices that a candidate's two messages come to agree

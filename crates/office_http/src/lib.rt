@@ -8,7 +8,7 @@ mod serving;
 
 pub use laws::{
     each_told_by_view, quiet_message, quiet_messages, same_changes_same_view, same_view_same_bytes,
-    same_view_same_output, same_view_same_replies, told_by_view,
+    same_view_same_output, same_view_same_replies, told_by_view, unavailable_changes_nothing,
 };
 pub use office_desk::{
     Desk, Loaded, Office, Refusal, StoreFault, penalty_report, rooms_report, violation_report,

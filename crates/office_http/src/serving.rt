@@ -5,7 +5,7 @@ ghost use Rattle.sqlite.specs.State.{HasCleanDisk};
 ghost use Rattle.office_messages.specs.Serve.{Serves};
 ghost use Rattle.office_http.specs.Transcripts.{ServesByView};
 ghost use Rattle.office_http.specs.Replying.{Replies};
-ghost use Rattle.office_http.specs.Serving.{AnswersFront, Leads};
+ghost use Rattle.office_http.specs.Serving.{AnswersFront, LeadsOffice};
 
 use crate::replying::reply;
 use office_desk::Desk;
@@ -46,15 +46,15 @@ pub fn serve<R: Read, W: Write, S: Alter>(
 ) -> Result<Served, ServeFault>
     // The bytes are those of the office on the messages of the whole stream, in whatever pieces it
     // came, and the file stands for the office after them.
-    ensures ok { IfOk result (λ served. Leads S.Store
+    ensures ok { IfOk result (λ served. LeadsOffice S.Store
         (λ office next. Serves Replies (R.remaining reader.old) (W.contents writer.old)
         (W.contents writer.new) office next served) desk.old desk.new) }
     // In it each candidate is told the text of her view in the office that her message came to, and
     // nothing else that is stored.
-    ensures told { IfOk result (λ served. Leads S.Store
+    ensures told { IfOk result (λ served. LeadsOffice S.Store
         (λ office next. ServesByView (R.remaining reader.old) (W.contents writer.old)
         (W.contents writer.new) office next served) desk.old desk.new) }
-    ensures err { IfErr result (λ fault. Leads S.Store
+    ensures err { IfErr result (λ fault. LeadsOffice S.Store
         (AnswersFront (R.remaining reader.old) (W.contents writer.old) (W.contents writer.new)
         fault) desk.old desk.new) }
     ensures clean { HasCleanDisk (state S.Store desk.new) → HasCleanDisk (state S.Store desk.old) }

@@ -15,7 +15,7 @@ Knows bytes (Searching n) = (n ≤ length bytes) × (n < max_head) × ¬ (HasEnd
 Knows bytes (Reading x) = HeadAt bytes x
 
 -- what a look at the bytes says of them
-abbrev pub Shows : List ℕ → Beginning → Type 0
-Shows bytes (Whole x) = HeadAt bytes x × (x.body.end ≤ length bytes)
-Shows bytes (More stage) = Unfinished bytes × Knows bytes stage
-Shows bytes (Faulty bad) = FaultAt bad.fault bad.form bytes
+abbrev pub SaysOf : List ℕ → Beginning → Type 0
+SaysOf bytes (Whole x) = HeadAt bytes x × (x.body.end ≤ length bytes)
+SaysOf bytes (More stage) = Unfinished bytes × Knows bytes stage
+SaysOf bytes (Faulty bad) = FaultAt bad.fault bad.form bytes

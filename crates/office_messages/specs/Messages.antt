@@ -49,11 +49,11 @@ Begins (asks r ∷ items) n stream =
     ⊎ (RequestAt r false stream rest × Begins items (n + 1) rest)))
 
 -- behind these requests, none of which ends the connection, the stream goes on with rest
-abbrev pub Leaves : List Item → List ℕ → List ℕ → Type 0
-Leaves [] stream rest = rest ≡ stream
-Leaves (fails f form ∷ items) stream rest = ⊥
-Leaves (asks r ∷ items) stream rest =
-    (next : List ℕ) × RequestAt r false stream next × Leaves items next rest
+abbrev pub GoesOnWith : List Item → List ℕ → List ℕ → Type 0
+GoesOnWith [] stream rest = rest ≡ stream
+GoesOnWith (fails f form ∷ items) stream rest = ⊥
+GoesOnWith (asks r ∷ items) stream rest =
+    (next : List ℕ) × RequestAt r false stream next × GoesOnWith items next rest
 
 -- the one choice: where the input ends within a head, which no continuation with few enough fields
 -- completes, the head is refused, or the connection cut
@@ -63,7 +63,7 @@ pub record Differs (stream : List ℕ) (items : List Item) (end : End) (others :
   pub ends : end ≡ Refused
   pub cut : last ≡ Cut
   pub rest : List ℕ
-  pub left : Leaves others stream rest
+  pub left : GoesOnWith others stream rest
   pub some : 0 < length rest
   pub short : length rest < max_head
   pub endless : ¬ (HasEnd rest)

@@ -37,14 +37,17 @@ plain_reply r = record {
   body = payload_bytes r.body;
 }
 
+-- the field of a head that says what its body is, JSON or a text
 unfoldable pub content_line : Content → List ℕ
 content_line Json = codes "Content-Type: application/json\r\n"
 content_line Text = codes "Content-Type: text/plain\r\n"
 
+-- the field Allow, where the reply names methods
 unfoldable pub allow_line : Option (List ℕ) → List ℕ
 allow_line None = []
 allow_line (Some methods) = codes "Allow: " ++ methods ++ codes "\r\n"
 
+-- the field that says how many bytes the body has
 unfoldable pub length_line : ℕ → List ℕ
 length_line n = codes "Content-Length: " ++ decimal n ++ codes "\r\n"
 

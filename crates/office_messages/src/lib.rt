@@ -24,5 +24,6 @@ pub use form::Form;
 pub use framing::Fault;
 pub use laws::{front_of_messages, one_reading, runs_are_carried, runs_keep};
 pub use replies::{Content, Payload, Reply, fault_reply, fixed_reply, unavailable};
+pub use reply_heads::put;
 pub use request::Request;
 pub use statuses::Status;

@@ -1,7 +1,7 @@
 //! What the bytes that have come begin with.
 ghost use Rattle.std.specs.Prelude.{◌≡◌, ◌<◌, ◌≤◌, length, take};
 ghost use Rattle.office_messages.specs.Heads.{HeadAt};
-ghost use Rattle.office_messages.specs.Looks.{Knows, Shows};
+ghost use Rattle.office_messages.specs.Looks.{Knows, SaysOf};
 ghost use Rattle.office_messages.specs.HeadEnds.{HasEnd};
 
 use crate::form::Form;
@@ -44,7 +44,7 @@ const FAULTY_HEAD: Beginning = Beginning::Faulty(BadHead {
 /// once before that.
 pub(crate) fn look(bytes: &[u8], stage: Stage) -> Beginning
     requires { Knows bytes.now stage }
-    ensures { Shows bytes.now result }
+    ensures { SaysOf bytes.now result }
 {
     match stage {
         Stage::Reading(head) => with_head(bytes, head),
@@ -61,7 +61,7 @@ pub(crate) fn look(bytes: &[u8], stage: Stage) -> Beginning
 // The head was parsed: whether its body has come.
 fn with_head(bytes: &[u8], head: Head) -> Beginning
     requires { HeadAt bytes.now head }
-    ensures { Shows bytes.now result }
+    ensures { SaysOf bytes.now result }
 {
     if head.body.end <= bytes.len() {
         Beginning::Whole(head)
@@ -82,7 +82,7 @@ fn first(bytes: &[u8], n: usize) -> &[u8]
 fn parse(bytes: &[u8]) -> Beginning
     requires some { 0 < length bytes.now }
     requires ended { HasEnd bytes.now }
-    ensures { Shows bytes.now result }
+    ensures { SaysOf bytes.now result }
 {
     let mut headers = [EMPTY_HEADER_SPAN; MAX_HEADERS];
     let front = first(bytes, MAX_HEAD);
@@ -99,7 +99,7 @@ fn parse(bytes: &[u8]) -> Beginning
 // No head has come to its end.
 fn without_head(bytes: &[u8]) -> Beginning
     requires { ¬ (HasEnd bytes.now) }
-    ensures { Shows bytes.now result }
+    ensures { SaysOf bytes.now result }
 {
     if bytes.len() < MAX_HEAD {
         Beginning::More(Stage::Searching(bytes.len()))

@@ -33,8 +33,8 @@ pub(crate) fn put_head(room: &mut Vec<u8>, reply: &Reply, form: Form)
     put(room, b"\r\n");
 }
 
-// Adds a text, for which there is room.
-fn put(room: &mut Vec<u8>, text: &[u8])
+/// Adds a text, for which there is room.
+pub fn put(room: &mut Vec<u8>, text: &[u8])
     requires { vec_len room.old + length text.now ≤ vec_capacity room.old }
     ensures text { room.new.items ≡ room.old.items ++ text.now }
     ensures len { vec_len room.new ≡ vec_len room.old + length text.now }

@@ -18,11 +18,12 @@ use Rattle.exam_draft.specs.declared.fault.EditFault.TheVariants.{AlreadyPlaced,
 use Rattle.exam_rules.specs.Breaches.{least_breach_of}
 use Rattle.exam_rules.specs.declared.breach.Breach.{Breach}
 use Rattle.exam_publish.specs.Permit.{first_unplaced, least_breach, publish_refusal}
+use Rattle.exam_publish.specs.Published.{AreSeats}
 use Rattle.exam_publish.specs.Seats.{AreSeated}
 use Rattle.exam_publish.specs.Rows.{enrolled_in}
 use Rattle.exam_publish.proofs.PermitLemmas.{neither}
 use Rattle.exam_publish.proofs.PublishedLemmas.{same_enrolments}
-use Rattle.exam_publish.proofs.SeatLemmas.{AreSeats, are_seats}
+use Rattle.exam_publish.proofs.SeatLemmas.{are_seats}
 use Rattle.office_files.proofs.ReadingLaws.{bind_ok, unless_ok}
 use Rattle.office_model.specs.Loading.{fresh}
 use Rattle.office_model.specs.Office.{AreEnrolled, AreRecords, IsPublication, Publication, Records, set_at}
@@ -150,7 +151,7 @@ module _ (r : Records) (T : Placing) (is : AreRecords r) (fits : Fits r.session 
   abbrev pub new_one : Publication
   new_one = published_as r T
 
-  pub are : AreSeats r.session r.enrolments T (rows_now r.published) new_one.rows
+  pub are : AreSeats r.session r.enrolments T new_one.rows
   are = are_seats r.session r.enrolments T (rows_now r.published) fits is.enrolled.set permitted
       (old_seated r is)
 

@@ -7,7 +7,7 @@ use Rattle.office_store.specs.Running.{Now}
 use Rattle.office_connections.specs.Reaches.{Reaches}
 use Rattle.office_connections.proofs.ReachLemmas.{reaches_along, reaches_leads, reaches_sound}
 use Rattle.office_http.specs.Replying.{Answered, Replies, TellsCandidate}
-use Rattle.office_http.specs.Serving.{Leads}
+use Rattle.office_http.specs.Serving.{LeadsOffice}
 use Rattle.office_messages.specs.Reply.{PlainReply}
 use Rattle.office_messages.specs.Stream.{PlainRequest}
 use Rattle.office_model.specs.Office.{OfficeState}
@@ -28,7 +28,7 @@ by_view told old new run =
 module _ {S : Type 0} (store : Ghosts S) where
   -- a desk that comes to another leads the office that its file stands for to another
   pub desk_leads : ToldByView → (old new : Held S) → Reaches (Answered store) old new
-      → Leads store (Reaches RepliesByView) old new
+      → LeadsOffice store (Reaches RepliesByView) old new
   desk_leads told old new run = λ clean office now.
       let led =
       reaches_leads (Answered store) Replies (λ h. HasCleanDisk (state store h))
@@ -44,5 +44,5 @@ module _ {S : Type 0} (store : Ghosts S) where
       (λ o r reply n x clean office now. x.step clean office now) old new run
 
   -- and one that is left alone leads it nowhere
-  pub stays_put : (old : Held S) → Leads store (Reaches RepliesByView) old old
+  pub stays_put : (old : Held S) → LeadsOffice store (Reaches RepliesByView) old old
   stays_put old = λ clean office now. (office, ([], refl), now)

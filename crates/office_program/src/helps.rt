@@ -2,7 +2,7 @@
 // numbers of faults mean.
 
 // Below the help of `check`. The numbers are those of `FaultKind`, in the order of its variants.
-pub const CHECK: &str = "\
+pub(crate) const CHECK: &str = "\
 Example:
   examoffice check term.exam term.sol
 
@@ -28,7 +28,7 @@ The line 'examoffice: instance line 8: fault 5' names the first fault of a file:
   13  memory was refused (line 0); the file may be right";
 
 // Below the help of `load`.
-pub const LOAD: &str = "\
+pub(crate) const LOAD: &str = "\
 Example:
   examoffice load --db term.db term.exam
 
@@ -44,7 +44,7 @@ examoffice check --help explains the numbers. 'examoffice: store fault F' tells 
   9  the tables in the database are not those of an office";
 
 // Below the help of `serve`.
-pub const SERVE: &str = "\
+pub(crate) const SERVE: &str = "\
 Example:
   examoffice serve --db term.db --port 8080 --connections 1000000
 
@@ -64,7 +64,7 @@ Standard output gets the line 'listening 127.0.0.1:8080' once connections are ta
   9  the tables in the database are not those of an office";
 
 // Below the help of `export`.
-pub const EXPORT: &str = "\
+pub(crate) const EXPORT: &str = "\
 Example:
   examoffice export --db term.db > term.sol
 
@@ -78,7 +78,7 @@ Exit status:
   9  the tables in the database are not those of an office";
 
 // Below the help of the program.
-pub const PROGRAM: &str = "\
+pub(crate) const PROGRAM: &str = "\
 Example:
   examoffice check term.exam term.sol
 

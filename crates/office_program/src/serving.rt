@@ -4,7 +4,7 @@ ghost use Rattle.sqlite.specs.Held.{state};
 ghost use Rattle.sqlite.specs.State.{HasCleanDisk};
 ghost use Rattle.office_connections.specs.Lines.{PrintsPort};
 ghost use Rattle.office_connections.specs.Reaches.{Reaches};
-ghost use Rattle.office_http.specs.Serving.{Leads};
+ghost use Rattle.office_http.specs.Serving.{LeadsOffice};
 ghost use Rattle.office_model.specs.Office.{OfficeState};
 ghost use Rattle.office_store.specs.Opening.{IsOfficeOf};
 ghost use Rattle.office_program.specs.Serve.{ComesTo, RepliesByView};
@@ -84,7 +84,7 @@ pub fn serve_desk<'a, S: Alter, O: Write, E: Write>(
     err: &mut E,
 ) -> Result<u8, ProgramFault<'a>>
     // Over a disk that returns what was written, whatever office stood there before.
-    ensures reached { Leads S.Store (Reaches RepliesByView) desk.old desk.new }
+    ensures reached { LeadsOffice S.Store (Reaches RepliesByView) desk.old desk.new }
     ensures clean { HasCleanDisk (state S.Store desk.new) → HasCleanDisk (state S.Store desk.old) }
     ensures status { IfOk result (λ status. status ≡ 0) }
     ensures port { IfOk result (λ _. PrintsPort (O.contents out.old) (O.contents out.new)) }

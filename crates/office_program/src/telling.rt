@@ -10,7 +10,7 @@ use std::{fmt, fs, io};
 
 /// Work on a file, which is told by its path.
 #[derive(Clone, Copy)]
-pub enum LongWork<'a> {
+pub(crate) enum LongWork<'a> {
     /// An instance is read and loaded.
     Loading(&'a str),
     /// The office of a database is found.

@@ -21,7 +21,7 @@ mod timetable;
 pub use drafts::draft_row;
 pub use fault::RecordFault;
 pub use part_shares::part_share_rows;
-pub use publication::{check_publication, placement_rows, publication_of};
+pub use publication::{check_publication, placement_rows, publication_of, timetable_at};
 pub use records::kept_of;
 pub use rescoring::rescored;
 pub use seats::{changed_seat_rows, own_seats};

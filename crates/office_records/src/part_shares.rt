@@ -14,7 +14,7 @@ use std::alloc::{AllocError, Global};
 
 /// Whose share it is.
 #[derive(Clone, Copy)]
-pub enum PartKind {
+pub(crate) enum PartKind {
     Exam,
     Period,
     Room,

@@ -1,12 +1,12 @@
 // Whether seats are those of a timetable.
 ghost use Rattle.std.specs.Prelude.{◌≡◌, ◌↔◌, All, AllPairs, IfOk, IsTrue};
 ghost use Rattle.exam_model.specs.Fits.{Suits};
-ghost use Rattle.exam_publish.specs.Rows.{RowsInOrder, comes_before, row_pair};
+ghost use Rattle.exam_publish.specs.Rows.{RowsInOrder};
 ghost use Rattle.exam_publish.specs.Seats.{HaveOwnSeats};
 ghost use Rattle.office_records.specs.FoundPublications.{HasPlacesAndSeats, IsSeatedRow, is_same_seat, publication};
 
 use exam_model::{Instance, Timetable};
-use exam_publish::{SeatRow, tell_numbers};
+use exam_publish::{SeatRow, is_before, tell_numbers};
 use exam_terms::limits::MAX_PAIRS;
 use std::alloc::{AllocError, Global};
 
@@ -49,14 +49,7 @@ fn is_same_seat(row: SeatRow, other: SeatRow) -> bool
 fn are_in_order(rows: &[SeatRow]) -> bool
     ensures { IsTrue result ↔ RowsInOrder rows.now }
 {
-    rows.is_sorted_by(|row, next| comes_before(*row, *next))
-}
-
-// Whether a row's exam is smaller, or the same and its student smaller.
-fn comes_before(row: SeatRow, other: SeatRow) -> bool
-    ensures { result ≡ comes_before (row_pair row) (row_pair other) }
-{
-    row.exam < other.exam || row.exam == other.exam && row.student < other.student
+    rows.is_sorted_by(|row, next| is_before(row, next))
 }
 
 // Whether each row is at its exam's place, with a seat of the room.

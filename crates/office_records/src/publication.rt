@@ -68,8 +68,8 @@ fn no_publication(
     }
 }
 
-// The timetable whose places these are. `BadRows`: there is none.
-fn timetable_at(
+/// The timetable whose places these are. `BadRows`: there is none.
+pub fn timetable_at(
     alloc: Global,
     instance: &Instance,
     places: &[PlacedRow],

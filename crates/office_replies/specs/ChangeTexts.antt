@@ -16,8 +16,8 @@ abbrev pub owner_text : ℕ → ℕ → List ℕ
 owner_text e dept = object_text (number (codes "dept") dept) (number (codes "exam") e ∷ [])
 
 -- a draft and its penalty; a draft alone
-abbrev pub penalty_text : ℕ → ℕ → List ℕ
-penalty_text d penalty =
+abbrev pub draft_penalty_text : ℕ → ℕ → List ℕ
+draft_penalty_text d penalty =
     object_text (number (codes "draft") d) (number (codes "penalty") penalty ∷ [])
 
 -- which draft was dropped

@@ -23,6 +23,7 @@ number key n = record { key = key; says = decimal n }
 abbrev pub word : List ℕ → List ℕ → PlainMember
 word key w = record { key = key; says = quoted w }
 
+-- a member as JSON has it: its key in quotes, a colon, what it says
 unfoldable pub member_text : PlainMember → List ℕ
 member_text m = quoted m.key ++ codes ":" ++ m.says
 

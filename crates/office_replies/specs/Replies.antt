@@ -15,7 +15,7 @@ use Rattle.office_model.specs.Views.{View}
 use Rattle.office_replies.specs.CandidateViews.{candidate_text, cost_text, exam_text}
 use Rattle.office_replies.specs.Views.{draft_text}
 use Rattle.office_replies.specs.Refusals.{fault_reply_of}
-use Rattle.office_replies.specs.ChangeTexts.{loaded_text, owner_text, penalty_text, dropped_text, published_text, enrolled_text}
+use Rattle.office_replies.specs.ChangeTexts.{loaded_text, owner_text, draft_penalty_text, dropped_text, published_text, enrolled_text}
 
 -- a text as it is
 abbrev pub text_reply : List ℕ → PlainReply
@@ -30,8 +30,8 @@ reply_to answer.not_mine = error_reply error.Exam
 reply_to (answer.now_loaded l) = json_reply Created (loaded_text l)
 reply_to (answer.text text) = text_reply text
 reply_to (answer.now_owned e dept) = json_reply Done (owner_text e dept)
-reply_to (answer.now_drafted d penalty) = json_reply Created (penalty_text d penalty)
-reply_to (answer.now_edited d penalty) = json_reply Done (penalty_text d penalty)
+reply_to (answer.now_drafted d penalty) = json_reply Created (draft_penalty_text d penalty)
+reply_to (answer.now_edited d penalty) = json_reply Done (draft_penalty_text d penalty)
 reply_to (answer.now_dropped d) = json_reply Done (dropped_text d)
 reply_to (answer.shown_draft d T penalty) = json_reply Done (draft_text d T penalty)
 reply_to (answer.now_published d counts) = json_reply Done (published_text d counts)

@@ -2,7 +2,7 @@
 ghost use Rattle.std.specs.Prelude.{◌≡◌, ◌≤◌, vec_capacity};
 ghost use Rattle.office_messages.specs.Reply.{plain_reply, json_reply};
 ghost use Rattle.office_replies.specs.ChangeTexts.{dropped_text, enrolled_text, loaded_text, owner_text};
-ghost use Rattle.office_replies.specs.ChangeTexts.{penalty_text, published_text};
+ghost use Rattle.office_replies.specs.ChangeTexts.{draft_penalty_text, published_text};
 
 use crate::objects::{REPLY_ROOM, number, object_reply};
 use exam_terms::ExamNo;
@@ -38,7 +38,7 @@ pub fn owner_reply(room: Vec<u8>, exam: ExamNo, dept: u32) -> Reply
 /// The reply where a draft is new: its penalty.
 pub fn new_draft_reply(room: Vec<u8>, draft: u32, penalty: u64) -> Reply
     requires { REPLY_ROOM ≤ vec_capacity room }
-    ensures { plain_reply result ≡ json_reply Status.Created (penalty_text draft penalty) }
+    ensures { plain_reply result ≡ json_reply Status.Created (draft_penalty_text draft penalty) }
 {
     let first = number(b"draft", u64::from(draft));
     object_reply(room, Status::Created, first, &[number(b"penalty", penalty)])
@@ -47,7 +47,7 @@ pub fn new_draft_reply(room: Vec<u8>, draft: u32, penalty: u64) -> Reply
 /// The reply where a draft is edited: its penalty now.
 pub fn edited_reply(room: Vec<u8>, draft: u32, penalty: u64) -> Reply
     requires { REPLY_ROOM ≤ vec_capacity room }
-    ensures { plain_reply result ≡ json_reply Status.Done (penalty_text draft penalty) }
+    ensures { plain_reply result ≡ json_reply Status.Done (draft_penalty_text draft penalty) }
 {
     let first = number(b"draft", u64::from(draft));
     object_reply(room, Status::Done, first, &[number(b"penalty", penalty)])

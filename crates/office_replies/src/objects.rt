@@ -7,7 +7,7 @@ ghost use Rattle.office_replies.specs.Objects.{IsShort, IsShortSaid, member_text
 ghost use Rattle.office_replies.specs.Objects.{plain_member, quoted, said_text};
 
 use itoa::Buffer;
-use office_messages::{Content, Payload, Reply, Status};
+use office_messages::{Content, Payload, Reply, Status, put};
 use std::alloc::{AllocError, Global};
 
 /// The bytes kept for a reply to a change.
@@ -151,14 +151,4 @@ fn put_word(room: &mut Vec<u8>, word: &[u8])
     put(room, b"\"");
     put(room, word);
     put(room, b"\"");
-}
-
-// Adds a text, for which there is room.
-fn put(room: &mut Vec<u8>, text: &[u8])
-    requires { vec_len room.old + length text.now ≤ vec_capacity room.old }
-    ensures text { room.new.items ≡ room.old.items ++ text.now }
-    ensures len { vec_len room.new ≡ vec_len room.old + length text.now }
-    ensures room { vec_capacity room.old ≤ vec_capacity room.new }
-{
-    room.extend_from_slice(text).unwrap();
 }

@@ -7,7 +7,7 @@ use std::marker::Model;
 
 /// Exams, in the order in which they came.
 #[derive(Drop)]
-pub struct ExamList {
+pub(crate) struct ExamList {
     exams: Vec<ExamNo>,
 }
 
@@ -29,14 +29,14 @@ impl ExamList {
     }
 
     /// The exams.
-    pub fn as_slice(&self) -> &[ExamNo]
+    pub(crate) fn as_slice(&self) -> &[ExamNo]
         ensures { result.now ≡ self.now }
     {
         &self.exams
     }
 
     /// Adds an exam.
-    pub fn push(&mut self, exam: ExamNo) -> Result<(), AllocError>
+    pub(crate) fn push(&mut self, exam: ExamNo) -> Result<(), AllocError>
         ensures { OnOk result (self.new ≡ self.old ++ exam ∷ []) }
     {
         self.exams.push(exam)?;

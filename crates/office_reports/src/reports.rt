@@ -7,7 +7,7 @@ use exam_rules::{Breach, BreachRule};
 use exam_score::Parts;
 use std::alloc::{AllocError, Global};
 
-// How many breaches there are, then a line for each.
+/// How many breaches there are, then a line for each.
 pub fn violation_report(alloc: Global, breaches: &[Breach]) -> Result<String, AllocError>
     ensures { IfOk result (λ text. string_bytes text ≡ violation_text breaches.now) }
 {
@@ -44,7 +44,7 @@ pub fn rule_name(rule: BreachRule) -> &'static str
     }
 }
 
-// A line for each part of the penalty, and one for the total.
+/// A line for each part of the penalty, and one for the total.
 pub fn penalty_report(alloc: Global, parts: Parts) -> Result<String, AllocError>
     ensures { IfOk result (λ text. string_bytes text ≡ penalty_text parts) }
 {

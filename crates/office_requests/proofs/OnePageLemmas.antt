@@ -9,7 +9,7 @@ use Rattle.matchit.specs.Seek.{slash}
 use Rattle.office_requests.specs.declared.pages.Page.{Page}
 use Rattle.office_requests.specs.Patterns.{takes, rest_of_segment}
 use Rattle.office_requests.specs.Pages.{IsIn}
-use Rattle.office_requests.specs.Pages.{pages, Leads}
+use Rattle.office_requests.specs.Pages.{pages, IsRouteTo}
 use Rattle.office_requests.proofs.FindLemmas.{both}
 
 -- two patterns part at a byte that each has, or where one ends
@@ -101,6 +101,6 @@ one_of (row ∷ rows) s t path p q a (inr i) (inr j) h k =
 pages_apart : all_apart pages ≡ true
 pages_apart = refl
 
-pub one_page : (path : List ℕ) (p q : Page) → Leads p path → Leads q path → p ≡ q
+pub one_page : (path : List ℕ) (p q : Page) → IsRouteTo p path → IsRouteTo q path → p ≡ q
 one_page path p q x y = one_of pages x.pattern y.pattern path p q pages_apart x.is_in y.is_in
     x.takes_it y.takes_it

@@ -13,7 +13,7 @@ use Rattle.office_requests.specs.Patterns.{takes}
 use Rattle.office_requests.specs.Pages.{IsIn}
 use Rattle.office_requests.proofs.Plain.{EndsSegment, IsPlain, ArePlain}
 use Rattle.office_requests.specs.Table.{Rows, table, adds, adds_all, page_at}
-use Rattle.office_requests.specs.Pages.{pages, Leads}
+use Rattle.office_requests.specs.Pages.{pages, IsRouteTo}
 use Rattle.std.specs.Prelude.{find}
 use Rattle.office_requests.specs.Pages.{page_of}
 use Rattle.office_requests.proofs.OnePageLemmas.{one_page}
@@ -85,11 +85,11 @@ text_of (b ∷ path) h = (h 0, text_of path (λ i. h (suc i)))
 
 -- what the table finds for a path leads to that page
 pub page_found : (path : List ℕ) (p : Page) → ((i : ℕ) → get_or path i 0 < 256) →
-    page_at table path ≡ Some p → Leads p path
+    page_at table path ≡ Some p → IsRouteTo p path
 page_found path p text h = go (first table path) refl h
   where
     go : (o : Option (RouteOf Page)) → first table path ≡ o →
-        option_map (λ (r : RouteOf Page). r.value) o ≡ Some p → Leads p path
+        option_map (λ (r : RouteOf Page). r.value) o ≡ Some p → IsRouteTo p path
     go None e k = cc
     go (Some r) e k =
         let found = first_found (RouteOf Page) table path r (text_of path text) table_plain e in
@@ -105,7 +105,7 @@ page_found path p text h = go (first table path) refl h
         }
 
 -- where it finds none, no page has that path
-pub page_none : (path : List ℕ) → page_at table path ≡ None → (p : Page) → ¬ (Leads p path)
+pub page_none : (path : List ℕ) → page_at table path ≡ None → (p : Page) → ¬ (IsRouteTo p path)
 page_none path h p leads = go (first table path) refl h
   where
     go : (o : Option (RouteOf Page)) → first table path ≡ o →
@@ -117,12 +117,12 @@ page_none path h p leads = go (first table path) refl h
         first_none (RouteOf Page) table path table_plain e leads.pattern at.0 at.1 leads.takes_it
 
 pub found_clause : (path : List ℕ) (o : Option Page) → ((i : ℕ) → get_or path i 0 < 256) →
-    o ≡ page_at table path → IfSome o (λ p. Leads p path)
+    o ≡ page_at table path → IfSome o (λ p. IsRouteTo p path)
 found_clause path None text e = tt
 found_clause path (Some p) text e = page_found path p text (sym e)
 
 pub none_clause : (path : List ℕ) (o : Option Page) → o ≡ page_at table path → IsNone o →
-    (p : Page) → ¬ (Leads p path)
+    (p : Page) → ¬ (IsRouteTo p path)
 none_clause path None e n p = page_none path (sym e) p
 none_clause path (Some q) e n p = cc
 
@@ -161,7 +161,7 @@ none_in (r ∷ rows) path t p e i k = go (takes r.0 path) refl i (none_in rows p
     go false u (inr there) more = more (rw u at e) there k
 
 -- the page that a path leads to, where it leads to one
-pub page_some : (path : List ℕ) (p : Page) → Leads p path → Some p ≡ page_of path
+pub page_some : (path : List ℕ) (p : Page) → IsRouteTo p path → Some p ≡ page_of path
 unfolding page_of
 page_some path p leads = go (find (λ r. takes r.0 path) pages) refl
   where
@@ -170,14 +170,14 @@ page_some path p leads = go (find (λ r. takes r.0 path) pages) refl
     go None e = absurd (none_in pages path leads.pattern p e leads.is_in leads.takes_it)
     go (Some row) e =
         let found = found_in pages path row e in
-        let also : Leads row.1 path = record {
+        let also : IsRouteTo row.1 path = record {
           pattern = row.0;
           is_in = found.0;
           takes_it = found.1;
         } in
         ap (λ (x : Page). Some x) (one_page path p row.1 leads also)
 
-page_nowhere : (path : List ℕ) → ((p : Page) → ¬ (Leads p path)) → None ≡ page_of path
+page_nowhere : (path : List ℕ) → ((p : Page) → ¬ (IsRouteTo p path)) → None ≡ page_of path
 unfolding page_of
 page_nowhere path none = go (find (λ r. takes r.0 path) pages) refl
   where

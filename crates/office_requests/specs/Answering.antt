@@ -19,23 +19,23 @@ use Rattle.office_requests.specs.declared.requests.Refusal.{Refusal}
 use Rattle.office_requests.specs.declared.requests.Refusal.TheVariants as refusal
 
 -- The answer is that of the definition. Memory is refused for a command with a body of JSON alone.
-abbrev pub Gives : {A P : Type 0} → (A → P) → (P → PlainCommand) → Result P Refusal
+abbrev pub AnswersCommand : {A P : Type 0} → (A → P) → (P → PlainCommand) → Result P Refusal
     → Result A Refusal → Type 0
-Gives plain command_in said (Ok asked) = said ≡ Ok (plain asked)
-Gives plain command_in said (Err refusal.NoMemory) =
+AnswersCommand plain command_in said (Ok asked) = said ≡ Ok (plain asked)
+AnswersCommand plain command_in said (Err refusal.NoMemory) =
     IsOkAnd said (λ asked. HasJson (command_in asked))
-Gives plain command_in said (Err refusal.Caller) = said ≡ Err refusal.Caller
-Gives plain command_in said (Err refusal.Candidate) = said ≡ Err refusal.Candidate
-Gives plain command_in said (Err refusal.Path) = said ≡ Err refusal.Path
-Gives plain command_in said (Err (refusal.Method page)) = said ≡ Err (refusal.Method page)
+AnswersCommand plain command_in said (Err refusal.Caller) = said ≡ Err refusal.Caller
+AnswersCommand plain command_in said (Err refusal.Candidate) = said ≡ Err refusal.Candidate
+AnswersCommand plain command_in said (Err refusal.Path) = said ≡ Err refusal.Path
+AnswersCommand plain command_in said (Err (refusal.Method page)) = said ≡ Err (refusal.Method page)
 
 -- the command that is answered
 abbrev pub GivesCommand : Result PlainCommand Refusal → Result Command Refusal → Type 0
-GivesCommand said answer = Gives plain_command (λ command. command) said answer
+GivesCommand said answer = AnswersCommand plain_command (λ command. command) said answer
 
 -- who asks, and the command
 abbrev pub GivesAsked : Result PlainAsked Refusal → Result Asked Refusal → Type 0
-GivesAsked said answer = Gives plain_asked (λ asked. asked.command) said answer
+GivesAsked said answer = AnswersCommand plain_asked (λ asked. asked.command) said answer
 
 -- the reply where the page hasn't the method
 abbrev pub not_allowed : Page → PlainReply

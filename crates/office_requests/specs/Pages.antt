@@ -52,8 +52,8 @@ pub record Finds {K : Type 0} (rows : RowsOf K) (path : List ℕ) (k : K) : Type
   pub takes_it : takes pattern path ≡ true
 
 -- the path leads to the page
-abbrev pub Leads : Page → List ℕ → Type 0
-Leads p path = Finds pages path p
+abbrev pub IsRouteTo : Page → List ℕ → Type 0
+IsRouteTo p path = Finds pages path p
 
 -- the page that a path leads to
 unfoldable pub page_of : List ℕ → Option Page

@@ -2,7 +2,7 @@
 ghost use Rattle.std.specs.Prelude.{◌≡◌, ℕ, List, map, IfOk, OnOk, IfSome, IsNone};
 ghost use Rattle.office_requests.specs.declared.pages.Page.{Page};
 ghost use Rattle.office_requests.specs.Table.{Rows, adds, adds_all, table, page_at};
-ghost use Rattle.office_requests.specs.Pages.{Leads, page_of};
+ghost use Rattle.office_requests.specs.Pages.{IsRouteTo, page_of};
 
 use crate::pages::Page;
 use matchit::Router;
@@ -57,8 +57,8 @@ impl Routes {
     /// The page whose pattern takes the path segment by segment. A number in a pattern takes any
     /// segment that isn't empty.
     pub fn page(&self, path: &str) -> Option<Page>
-        ensures found { IfSome result (λ page. Leads page path.now) }
-        ensures none { IsNone result → (page : Page) → ¬ (Leads page path.now) }
+        ensures found { IfSome result (λ page. IsRouteTo page path.now) }
+        ensures none { IsNone result → (page : Page) → ¬ (IsRouteTo page path.now) }
         ensures only { result ≡ page_of path.now }
     {
         page_at(&self.router, path)
@@ -106,5 +106,5 @@ fn add(router: &mut Router<Page>, route: &str, page: Page) -> Result<(), AllocEr
 
 /// A path leads to at most one page.
 pub fn one_page()
-    ensures { (path : List ℕ) (p q : Page) → Leads p path → Leads q path → p ≡ q }
+    ensures { (path : List ℕ) (p q : Page) → IsRouteTo p path → IsRouteTo q path → p ≡ q }
 {}

@@ -12,7 +12,7 @@ use sqlite_value::value::Value;
 use std::alloc::{AllocError, Global};
 
 // Which of a table's columns are its key.
-pub enum TableKey {
+pub(crate) enum TableKey {
     // The first, which is the row's number.
     Number,
     // The first two.

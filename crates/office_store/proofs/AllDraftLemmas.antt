@@ -4,10 +4,11 @@ use Rattle.std.specs.List.{AllByRecursion}
 use Rattle.std.specs.Prelude.{IsPermutation, IsSome, is_some}
 use Rattle.std.proofs.lemmas.Bool.{ltb-false, ltb-true}
 use Rattle.std.proofs.lemmas.Bool.Decides.{nat_tests}
-use Rattle.std.proofs.lemmas.List.{append-nil}
+use Rattle.std.proofs.lemmas.List.{append-nil, nil_from_length}
 use Rattle.std.proofs.lemmas.List.Elements.{filter-append}
 use Rattle.std.proofs.lemmas.List.Sorted.{IsPermutation-append_left, IsPermutation-refl}
 use Rattle.std.proofs.lemmas.List.Sorted.{IsPermutation-sym, IsPermutation-trans}
+use Rattle.std.proofs.lemmas.List.Sorted.{length_permutation}
 use Rattle.sqlite_trees.proofs.ListLemmas.{IsPermutation-filter, all-append, all-filter}
 use Rattle.sqlite_trees.proofs.ListLemmas.{all-permutation, filter-filter}
 use Rattle.exam_model.specs.Timetable.{Placing}
@@ -120,6 +121,18 @@ no_draft r is d beyond = go (r.draft d) refl
     go : (o : Option Placing) → r.draft d ≡ o → o ≡ None
     go None e = refl
     go (Some T) e = absurd (beyond (is.numbered d (subst IsSome (sym e) refl)))
+
+-- a draft that has no row has no place
+pub no_place : (t : Tables) (r : Records) (d : ℕ) → StandsLoaded t r → drafts_at d t.draft ≡ []
+    → slots_at d t.slot ≡ []
+no_place t r d stands none =
+    go (r.draft d) (sym (stands.draft d) ∙ ap (map (λ (row : DraftRow). row.no)) none)
+    (stands.slot d)
+  where
+    go : (o : Option Placing) → once (is_some o) d ≡ []
+        → IsPermutation (slots_at d t.slot) (slot_rows d o) → slots_at d t.slot ≡ []
+    go None e same = nil_from_length (slots_at d t.slot) (sym (length_permutation _ _ same))
+    go (Some T) e same = absurd cc
 
 module _ (t : Tables) (r : Records) (stands : StandsLoaded t r) (is : AreRecords r) where
   abbrev no_of : DraftRow → ℕ

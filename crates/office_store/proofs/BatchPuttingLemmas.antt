@@ -10,9 +10,6 @@ use Rattle.exam_model.specs.Enrolments.{Enrolled}
 use Rattle.exam_model.specs.Instance.{Session}
 use Rattle.exam_model.specs.declared.change.Change.{Change}
 use Rattle.sqlite.specs.Effect.{Database}
-use Rattle.sqlite.specs.Held.{Held, state}
-use Rattle.sqlite.specs.State.{HasCleanDisk}
-use Rattle.sqlite.specs.Store.{Ghosts}
 use Rattle.office_batches.specs.BatchText.{batch_in}
 use Rattle.office_tables.specs.Alterations.{after_all}
 use Rattle.office_tables.specs.Draft.{no_drafts, with_draft}
@@ -23,7 +20,6 @@ use Rattle.office_tables.specs.Standing.{Stands}
 use Rattle.office_tables.specs.declared.draft.InsertDraft.{InsertDraft}
 use Rattle.office_tables.specs.declared.draft.DraftRow.{DraftRow}
 use Rattle.office_tables.specs.declared.enrol.EnrolRow.{EnrolRow}
-use Rattle.office_tables.specs.declared.slot.SlotRow.{SlotRow}
 use Rattle.office_tables.proofs.AlterationLemmas.{drafts_put}
 use Rattle.office_enrolment.specs.AfterBatch.{after_batch, lines_in}
 use Rattle.office_enrolment.specs.Keeping as keeping
@@ -40,8 +36,8 @@ use Rattle.office_records.specs.Memory.{Memory, memory_of}
 use Rattle.office_records.specs.Stands.{IsKept, IsSound, StandsLoaded}
 use Rattle.office_records.specs.TableRows.{enrol_row, stored_batch}
 use Rattle.office_records.proofs.BatchPutLemmas.{batch_sound, batch_stands, drafts_moved}
-use Rattle.office_store.specs.NewBatches.{AreBatchRowsOf, Enrols, IsNewFor, line_put, new_batch_put}
-use Rattle.office_store.specs.Running.{IsAwake, IsFault, IsStill}
+use Rattle.office_store.specs.NewBatches.{Enrols, IsNewFor, line_put, new_batch_put}
+use Rattle.office_store.specs.Running.{IsFault}
 use Rattle.office_store.specs.declared.new_batch.NewBatch.{NewBatch}
 use Rattle.office_store.specs.declared.new_batch.PutLine.{PutLine}
 use Rattle.office_store.proofs.CommandLemmas.{Denies, Moves}
@@ -137,30 +133,25 @@ module _ (number : ℕ) (bytes : List ℕ) (changes : List Change)
       ∙ ap (λ b. unless b TooMany >>= λ _.
       Ok (done.0, Some (keeping.records_with_batch number bytes r done))) there
 
-  -- ---- the command, by what is in memory and the rows that a batch is judged by
+  -- ---- the command, by what is in memory and the database that is read
 
-  module _ (I : Session) (E : Enrolled) (numbers : List ℕ) (drafts : List DraftRow)
-      (slots : List SlotRow) where
-    -- what is put in is what the command puts in, whatever the records are that have these rows
+  module _ (I : Session) (E : Enrolled) (a : Database) where
+    -- what is put in is what the command puts in, whatever the records are that stand there
     abbrev pub Comes : Result NewBatch StoreFault → Type 0
-    Comes result = (r : Records) → IsOffice (Some r) → memory_of (Some r) ≡ Some (I, E)
-        → length numbers ≡ length r.batches
-        → AreDrafts r.session r.enrolments drafts slots r.draft → Enrols changes slots r result
+    Comes result = (r : Records) → IsKept a (Some r) → memory_of (Some r) ≡ Some (I, E)
+        → Enrols changes r result
 
-    module _ (a : Database) (m : Memory) (at_hand : m ≡ Some (I, E))
-        (is_new : (o : OfficeState) → IsKept a o → kept_in o number ≡ None)
-        (tells : (o : OfficeState) → IsKept a o → AreBatchRowsOf o numbers drafts slots) where
+    module _ (m : Memory) (at_hand : m ≡ Some (I, E))
+        (is_new : (o : OfficeState) → IsKept a o → kept_in o number ≡ None) where
       pub enrol_denied : (e : StoreFault) → Comes (Err e)
           → Denies (batch_enrolled number bytes) e a m
       enrol_denied e comes o kept is =
           let of = kept_of o I E (is ∙ at_hand) in
           let r = of.records in
           let here = subst (IsKept a) of.is kept in
-          let rows = tells (Some r) here in
           subst (λ gives. IsFault gives e)
           (sym (ap (batch_enrolled number bytes) of.is ∙ gives_new r (is_new (Some r) here)))
-          (comes r here.office
-          (subst (λ o. memory_of o ≡ Some (I, E)) of.is (is ∙ at_hand)) rows.0 rows.1 number bytes)
+          (comes r here (subst (λ o. memory_of o ≡ Some (I, E)) of.is (is ∙ at_hand)) number bytes)
 
       module _ (small : number ≤ 999999999)
           (counted : (E : Enrolled) (done : Counts × Enrolled) → after_batch changes E ≡ Ok done
@@ -174,42 +165,41 @@ module _ (number : ℕ) (bytes : List ℕ) (changes : List Change)
         abbrev done : Counts × Enrolled
         done = (new.counts, new.enrolments)
 
-        module _ (r : Records) (here : IsKept a (Some r)) (made : IsNewFor changes slots r new)
-          where
-            gives : batch_enrolled number bytes (Some r)
-                ≡ Ok (new.counts, Some (keeping.records_with_batch number bytes r done))
-            gives =
-                gives_new r (is_new (Some r) here)
-                ∙ new_gives r done here.office.enrolled.exams made.after made.room
+        module _ (r : Records) (here : IsKept a (Some r)) (made : IsNewFor changes r new) where
+          gives : batch_enrolled number bytes (Some r)
+              ≡ Ok (new.counts, Some (keeping.records_with_batch number bytes r done))
+          gives =
+              gives_new r (is_new (Some r) here)
+              ∙ new_gives r done here.office.enrolled.exams made.after made.room
 
-            abbrev rows : List DraftRow
-            rows = map (λ (it : InsertDraft). it.row) new.drafts.items
+          abbrev rows : List DraftRow
+          rows = map (λ (it : InsertDraft). it.row) new.drafts.items
 
-            again : AreDrafts r.session new.enrolments (reverse rows) slots r.draft
-            again = drafts_moved r.session new.enrolments rows (reverse rows) slots r.draft
-                (IsPermutation-reverse rows) made.drafts
+          again : AreDrafts r.session new.enrolments (reverse rows) made.slots r.draft
+          again = drafts_moved r.session new.enrolments rows (reverse rows) made.slots r.draft
+              (IsPermutation-reverse rows) made.drafts
 
-            enrolled_kept : ((t : Tables) → Stands a t
-                → Stands b (new_batch_put number bytes new t))
-                → IsKept b (Some (keeping.records_with_batch number bytes r done))
-            enrolled_kept makes = record {
-              held = new_batch_put number bytes new here.held;
-              tables = makes here.held here.tables;
-              stands = subst (λ (l : List Change). StandsLoaded
-                  (batch_put l (reverse rows) row here.held)
-                  (keeping.records_with_batch number bytes r done))
-                  (sym made.lines)
-                  (batch_stands number bytes changes r done here.office made.after here.held
-                  (reverse rows) slots again small (counted r.enrolments done made.after)
-                  here.stands);
-              sound = subst (λ (l : List Change). IsSound (batch_put l (reverse rows) row here.held)
-                  (Some (keeping.records_with_batch number bytes r done))) (sym made.lines)
-                  (batch_sound number bytes changes r done here.office made.after here.held
-                  (reverse rows) slots again here.sound);
-              office = leaves (Some r)
-                  (Some (keeping.records_with_batch number bytes r done)) new.counts
-                  here.office gives;
-            }
+          enrolled_kept : ((t : Tables) → Stands a t
+              → Stands b (new_batch_put number bytes new t))
+              → IsKept b (Some (keeping.records_with_batch number bytes r done))
+          enrolled_kept makes = record {
+            held = new_batch_put number bytes new here.held;
+            tables = makes here.held here.tables;
+            stands = subst (λ (l : List Change). StandsLoaded
+                (batch_put l (reverse rows) row here.held)
+                (keeping.records_with_batch number bytes r done))
+                (sym made.lines)
+                (batch_stands number bytes changes r done here.office made.after here.held
+                (reverse rows) made.slots again small (counted r.enrolments done made.after)
+                here.stands);
+            sound = subst (λ (l : List Change). IsSound (batch_put l (reverse rows) row here.held)
+                (Some (keeping.records_with_batch number bytes r done))) (sym made.lines)
+                (batch_sound number bytes changes r done here.office made.after here.held
+                (reverse rows) made.slots again here.sound);
+            office = leaves (Some r)
+                (Some (keeping.records_with_batch number bytes r done)) new.counts
+                here.office gives;
+          }
 
         pub enrol_moves : Comes (Ok new)
             → ((t : Tables) → Stands a t → Stands b (new_batch_put number bytes new t))
@@ -218,23 +208,10 @@ module _ (number : ℕ) (bytes : List ℕ) (changes : List Change)
             let of = kept_of o I E (is ∙ at_hand) in
             let r = of.records in
             let here = subst (IsKept a) of.is kept in
-            let told = tells (Some r) here in
-            let made = comes r here.office
-            (subst (λ o. memory_of o ≡ Some (I, E)) of.is (is ∙ at_hand)) told.0 told.1 in (
+            let made = comes r here
+            (subst (λ o. memory_of o ≡ Some (I, E)) of.is (is ∙ at_hand)) in (
               Some (keeping.records_with_batch number bytes r done),
               ap (batch_enrolled number bytes) of.is ∙ gives r here made,
               enrolled_kept r here made makes,
               ap (λ (J : Session). Some (J, new.enrolments)) of.session,
             )
-
--- a number that was new still is, where nothing has changed
-pub new_still : {S : Type 0} (g : Ghosts S) (old mid : Held S) (number : ℕ)
-    → (HasCleanDisk (state g mid) → IsStill (state g old) (state g mid))
-    → (HasCleanDisk (state g mid) → HasCleanDisk (state g old))
-    → (HasCleanDisk (state g mid) → IsAwake (state g mid))
-    → (HasCleanDisk (state g old) → (o : OfficeState) → IsKept (state g old).now o
-    → kept_in o number ≡ None)
-    → HasCleanDisk (state g mid) → (o : OfficeState) → IsKept (state g mid).now o
-    → kept_in o number ≡ None
-new_still g old mid number still clean awake new k o kept =
-    new (clean k) o (subst (λ db. IsKept db o) (still k (awake k).0).1 kept)

@@ -4,15 +4,18 @@ use Rattle.sqlite.specs.Effect.{Database}
 use Rattle.sqlite.specs.Held.{Held, state}
 use Rattle.sqlite.specs.State.{State, HasCleanDisk}
 use Rattle.sqlite.specs.Store.{Ghosts}
+use Rattle.office_tables.specs.Alterations.{Undone}
 use Rattle.office_model.specs.Office.{OfficeState}
 use Rattle.office_records.specs.Memory.{Memory, memory_of}
 use Rattle.office_records.specs.Stands.{IsKept}
 use Rattle.office_model.specs.Commands.{Gives}
-use Rattle.office_store.specs.Running.{Does, IsAtRest, IsAwake, IsFault, IsStill, Now, ReadsOffice, Runs, Shows, Tells}
+use Rattle.office_store.specs.Running.{Does, IsAtRest, IsAwake, IsFault, IsStill, Now, ReadsOffice, Runs, Shows}
+use Rattle.office_store.specs.Running.{StaysOnErr, Tells}
 use Rattle.office_model.specs.declared.fault.StoreFault.{StoreFault}
 use Rattle.office_model.specs.declared.fault.StoreFault.TheVariants.{NotLoaded}
 use Rattle.office_store.proofs.ReadLemmas.{does_now}
 use Rattle.office_store.proofs.RunLemmas.{at_hand, nothing_kept, now_still}
+use Rattle.office_store.proofs.RunLemmas.{still_then, still_undone}
 
 -- where an office stands and this is in memory of it, the command gives this, and leads to another
 abbrev pub Moves : {A : Type 0} → (OfficeState → Gives A) → A → Database → Database
@@ -27,22 +30,22 @@ Denies command fault a m = (o : OfficeState) → IsKept a o → memory_of o ≡ 
     → IsFault (command o) fault
 
 -- what is told of an office that stays is shown
-shown : {A : Type 0} (says : A) (o : OfficeState) (Stays : OfficeState → Type 0)
+pub shown : {A : Type 0} (says : A) (o : OfficeState) (Stays : OfficeState → Type 0)
     (result : Result A StoreFault) → Tells says result → Stays o → Shows says o Stays result
 shown says o Stays (Ok x) is here = (is, here)
 shown says o Stays (Err fault) is here = (is, here)
 
--- from the connection before a look at the file to the one behind it, which is at hand
+-- from the connection before a look at the file, by which nothing changes, to the one behind it,
+-- which is at hand
 module _ {S : Type 0} (g : Ghosts S) (before mid inside : Held S)
     (m : Memory) (view : inside ≡ mid) (rest : IsAtRest (state g inside) m)
     (awake : HasCleanDisk (state g mid) → IsAwake (state g mid))
-    (stays : HasCleanDisk (state g mid) → (o : OfficeState) → Now (state g before) o
-    → Now (state g mid) o) where
+    (still : HasCleanDisk (state g mid) → IsStill (state g before) (state g mid)) where
   -- the office that stood there does, and its session is in memory
   there : HasCleanDisk (state g mid) → (o : OfficeState) → Now (state g before) o
       → IsKept (state g mid).now o × (memory_of o ≡ m)
   there clean o now =
-      let here = stays clean o now (awake clean).0 in (
+      let here = now_still (state g before) (state g mid) o (still clean) now (awake clean).0 in (
         here,
         at_hand (state g mid) m o (subst (λ h. IsAtRest (state g h) m) view rest) clean
             (awake clean).0 here,
@@ -61,11 +64,10 @@ module _ {S A : Type 0} (g : Ghosts S) (command : OfficeState → Gives A)
     (before mid inside : Held S)
     (m : Memory) (view : inside ≡ mid) (rest : IsAtRest (state g inside) m)
     (awake : HasCleanDisk (state g mid) → IsAwake (state g mid))
-    (stays : HasCleanDisk (state g mid) → (o : OfficeState) → Now (state g before) o
-    → Now (state g mid) o) where
+    (still : HasCleanDisk (state g mid) → IsStill (state g before) (state g mid)) where
   found : HasCleanDisk (state g mid) → (o : OfficeState) → Now (state g before) o
       → IsKept (state g mid).now o × (memory_of o ≡ m)
-  found = there g before mid inside m view rest awake stays
+  found = there g before mid inside m view rest awake still
 
   pub refuses : (fault : StoreFault)
       → (HasCleanDisk (state g mid) → Denies command fault (state g mid).now m)
@@ -96,11 +98,58 @@ module _ {S A : Type 0} (g : Ghosts S) (command : OfficeState → Gives A)
       there.1 in
       (moved.0, moved.1, λ _. moved.2)
 
--- the same where the look itself says that nothing has changed
+-- what is awake is so inside
+pub awake_inside : {S : Type 0} (g : Ghosts S) (start inside : Held S) → inside ≡ start
+    → (HasCleanDisk (state g start) → IsAwake (state g start))
+    → HasCleanDisk (state g inside) → IsAwake (state g inside)
+awake_inside g start inside view awake clean =
+    subst (λ h. IsAwake (state g h)) (sym view)
+    (awake (subst (λ h. HasCleanDisk (state g h)) view clean))
+
+-- a command that is refused by what is read on from there
+pub refuses_on : {S A : Type 0} (g : Ghosts S) (command : OfficeState → Gives A)
+    (start inside after : Held S) (m : Memory) → inside ≡ start → IsAtRest (state g inside) m
+    → (HasCleanDisk (state g start) → IsAwake (state g start))
+    → (HasCleanDisk (state g after) → HasCleanDisk (state g inside))
+    → (HasCleanDisk (state g after) → IsStill (state g inside) (state g after))
+    → (fault : StoreFault)
+    → (HasCleanDisk (state g after) → Denies command fault (state g inside).now m)
+    → Runs g command start after (Err fault)
+refuses_on g command start inside after m view rest awake clean still fault denies k o now =
+    let opened = (awake_inside g start inside view awake (clean k)).0 in
+    let stood : Now (state g inside) o = subst (λ h. Now (state g h) o) (sym view) now in
+    let here = stood opened in (
+      denies k o here (at_hand (state g inside) m o rest (clean k) opened here),
+      now_still (state g inside) (state g after) o (still k) stood,
+    )
+
+-- the office that stood there does, where a look says that nothing has changed
 pub stays_by : {S : Type 0} (g : Ghosts S) (before mid : Held S)
     → (HasCleanDisk (state g mid) → IsStill (state g before) (state g mid))
     → HasCleanDisk (state g mid) → (o : OfficeState) → Now (state g before) o → Now (state g mid) o
 stays_by g before mid still clean o = now_still (state g before) (state g mid) o (still clean)
+
+-- a refusal by what is read on from there has changed nothing either
+pub stays_on : {S A : Type 0} (g : Ghosts S) (start inside after : Held S) → inside ≡ start
+    → (HasCleanDisk (state g after) → IsStill (state g inside) (state g after))
+    → (result : Result A StoreFault) → StaysOnErr g start after result
+stays_on g start inside after view still (Ok x) clean = tt
+stays_on g start inside after view still (Err fault) clean =
+    subst (λ h. IsStill (state g h) (state g after)) view (still clean)
+
+-- nor has a transaction that failed behind the look
+pub stays_undone : {S A : Type 0} (g : Ghosts S) (before mid inside after : Held S) → inside ≡ mid
+    → (HasCleanDisk (state g mid) → IsStill (state g before) (state g mid))
+    → (HasCleanDisk (state g mid) → IsAwake (state g mid))
+    → (HasCleanDisk (state g after) → HasCleanDisk (state g inside))
+    → (HasCleanDisk (state g after) → Undone (state g inside) (state g after))
+    → (result : Result A StoreFault) → StaysOnErr g before after result
+stays_undone g before mid inside after view still awake clean undone (Ok x) is_clean = tt
+stays_undone g before mid inside after view still awake clean undone (Err fault) is_clean =
+    let was = subst (λ h. HasCleanDisk (state g h)) view (clean is_clean) in
+    still_then (state g before) (state g mid) (state g after) (still was)
+    (still_undone (state g mid) (state g after) (λ _. (awake was).1)
+    (subst (λ h. Undone (state g h) (state g after)) view (undone is_clean)))
 
 -- and what is said of each office that stands there
 pub seen : {S : Type 0} (g : Ghosts S) (mid inside : Held S) → inside ≡ mid

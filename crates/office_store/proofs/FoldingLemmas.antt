@@ -28,6 +28,7 @@ use Rattle.office_model.specs.declared.fault.StoreFault.TheVariants.{BadSchema}
 use Rattle.office_records.specs.Stands.{IsKept}
 use Rattle.office_records.proofs.ReadableLemmas.{are_readable}
 use Rattle.office_tables.specs.Enrol.{FitsEnrol, HerEnrolsRise}
+use Rattle.office_tables.specs.Readers.{LeavesCommitted, OpensNone}
 use Rattle.office_tables.specs.Selections.{IsInOrder}
 use Rattle.office_tables.specs.Tables.{Tables}
 use Rattle.office_tables.specs.Standing.{Stands}
@@ -54,6 +55,17 @@ module _ {S : Type 0} (store : Ghosts S) where
       mode = λ m. m;
     };
     mode = λ m. m;
+  }
+
+  -- what a reader of one table leaves
+  pub read_one : (a b : Held S) → (HasCleanDisk (state store b) → HasCleanDisk (state store a))
+      → OpensNone store a b → LeavesCommitted store a b
+      → (a.in_transaction ≡ false → b.in_transaction ≡ false) → HasRead store a b
+  read_one a b clean was_open kept mode = record {
+    clean = clean;
+    was_open = was_open;
+    kept = kept;
+    mode = mode;
   }
 
   pub same_itself : (a : Held S) → IsSame store a a

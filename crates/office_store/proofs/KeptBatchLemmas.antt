@@ -12,8 +12,6 @@ use Rattle.exam_model.proofs.SumLemmas.{IsChain, chain_from_index}
 use Rattle.office_tables.specs.Batch.{batch_from}
 use Rattle.office_tables.specs.Tables.{Batch, Tables}
 use Rattle.office_tables.specs.declared.batch.BatchRow.{BatchRow}
-use Rattle.office_tables.specs.declared.draft.DraftRow.{DraftRow}
-use Rattle.office_tables.specs.declared.slot.SlotRow.{SlotRow}
 use Rattle.exam_terms.specs.Refusing.{◌>>=◌, unless}
 use Rattle.exam_model.specs.declared.change.Change.{Change}
 use Rattle.office_batches.specs.BatchText.{batch_in}
@@ -22,11 +20,10 @@ use Rattle.office_model.specs.Commands.{Gives}
 use Rattle.office_model.specs.declared.counts.Counts.{Counts}
 use Rattle.office_model.specs.declared.fault.StoreFault.TheVariants.{BatchDiffers}
 use Rattle.office_model.specs.Office.{AreRecords, IsOffice, KeptBatch, OfficeState, Records}
-use Rattle.office_records.specs.Found.{AreDrafts}
-use Rattle.office_records.specs.Stands.{IsSound, StandsForOffice, StandsLoaded}
+use Rattle.office_records.specs.Stands.{StandsForOffice, StandsLoaded}
 use Rattle.office_records.specs.TableRows.{stored_batch}
 use Rattle.office_records.proofs.SameTables.{same_few}
-use Rattle.office_store.specs.NewBatches.{AreBatchRowsOf, IsRowOf, answered_again}
+use Rattle.office_store.specs.NewBatches.{IsRowOf, answered_again}
 use Rattle.office_store.specs.Running.{Does}
 
 -- a number that no batch has
@@ -83,21 +80,16 @@ batch_read t None number found stands is row =
     sym row ∙ ap (λ (u : Tables). filter (λ (b : Batch). eqb b.no number) u.batch) stands
 batch_read t (Some r) number found stands is row = sym row ∙ stored_under t r stands is number
 
-pub rows_read : (t : Tables) (o : OfficeState) (numbers : List ℕ) (drafts : List DraftRow)
-    (slots : List SlotRow) → StandsForOffice t o → IsSound t o → IsOffice o
+-- there are as many numbers as batches
+pub as_many : (t : Tables) (r : Records) (numbers : List ℕ) → StandsLoaded t r
     → IsPermutation (map (λ (b : Batch). b.no) t.batch) numbers
-    → ((r : Records) → StandsLoaded t r → IsSound t (Some r) → AreRecords r
-    → AreDrafts r.session r.enrolments drafts slots r.draft)
-    → AreBatchRowsOf o numbers drafts slots
-rows_read t None numbers drafts slots stands sound is same are = tt
-rows_read t (Some r) numbers drafts slots stands sound is same are = (
-  let long = length_permutation _ _ same in
-      let stored = length_permutation _ _ stands.batches.same in
-      let counted = length-map t.batch (λ (b : Batch). b.no) in
-      let kept = length-map r.batches stored_batch in
-      omega (arith, long, stored, counted, kept),
-  are r stands sound is,
-)
+    → length numbers ≡ length r.batches
+as_many t r numbers stands same =
+    let long = length_permutation _ _ same in
+    let stored = length_permutation _ _ stands.batches.same in
+    let counted = length-map t.batch (λ (b : Batch). b.no) in
+    let kept = length-map r.batches stored_batch in
+    omega (arith, long, stored, counted, kept)
 
 -- no row is of no batch
 pub no_row_of : (o : OfficeState) (number : ℕ) → IsRowOf (kept_in o number) None

@@ -94,6 +94,10 @@ not_shown d r Store h = tt
 not_shown d r BadSchema h = h
 not_shown d r e h = not_there d r e h
 
+-- a failed statement, or memory that was refused, is no word on the draft
+pub only_failed : (d : ℕ) (r : Records) (e : StoreFault) → e ≡ Store → Publishes d r (Err e)
+only_failed d r e is = subst (IsFault (draft_published d (Some r))) (sym is) tt
+
 -- a draft that may not be published is refused for that
 refused_so : (d : ℕ) (r : Records) (T : Placing) (fault : PublishFault) → r.draft d ≡ Some T
     → publish_refusal r.session r.enrolments T ≡ Some fault

@@ -9,6 +9,9 @@ use Rattle.std.proofs.lemmas.List.{append-nil}
 use Rattle.std.proofs.lemmas.List.Sorted.{IsPermutation-append, IsPermutation-refl}
 use Rattle.std.proofs.lemmas.List.Sorted.{IsPermutation-reverse, IsPermutation-sym, IsPermutation-trans}
 use Rattle.sqlite.specs.Effect.{Database}
+use Rattle.sqlite.specs.Held.{Held, state}
+use Rattle.sqlite.specs.State.{HasCleanDisk}
+use Rattle.sqlite.specs.Store.{Ghosts}
 use Rattle.exam_model.specs.Enrolments.{Enrolled, has_number}
 use Rattle.exam_model.specs.Fits.{Fits}
 use Rattle.exam_model.specs.Instance.{Session}
@@ -28,21 +31,20 @@ use Rattle.office_tables.proofs.AlterationLemmas.{student_seats_gone, student_sh
 use Rattle.office_tables.proofs.AlterationLemmas.{student_shares_put}
 use Rattle.office_tables.specs.declared.placed.InsertPlacement.{InsertPlacement}
 use Rattle.office_tables.specs.declared.draft.DraftRow.{DraftRow}
-use Rattle.office_tables.specs.declared.placed.PlacedRow.{PlacedRow}
-use Rattle.office_tables.specs.declared.seat.SeatRow.{SeatRow}
 use Rattle.office_tables.specs.declared.slot.SlotRow.{SlotRow}
 use Rattle.office_tables.specs.declared.seat.DeleteStudentSeats.{DeleteStudentSeats}
 use Rattle.office_tables.specs.declared.seat.InsertSeat.{InsertSeat}
 use Rattle.office_tables.specs.declared.share_student.DeleteStudentShare.{DeleteStudentShare}
 use Rattle.office_tables.specs.declared.share_part.InsertPartShare.{InsertPartShare}
 use Rattle.office_tables.specs.declared.share_student.InsertStudentShare.{InsertStudentShare}
-use Rattle.office_model.specs.Office.{AreRecords, IsOffice, OfficeState}
+use Rattle.office_model.specs.Office.{AreRecords, OfficeState}
 use Rattle.office_model.specs.Office.{Publication, Records}
 use Rattle.office_model.specs.Publishing.{draft_published, publication_counts, published_as, rows_now}
 use Rattle.office_model.specs.declared.fault.StoreFault.{StoreFault}
+use Rattle.office_model.specs.declared.fault.StoreFault.TheVariants.{NotLoaded}
 use Rattle.office_model.proofs.RecordLemmas.{published_records}
 use Rattle.office_records.specs.Memory.{Memory, memory_of}
-use Rattle.office_records.specs.Publications.{StandsPublished, placed_from, stored_seat}
+use Rattle.office_records.specs.Publications.{placed_from, stored_seat}
 use Rattle.office_records.specs.SeatsStored.{seat_rows_of, seat_rows_without}
 use Rattle.office_records.specs.SharesStored.{share_rows_of, share_rows_without}
 use Rattle.office_records.specs.PartShares.{part_share_rows}
@@ -50,12 +52,13 @@ use Rattle.office_records.specs.SharesStored.{student_share_rows}
 use Rattle.office_records.specs.Stands.{IsKept, IsSound, StandsLoaded}
 use Rattle.office_records.proofs.RepublicationLemmas as republication
 use Rattle.office_store.specs.PublicationChanges.{places_put, publication_put, shares_put}
-use Rattle.office_store.specs.NewPublications.{ArePutIn, Publishes}
-use Rattle.office_store.specs.OfficeRows.{AreRowsOf, published_in}
-use Rattle.office_store.specs.Running.{IsFault}
+use Rattle.office_store.specs.NewPublications.{ArePutIn, IsPutIn, Publishes, PutsIn}
+use Rattle.office_store.specs.OfficeRows.{AreRowsOf}
+use Rattle.office_store.specs.Running.{IsAtRest, IsAwake, IsStill}
 use Rattle.office_store.specs.declared.new_publication.NewPublication.{NewPublication}
-use Rattle.office_store.proofs.CommandLemmas.{Denies, Moves}
+use Rattle.office_store.proofs.CommandLemmas.{Moves}
 use Rattle.office_store.proofs.NewBatchLemmas.{taken_back}
+use Rattle.office_store.proofs.RunLemmas.{at_hand, nothing_kept}
 
 -- ---- what the parts of the transaction make of the tables, one after the other
 
@@ -302,63 +305,72 @@ publish_gives : (d : ℕ) (r : Records) (T : Placing) → r.draft d ≡ Some T
     ≡ Ok (publication_counts r (published_as r T), Some (record r { published = Some (published_as r T) }))
 publish_gives d r T there permitted = rw (there, permitted) refl
 
--- ---- the command, by what is in memory, the draft's rows and those of what is published
+-- ---- the calls that publish
 
--- the office of what is at hand, and what the command puts in
-record IsPublishedOf (o : OfficeState) (I : Session) (E : Enrolled) (d : ℕ)
-    (result : Result NewPublication StoreFault) : Type 0 where
-  pub records : Records
-  pub is : o ≡ Some records
-  pub both : ◌≡◌ {A = Session × Enrolled} (records.session, records.enrolments) (I, E)
-  pub publishes : Publishes d records result
+-- what is put in for these records is put in for their office
+in_office : (d : ℕ) (r : Records) (result : Result NewPublication StoreFault)
+    → Publishes d r result → PutsIn d (Some r) result
+in_office d r (Ok new) puts = record { records = r; is = refl; put = puts }
+in_office d r (Err fault) refused = refused
 
-module _ (I : Session) (E : Enrolled) (d : ℕ) (rows : List DraftRow) (slots : List SlotRow)
-    (places : List PlacedRow) (seats : List SeatRow) where
-  -- what is put in is what the command puts in, whatever the records are that have these rows
-  abbrev pub Comes : Result NewPublication StoreFault → Type 0
-  Comes result = (r : Records) → IsOffice (Some r) → memory_of (Some r) ≡ Some (I, E)
-      → AreRowsOf (Some r) d rows slots → StandsPublished places seats r.published
-      → Publishes d r result
+module _ {S : Type 0} (g : Ghosts S) (first mid inside : Held S) (view : inside ≡ mid)
+    (d : ℕ) where
+  -- what is at hand tells of whatever office stands there
+  pub puts_at_hand : (m : Memory) → IsAtRest (state g inside) m → (I : Session) (E : Enrolled)
+      → m ≡ Some (I, E) → (rows : List DraftRow) (slots : List SlotRow)
+      (result : Result NewPublication StoreFault) → HasCleanDisk (state g mid)
+      → IsAwake (state g mid) → (o : OfficeState) → IsKept (state g mid).now o
+      → AreRowsOf o d rows slots
+      → (IsAwake (state g inside) → (r : Records) → IsKept (state g inside).now (Some r)
+      → memory_of (Some r) ≡ Some (I, E) → AreRowsOf (Some r) d rows slots
+      → Publishes d r result)
+      → PutsIn d o result
+  puts_at_hand m rest I E is rows slots result clean awake o kept are publishes =
+      go o kept are
+      (at_hand (state g mid) m o (subst (λ h. IsAtRest (state g h) m) view rest) clean awake.0 kept
+      ∙ is)
+    where
+      go : (o : OfficeState) → IsKept (state g mid).now o → AreRowsOf o d rows slots
+          → memory_of o ≡ Some (I, E) → PutsIn d o result
+      go None kept are memory = absurd cc
+      go (Some r) kept are memory =
+          in_office d r result
+          (publishes (subst (λ h. IsAwake (state g h)) (sym view) awake) r
+          (subst (λ h. IsKept (state g h).now (Some r)) (sym view) kept) memory are)
 
-  published_of : (o : OfficeState) (result : Result NewPublication StoreFault) → IsOffice o
-      → memory_of o ≡ Some (I, E) → AreRowsOf o d rows slots
-      → StandsPublished places seats (published_in o) → Comes result
-      → IsPublishedOf o I E d result
-  published_of None result office memory are shown comes = absurd cc
-  published_of (Some r) result office memory are shown comes = record {
-    records = r;
-    is = refl;
-    both = cc;
-    publishes = comes r office memory are shown;
-  }
+  pub none_at_hand : (m : Memory) → IsAtRest (state g inside) m → m ≡ None
+      → HasCleanDisk (state g mid) → IsAwake (state g mid) → (o : OfficeState)
+      → IsKept (state g mid).now o → draft_published d o ≡ Err NotLoaded
+  none_at_hand m rest none clean awake o kept =
+      ap (draft_published d) (nothing_kept o
+      (at_hand (state g mid) m o (subst (λ h. IsAtRest (state g h) m) view rest) clean awake.0 kept
+      ∙ none))
 
-  module _ (a : Database) (m : Memory) (at_hand : m ≡ Some (I, E))
-      (tells : (o : OfficeState) → IsKept a o → AreRowsOf o d rows slots)
-      (shows : (o : OfficeState) → IsKept a o → StandsPublished places seats (published_in o)) where
-    there : (result : Result NewPublication StoreFault) → Comes result → (o : OfficeState)
-        → IsKept a o → memory_of o ≡ m → IsPublishedOf o I E d result
-    there result comes o kept is =
-        published_of o result kept.office (is ∙ at_hand) (tells o kept) (shows o kept) comes
-
-    pub publish_denied : (e : StoreFault) → Comes (Err e) → Denies (draft_published d) e a m
-    publish_denied e comes o kept is =
-        let of = there (Err e) comes o kept is in
-        subst (λ o. IsFault (draft_published d o) e) (sym of.is) of.publishes
-
-    pub publish_moves : (b : Database) (new : NewPublication) → Comes (Ok new)
-        → ((t : Tables) → Stands a t → Stands b (publication_put new t))
-        → Moves (draft_published d) new.counts a b m m
-    publish_moves b new comes makes o kept is =
-        let of = there (Ok new) comes o kept is in
-        let r = of.records in
-        let here = subst (IsKept a) of.is kept in
-        let put = of.publishes in
-        let T = put.timetable in
-        let fits = here.office.drafts d T put.draft in (
-          Some (record r { published = Some (published_as r T) }),
-          ap (draft_published d) of.is ∙ publish_gives d r T put.draft put.permitted
-              ∙ ap (λ n. Ok (n, Some (record r { published = Some (published_as r T) })))
-              (sym put.put.counts),
-          published_kept r T here.office fits put.permitted a b _ new put.put here makes,
-          ap Some of.both ∙ sym at_hand,
-        )
+  -- the transaction makes of the office what the command does
+  pub publication_moves : (after : Held S) (m : Memory) (new : NewPublication)
+      → (HasCleanDisk (state g mid) → IsStill (state g first) (state g mid))
+      → (HasCleanDisk (state g mid) → IsAwake (state g mid))
+      → (HasCleanDisk (state g mid) → (o : OfficeState) → IsKept (state g first).now o
+      → IsPutIn d o new)
+      → HasCleanDisk (state g inside)
+      → ((t : Tables) → Stands (state g inside).now t
+      → Stands (state g after).now (publication_put new t))
+      → Moves (draft_published d) new.counts (state g inside).now (state g after).now m m
+  publication_moves after m new still opened puts clean makes o kept is =
+      let here = subst (λ h. HasCleanDisk (state g h)) view clean in
+      let there = subst (λ h. IsKept (state g h).now o) view kept in
+      let was = subst (λ db. IsKept db o) (still here (opened here).0).1 there in
+      let of = puts here o was in
+      let r = of.records in
+      let put = of.put in
+      let T = put.timetable in
+      let held = subst (IsKept (state g inside).now) of.is kept in
+      let fits = held.office.drafts d T put.draft in (
+        Some (record r { published = Some (published_as r T) }),
+        ap (draft_published d) of.is ∙ publish_gives d r T put.draft put.permitted
+            ∙ ap (λ n. Ok (n, Some (record r { published = Some (published_as r T) })))
+            (sym put.put.counts),
+        published_kept r T held.office fits put.permitted (state g inside).now
+            (state g after).now _ new put.put held makes,
+        ap memory_of (sym of.is) ∙ is,
+      )

@@ -26,17 +26,18 @@ use Rattle.office_model.specs.declared.fault.StoreFault.{StoreFault}
 use Rattle.office_records.specs.Memory.{Memory, memory_of}
 use Rattle.office_records.specs.Faults.{store_fault}
 use Rattle.office_records.specs.Publications.{ArePublicationRows, StandsPublished}
-use Rattle.office_records.specs.FoundPublications.{ArePublished, publication_from}
+use Rattle.office_records.specs.FoundPublications.{ArePlaces, ArePublished, publication_from}
 use Rattle.office_records.specs.Publications.{placed_from, placed_rows, stored_seat}
 use Rattle.office_records.specs.SharesStored.{AreShared}
 use Rattle.office_records.specs.PartShares.{part_rows, plain_rows}
 use Rattle.office_records.specs.Stands.{IsKept, IsSound, StandsForOffice}
+use Rattle.office_records.proofs.PlacedRowLemmas.{same_places}
 use Rattle.office_records.proofs.ReadableLemmas.{are_numbered}
 use Rattle.office_records.specs.declared.fault.RecordFault.{RecordFault}
 use Rattle.office_records.specs.declared.fault.RecordFault.TheVariants.{BadRows, NoMemory}
 use Rattle.exam_publish.specs.declared.seat_row.SeatRow as publish
 use Rattle.office_store.specs.Publications.{AddUpIn, Shown, StoredAddUp, plain}
-use Rattle.office_store.specs.Publications.{publication_shown, shares_in}
+use Rattle.office_store.specs.Publications.{publication_shown, shares_in, timetable_shown}
 use Rattle.office_store.specs.OfficeRows.{AreShareRowsOf, part_rows_in, published_in}
 use Rattle.office_store.specs.OfficeRows.{student_rows_in}
 use Rattle.office_store.specs.Running.{Shows, Tells}
@@ -92,6 +93,18 @@ module _ (o : OfficeState) (I : Session) (E : Enrolled) (m : Memory)
       (told of.records (subst IsOffice of.is office) of.session
       (subst (λ o. StandsPublished places seats (published_in o)) of.is rows))
 
+  pub places_told : (office : IsOffice o) → memory_of o ≡ m → (places : List PlacedRow)
+      → IsPermutation places (placed_rows (published_in o))
+      → (result : Result (Option Placing) StoreFault)
+      → ((r : Records) → AreRecords r → r.session ≡ I
+      → IsPermutation places (placed_rows r.published) → Tells (timetable_shown (Some r)) result)
+      → Tells (timetable_shown o) result
+  places_told office is places rows result told =
+      let of = kept_of o I E (is ∙ kept_in) in
+      subst (λ o. Tells (timetable_shown o) result) (sym of.is)
+      (told of.records (subst IsOffice of.is office) of.session
+      (subst (λ o. IsPermutation places (placed_rows (published_in o))) of.is rows))
+
   pub shares_told : (office : IsOffice o) → memory_of o ≡ m → (students : List StudentShareRow)
       (parts : List PartShareRow) → AreShareRowsOf o students parts
       → (result : Result (Option Sharing) StoreFault)
@@ -109,6 +122,10 @@ module _ (o : OfficeState) (I : Session) (E : Enrolled) (m : Memory)
 pub none_published : (o : OfficeState) (m : Memory) → m ≡ None → memory_of o ≡ m
     → None ≡ publication_shown o
 none_published o m none is = sym (ap publication_shown (nothing_kept o (is ∙ none)))
+
+pub none_placed : (o : OfficeState) (m : Memory) → m ≡ None → memory_of o ≡ m
+    → None ≡ timetable_shown o
+none_placed o m none is = sym (ap timetable_shown (nothing_kept o (is ∙ none)))
 
 pub none_shared : (o : OfficeState) (m : Memory) → m ≡ None → memory_of o ≡ m → None ≡ shares_in o
 none_shared o m none is = sym (ap shares_in (nothing_kept o (is ∙ none)))
@@ -201,6 +218,62 @@ pub plain_fault : {F : Type 0} (result : Result (Option (Placing × Vec publish.
     (P : F → Type 0) → IsErrAnd result P → IsErrAnd (plain result) P
 plain_fault (Ok x) P is = is
 plain_fault (Err e) P is = is
+
+-- ---- the places alone
+
+-- the places of a publication
+places_of : (r : Records) (I : Session) → r.session ≡ I → (p : Publication)
+    → IsPublication r.session p → (places : List PlacedRow)
+    → IsPermutation places (placed_rows (Some p)) → ArePlaces I places p.timetable
+places_of r I same p is places rows =
+    subst (λ J. ArePlaces J places p.timetable) same
+    (record { exams = is.rows.exams; places = is.rows.places; rows = rows })
+
+pub places_none : (r : Records) → AreRecords r → (places : List PlacedRow)
+    → IsPermutation places (placed_rows r.published) → length places ≡ 0
+    → Tells (timetable_shown (Some r)) (Ok None)
+places_none r is places rows none = go r.published is.publication rows
+  where
+    go : (published : Option Publication)
+        → ((p : Publication) → published ≡ Some p → IsPublication r.session p)
+        → IsPermutation places (placed_rows published)
+        → None ≡ timetable_shown (Some (record r { published = published }))
+    go None each rows = refl
+    go (Some p) each rows =
+        let known = (each p refl).rows in
+        let limits = is.session.limits.counts in
+        let some = has_place p.timetable (omega (arith, known.exams, limits)) known.complete in
+        let long = length_permutation _ _ rows in
+        absurd (omega (arith, long, none, some))
+
+pub places_some : (r : Records) (I : Session) → AreRecords r → r.session ≡ I
+    → (places : List PlacedRow) → IsPermutation places (placed_rows r.published)
+    → 1 ≤ length places → (T : Placing) → ArePlaces I places T
+    → Tells (timetable_shown (Some r)) (Ok (Some T))
+places_some r I is same places rows some T found = go r.published is.publication rows
+  where
+    go : (published : Option Publication)
+        → ((p : Publication) → published ≡ Some p → IsPublication r.session p)
+        → IsPermutation places (placed_rows published)
+        → Some T ≡ timetable_shown (Some (record r { published = published }))
+    go None each rows =
+        absurd (let long = length_permutation _ _ rows in omega (arith, long, some))
+    go (Some p) each rows =
+        ap Some (same_places I places T p.timetable found
+        (places_of r I same p (each p refl) places rows))
+
+-- they aren't bad
+pub places_good : (r : Records) (I : Session) → AreRecords r → r.session ≡ I
+    → (places : List PlacedRow) → IsPermutation places (placed_rows r.published)
+    → 1 ≤ length places → ((T : Placing) → ArePlaces I places T → ⊥) → ⊥
+places_good r I is same places rows some bad = go r.published is.publication rows
+  where
+    go : (published : Option Publication)
+        → ((p : Publication) → published ≡ Some p → IsPublication r.session p)
+        → IsPermutation places (placed_rows published) → ⊥
+    go None each rows = let long = length_permutation _ _ rows in omega (arith, long, some)
+    go (Some p) each rows =
+        bad p.timetable (places_of r I same p (each p refl) places rows)
 
 -- ---- the shares
 

@@ -2,12 +2,15 @@
 use Rattle.std.proofs.Common.{◌≡◌, Some, None, refl, sym, ◌∙◌, ap, subst, IsTrue, inl, inr}
 use Rattle.exam_model.specs.Enrolments.{Enrolled}
 use Rattle.exam_model.specs.Instance.{Session}
+use Rattle.sqlite.specs.Held.{Held, state}
 use Rattle.sqlite.specs.State.{State, HasCleanDisk, IsUnchanged}
+use Rattle.sqlite.specs.Store.{Ghosts}
 use Rattle.office_tables.specs.Readers.{Keeps}
 use Rattle.office_tables.specs.Tables.{Tables}
 use Rattle.office_tables.specs.Standing.{Stands}
 use Rattle.office_model.specs.Office.{OfficeState, Records}
 use Rattle.office_records.specs.Memory.{Memory, memory_of}
+use Rattle.office_store.specs.FoldReads.{HasRead, IsSame}
 use Rattle.office_store.specs.Running.{Now, IsAtRest, IsStill}
 use Rattle.office_records.specs.Stands.{IsKept}
 use Rattle.office_tables.specs.Alterations.{Undone}
@@ -19,6 +22,13 @@ pub now_still : (a b : State) (o : OfficeState) → IsStill a b → Now a o → 
 now_still a b o still now opened =
     let is = still opened in
     subst (λ db. IsKept db o) (sym is.1) (now is.0)
+
+-- one call behind another
+pub still_then : (a b c : State) → IsStill a b → IsStill b c → IsStill a c
+still_then a b c first next opened =
+    let late = next opened in
+    let early = first late.0 in
+    (early.0, late.1 ∙ early.1)
 
 pub rest_still : (a b : State) (m : Memory) → (HasCleanDisk b → HasCleanDisk a)
     → (HasCleanDisk b → IsStill a b) → IsAtRest a m → IsAtRest b m
@@ -96,3 +106,32 @@ module _ (a b : State) (m : Memory) (rest : IsAtRest a m) (clean : HasCleanDisk 
   kept_read was_open same is_clean o =
       let here = rest (clean is_clean) (was_open is_clean) in
       subst (λ db. IsKept db o) (same is_clean here.1.held here.1.tables).0.now_is
+
+-- ---- readers that had answered, and then a transaction that failed
+
+module _ {S : Type 0} (g : Ghosts S) (a b c : Held S) (m : Memory) (rest : IsAtRest (state g a) m)
+    (settled : IsTrue (state g a).is_open → (state g a).now ≡ (state g a).committed)
+    (read : HasRead g a b) (same : IsSame g a b)
+    (clean : HasCleanDisk (state g c) → HasCleanDisk (state g b))
+    (undone : HasCleanDisk (state g c) → Undone (state g b) (state g c)) where
+  pub still_failed : HasCleanDisk (state g c) → IsStill (state g a) (state g c)
+  still_failed is_clean opened =
+      let back = undone is_clean in
+      let mid = clean is_clean in
+      let was = read.was_open mid (back.was_open opened) in
+      let here = rest (read.clean mid) was in
+      let kept = same mid here.1.held here.1.tables was in
+      (was, back.now opened ∙ kept.0.committed_is ∙ sym (settled was))
+
+  -- what is in memory is still the office's
+  pub rest_failed : IsAtRest (state g c) m
+  rest_failed =
+      rest_still (state g a) (state g c) m (λ k. read.clean (clean k)) still_failed rest
+
+-- what a transaction makes of what was read, it makes of what stood there before
+pub made_on : {S : Type 0} (g : Ghosts S) (a b c : Held S) → IsSame g a b
+    → HasCleanDisk (state g b) → IsTrue (state g a).is_open → (make : Tables → Tables)
+    → ((t : Tables) → Stands (state g b).now t → Stands (state g c).now (make t))
+    → (t : Tables) → Stands (state g a).now t → Stands (state g c).now (make t)
+made_on g a b c same clean opened make makes t held =
+    makes t (subst (λ db. Stands db t) (sym (same clean t held opened).0.now_is) held)

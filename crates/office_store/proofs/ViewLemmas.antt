@@ -53,7 +53,7 @@ use Rattle.office_tables.specs.declared.seat.SeatRow.{SeatRow}
 use Rattle.office_tables.specs.declared.share_student.StudentShareRow.{StudentShareRow}
 use Rattle.office_model.specs.Office.{IsPublication}
 use Rattle.office_model.specs.Publishing.{rows_now}
-use Rattle.office_model.specs.Shown.{ShownView, shown_exams, shown_to}
+use Rattle.office_model.specs.Shown.{ShownView, shown_exams, shown_penalty, shown_to}
 use Rattle.office_model.specs.Views.{no_view, view_from, view_of}
 use Rattle.office_model.specs.declared.views.ViewRow.{ViewRow}
 use Rattle.office_records.specs.Publications.{stored_seat}
@@ -562,6 +562,13 @@ her_share_in r c is shares same = go r.published refl same
     go None e same = none (same_few [] shares (omega arith) same) refl
     go (Some p) e same = her_share r.session p c (small_shares_of r p is e) shares same
 
+-- in any office it is what her seats cost her
+pub her_share_of : (o : OfficeState) (c : ℕ) → IsOffice o → (shares : List StudentShareRow)
+    → IsPermutation (filter (λ (x : StudentShareRow). eqb x.student c) (student_rows_in o)) shares
+    → IsHerShare shares (shown_penalty (view_of c o))
+her_share_of None c is shares same = none (same_few [] shares (omega arith) same) refl
+her_share_of (Some r) c is shares same = her_share_in r c is shares same
+
 -- ---- what the rows show
 
 -- her rows are at the published places of their exams
@@ -656,6 +663,16 @@ personal_told shares rows share result same (none empty is) nothing one_row =
     nothing (same ∙ empty) ∙ ap Ok (sym is)
 personal_told shares rows share result same (one row alone is small) nothing one_row =
     one_row row (same ∙ alone) (subst (λ p. personal_total p < 2 ^ 62) (sym is) small) ∙ ap Ok is
+
+pub penalty_told : (shares rows : List StudentShareRow) (share : PersonalPenalty)
+    (result : Result PersonalPenalty StoreFault) → rows ≡ shares → IsHerShare shares share
+    → (rows ≡ [] → result ≡ Ok no_share)
+    → ((row : StudentShareRow) → rows ≡ row ∷ [] → personal_total (share_in_row row) < 2 ^ 62
+    → result ≡ Ok (share_in_row row))
+    → Tells share result
+penalty_told shares rows share result same hers nothing one_row =
+    subst (Tells share)
+    (sym (personal_told shares rows share result same hers nothing one_row)) refl
 
 -- so that it is never refused
 pub unshared : {B : Type 0} (shares rows : List StudentShareRow) (share : PersonalPenalty)

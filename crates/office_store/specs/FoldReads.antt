@@ -1,4 +1,4 @@
--- What a connection that reads the rows of a fold leaves as it was.
+-- What a connection that reads rows, some after others, leaves as it was.
 use Rattle.std.specs.Prelude.{◌≡◌, IsTrue, false, Some}
 use Rattle.sqlite.specs.Held.{Held, state}
 use Rattle.sqlite.specs.State.{HasCleanDisk, IsUnchanged}

@@ -1,5 +1,5 @@
 -- What is put in where a batch is accepted.
-use Rattle.std.specs.Prelude.{◌≡◌, ◌<◌, ℕ, if◌then◌else◌, List, length, map, reverse, Option, Some, None, option_to_list, Result, Ok, Err}
+use Rattle.std.specs.Prelude.{◌≡◌, ◌<◌, ℕ, if◌then◌else◌, List, length, map, reverse, Option, option_to_list, Result, Ok, Err}
 use Rattle.exam_terms.specs.Refusing.{◌>>=◌, unless}
 use Rattle.exam_terms.specs.declared.limits.TheConstants.{MAX_BATCHES}
 use Rattle.exam_model.specs.declared.change.Change.{Change}
@@ -13,7 +13,7 @@ use Rattle.office_tables.specs.declared.slot.SlotRow.{SlotRow}
 use Rattle.office_enrolment.specs.AfterBatch.{acting, after_batch}
 use Rattle.office_enrolment.specs.Rows.{pair_of}
 use Rattle.office_model.specs.Batches.{newly_enrolled, same_bytes}
-use Rattle.office_model.specs.Office.{KeptBatch, OfficeState, Records}
+use Rattle.office_model.specs.Office.{KeptBatch, Records}
 use Rattle.office_model.specs.declared.counts.Counts.{Counts}
 use Rattle.office_model.specs.declared.fault.StoreFault.{StoreFault}
 use Rattle.office_model.specs.declared.fault.StoreFault.TheVariants.{BatchDiffers}
@@ -40,25 +40,19 @@ put_draft row = record { row = row }
 
 -- what these lines make of an office's enrolments, with the lines that act, and the rows of all
 -- drafts with the enrolments after them; there is room for one batch more
-pub record IsNewFor (changes : List Change) (slots : List SlotRow) (r : Records) (new : NewBatch)
-    : Type 0 where
+pub record IsNewFor (changes : List Change) (r : Records) (new : NewBatch) : Type 0 where
   pub after : after_batch changes r.enrolments ≡ Ok (new.counts, new.enrolments)
   pub room : length r.batches < MAX_BATCHES
   pub lines : map (λ it. it.change) new.lines.items ≡ acting changes r.enrolments
+  pub slots : List SlotRow
   pub drafts : AreDrafts r.session new.enrolments (map (λ it. it.row) new.drafts.items)
       slots r.draft
 
 -- that, or the refusal of such a batch, whatever its number and its bytes
-abbrev pub Enrols : List Change → List SlotRow → Records → Result NewBatch StoreFault → Type 0
-Enrols changes slots r (Ok new) = IsNewFor changes slots r new
-Enrols changes slots r (Err fault) =
+abbrev pub Enrols : List Change → Records → Result NewBatch StoreFault → Type 0
+Enrols changes r (Ok new) = IsNewFor changes r new
+Enrols changes r (Err fault) =
     (number : ℕ) (bytes : List ℕ) → IsFault (newly_enrolled number bytes changes r) fault
-
--- the rows by which a batch is judged: as many numbers as batches, and those of all drafts
-abbrev pub AreBatchRowsOf : OfficeState → List ℕ → List DraftRow → List SlotRow → Type 0
-AreBatchRowsOf None numbers drafts slots = Unit {0}
-AreBatchRowsOf (Some r) numbers drafts slots =
-    (length numbers ≡ length r.batches) × AreDrafts r.session r.enrolments drafts slots r.draft
 
 -- the row of a kept batch, if there is one
 abbrev pub IsRowOf : Option KeptBatch → Option BatchRow → Type 0

@@ -9,7 +9,7 @@ use Rattle.exam_publish.specs.declared.seat_row.SeatRow.{SeatRow}
 use Rattle.exam_score.specs.Penalty.{Penalty}
 use Rattle.office_tables.specs.SharePart.{ArePartAmounts}
 use Rattle.office_tables.specs.ShareStudent.{AreStudentAmounts}
-use Rattle.office_model.specs.Office.{Records}
+use Rattle.office_model.specs.Office.{OfficeState, Records}
 use Rattle.office_model.specs.Publishing.{draft_published, published_as, rows_now}
 use Rattle.office_model.specs.DraftCommands.{penalty_now}
 use Rattle.office_model.specs.declared.fault.StoreFault.{StoreFault}
@@ -64,3 +64,14 @@ pub record IsPutInFor (d : ℕ) (r : Records) (new : NewPublication) : Type 0 wh
 abbrev pub Publishes : ℕ → Records → Result NewPublication StoreFault → Type 0
 Publishes d r (Ok new) = IsPutInFor d r new
 Publishes d r (Err fault) = IsFault (draft_published d (Some r)) fault
+
+-- what the command puts in of an office
+pub record IsPutIn (d : ℕ) (office : OfficeState) (new : NewPublication) : Type 0 where
+  pub records : Records
+  pub is : office ≡ Some records
+  pub put : IsPutInFor d records new
+
+-- that, or the command's own refusal
+abbrev pub PutsIn : ℕ → OfficeState → Result NewPublication StoreFault → Type 0
+PutsIn d office (Ok new) = IsPutIn d office new
+PutsIn d office (Err fault) = IsFault (draft_published d office) fault

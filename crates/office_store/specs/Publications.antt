@@ -23,6 +23,11 @@ publication_shown office =
     option_map (λ (found : Session × Publication). (found.1.timetable, found.1.rows))
     (publication_in office)
 
+-- where each exam stands in it, if there is one
+abbrev pub timetable_shown : OfficeState → Option Placing
+timetable_shown office =
+    option_map (λ (found : Session × Publication). found.1.timetable) (publication_in office)
+
 -- the shares of the publication, if there is one
 abbrev pub shares_in : OfficeState → Option Sharing
 shares_in office =

@@ -1,5 +1,5 @@
 -- What a call of the office makes of the office that its file stands for.
-use Rattle.std.specs.Prelude.{◌≡◌, IsTrue, Result, Ok, Err}
+use Rattle.std.specs.Prelude.{◌≡◌, IsTrue, OnErr, Result, Ok, Err}
 use Rattle.sqlite.specs.Held.{Held, state}
 use Rattle.sqlite.specs.State.{State, HasCleanDisk}
 use Rattle.sqlite.specs.Store.{Ghosts}
@@ -64,6 +64,11 @@ IsAtRest s memory =
 -- nothing has changed
 abbrev pub IsStill : State → State → Type 0
 IsStill old new = IsTrue new.is_open → IsTrue old.is_open × (new.now ≡ old.now)
+
+-- over a disk that returns what was written, a refusal has changed nothing
+abbrev pub StaysOnErr : {S A : Type 0} → Ghosts S → Held S → Held S → Result A StoreFault → Type 0
+StaysOnErr store old new result =
+    HasCleanDisk (state store new) → OnErr result (IsStill (state store old) (state store new))
 
 -- it is open, and all that was written is committed
 abbrev pub IsAwake : State → Type 0

@@ -7,7 +7,7 @@ ghost use Rattle.office_store.specs.NewDraft.{Begins};
 ghost use Rattle.office_model.specs.DraftCommands.{draft_dropped, draft_in, draft_made, first_timetable, is_draft_number};
 ghost use Rattle.office_model.specs.Office.{OfficeState};
 ghost use Rattle.office_store.specs.OfficeRows.{AreScored};
-ghost use Rattle.office_store.specs.Running.{IsAwake, Now, Runs};
+ghost use Rattle.office_store.specs.Running.{IsAwake, IsStill, Runs, StaysOnErr};
 ghost use Rattle.office_records.specs.Stands.{IsKept};
 ghost use Rattle.office_records.specs.TableRows.{once, slots_from};
 
@@ -32,6 +32,8 @@ impl<S: Alter> Office<S> {
     /// `NoDraft`: not 1 to 8; then `DraftTaken`; then `Refused`: the file is faulty.
     pub fn new_draft(&mut self, alloc: Global, number: u32, text: &[u8]) -> Result<u64, StoreFault>
         ensures runs { Runs S.Store (draft_made number text.now) self.old self.new result }
+        // Whatever the refusal, the tables are as they were.
+        ensures stays { StaysOnErr S.Store self.old self.new result }
         ensures clean { HasCleanDisk (state S.Store self.new)
             → HasCleanDisk (state S.Store self.old) }
     {
@@ -61,6 +63,8 @@ impl<S: Alter> Office<S> {
     /// Takes a draft out. `NotLoaded`, then `NoDraft`: there is none of this number.
     pub fn drop_draft(&mut self, alloc: Global, number: u32) -> Result<(), StoreFault>
         ensures runs { Runs S.Store (draft_dropped number) self.old self.new result }
+        // Whatever the refusal, the tables are as they were.
+        ensures stays { StaysOnErr S.Store self.old self.new result }
         ensures clean { HasCleanDisk (state S.Store self.new)
             → HasCleanDisk (state S.Store self.old) }
     {
@@ -88,8 +92,8 @@ impl<S: Alter> Office<S> {
         ensures scored { HasCleanDisk (state S.Store self.new) → (office : OfficeState)
             → IsKept (state S.Store self.new).now office
             → IfOk result (λ rows. AreScored rows.items office) }
-        ensures still { HasCleanDisk (state S.Store self.new) → (office : OfficeState)
-            → Now (state S.Store self.old) office → Now (state S.Store self.new) office }
+        ensures still { HasCleanDisk (state S.Store self.new)
+            → IsStill (state S.Store self.old) (state S.Store self.new) }
         ensures awake { HasCleanDisk (state S.Store self.new)
             → OnOk result (IsAwake (state S.Store self.new)) }
         ensures clean { HasCleanDisk (state S.Store self.new)

@@ -14,7 +14,7 @@ ghost use Rattle.office_store.specs.Changes.{moved, new_place};
 ghost use Rattle.office_store.specs.Editing.{Edits, Judges};
 ghost use Rattle.office_store.specs.FoldReads.{HasRead, IsSame};
 ghost use Rattle.office_store.specs.OfficeRows.{AreRowsOf};
-ghost use Rattle.office_store.specs.Running.{IsAwake, IsStill, Runs};
+ghost use Rattle.office_store.specs.Running.{IsAwake, IsStill, Runs, StaysOnErr};
 
 use crate::folding::penalty_after;
 use crate::office::Office;
@@ -44,6 +44,8 @@ impl<S: Alter> Office<S> {
     /// number, then `Refused` with the edit's own fault.
     pub fn edit(&mut self, alloc: Global, number: u32, edit: Edit) -> Result<u64, StoreFault>
         ensures runs { Runs S.Store (draft_edited number edit) self.old self.new result }
+        // Whatever the refusal, the tables are as they were.
+        ensures stays { StaysOnErr S.Store self.old self.new result }
         ensures clean { HasCleanDisk (state S.Store self.new)
             → HasCleanDisk (state S.Store self.old) }
     {

@@ -9,11 +9,10 @@ ghost use Rattle.office_batches.specs.BatchText.{batch_in};
 ghost use Rattle.office_model.specs.Batches.{batch_enrolled, kept_in};
 ghost use Rattle.office_model.specs.Office.{OfficeState};
 ghost use Rattle.office_records.specs.Stands.{IsKept};
-ghost use Rattle.office_store.specs.NewBatches.{AreBatchRowsOf, IsRowOf, answered_again};
-ghost use Rattle.office_store.specs.Running.{IsAwake, IsStill, Runs};
+ghost use Rattle.office_store.specs.NewBatches.{IsRowOf, answered_again};
+ghost use Rattle.office_store.specs.Running.{IsAwake, IsStill, Runs, StaysOnErr};
 ghost use Rattle.office_tables.specs.Batch.{batch_from};
 
-use crate::batch_rows::{BatchRows, batch_rows};
 use crate::fault::Failed;
 use crate::new_batch::{new_batch, put_batch};
 use crate::office::Office;
@@ -40,6 +39,8 @@ impl<S: Alter> Office<S> {
     ) -> Result<Counts, StoreFault>
         requires number { number ≤ MAX_BATCH }
         ensures runs { Runs S.Store (batch_enrolled number text.now) self.old self.new result }
+        // Whatever the refusal, the tables are as they were.
+        ensures stays { StaysOnErr S.Store self.old self.new result }
         ensures clean { HasCleanDisk (state S.Store self.new)
             → HasCleanDisk (state S.Store self.old) }
     {
@@ -54,7 +55,8 @@ impl<S: Alter> Office<S> {
         }
     }
 
-    // Carries out a batch whose number isn't kept, and keeps it.
+    // Carries out a batch whose number isn't kept, and keeps it. The drafts are read once nothing
+    // refuses it.
     fn enrol_new(
         &mut self,
         alloc: Global,
@@ -66,17 +68,19 @@ impl<S: Alter> Office<S> {
         requires spelled { batch_in text.now ≡ Ok changes.now }
         requires is_new { HasCleanDisk (state S.Store self.old) → (office : OfficeState)
             → IsKept (state S.Store self.old).now office → kept_in office number ≡ None }
+        requires awake { HasCleanDisk (state S.Store self.old) → IsAwake (state S.Store self.old) }
         ensures runs { Runs S.Store (batch_enrolled number text.now) self.old self.new result }
+        ensures stays { StaysOnErr S.Store self.old self.new result }
         ensures clean { HasCleanDisk (state S.Store self.new)
             → HasCleanDisk (state S.Store self.old) }
     {
         lines_are_counted();
         batch_leaves_an_office();
-        let rows = self.judging_rows(alloc)?;
+        let _at_rest = self.conn.is_autocommit(); // read for what it says of the last commit
         let Some((instance, enrolments)) = &self.kept else {
             return Err(StoreFault::NotLoaded);
         };
-        let new = new_batch(alloc, instance, enrolments, changes, &rows)?;
+        let new = new_batch(alloc, &mut self.conn, instance, enrolments, changes)?;
         let counts = new.counts;
         put_batch(&mut self.conn, &new, number, text)?;
         renew(&mut self.kept, new.enrolments);
@@ -98,24 +102,6 @@ impl<S: Alter> Office<S> {
         let _at_rest = self.conn.is_autocommit(); // read for what it says of the last commit
         let row = batch_of(alloc, &mut self.conn, number)?;
         Ok(row)
-    }
-
-    // The rows that a new batch is judged by.
-    fn judging_rows(&mut self, alloc: Global) -> Result<BatchRows, Failed>
-        ensures rows { HasCleanDisk (state S.Store self.new) → (office : OfficeState)
-            → IsKept (state S.Store self.new).now office
-            → IfOk result (λ found. AreBatchRowsOf office found.numbers.items found.drafts.items
-            found.slots.items) }
-        ensures still { HasCleanDisk (state S.Store self.new)
-            → IsStill (state S.Store self.old) (state S.Store self.new) }
-        ensures awake { HasCleanDisk (state S.Store self.new)
-            → OnOk result (IsAwake (state S.Store self.new)) }
-        ensures clean { HasCleanDisk (state S.Store self.new)
-            → HasCleanDisk (state S.Store self.old) }
-    {
-        let _at_rest = self.conn.is_autocommit(); // read for what it says of the last commit
-        let rows = batch_rows(alloc, &mut self.conn)?;
-        Ok(rows)
     }
 }
 

@@ -4,7 +4,7 @@ use sqlite::Error;
 
 // A statement failed; nothing has changed.
 #[derive(Clone, Copy)]
-pub struct Failed;
+pub(crate) struct Failed;
 
 impl From<Error> for Failed {
     ghost from_gives = { λ _ _. Unit {0} };

@@ -6,7 +6,7 @@ ghost use Rattle.exam_model.specs.Enrolments.{AreEnrolments};
 ghost use Rattle.exam_model.specs.Instance.{IsInstance};
 ghost use Rattle.exam_model.specs.Pairs.{pairs_at, pairs_of};
 ghost use Rattle.office_model.specs.Loading.{NamesFirstFault, SpellsSession, loaded_of, loaded};
-ghost use Rattle.office_store.specs.Running.{Runs};
+ghost use Rattle.office_store.specs.Running.{Runs, StaysOnErr};
 ghost use Rattle.office_records.specs.TableRows.{enrol_row};
 
 use crate::office::Office;
@@ -28,6 +28,8 @@ impl<S: Alter> Office<S> {
         ensures counts { IfOk result (SpellsSession text.now) }
         // Over any disk a text that is refused has the fault first that is named.
         ensures first { IfErr result (NamesFirstFault text.now) }
+        // Whatever the refusal, the tables are as they were.
+        ensures stays { StaysOnErr S.Store self.old self.new result }
         ensures clean { HasCleanDisk (state S.Store self.new)
             → HasCleanDisk (state S.Store self.old) }
     {

@@ -5,12 +5,14 @@ ghost use Rattle.sqlite.specs.State.{HasCleanDisk};
 ghost use Rattle.exam_terms.specs.declared.limits.TheConstants.{TEXT_BYTES};
 ghost use Rattle.office_tables.specs.Alterations.{Changed, Undone};
 ghost use Rattle.office_tables.specs.Draft.{AreAmounts};
-ghost use Rattle.office_model.specs.Office.{IsOffice, Records};
-ghost use Rattle.office_records.specs.Found.{AreDrafts};
+ghost use Rattle.office_model.specs.Office.{Records};
 ghost use Rattle.office_records.specs.Memory.{memory_of};
+ghost use Rattle.office_records.specs.Stands.{IsKept};
+ghost use Rattle.office_store.specs.FoldReads.{HasRead, IsSame};
 ghost use Rattle.office_store.specs.NewBatches.{Enrols, new_batch_put, put_draft, put_line};
+ghost use Rattle.office_store.specs.Running.{IsAwake};
 
-use crate::batch_rows::BatchRows;
+use crate::batch_rows::{batch_rows, read_numbers};
 use crate::fault::Failed;
 use exam_model::{Change, Enrolments, Instance};
 use exam_terms::limits::MAX_BATCHES;
@@ -34,29 +36,32 @@ pub(crate) struct NewBatch {
     pub(crate) drafts: Vec<InsertDraft>,
 }
 
-// What a batch of the session at hand puts in, whose number isn't kept, by the rows that it is
-// judged by.
-pub(crate) fn new_batch(
+// What a batch of the session at hand puts in, whose number isn't kept. Its lines are judged by
+// what is at hand, then it is seen whether there is room, and then the drafts are read.
+pub(crate) fn new_batch<S: Alter>(
     alloc: Global,
+    conn: &mut Connection<S>,
     instance: &Instance,
     enrolments: &Enrolments,
     changes: &[Change],
-    found: &BatchRows,
 ) -> Result<NewBatch, StoreFault>
     requires exams { length enrolments.now ≡ length instance.now.exams }
     requires lines { length changes.now ≤ TEXT_BYTES }
-    ensures enrols { (r : Records) → IsOffice (Some r)
+    ensures enrols { HasCleanDisk (state S.Store conn.new) → IsAwake (state S.Store conn.old)
+        → (r : Records) → IsKept (state S.Store conn.old).now (Some r)
         → memory_of (Some r) ≡ Some (instance.now, enrolments.now)
-        → length found.now.numbers.items ≡ length r.batches
-        → AreDrafts r.session r.enrolments found.now.drafts.items found.now.slots.items r.draft
-        → Enrols changes.now found.now.slots.items r result }
+        → Enrols changes.now r result }
     ensures exams { IfOk result (λ new. length new.enrolments ≡ length instance.now.exams) }
     ensures small { IfOk result (λ new. All (λ it. AreAmounts it.row) new.drafts.items) }
+    ensures read { HasRead S.Store conn.old conn.new }
+    ensures same { OnOk result (IsSame S.Store conn.old conn.new) }
 {
     let made = after_batch(alloc, enrolments, changes)?;
-    if found.numbers.len() >= MAX_BATCHES as usize {
+    let numbers = read_numbers(alloc, conn)?;
+    if numbers.len() >= MAX_BATCHES as usize {
         return Err(StoreFault::TooMany);
     }
+    let found = batch_rows(alloc, conn)?;
     let rows = rescored(
         alloc,
         instance,

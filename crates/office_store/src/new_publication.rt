@@ -1,5 +1,7 @@
 // What is put in where a draft is published.
-ghost use Rattle.std.specs.Prelude.{◌≡◌, All, IfErr, IfOk, None, Some, length, map};
+ghost use Rattle.std.specs.Prelude.{◌≡◌, All, IfErr, IfOk, None, OnOk, Some, length, map};
+ghost use Rattle.sqlite.specs.Held.{state};
+ghost use Rattle.sqlite.specs.State.{HasCleanDisk};
 ghost use Rattle.exam_model.specs.Enrolments.{IsAscending};
 ghost use Rattle.exam_model.specs.Fits.{Fits};
 ghost use Rattle.exam_publish.specs.AddUp.{AreSmall};
@@ -16,17 +18,19 @@ ghost use Rattle.office_records.specs.SeatsStored.{seat_rows_of};
 ghost use Rattle.office_records.specs.SharesStored.{share_rows_of};
 ghost use Rattle.office_records.specs.PartShares.{HasFewParts, part_rows};
 ghost use Rattle.office_records.specs.SharesStored.{student_share_row};
+ghost use Rattle.office_records.specs.Stands.{IsKept};
+ghost use Rattle.office_store.specs.FoldReads.{HasRead, IsSame};
 ghost use Rattle.office_store.specs.Judging.{listed};
 ghost use Rattle.office_store.specs.NewPublications.{ArePutIn, AreSmallShares, Permits, Publishes};
 ghost use Rattle.office_store.specs.OfficeRows.{AreRowsOf};
 ghost use Rattle.office_store.specs.RowPuts.{her_seats_gone, part_share_put, placement_put};
 ghost use Rattle.office_store.specs.RowPuts.{seat_put, share_gone, student_share_put};
-ghost use Rattle.office_store.specs.Running.{Tells};
+ghost use Rattle.office_store.specs.Running.{IsAwake, Tells};
 ghost use Rattle.office_tables.specs.SharePart.{ArePartAmounts};
 ghost use Rattle.office_tables.specs.ShareStudent.{AreStudentAmounts};
 
 use crate::publications::published_of;
-use crate::published_rows::PublishedRows;
+use crate::published_rows::{PublishedRows, read_published};
 use crate::reading::{DraftRows, draft_of};
 use exam_model::{Enrolments, Instance, StudentNo, Timetable};
 use exam_publish::{SeatRow, Shares, changed, permit, seats, shares};
@@ -39,6 +43,7 @@ use office_tables::{
     DeleteStudentSeats, DeleteStudentShare, InsertPartShare, InsertPlacement, InsertSeat,
     InsertStudentShare,
 };
+use sqlite::{Alter, Connection};
 use std::alloc::{AllocError, Global};
 
 // All that a publication puts in, and what is answered.
@@ -56,26 +61,29 @@ pub(crate) struct NewPublication {
     pub(crate) counts: Published,
 }
 
-// What publishing a draft of the session at hand puts in, by the rows of the draft and of what is
-// published.
-pub(crate) fn new_publication(
+// What publishing a draft of the session at hand puts in, by the rows of the draft. What is
+// published is read once the draft may be.
+pub(crate) fn new_publication<S: Alter>(
     alloc: Global,
+    conn: &mut Connection<S>,
     instance: &Instance,
     enrolments: &Enrolments,
     number: u32,
     draft: &DraftRows,
-    published: &PublishedRows,
 ) -> Result<NewPublication, StoreFault>
     requires exams { length enrolments.now ≡ length instance.now.exams }
-    ensures publishes { (r : Records) → IsOffice (Some r)
+    ensures publishes { HasCleanDisk (state S.Store conn.new) → IsAwake (state S.Store conn.old)
+        → (r : Records) → IsKept (state S.Store conn.old).now (Some r)
         → memory_of (Some r) ≡ Some (instance.now, enrolments.now)
         → AreRowsOf (Some r) number draft.now.rows.items draft.now.slots.items
-        → StandsPublished published.now.placements.items published.now.seats.items r.published
         → Publishes number r result }
     ensures small { IfOk result AreSmallShares }
+    ensures read { HasRead S.Store conn.old conn.new }
+    ensures same { OnOk result (IsSame S.Store conn.old conn.new) }
 {
     let (timetable, parts) = permitted_draft(alloc, instance, enrolments, number, draft)?;
-    let old = old_seats(alloc, instance, published)?;
+    let published = read_published(alloc, conn)?;
+    let old = old_seats(alloc, instance, &published)?;
     let rows = seats(alloc, instance, enrolments, &timetable, &old)?;
     put_together(alloc, instance, &timetable, parts.total(), &old, &rows)
 }

@@ -6,7 +6,7 @@ ghost use Rattle.exam_terms.specs.declared.limits.TheConstants.{MAX_DEPARTMENT};
 ghost use Rattle.office_model.specs.Commands.{owned, owner_in};
 ghost use Rattle.office_model.specs.Office.{OfficeState};
 ghost use Rattle.office_store.specs.Changes.{new_owner};
-ghost use Rattle.office_store.specs.Running.{IsAwake, Now, ReadsOffice, Runs};
+ghost use Rattle.office_store.specs.Running.{IsAwake, Now, ReadsOffice, Runs, StaysOnErr};
 ghost use Rattle.office_records.specs.TableRows.{some_dept};
 
 use crate::fault::Failed;
@@ -25,6 +25,8 @@ impl<S: Alter> Office<S> {
     pub fn set_owner(&mut self, exam: ExamNo, dept: u32) -> Result<(), StoreFault>
         requires dept { dept ≤ MAX_DEPARTMENT }
         ensures runs { Runs S.Store (owned exam dept) self.old self.new result }
+        // Whatever the refusal, the tables are as they were.
+        ensures stays { StaysOnErr S.Store self.old self.new result }
         ensures clean { HasCleanDisk (state S.Store self.new)
             → HasCleanDisk (state S.Store self.old) }
     {

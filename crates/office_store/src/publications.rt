@@ -1,12 +1,13 @@
 // What is published, and whose share of the penalty is how much.
-ghost use Rattle.std.specs.Prelude.{◌≡◌, ◌↔◌, ◌≤◌, IfOk, IsTrue, OnOk, Some, length};
+ghost use Rattle.std.specs.Prelude.{◌≡◌, ◌↔◌, ◌≤◌, IfOk, IsPermutation, IsTrue, OnOk, Some, length};
 ghost use Rattle.sqlite.specs.Held.{state};
 ghost use Rattle.sqlite.specs.State.{HasCleanDisk};
 ghost use Rattle.office_model.specs.Office.{AreRecords, OfficeState, Records};
-ghost use Rattle.office_records.specs.Publications.{StandsPublished};
+ghost use Rattle.office_records.specs.Publications.{StandsPublished, placed_rows};
 ghost use Rattle.office_records.specs.FoundPublications.{AreFound, publication_from};
 ghost use Rattle.office_records.specs.SharesStored.{AreShared};
 ghost use Rattle.office_store.specs.Publications.{AddUpIn, plain, publication_shown, shares_in};
+ghost use Rattle.office_store.specs.Publications.{timetable_shown};
 ghost use Rattle.office_store.specs.Running.{IsAwake, Now, ReadsOffice, Tells};
 
 use crate::office::Office;
@@ -14,7 +15,8 @@ use crate::published_rows::{PublishedRows, ShareRows};
 use exam_model::{Instance, Timetable};
 use exam_publish::{SeatRow, Shares};
 use office_model::StoreFault;
-use office_records::{publication_of, shares_of};
+use office_records::{publication_of, shares_of, timetable_at};
+use office_tables::PlacedRow;
 use sqlite::Alter;
 use std::alloc::Global;
 
@@ -37,6 +39,22 @@ impl<S: Alter> Office<S> {
             return Ok(None);
         };
         published_of(alloc, instance, &found)
+    }
+
+    /// The published timetable alone; no seat is read. `None`: nothing is published.
+    pub fn published_timetable(&mut self, alloc: Global) -> Result<Option<Timetable>, StoreFault>
+        ensures reads { ReadsOffice S.Store timetable_shown self.old self.new result }
+        // What is at hand is then what the file says.
+        ensures awake { HasCleanDisk (state S.Store self.new)
+            → OnOk result (IsAwake (state S.Store self.new)) }
+        ensures clean { HasCleanDisk (state S.Store self.new)
+            → HasCleanDisk (state S.Store self.old) }
+    {
+        let rows = self.placements(alloc)?;
+        let Some((instance, _)) = &self.kept else {
+            return Ok(None);
+        };
+        placed_in(alloc, instance, &rows)
     }
 
     /// Whose share of the publication's penalty is how much. `None`: nothing is published.
@@ -80,6 +98,24 @@ fn has_places(found: &PublishedRows) -> bool
     ensures { IsTrue result ↔ (1 ≤ length found.now.placements.items) }
 {
     !found.placements.is_empty()
+}
+
+// The timetable that is published of the session at hand, by the rows of its places.
+fn placed_in(
+    alloc: Global,
+    instance: &Instance,
+    places: &[PlacedRow],
+) -> Result<Option<Timetable>, StoreFault>
+    ensures told { (r : Records) → AreRecords r → r.session ≡ instance.now
+        → IsPermutation places.now (placed_rows r.published)
+        → Tells (timetable_shown (Some r)) result }
+{
+    // each exam of a publication has a place
+    if places.is_empty() {
+        return Ok(None);
+    }
+    let timetable = timetable_at(alloc, instance, places)?;
+    Ok(Some(timetable))
 }
 
 // The shares of what is published of the session at hand, by their rows.

@@ -1,11 +1,11 @@
 // The rows of what is published, and of its shares.
-ghost use Rattle.std.specs.Prelude.{IfOk, IsPermutation, OnOk, map};
+ghost use Rattle.std.specs.Prelude.{IfOk, IsPermutation, IsTrue, OnOk};
 ghost use Rattle.sqlite.specs.Held.{state};
 ghost use Rattle.sqlite.specs.State.{HasCleanDisk};
 ghost use Rattle.office_model.specs.Office.{OfficeState};
-ghost use Rattle.office_model.specs.Publishing.{rows_now};
-ghost use Rattle.office_records.specs.Publications.{StandsPublished, placed_rows, stored_seat};
+ghost use Rattle.office_records.specs.Publications.{StandsPublished, placed_rows};
 ghost use Rattle.office_records.specs.Stands.{IsKept};
+ghost use Rattle.office_store.specs.FoldReads.{HasRead, IsSame};
 ghost use Rattle.office_store.specs.OfficeRows.{AreShareRowsOf, part_rows_in, published_in};
 ghost use Rattle.office_store.specs.OfficeRows.{student_rows_in};
 ghost use Rattle.office_store.specs.Running.{IsAwake, IsStill};
@@ -16,7 +16,7 @@ use office_tables::{
     PartShareRow, PlacedRow, SeatRow, StudentShareRow, part_shares, placements, seats,
     student_shares,
 };
-use sqlite::Alter;
+use sqlite::{Alter, Connection};
 use std::alloc::Global;
 
 // The rows of the places and of the seats that are published.
@@ -47,9 +47,26 @@ impl<S: Alter> Office<S> {
         ensures clean { HasCleanDisk (state S.Store self.new)
             → HasCleanDisk (state S.Store self.old) }
     {
-        let placements = self.placements(alloc)?;
-        let seats = self.seats(alloc)?;
-        Ok(PublishedRows { placements, seats })
+        let _at_rest = self.conn.is_autocommit(); // read for what it says of the last commit
+        let rows = read_published(alloc, &mut self.conn)?;
+        Ok(rows)
+    }
+
+    // The rows of its places alone.
+    pub(crate) fn placements(&mut self, alloc: Global) -> Result<Vec<PlacedRow>, Failed>
+        ensures rows { HasCleanDisk (state S.Store self.new) → (office : OfficeState)
+            → IsKept (state S.Store self.new).now office
+            → IfOk result (λ rows. IsPermutation rows.items (placed_rows (published_in office))) }
+        ensures still { HasCleanDisk (state S.Store self.new)
+            → IsStill (state S.Store self.old) (state S.Store self.new) }
+        ensures awake { HasCleanDisk (state S.Store self.new)
+            → OnOk result (IsAwake (state S.Store self.new)) }
+        ensures clean { HasCleanDisk (state S.Store self.new)
+            → HasCleanDisk (state S.Store self.old) }
+    {
+        let _at_rest = self.conn.is_autocommit(); // read for what it says of the last commit
+        let rows = placements(alloc, &mut self.conn)?;
+        Ok(rows)
     }
 
     // The rows of its shares.
@@ -67,39 +84,6 @@ impl<S: Alter> Office<S> {
         let students = self.student_shares(alloc)?;
         let parts = self.part_shares(alloc)?;
         Ok(ShareRows { students, parts })
-    }
-
-    fn placements(&mut self, alloc: Global) -> Result<Vec<PlacedRow>, Failed>
-        ensures rows { HasCleanDisk (state S.Store self.new) → (office : OfficeState)
-            → IsKept (state S.Store self.new).now office
-            → IfOk result (λ rows. IsPermutation rows.items (placed_rows (published_in office))) }
-        ensures still { HasCleanDisk (state S.Store self.new)
-            → IsStill (state S.Store self.old) (state S.Store self.new) }
-        ensures awake { HasCleanDisk (state S.Store self.new)
-            → OnOk result (IsAwake (state S.Store self.new)) }
-        ensures clean { HasCleanDisk (state S.Store self.new)
-            → HasCleanDisk (state S.Store self.old) }
-    {
-        let _at_rest = self.conn.is_autocommit(); // read for what it says of the last commit
-        let rows = placements(alloc, &mut self.conn)?;
-        Ok(rows)
-    }
-
-    fn seats(&mut self, alloc: Global) -> Result<Vec<SeatRow>, Failed>
-        ensures rows { HasCleanDisk (state S.Store self.new) → (office : OfficeState)
-            → IsKept (state S.Store self.new).now office
-            → IfOk result (λ rows. IsPermutation rows.items
-            (map stored_seat (rows_now (published_in office)))) }
-        ensures still { HasCleanDisk (state S.Store self.new)
-            → IsStill (state S.Store self.old) (state S.Store self.new) }
-        ensures awake { HasCleanDisk (state S.Store self.new)
-            → OnOk result (IsAwake (state S.Store self.new)) }
-        ensures clean { HasCleanDisk (state S.Store self.new)
-            → HasCleanDisk (state S.Store self.old) }
-    {
-        let _at_rest = self.conn.is_autocommit(); // read for what it says of the last commit
-        let rows = seats(alloc, &mut self.conn)?;
-        Ok(rows)
     }
 
     fn student_shares(&mut self, alloc: Global) -> Result<Vec<StudentShareRow>, Failed>
@@ -133,4 +117,23 @@ impl<S: Alter> Office<S> {
         let rows = part_shares(alloc, &mut self.conn)?;
         Ok(rows)
     }
+}
+
+// Reads the rows of what is published.
+pub(crate) fn read_published<S: Alter>(
+    alloc: Global,
+    conn: &mut Connection<S>,
+) -> Result<PublishedRows, Failed>
+    ensures rows { HasCleanDisk (state S.Store conn.new) → (office : OfficeState)
+        → IsKept (state S.Store conn.old).now office
+        → IfOk result (λ found. StandsPublished found.placements.items found.seats.items
+        (published_in office)) }
+    ensures open { HasCleanDisk (state S.Store conn.new)
+        → OnOk result (IsTrue (state S.Store conn.old).is_open) }
+    ensures read { HasRead S.Store conn.old conn.new }
+    ensures same { OnOk result (IsSame S.Store conn.old conn.new) }
+{
+    let placements = placements(alloc, conn)?;
+    let seats = seats(alloc, conn)?;
+    Ok(PublishedRows { placements, seats })
 }

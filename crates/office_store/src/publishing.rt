@@ -4,16 +4,14 @@ ghost use Rattle.sqlite.specs.Held.{state};
 ghost use Rattle.sqlite.specs.State.{HasCleanDisk};
 ghost use Rattle.office_model.specs.Office.{OfficeState};
 ghost use Rattle.office_model.specs.Publishing.{draft_published};
-ghost use Rattle.office_records.specs.Publications.{StandsPublished};
 ghost use Rattle.office_records.specs.Stands.{IsKept};
-ghost use Rattle.office_store.specs.OfficeRows.{AreRowsOf, published_in};
+ghost use Rattle.office_store.specs.NewPublications.{AreSmallShares, PutsIn};
+ghost use Rattle.office_store.specs.OfficeRows.{AreRowsOf};
 ghost use Rattle.office_store.specs.Publications.{StoredAddUp};
-ghost use Rattle.office_store.specs.Running.{IsAwake, Now, Runs};
+ghost use Rattle.office_store.specs.Running.{IsAwake, IsStill, Runs, StaysOnErr};
 
-use crate::fault::Failed;
-use crate::new_publication::new_publication;
+use crate::new_publication::{NewPublication, new_publication};
 use crate::office::Office;
-use crate::published_rows::PublishedRows;
 use crate::putting::put_publication;
 use crate::reading::DraftRows;
 use office_model::{Published, StoreFault};
@@ -31,41 +29,40 @@ impl<S: Alter> Office<S> {
         ensures add_up { (office : OfficeState)
             → (kept : IsKept (state S.Store self.new).now office)
             → StoredAddUp office kept.held.share_student kept.held.share_part }
+        // Whatever the refusal, the tables are as they were.
+        ensures stays { StaysOnErr S.Store self.old self.new result }
         ensures clean { HasCleanDisk (state S.Store self.new)
             → HasCleanDisk (state S.Store self.old) }
     {
-        let (draft, old) = self.publishing_rows(alloc, number)?;
-        let Some((instance, enrolments)) = &self.kept else {
-            return Err(StoreFault::NotLoaded);
-        };
-        let new = new_publication(alloc, instance, enrolments, number, &draft, &old)?;
+        let found = self.draft_rows(alloc, number)?;
+        let new = self.judged_publication(alloc, number, &found)?;
         put_publication(&mut self.conn, &new)?;
         Ok(new.counts)
     }
 
-    // The rows of a draft, and of what is published.
-    fn publishing_rows(
+    // What publishing the draft that these rows tell puts in.
+    fn judged_publication(
         &mut self,
         alloc: Global,
         number: u32,
-    ) -> Result<(DraftRows, PublishedRows), Failed>
-        ensures draft { HasCleanDisk (state S.Store self.new) → (office : OfficeState)
-            → IsKept (state S.Store self.new).now office
-            → IfOk result
-            (λ found. AreRowsOf office number found.0.rows.items found.0.slots.items) }
-        ensures published { HasCleanDisk (state S.Store self.new) → (office : OfficeState)
-            → IsKept (state S.Store self.new).now office
-            → IfOk result (λ found. StandsPublished found.1.placements.items found.1.seats.items
-            (published_in office)) }
-        ensures still { HasCleanDisk (state S.Store self.new) → (office : OfficeState)
-            → Now (state S.Store self.old) office → Now (state S.Store self.new) office }
-        ensures awake { HasCleanDisk (state S.Store self.new)
+        found: &DraftRows,
+    ) -> Result<NewPublication, StoreFault>
+        ensures publishes { HasCleanDisk (state S.Store self.new) → IsAwake (state S.Store self.old)
+            → (office : OfficeState) → IsKept (state S.Store self.old).now office
+            → AreRowsOf office number found.now.rows.items found.now.slots.items
+            → PutsIn number office result }
+        ensures small { IfOk result AreSmallShares }
+        ensures still { HasCleanDisk (state S.Store self.new)
+            → IsStill (state S.Store self.old) (state S.Store self.new) }
+        ensures awake { HasCleanDisk (state S.Store self.new) → IsAwake (state S.Store self.old)
             → OnOk result (IsAwake (state S.Store self.new)) }
         ensures clean { HasCleanDisk (state S.Store self.new)
             → HasCleanDisk (state S.Store self.old) }
     {
-        let draft = self.draft_rows(alloc, number)?;
-        let published = self.published_rows(alloc)?;
-        Ok((draft, published))
+        let _at_rest = self.conn.is_autocommit(); // read for what it says of the last commit
+        let Some((instance, enrolments)) = &self.kept else {
+            return Err(StoreFault::NotLoaded);
+        };
+        new_publication(alloc, &mut self.conn, instance, enrolments, number, found)
     }
 }

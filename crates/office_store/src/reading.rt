@@ -12,7 +12,7 @@ ghost use Rattle.office_records.specs.Stands.{IsKept};
 ghost use Rattle.office_records.specs.TableRows.{slot_rows};
 ghost use Rattle.office_store.specs.Judging.{draft_judged, listed};
 ghost use Rattle.office_store.specs.OfficeRows.{AreRowsOf, shown};
-ghost use Rattle.office_store.specs.Running.{Does, IsAwake, IsStill, Now, Runs};
+ghost use Rattle.office_store.specs.Running.{Does, IsAwake, IsStill, Runs};
 
 use crate::fault::Failed;
 use crate::office::Office;
@@ -71,6 +71,9 @@ impl<S: Alter> Office<S> {
     /// number.
     pub fn breaches(&mut self, alloc: Global, number: u32) -> Result<Vec<Breach>, StoreFault>
         ensures runs { Runs S.Store (draft_judged number) self.old self.new (listed result) }
+        // What is at hand is then what the file says.
+        ensures awake { HasCleanDisk (state S.Store self.new)
+            → OnOk result (IsAwake (state S.Store self.new)) }
         ensures clean { HasCleanDisk (state S.Store self.new)
             → HasCleanDisk (state S.Store self.old) }
     {
@@ -81,19 +84,23 @@ impl<S: Alter> Office<S> {
         breaches_in(alloc, instance, enrolments, number, &rows)
     }
 
-    // The rows of a draft and of its places.
+    // The rows of a draft and of its places, which are read where there is the draft.
     pub(crate) fn draft_rows(&mut self, alloc: Global, number: u32) -> Result<DraftRows, Failed>
         ensures rows { HasCleanDisk (state S.Store self.new) → (office : OfficeState)
             → IsKept (state S.Store self.new).now office
             → IfOk result (λ found. AreRowsOf office number found.rows.items found.slots.items) }
-        ensures still { HasCleanDisk (state S.Store self.new) → (office : OfficeState)
-            → Now (state S.Store self.old) office → Now (state S.Store self.new) office }
+        ensures still { HasCleanDisk (state S.Store self.new)
+            → IsStill (state S.Store self.old) (state S.Store self.new) }
         ensures awake { HasCleanDisk (state S.Store self.new)
             → OnOk result (IsAwake (state S.Store self.new)) }
         ensures clean { HasCleanDisk (state S.Store self.new)
             → HasCleanDisk (state S.Store self.old) }
     {
         let rows = self.drafts(alloc, number)?;
+        if rows.is_empty() {
+            let slots = Vec::new(alloc);
+            return Ok(DraftRows { rows, slots });
+        }
         let slots = self.slots(alloc, number)?;
         Ok(DraftRows { rows, slots })
     }

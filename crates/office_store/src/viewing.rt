@@ -8,7 +8,7 @@ ghost use Rattle.exam_score.specs.Penalty.{personal_total};
 ghost use Rattle.office_model.specs.Office.{AreRecords, OfficeState, Records};
 ghost use Rattle.office_model.specs.Publishing.{rows_now};
 ghost use Rattle.office_model.specs.ViewRows.{places_in};
-ghost use Rattle.office_model.specs.Shown.{shown_to};
+ghost use Rattle.office_model.specs.Shown.{shown_penalty, shown_to};
 ghost use Rattle.office_model.specs.Views.{no_view, view_of};
 ghost use Rattle.office_records.specs.Publications.{stored_seat};
 ghost use Rattle.office_records.specs.Stands.{IsKept};
@@ -50,6 +50,9 @@ impl<S: Alter> Office<S> {
     ) -> Result<CandidateView, StoreFault>
         ensures reads { ReadsOffice S.Store (λ o. shown_to student (view_of student o))
             self.old self.new result }
+        // What is at hand is then what the file says.
+        ensures awake { HasCleanDisk (state S.Store self.new)
+            → OnOk result (IsAwake (state S.Store self.new)) }
         ensures clean { HasCleanDisk (state S.Store self.new)
             → HasCleanDisk (state S.Store self.old) }
     {
@@ -58,6 +61,21 @@ impl<S: Alter> Office<S> {
             return empty_view(alloc, student);
         };
         view_from(alloc, instance, student, &found)
+    }
+
+    /// What a candidate's seats cost her, by her share alone. Nothing of anybody else's is read.
+    pub fn candidate_penalty(
+        &mut self,
+        alloc: Global,
+        student: StudentNo,
+    ) -> Result<PersonalParts, StoreFault>
+        ensures reads { ReadsOffice S.Store (λ o. shown_penalty (view_of student o))
+            self.old self.new result }
+        ensures clean { HasCleanDisk (state S.Store self.new)
+            → HasCleanDisk (state S.Store self.old) }
+    {
+        let rows = self.her_shares(alloc, student)?;
+        personal_in(&rows)
     }
 
     // What the tables hold of a candidate.

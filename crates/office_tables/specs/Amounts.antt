@@ -2,5 +2,5 @@
 use Rattle.std.specs.Prelude.{ℕ, ◌<◌, ◌^◌}
 
 -- a sum that the tables can hold, and that can be added to another without wrapping
-abbrev pub IsAmount : ℕ → Type 0
-IsAmount n = n < 2 ^ 62
+abbrev pub IsStorable : ℕ → Type 0
+IsStorable n = n < 2 ^ 62

@@ -3,7 +3,7 @@ use Rattle.std.specs.Prelude.{◌==◌, ℕ, pos, [], ◌∷◌, filter, not}
 use Rattle.sqlite_value.specs.declared.value.Value.TheVariants.{Int}
 use Rattle.sqlite_value.specs.Order.{Row}
 use Rattle.office_tables.specs.declared.draft.DraftRow.{DraftRow}
-use Rattle.office_tables.specs.Amounts.{IsAmount}
+use Rattle.office_tables.specs.Amounts.{IsStorable}
 use Rattle.office_tables.specs.Records.{IsNarrow}
 use Rattle.office_tables.specs.Tables.{Tables}
 
@@ -31,10 +31,10 @@ FitsDraft r = IsNarrow r.no
 
 -- all seven parts of a draft's penalty are sums that the tables can hold
 pub record AreAmounts (row : DraftRow) : Type 0 where
-  pub in_row : IsAmount row.in_row
-  pub in_day : IsAmount row.in_day
-  pub spread : IsAmount row.spread
-  pub mixed : IsAmount row.mixed
-  pub front : IsAmount row.front
-  pub period : IsAmount row.period
-  pub room : IsAmount row.room
+  pub in_row : IsStorable row.in_row
+  pub in_day : IsStorable row.in_day
+  pub spread : IsStorable row.spread
+  pub mixed : IsStorable row.mixed
+  pub front : IsStorable row.front
+  pub period : IsStorable row.period
+  pub room : IsStorable row.room

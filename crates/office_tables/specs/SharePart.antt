@@ -5,7 +5,7 @@ use Rattle.sqlite_value.specs.declared.value.Value.TheVariants.{Int}
 use Rattle.sqlite_value.specs.Order.{Row}
 use Rattle.sqlite_trees.specs.Tree.{IsAscending}
 use Rattle.office_tables.specs.declared.share_part.PartShareRow.{PartShareRow}
-use Rattle.office_tables.specs.Amounts.{IsAmount}
+use Rattle.office_tables.specs.Amounts.{IsStorable}
 use Rattle.office_tables.specs.Records.{IsNarrow}
 use Rattle.office_tables.specs.Tables.{Tables}
 
@@ -33,5 +33,5 @@ PartSharesRise =
 
 -- both parts of such a share are sums that the tables can hold
 pub record ArePartAmounts (row : PartShareRow) : Type 0 where
-  pub penalty : IsAmount row.penalty
-  pub mixed : IsAmount row.mixed
+  pub penalty : IsStorable row.penalty
+  pub mixed : IsStorable row.mixed

@@ -5,7 +5,7 @@ use Rattle.sqlite_value.specs.declared.value.Value.TheVariants.{Int}
 use Rattle.sqlite_value.specs.Order.{Row}
 use Rattle.sqlite_trees.specs.Tree.{IsAscending}
 use Rattle.office_tables.specs.declared.share_student.StudentShareRow.{StudentShareRow}
-use Rattle.office_tables.specs.Amounts.{IsAmount}
+use Rattle.office_tables.specs.Amounts.{IsStorable}
 use Rattle.office_tables.specs.Records.{IsNarrow}
 use Rattle.office_tables.specs.Tables.{Tables}
 
@@ -33,6 +33,6 @@ StudentSharesRise = IsAscending (λ (a b : StudentShareRow). a.student < b.stude
 
 -- all three parts of a student's share are sums that the tables can hold
 pub record AreStudentAmounts (row : StudentShareRow) : Type 0 where
-  pub in_row : IsAmount row.in_row
-  pub in_day : IsAmount row.in_day
-  pub spread : IsAmount row.spread
+  pub in_row : IsStorable row.in_row
+  pub in_day : IsStorable row.in_day
+  pub spread : IsStorable row.spread

@@ -27,7 +27,7 @@ pub struct Found {
 
 // The part that the session has of them.
 #[derive(Drop)]
-pub struct FoundSession {
+pub(crate) struct FoundSession {
     pub meta: MetaRow,
     pub owners: Vec<OwnerRow>,
     pub enrols: Vec<EnrolRow>,
@@ -35,14 +35,14 @@ pub struct FoundSession {
 
 // The part that the drafts have.
 #[derive(Drop)]
-pub struct FoundDrafts {
+pub(crate) struct FoundDrafts {
     pub drafts: Vec<DraftRow>,
     pub slots: Vec<SlotRow>,
 }
 
 // The part that the publication has.
 #[derive(Drop)]
-pub struct FoundPublication {
+pub(crate) struct FoundPublication {
     pub placements: Vec<PlacedRow>,
     pub seats: Vec<SeatRow>,
     pub student_shares: Vec<StudentShareRow>,

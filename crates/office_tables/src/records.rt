@@ -6,7 +6,7 @@ ghost use Rattle.office_tables.specs.Records.{columns_from, number_columns, IsNa
 use sqlite::{Error, ErrorCode, Row};
 
 // A record that a row is read as.
-pub trait Record: Sized {
+pub(crate) trait Record: Sized {
     ghost WIDTH: { ℕ };
 
     ghost columns_of: { Self → Columns };

@@ -24,7 +24,7 @@ pub finish-parts-requires : goal.finish-parts-requires
 finish-parts-requires c = record {
   sizes = ap length c.deref-2.ensures.value ∙ c.in_ok-sizes.ensures.count
       ∙ c.requires.old.enrolments
-      ∙ ap (λ (s : Session). length s.exams) (sym c.in_ok-fold.ensures.of.session);
+      ∙ ap (λ (I : Session). length I.exams) (sym c.in_ok-fold.ensures.of.session);
 }
 
 -- what the fold gives

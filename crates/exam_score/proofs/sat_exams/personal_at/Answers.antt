@@ -6,19 +6,19 @@ use Rattle.exam_score.proofs.sat_exams.personal_at.Goals as goal
 
 pub returns-clause-sum : goal.returns-clause-sum
 returns-clause-sum c =
-    let s = c.args.instance.now in
-    let t = c.args.timetable.now in
+    let I = c.args.instance.now in
+    let T = c.args.timetable.now in
     let edited = c.args.edited.now in
     let exams = c.args.exams.now in
-    let row : c.cost_of_exams-row.result ≡ exams_cost (row_cost s.periods s.weights) t edited exams
+    let row : c.cost_of_exams-row.result ≡ exams_cost (row_cost I.periods I.weights) T edited exams
     = c.cost_of_exams-row.ensures.cost
-    ∙ ap (λ (cost : ℕ → ℕ → ℕ). exams_cost cost t edited exams)
-    (row_uncapped s c.periods-kept.ensures.kept) in
-    let day : c.cost_of_exams-day.result ≡ exams_cost (day_cost s.periods s.weights) t edited exams
+    ∙ ap (λ (cost : ℕ → ℕ → ℕ). exams_cost cost T edited exams)
+    (row_uncapped I c.periods-kept.ensures.kept) in
+    let day : c.cost_of_exams-day.result ≡ exams_cost (day_cost I.periods I.weights) T edited exams
     = c.cost_of_exams-day.ensures.cost
-    ∙ ap (λ (cost : ℕ → ℕ → ℕ). exams_cost cost t edited exams)
-    (day_uncapped s c.periods-kept.ensures.kept) in
+    ∙ ap (λ (cost : ℕ → ℕ → ℕ). exams_cost cost T edited exams)
+    (day_uncapped I c.periods-kept.ensures.kept) in
     let spread : c.cost_of_exams-spread.result
-    ≡ exams_cost (spread_cost s.periods s.weights) t edited exams
+    ≡ exams_cost (spread_cost I.periods I.weights) T edited exams
     = c.cost_of_exams-spread.ensures.cost in
     c.of.ensures ∙ (λ i. record { row = row i; day = day i; spread = spread i })

@@ -10,42 +10,42 @@ use Rattle.exam_score.proofs.sittings.placed_exams.Goals.{in-Some+in_ok-push, in
 
 pub loop-exam-preserved : goal.loop-exam-preserved
 loop-exam-preserved c =
-    let t = c.args.timetable.now in
+    let T = c.args.timetable.now in
     let e = c.loop-exam.exam in
     let was = c.loop-exam.sittings.items in
-    let within : e < length t =
+    let within : e < length T =
     omega (arith, c.loop-exam-test.true, c.exams-exam-end.ensures.count) in
     elim c.match-get.branch [
       | in-Some+in_ok-push w ↦
           (let p = w.in-Some.place.period in
-          let placed : period_of t e ≡ Some p =
-          ap (period_of t) (sym c.new-exam.ensures)
+          let placed : period_of T e ≡ Some p =
+          ap (period_of T) (sym c.new-exam.ensures)
           ∙ ap (option_map (λ at. at.period)) (sym w.in-Some.ensures) in
           let new : Sitting = record { period = p; exam = e } in
           let items : c.match-get.sittings.items ≡ was ++ new ∷ []
           = ap (λ v. v.items) w.sittings-is ∙ w.in_ok-push.ensures.items
           ∙ ap (λ n. was ++ record { period = p; exam = n } ∷ []) c.new-exam.ensures in
-          let more : record { all : (g : ℕ → ℕ → ℕ) → sum_by (λ x. g x.exam x.period) (was ++ new ∷ []) ≡ sum_below (e + 1) (λ e. if_placed (g e) (period_of t e)); exist : All (λ x. x.exam < length t) (was ++ new ∷ []) }
+          let more : record { all : (g : ℕ → ℕ → ℕ) → sum_by (λ x. g x.exam x.period) (was ++ new ∷ []) ≡ sum_below (e + 1) (λ e. if_placed (g e) (period_of T e)); exist : All (λ x. x.exam < length T) (was ++ new ∷ []) }
           = record {
-            all = λ g. sittings_more_some g t e p was placed (c.loop-exam.invariant.all g);
-            exist = All-push (λ x. x.exam < length t) was new c.loop-exam.invariant.exist within;
+            all = λ g. sittings_more_some g T e p was placed (c.loop-exam.invariant.all g);
+            exist = All-push (λ x. x.exam < length T) was new c.loop-exam.invariant.exist within;
           } in
           rw items more)
       | in_default w ↦
-          (let unplaced : period_of t e ≡ None = ap (period_of t) (sym c.new-exam.ensures)
+          (let unplaced : period_of T e ≡ None = ap (period_of T) (sym c.new-exam.ensures)
           ∙ ap (option_map (λ at. at.period)) (sym c.get.ensures ∙ w.in_default.is) in
           rw w.sittings-is (record {
-            all = λ g. sittings_more_none g t e was unplaced (c.loop-exam.invariant.all g);
+            all = λ g. sittings_more_none g T e was unplaced (c.loop-exam.invariant.all g);
             exist = c.loop-exam.invariant.exist;
           }))
     ]
 
 pub returns-clause-all : goal.returns-clause-all
 returns-clause-all c =
-    let t = c.args.timetable.now in
-    let end : c.loop-exam.exam ≡ length t = omega (arith, c.exams-exam-end.ensures.count) in
+    let T = c.args.timetable.now in
+    let end : c.loop-exam.exam ≡ length T = omega (arith, c.exams-exam-end.ensures.count) in
     λ g. c.loop-exam.invariant.all g
-    ∙ ap (λ n. sum_below n (λ e. if_placed (g e) (period_of t e))) end
+    ∙ ap (λ n. sum_below n (λ e. if_placed (g e) (period_of T e))) end
 
 pub returns-clause-exist : goal.returns-clause-exist
 returns-clause-exist c = c.loop-exam.invariant.exist

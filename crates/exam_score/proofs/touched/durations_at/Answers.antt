@@ -32,36 +32,36 @@ loop-exam-init c = record {
 pub mark-count-requires : goal.mark-count-requires
 unfolding duration_count
 mark-count-requires c =
-    let s = c.args.instance.now in
+    let I = c.args.instance.now in
     let e = c.loop-exam.exam in
-    let is : minutes_of (slice_get s.exams e) ≡ c.exam.result.minutes
-    = ap (λ e. minutes_of (slice_get s.exams e)) (sym c.new-exam.ensures)
+    let is : minutes_of (slice_get I.exams e) ≡ c.exam.result.minutes
+    = ap (λ e. minutes_of (slice_get I.exams e)) (sym c.new-exam.ensures)
     ∙ ap minutes_of c.exam.ensures in
-    record { within = omega (arith, minutes_short s e c.exams-exam-end.ensures.kept) }
+    record { within = omega (arith, minutes_short I e c.exams-exam-end.ensures.kept) }
 
 pub loop-exam-preserved : goal.loop-exam-preserved
 loop-exam-preserved c =
-    let s = c.args.instance.now in
-    let t = c.args.timetable.now in
+    let I = c.args.instance.now in
+    let T = c.args.timetable.now in
     let p = c.args.place.now.period in
     let r = c.args.place.now.room in
     let e = c.loop-exam.exam in
     let before = c.loop-exam.marked in
-    let k = minutes_of (slice_get s.exams e) in
-    let short = minutes_short s e c.exams-exam-end.ensures.kept in
-    let stands = ap (λ e. is_at p r (place_of t e)) (sym c.new-exam.ensures)
+    let k = minutes_of (slice_get I.exams e) in
+    let short = minutes_short I e c.exams-exam-end.ensures.kept in
+    let stands = ap (λ e. is_at p r (place_of T e)) (sym c.new-exam.ensures)
     ∙ sym c.stands_at.ensures in
     let known = c.loop-exam.invariant.marked k short in
     elim c.if-stands_at.branch [
       | then-stands_at w ↦
-          (let here : is_at p r (place_of t e) ≡ true = stands ∙ w.if-stands_at.true in
+          (let here : is_at p r (place_of T e) ≡ true = stands ∙ w.if-stands_at.true in
           let is : w.exam.result.minutes ≡ k
-          = sym (ap (λ e. minutes_of (slice_get s.exams e)) (sym c.new-exam.ensures)
+          = sym (ap (λ e. minutes_of (slice_get I.exams e)) (sym c.new-exam.ensures)
           ∙ ap minutes_of w.exam.ensures) in
           let marked : c.if-stands_at.marked ≡ set before k true
           = w.marked-is ∙ w.mark-count.ensures.marked ∙ ap (λ k. set before k true) is in
           let more : w.mark-count.result
-          ≡ cond (is_at p r (place_of t e) && not (nat_lt 0 (count_below e (lasts s t p r k))))
+          ≡ cond (is_at p r (place_of T e) && not (nat_lt 0 (count_below e (lasts I T p r k))))
           1 0
           = w.mark-count.ensures.fresh ∙ ap (λ k. cond (get_or before k false) 0 1) is
           ∙ fresh (get_or before k false)
@@ -70,29 +70,29 @@ loop-exam-preserved c =
             long = ap length marked ∙ length-set before k true ∙ c.loop-exam.invariant.long;
             marked = λ m lt.
                 ap (λ v. get_or v m false) marked
-                ∙ marked_here s t p r e m before
+                ∙ marked_here I T p r e m before
                 (omega (arith, short, c.loop-exam.invariant.long)) here
                 (c.loop-exam.invariant.marked m lt);
             count = w.count-is ∙ ap₂ (λ a b. a + b) c.loop-exam.invariant.count more
-                ∙ sym (durations_more s t p r e short);
+                ∙ sym (durations_more I T p r e short);
             small = subst (λ n. n ≤ e + 1) (sym w.count-is)
                 (one_at_most _ _ c.loop-exam.count w.mark-count.result e more
                 c.loop-exam.invariant.small);
           })
       | else-stands_at w ↦
-          (let here : is_at p r (place_of t e) ≡ false = stands ∙ w.if-stands_at.false in
+          (let here : is_at p r (place_of T e) ≡ false = stands ∙ w.if-stands_at.false in
           let more : ◌≡◌ {A = ℕ} 0
-          (cond (is_at p r (place_of t e) && not (nat_lt 0 (count_below e (lasts s t p r k)))) 1
+          (cond (is_at p r (place_of T e) && not (nat_lt 0 (count_below e (lasts I T p r k)))) 1
           0)
-          = ap (λ a. cond (a && not (nat_lt 0 (count_below e (lasts s t p r k)))) 1 0) (sym here) in
+          = ap (λ a. cond (a && not (nat_lt 0 (count_below e (lasts I T p r k)))) 1 0) (sym here) in
           record {
             long = ap length w.marked-is ∙ c.loop-exam.invariant.long;
             marked = λ m lt.
                 ap (λ v. get_or v m false) w.marked-is
-                ∙ marked_elsewhere s t p r e m before here (c.loop-exam.invariant.marked m lt);
+                ∙ marked_elsewhere I T p r e m before here (c.loop-exam.invariant.marked m lt);
             count = w.count-is ∙ sym (add-zero c.loop-exam.count)
                 ∙ ap₂ (λ a b. a + b) c.loop-exam.invariant.count more
-                ∙ sym (durations_more s t p r e short);
+                ∙ sym (durations_more I T p r e short);
             small = omega arith;
           })
     ]

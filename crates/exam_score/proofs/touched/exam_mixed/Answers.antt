@@ -6,40 +6,40 @@ use Rattle.exam_score.proofs.touched.exam_mixed.Goals as goal
 
 pub returns-in_default-clause-further : goal.returns-in_default-clause-further
 returns-in_default-clause-further c =
-    let s = c.args.instance.now in
-    let t = c.args.timetable.now in
+    let I = c.args.instance.now in
+    let T = c.args.timetable.now in
     let others = c.args.others.now in
     let touched = is_touched others.edited.now others.earlier.now others.later.now in
     let none : place_of others.later.now c.args.exam ≡ None =
     sym c.place_in.ensures ∙ c.in_default.is in
-    ap (λ n. mixed_where s t touched + n)
+    ap (λ n. mixed_where I T touched + n)
     (c.place_mixed-first.ensures.further
-    ∙ ap (further_mixed s t touched) c.place_in-earlier.ensures)
-    ∙ earlier_place s t c.args.exam others.edited.now others.earlier.now others.later.now none
+    ∙ ap (further_mixed I T touched) c.place_in-earlier.ensures)
+    ∙ earlier_place I T c.args.exam others.edited.now others.earlier.now others.later.now none
 
 pub returns-then-stands_at-clause-further : goal.returns-then-stands_at-clause-further
 returns-then-stands_at-clause-further c =
-    let s = c.args.instance.now in
-    let t = c.args.timetable.now in
+    let I = c.args.instance.now in
+    let T = c.args.timetable.now in
     let others = c.args.others.now in
     let touched = is_touched others.edited.now others.earlier.now others.later.now in
-    ap (λ n. mixed_where s t touched + n)
-    (c.place_mixed-first.ensures.further ∙ ap (further_mixed s t touched) c.place_in-earlier.ensures
+    ap (λ n. mixed_where I T touched + n)
+    (c.place_mixed-first.ensures.further ∙ ap (further_mixed I T touched) c.place_in-earlier.ensures
     ∙ sym (add-zero _))
-    ∙ later_place s t c.args.exam others.edited.now others.earlier.now others.later.now
+    ∙ later_place I T c.args.exam others.edited.now others.earlier.now others.later.now
     c.in-Some.later true (sym c.in-Some.ensures)
     (sym c.if-stands_at.true ∙ c.stands_at.ensures)
 
 pub returns-clause-further : goal.returns-clause-further
 returns-clause-further c =
-    let s = c.args.instance.now in
-    let t = c.args.timetable.now in
+    let I = c.args.instance.now in
+    let T = c.args.timetable.now in
     let others = c.args.others.now in
     let touched = is_touched others.edited.now others.earlier.now others.later.now in
-    ap₂ (λ m n. mixed_where s t touched + (m + n))
+    ap₂ (λ m n. mixed_where I T touched + (m + n))
     (c.place_mixed-first.ensures.further
-    ∙ ap (further_mixed s t touched) c.place_in-earlier.ensures)
+    ∙ ap (further_mixed I T touched) c.place_in-earlier.ensures)
     c.place_mixed.ensures.further
-    ∙ later_place s t c.args.exam others.edited.now others.earlier.now others.later.now
+    ∙ later_place I T c.args.exam others.edited.now others.earlier.now others.later.now
     c.in-Some.later false (sym c.in-Some.ensures)
     (sym c.if-stands_at.false ∙ c.stands_at.ensures)

@@ -7,9 +7,9 @@ use Rattle.exam_score.proofs.touched.touched_mixed.Goals as goal
 
 pub overflow_add-total : goal.overflow_add-total
 overflow_add-total c =
-    let s = c.args.instance.now in
+    let I = c.args.instance.now in
     let touched = c.args.touched.now in
-    let all = mixed_where_small s c.args.timetable.now
+    let all = mixed_where_small I c.args.timetable.now
     (is_touched touched.edited.now touched.earlier.now touched.later.now)
     c.periods-known.ensures.kept in
     omega (arith, all, c.loop-exam.invariant, c.exam_mixed-total.ensures.small)
@@ -19,14 +19,14 @@ whole : (c : goal.In_default) → c.loop-exam.total
     (is_touched c.args.touched.now.edited.now c.args.touched.now.earlier.now
     c.args.touched.now.later.now)
 whole c =
-    let s = c.args.instance.now in
-    let t = c.args.timetable.now in
+    let I = c.args.instance.now in
+    let T = c.args.timetable.now in
     let touched = c.args.touched.now in
     let total = c.loop-exam.total in
     let nil : c.loop-exam.left.now ≡ [] =
     nil_from_length c.loop-exam.left.now c.in_default.ensures.cases in
-    sym (add-zero total) ∙ ap (λ n. total + n) (sym (mixed_none s t))
-    ∙ ap (λ left. total + mixed_where s t (is_touched left touched.earlier.now touched.later.now))
+    sym (add-zero total) ∙ ap (λ n. total + n) (sym (mixed_none I T))
+    ∙ ap (λ left. total + mixed_where I T (is_touched left touched.earlier.now touched.later.now))
     (sym nil)
     ∙ c.loop-exam.invariant
 
@@ -35,9 +35,9 @@ returns-clause-part c = whole c
 
 pub returns-clause-small : goal.returns-clause-small
 returns-clause-small c =
-    let s = c.args.instance.now in
+    let I = c.args.instance.now in
     let touched = c.args.touched.now in
-    let all = mixed_where_small s c.args.timetable.now
+    let all = mixed_where_small I c.args.timetable.now
     (is_touched touched.edited.now touched.earlier.now touched.later.now)
     c.periods-known.ensures.kept in
     omega (arith, all, whole c)

@@ -8,7 +8,7 @@ use Rattle.exam_score.proofs.walk.along.Goals as goal
 
 pub loop-other-init : goal.loop-other-init
 loop-other-init c =
-    let s = c.args.instance.now in
+    let I = c.args.instance.now in
     let xs = c.args.tallies.now in
     let y = c.args.tally.now in
     let link = link_of c.requires.linked.slots xs y c.args.at c.requires.linked.links
@@ -19,15 +19,15 @@ loop-other-init c =
       slot = link.here;
       row = zero-add _
           ∙ walk_starts c.requires.linked.slots
-          (row_cost s.periods s.weights) xs y c.args.at c.requires.linked.links c.requires.within
+          (row_cost I.periods I.weights) xs y c.args.at c.requires.linked.links c.requires.within
           c.requires.here;
       day = zero-add _
           ∙ walk_starts c.requires.linked.slots
-          (day_cost s.periods s.weights) xs y c.args.at c.requires.linked.links c.requires.within
+          (day_cost I.periods I.weights) xs y c.args.at c.requires.linked.links c.requires.within
           c.requires.here;
       spread = zero-add _
           ∙ walk_starts c.requires.linked.slots
-          (spread_cost s.periods s.weights) xs y c.args.at c.requires.linked.links c.requires.within
+          (spread_cost I.periods I.weights) xs y c.args.at c.requires.linked.links c.requires.within
           c.requires.here;
     }
 
@@ -44,7 +44,7 @@ loop-other-smaller c =
 
 pub loop-other-preserved : goal.loop-other-preserved
 loop-other-preserved c =
-    let s = c.args.instance.now in
+    let I = c.args.instance.now in
     let xs = c.args.tallies.now in
     let y = c.args.tally.now in
     let x = c.in-Some.other in
@@ -65,21 +65,21 @@ loop-other-preserved c =
           c.loop-other.invariant.linked.links found.some le found.here slot;
       row =
           let step = walk_on c.loop-other.invariant.linked.slots
-          (row_cost s.periods s.weights) xs y x n c.loop-other.invariant.linked.links found.some
+          (row_cost I.periods I.weights) xs y x n c.loop-other.invariant.linked.links found.some
           le found.here slot in
           let was = c.loop-other.invariant.row in
           let more = c.between-more.ensures.row in
           omega arith;
       day =
           let step = walk_on c.loop-other.invariant.linked.slots
-          (day_cost s.periods s.weights) xs y x n c.loop-other.invariant.linked.links found.some
+          (day_cost I.periods I.weights) xs y x n c.loop-other.invariant.linked.links found.some
           le found.here slot in
           let was = c.loop-other.invariant.day in
           let more = c.between-more.ensures.day in
           omega arith;
       spread =
           let step = walk_on c.loop-other.invariant.linked.slots
-          (spread_cost s.periods s.weights) xs y x n c.loop-other.invariant.linked.links
+          (spread_cost I.periods I.weights) xs y x n c.loop-other.invariant.linked.links
           found.some le found.here slot in
           let was = c.loop-other.invariant.spread in
           let more = c.between-more.ensures.spread in
@@ -88,7 +88,7 @@ loop-other-preserved c =
 
 pub overflow_add-sums : goal.overflow_add-sums
 overflow_add-sums c =
-    let s = c.args.instance.now in
+    let I = c.args.instance.now in
     let xs = c.args.tallies.now in
     let y = c.args.tally.now in
     let x = c.in-Some.other in
@@ -100,17 +100,17 @@ overflow_add-sums c =
     ap (λ z. slot_of_student c.loop-other.invariant.linked.slots z.student) (sym (found.here x))
     ∙ c.loop-other.invariant.slot x found.some in
     let step = walk_on c.loop-other.invariant.linked.slots
-    (row_cost s.periods s.weights) xs y x n c.loop-other.invariant.linked.links found.some le
+    (row_cost I.periods I.weights) xs y x n c.loop-other.invariant.linked.links found.some le
     found.here slot in
     let was = c.loop-other.invariant.row in
     let more = c.between-more.ensures.row in
-    let small = beside_small (row_cost s.periods s.weights) xs y c.args.at
-    (row_cost-small s c.periods-kept.ensures.kept) c.requires.few in
+    let small = beside_small (row_cost I.periods I.weights) xs y c.args.at
+    (row_cost-small I c.periods-kept.ensures.kept) c.requires.few in
     omega arith
 
 pub overflow_add-sums-in-Some : goal.overflow_add-sums-in-Some
 overflow_add-sums-in-Some c =
-    let s = c.args.instance.now in
+    let I = c.args.instance.now in
     let xs = c.args.tallies.now in
     let y = c.args.tally.now in
     let x = c.in-Some.other in
@@ -122,17 +122,17 @@ overflow_add-sums-in-Some c =
     ap (λ z. slot_of_student c.loop-other.invariant.linked.slots z.student) (sym (found.here x))
     ∙ c.loop-other.invariant.slot x found.some in
     let step = walk_on c.loop-other.invariant.linked.slots
-    (day_cost s.periods s.weights) xs y x n c.loop-other.invariant.linked.links found.some le
+    (day_cost I.periods I.weights) xs y x n c.loop-other.invariant.linked.links found.some le
     found.here slot in
     let was = c.loop-other.invariant.day in
     let more = c.between-more.ensures.day in
-    let small = beside_small (day_cost s.periods s.weights) xs y c.args.at
-    (day_cost-small s c.periods-kept.ensures.kept) c.requires.few in
+    let small = beside_small (day_cost I.periods I.weights) xs y c.args.at
+    (day_cost-small I c.periods-kept.ensures.kept) c.requires.few in
     omega arith
 
 pub overflow_add-sums-in-Some-2 : goal.overflow_add-sums-in-Some-2
 overflow_add-sums-in-Some-2 c =
-    let s = c.args.instance.now in
+    let I = c.args.instance.now in
     let xs = c.args.tallies.now in
     let y = c.args.tally.now in
     let x = c.in-Some.other in
@@ -144,19 +144,19 @@ overflow_add-sums-in-Some-2 c =
     ap (λ z. slot_of_student c.loop-other.invariant.linked.slots z.student) (sym (found.here x))
     ∙ c.loop-other.invariant.slot x found.some in
     let step = walk_on c.loop-other.invariant.linked.slots
-    (spread_cost s.periods s.weights) xs y x n c.loop-other.invariant.linked.links found.some le
+    (spread_cost I.periods I.weights) xs y x n c.loop-other.invariant.linked.links found.some le
     found.here slot in
     let was = c.loop-other.invariant.spread in
     let more = c.between-more.ensures.spread in
-    let one : (p q : ℕ) → spread_cost s.periods s.weights p q ≤ 100000 =
-    λ p q. omega (arith, spread_cost-small s.periods s.weights p q) in
-    let small = beside_small (spread_cost s.periods s.weights) xs y c.args.at
+    let one : (p q : ℕ) → spread_cost I.periods I.weights p q ≤ 100000 =
+    λ p q. omega (arith, spread_cost-small I.periods I.weights p q) in
+    let small = beside_small (spread_cost I.periods I.weights) xs y c.args.at
     (one) c.requires.few in
     omega arith
 
 pub returns : goal.returns
 returns c =
-    let s = c.args.instance.now in
+    let I = c.args.instance.now in
     let xs = c.args.tallies.now in
     let y = c.args.tally.now in
     let n = c.loop-other.next in
@@ -165,21 +165,21 @@ returns c =
     record {
       row =
           let end = walk_ends c.loop-other.invariant.linked.slots
-          (row_cost s.periods s.weights) xs y n first c.loop-other.invariant.linked.links le
+          (row_cost I.periods I.weights) xs y n first c.loop-other.invariant.linked.links le
           (λ q lt. ap (λ z. z.row) (c.requires.first.free.each q lt))
           c.in_default.ensures.none in
           let was = c.loop-other.invariant.row in
           omega arith;
       day =
           let end = walk_ends c.loop-other.invariant.linked.slots
-          (day_cost s.periods s.weights) xs y n first c.loop-other.invariant.linked.links le
+          (day_cost I.periods I.weights) xs y n first c.loop-other.invariant.linked.links le
           (λ q lt. ap (λ z. z.day) (c.requires.first.free.each q lt))
           c.in_default.ensures.none in
           let was = c.loop-other.invariant.day in
           omega arith;
       spread =
           let end = walk_ends c.loop-other.invariant.linked.slots
-          (spread_cost s.periods s.weights) xs y n first c.loop-other.invariant.linked.links le
+          (spread_cost I.periods I.weights) xs y n first c.loop-other.invariant.linked.links le
           (λ q lt. ap (λ z. z.spread) (c.requires.first.free.each q lt))
           c.in_default.ensures.none in
           let was = c.loop-other.invariant.spread in

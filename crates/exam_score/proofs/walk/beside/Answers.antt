@@ -8,30 +8,30 @@ use Rattle.exam_score.proofs.walk.beside.Goals as goal
 
 pub returns-in-None-clause-row : goal.returns-in-None-clause-row
 returns-in-None-clause-row c =
-    let s = c.args.instance.now in
+    let I = c.args.instance.now in
     let y = c.args.tally.now in
-    let past : length s.periods ≤ y.period =
+    let past : length I.periods ≤ y.period =
     omega (arith, c.in-None.ensures.lookup.3, c.get.ensures, c.requires.table.count) in
-    sym (beyond_tallies (row_cost s.periods s.weights) (take c.args.at c.args.tallies.now) y
-    (λ q. row_beyond s y.period q past))
+    sym (beyond_tallies (row_cost I.periods I.weights) (take c.args.at c.args.tallies.now) y
+    (λ q. row_beyond I y.period q past))
 
 pub returns-in-None-clause-day : goal.returns-in-None-clause-day
 returns-in-None-clause-day c =
-    let s = c.args.instance.now in
+    let I = c.args.instance.now in
     let y = c.args.tally.now in
-    let past : length s.periods ≤ y.period =
+    let past : length I.periods ≤ y.period =
     omega (arith, c.in-None.ensures.lookup.3, c.get.ensures, c.requires.table.count) in
-    sym (beyond_tallies (day_cost s.periods s.weights) (take c.args.at c.args.tallies.now) y
-    (λ q. day_beyond s y.period q past))
+    sym (beyond_tallies (day_cost I.periods I.weights) (take c.args.at c.args.tallies.now) y
+    (λ q. day_beyond I y.period q past))
 
 pub returns-in-None-clause-spread : goal.returns-in-None-clause-spread
 returns-in-None-clause-spread c =
-    let s = c.args.instance.now in
+    let I = c.args.instance.now in
     let y = c.args.tally.now in
-    let past : length s.periods ≤ y.period =
+    let past : length I.periods ≤ y.period =
     omega (arith, c.in-None.ensures.lookup.3, c.get.ensures, c.requires.table.count) in
-    sym (beyond_tallies (spread_cost s.periods s.weights) (take c.args.at c.args.tallies.now) y
-    (λ q. spread_beyond s y.period q past))
+    sym (beyond_tallies (spread_cost I.periods I.weights) (take c.args.at c.args.tallies.now) y
+    (λ q. spread_beyond I y.period q past))
 
 -- the line of its period, as the table has it
 pub along-requires-clause-first : goal.along-requires-clause-first

@@ -20,29 +20,29 @@ beside-more-requires c = record {
 
 pub loop-at-preserved : goal.loop-at-preserved
 loop-at-preserved c =
-    let s = c.args.instance.now in
+    let I = c.args.instance.now in
     let xs = c.args.tallies.now in
     let y = c.index-tallies-at.result in
     let at = c.loop-at.at in
     record {
       row = ap (λ n. c.loop-at.sums.row + c.beside-more.result.row * n) c.from-exams.ensures
-          ∙ pairs_more (row_cost s.periods s.weights) xs at c.loop-at.sums.row
+          ∙ pairs_more (row_cost I.periods I.weights) xs at c.loop-at.sums.row
           c.beside-more.result.row y c.loop-at-test.true c.index-tallies-at.is
           c.loop-at.invariant.row c.beside-more.ensures.row;
       day = ap (λ n. c.loop-at.sums.day + c.beside-more.result.day * n) c.from-exams.ensures
-          ∙ pairs_more (day_cost s.periods s.weights) xs at c.loop-at.sums.day
+          ∙ pairs_more (day_cost I.periods I.weights) xs at c.loop-at.sums.day
           c.beside-more.result.day y c.loop-at-test.true c.index-tallies-at.is
           c.loop-at.invariant.day c.beside-more.ensures.day;
       spread = ap (λ n. c.loop-at.sums.spread + c.beside-more.result.spread * n)
           c.from-exams.ensures
-          ∙ pairs_more (spread_cost s.periods s.weights) xs at c.loop-at.sums.spread
+          ∙ pairs_more (spread_cost I.periods I.weights) xs at c.loop-at.sums.spread
           c.beside-more.result.spread y c.loop-at-test.true c.index-tallies-at.is
           c.loop-at.invariant.spread c.beside-more.ensures.spread;
       small_row =
           let small : c.beside-more.result.row ≤ 20000000000 =
           rw c.beside-more.ensures.row
-          (beside_small (row_cost s.periods s.weights) xs
-          y at (row_cost-small s c.periods-kept.ensures.kept) c.requires.few) in
+          (beside_small (row_cost I.periods I.weights) xs
+          y at (row_cost-small I c.periods-kept.ensures.kept) c.requires.few) in
           let most : c.loop-at.sums.row + c.beside-more.result.row * y.exams ≤ row_count
           (take (at + 1) xs) * 20000000000
           = small_more xs at c.loop-at.sums.row c.beside-more.result.row y c.loop-at-test.true
@@ -54,8 +54,8 @@ loop-at-preserved c =
       small_day =
           let small : c.beside-more.result.day ≤ 20000000000 =
           rw c.beside-more.ensures.day
-          (beside_small (day_cost s.periods s.weights) xs
-          y at (day_cost-small s c.periods-kept.ensures.kept) c.requires.few) in
+          (beside_small (day_cost I.periods I.weights) xs
+          y at (day_cost-small I c.periods-kept.ensures.kept) c.requires.few) in
           let most : c.loop-at.sums.day + c.beside-more.result.day * y.exams ≤ row_count
           (take (at + 1) xs) * 20000000000
           = small_more xs at c.loop-at.sums.day c.beside-more.result.day y c.loop-at-test.true
@@ -67,8 +67,8 @@ loop-at-preserved c =
       small_spread =
           let small : c.beside-more.result.spread ≤ 20000000000 =
           rw c.beside-more.ensures.spread
-          (beside_small (spread_cost s.periods s.weights) xs
-          y at (λ p q. omega (arith, spread_cost-small s.periods s.weights p q))
+          (beside_small (spread_cost I.periods I.weights) xs
+          y at (λ p q. omega (arith, spread_cost-small I.periods I.weights p q))
           c.requires.few) in
           let most : c.loop-at.sums.spread + c.beside-more.result.spread * y.exams ≤ row_count
           (take (at + 1) xs) * 20000000000
@@ -82,14 +82,14 @@ loop-at-preserved c =
 
 pub overflow_add-sums : goal.overflow_add-sums
 overflow_add-sums c =
-    let s = c.args.instance.now in
+    let I = c.args.instance.now in
     let xs = c.args.tallies.now in
     let y = c.index-tallies-at.result in
     let at = c.loop-at.at in
     let small : c.beside-more.result.row ≤ 20000000000 =
     rw c.beside-more.ensures.row
-    (beside_small (row_cost s.periods s.weights) xs
-    y at (row_cost-small s c.periods-kept.ensures.kept) c.requires.few) in
+    (beside_small (row_cost I.periods I.weights) xs
+    y at (row_cost-small I c.periods-kept.ensures.kept) c.requires.few) in
     let most : c.loop-at.sums.row + c.beside-more.result.row * y.exams ≤ row_count
     (take (at + 1) xs) * 20000000000
     = small_more xs at c.loop-at.sums.row c.beside-more.result.row y c.loop-at-test.true
@@ -103,14 +103,14 @@ overflow_add-sums c =
 
 pub overflow_add-sums-in-loop-at : goal.overflow_add-sums-in-loop-at
 overflow_add-sums-in-loop-at c =
-    let s = c.args.instance.now in
+    let I = c.args.instance.now in
     let xs = c.args.tallies.now in
     let y = c.index-tallies-at.result in
     let at = c.loop-at.at in
     let small : c.beside-more.result.day ≤ 20000000000 =
     rw c.beside-more.ensures.day
-    (beside_small (day_cost s.periods s.weights) xs
-    y at (day_cost-small s c.periods-kept.ensures.kept) c.requires.few) in
+    (beside_small (day_cost I.periods I.weights) xs
+    y at (day_cost-small I c.periods-kept.ensures.kept) c.requires.few) in
     let most : c.loop-at.sums.day + c.beside-more.result.day * y.exams ≤ row_count
     (take (at + 1) xs) * 20000000000
     = small_more xs at c.loop-at.sums.day c.beside-more.result.day y c.loop-at-test.true
@@ -124,14 +124,14 @@ overflow_add-sums-in-loop-at c =
 
 pub overflow_add-sums-in-loop-at-2 : goal.overflow_add-sums-in-loop-at-2
 overflow_add-sums-in-loop-at-2 c =
-    let s = c.args.instance.now in
+    let I = c.args.instance.now in
     let xs = c.args.tallies.now in
     let y = c.index-tallies-at.result in
     let at = c.loop-at.at in
     let small : c.beside-more.result.spread ≤ 20000000000 =
     rw c.beside-more.ensures.spread
-    (beside_small (spread_cost s.periods s.weights) xs
-    y at (λ p q. omega (arith, spread_cost-small s.periods s.weights p q)) c.requires.few) in
+    (beside_small (spread_cost I.periods I.weights) xs
+    y at (λ p q. omega (arith, spread_cost-small I.periods I.weights p q)) c.requires.few) in
     let most : c.loop-at.sums.spread + c.beside-more.result.spread * y.exams ≤ row_count
     (take (at + 1) xs) * 20000000000
     = small_more xs at c.loop-at.sums.spread c.beside-more.result.spread y c.loop-at-test.true
@@ -146,14 +146,14 @@ overflow_add-sums-in-loop-at-2 c =
 
 pub overflow_mul-sums : goal.overflow_mul-sums
 overflow_mul-sums c =
-    let s = c.args.instance.now in
+    let I = c.args.instance.now in
     let xs = c.args.tallies.now in
     let y = c.index-tallies-at.result in
     let at = c.loop-at.at in
     let small : c.beside-more.result.row ≤ 20000000000 =
     rw c.beside-more.ensures.row
-    (beside_small (row_cost s.periods s.weights) xs
-    y at (row_cost-small s c.periods-kept.ensures.kept) c.requires.few) in
+    (beside_small (row_cost I.periods I.weights) xs
+    y at (row_cost-small I c.periods-kept.ensures.kept) c.requires.few) in
     let most : c.loop-at.sums.row + c.beside-more.result.row * y.exams ≤ row_count
     (take (at + 1) xs) * 20000000000
     = small_more xs at c.loop-at.sums.row c.beside-more.result.row y c.loop-at-test.true
@@ -167,14 +167,14 @@ overflow_mul-sums c =
 
 pub overflow_mul-sums-in-loop-at : goal.overflow_mul-sums-in-loop-at
 overflow_mul-sums-in-loop-at c =
-    let s = c.args.instance.now in
+    let I = c.args.instance.now in
     let xs = c.args.tallies.now in
     let y = c.index-tallies-at.result in
     let at = c.loop-at.at in
     let small : c.beside-more.result.day ≤ 20000000000 =
     rw c.beside-more.ensures.day
-    (beside_small (day_cost s.periods s.weights) xs
-    y at (day_cost-small s c.periods-kept.ensures.kept) c.requires.few) in
+    (beside_small (day_cost I.periods I.weights) xs
+    y at (day_cost-small I c.periods-kept.ensures.kept) c.requires.few) in
     let most : c.loop-at.sums.day + c.beside-more.result.day * y.exams ≤ row_count
     (take (at + 1) xs) * 20000000000
     = small_more xs at c.loop-at.sums.day c.beside-more.result.day y c.loop-at-test.true
@@ -188,14 +188,14 @@ overflow_mul-sums-in-loop-at c =
 
 pub overflow_mul-sums-in-loop-at-2 : goal.overflow_mul-sums-in-loop-at-2
 overflow_mul-sums-in-loop-at-2 c =
-    let s = c.args.instance.now in
+    let I = c.args.instance.now in
     let xs = c.args.tallies.now in
     let y = c.index-tallies-at.result in
     let at = c.loop-at.at in
     let small : c.beside-more.result.spread ≤ 20000000000 =
     rw c.beside-more.ensures.spread
-    (beside_small (spread_cost s.periods s.weights) xs
-    y at (λ p q. omega (arith, spread_cost-small s.periods s.weights p q)) c.requires.few) in
+    (beside_small (spread_cost I.periods I.weights) xs
+    y at (λ p q. omega (arith, spread_cost-small I.periods I.weights p q)) c.requires.few) in
     let most : c.loop-at.sums.spread + c.beside-more.result.spread * y.exams ≤ row_count
     (take (at + 1) xs) * 20000000000
     = small_more xs at c.loop-at.sums.spread c.beside-more.result.spread y c.loop-at-test.true

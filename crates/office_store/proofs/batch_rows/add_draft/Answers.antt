@@ -1,6 +1,6 @@
-use Rattle.std.proofs.Common.{◌≡◌, ◌++◌, List, eqb, filter, rules, sym, subst}
+use Rattle.std.proofs.Common.{◌≡◌, ◌++◌, List, arith, eqb, filter, rules, sym, subst}
 use Rattle.std.specs.Prelude.{IsPermutation}
-use Rattle.std.proofs.lemmas.List.Sorted.{IsPermutation-append_right}
+use Rattle.std.proofs.lemmas.List.Sorted.{IsPermutation-append_right, length_permutation}
 use Rattle.office_tables.specs.declared.draft.DraftRow.{DraftRow}
 use Rattle.office_store.proofs.batch_rows.add_draft.Goals as goal
 
@@ -13,3 +13,8 @@ returns-clause-added g c clean t held =
     subst (IsPermutation (was ++ there)) (sym added)
     (IsPermutation-append_right was there c.in_ok-rows.rows.items
     (c.in_ok-rows.ensures.rows clean t held))
+
+pub returns-clause-counted : goal.returns-clause-counted
+returns-clause-counted g c clean t held =
+    let long = length_permutation _ _ (c.in_ok-rows.ensures.rows clean t held) in
+    omega (arith, long, c.in_ok-rows.rows.ok.0)

@@ -1,4 +1,5 @@
 use Rattle.std.proofs.Common.{◌≡◌, ◌∙◌, Ok, Some, None, ap, rules, sym, subst}
+use Rattle.std.proofs.lemmas.Result.{on_err_weaker}
 use Rattle.sqlite.specs.Held.{state}
 use Rattle.office_model.specs.Batches.{batch_enrolled, kept_in}
 use Rattle.office_store.specs.NewBatches.{IsRowOf}
@@ -6,6 +7,7 @@ use Rattle.office_store.specs.Running.{Does, Now}
 use Rattle.office_store.proofs.CommandLemmas.{stays_by}
 use Rattle.office_store.proofs.KeptBatchLemmas.{again_does, no_row_of}
 use Rattle.office_store.proofs.ReadLemmas.{does_now}
+use Rattle.office_store.proofs.RunLemmas.{still_then}
 use Rattle.office_store.proofs.office.Office.enrol_batch.Goals as goal
 
 -- a number that is kept
@@ -31,6 +33,15 @@ returns-clause-runs g c clean o now =
     (stays_by g.S.Store c.args.self.now c.kept_batch.new.self c.in_ok-kept.ensures.still
     (c.enrol_new.ensures.clean clean) o now)
 
+-- nothing had changed before
+pub returns-clause-stays : goal.returns-clause-stays
+returns-clause-stays g c clean =
+    on_err_weaker c.enrol_new.result
+    (still_then (state g.S.Store c.args.self.now) (state g.S.Store c.kept_batch.new.self)
+    (state g.S.Store c.enrol_new.new.self)
+    (c.in_ok-kept.ensures.still (c.enrol_new.ensures.clean clean)))
+    (c.enrol_new.ensures.stays clean)
+
 pub enrol_new-requires : goal.enrol_new-requires
 enrol_new-requires g c = record {
   number = c.requires.number;
@@ -39,4 +50,5 @@ enrol_new-requires g c = record {
       let none : c.in_ok-kept.kept ≡ None = search rules in
       no_row_of o c.args.number
       (subst (IsRowOf (kept_in o c.args.number)) none (c.in_ok-kept.ensures.row clean o kept));
+  awake = λ clean. c.in_ok-kept.ensures.awake clean;
 }

@@ -7,7 +7,7 @@ use Rattle.exam_model.specs.Instance.{Session}
 use Rattle.office_model.specs.Loading.{loaded}
 use Rattle.office_model.specs.declared.fault.StoreFault.TheVariants.{Loaded}
 use Rattle.office_model.proofs.RecordLemmas.{are_enrolled}
-use Rattle.office_store.proofs.CommandLemmas.{refuses, rests, runs, stays_by}
+use Rattle.office_store.proofs.CommandLemmas.{refuses, rests, runs}
 use Rattle.office_store.proofs.LoadLemmas.{as_many, load_denied, load_moves}
 use Rattle.office_store.proofs.office.Office.load.Goals as goal
 
@@ -16,7 +16,7 @@ returns-then-is_some-clause-runs g c =
     let some : is_some c.self.inside.kept ≡ true = search rules in
     refuses g.S.Store (loaded c.args.text.now) c.args.self.now c.look.new.self c.self.inside.conn
     c.self.inside.kept c.self.view_is c.self.invariant.1 c.in_ok-look.ensures.awake
-    (stays_by g.S.Store c.args.self.now c.look.new.self c.in_ok-look.ensures.still) Loaded
+    c.in_ok-look.ensures.still Loaded
     (λ _. load_denied c.args.text.now _ _ c.self.inside.kept c.in-Ok.ensures.exact some)
 
 pub returns-clause-runs : goal.returns-clause-runs
@@ -28,8 +28,8 @@ returns-clause-runs g c =
     (as_many c.args.text.now I E c.in-Ok.ensures.reading) in
     runs g.S.Store (loaded c.args.text.now) c.args.self.now c.look.new.self c.self.inside.conn
     c.self.inside.kept c.self.view_is c.self.invariant.1 c.in_ok-look.ensures.awake
-    (stays_by g.S.Store c.args.self.now c.look.new.self c.in_ok-look.ensures.still)
-    c.put.new.conn (Some (I, E)) c.counts_of-loaded.result c.put.ensures.clean
+    c.in_ok-look.ensures.still c.put.new.conn (Some (I, E)) c.counts_of-loaded.result
+    c.put.ensures.clean
     (λ k. load_moves c.args.text.now I E c.counts_of-loaded.result c.deref.result.now
     c.deref-2.result.now _ _ c.self.inside.kept c.in-Ok.ensures.exact
     c.counts_of-loaded.ensures.counts (c.deref.ensures.value ∙ c.in_ok-stored.ensures.text)

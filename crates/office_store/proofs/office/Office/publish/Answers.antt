@@ -1,48 +1,76 @@
 use Rattle.std.proofs.Common.{rules, ◌≡◌, Err, refl, sym, subst}
 use Rattle.sqlite.specs.Held.{state}
 use Rattle.office_model.specs.Publishing.{draft_published}
-use Rattle.office_model.specs.declared.fault.StoreFault.TheVariants.{NotLoaded}
 use Rattle.office_store.specs.Running.{Runs}
-use Rattle.office_store.proofs.CommandLemmas.{not_loaded, refuses, rests, runs, seen}
-use Rattle.office_store.proofs.PublishLemmas.{publish_denied, publish_moves}
+use Rattle.office_store.proofs.CommandLemmas.{rests, runs, stays_by, stays_on, stays_undone}
+use Rattle.office_store.proofs.PublishLemmas.{publication_moves}
 use Rattle.office_store.proofs.PublishedReadLemmas.{stored_add_up}
+use Rattle.office_store.proofs.RunLemmas.{now_still, still_then}
 use Rattle.office_store.proofs.office.Office.publish.Goals as goal
-
-pub returns-in_default-clause-runs : goal.returns-in_default-clause-runs
-returns-in_default-clause-runs g c =
-    refuses g.S.Store (draft_published c.args.number) c.args.self.now
-    c.publishing_rows.new.self c.self.inside.conn c.self.inside.kept c.self.view_is
-    c.self.invariant.1
-    c.in_ok-draft.ensures.awake c.in_ok-draft.ensures.still NotLoaded
-    (λ _. not_loaded (draft_published c.args.number) _ _ c.in_default.is refl)
 
 pub returns-in_err-new-clause-runs : goal.returns-in_err-new-clause-runs
 returns-in_err-new-clause-runs g c =
     let fault = c.in_err-new.field-0.0 in
     let is : c.from_residual-in_err-new.result ≡ Err fault = search rules in
     subst (Runs g.S.Store (draft_published c.args.number) c.args.self.now
-    c.publishing_rows.new.self) (sym is)
-    (refuses g.S.Store (draft_published c.args.number) c.args.self.now
-    c.publishing_rows.new.self c.self.inside.conn c.self.inside.kept c.self.view_is
-    c.self.invariant.1
-    c.in_ok-draft.ensures.awake c.in_ok-draft.ensures.still fault
-    (λ k. publish_denied c.in-Some.instance c.in-Some.enrolments c.args.number _ _ _ _ _
-    c.self.inside.kept c.in-Some.is (c.in_ok-draft.ensures.draft k)
-    (c.in_ok-draft.ensures.published k) fault c.in_err-new.ensures.publishes))
+    c.judged_publication.new.self) (sym is)
+    (λ clean o now.
+    let before = c.judged_publication.ensures.clean clean in
+    let awake = c.in_ok-found.ensures.awake before in
+    let here = stays_by g.S.Store c.args.self.now c.draft_rows.new.self
+    c.in_ok-found.ensures.still before o now in (
+      c.in_err-new.ensures.publishes clean awake o (here awake.0)
+          (c.in_ok-found.ensures.rows before o (here awake.0)),
+      now_still (state g.S.Store c.draft_rows.new.self)
+          (state g.S.Store c.judged_publication.new.self) o
+          (c.judged_publication.ensures.still clean) here,
+    ))
+
+pub returns-in_err-new-clause-stays : goal.returns-in_err-new-clause-stays
+returns-in_err-new-clause-stays g c =
+    stays_on g.S.Store c.args.self.now c.args.self.now c.judged_publication.new.self refl
+    (λ k. still_then (state g.S.Store c.args.self.now) (state g.S.Store c.draft_rows.new.self)
+    (state g.S.Store c.judged_publication.new.self)
+    (c.in_ok-found.ensures.still (c.judged_publication.ensures.clean k))
+    (c.judged_publication.ensures.still k))
+    c.from_residual-in_err-new.result
+
+-- the transaction failed
+pub returns-in_err-put_publication-clause-stays : goal.returns-in_err-put_publication-clause-stays
+returns-in_err-put_publication-clause-stays g c =
+    stays_undone g.S.Store c.args.self.now c.judged_publication.new.self c.self.inside.conn
+    c.put_publication.new.conn c.self.view_is
+    (λ k. still_then (state g.S.Store c.args.self.now) (state g.S.Store c.draft_rows.new.self)
+    (state g.S.Store c.judged_publication.new.self)
+    (c.in_ok-found.ensures.still (c.judged_publication.ensures.clean k))
+    (c.judged_publication.ensures.still k))
+    (λ k. c.in_ok-new.ensures.awake k
+    (c.in_ok-found.ensures.awake (c.judged_publication.ensures.clean k)))
+    c.put_publication.ensures.clean c.in_err-put_publication.ensures.undone
+    c.from_residual-in_err-put_publication.result
 
 pub returns-clause-runs : goal.returns-clause-runs
 returns-clause-runs g c =
-    runs g.S.Store (draft_published c.args.number) c.args.self.now c.publishing_rows.new.self
-    c.self.inside.conn c.self.inside.kept c.self.view_is c.self.invariant.1
-    c.in_ok-draft.ensures.awake c.in_ok-draft.ensures.still c.put_publication.new.conn
-    c.self.inside.kept c.in_ok-new.new.counts c.put_publication.ensures.clean
-    (λ k. publish_moves c.in-Some.instance c.in-Some.enrolments c.args.number _ _ _ _ _
-    c.self.inside.kept c.in-Some.is
-    (seen g.S.Store c.publishing_rows.new.self c.self.inside.conn c.self.view_is _
-    c.in_ok-draft.ensures.draft (c.put_publication.ensures.clean k))
-    (seen g.S.Store c.publishing_rows.new.self c.self.inside.conn c.self.view_is _
-    c.in_ok-draft.ensures.published (c.put_publication.ensures.clean k))
-    _ c.in_ok-new.new c.in_ok-new.ensures.publishes (c.in_ok-put_publication.ensures.done k).makes)
+    runs g.S.Store (draft_published c.args.number) c.args.self.now
+    c.judged_publication.new.self c.self.inside.conn c.self.inside.kept c.self.view_is
+    c.self.invariant.1
+    (λ k. c.in_ok-new.ensures.awake k
+    (c.in_ok-found.ensures.awake (c.judged_publication.ensures.clean k)))
+    (λ k. still_then (state g.S.Store c.args.self.now) (state g.S.Store c.draft_rows.new.self)
+    (state g.S.Store c.judged_publication.new.self)
+    (c.in_ok-found.ensures.still (c.judged_publication.ensures.clean k))
+    (c.judged_publication.ensures.still k))
+    c.put_publication.new.conn c.self.inside.kept c.in_ok-new.new.counts
+    c.put_publication.ensures.clean
+    (λ k. publication_moves g.S.Store c.draft_rows.new.self c.judged_publication.new.self
+    c.self.inside.conn c.self.view_is c.args.number c.put_publication.new.conn
+    c.self.inside.kept c.in_ok-new.new c.judged_publication.ensures.still
+    (λ k. c.in_ok-new.ensures.awake k
+    (c.in_ok-found.ensures.awake (c.judged_publication.ensures.clean k)))
+    (λ k o kept. c.in_ok-new.ensures.publishes k
+    (c.in_ok-found.ensures.awake (c.judged_publication.ensures.clean k)) o kept
+    (c.in_ok-found.ensures.rows (c.judged_publication.ensures.clean k) o kept))
+    (c.put_publication.ensures.clean k) (c.in_ok-put_publication.ensures.done k).makes)
 
 pub invariant_of-self-2 : goal.invariant_of-self-2
 invariant_of-self-2 g c = (
@@ -51,22 +79,20 @@ invariant_of-self-2 g c = (
       (state g.S.Store c.put_publication.new.conn) c.self.inside.kept c.self.inside.kept
       c.in_ok-new.new.counts c.self.invariant.1 c.put_publication.ensures.clean
       (λ k. (c.in_ok-put_publication.ensures.done k).was_open)
-      (λ k. publish_moves c.in-Some.instance c.in-Some.enrolments c.args.number _ _ _ _ _
-      c.self.inside.kept c.in-Some.is
-      (seen g.S.Store c.publishing_rows.new.self c.self.inside.conn c.self.view_is _
-      c.in_ok-draft.ensures.draft (c.put_publication.ensures.clean k))
-      (seen g.S.Store c.publishing_rows.new.self c.self.inside.conn c.self.view_is _
-      c.in_ok-draft.ensures.published (c.put_publication.ensures.clean k))
-      _ c.in_ok-new.new c.in_ok-new.ensures.publishes
-      (c.in_ok-put_publication.ensures.done k).makes),
+      (λ k. publication_moves g.S.Store c.draft_rows.new.self c.judged_publication.new.self
+      c.self.inside.conn c.self.view_is c.args.number c.put_publication.new.conn
+      c.self.inside.kept c.in_ok-new.new c.judged_publication.ensures.still
+      (λ k. c.in_ok-new.ensures.awake k
+      (c.in_ok-found.ensures.awake (c.judged_publication.ensures.clean k)))
+      (λ k o kept. c.in_ok-new.ensures.publishes k
+      (c.in_ok-found.ensures.awake (c.judged_publication.ensures.clean k)) o kept
+      (c.in_ok-found.ensures.rows (c.judged_publication.ensures.clean k) o kept))
+      (c.put_publication.ensures.clean k) (c.in_ok-put_publication.ensures.done k).makes),
   c.self.invariant.2,
 )
 
-pub returns-in_err-draft-clause-add_up : goal.returns-in_err-draft-clause-add_up
-returns-in_err-draft-clause-add_up g c office kept = stored_add_up _ office kept
-
-pub returns-in_default-clause-add_up : goal.returns-in_default-clause-add_up
-returns-in_default-clause-add_up g c office kept = stored_add_up _ office kept
+pub returns-in_err-found-clause-add_up : goal.returns-in_err-found-clause-add_up
+returns-in_err-found-clause-add_up g c office kept = stored_add_up _ office kept
 
 pub returns-in_err-new-clause-add_up : goal.returns-in_err-new-clause-add_up
 returns-in_err-new-clause-add_up g c office kept = stored_add_up _ office kept

@@ -4,7 +4,7 @@ use Rattle.exam_draft.specs.declared.fault.EditFault.TheVariants.{NoSuch}
 use Rattle.office_model.specs.Commands.{owned}
 use Rattle.office_model.specs.declared.fault.Refusal.TheVariants.{Edit}
 use Rattle.office_model.specs.declared.fault.StoreFault.TheVariants.{NotLoaded, Refused}
-use Rattle.office_store.proofs.CommandLemmas.{not_loaded, refuses, rests, runs, stays_by}
+use Rattle.office_store.proofs.CommandLemmas.{not_loaded, refuses, rests, runs}
 use Rattle.office_store.proofs.OwnerLemmas.{no_exam_denied, owner_moves}
 use Rattle.office_store.proofs.office.Office.set_owner.Goals as goal
 
@@ -12,8 +12,7 @@ pub returns-in_default-clause-runs : goal.returns-in_default-clause-runs
 returns-in_default-clause-runs g c =
     refuses g.S.Store (owned c.args.exam c.args.dept) c.args.self.now c.look.new.self
     c.self.inside.conn c.self.inside.kept c.self.view_is c.self.invariant.1
-    c.in_ok-look.ensures.awake
-    (stays_by g.S.Store c.args.self.now c.look.new.self c.in_ok-look.ensures.still) NotLoaded
+    c.in_ok-look.ensures.awake c.in_ok-look.ensures.still NotLoaded
     (λ _. not_loaded (owned c.args.exam c.args.dept) _ _ c.in_default.is refl)
 
 pub returns-then-get-exams-clause-runs : goal.returns-then-get-exams-clause-runs
@@ -22,8 +21,7 @@ returns-then-get-exams-clause-runs g c =
     = omega (arith, c.exams.ensures.count, c.if-get-exams.true) in
     refuses g.S.Store (owned c.args.exam c.args.dept) c.args.self.now c.look.new.self
     c.self.inside.conn c.self.inside.kept c.self.view_is c.self.invariant.1
-    c.in_ok-look.ensures.awake
-    (stays_by g.S.Store c.args.self.now c.look.new.self c.in_ok-look.ensures.still)
+    c.in_ok-look.ensures.awake c.in_ok-look.ensures.still
     (Refused (Edit NoSuch))
     (λ _. no_exam_denied _ _ c.in-Some.instance c.in-Some.field-0-1 c.in-Some.is
     c.args.exam c.args.dept
@@ -35,8 +33,7 @@ returns-clause-runs g c =
     = omega (arith, c.exams.ensures.count, c.if-get-exams.false, c.get.ensures) in
     runs g.S.Store (owned c.args.exam c.args.dept) c.args.self.now c.look.new.self
     c.self.inside.conn c.self.inside.kept c.self.view_is c.self.invariant.1
-    c.in_ok-look.ensures.awake
-    (stays_by g.S.Store c.args.self.now c.look.new.self c.in_ok-look.ensures.still)
+    c.in_ok-look.ensures.awake c.in_ok-look.ensures.still
     c.put.new.conn c.self.inside.kept tt c.put.ensures.clean
     (λ k. owner_moves _ _ c.in-Some.instance c.in-Some.field-0-1 c.in-Some.is c.args.exam
     c.args.dept _ exists c.requires.dept c.get-exam.result c.get-exam.ensures c.new_owner.result

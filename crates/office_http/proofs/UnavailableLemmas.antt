@@ -1,0 +1,72 @@
+-- What is replied with a 503 changes nothing.
+use Rattle.std.proofs.Common.{◌≡◌, ◌∙◌, ℕ, true, Result, Ok, Err, ap, inl, inr, refl, sym, true≢false}
+use Rattle.std.specs.Prelude.{◌==◌}
+use Rattle.std.proofs.lemmas.Bool.{eq-eqb}
+use Rattle.exam_draft.specs.declared.edit.Edit.{Edit}
+use Rattle.exam_draft.specs.declared.edit.Edit.TheVariants as edit
+use Rattle.office_messages.specs.Reply.{PlainReply}
+use Rattle.office_messages.specs.Statuses.{code_of}
+use Rattle.office_messages.specs.Stream.{PlainRequest}
+use Rattle.office_policy.specs.Commands.{PlainCommand, load, set_owner, new_draft, drop_draft}
+use Rattle.office_policy.specs.Commands.{place, move, clear, swap, publish, batch}
+use Rattle.office_policy.specs.declared.command.Body.TheVariants.{Given}
+use Rattle.office_requests.specs.Requests.{PlainAsked, reading}
+use Rattle.office_requests.specs.declared.requests.Refusal.{Refusal}
+use Rattle.office_model.specs.Answers.{PlainAnswer}
+use Rattle.office_model.specs.Batches.{batch_enrolled}
+use Rattle.office_model.specs.Commands.{owned}
+use Rattle.office_model.specs.DraftCommands.{draft_made, draft_dropped, draft_edited}
+use Rattle.office_model.specs.Loading.{loaded}
+use Rattle.office_model.specs.Office.{OfficeState}
+use Rattle.office_model.specs.Publishing.{draft_published}
+use Rattle.office_model.specs.Step.{Outcome}
+use Rattle.office_model.proofs.StepLemmas.{EditKeeps, Keeps, any_ok, step_law}
+use Rattle.office_replies.specs.Replies.{reply_to}
+use Rattle.office_http.specs.Replying.{Replies, RepliesTo}
+
+-- the answer is replied with a 503
+abbrev Is503 : PlainAnswer → Type 0
+Is503 answer = (code_of (reply_to answer).status == 503) ≡ true
+
+-- no change that was made is
+edits : (old : OfficeState) (d : ℕ) (change : Edit)
+    → EditKeeps (λ new. new ≡ old) Is503 old d change
+edits old d change = any_ok _ (draft_edited d change old) (λ x q. absurd (true≢false (sym q)))
+
+changes : (old : OfficeState) (command : PlainCommand)
+    → Keeps (λ new. new ≡ old) Is503 old command
+changes old (load (Given bytes)) =
+    any_ok _ (loaded bytes old) (λ x q. absurd (true≢false (sym q)))
+changes old (set_owner exam (Given dept)) =
+    any_ok _ (owned exam dept old) (λ x q. absurd (true≢false (sym q)))
+changes old (new_draft d (Given bytes)) =
+    any_ok _ (draft_made d bytes old) (λ x q. absurd (true≢false (sym q)))
+changes old (drop_draft d) = any_ok _ (draft_dropped d old) (λ x q. absurd (true≢false (sym q)))
+changes old (place d exam (Given at)) = edits old d (edit.Place exam at)
+changes old (move d exam (Given to)) = edits old d (edit.Move exam to)
+changes old (clear d exam) = edits old d (edit.Clear exam)
+changes old (swap d a b) = edits old d (edit.Swap a b)
+changes old (publish d) = any_ok _ (draft_published d old) (λ x q. absurd (true≢false (sym q)))
+changes old (batch number (Given bytes)) =
+    any_ok _ (batch_enrolled number bytes old) (λ x q. absurd (true≢false (sym q)))
+changes old _ = tt
+
+-- what a message asks for, if it is not refused unread
+leaves_by : (said : Result PlainAsked Refusal) (old new : OfficeState) (reply : PlainReply)
+    → RepliesTo said old reply new → code_of reply.status ≡ 503 → new ≡ old
+leaves_by (Err refusal) old new reply told is = told.0
+leaves_by (Ok asked) old new reply (answer, step, told) is = elim step [
+  | inl same ↦
+      let code = ap (λ (o : Outcome). code_of (reply_to o.1).status) same in
+      let number = sym (ap (λ (r : PlainReply). code_of r.status) told ∙ code) ∙ is in
+      ap (λ (o : Outcome). o.0) same
+      ∙ step_law (λ new. new ≡ old) Is503 old refl asked.caller asked.command
+      (changes old asked.command) (eq-eqb _ 503 number)
+  | inr h ↦ h.0
+]
+
+pub unavailable_leaves : (old new : OfficeState) (request : PlainRequest) (reply : PlainReply)
+    → Replies old request reply new → code_of reply.status ≡ 503 → new ≡ old
+unavailable_leaves old new request reply told is =
+    leaves_by (reading request.method request.target request.caller request.body) old new reply told
+    is

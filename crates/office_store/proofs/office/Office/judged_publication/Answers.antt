@@ -1,0 +1,19 @@
+use Rattle.std.proofs.Common.{subst}
+use Rattle.sqlite.specs.Held.{state}
+use Rattle.sqlite.specs.State.{HasCleanDisk}
+use Rattle.office_store.proofs.PublishLemmas.{none_at_hand, puts_at_hand}
+use Rattle.office_store.proofs.office.Office.judged_publication.Goals as goal
+
+pub returns-in_default-clause-publishes : goal.returns-in_default-clause-publishes
+returns-in_default-clause-publishes g c clean awake office kept are =
+    none_at_hand g.S.Store c.args.self.now c.args.self.now c.self.inside.conn c.self.view_is
+    c.args.number c.self.inside.kept c.self.invariant.1 c.in_default.is clean awake office kept
+
+pub returns-clause-publishes : goal.returns-clause-publishes
+returns-clause-publishes g c clean awake office kept are =
+    let before = c.new_publication.ensures.read.clean clean in
+    puts_at_hand g.S.Store c.args.self.now c.args.self.now c.self.inside.conn c.self.view_is
+    c.args.number c.self.inside.kept c.self.invariant.1 c.in-Some.instance c.in-Some.enrolments
+    c.in-Some.is c.args.found.now.rows.items c.args.found.now.slots.items c.new_publication.result
+    (subst (λ h. HasCleanDisk (state g.S.Store h)) c.self.view_is before) awake office kept are
+    (c.new_publication.ensures.publishes clean)
