@@ -12,9 +12,9 @@ fn main(rt: HostRuntime) -> ExitCode {
         Ok(args) => words_of(rt.alloc(), args),
         Err(fault) => Err(fault),
     };
-    let status = match words {
+    let ending = match words {
         Ok(words) => run_program(&rt, &words, &mut rt.stdout(), &mut err),
         Err(fault) => refuse_arguments(&fault, &mut err),
     };
-    ExitCode::from(status)
+    ExitCode::from(ending.status)
 }

@@ -1,3 +1,4 @@
 pub mod LoadFacts
 pub mod NumberLemmas
 mod ServeFacts
+mod EndingFacts

@@ -8,3 +8,4 @@ pub mod FaultLines
 pub mod Serve
 pub mod LongWork
 pub mod Tasks
+pub mod Endings

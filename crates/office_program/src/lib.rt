@@ -13,6 +13,6 @@ mod words;
 
 pub use exporting::{ExportFault, export_run};
 pub use loading::{LoadFault, load_run};
-pub use program::{refuse_arguments, run_program};
+pub use program::{Ending, refuse_arguments, run_program};
 pub use serving::{serve_desk, serve_stored};
 pub use words::{Task, Terms, read_words, words_of};

@@ -1,6 +1,6 @@
 // The whole program, over a file system and two writers.
 ghost use Rattle.std.specs.Prelude.{◌≡◌, ◌≢◌, ◌≤◌, ◌↔◌, ◌⊎◌, ◌++◌, ◌∷◌, [], IfErr, IfOk, OnOk};
-ghost use Rattle.std.specs.Prelude.{ℕ, List, length, map, string_bytes};
+ghost use Rattle.std.specs.Prelude.{ℕ, IsTrue, List, length, map, string_bytes};
 ghost use Rattle.std.specs.Io.KnownBytes.{Appends};
 ghost use Rattle.std.specs.IoError.{error_kind};
 ghost use Rattle.std.specs.declared.io.ErrorKind.TheVariants as failure;
@@ -9,6 +9,7 @@ ghost use Rattle.clap.specs.Faults.{fault_of};
 ghost use Rattle.clap.specs.declared.error.kind.ErrorKind.TheVariants as kind;
 ghost use Rattle.exam_terms.specs.declared.limits.TheConstants.{INSTANCE_BYTES};
 ghost use Rattle.office_check.specs.Check.{WritesReport};
+ghost use Rattle.office_program.specs.Endings.{IsSilent, TellsFault, TellsNoTask};
 ghost use Rattle.office_program.specs.FaultLines.{fault_line, not_text_line};
 ghost use Rattle.office_program.specs.Load.{PrintsCounts};
 ghost use Rattle.office_program.specs.Program.{AreAnswered, IsMistake, IsTask, program};
@@ -31,38 +32,54 @@ use std::io::Write;
 use std::rt::Files;
 use std::{fs, io};
 
-/// Does what the words say, of which the first is the program's name, and answers the exit
-/// status: 0 done, 1 a fault of a file, an office, a port, `out` or memory, 2 a mistake in the
-/// words, 3 a solution that breaks a hard rule. The line of a fault, also of a connection, and the
-/// text of a mistake go to `err`, all else goes to `out`.
+/// How the program ended.
+#[derive(Clone, Copy)]
+pub struct Ending {
+    /// The exit status: 0 done, 1 a fault of a file, an office, a port, `out` or memory, 2 a mistake
+    /// in the words, 3 a solution that breaks a hard rule.
+    pub status: u8,
+    /// Whether the writer of faults took the whole line of the fault, or text of the mistake, that
+    /// it ended with; true where it ended with none.
+    pub is_told: bool,
+}
+
+/// Does what the words say, of which the first is the program's name. The line of a fault, also of a
+/// connection, and the text of a mistake go to `err`, all else goes to `out`.
 pub fn run_program<O: Write, E: Write>(
     rt: &HostRuntime,
     words: &[String],
     out: &mut O,
     err: &mut E,
-) -> u8
-    ensures within { result ≤ 3 }
+) -> Ending
+    ensures within { result.status ≤ 3 }
 
     // Done is a command or a call for help, and a mistake in the words is one that clap finds.
-    ensures answered { result ≡ 0 → AreAnswered (map string_bytes words.now) }
-    ensures mistake { result ≡ 2 → fault_of program (map string_bytes words.now) ≢ [] }
-    ensures broken { result ≡ 3 → fault_of program (map string_bytes words.now) ≡ [] }
+    ensures answered { result.status ≡ 0 → AreAnswered (map string_bytes words.now) }
+    ensures mistake { result.status ≡ 2 → fault_of program (map string_bytes words.now) ≢ [] }
+    ensures broken { result.status ≡ 3 → fault_of program (map string_bytes words.now) ≡ [] }
 
     // A judgement is the report of two texts, written whole.
-    ensures reported { result ≡ 3
+    ensures reported { result.status ≡ 3
         → WritesReport (O.contents out.old) (O.contents out.new) 3 }
 
     // What is done is the task of the words, and what it prints is written whole.
-    ensures done { result ≡ 0 → fault_of program (map string_bytes words.now) ≡ []
+    ensures done { result.status ≡ 0 → fault_of program (map string_bytes words.now) ≡ []
         → (task : Task) × IsTask (map string_bytes words.now) task
         × Prints task (O.contents out.old) (O.contents out.new) }
+
+    // Status 1 comes with the line of a fault of the words, written whole, unless `err` failed.
+    ensures told { result.status ≡ 1 → IsTrue result.is_told
+        → TellsFault E.contents (map string_bytes words.now) err.old err.new }
 {
     let task = match read_words(rt.alloc(), words) {
         Ok(task) => task,
         Err(error) => return refuse_words(&error, out, err),
     };
     match run_task(rt, &task, out, err) {
-        Ok(status) => status,
+        Ok(status) => Ending {
+            status,
+            is_told: true,
+        },
         Err(fault) => complain(&fault, err),
     }
 }
@@ -82,6 +99,7 @@ fn run_task<'a, W: Write, E: Write>(
 
     // A line that names a file names one of the task's.
     ensures fault { IfErr result (IsOfTask task.now) }
+    ensures silent { IsSilent task.now err.old err.new }
 {
     match task {
         Task::Check(instance, solution) => check(rt, instance, solution, out),
@@ -178,31 +196,42 @@ fn load_text<'a, W: Write>(
 }
 
 // Answers words that are no command: a mistake in them, or a call for help.
-fn refuse_words<O: Write, E: Write>(error: &Error, out: &mut O, err: &mut E) -> u8
-    ensures within { result ≤ 2 }
-    ensures help { result ≡ 0 → (kind_of error.now ≡ kind.DisplayHelp)
+fn refuse_words<O: Write, E: Write>(error: &Error, out: &mut O, err: &mut E) -> Ending
+    ensures within { result.status ≤ 2 }
+    ensures help { result.status ≡ 0 → (kind_of error.now ≡ kind.DisplayHelp)
         ⊎ (kind_of error.now ≡ kind.DisplayVersion) }
-    ensures mistake { (result ≡ 2) ↔ IsMistake (kind_of error.now) }
+    ensures mistake { (result.status ≡ 2) ↔ IsMistake (kind_of error.now) }
+    ensures told { result.status ≡ 1 → IsTrue result.is_told
+        → TellsNoTask (E.contents err.old) (E.contents err.new) }
 {
     if error.kind() == ErrorKind::OutOfMemory {
         return complain(&ProgramFault::NoMemory, err);
     }
     if error.use_stderr() {
-        let _ = write!(err, "{error}");
-        return 2;
+        return Ending {
+            status: 2,
+            is_told: write!(err, "{error}").is_ok(),
+        };
     }
     match write!(out, "{error}") {
-        Ok(()) => 0,
+        Ok(()) => Ending {
+            status: 0,
+            is_told: true,
+        },
         Err(_) => complain(&ProgramFault::CannotWrite, err),
     }
 }
 
-// Where the line of a fault can't be printed, nothing more can be done.
-fn complain<W: Write>(fault: &ProgramFault<'_>, err: &mut W) -> u8
-    ensures { result ≡ 1 }
+// Ends with a fault. Where its line can't be printed, nothing more can be done.
+fn complain<W: Write>(fault: &ProgramFault<'_>, err: &mut W) -> Ending
+    ensures status { result.status ≡ 1 }
+    ensures told { IsTrue result.is_told
+        → Appends (W.contents err.old) (W.contents err.new) (fault_line fault.now ++ 10 ∷ []) }
 {
-    let _ = print_fault(fault, err);
-    1
+    Ending {
+        status: 1,
+        is_told: print_fault(fault, err).is_ok(),
+    }
 }
 
 // Prints the line of a fault.
@@ -213,16 +242,25 @@ fn print_fault<W: Write>(fault: &ProgramFault<'_>, err: &mut W) -> io::Result<()
     writeln!(err, "{fault}")
 }
 
-/// Answers a command line that is no list of texts, and gives the exit status.
-pub fn refuse_arguments<E: Write>(fault: &io::Error, err: &mut E) -> u8
-    ensures within { (result ≡ 1) ⊎ (result ≡ 2) }
-    ensures memory { (result ≡ 1) ↔ (error_kind fault.now ≡ failure.OutOfMemory) }
+/// Answers a command line that is no list of texts.
+pub fn refuse_arguments<E: Write>(fault: &io::Error, err: &mut E) -> Ending
+    ensures within { (result.status ≡ 1) ⊎ (result.status ≡ 2) }
+    ensures memory { (result.status ≡ 1) ↔ (error_kind fault.now ≡ failure.OutOfMemory) }
+
+    // The line of the one or of the other is written whole, unless `err` failed.
+    ensures no_memory { result.status ≡ 1 → IsTrue result.is_told
+        → Appends (E.contents err.old) (E.contents err.new)
+        (fault_line ProgramFault.NoMemory ++ 10 ∷ []) }
+    ensures no_texts { result.status ≡ 2 → IsTrue result.is_told
+        → Appends (E.contents err.old) (E.contents err.new) (not_text_line ++ 10 ∷ []) }
 {
     if fault.kind() == io::ErrorKind::OutOfMemory {
         return complain(&ProgramFault::NoMemory, err);
     }
-    let _ = print_not_text(err);
-    2
+    Ending {
+        status: 2,
+        is_told: print_not_text(err).is_ok(),
+    }
 }
 
 // Prints the line for words that are no texts.

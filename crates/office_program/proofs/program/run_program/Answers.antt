@@ -1,6 +1,21 @@
+use Rattle.std.proofs.Common.{inl}
 use Rattle.office_program.proofs.program.run_program.Goals as goal
 
 -- the task of the words prints what it has to
 pub returns-in-Ok-run_task-clause-done : goal.returns-in-Ok-run_task-clause-done
 returns-in-Ok-run_task-clause-done g c = λ zero valid.
     (c.in-Ok.task, c.in-Ok.ensures.task, c.in-Ok-run_task.ensures.done zero)
+
+-- or its fault is told
+pub returns-in-Err-run_task-clause-told : goal.returns-in-Err-run_task-clause-told
+returns-in-Err-run_task-clause-told g c = λ one told. inl (
+  c.in-Ok.task,
+  c.in-Ok.ensures.task,
+  record {
+    shown = c.in-Err-run_task.fault;
+    fault = c.in-Err-run_task.ensures.fault;
+    before = c.run_task.new.err;
+    silent = c.run_task.ensures.silent;
+    line = c.complain.ensures.told told;
+  },
+)
