@@ -14,6 +14,7 @@ use Rattle.office_model.specs.Office.{OfficeState, Publication}
 use Rattle.office_model.specs.Step.{of_published, outcome, told_to}
 use Rattle.office_model.specs.Shown.{ShownView, shown_to}
 use Rattle.office_model.specs.Views.{view_of}
+use Rattle.office_model.specs.declared.views.ViewRow.{ViewRow}
 use Rattle.office_model.specs.declared.fault.StoreFault.{StoreFault}
 use Rattle.office_model.specs.declared.fault.StoreFault.TheVariants.{BadSchema, Store}
 use Rattle.exam_model.specs.Timetable.{Placing}
@@ -22,7 +23,8 @@ use Rattle.exam_terms.specs.Refusing.{◌>>=◌}
 use Rattle.office_store.specs.Pricing.{draft_priced}
 use Rattle.office_store.specs.Running.{Does}
 use Rattle.office_desk.specs.Answers.{refusal}
-use Rattle.office_desk.specs.Performing.{AnswersOutcome, AnswersPenalty, AnswersView, told_of}
+use Rattle.office_desk.specs.Performing.{AnswersExam, AnswersOutcome, AnswersPenalty, AnswersView}
+use Rattle.office_desk.specs.Performing.{told_of}
 use Rattle.office_desk.specs.Answers.{plain_answer}
 use Rattle.office_desk.specs.declared.answer.Answer.{Answer}
 
@@ -98,6 +100,16 @@ view_told caller.Office asked says old Stays view told same shows is = absurd sh
 view_told (Dept d) asked says old Stays view told same shows is = absurd shows
 view_told (Cand s) asked says old Stays view told same shows is =
     inl (is ∙ ap says shows.0 ∙ same s, shows.1)
+
+-- so is what she is shown of an exam
+pub her_exam_told : (who : Caller) (exam : ℕ) (old : OfficeState) (Stays : OfficeState → Type 0)
+    (found : Option ViewRow) (told : PlainAnswer) → AnswersExam who exam old Stays (Ok found)
+    → told ≡ candidates.exam_answer found
+    → AnswersOutcome (told_to who (candidates.one exam) old) old Stays told
+her_exam_told caller.Office exam old Stays found told shows is = absurd shows
+her_exam_told (Dept d) exam old Stays found told shows is = absurd shows
+her_exam_told (Cand s) exam old Stays found told shows is =
+    inl (is ∙ ap candidates.exam_answer shows.0, shows.1)
 
 -- and what her exams cost her
 pub her_penalty_told : (who : Caller) (old : OfficeState) (Stays : OfficeState → Type 0)

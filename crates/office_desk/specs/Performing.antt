@@ -1,5 +1,6 @@
 -- What the desk makes of a command, over the office that its file stands for.
-use Rattle.std.specs.Prelude.{◌≡◌, ◌⊎◌, Result, Ok, Err}
+use Rattle.std.specs.Prelude.{◌≡◌, ◌⊎◌, ◌==◌, ℕ, Option, Result, Ok, Err}
+use Rattle.std.specs.List.{find}
 use Rattle.sqlite.specs.Held.{Held, state}
 use Rattle.sqlite.specs.State.{HasCleanDisk}
 use Rattle.sqlite.specs.Store.{Ghosts}
@@ -12,8 +13,9 @@ use Rattle.office_policy.specs.declared.command.Body.TheVariants.{Given, Bad, Lo
 use Rattle.office_model.specs.Answers.{PlainAnswer, bad_body, long_body, unavailable}
 use Rattle.office_model.specs.Office.{OfficeState}
 use Rattle.office_model.specs.Step.{Outcome, permitted}
-use Rattle.office_model.specs.Shown.{ShownView, shown_penalty, shown_to}
+use Rattle.office_model.specs.Shown.{ShownView, shown_exams, shown_penalty, shown_to}
 use Rattle.office_model.specs.Views.{view_of}
+use Rattle.office_model.specs.declared.views.ViewRow.{ViewRow}
 use Rattle.office_store.specs.Running.{Now}
 use Rattle.office_desk.specs.Answers.{plain_answer}
 use Rattle.office_desk.specs.declared.answer.Answer.{Answer}
@@ -60,6 +62,21 @@ abbrev pub ShowsView : {S : Type 0} → Ghosts S → Caller → Held S → Held 
 ShowsView store caller old new result =
     HasCleanDisk (state store new) → (office : OfficeState) → Now (state store old) office
     → AnswersView caller office (Now (state store new)) result
+
+-- a candidate is shown an exam of hers, alike
+abbrev pub AnswersExam : Caller → ℕ → OfficeState → (OfficeState → Type 0)
+    → Result (Option ViewRow) Answer → Type 0
+AnswersExam (Cand s) exam old Stays (Ok found) =
+    (found ≡ find (λ row. row.exam == exam) (shown_exams (view_of s old))) × Stays old
+AnswersExam caller exam old Stays (Ok found) = ⊥
+AnswersExam caller exam old Stays (Err answer) = (plain_answer answer ≡ unavailable) × Stays old
+
+-- the same, over a disk that returns what was written
+abbrev pub ShowsExam : {S : Type 0} → Ghosts S → Caller → ℕ → Held S → Held S
+    → Result (Option ViewRow) Answer → Type 0
+ShowsExam store caller exam old new result =
+    HasCleanDisk (state store new) → (office : OfficeState) → Now (state store old) office
+    → AnswersExam caller exam office (Now (state store new)) result
 
 -- a candidate is told what her exams cost her, alike
 abbrev pub AnswersPenalty : Caller → OfficeState → (OfficeState → Type 0)

@@ -3,12 +3,12 @@
 ghost use Rattle.sqlite.specs.Held.{state};
 ghost use Rattle.sqlite.specs.State.{HasCleanDisk};
 ghost use Rattle.office_policy.specs.Commands.{me, my_exam, my_penalty};
-ghost use Rattle.office_desk.specs.Performing.{PerformsFor, ShowsPenalty, ShowsView};
+ghost use Rattle.office_desk.specs.Performing.{PerformsFor, ShowsExam, ShowsPenalty, ShowsView};
 
 use crate::answer::Answer;
 use exam_score::PersonalParts;
 use exam_terms::ExamNo;
-use office_model::CandidateView;
+use office_model::{CandidateView, ViewRow};
 use office_policy::Caller;
 use office_store::Office;
 use sqlite::Alter;
@@ -39,8 +39,8 @@ pub(crate) fn my_exam<S: Alter>(
     ensures clean { HasCleanDisk (state S.Store office.new)
         → HasCleanDisk (state S.Store office.old) }
 {
-    let view = her_view(office, alloc, caller)?;
-    match view.row(exam) {
+    let found = her_exam(office, alloc, caller, exam)?;
+    match found {
         Some(row) => Ok(Answer::MyExam(row)),
         None => Ok(Answer::NotMine),
     }
@@ -75,6 +75,24 @@ fn her_view<S: Alter>(
     };
     let view = office.candidate_view(alloc, student)?;
     Ok(view)
+}
+
+// What the candidate who asks is shown of an exam. Nobody else is permitted to ask for that.
+fn her_exam<S: Alter>(
+    office: &mut Office<S>,
+    alloc: Global,
+    caller: Caller,
+    exam: ExamNo,
+) -> Result<Option<ViewRow>, Answer>
+    ensures shows { ShowsExam S.Store caller exam office.old office.new result }
+    ensures clean { HasCleanDisk (state S.Store office.new)
+        → HasCleanDisk (state S.Store office.old) }
+{
+    let Caller::Cand(student) = caller else {
+        return Err(Answer::Unavailable);
+    };
+    let found = office.candidate_exam(alloc, student, exam)?;
+    Ok(found)
 }
 
 // What her exams cost the candidate who asks. Nobody else is permitted to ask for that.

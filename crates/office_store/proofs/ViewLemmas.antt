@@ -1,7 +1,8 @@
 -- What the rows of a candidate are.
 use Rattle.std.proofs.Common.{◌≡◌, ℕ, zero, suc, ◌||◌, ◌+◌, ◌<◌, ◌≤◌, Bool, true, false, cond, eqb, List, [], ◌∷◌, ◌++◌}
 use Rattle.std.proofs.Common.{map, filter, length, Option, Some, None, refl, sym, ◌∙◌, ap, ap₂, subst, arith}
-use Rattle.std.specs.Prelude.{IsPermutation, option_map, Result, Ok, Err}
+use Rattle.std.specs.Prelude.{IsErrAnd, IsPermutation, Vec, option_map, Result, Ok, Err}
+use Rattle.std.specs.declared.alloc.Global.{Global}
 use Rattle.std.specs.List.{AllByRecursion, cons_option, flat_map, list_any, range_with_len}
 use Rattle.std.proofs.lemmas.Bool.Decides.{nat_tests}
 use Rattle.std.proofs.lemmas.List.{append_assoc, map-append}
@@ -53,7 +54,7 @@ use Rattle.office_tables.specs.declared.seat.SeatRow.{SeatRow}
 use Rattle.office_tables.specs.declared.share_student.StudentShareRow.{StudentShareRow}
 use Rattle.office_model.specs.Office.{IsPublication}
 use Rattle.office_model.specs.Publishing.{rows_now}
-use Rattle.office_model.specs.Shown.{ShownView, shown_exams, shown_penalty, shown_to}
+use Rattle.office_model.specs.Shown.{shown_exams, shown_penalty}
 use Rattle.office_model.specs.Views.{no_view, view_from, view_of}
 use Rattle.office_model.specs.declared.views.ViewRow.{ViewRow}
 use Rattle.office_records.specs.Publications.{stored_seat}
@@ -62,6 +63,7 @@ use Rattle.office_records.specs.Stands.{IsSound}
 use Rattle.office_records.proofs.SameTables.{same_few}
 use Rattle.office_records.proofs.ReadableLemmas.{are_numbered}
 use Rattle.office_store.specs.OfficeRows.{student_rows_in}
+use Rattle.office_store.specs.Judging.{listed}
 use Rattle.office_store.specs.Running.{Tells}
 use Rattle.office_model.specs.declared.fault.StoreFault.{StoreFault}
 use Rattle.office_records.specs.Memory.{Memory, memory_of}
@@ -604,7 +606,7 @@ hers_numbered r c is = go r.published is.publication
 
 module _ (r : Records) (I : Session) (c : ℕ) (is : AreRecords r) (same : r.session ≡ I)
     (enrols : List EnrolRow) (places : List PlacedRow) (seats : List SeatRow)
-    (shares : List StudentShareRow) (hers : AreHerRows (Some r) c enrols places seats shares) where
+    (hers : AreHerRows (Some r) c enrols places seats) where
   abbrev her_seat_rows : List publish.SeatRow
   her_seat_rows = rows_of c (rows_now r.published)
 
@@ -613,17 +615,14 @@ module _ (r : Records) (I : Session) (c : ℕ) (is : AreRecords r) (same : r.ses
       → ⊥
   not_bad nobody = nobody her_seat_rows (hers_numbered r c is) (sym hers.of_seats)
 
-  pub view_shown : (enrolled : List ℕ) (at : List (ℕ × Place)) (own : List publish.SeatRow)
-      (rows : List ViewRow) (personal : PersonalPenalty)
+  pub exams_shown : (enrolled : List ℕ) (at : List (ℕ × Place)) (own : List publish.SeatRow)
+      (rows : List ViewRow)
       → enrolled ≡ map (λ (row : EnrolRow). row.exam) enrols → at ≡ map place_in_row places
       → ((all : List publish.SeatRow) → map stored_seat all ≡ seats → own ≡ all)
       → ((published : Option Publication) → AreOfPublication published enrolled at own
       → rows ≡ shown_exams (view_from I enrolled published own))
-      → (IsHerShare shares (share_of I.periods I.weights her_seat_rows)
-      → personal ≡ share_of I.periods I.weights her_seat_rows)
-      → ◌≡◌ {A = ShownView} (record { student = c; exams = rows; personal = personal })
-      (shown_to c (view_of c (Some r)))
-  view_shown enrolled at own rows personal exams stands only shown share =
+      → rows ≡ shown_exams (view_of c (Some r))
+  exams_shown enrolled at own rows exams stands only shown =
       let her_exams : enrolled ≡ exams_sat r.enrolments c = exams ∙ hers.of_enrols in
       let her_places : at ≡ places_in r.published enrolled
       = stands ∙ hers.of_places ∙ ap (places_in r.published) (sym her_exams) in
@@ -634,21 +633,8 @@ module _ (r : Records) (I : Session) (c : ℕ) (is : AreRecords r) (same : r.ses
             published_place r.published row.exam ≡ Some (row_place row))) (sym own_is)
             (hers_placed r c is);
       } in
-      let rows_are : rows
-      ≡ shown_exams (view_from r.session (exams_sat r.enrolments c) r.published her_seat_rows)
-      = shown r.published published
-      ∙ (λ i. shown_exams (view_from (sym same i) (her_exams i) r.published (own_is i))) in
-      let personal_is : personal
-      ≡ share_of r.session.periods r.session.weights her_seat_rows
-      = subst (λ (J : Session). (IsHerShare shares (share_of J.periods J.weights her_seat_rows)
-      → personal ≡ share_of J.periods J.weights her_seat_rows)) (sym same) share
-      (her_share_in r c is shares hers.of_shares) in
-      λ i. record { student = c; exams = rows_are i; personal = personal_is i }
-
-  pub share_of_hers : IsHerShare shares (share_of I.periods I.weights her_seat_rows)
-  share_of_hers =
-      subst (λ (J : Session). IsHerShare shares (share_of J.periods J.weights her_seat_rows)) same
-      (her_share_in r c is shares hers.of_shares)
+      shown r.published published
+      ∙ (λ i. shown_exams (view_from (sym same i) (her_exams i) r.published (own_is i)))
 
 -- ---- what is told
 
@@ -674,29 +660,6 @@ penalty_told shares rows share result same hers nothing one_row =
     subst (Tells share)
     (sym (personal_told shares rows share result same hers nothing one_row)) refl
 
--- so that it is never refused
-pub unshared : {B : Type 0} (shares rows : List StudentShareRow) (share : PersonalPenalty)
-    (result : Result PersonalPenalty StoreFault) (fault : StoreFault) → rows ≡ shares
-    → IsHerShare shares share → (rows ≡ [] → result ≡ Ok no_share)
-    → ((row : StudentShareRow) → rows ≡ row ∷ [] → personal_total (share_in_row row) < 2 ^ 62
-    → result ≡ Ok (share_in_row row))
-    → result ≡ Err fault → B
-unshared shares rows share result fault same hers nothing one_row is =
-    absurd (let ok = personal_told shares rows share result same hers nothing one_row in cc)
-
-ok_is : {A E : Type 0} {x y : A} → ◌≡◌ {A = Result A E} (Ok x) (Ok y) → x ≡ y
-ok_is e = cc
-
--- what is read of a share is her share
-pub personal_is : (shares rows : List StudentShareRow) (share read : PersonalPenalty)
-    (result : Result PersonalPenalty StoreFault) → rows ≡ shares
-    → (rows ≡ [] → result ≡ Ok no_share)
-    → ((row : StudentShareRow) → rows ≡ row ∷ [] → personal_total (share_in_row row) < 2 ^ 62
-    → result ≡ Ok (share_in_row row))
-    → result ≡ Ok read → IsHerShare shares share → read ≡ share
-personal_is shares rows share read result same nothing one_row is hers =
-    ok_is (sym is ∙ personal_told shares rows share result same hers nothing one_row)
-
 -- what is told of these lists is told of equal ones
 pub told_of_same : (I : Session) (rows : List ViewRow) (enrolled exams : List ℕ)
     (at places : List (ℕ × Place)) (own seats : List publish.SeatRow)
@@ -720,22 +683,28 @@ told_of_same I rows enrolled exams at places own seats p q s told =
 same_memory : {x y : Session × Enrolled} → Some x ≡ Some y → x ≡ y
 same_memory e = cc
 
-pub view_told : (o : OfficeState) (I : Session) (E : Enrolled) (m : Memory) → m ≡ Some (I, E)
+pub exams_told : (o : OfficeState) (I : Session) (E : Enrolled) (m : Memory) → m ≡ Some (I, E)
     → IsOffice o → memory_of o ≡ m → (c : ℕ) (enrols : List EnrolRow) (places : List PlacedRow)
-    (seats : List SeatRow) (shares : List StudentShareRow)
-    → AreHerRows o c enrols places seats shares → (told : Result ShownView StoreFault)
+    (seats : List SeatRow) → AreHerRows o c enrols places seats
+    → (told : Result (List ViewRow) StoreFault)
     → ((r : Records) → AreRecords r → r.session ≡ I
-    → AreHerRows (Some r) c enrols places seats shares
-    → Tells (shown_to c (view_of c (Some r))) told)
-    → Tells (shown_to c (view_of c o)) told
-view_told None I E m is office memory c enrols places seats shares rows told view =
+    → AreHerRows (Some r) c enrols places seats
+    → Tells (shown_exams (view_of c (Some r))) told)
+    → Tells (shown_exams (view_of c o)) told
+exams_told None I E m is office memory c enrols places seats rows told exams =
     absurd (let e = memory ∙ is in cc)
-view_told (Some r) I E m is office memory c enrols places seats shares rows told view =
-    view r office (ap (λ (kept : Session × Enrolled). kept.0) (same_memory (memory ∙ is))) rows
+exams_told (Some r) I E m is office memory c enrols places seats rows told exams =
+    exams r office (ap (λ (kept : Session × Enrolled). kept.0) (same_memory (memory ∙ is))) rows
 
 pub nothing_told : (o : OfficeState) (m : Memory) → m ≡ None → memory_of o ≡ m → (c : ℕ)
-    (told : Result ShownView StoreFault) → Tells (shown_to c no_view) told
-    → Tells (shown_to c (view_of c o)) told
-nothing_told o m empty memory c told view =
-    subst (λ (o : OfficeState). Tells (shown_to c (view_of c o)) told)
-    (sym (nothing_kept o (memory ∙ empty))) view
+    (told : Result (List ViewRow) StoreFault) → Tells (shown_exams no_view) told
+    → Tells (shown_exams (view_of c o)) told
+nothing_told o m empty memory c told exams =
+    subst (λ (o : OfficeState). Tells (shown_exams (view_of c o)) told)
+    (sym (nothing_kept o (memory ∙ empty))) exams
+
+-- a fault stays one where a list is told
+pub listed_fault : {X F : Type 0} (result : Result (Vec X Global) F) (P : F → Type 0)
+    → IsErrAnd result P → IsErrAnd (listed result) P
+listed_fault (Ok found) P is = is
+listed_fault (Err fault) P is = is

@@ -1,5 +1,5 @@
 -- What the tables hold of a candidate.
-use Rattle.std.specs.Prelude.{◌≡◌, ℕ, ◌==◌, List, [], map, filter, Some, None, IsPermutation}
+use Rattle.std.specs.Prelude.{◌≡◌, ℕ, List, [], map, Some, None}
 use Rattle.exam_model.specs.Changes.{exams_sat}
 use Rattle.exam_publish.specs.Changed.{rows_of}
 use Rattle.exam_score.specs.Penalty.{PersonalPenalty}
@@ -12,7 +12,7 @@ use Rattle.office_model.specs.Office.{OfficeState}
 use Rattle.office_model.specs.Publishing.{rows_now}
 use Rattle.office_model.specs.ViewRows.{places_in}
 use Rattle.office_records.specs.Publications.{stored_seat}
-use Rattle.office_store.specs.OfficeRows.{published_in, student_rows_in}
+use Rattle.office_store.specs.OfficeRows.{published_in}
 
 -- the exams where she is enrolled, ascending
 abbrev pub exams_in : ℕ → OfficeState → List ℕ
@@ -35,10 +35,9 @@ share_in_row row = record { row = row.in_row; day = row.in_day; spread = row.spr
 abbrev pub no_share : PersonalPenalty
 no_share = record { row = 0; day = 0; spread = 0 }
 
--- her enrolments and the published places of these exams, her seats and her share
+-- her enrolments and the published places of these exams, and her seats
 pub record AreHerRows (office : OfficeState) (c : ℕ) (enrols : List EnrolRow)
-    (places : List PlacedRow) (seats : List SeatRow) (shares : List StudentShareRow) : Type 0 where
+    (places : List PlacedRow) (seats : List SeatRow) : Type 0 where
   pub of_enrols : map (λ row. row.exam) enrols ≡ exams_in c office
   pub of_places : map place_in_row places ≡ places_in (published_in office) (exams_in c office)
   pub of_seats : seats ≡ map stored_seat (rows_of c (rows_now (published_in office)))
-  pub of_shares : IsPermutation (filter (λ row. row.student == c) (student_rows_in office)) shares

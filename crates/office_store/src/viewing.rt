@@ -1,6 +1,6 @@
 // A candidate's view of the office.
-ghost use Rattle.std.specs.Prelude.{◌≡◌, ◌==◌, ◌<◌, ◌^◌, [], ◌∷◌, IfOk, IsPermutation, Ok, OnOk, Some};
-ghost use Rattle.std.specs.Prelude.{filter, map};
+ghost use Rattle.std.specs.Prelude.{◌≡◌, ◌==◌, ◌<◌, ◌^◌, ℕ, [], ◌∷◌, IfOk, IsPermutation, Ok, OnOk};
+ghost use Rattle.std.specs.Prelude.{Some, filter, find, map};
 ghost use Rattle.sqlite.specs.Held.{state};
 ghost use Rattle.sqlite.specs.State.{HasCleanDisk};
 ghost use Rattle.exam_publish.specs.Changed.{rows_of};
@@ -8,10 +8,11 @@ ghost use Rattle.exam_score.specs.Penalty.{personal_total};
 ghost use Rattle.office_model.specs.Office.{AreRecords, OfficeState, Records};
 ghost use Rattle.office_model.specs.Publishing.{rows_now};
 ghost use Rattle.office_model.specs.ViewRows.{places_in};
-ghost use Rattle.office_model.specs.Shown.{shown_penalty, shown_to};
-ghost use Rattle.office_model.specs.Views.{no_view, view_of};
+ghost use Rattle.office_model.specs.Shown.{shown_exams, shown_penalty, shown_to};
+ghost use Rattle.office_model.specs.Views.{view_of};
 ghost use Rattle.office_records.specs.Publications.{stored_seat};
 ghost use Rattle.office_records.specs.Stands.{IsKept};
+ghost use Rattle.office_store.specs.Judging.{listed};
 ghost use Rattle.office_store.specs.OfficeRows.{published_in, student_rows_in};
 ghost use Rattle.office_store.specs.Running.{IsAwake, IsStill, ReadsOffice, Tells};
 ghost use Rattle.office_store.specs.Viewing.{AreHerRows, exams_in, no_share, place_in_row};
@@ -22,7 +23,7 @@ use crate::fault::Failed;
 use crate::office::Office;
 use exam_model::{ExamNo, Instance, PeriodNo, Place, RoomNo, StudentNo};
 use exam_score::PersonalParts;
-use office_model::{CandidateView, StoreFault, view_rows};
+use office_model::{CandidateView, StoreFault, ViewRow, view_rows};
 use office_records::own_seats;
 use office_tables::{
     EnrolRow, PlacedRow, SeatRow, StudentShareRow, enrols_of, placements_of, seats_of,
@@ -31,13 +32,12 @@ use office_tables::{
 use sqlite::Alter;
 use std::alloc::{AllocError, Global};
 
-// The rows of a candidate's enrolments, of the places of these exams, of her seats and her share.
+// The rows of a candidate's enrolments, of the places of these exams, and of her seats.
 #[derive(Drop)]
 struct HerRows {
     enrols: Vec<EnrolRow>,
     places: Vec<PlacedRow>,
     seats: Vec<SeatRow>,
-    shares: Vec<StudentShareRow>,
 }
 
 impl<S: Alter> Office<S> {
@@ -56,11 +56,30 @@ impl<S: Alter> Office<S> {
         ensures clean { HasCleanDisk (state S.Store self.new)
             → HasCleanDisk (state S.Store self.old) }
     {
-        let found = self.her_rows(alloc, student)?;
-        let Some((instance, _)) = &self.kept else {
-            return empty_view(alloc, student);
-        };
-        view_from(alloc, instance, student, &found)
+        let exams = self.her_exams(alloc, student)?;
+        let personal = self.candidate_penalty(alloc, student)?;
+        Ok(CandidateView::new(student, exams, personal))
+    }
+
+    /// One of a candidate's exams, by her enrolments, places and seats alone. Nothing of anybody
+    /// else's is read. `None`: it is none of hers, or nothing is loaded.
+    pub fn candidate_exam(
+        &mut self,
+        alloc: Global,
+        student: StudentNo,
+        exam: ExamNo,
+    ) -> Result<Option<ViewRow>, StoreFault>
+        ensures reads { ReadsOffice S.Store
+            (λ o. find (λ row. row.exam == exam) (shown_exams (view_of student o)))
+            self.old self.new result }
+        // What is at hand is then what the file says.
+        ensures awake { HasCleanDisk (state S.Store self.new)
+            → OnOk result (IsAwake (state S.Store self.new)) }
+        ensures clean { HasCleanDisk (state S.Store self.new)
+            → HasCleanDisk (state S.Store self.old) }
+    {
+        let rows = self.her_exams(alloc, student)?;
+        Ok(row_of(&rows, exam))
     }
 
     /// What a candidate's seats cost her, by her share alone. Nothing of anybody else's is read.
@@ -71,6 +90,9 @@ impl<S: Alter> Office<S> {
     ) -> Result<PersonalParts, StoreFault>
         ensures reads { ReadsOffice S.Store (λ o. shown_penalty (view_of student o))
             self.old self.new result }
+        // What is at hand is then what the file says.
+        ensures awake { HasCleanDisk (state S.Store self.new)
+            → OnOk result (IsAwake (state S.Store self.new)) }
         ensures clean { HasCleanDisk (state S.Store self.new)
             → HasCleanDisk (state S.Store self.old) }
     {
@@ -78,12 +100,28 @@ impl<S: Alter> Office<S> {
         personal_in(&rows)
     }
 
-    // What the tables hold of a candidate.
+    // All exams of a candidate, as she is shown them; none where nothing is loaded.
+    fn her_exams(&mut self, alloc: Global, student: StudentNo) -> Result<Vec<ViewRow>, StoreFault>
+        ensures reads { ReadsOffice S.Store (λ o. shown_exams (view_of student o))
+            self.old self.new (listed result) }
+        ensures awake { HasCleanDisk (state S.Store self.new)
+            → OnOk result (IsAwake (state S.Store self.new)) }
+        ensures clean { HasCleanDisk (state S.Store self.new)
+            → HasCleanDisk (state S.Store self.old) }
+    {
+        let found = self.her_rows(alloc, student)?;
+        let Some((instance, _)) = &self.kept else {
+            return Ok(Vec::new(alloc));
+        };
+        exams_from(alloc, instance, &found)
+    }
+
+    // What the tables hold of a candidate, her share apart.
     fn her_rows(&mut self, alloc: Global, student: StudentNo) -> Result<HerRows, Failed>
         ensures rows { HasCleanDisk (state S.Store self.new) → (office : OfficeState)
             → IsKept (state S.Store self.new).now office
             → IfOk result (λ found. AreHerRows office student found.enrols.items
-            found.places.items found.seats.items found.shares.items) }
+            found.places.items found.seats.items) }
         ensures still { HasCleanDisk (state S.Store self.new)
             → IsStill (state S.Store self.old) (state S.Store self.new) }
         ensures awake { HasCleanDisk (state S.Store self.new)
@@ -94,12 +132,10 @@ impl<S: Alter> Office<S> {
         let enrols = self.her_enrols(alloc, student)?;
         let places = self.her_places(alloc, student)?;
         let seats = self.her_seats(alloc, student)?;
-        let shares = self.her_shares(alloc, student)?;
         Ok(HerRows {
             enrols,
             places,
             seats,
-            shares,
         })
     }
 
@@ -175,32 +211,34 @@ impl<S: Alter> Office<S> {
     }
 }
 
-// The view where there is no session.
-fn empty_view(alloc: Global, student: StudentNo) -> Result<CandidateView, StoreFault>
-    ensures { Tells (shown_to student no_view) result }
-{
-    let personal = personal_in(&[])?;
-    Ok(CandidateView::new(student, Vec::new(alloc), personal))
-}
-
-// What these rows show of the session at hand.
-fn view_from(
+// The exams that these rows show of the session at hand, whoever's they are.
+fn exams_from(
     alloc: Global,
     instance: &Instance,
-    student: StudentNo,
     found: &HerRows,
-) -> Result<CandidateView, StoreFault>
-    ensures told { (r : Records) → AreRecords r → r.session ≡ instance.now
-        → AreHerRows (Some r) student found.now.enrols.items found.now.places.items
-        found.now.seats.items found.now.shares.items
-        → Tells (shown_to student (view_of student (Some r))) result }
+) -> Result<Vec<ViewRow>, StoreFault>
+    ensures told { (s : ℕ) (r : Records) → AreRecords r → r.session ≡ instance.now
+        → AreHerRows (Some r) s found.now.enrols.items found.now.places.items
+        found.now.seats.items
+        → Tells (shown_exams (view_of s (Some r))) (listed result) }
 {
     let enrolled = exams_of(alloc, &found.enrols)?;
     let places = places_of(alloc, &found.places)?;
     let seats = own_seats(alloc, &found.seats)?;
     let rows = view_rows(alloc, instance, &enrolled, &places, &seats)?;
-    let personal = personal_in(&found.shares)?;
-    Ok(CandidateView::new(student, rows, personal))
+    Ok(rows)
+}
+
+// The row of this exam, if there is one.
+fn row_of(rows: &[ViewRow], exam: ExamNo) -> Option<ViewRow>
+    ensures { result ≡ find (λ row. row.exam == exam) rows.now }
+{
+    for row in rows {
+        if row.exam == exam {
+            return Some(*row);
+        }
+    }
+    None
 }
 
 // The exams of these rows.

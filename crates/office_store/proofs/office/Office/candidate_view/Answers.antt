@@ -1,22 +1,11 @@
-use Rattle.office_model.specs.Shown.{shown_to}
-use Rattle.office_model.specs.Views.{view_of}
-use Rattle.office_store.proofs.CommandLemmas.{tells}
-use Rattle.office_store.proofs.ViewLemmas.{nothing_told, view_told}
+use Rattle.std.proofs.Common.{◌∙◌}
 use Rattle.office_store.proofs.office.Office.candidate_view.Goals as goal
 
-pub returns-in_default-clause-reads : goal.returns-in_default-clause-reads
-returns-in_default-clause-reads g c =
-    tells g.S.Store c.args.self.now c.her_rows.new.self c.self.inside.conn c.self.inside.kept
-    c.self.view_is c.self.invariant.1 c.in_ok-found.ensures.awake c.in_ok-found.ensures.still
-    (λ o. shown_to c.args.student (view_of c.args.student o)) c.empty_view.result
-    (λ k o kept is. nothing_told o c.self.inside.kept c.in_default.is is c.args.student
-    c.empty_view.result c.empty_view.ensures)
-
 pub returns-clause-reads : goal.returns-clause-reads
-returns-clause-reads g c =
-    tells g.S.Store c.args.self.now c.her_rows.new.self c.self.inside.conn c.self.inside.kept
-    c.self.view_is c.self.invariant.1 c.in_ok-found.ensures.awake c.in_ok-found.ensures.still
-    (λ o. shown_to c.args.student (view_of c.args.student o)) c.view_from.result
-    (λ k o kept is. view_told o c.in-Some.instance c.in-Some.field-0-1 c.self.inside.kept
-    c.in-Some.is kept.office is c.args.student _ _ _ _ (c.in_ok-found.ensures.rows k o kept)
-    c.view_from.result c.view_from.ensures.told)
+returns-clause-reads g c clean o now =
+    let exams = c.in_ok-exams.ensures.reads (c.candidate_penalty.ensures.clean clean) o now in
+    let personal = c.in_ok-personal.ensures.reads clean o exams.1 in (
+      c.new.ensures
+          ∙ (λ i. record { student = c.args.student; exams = exams.0 i; personal = personal.0 i }),
+      personal.1,
+    )
