@@ -11,8 +11,8 @@ returns-in-Some-clause-performs g c = λ clean office now.
     c.in_ok-found.found _ (c.in_ok-found.ensures.shows clean office now)
     (ap exam_answer (sym c.in-Some.is))
 
-pub returns-clause-performs : goal.returns-clause-performs
-returns-clause-performs g c = λ clean office now.
+pub returns-in-None-clause-performs : goal.returns-in-None-clause-performs
+returns-in-None-clause-performs g c = λ clean office now.
     her_exam_told c.args.caller c.args.exam office (Now (state g.S.Store c.her_exam.new.office))
     c.in_ok-found.found _ (c.in_ok-found.ensures.shows clean office now)
     (ap exam_answer (sym c.in-None.is))
