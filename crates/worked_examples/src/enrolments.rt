@@ -128,6 +128,18 @@ fn a_pair_that_is_taken_out_leaves_the_others(rt: HostRuntime) -> Result<(), Fai
 }
 
 #[test]
+fn an_exam_takes_all_its_students_at_once(rt: HostRuntime) -> Result<(), Fail> {
+    let full = three_exams(&rt, rt.alloc())?;
+    let mut enrolments = Enrolments::new(rt.alloc(), 1)?;
+    if full.exams() != 3 {
+        return Err("three exams")?;
+    }
+    enrolments.enrol(full.students(ExamNo::new(0)), ExamNo::new(0))?;
+    assert_same(&rt, enrolments.pairs(), 3, "pairs");
+    has_students(&rt, &enrolments, 0, &[1, 4, 9])
+}
+
+#[test]
 fn a_copy_goes_its_own_way(rt: HostRuntime) -> Result<(), Fail> {
     let enrolments = three_exams(&rt, rt.alloc())?;
     let mut copy = enrolments.copy(rt.alloc())?;
