@@ -223,8 +223,10 @@ fn edits_name_their_exams(rt: HostRuntime) -> Result<(), Fail> {
     ];
     for (edit, exams, wanted) in cases {
         assert_same(&rt, edit.exams(alloc)?.as_slice(), exams, edit);
-        let answer = draft.apply(alloc, edit);
-        let found = answer.map(|()| draft.parts().total());
+        let found = match draft.apply(alloc, edit) {
+            Ok(()) => Ok(draft.parts().total()),
+            Err(fault) => Err(fault),
+        };
         assert_same(&rt, found, wanted, edit);
     }
     Ok(())

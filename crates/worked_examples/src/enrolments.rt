@@ -131,10 +131,14 @@ fn a_pair_that_is_taken_out_leaves_the_others(rt: HostRuntime) -> Result<(), Fai
 fn an_exam_takes_all_its_students_at_once(rt: HostRuntime) -> Result<(), Fail> {
     let full = three_exams(&rt, rt.alloc())?;
     let mut enrolments = Enrolments::new(rt.alloc(), 1)?;
-    if full.exams() != 3 {
-        return Err("three exams")?;
+    let first = ExamNo::new(0);
+    if full.exams() != 3 || enrolments.exams() != 1 {
+        return Err("other exams")?;
     }
-    enrolments.enrol(full.students(ExamNo::new(0)), ExamNo::new(0))?;
+    if !enrolments.students(first).is_empty() {
+        return Err("a student")?;
+    }
+    enrolments.enrol(full.students(first), first)?;
     assert_same(&rt, enrolments.pairs(), 3, "pairs");
     has_students(&rt, &enrolments, 0, &[1, 4, 9])
 }

@@ -8,11 +8,8 @@ use crate::given::{
     small, student,
 };
 use exam_model::{Enrolments, ExamNo, Instance, PeriodNo, RoomNo, StudentNo, Timetable};
-use exam_publish::{
-    PublishFault, RoomShare, SeatRow, Shares, changed, in_order, is_before, permit, seats, shares,
-    tell_numbers,
-};
-use exam_score::{PersonalParts, score};
+use exam_publish::{PublishFault, RoomShare, SeatRow, Shares, changed, permit, seats, shares};
+use exam_score::score;
 use office_reports::rooms_report;
 use std::alloc::Global;
 use std::process::Abort;
@@ -55,25 +52,18 @@ fn published(
     Ok(seats(alloc, instance, enrolments, timetable, old)?)
 }
 
-// A row of exam, student, period, room and seat.
-fn row(numbers: (u32, u32, u32, u32, u32)) -> Result<SeatRow, Fail> {
-    let (exam, number, period, room, seat) = numbers;
-    Ok(SeatRow {
-        student: student(number)?,
-        exam: ExamNo::new(exam),
-        period: PeriodNo::new(period),
-        room: RoomNo::new(room),
-        seat,
-    })
-}
-
 // Rows of exam, student, period, room and seat.
 fn rows(alloc: Global, numbers: &[(u32, u32, u32, u32, u32)]) -> Result<Vec<SeatRow>, Fail> {
     let mut rows = Vec::new(alloc);
-    for numbers in numbers {
-        rows.push(row(*numbers)?)?;
+    for (exam, number, period, room, seat) in numbers {
+        rows.push(SeatRow {
+            student: student(*number)?,
+            exam: ExamNo::new(*exam),
+            period: PeriodNo::new(*period),
+            room: RoomNo::new(*room),
+            seat: *seat,
+        })?;
     }
-    tell_numbers(&rows);
     Ok(rows)
 }
 
@@ -123,51 +113,6 @@ fn two_exams_in_one_room(rt: HostRuntime) -> Result<(), Fail> {
         (3, 1, 3, 1, 2),
     ];
     has_rows(&rt, rt.alloc(), &ONE_ROOM, &wanted)
-}
-
-#[test]
-fn rows_go_by_exam_and_then_by_student(rt: HostRuntime) -> Result<(), Fail> {
-    // the exams and students of two rows, and whether the first is before the second
-    let cases = [
-        ((0, 2), (1, 1), true),
-        ((1, 1), (0, 2), false),
-        ((1, 2), (1, 3), true),
-        ((1, 3), (1, 2), false),
-        ((1, 2), (1, 2), false),
-    ];
-    for (one, other, wanted) in cases {
-        // the place and the seat of the first are greater
-        let (first, second) = (
-            row((one.0, one.1, 3, 1, 2))?,
-            row((other.0, other.1, 0, 0, 1))?,
-        );
-        assert_same(&rt, is_before(&first, &second), wanted, (one, other));
-    }
-    Ok(())
-}
-
-// Students in any order.
-fn students(alloc: Global, numbers: &[u32]) -> Result<Vec<StudentNo>, Fail> {
-    let mut students = Vec::new(alloc);
-    for number in numbers {
-        students.push(student(*number)?)?;
-    }
-    Ok(students)
-}
-
-#[test]
-fn students_in_order_stand_once(rt: HostRuntime) -> Result<(), Fail> {
-    let cases: [(&[u32], &[u32]); 3] = [
-        (&[3, 1, 3, 2, 1], &[1, 2, 3]),
-        (&[7, 7], &[7]),
-        (&[], &[]),
-    ];
-    for (numbers, wanted) in cases {
-        let found = in_order(students(rt.alloc(), numbers)?);
-        let wanted = students(rt.alloc(), wanted)?;
-        assert_same(&rt, found.as_slice(), wanted.as_slice(), numbers);
-    }
-    Ok(())
 }
 
 // The total of a timetable.
@@ -283,38 +228,6 @@ fn worked_shares(rt: HostRuntime) -> Result<(), Fail> {
     assert_same(&rt, shares.rooms(), rooms.as_slice(), "rooms");
     let parts = shares.parts().ok_or("a penalty of 2^62")?;
     assert_same(&rt, numbers(&parts), [7, 5, 3, 0, 0, 15, 7], "parts");
-    Ok(())
-}
-
-// Shares of a student, of one exam, of one period and of one room.
-fn shares_of(alloc: Global, row: u64, front: u64, period: u64) -> Result<Shares, Fail> {
-    let personal = PersonalParts::new(row, 5, 1).ok_or("a penalty of 2^62")?;
-    let room = RoomShare {
-        penalty: 7,
-        mixed: 10,
-    };
-    let students = vec![in alloc; (student(1)?, personal)]?;
-    let exams = vec![in alloc; front]?;
-    let periods = vec![in alloc; period]?;
-    let rooms = vec![in alloc; room]?;
-    Ok(Shares::of(students, exams, periods, rooms))
-}
-
-// Day 5, spread 1, mixed 10 and room 7 are 23 together.
-#[test]
-fn shares_make_a_penalty_below_two_to_the_62(rt: HostRuntime) -> Result<(), Fail> {
-    let rest = (1u64 << 62) - 23;
-    let cases = [
-        ((7, 4, 15), Some([7, 5, 1, 10, 4, 15, 7])),
-        ((0, rest - 1, 0), Some([0, 5, 1, 10, rest - 1, 0, 7])),
-        ((0, rest - 1, 1), None),
-        ((0, u64::MAX, 0), None),
-    ];
-    for ((row, front, period), wanted) in cases {
-        let shares = shares_of(rt.alloc(), row, front, period)?;
-        let found = shares.parts().map(|parts| numbers(&parts));
-        assert_same(&rt, found, wanted, (row, front, period));
-    }
     Ok(())
 }
 
