@@ -1,6 +1,6 @@
 // Checks over devices that fail or are interrupted.
 use office_check::{CheckFault, check_run};
-use office_files::{FaultKind, FileFault, InputFault, instance_text};
+use office_files::{FaultKind, FileFault, InputFault, instance_text, solution_text};
 use std::io::{self, ErrorKind, Read, Write};
 
 const SMALL_EXAM: &str = "[Exams:4]\n120, 1, 2\n90, 2, 3\n120, 3\n60, 1\n\
@@ -77,6 +77,10 @@ fn an_interrupted_read_is_tried_again(rt: HostRuntime) {
     let answer = instance_text(rt.alloc(), &mut once);
     let text = answer.as_ref().map(Vec::as_slice);
     assert_eq!(rt; text, Ok(SMALL_EXAM.as_bytes()));
+    let mut once = small_after(1, SMALL_SOLUTION);
+    let answer = solution_text(rt.alloc(), &mut once);
+    let text = answer.as_ref().map(Vec::as_slice);
+    assert_eq!(rt; text, Ok(SMALL_SOLUTION.as_bytes()));
 }
 
 // How many reads a reader has.

@@ -203,6 +203,35 @@ fn swap(rt: HostRuntime) -> Result<(), Fail> {
     Ok(())
 }
 
+// Exam 1 at (1, 0) is two in a row and spread 1 for student 2, and at (2, 0) two in a day, spread 1
+// and the period's 10.
+#[test]
+fn edits_name_their_exams(rt: HostRuntime) -> Result<(), Fail> {
+    let alloc = rt.alloc();
+    let instance = session(alloc)?;
+    let enrolments = enrolled(alloc, &PAIRS)?;
+    let mut draft = empty(alloc, &instance, &enrolments)?;
+    let (zero, one) = (ExamNo::new(0), ExamNo::new(1));
+    let after = Err(broken(BreachRule::After, 1, 0));
+    // an edit, its exams, and the total after it or why it is refused
+    let cases: [(Edit, &[ExamNo], Result<u64, EditFault>); 5] = [
+        (Edit::Place(zero, place(0, 0)), &[zero], Ok(0)),
+        (Edit::Place(one, place(1, 0)), &[one], Ok(8)),
+        (Edit::Swap(zero, one), &[zero, one], after),
+        (Edit::Move(one, place(2, 0)), &[one], Ok(16)),
+        (Edit::Clear(one), &[one], Ok(0)),
+    ];
+    for (edit, exams, wanted) in cases {
+        assert_same(&rt, edit.exams(alloc)?.as_slice(), exams, edit);
+        let found = match draft.apply(alloc, edit) {
+            Ok(()) => Ok(draft.parts().total()),
+            Err(fault) => Err(fault),
+        };
+        assert_same(&rt, found, wanted, edit);
+    }
+    Ok(())
+}
+
 #[test]
 fn publish_twice(rt: HostRuntime) -> Result<(), Fail> {
     let instance = session(rt.alloc())?;

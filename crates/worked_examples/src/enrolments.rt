@@ -128,6 +128,22 @@ fn a_pair_that_is_taken_out_leaves_the_others(rt: HostRuntime) -> Result<(), Fai
 }
 
 #[test]
+fn an_exam_takes_all_its_students_at_once(rt: HostRuntime) -> Result<(), Fail> {
+    let full = three_exams(&rt, rt.alloc())?;
+    let mut enrolments = Enrolments::new(rt.alloc(), 1)?;
+    let first = ExamNo::new(0);
+    if full.exams() != 3 || enrolments.exams() != 1 {
+        return Err("other exams")?;
+    }
+    if !enrolments.students(first).is_empty() {
+        return Err("a student")?;
+    }
+    enrolments.enrol(full.students(first), first)?;
+    assert_same(&rt, enrolments.pairs(), 3, "pairs");
+    has_students(&rt, &enrolments, 0, &[1, 4, 9])
+}
+
+#[test]
 fn a_copy_goes_its_own_way(rt: HostRuntime) -> Result<(), Fail> {
     let enrolments = three_exams(&rt, rt.alloc())?;
     let mut copy = enrolments.copy(rt.alloc())?;

@@ -1,6 +1,11 @@
-// Files that are written, and the fields of a text.
-use crate::given::{assert_same, placed};
-use office_files::{FaultKind, FileFault, Tokens, read_instance, write_instance, write_solution};
+// Files that are read and written, and the fields of a text.
+use crate::given::{APART, assert_same, place, placed};
+use exam_model::ExamNo;
+use exam_terms::{are_digits, trim_end, trim_start, trimmed};
+use office_files::{
+    FaultKind, FileFault, Tokens, number, read_instance, read_solution, same_word, write_instance,
+    write_solution,
+};
 use std::alloc::{AllocError, Global};
 use std::test::Fail;
 
@@ -76,4 +81,102 @@ fn fields_without_blanks(rt: HostRuntime) -> Result<(), Fail> {
         assert_same(&rt, shown(rt.alloc(), source)?.as_slice(), fields, source);
     }
     Ok(())
+}
+
+#[test]
+fn a_solution_gives_each_exam_its_place(rt: HostRuntime) -> Result<(), Fail> {
+    let (instance, _) = read_instance(rt.alloc(), SMALL.as_bytes())?;
+    let timetable = read_solution(rt.alloc(), b"0, 0\n1, 0\n3, 1\n2, 0", &instance)?;
+    assert_same(&rt, timetable.exams(), 4, "exams");
+    for (exam, at) in APART.iter().enumerate() {
+        let exam = ExamNo::new(exam as u32);
+        if exam.get() >= timetable.exams() {
+            return Err("no such exam")?;
+        }
+        let wanted = at.map(|(period, room)| place(period, room));
+        assert_same(&rt, timetable.get(exam), wanted, exam);
+    }
+    Ok(())
+}
+
+#[test]
+fn solution_faults(rt: HostRuntime) -> Result<(), Fail> {
+    let (instance, _) = read_instance(rt.alloc(), SMALL.as_bytes())?;
+    let cases = [
+        (b"0, 0\n1, 0\n3, 1".as_slice(), 4, FaultKind::CountMismatch),
+        (b"0, 0\n1, 0\n3, 1\n2, 0\n0, 0", 5, FaultKind::CountMismatch),
+        (b"0, 0\n4, 0\n3, 1\n2, 0", 2, FaultKind::OutOfRange),
+        (b"0, 0\n-1, -1\n3, 1\n2, 0", 2, FaultKind::BadNumber),
+        (b"0, 0\n0\n3, 1\n2, 0", 2, FaultKind::BadNumber),
+        (b"0, 0\n0, 0, 0\n3, 1\n2, 0", 2, FaultKind::StrayText),
+    ];
+    for (text, line, what) in cases {
+        let found = read_solution(rt.alloc(), text, &instance).err();
+        assert_same(&rt, found, Some(FileFault { line, what }), text);
+    }
+    Ok(())
+}
+
+#[test]
+fn only_out_of_memory_is_of_no_line(rt: HostRuntime) {
+    // what is wrong on line 3, and the line of the fault
+    for (what, line) in [(FaultKind::BadWord, 3), (FaultKind::NoMemory, 0)] {
+        let wanted = FileFault { line, what };
+        assert_same(&rt, FileFault::at(3, what), wanted, what);
+    }
+}
+
+#[test]
+fn blanks_are_spaces_and_tabs(rt: HostRuntime) {
+    // a text, and what is left of it without the blanks at its start, at its end, at both
+    let cases = [
+        (
+            b" \ta b\t ".as_slice(),
+            b"a b\t ".as_slice(),
+            b" \ta b".as_slice(),
+            b"a b".as_slice(),
+        ),
+        (b"7", b"7", b"7", b"7"),
+        (b"\r \n", b"\r \n", b"\r \n", b"\r \n"),
+        (b"\t ", b"", b"", b""),
+        (b"", b"", b"", b""),
+    ];
+    for (text, start, end, both) in cases {
+        assert_same(&rt, trim_start(text), start, text);
+        assert_same(&rt, trim_end(text), end, text);
+        assert_same(&rt, trimmed(text), both, text);
+    }
+}
+
+#[test]
+fn a_number_is_digits_within_a_limit(rt: HostRuntime) {
+    // a text, whether it has digits alone, and the number of at most 1,440 that it says
+    let cases = [
+        (b"0".as_slice(), true, Ok(0)),
+        (b"0001440", true, Ok(1_440)),
+        (b"1441", true, Err(FaultKind::OutOfRange)),
+        (b"18446744073709551617", true, Err(FaultKind::OutOfRange)),
+        (b"", true, Err(FaultKind::BadNumber)),
+        (b"-1", false, Err(FaultKind::BadNumber)),
+        (b"1 ", false, Err(FaultKind::BadNumber)),
+        (b"18446744073709551617x", false, Err(FaultKind::BadNumber)),
+    ];
+    for (text, digits, wanted) in cases {
+        assert_same(&rt, are_digits(text), digits, text);
+        assert_same(&rt, number(text, 1_440), wanted, text);
+    }
+}
+
+#[test]
+fn words_are_the_same_in_small_and_capital_letters(rt: HostRuntime) {
+    let cases = [
+        (b"exclusion".as_slice(), true),
+        (b"Exclusion", true),
+        (b"EXCLUSION ", false),
+        (b"EXCLUSIO", false),
+        (b"", false),
+    ];
+    for (text, wanted) in cases {
+        assert_same(&rt, same_word(text, b"EXCLUSION"), wanted, text);
+    }
 }

@@ -18,6 +18,8 @@ mod model;
 #[cfg(test)]
 mod publication;
 #[cfg(test)]
+mod rows;
+#[cfg(test)]
 mod rules;
 #[cfg(test)]
 mod score;

@@ -1,8 +1,8 @@
 // Numbers, instances and timetables.
 use crate::given::{WEIGHTS, assert_same, date, period, place, room, student};
 use exam_model::{
-    DeptNo, Exam, ExamNo, Instance, ModelFault, PeriodNo, PeriodRule, RoomNo, RoomRule, StudentNo,
-    Timetable,
+    DeptNo, Exam, ExamNo, Instance, ModelFault, PeriodNo, PeriodRule, Place, RoomNo, RoomRule,
+    StudentNo, Timetable,
 };
 use std::alloc::Global;
 use std::process::Abort;
@@ -87,6 +87,12 @@ fn an_instance_gives_its_parts(rt: HostRuntime) -> Result<(), Fail> {
     assert_same(&rt, instance.room(RoomNo::new(1)), rooms[1], "room");
     assert_same(&rt, instance.period_rules(), after.as_slice(), "rules");
     assert_same(&rt, instance.room_rules(), alone.as_slice(), "alone");
+    // two periods of two rooms come before the last place
+    let last = Place {
+        period: PeriodNo::new(2),
+        room: RoomNo::new(1),
+    };
+    assert_same(&rt, instance.slot_of(last), 5, "last place");
     Ok(())
 }
 

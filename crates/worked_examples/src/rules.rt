@@ -5,6 +5,7 @@ use crate::given::{PAIRS, Places, WEIGHTS, after, assert_same, enrolled, fits, p
 use BreachRule::{After, Capacity, Clash, Coincidence, Duration, Exclusion, RoomExclusive};
 use exam_model::{ExamNo, Instance, PeriodRule, RoomRule};
 use exam_rules::{Breach, BreachRule, breaches, first_breach_of};
+use office_reports::{rule_name, violation_report};
 use std::alloc::Global;
 use std::process::Abort;
 use std::test::Fail;
@@ -125,6 +126,39 @@ fn first_breach_by_rule(rt: HostRuntime) -> Result<(), Fail> {
     for (places, exam, wanted) in cases {
         let found = first_judged(rt.alloc(), &instance, &places, &[ExamNo::new(exam)])?;
         assert_same(&rt, found, wanted, (places, exam));
+    }
+    Ok(())
+}
+
+#[test]
+fn a_rule_has_a_name(rt: HostRuntime) {
+    let cases = [
+        (Duration, "Duration"),
+        (Clash, "Clash"),
+        (Capacity, "Capacity"),
+        (After, "After"),
+        (Coincidence, "Coincidence"),
+        (Exclusion, "Exclusion"),
+        (RoomExclusive, "RoomExclusive"),
+    ];
+    for (rule, wanted) in cases {
+        assert_same(&rt, rule_name(rule), wanted, rule);
+    }
+}
+
+#[test]
+fn capacity_names_every_exam(rt: HostRuntime) -> Result<(), Fail> {
+    let four = [
+        breach(Clash, 0, 1),
+        breach(Capacity, 0, 0),
+        breach(Capacity, 1, 1),
+        breach(After, 1, 0),
+    ];
+    let lines = "breaches 4\nClash 0 1\nCapacity 0 0\nCapacity 1 1\nAfter 1 0\n";
+    let cases: [(&[Breach], &str); 2] = [(&four, lines), (&[], "breaches 0\n")];
+    for (broken, wanted) in cases {
+        let text = violation_report(rt.alloc(), broken)?;
+        assert_same(&rt, text.as_str(), wanted, broken);
     }
     Ok(())
 }

@@ -1,11 +1,14 @@
 // What timetables cost.
 use crate::given::{
-    APART, PAIRS, WEIGHTS, after, assert_same, enrolled, fits, numbers, placed, small,
+    APART, ONE_ROOM, PAIRS, WEIGHTS, after, assert_same, enrolled, fits, numbers, place, placed,
+    small, student,
 };
-use exam_model::{Enrolments, ExamNo, Instance, PairCost, PeriodNo, Timetable};
+use exam_model::{Enrolments, ExamNo, Instance, PairCost, PeriodNo, Place, Timetable};
 use exam_score::{
-    DayCost, Parts, PersonalParts, RowCost, SpreadCost, difference, personal, regrouping, score,
+    DayCost, EditFold, Parts, PersonalParts, RowCost, SpreadCost, difference, front_share,
+    personal, regrouping, score, sizes_of, stays_of,
 };
+use office_reports::penalty_report;
 use std::alloc::Global;
 use std::test::Fail;
 
@@ -61,6 +64,88 @@ fn swap(rt: HostRuntime) -> Result<(), Fail> {
     assert_same(&rt, before.total(), 37, "before");
     assert_same(&rt, numbers(&parts), [0, 5, 3, 0, 0, 15, 7], "parts");
     assert_same(&rt, parts.total(), 30, "after");
+    Ok(())
+}
+
+// The small session's pairs, but that student 1 sits exam 3 alone.
+const ONE_EXAM: [(u32, u32); 5] = [(2, 0), (2, 1), (3, 1), (3, 2), (1, 3)];
+
+// What the move of exam 3 makes of a penalty, by the one pair of its one student.
+fn folded(
+    alloc: Global,
+    instance: &Instance,
+    old: &Timetable,
+    new: &Timetable,
+    before: Parts,
+) -> Result<Parts, Fail> {
+    let sizes = sizes_of(alloc, &enrolled(alloc, &ONE_EXAM)?)?;
+    if sizes.len() != instance.exams() as usize {
+        return Err("other exams")?;
+    }
+    let (one, three) = (student(1)?, ExamNo::new(3));
+    let edited = [three];
+    let mut fold = EditFold::new(alloc, instance, old, new, &edited)?;
+    fold.row(one, three)?;
+    Ok(fold.finish(&sizes, before).ok_or("a penalty of 2^62")?)
+}
+
+// The solution costs the students row 7 and spread 2, since student 1 has no two exams. In one room
+// with exam 2, exam 3 costs a mixed duration, and 5 and 7 in the place of 10 and 0.
+#[test]
+fn edit_by_pairs(rt: HostRuntime) -> Result<(), Fail> {
+    let instance = session(rt.alloc())?;
+    let (old, new) = (placed(rt.alloc(), &APART)?, placed(rt.alloc(), &ONE_ROOM)?);
+    let before = Parts::new(7, 0, 2, 0, 0, 15, 7).ok_or("a penalty of 2^62")?;
+    let parts = folded(rt.alloc(), &instance, &old, &new, before)?;
+    assert_same(&rt, numbers(&parts), [7, 0, 2, 10, 0, 10, 14], "parts");
+    Ok(())
+}
+
+// What an exam of so many students makes of the front load at a place.
+fn front_at(instance: &Instance, sizes: &[u32], exam: u32, at: Option<Place>) -> Result<u64, Fail> {
+    if sizes.len() > 2_000 || exam as usize >= sizes.len() {
+        return Err("no such exam")?;
+    }
+    Ok(front_share(instance, sizes, ExamNo::new(exam), at))
+}
+
+// Of two exams of one size the smaller number is the largest, and the last periods are 2 and 3.
+#[test]
+fn front_load_by_exams(rt: HostRuntime) -> Result<(), Fail> {
+    let instance = session(rt.alloc())?;
+    let sizes = sizes_of(rt.alloc(), &enrolled(rt.alloc(), &PAIRS)?)?;
+    assert_same(&rt, sizes.as_slice(), [2, 2, 1, 1].as_slice(), "sizes");
+    let cases = [
+        (0, Some(place(3, 0)), 4),
+        (0, Some(place(2, 1)), 4),
+        (0, Some(place(1, 0)), 0),
+        (0, None, 0),
+        (1, Some(place(3, 0)), 0),
+        (3, Some(place(3, 0)), 0),
+    ];
+    for (exam, at, wanted) in cases {
+        let found = front_at(&instance, &sizes, exam, at)?;
+        assert_same(&rt, found, wanted, (exam, at));
+    }
+    Ok(())
+}
+
+#[test]
+fn stays_of_placed_exams(rt: HostRuntime) -> Result<(), Fail> {
+    let instance = session(rt.alloc())?;
+    let enrolments = enrolled(rt.alloc(), &PAIRS)?;
+    let timetable = placed(rt.alloc(), &[APART[0], None, APART[2], APART[3]])?;
+    if !fits(&instance, &enrolments, &timetable) {
+        return Err("a place that doesn't exist")?;
+    }
+    let stays = stays_of(rt.alloc(), &instance, &timetable)?;
+    // the period, the room and the minutes of exams 0, 2 and 3
+    let wanted = [(0, 0, 120), (3, 1, 120), (2, 0, 60)];
+    assert_same(&rt, stays.len(), wanted.len(), "stays");
+    for (stay, wanted) in stays.iter().zip(&wanted) {
+        let found = (stay.period.get(), stay.room.get(), stay.minutes);
+        assert_same(&rt, found, *wanted, "stay");
+    }
     Ok(())
 }
 
@@ -129,4 +214,14 @@ fn parts_end_below_two_to_the_62(rt: HostRuntime) {
         let whole = Parts::new(row, 0, 0, 0, 0, 0, room).is_some();
         assert_same(&rt, (personal, whole), (wanted, wanted), (row, room));
     }
+}
+
+#[test]
+fn a_report_has_a_line_for_each_part(rt: HostRuntime) -> Result<(), Fail> {
+    let parts = Parts::new(1, 2, 3, 4, 5, 6, 7).ok_or("a penalty of 2^62")?;
+    let text = penalty_report(rt.alloc(), parts)?;
+    let wanted = "two in a row 1\ntwo in a day 2\nperiod spread 3\nmixed durations 4\n\
+        front load 5\nperiod penalty 6\nroom penalty 7\ntotal 28\n";
+    assert_same(&rt, text.as_str(), wanted, "report");
+    Ok(())
 }
