@@ -7,8 +7,8 @@ returns-in-Ok-run_task-clause-done g c = λ zero valid.
     (c.in-Ok.task, c.in-Ok.ensures.task, c.in-Ok-run_task.ensures.done zero)
 
 -- or its fault is told
-pub returns-in-Err-run_task-clause-told : goal.returns-in-Err-run_task-clause-told
-returns-in-Err-run_task-clause-told g c = λ one told. inl (
+pub returns-clause-told : goal.returns-clause-told
+returns-clause-told g c = λ one told. inl (
   c.in-Ok.task,
   c.in-Ok.ensures.task,
   record {
