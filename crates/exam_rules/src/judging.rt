@@ -8,8 +8,9 @@ ghost use Rattle.exam_rules.specs.Groups.{AreGroups};
 ghost use Rattle.exam_rules.specs.Breaches.{is_breach, breaches_of, pairs_breaking};
 
 use crate::breach::{Breach, BreachRule, rules};
+use crate::exam_list::ExamList;
 use crate::exam_pair::ExamPair;
-use crate::groups::{Group, by_period};
+use crate::groups::by_period;
 use crate::line_rules::{after_pairs, coincidence_pairs, exclusion_pairs};
 use crate::period_rules::{clash_pairs, duration_pairs};
 use crate::room_rules::{capacity_pairs, exclusive_pairs};
@@ -51,7 +52,7 @@ fn pairs_of(
     alloc: Global,
     rule: BreachRule,
     site: &Site,
-    groups: &[Group],
+    groups: &[ExamList],
 ) -> Result<Vec<ExamPair>, AllocError>
     requires fits { Fits site.now.instance.now site.now.enrolments.now site.now.timetable.now }
     requires grouped { AreGroups site.now.timetable.now (length site.now.instance.now.periods)

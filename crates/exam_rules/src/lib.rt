@@ -2,6 +2,7 @@
 #![tactic(auto)]
 
 mod breach;
+mod exam_list;
 mod exam_pair;
 mod first_breach;
 mod groups;
@@ -15,5 +16,6 @@ mod site;
 mod standing;
 
 pub use breach::{Breach, BreachRule};
+pub use exam_list::{ExamList, empty_lists};
 pub use first_breach::first_breach_of;
 pub use judging::breaches;

@@ -12,8 +12,8 @@ ghost use Rattle.exam_rules.specs.Places.{Fits, in_one_period, share_student};
 ghost use Rattle.exam_rules.specs.Breaches.{pairs_breaking, is_one_of};
 ghost use Rattle.exam_rules.specs.HardRules.{breaks, outlasts};
 
+use crate::exam_list::ExamList;
 use crate::exam_pair::{ExamPair, in_order, pair_if, push_some};
-use crate::groups::Group;
 use crate::marks::{Marks, has};
 use crate::site::Site;
 use crate::standing::{in_one_period, share_student};
@@ -58,7 +58,7 @@ pub(crate) fn clash_pairs(
     instance: &Instance,
     enrolments: &Enrolments,
     timetable: &Timetable,
-    groups: &[Group],
+    groups: &[ExamList],
 ) -> Result<Vec<ExamPair>, AllocError>
     requires fits { Fits instance.now enrolments.now timetable.now }
     requires grouped { AreGroups timetable.now (length instance.now.periods)

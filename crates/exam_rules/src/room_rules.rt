@@ -11,8 +11,9 @@ ghost use Rattle.exam_rules.specs.Places.{Fits, in_one_place};
 ghost use Rattle.exam_rules.specs.Breaches.{pairs_breaking, is_one_of};
 ghost use Rattle.exam_rules.specs.HardRules.{breaks, is_overfull};
 
+use crate::exam_list::ExamList;
 use crate::exam_pair::{ExamPair, in_order, pair_if, push_some};
-use crate::groups::{Group, group_of};
+use crate::groups::group_of;
 use crate::loads::{is_too_small, load_at, loads_of};
 use crate::site::Site;
 use crate::standing::in_one_place;
@@ -48,7 +49,7 @@ pub(crate) fn exclusive_pairs(
     alloc: Global,
     instance: &Instance,
     timetable: &Timetable,
-    groups: &[Group],
+    groups: &[ExamList],
 ) -> Result<Vec<ExamPair>, AllocError>
     requires fits { Suits instance.now timetable.now }
     requires grouped { AreGroups timetable.now (length instance.now.periods)

@@ -1,5 +1,5 @@
 // What a candidate is shown of the office.
-ghost use Rattle.std.specs.Prelude.{◌≡◌, ◌==◌, IfOk, Option, find, map};
+ghost use Rattle.std.specs.Prelude.{◌≡◌, ◌==◌, IfOk, Option, map};
 ghost use Rattle.std.specs.Prelude.{option_and_then, option_map};
 ghost use Rattle.std.specs.List.{list_any};
 ghost use Rattle.exam_publish.specs.Changed.{ascending};
@@ -93,18 +93,6 @@ impl CandidateView {
         ensures { result ≡ self.now.personal }
     {
         self.personal
-    }
-
-    /// The exam of this number, if it is one of hers.
-    pub fn row(&self, exam: ExamNo) -> Option<ViewRow>
-        ensures { result ≡ find (λ row. row.exam == exam) self.now.exams }
-    {
-        for row in &self.rows {
-            if row.exam == exam {
-                return Some(*row);
-            }
-        }
-        None
     }
 }
 

@@ -1,7 +1,6 @@
 //! The reports on a timetable as texts: its penalty, its breaches, and how its rooms are used.
 #![tactic(auto)]
 
-mod exam_list;
 mod reports;
 mod rooms;
 mod slots;

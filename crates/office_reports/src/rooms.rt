@@ -4,10 +4,10 @@ ghost use Rattle.exam_model.specs.Fits.{PlaceExists};
 ghost use Rattle.office_reports.specs.Rooms.{room_line, rooms_text};
 ghost use Rattle.office_reports.specs.Slots.{entry_line, entry_lines};
 
-use crate::exam_list::ExamList;
 use crate::slots::{exams_by_slot, seats_by_slot};
 use exam_model::{Instance, Timetable};
 use exam_publish::SeatRow;
+use exam_rules::ExamList;
 use exam_terms::{ExamNo, PeriodNo, Place, RoomNo};
 use std::alloc::{AllocError, Global};
 

@@ -5,9 +5,9 @@ ghost use Rattle.exam_publish.specs.Rows.{row_place};
 ghost use Rattle.office_reports.specs.Rooms.{exams_in, seats_in};
 ghost use Rattle.office_reports.specs.Slots.{IsTable};
 
-use crate::exam_list::{ExamList, empty_lists};
 use exam_model::{Instance, Timetable};
 use exam_publish::SeatRow;
+use exam_rules::{ExamList, empty_lists};
 use exam_terms::{ExamNo, Place};
 use std::alloc::{AllocError, Global};
 

@@ -4,7 +4,7 @@ ghost use Rattle.std.specs.Prelude.{◌<◌, IsTrue, All, ◌↔◌, length};
 use crate::given::{PAIRS, Places, WEIGHTS, after, assert_same, enrolled, fits, placed, small};
 use BreachRule::{After, Capacity, Clash, Coincidence, Duration, Exclusion, RoomExclusive};
 use exam_model::{ExamNo, Instance, PeriodRule, RoomRule};
-use exam_rules::{Breach, BreachRule, breaches, first_breach_of};
+use exam_rules::{Breach, BreachRule, breaches, empty_lists, first_breach_of};
 use office_reports::{rule_name, violation_report};
 use std::alloc::Global;
 use std::process::Abort;
@@ -159,6 +159,19 @@ fn capacity_names_every_exam(rt: HostRuntime) -> Result<(), Fail> {
     for (broken, wanted) in cases {
         let text = violation_report(rt.alloc(), broken)?;
         assert_same(&rt, text.as_str(), wanted, broken);
+    }
+    Ok(())
+}
+
+#[test]
+fn an_exam_goes_into_its_list(rt: HostRuntime) -> Result<(), Fail> {
+    let (one, two) = (ExamNo::new(1), ExamNo::new(2));
+    let mut lists = empty_lists(rt.alloc(), 3)?;
+    lists[1].push(two)?;
+    lists[1].push(one)?;
+    let wanted: [&[ExamNo]; 3] = [&[], &[two, one], &[]];
+    for (list, exams) in lists.iter().zip(wanted) {
+        assert_same(&rt, list.as_slice(), exams, "its exams");
     }
     Ok(())
 }

@@ -1,13 +1,13 @@
-// The exams of one room and period.
+// Lists of exams, one for each period, say, or for each room and period.
 ghost use Rattle.std.specs.Prelude.{◌≡◌, ◌++◌, ◌∷◌, [], replicate, IfOk, OnOk};
 
-use exam_terms::ExamNo;
+use exam_model::ExamNo;
 use std::alloc::{AllocError, Global};
 use std::marker::Model;
 
 /// Exams, in the order in which they came.
 #[derive(Drop)]
-pub(crate) struct ExamList {
+pub struct ExamList {
     exams: Vec<ExamNo>,
 }
 
@@ -29,14 +29,14 @@ impl ExamList {
     }
 
     /// The exams.
-    pub(crate) fn as_slice(&self) -> &[ExamNo]
+    pub fn as_slice(&self) -> &[ExamNo]
         ensures { result.now ≡ self.now }
     {
         &self.exams
     }
 
     /// Adds an exam.
-    pub(crate) fn push(&mut self, exam: ExamNo) -> Result<(), AllocError>
+    pub fn push(&mut self, exam: ExamNo) -> Result<(), AllocError>
         ensures { OnOk result (self.new ≡ self.old ++ exam ∷ []) }
     {
         self.exams.push(exam)?;
@@ -45,7 +45,7 @@ impl ExamList {
 }
 
 /// So many lists without exams.
-pub(crate) fn empty_lists(alloc: Global, count: usize) -> Result<Vec<ExamList>, AllocError>
+pub fn empty_lists(alloc: Global, count: usize) -> Result<Vec<ExamList>, AllocError>
     ensures { IfOk result (λ lists. lists.items ≡ replicate count []) }
 {
     let mut lists: Vec<ExamList> = Vec::with_capacity(alloc, count)?;
