@@ -1,8 +1,8 @@
 // Numbers, instances and timetables.
 use crate::given::{WEIGHTS, assert_same, date, period, place, room, student};
 use exam_model::{
-    DeptNo, Exam, ExamNo, Instance, ModelFault, PeriodNo, PeriodRule, Place, RoomNo, RoomRule,
-    StudentNo, Timetable,
+    DeptNo, Exam, ExamNo, Instance, ModelFault, Period, PeriodNo, PeriodRule, Place, Room, RoomNo,
+    RoomRule, StudentNo, Timetable,
 };
 use std::alloc::Global;
 use std::process::Abort;
@@ -93,6 +93,45 @@ fn an_instance_gives_its_parts(rt: HostRuntime) -> Result<(), Fail> {
         room: RoomNo::new(1),
     };
     assert_same(&rt, instance.slot_of(last), 5, "last place");
+    Ok(())
+}
+
+// The instance of these lists, once they were judged.
+fn of_judged(
+    alloc: Global,
+    exams: Vec<Exam>,
+    periods: Vec<Period>,
+    rooms: Vec<Room>,
+    rules: Vec<PeriodRule>,
+    alone: Vec<RoomRule>,
+) -> Result<Instance, ModelFault> {
+    Instance::new(alloc, &exams, &periods, &rooms, &rules, &alone, WEIGHTS)?;
+    Ok(Instance::of(exams, periods, rooms, rules, alone, WEIGHTS))
+}
+
+#[test]
+fn lists_that_were_judged_are_taken_as_they_are(rt: HostRuntime) -> Result<(), Fail> {
+    let alloc = rt.alloc();
+    let exams = Vec::from_slice(alloc, &EXAMS)?;
+    let last = period(date(2026, 6, 2), 14, 90, 5);
+    let mut periods = vec![in alloc; period(date(2026, 6, 1), 9, 120, 4); 2]?;
+    periods.push(last)?;
+    let rooms = Vec::from_slice(alloc, &[room(30, 0), room(8, 2)])?;
+    let after = PeriodRule::After(ExamNo::new(2), ExamNo::new(0));
+    let rules = vec![in alloc; after; 1]?;
+    let alone = vec![in alloc; RoomRule(ExamNo::new(1)); 1]?;
+    let instance = of_judged(alloc, exams, periods, rooms, rules, alone)?;
+    has_its_counts(&rt, &instance);
+    assert_same(&rt, instance.exam(ExamNo::new(1)), EXAMS[1], "exam");
+    assert_same(&rt, instance.period(PeriodNo::new(2)), last, "period");
+    assert_same(&rt, instance.room(RoomNo::new(1)), room(8, 2), "room");
+    assert_same(&rt, instance.period_rules(), [after].as_slice(), "rules");
+    assert_same(
+        &rt,
+        instance.room_rules(),
+        [RoomRule(ExamNo::new(1))].as_slice(),
+        "alone",
+    );
     Ok(())
 }
 
