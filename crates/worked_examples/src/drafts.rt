@@ -4,15 +4,15 @@ ghost use Rattle.std.specs.Prelude.{◌≡◌, IfOk};
 use crate::given::{PAIRS, WEIGHTS, after, assert_same, enrolled, numbers, place, small, student};
 use Step::{Clear, Move, Put, Swap};
 use exam_draft::{Draft, Edit, EditFault, judge};
-use exam_model::{Enrolments, ExamNo, Instance, PeriodRule};
-use exam_rules::{Breach, BreachRule, first_breach_of};
+use exam_model::{Enrolments, ExamNo, Instance};
+use exam_rules::{Breach, BreachRule};
 use std::alloc::Global;
 use std::process::Abort;
 use std::test::Fail;
 
 // An edit: exams, and a period and a room.
 #[derive(Clone, Copy, Debug)]
-enum Step {
+pub(crate) enum Step {
     Put(u32, (u32, u32)),
     Move(u32, (u32, u32)),
     Swap(u32, u32),
@@ -27,11 +27,11 @@ const ALL_PLACED: [(Step, u64); 4] = [
     (Put(3, (2, 0)), 37),
 ];
 
-fn broken(rule: BreachRule, exam: u32, other: u32) -> EditFault {
+pub(crate) fn broken(rule: BreachRule, exam: u32, other: u32) -> EditFault {
     EditFault::Broken(breach(rule, exam, other))
 }
 
-fn breach(rule: BreachRule, exam: u32, other: u32) -> Breach {
+pub(crate) fn breach(rule: BreachRule, exam: u32, other: u32) -> Breach {
     Breach {
         rule,
         exam: ExamNo::new(exam),
@@ -74,7 +74,7 @@ fn empty<'a>(
 }
 
 // The draft of the small instance's solution.
-fn solved<'a>(
+pub(crate) fn solved<'a>(
     alloc: Global,
     instance: &'a Instance,
     enrolments: &'a Enrolments,
@@ -95,7 +95,7 @@ fn session(alloc: Global) -> Result<Instance, Fail> {
 }
 
 // Edits of a draft, and the total after each or why it is refused.
-fn meets<R: Abort>(
+pub(crate) fn meets<R: Abort>(
     rt: &R,
     alloc: Global,
     draft: &mut Draft<'_>,
@@ -245,92 +245,4 @@ fn publish_twice(rt: HostRuntime) -> Result<(), Fail> {
     let moved = edit(rt.alloc(), &mut draft, Move(3, (3, 1)));
     assert_same(&rt, moved, Ok(44), "moved");
     Ok(())
-}
-
-// Exams 0 and 1 coincide.
-fn together() -> PeriodRule {
-    PeriodRule::Coincidence(ExamNo::new(0), ExamNo::new(1))
-}
-
-// The small session, in which exams 0 and 1 are to coincide besides.
-fn coinciding(alloc: Global) -> Result<Instance, Fail> {
-    let rules = [after(), together()];
-    Ok(small(alloc, &rules, &[], WEIGHTS)?)
-}
-
-// The small session's enrolments, without a student at an exam.
-fn enrolled_without(alloc: Global, number: u32, exam: u32) -> Result<Enrolments, Fail> {
-    let mut enrolments = enrolled(alloc, &PAIRS)?;
-    if exam >= enrolments.exams() {
-        return Err("no such exam")?;
-    }
-    if !enrolments.remove(student(number)?, ExamNo::new(exam)) {
-        return Err("no such pair")?;
-    }
-    Ok(enrolments)
-}
-
-// The solution's draft, with these enrolments in the place of its own.
-fn enrolled_anew<'a>(
-    alloc: Global,
-    instance: &'a Instance,
-    enrolments: &'a Enrolments,
-    fewer: &'a Enrolments,
-) -> Result<Draft<'a>, Fail>
-    ensures { IfOk result (λ made. (made.instance ≡ instance.now)
-        × (made.enrolments ≡ fewer.now)) }
-{
-    if fewer.exams() != instance.exams() {
-        return Err("enrolments of other exams")?;
-    }
-    match solved(alloc, instance, enrolments)?.enrol(alloc, fewer) {
-        Ok(draft) => Ok(draft),
-        Err(_) => Err("no memory")?,
-    }
-}
-
-fn total_of(alloc: Global, instance: &Instance, enrolments: &Enrolments) -> Result<u64, Fail> {
-    Ok(solved(alloc, instance, enrolments)?.parts().total())
-}
-
-// It refuses just the edits of the two exams that are to coincide.
-fn refuses_edits_of_two<R: Abort>(rt: &R, alloc: Global, draft: &mut Draft<'_>) {
-    let refused = Err(broken(BreachRule::Coincidence, 0, 1));
-    let steps = [
-        (Move(3, (3, 1)), Ok(36)),
-        (Move(0, (0, 1)), refused),
-        (Clear(0), Ok(35)),
-    ];
-    meets(rt, alloc, draft, &steps);
-}
-
-// The two still coincide where fewer are enrolled.
-fn still_coincide<R: Abort>(
-    rt: &R,
-    alloc: Global,
-    instance: &Instance,
-    enrolments: &Enrolments,
-    fewer: &Enrolments,
-) -> Result<(), Fail> {
-    let mut draft = enrolled_anew(alloc, instance, enrolments, fewer)?;
-    assert_same(rt, draft.parts().total(), 29, "fewer enrolments");
-    if instance.exams() != 4 {
-        return Err("four exams")?;
-    }
-    let one = [ExamNo::new(1)];
-    let found = first_breach_of(alloc, instance, fewer, draft.timetable(), &one)?;
-    let stands = Some(breach(BreachRule::Coincidence, 0, 1));
-    assert_same(rt, found, stands, "it stands");
-    refuses_edits_of_two(rt, alloc, &mut draft);
-    Ok(())
-}
-
-#[test]
-fn coincidence_by_enrolment(rt: HostRuntime) -> Result<(), Fail> {
-    let instance = coinciding(rt.alloc())?;
-    let enrolments = enrolled(rt.alloc(), &PAIRS)?;
-    let solved = total_of(rt.alloc(), &instance, &enrolments)?;
-    assert_same(&rt, solved, 37, "solved");
-    let fewer = enrolled_without(rt.alloc(), 2, 1)?;
-    still_coincide(&rt, rt.alloc(), &instance, &enrolments, &fewer)
 }
