@@ -1,5 +1,5 @@
 // Lists of exams, one for each period, say, or for each room and period.
-ghost use Rattle.std.specs.Prelude.{◌≡◌, ◌++◌, ◌∷◌, [], replicate, IfOk, OnOk};
+ghost use Rattle.std.specs.Prelude.{◌≡◌, ◌++◌, ◌∷◌, [], replicate, IfOk, OnErr, OnOk};
 
 use exam_model::ExamNo;
 use std::alloc::{AllocError, Global};
@@ -37,7 +37,8 @@ impl ExamList {
 
     /// Adds an exam.
     pub fn push(&mut self, exam: ExamNo) -> Result<(), AllocError>
-        ensures { OnOk result (self.new ≡ self.old ++ exam ∷ []) }
+        ensures added { OnOk result (self.new ≡ self.old ++ exam ∷ []) }
+        ensures err { OnErr result (self.new ≡ self.old) }
     {
         self.exams.push(exam)?;
         Ok(())

@@ -55,6 +55,10 @@ fn a_batch_is_read_record_by_record(rt: HostRuntime) -> Result<(), Fail> {
             b"\"student\",exam,action\n\"1\",1,\"add\"\n1,\" 1\",add\n9,2,drop",
             &twice,
         ),
+        (
+            b"\xef\xbb\xbfstudent,exam,action,\n1,1,add,\n1,1,add,\"\"\n9,2,drop",
+            &twice,
+        ),
         (b"student,exam,action", &none),
     ];
     for (text, wanted) in cases {
@@ -96,6 +100,14 @@ fn the_first_fault_of_a_batch_is_answered(rt: HostRuntime) -> Result<(), Fail> {
             3,
             FaultKind::BadWord,
         ),
+        (b"student,exam,action\n \n1,1,add", 2, FaultKind::BadNumber),
+        (b"student,exam,action\n\"\"", 2, FaultKind::BadNumber),
+        (
+            b"student,exam,action\n\"1\n\",1,add",
+            2,
+            FaultKind::BadNumber,
+        ),
+        (b"\xef\xbb\xbf", 1, FaultKind::BadHeader),
     ];
     for (text, line, what) in cases {
         let found = read_batch(rt.alloc(), text).err();

@@ -160,9 +160,13 @@ fn seats_kept(rt: HostRuntime) -> Result<(), Fail> {
     let moved = changed(alloc, &first, &out)?;
     assert_same(&rt, moved.as_slice(), [student(3)?].as_slice(), "changed");
     let afresh = rows_at(alloc, &MOVED_OUT)?;
+    let mut numbered = kept;
+    numbered[5] = (3, 1, 3, 1, 1);
+    let wanted = rows(alloc, &numbered)?;
+    assert_same(&rt, afresh.as_slice(), wanted.as_slice(), "numbered afresh");
     let moved = changed(alloc, &first, &afresh)?;
     let both = [student(1)?, student(3)?];
-    assert_same(&rt, moved.as_slice(), both.as_slice(), "numbered afresh");
+    assert_same(&rt, moved.as_slice(), both.as_slice(), "both changed");
     Ok(())
 }
 

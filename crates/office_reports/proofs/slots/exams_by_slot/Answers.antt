@@ -29,7 +29,7 @@ exams-preserved c =
           (omega (arith, w.slot_of.ensures.within, c.exams.invariant.count))
           w.index_mut.ensures.value [] in
           let put =
-          w.in_ok-push.ensures
+          w.in_ok-push.ensures.added
           ∙ ap₂ (λ (xs : List ℕ) (e : ℕ). xs ++ e ∷ [])
           (rw w.slot_of.ensures.slot at read) c.new-exam.ensures in
           rw (w.lists-is, w.slot_of.ensures.slot) (exam_put T i c.exams.invariant there exists put)
