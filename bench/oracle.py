@@ -1,8 +1,8 @@
 #!/usr/bin/env python3
 """oracle.py INSTANCE SOLUTION: the two reports, straight from the definitions and slowly.
 
-It reads well-formed files alone, sums over all pairs of exams and the students that both share,
-and keeps no index: a third opinion beside the two fast checkers.
+It reads well-formed files alone, adds up, for each two exams, what each student of both pays for
+them, and keeps no index: a third opinion beside the two fast checkers.
 """
 import sys
 from itertools import combinations
