@@ -28,6 +28,8 @@ from queue import Empty, SimpleQueue
 ROOT = Path(__file__).resolve().parent.parent
 SOURCES = ("src", "specs", "proofs")
 PARTS = (*SOURCES, "wrong-bodies")
+# what a comment begins with
+COMMENT = {".rt": b"//", ".antt": b"--"}
 # what a check keeps for the next one
 KEPT = "out/incremental"
 # what one check may take, in bytes
@@ -281,10 +283,17 @@ def files_of(name):
 def hash_of(name):
     sum_of_all = hashlib.sha256()
     for file in files_of(name):
-        text = file.read_bytes()
+        text = without_comments(file)
         sum_of_all.update(f"{file.relative_to(ROOT)} {len(text)}\n".encode())
         sum_of_all.update(text)
     return sum_of_all.hexdigest()
+
+
+def without_comments(file):
+    """The file without the lines that are comments and nothing else: no proof reads those."""
+    sign = COMMENT.get(file.suffix)
+    lines = file.read_bytes().splitlines(keepends=True)
+    return b"".join(line for line in lines if sign is None or not line.lstrip().startswith(sign))
 
 
 def mark(name):

@@ -55,14 +55,6 @@ impl Roll {
         self.students.extend_from_slice(students)
     }
 
-    // Where the student is, or where she would go.
-    fn search(&self, student: StudentNo) -> Result<usize, usize>
-        ensures found { IfOk result (IsAt self.now student) }
-        ensures absent { IfErr result (IsGap self.now student) }
-    {
-        self.students.binary_search(&student)
-    }
-
     #[tactic(auto, using(crate::proofs::RollLemmas::roll_facts))]
     pub(crate) fn has(&self, student: StudentNo) -> bool
         ensures { result ≡ has_number self.now student }
@@ -97,6 +89,14 @@ impl Roll {
             }
             Err(_) => false,
         }
+    }
+
+    // Where the student is, or where she would go.
+    fn search(&self, student: StudentNo) -> Result<usize, usize>
+        ensures found { IfOk result (IsAt self.now student) }
+        ensures absent { IfErr result (IsGap self.now student) }
+    {
+        self.students.binary_search(&student)
     }
 }
 

@@ -57,7 +57,7 @@ pub(crate) fn publication_rooms<S: Alter>(
     let Some((timetable, seats)) = office.publication(alloc)? else {
         return Ok(Answer::Unpublished);
     };
-    let (session, _) = office.session()?;
-    let report = rooms_report(alloc, session, &timetable, &seats)?;
+    let (instance, _) = office.session()?;
+    let report = rooms_report(alloc, instance, &timetable, &seats)?;
     Ok(Answer::Text(report.into_bytes()))
 }

@@ -18,8 +18,8 @@ pub(crate) fn instance<S: Alter>(office: &mut Office<S>, alloc: Global) -> Resul
         → HasCleanDisk (state S.Store office.old) }
 {
     office.look()?;
-    let (session, enrolments) = office.session()?;
-    match write_instance(alloc, session, enrolments) {
+    let (instance, enrolments) = office.session()?;
+    match write_instance(alloc, instance, enrolments) {
         Ok(text) => Ok(Answer::Text(text)),
         Err(_) => Err(Answer::Unavailable),
     }

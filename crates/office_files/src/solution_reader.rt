@@ -44,18 +44,19 @@ pub fn read_solution(
     ensures exact { AnswersReading (λ read. read) result (solution_in instance.now source.now) }
     ensures memory { IfErr result IsOfNoLine }
 {
+    if source.len() > TEXT_BYTES {
+        return Err(FileFault::TOO_LONG);
+    }
     solution_in(alloc, source, instance)
 }
 
-// The timetable of a file for an instance.
+// The timetable of a file that is not too long, for an instance.
 fn solution_in(alloc: Global, source: &[u8], instance: &Instance) -> Result<Timetable, FileFault>
+    requires within { length source.now ≤ TEXT_BYTES }
     ensures exact { AnswersReading (λ read. read) result (solution_in instance.now source.now) }
     ensures exist { IfOk result (λ read. All (PlaceExists instance.now) read) }
     ensures memory { IfErr result IsOfNoLine }
 {
-    if source.len() > TEXT_BYTES {
-        return Err(FileFault::TOO_LONG);
-    }
     let counts = Counts {
         exams: instance.exams(),
         periods: instance.periods(),
@@ -64,7 +65,7 @@ fn solution_in(alloc: Global, source: &[u8], instance: &Instance) -> Result<Time
     timetable_in(alloc, source, counts)
 }
 
-// The timetable of a file that is not too long.
+// The timetable of a file that is not too long, by what its lines may name.
 #[tactic(auto, using(crate::proofs::SectionLemmas::section_facts))]
 fn timetable_in(alloc: Global, source: &[u8], counts: Counts) -> Result<Timetable, FileFault>
     requires within { length source.now ≤ TEXT_BYTES }

@@ -98,11 +98,11 @@ pub fn serve_desk<'a, S: Alter, O: Write, E: Write>(
         desk,
         routes: &routes,
     };
-    serve_and_tell(rt, database, terms, &mut machine, out, err)
+    serve_with_notices(rt, database, terms, &mut machine, out, err)
 }
 
 // Serves with the machine, and says on a terminal when it is asked to publish.
-fn serve_and_tell<'a, M: Machine, O: Write, E: Write>(
+fn serve_with_notices<'a, M: Machine, O: Write, E: Write>(
     rt: &HostRuntime,
     database: &str,
     terms: Terms,

@@ -13,13 +13,13 @@ pub returns-clause-reached : goal.returns-clause-reached
 returns-clause-reached g c =
     desk_leads g.S.Store c.told_by_view.ensures.told _ _
     (lent_reaches (λ m. m.desk.ghost_name) (λ m. m.desk.now) (Answered g.S.Store) _ _ _
-    c.desk-1.given.1 c.serve_and_tell.ensures.reached)
+    c.desk-1.given.1 c.serve_with_notices.ensures.reached)
 
 pub returns-clause-clean : goal.returns-clause-clean
 returns-clause-clean g c =
     desk_clean g.S.Store _ _
     (lent_reaches (λ m. m.desk.ghost_name) (λ m. m.desk.now) (Answered g.S.Store) _ _ _
-    c.desk-1.given.1 c.serve_and_tell.ensures.reached)
+    c.desk-1.given.1 c.serve_with_notices.ensures.reached)
 
 -- out of memory shows as where a database is opened
 pub returns-in_default-clause-fault : goal.returns-in_default-clause-fault

@@ -1,5 +1,5 @@
 use Rattle.office_connections.proofs.ReachLemmas.{lent_reaches}
-use Rattle.office_program.proofs.serving.serve_and_tell.Goals as goal
+use Rattle.office_program.proofs.serving.serve_with_notices.Goals as goal
 
 pub returns-clause-reached : goal.returns-clause-reached
 returns-clause-reached g c =
