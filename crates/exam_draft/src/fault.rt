@@ -13,7 +13,7 @@ pub enum EditFault {
     NotPlaced,
     /// An exam is to be swapped with itself.
     SameExam,
-    /// The least breach of the edited timetable that names an edited exam.
+    /// After the edit its exams would stand in breaches, of which this is the least.
     Broken(Breach),
     /// Memory was refused.
     NoMemory,

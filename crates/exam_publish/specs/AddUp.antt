@@ -23,7 +23,7 @@ added_up shares = record {
   room = sum_by (λ share. share.penalty) shares.rooms;
 }
 
--- each part is the sum of the shares of its kind, and the total that of all
+-- the shares of each kind add up to the part of that kind, and all of them to the total
 pub record AddUpTo (penalty : Penalty) (shares : Sharing) : Type 0 where
   pub row : sum_by (λ share. share.1.row) shares.students ≡ penalty.row
   pub day : sum_by (λ share. share.1.day) shares.students ≡ penalty.day

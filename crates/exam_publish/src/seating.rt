@@ -17,8 +17,8 @@ use exam_model::{Enrolments, Instance, Timetable};
 use std::alloc::{AllocError, Global};
 
 /// A seat for each enrolment of a timetable that may be published, as `permit` says. Who has an old
-/// row in the room and period of now keeps its seat. The others, by exam and then by student, each
-/// get the least number from 1 that nobody keeps there and that no earlier one was given there.
+/// row in the room and period of now keeps its seat. The others come by exam, then by student: each
+/// takes the lowest seat there, counted from 1, that nobody keeps and nobody took before.
 pub fn seats(
     alloc: Global,
     instance: &Instance,

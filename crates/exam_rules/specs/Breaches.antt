@@ -31,7 +31,7 @@ is_one_of a e f = (a == e) || (a == f)
 abbrev pub name_one : List ℕ → ℕ → ℕ → Bool
 name_one exams e f = list_any (λ a. is_one_of a e f) exams
 
--- the least breach that names one of these exams
+-- of the breaches that name any of these exams, the least
 abbrev pub least_breach_of : Session → Enrolled → Placing → List ℕ → Option Breach
 least_breach_of I E T exams = find (λ b. name_one exams b.exam b.other) (breaches_of I E T)
 

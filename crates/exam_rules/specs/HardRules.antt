@@ -46,8 +46,7 @@ breaks I E T Capacity e f = (e == f) && is_overfull I E T e
 -- a line says that e comes after f, and the period of e is not greater
 breaks I E T After e f =
     list_any (is_after e f) I.period_rules && (not (e == f) && is_not_after T e f)
--- a line wants both in one period, they share no student, and their periods differ: the smaller
--- first
+-- a line wants both in one period, nobody sits both, but they stand in two: the smaller first
 breaks I E T Coincidence e f =
     list_any (is_coincidence e f) I.period_rules
     && (nat_lt e f && (not (share_student E e f) && in_two_periods T e f))

@@ -35,7 +35,7 @@ pub record IsFoldOf (fold : Folded) (I : Session) (old new : Placing)
   pub after : fold.later ≡ new
   pub exams : fold.edited ≡ edited
 
--- of which list of pairs the count, the sums and the open pairs are
+-- the list of pairs that made a fold's count, its sums and its open pairs
 pub record StandsFor (fold : Folded) (pairs : List Pair) : Type 0 where
   pub closed : List Pair
   pub parts : pairs ≡ closed ++ fold.current

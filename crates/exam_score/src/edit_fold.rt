@@ -121,9 +121,9 @@ impl<'a> EditFold<'a> {
         Ok(())
     }
 
-    /// The new penalty by the old one, where the fold took just the pairs of the students who sit
-    /// an edited exam. `sizes` are the numbers of each exam's students. It takes no memory. None
-    /// comes only where a part would be negative, or the total reach 2^62.
+    /// The new penalty by the old one, where the fold took the pairs of all students with an edited
+    /// exam, and no others. `sizes` says how many students each exam has. It takes no memory. The
+    /// answer is None only where a part would fall below zero, or the total reach 2^62.
     pub fn finish(self, sizes: &[u32], old_parts: Parts) -> Option<Parts>
         requires sizes { length sizes.now ≡ length self.instance.exams }
         ensures scored { (E : Enrolled) (pairs : List Pair) → StandsFor self.entry pairs

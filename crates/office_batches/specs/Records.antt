@@ -14,7 +14,7 @@ use Rattle.office_files.specs.declared.fault.FaultKind.TheVariants.{BadWord, Str
 abbrev pub Record : Type 0
 Record = List (List ℕ)
 
--- a field of a record, trimmed; a missing field is judged as an empty one
+-- a field of a record, trimmed; empty where the record has no such field
 abbrev pub field : Record → ℕ → List ℕ
 field fields i = trimmed (slice_index_or fields i [])
 

@@ -22,7 +22,7 @@ split_once c (b ∷ bs) =
 abbrev pub fields_of : List ℕ → List (List ℕ)
 fields_of line = map trimmed (ended_parts comma line)
 
--- the first of the fields; a missing field is judged as an empty one
+-- the first of the fields; empty where there is none
 abbrev pub first : List (List ℕ) → List ℕ
 first [] = []
 first (x ∷ xs) = x

@@ -17,7 +17,7 @@ last_section (line ∷ lines) =
     if list_any (λ other. is_header other.text) lines then last_section lines
     else (if is_header line.text then lines else line ∷ lines)
 
--- the field behind so many others; a missing field is judged as an empty one
+-- the field behind so many others; empty where there are too few
 abbrev pub field_behind : ℕ → List (List ℕ) → List ℕ
 field_behind zero fields = first fields
 field_behind (suc n) fields = field_behind n (rest fields)

@@ -36,7 +36,7 @@ pub fn told_by_view()
 /// Two offices that agree on a candidate's view give her message the same bytes, unless one of them
 /// is unavailable.
 ///
-/// All else may differ: drafts, owners, batches, other candidates, exams that aren't hers.
+/// Nothing beyond her view need agree: other candidates, exams not hers, drafts, owners, batches.
 pub fn same_view_same_bytes()
     ensures { (s : ℕ) (one other next last : OfficeState) (request : PlainRequest)
         (reply answer : PlainReply) → view_of s one ≡ view_of s other → IsFrom s request
@@ -119,9 +119,9 @@ pub fn same_view_same_output()
         → first.output ≡ second.output }
 {}
 
-/// From one office, after two lists of messages with no accepted load or publication, whose newly
-/// accepted batches make the same changes to a candidate in the same order, her views are equal: so
-/// her messages get the same bytes.
+/// Two lists of messages start from one office and hold no accepted load or publication. If what
+/// their newly accepted batches change of a candidate is the same, in order, then so is her view at
+/// the end, and her messages get the same bytes.
 ///
 /// Which batches are newly accepted may depend on others' requests (a number that is taken, too
 /// many pairs), so the law speaks of the changes that were made.

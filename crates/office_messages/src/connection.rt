@@ -57,7 +57,7 @@ pub enum ServeFault {
     Write = 2,
     /// No turn was left.
     TooMany = 3,
-    /// The room for a reply's head was refused, or a message could not be kept.
+    /// Memory was refused, be it for the head of a reply or to keep a message.
     NoMemory = 4,
 }
 

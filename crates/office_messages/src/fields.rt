@@ -67,7 +67,7 @@ pub(crate) fn only(seen: Seen) -> Option<Span>
     }
 }
 
-/// Whether `close` is among the names of Connection, in any ASCII case.
+/// Whether a Connection header lists `close`, in small or capital letters.
 pub(crate) fn any_asks_to_close(bytes: &[u8], headers: &[HeaderSpan]) -> bool
     requires { All (IsHeaderWithin (length bytes.now)) headers.now }
     ensures { result ≡ list_any asks_to_close (map (header_bytes bytes.now) headers.now) }

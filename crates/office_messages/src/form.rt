@@ -9,7 +9,7 @@ use http::Method;
 pub enum Form {
     /// The whole reply.
     Full,
-    /// The status line, Allow where it applies and the empty line: the reply to HEAD.
+    /// For HEAD: the status line, then Allow if the reply has one, then an empty line.
     Bare,
 }
 

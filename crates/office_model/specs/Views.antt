@@ -21,7 +21,7 @@ pub record View : Type 0 where
   pub periods : List Period
   pub weights : Weights
 
--- the exams where she is enrolled or has a seat, ascending
+-- the exams of her enrolments and of her seats together, ascending
 abbrev pub her_exams : List ℕ → List SeatRow → List ℕ
 her_exams enrolled seats = ascending (enrolled ++ map (λ row. row.exam) seats)
 

@@ -132,7 +132,7 @@ fn rows_of(
         .collect(alloc)
 }
 
-// The exams where she is enrolled or has a seat, ascending, each once.
+// The exams of her enrolments and of her seats together, ascending, each once.
 fn her_exams(
     alloc: Global,
     enrolled: &[ExamNo],

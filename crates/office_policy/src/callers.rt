@@ -17,7 +17,7 @@ pub enum Caller {
 
 impl Caller {
     /// The caller that the header's value names: `office`, `dept:N` with N from 1 to 999, or
-    /// `cand:N`, each N of one to nine digits. Spaces and tabs around the value are skipped.
+    /// `cand:N`. Each N has 1 to 9 digits; spaces and tabs at the value's ends don't count.
     pub fn read(value: &[u8]) -> Option<Caller>
         ensures { result ≡ caller_of (trimmed value.now) }
     {

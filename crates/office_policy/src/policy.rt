@@ -14,7 +14,7 @@ pub enum Denial {
     P1,
     /// A department asks for what the office alone may do.
     P2,
-    /// A department edits an exam that it doesn't own, or that doesn't exist.
+    /// A department edits an exam that isn't its own, or isn't there at all.
     P3,
     /// The office or a department asks for a candidate's page.
     P4,

@@ -35,16 +35,16 @@ use std::{fs, io};
 /// How the program ended.
 #[derive(Clone, Copy)]
 pub struct Ending {
-    /// The exit status: 0 done, 1 a fault of a file, an office, a port, `out` or memory, 2 a mistake
-    /// in the words, 3 a solution that breaks a hard rule.
+    /// The exit status: 0 done, 1 a fault of a file, an office, a port, `out` or memory, 2 a
+    /// mistake in the words, 3 a solution that breaks a hard rule.
     pub status: u8,
     /// Whether the writer of faults took the whole line of the fault, or text of the mistake, that
     /// it ended with; true where it ended with none.
     pub is_told: bool,
 }
 
-/// Does what the words say, of which the first is the program's name. The line of a fault, also of a
-/// connection, and the text of a mistake go to `err`, all else goes to `out`.
+/// Does what the words say, of which the first is the program's name. The line of a fault, also of
+/// a connection, and the text of a mistake go to `err`, all else goes to `out`.
 pub fn run_program<O: Write, E: Write>(
     rt: &HostRuntime,
     words: &[String],

@@ -46,7 +46,7 @@ impl<S: Alter> Office<S> {
         Ok(())
     }
 
-    /// The department that owns an exam; 0 where there is no such exam or owner.
+    /// The department that owns an exam; 0 for one that nobody owns or that isn't there.
     pub fn owner(&mut self, alloc: Global, exam: ExamNo) -> Result<u32, StoreFault>
         ensures reads { ReadsOffice S.Store (owner_in exam) self.old self.new result }
         // What is at hand is then what the file says.

@@ -41,7 +41,7 @@ struct HerRows {
 }
 
 impl<S: Alter> Office<S> {
-    /// What a candidate is shown: the exams where she is enrolled or has a seat, and what her seats
+    /// What a candidate is shown: the exams of her enrolments and of her seats, and what her seats
     /// cost her. Nothing of anybody else's is read. Before a load there is nothing to show.
     pub fn candidate_view(
         &mut self,
