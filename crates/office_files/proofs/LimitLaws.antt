@@ -1,4 +1,5 @@
--- What a text spells is in its limits: an instance, its enrolments, a timetable of places that exist.
+-- What a text spells is in its limits: an instance, its enrolments, a timetable of places that
+-- exist.
 use Rattle.std.proofs.Common.{◌≡◌, ℕ, zero, suc, ◌+◌, ◌<◌, ◌≤◌, true, false, List, [], ◌∷◌, length, take, map, Some, Ok, get_or, add-one, inl, inr, refl, ap, sym, subst, ◌∙◌, arith}
 use Rattle.std.specs.Prelude.{◌==◌, ◌||◌, nat_le, nat_lt, option_map}
 use Rattle.std.proofs.lemmas.Bool.{cases_lt, eqb-true}

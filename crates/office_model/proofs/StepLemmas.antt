@@ -132,7 +132,8 @@ module _ (P : OfficeState → Type 0) (Q : PlainAnswer → Type 0) (old : Office
     allowed_law (Ok done) caller command h q = permitted_law caller command h q
     allowed_law (Err denial) caller command h q = here
 
-    -- what holds of an office holds after a step, if it holds after each change that the answer allows
+    -- what holds of an office holds after a step, if it holds after each change that the answer
+    -- allows
     pub step_law : (caller : Caller) (command : PlainCommand) → Keeps P Q old command
         → Q (step old caller command).1 → P (step old caller command).0
     step_law caller command h q = allowed_law (allowed_in old caller command) caller command h q

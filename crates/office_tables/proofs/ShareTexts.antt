@@ -65,7 +65,8 @@ student_shares_read db t stands found is =
     (λ _. true) (λ r. refl) (λ _. true) (λ x. refl) db.trees t.share_student
     stands.share_student.same)) is
 
--- ---- SELECT student, in_row, in_day, spread FROM share_student WHERE student = ?1 ORDER BY student
+-- ---- SELECT student, in_row, in_day, spread FROM share_student WHERE student = ?1
+-- ---- ORDER BY student
 
 abbrev pub student_shares_of_text : List ℕ
 student_shares_of_text = codes
