@@ -61,6 +61,10 @@ class Server:
         status = pathlib.Path(f"/proc/{self.process.pid}/status").read_text()
         return int(status.partition("VmHWM:")[2].split()[0])
 
+    def forget_peak(self):
+        """From here on `peak` tells what it has now, and what it takes more."""
+        pathlib.Path(f"/proc/{self.process.pid}/clear_refs").write_text("5")
+
 
 def one_reply(client, came=b""):
     """A whole reply, and what came behind it."""

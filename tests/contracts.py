@@ -4,7 +4,8 @@
 Each word of specs/ that another crate cites has to stand, as code, in the section of its crate, and
 each page of proofs/ whose lemmas another crate cites. Types and constants of the code (`declared`)
 are seen as they are, and need no row. A word that a row promises has to stand on a page that the row
-names. Prints a line for each failure; status 1 where there is one.
+names. A citation is a path of a `use`, or one in an attribute of a tactic (`using`, `unfolding`).
+Prints a line for each failure; status 1 where there is one.
 """
 
 import pathlib
@@ -15,6 +16,7 @@ TOP = pathlib.Path(__file__).resolve().parent.parent
 CITED = re.compile(
     r"\bRattle\.([a-z][a-z0-9_]*)\.(specs|proofs)\.((?:[A-Za-z0-9_]+\.)*[A-Za-z0-9_]+)(?:\.\{([^}]*)\})?"
 )
+IN_ATTRIBUTE = re.compile(r"\b([a-z][a-z0-9_]*)::(specs|proofs)::([A-Za-z0-9_:]+)::([A-Za-z0-9_]+)")
 ROW = re.compile(r"^\| ([A-Z][A-Za-z, ]*)? ?\| (.*) \|$")
 PAGE = re.compile(r"[A-Z][A-Za-z]*")
 WORD = re.compile(r"(?<![\w-])[^\W\d][\w-]*(?![\w-])")
@@ -38,7 +40,9 @@ def sources(crate):
 def citations(crate, crates):
     """The crate, folder, page and word of each citation of another crate, with the file."""
     for path in sources(crate):
-        for cited, folder, page, words in CITED.findall(path.read_text()):
+        text = path.read_text()
+        for cited, folder, page, words in CITED.findall(text) + IN_ATTRIBUTE.findall(text):
+            page = page.replace("::", ".")
             if cited in crates and cited != crate and page.split(".")[0] not in OF_THE_CODE:
                 # with no words behind it, the page is cited as a whole
                 for word in words.split(",") if words else [page]:
