@@ -174,3 +174,14 @@ module _ (t : Tables) (r : Records) (stands : StandsLoaded t r) (is : AreRecords
     scored = all-permutation (IsScoredRow r) _ _ p
         (all_first no_of (IsScoredRow r) 8 t.draft sound.scored);
   }
+
+  -- and so are those that stand
+  pub drafts_stored : IsSound t (Some r)
+      → AreDrafts r.session r.enrolments t.draft t.slot r.draft
+  drafts_stored sound = record {
+    numbered = is.numbered;
+    fits = is.drafts;
+    rows = stands.draft;
+    slots = stands.slot;
+    scored = sound.scored;
+  }

@@ -1,12 +1,12 @@
 -- A batch that is accepted.
-use Rattle.std.proofs.Common.{◌≡◌, ◌≤◌, ◌<◌, ℕ, true, false, List, [], ◌∷◌, map, reverse, length}
+use Rattle.std.proofs.Common.{◌≡◌, ◌≢◌, ◌≤◌, ◌<◌, ℕ, true, false, List, [], ◌∷◌, map, reverse, length}
 use Rattle.std.proofs.Common.{filter, not, if◌then◌else◌, Some, None, Result, Ok, Err, refl, sym, ◌∙◌, ap, subst, arith}
 use Rattle.std.specs.Prelude.{◌==◌, ◌&&◌, nat_lt}
 use Rattle.std.proofs.lemmas.Bool.Decides.{nat_tests}
 use Rattle.std.proofs.lemmas.List.{append-nil}
 use Rattle.std.proofs.lemmas.List.Sorted.{IsPermutation-reverse}
 use Rattle.exam_terms.specs.Refusing.{◌>>=◌, unless}
-use Rattle.exam_model.specs.Enrolments.{Enrolled}
+use Rattle.exam_model.specs.Enrolments.{AreEnrolments, Enrolled}
 use Rattle.exam_model.specs.Instance.{Session}
 use Rattle.exam_model.specs.declared.change.Change.{Change}
 use Rattle.sqlite.specs.Effect.{Database}
@@ -21,12 +21,15 @@ use Rattle.office_tables.specs.declared.draft.InsertDraft.{InsertDraft}
 use Rattle.office_tables.specs.declared.draft.DraftRow.{DraftRow}
 use Rattle.office_tables.specs.declared.enrol.EnrolRow.{EnrolRow}
 use Rattle.office_tables.proofs.AlterationLemmas.{drafts_put}
-use Rattle.office_enrolment.specs.AfterBatch.{after_batch, lines_in}
+use Rattle.office_enrolment.specs.AfterBatch.{acting, after_batch, lines_in}
 use Rattle.office_enrolment.specs.Keeping as keeping
 use Rattle.office_enrolment.specs.Rows.{after_row, after_rows, pair_of}
+use Rattle.office_enrolment.proofs.KeptLemmas.{Ascend, they_ascend}
+use Rattle.office_enrolment.proofs.LineLemmas.{accepted, all_after, line_again, line_ascends}
 use Rattle.office_enrolment.proofs.OfficeLemmas.{as_office}
+use Rattle.office_model.specs.BatchLines.{acts, after_change, after_changes, no_counts}
 use Rattle.office_model.specs.Batches.{batch_enrolled, kept_in, kept_under, newly_enrolled}
-use Rattle.office_model.specs.Office.{IsOffice, OfficeState, Records}
+use Rattle.office_model.specs.Office.{AreRecords, IsOffice, OfficeState, Records}
 use Rattle.office_model.specs.declared.counts.Counts.{Counts}
 use Rattle.office_model.specs.declared.fault.StoreFault.{StoreFault}
 use Rattle.office_model.specs.declared.fault.StoreFault.TheVariants.{TooMany}
@@ -36,10 +39,11 @@ use Rattle.office_records.specs.Memory.{Memory, memory_of}
 use Rattle.office_records.specs.Stands.{IsKept, IsSound, StandsLoaded}
 use Rattle.office_records.specs.TableRows.{enrol_row, stored_batch}
 use Rattle.office_records.proofs.BatchPutLemmas.{batch_sound, batch_stands, drafts_moved}
-use Rattle.office_store.specs.NewBatches.{Enrols, IsNewFor, line_put, new_batch_put}
+use Rattle.office_store.specs.NewBatches.{AreAnew, Enrols, IsNewFor, drafts_after, line_put, new_batch_put}
 use Rattle.office_store.specs.Running.{IsFault}
 use Rattle.office_store.specs.declared.new_batch.NewBatch.{NewBatch}
 use Rattle.office_store.specs.declared.new_batch.PutLine.{PutLine}
+use Rattle.office_store.proofs.AllDraftLemmas.{drafts_stored}
 use Rattle.office_store.proofs.CommandLemmas.{Denies, Moves}
 use Rattle.office_store.proofs.RunLemmas.{kept_of}
 
@@ -85,17 +89,36 @@ all_made lines drafts row t =
 -- what is made of lists that are these is made of a new batch
 pub batch_made : (number : ℕ) (bytes : List ℕ) (new : NewBatch) (lines : List PutLine)
     (drafts : List InsertDraft) → lines ≡ new.lines.items → drafts ≡ new.drafts.items
-    → (t : Tables)
+    → new.lines.items ≢ [] → (t : Tables)
     → with_batch (stored_batch (record { no = number; bytes = bytes; counts = new.counts }))
     (after_all (λ (it : InsertDraft). with_draft it.row) drafts
     (no_drafts (after_all (λ (it : PutLine). line_put it.change) lines t)))
     ≡ new_batch_put number bytes new t
-batch_made number bytes new lines drafts a b t =
+batch_made number bytes new lines drafts a b some t =
     let row : Batch
     = stored_batch (record { no = number; bytes = bytes; counts = new.counts }) in
+    let anew : List DraftRow = map (λ (it : InsertDraft). it.row) new.drafts.items in
     all_made lines drafts row t
     ∙ (λ i. batch_put (map (λ (it : PutLine). it.change) (a i))
     (reverse (map (λ (it : InsertDraft). it.row) (b i))) row t)
+    ∙ ap (λ (l : List DraftRow).
+    batch_put (map (λ (it : PutLine). it.change) new.lines.items) l row t)
+    (sym (all_anew new.lines.items anew t.draft some))
+  where
+    all_anew : (its : List PutLine) (anew old : List DraftRow) → its ≢ []
+        → drafts_after its anew old ≡ reverse anew
+    all_anew [] anew old some = absurd (some refl)
+    all_anew (it ∷ its) anew old some = refl
+
+-- where no line acts, the batch alone is put in
+pub idle_made : (number : ℕ) (bytes : List ℕ) (new : NewBatch) → new.lines.items ≡ []
+    → (t : Tables)
+    → with_batch (stored_batch (record { no = number; bytes = bytes; counts = new.counts })) t
+    ≡ new_batch_put number bytes new t
+idle_made number bytes new none t =
+    sym (ap (λ (its : List PutLine). batch_put (map (λ (it : PutLine). it.change) its)
+    (drafts_after its (map (λ (it : InsertDraft). it.row) new.drafts.items) t.draft)
+    (stored_batch (record { no = number; bytes = bytes; counts = new.counts })) t) none)
 
 -- what a line puts in
 pub line_comes : (change : Change) (row : EnrolRow) → change.add ≡ true
@@ -111,6 +134,48 @@ line_goes change s e drop who what t =
     ap (λ n. without_enrol n e t) who ∙ ap (λ n. without_enrol change.student n t) what
     ∙ sym (ap (λ b. if b then with_enrol (enrol_row (pair_of change)) t
     else without_enrol change.student change.exam t) drop)
+
+-- ---- where no line acts
+
+-- the enrolments stay
+idle_lines : (changes : List Change) (E : Enrolled) → Ascend E → acting changes E ≡ []
+    → after_changes changes E ≡ E
+idle_lines [] E up none = refl
+idle_lines (change ∷ changes) E up none =
+    let F : Enrolled = after_change change E in
+    let lines : List Change = acting changes F in
+    elim (acts change E) as (λ b. acts change E ≡ b → (if b then change ∷ lines else lines) ≡ []
+    → after_changes changes F ≡ E) [
+      | true ↦ λ does some. absurd (cc some)
+      | false ↦ λ idle rest.
+          idle_lines changes F (line_ascends change E up) rest ∙ line_again change E up idle
+    ] refl none
+
+idle_batch : (changes : List Change) (E : Enrolled) (done : Counts × Enrolled)
+    → AreEnrolments E → after_batch changes E ≡ Ok done → acting changes E ≡ [] → done.1 ≡ E
+idle_batch changes E done is judged none =
+    all_after changes E no_counts done (accepted changes E done judged).1
+    ∙ idle_lines changes E (they_ascend E is) none
+
+-- the drafts after the lines are those of the office: anew, or as they stand
+left_drafts : (r : Records) (t : Tables) (changes : List Change) (done : Counts × Enrolled)
+    → AreRecords r → StandsLoaded t r → IsSound t (Some r)
+    → after_batch changes r.enrolments ≡ Ok done → (its : List PutLine) (anew : List DraftRow)
+    → map (λ (it : PutLine). it.change) its ≡ acting changes r.enrolments
+    → (its ≢ [] → AreAnew r done.1 anew) → AreAnew r done.1 (drafts_after its anew t.draft)
+left_drafts r t changes done is stands sound judged [] anew lines scored = record {
+  slots = t.slot;
+  are = subst (λ (E : Enrolled). AreDrafts r.session E t.draft t.slot r.draft)
+      (sym (idle_batch changes r.enrolments done is.enrolled.set judged (sym lines)))
+      (drafts_stored t r stands is sound);
+}
+left_drafts r t changes done is stands sound judged (it ∷ its) anew lines scored =
+    let again = scored (λ none. cc none) in
+    record {
+      slots = again.slots;
+      are = drafts_moved r.session done.1 anew (reverse anew) again.slots r.draft
+          (IsPermutation-reverse anew) again.are;
+    }
 
 -- ---- what the command gives
 
@@ -175,9 +240,12 @@ module _ (number : ℕ) (bytes : List ℕ) (changes : List Change)
           abbrev rows : List DraftRow
           rows = map (λ (it : InsertDraft). it.row) new.drafts.items
 
-          again : AreDrafts r.session new.enrolments (reverse rows) made.slots r.draft
-          again = drafts_moved r.session new.enrolments rows (reverse rows) made.slots r.draft
-              (IsPermutation-reverse rows) made.drafts
+          abbrev left : List DraftRow
+          left = drafts_after new.lines.items rows here.held.draft
+
+          again : AreAnew r new.enrolments left
+          again = left_drafts r here.held changes done here.office here.stands here.sound made.after
+              new.lines.items rows made.lines made.drafts
 
           enrolled_kept : ((t : Tables) → Stands a t
               → Stands b (new_batch_put number bytes new t))
@@ -186,16 +254,16 @@ module _ (number : ℕ) (bytes : List ℕ) (changes : List Change)
             held = new_batch_put number bytes new here.held;
             tables = makes here.held here.tables;
             stands = subst (λ (l : List Change). StandsLoaded
-                (batch_put l (reverse rows) row here.held)
+                (batch_put l left row here.held)
                 (keeping.records_with_batch number bytes r done))
                 (sym made.lines)
                 (batch_stands number bytes changes r done here.office made.after here.held
-                (reverse rows) made.slots again small (counted r.enrolments done made.after)
+                left again.slots again.are small (counted r.enrolments done made.after)
                 here.stands);
-            sound = subst (λ (l : List Change). IsSound (batch_put l (reverse rows) row here.held)
+            sound = subst (λ (l : List Change). IsSound (batch_put l left row here.held)
                 (Some (keeping.records_with_batch number bytes r done))) (sym made.lines)
                 (batch_sound number bytes changes r done here.office made.after here.held
-                (reverse rows) made.slots again here.sound);
+                left again.slots again.are here.sound);
             office = leaves (Some r)
                 (Some (keeping.records_with_batch number bytes r done)) new.counts
                 here.office gives;

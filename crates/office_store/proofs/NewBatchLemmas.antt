@@ -23,7 +23,7 @@ use Rattle.office_model.specs.Office.{Records}
 use Rattle.office_model.specs.declared.counts.Counts.{Counts}
 use Rattle.office_model.specs.declared.fault.Refusal.TheVariants as refusal
 use Rattle.office_model.specs.declared.fault.StoreFault.{StoreFault}
-use Rattle.office_model.specs.declared.fault.StoreFault.TheVariants.{Refused, TooMany}
+use Rattle.office_model.specs.declared.fault.StoreFault.TheVariants.{Refused, Store, TooMany}
 use Rattle.office_records.specs.Faults.{store_fault}
 use Rattle.office_records.specs.declared.fault.RecordFault.{RecordFault}
 use Rattle.office_records.specs.declared.fault.RecordFault.TheVariants.{BadRows, NoMemory}
@@ -84,10 +84,10 @@ module _ (number : ℕ) (bytes : List ℕ) (changes : List Change) (r : Records)
       let none : nat_lt (length r.batches) 10000 ≡ false = grind (arith, nat_tests, full) in
       judged_so (Ok done) is ∙ rw none refl
 
-  -- rows that are an office's are refused for memory alone
-  pub rows_refuse : (f : RecordFault) → (f ≡ BadRows → ⊥) → IsFault gives (store_fault f)
-  rows_refuse NoMemory good = tt
-  rows_refuse BadRows good = absurd (good refl)
+-- rows that are an office's are refused for memory alone
+pub for_memory : (f : RecordFault) → (f ≡ BadRows → ⊥) → store_fault f ≡ Store
+for_memory NoMemory good = refl
+for_memory BadRows good = absurd (good refl)
 
 -- what is at hand are the records' enrolments
 pub same_enrolled : (r : Records) (I : Session) (E : Enrolled)

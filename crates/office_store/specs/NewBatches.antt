@@ -1,7 +1,8 @@
 -- What is put in where a batch is accepted.
-use Rattle.std.specs.Prelude.{◌≡◌, ◌<◌, ℕ, if◌then◌else◌, List, length, map, reverse, Option, option_to_list, Result, Ok, Err}
+use Rattle.std.specs.Prelude.{◌≡◌, ◌≢◌, ◌<◌, ℕ, if◌then◌else◌, List, [], ◌∷◌, length, map, reverse, Option, option_to_list, Result, Ok, Err}
 use Rattle.exam_terms.specs.Refusing.{◌>>=◌, unless}
 use Rattle.exam_terms.specs.declared.limits.TheConstants.{MAX_BATCHES}
+use Rattle.exam_model.specs.Enrolments.{Enrolled}
 use Rattle.exam_model.specs.declared.change.Change.{Change}
 use Rattle.office_tables.specs.Enrol.{with_enrol, without_enrol}
 use Rattle.office_tables.specs.Batch.{batch_from}
@@ -38,15 +39,19 @@ put_line change = record { change = change }
 abbrev pub put_draft : DraftRow → InsertDraft
 put_draft row = record { row = row }
 
--- what these lines make of an office's enrolments, with the lines that act, and the rows of all
--- drafts with the enrolments after them; there is room for one batch more
+-- these rows are an office's drafts with other enrolments
+pub record AreAnew (r : Records) (E : Enrolled) (drafts : List DraftRow) : Type 0 where
+  pub slots : List SlotRow
+  pub are : AreDrafts r.session E drafts slots r.draft
+
+-- what these lines make of an office's enrolments, with the lines that act and, where there are any,
+-- the rows of all drafts with the enrolments after them; there is room for one batch more
 pub record IsNewFor (changes : List Change) (r : Records) (new : NewBatch) : Type 0 where
   pub after : after_batch changes r.enrolments ≡ Ok (new.counts, new.enrolments)
   pub room : length r.batches < MAX_BATCHES
   pub lines : map (λ it. it.change) new.lines.items ≡ acting changes r.enrolments
-  pub slots : List SlotRow
-  pub drafts : AreDrafts r.session new.enrolments (map (λ it. it.row) new.drafts.items)
-      slots r.draft
+  pub drafts : new.lines.items ≢ []
+      → AreAnew r new.enrolments (map (λ it. it.row) new.drafts.items)
 
 -- that, or the refusal of such a batch, whatever its number and its bytes
 abbrev pub Enrols : List Change → Records → Result NewBatch StoreFault → Type 0
@@ -59,11 +64,16 @@ abbrev pub IsRowOf : Option KeptBatch → Option BatchRow → Type 0
 IsRowOf kept found =
     map batch_from (option_to_list found) ≡ map stored_batch (option_to_list kept)
 
--- the lines that act, the drafts anew, and the batch
+-- the rows of the drafts after such lines: those anew, or where no line acts those that stand
+abbrev pub drafts_after : List PutLine → List DraftRow → List DraftRow → List DraftRow
+drafts_after [] anew rows = rows
+drafts_after (line ∷ lines) anew rows = reverse anew
+
+-- the lines that act, the drafts after them, and the batch
 abbrev pub new_batch_put : ℕ → List ℕ → NewBatch → Tables → Tables
 new_batch_put number bytes new t =
     batch_put (map (λ it. it.change) new.lines.items)
-    (reverse (map (λ it. it.row) new.drafts.items))
+    (drafts_after new.lines.items (map (λ it. it.row) new.drafts.items) t.draft)
     (stored_batch (record { no = number; bytes = bytes; counts = new.counts })) t
 
 -- a batch that is kept is answered as at first, if it has these bytes

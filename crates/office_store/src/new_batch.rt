@@ -1,22 +1,25 @@
 // What is put in where a batch is accepted.
-ghost use Rattle.std.specs.Prelude.{◌≡◌, ◌≤◌, All, IfOk, OnErr, OnOk, Some, false, length, map};
+ghost use Rattle.std.specs.Prelude.{◌≡◌, ◌≢◌, ◌≤◌, [], All, IfErr, IfOk, IsTrue, OnErr, OnOk, Some};
+ghost use Rattle.std.specs.Prelude.{false, length, map};
 ghost use Rattle.sqlite.specs.Held.{state};
 ghost use Rattle.sqlite.specs.State.{HasCleanDisk};
 ghost use Rattle.exam_terms.specs.declared.limits.TheConstants.{TEXT_BYTES};
 ghost use Rattle.office_tables.specs.Alterations.{Changed, Undone};
 ghost use Rattle.office_tables.specs.Draft.{AreAmounts};
-ghost use Rattle.office_model.specs.Office.{Records};
+ghost use Rattle.office_tables.specs.Standing.{Stands};
+ghost use Rattle.office_tables.specs.Tables.{Tables};
+ghost use Rattle.office_model.specs.Office.{AreRecords, Records};
 ghost use Rattle.office_records.specs.Memory.{memory_of};
-ghost use Rattle.office_records.specs.Stands.{IsKept};
+ghost use Rattle.office_records.specs.Stands.{IsKept, IsSound, StandsLoaded};
 ghost use Rattle.office_store.specs.FoldReads.{HasRead, IsSame};
-ghost use Rattle.office_store.specs.NewBatches.{Enrols, new_batch_put, put_draft, put_line};
+ghost use Rattle.office_store.specs.NewBatches.{AreAnew, Enrols, new_batch_put, put_draft, put_line};
 ghost use Rattle.office_store.specs.Running.{IsAwake};
 
 use crate::batch_rows::{batch_rows, read_numbers};
 use crate::fault::Failed;
 use exam_model::{Change, Enrolments, Instance};
 use exam_terms::limits::MAX_BATCHES;
-use office_enrolment::after_batch;
+use office_enrolment::{AfterBatch, after_batch};
 use office_model::{Counts, StoreFault};
 use office_records::rescored;
 use office_tables::{
@@ -27,7 +30,7 @@ use sqlite::{Alter, Connection, Error, Transaction};
 use std::alloc::{AllocError, Global};
 
 // What a batch makes: the enrolments after it, what its lines did, those that act, and all drafts
-// scored anew.
+// scored anew. Where no line acts, the drafts stand as they are, and none is here.
 #[derive(Drop)]
 pub(crate) struct NewBatch {
     pub(crate) enrolments: Enrolments,
@@ -37,7 +40,8 @@ pub(crate) struct NewBatch {
 }
 
 // What a batch of the session at hand puts in, whose number isn't kept. Its lines are judged by
-// what is at hand, then it is seen whether there is room, and then the drafts are read.
+// what is at hand, then it is seen whether there is room, and then the drafts are read, if a line
+// acts.
 pub(crate) fn new_batch<S: Alter>(
     alloc: Global,
     conn: &mut Connection<S>,
@@ -61,16 +65,8 @@ pub(crate) fn new_batch<S: Alter>(
     if numbers.len() >= MAX_BATCHES as usize {
         return Err(StoreFault::TooMany);
     }
-    let found = batch_rows(alloc, conn)?;
-    let rows = rescored(
-        alloc,
-        instance,
-        &made.enrolments,
-        &found.drafts,
-        &found.slots,
-    )?;
+    let drafts = drafts_anew(alloc, conn, instance, &made)?;
     let lines = lines_put(alloc, &made.acting)?;
-    let drafts = drafts_put(alloc, &rows)?;
     Ok(NewBatch {
         enrolments: made.enrolments,
         counts: made.counts,
@@ -79,7 +75,43 @@ pub(crate) fn new_batch<S: Alter>(
     })
 }
 
-// Puts in a batch, with the lines that act and all drafts anew.
+// All drafts scored anew, where a line acts.
+fn drafts_anew<S: Alter>(
+    alloc: Global,
+    conn: &mut Connection<S>,
+    instance: &Instance,
+    made: &AfterBatch,
+) -> Result<Vec<InsertDraft>, StoreFault>
+    requires exams { length made.now.enrolments ≡ length instance.now.exams }
+    ensures drafts { HasCleanDisk (state S.Store conn.new) → (t : Tables)
+        → Stands (state S.Store conn.old).now t → IsTrue (state S.Store conn.old).is_open
+        → (r : Records) → StandsLoaded t r → IsSound t (Some r) → AreRecords r
+        → r.session ≡ instance.now → made.now.acting.items ≢ [] → IfOk result (λ drafts.
+        AreAnew r made.now.enrolments (map (λ it. it.row) drafts.items)) }
+    ensures fault { HasCleanDisk (state S.Store conn.new) → (t : Tables)
+        → Stands (state S.Store conn.old).now t → IsTrue (state S.Store conn.old).is_open
+        → (r : Records) → StandsLoaded t r → IsSound t (Some r) → AreRecords r
+        → r.session ≡ instance.now → IfErr result (λ fault. fault ≡ StoreFault.Store) }
+    ensures small { IfOk result (λ drafts. All (λ it. AreAmounts it.row) drafts.items) }
+    ensures read { HasRead S.Store conn.old conn.new }
+    ensures same { OnOk result (IsSame S.Store conn.old conn.new) }
+{
+    if made.acting.is_empty() {
+        return Ok(Vec::new(alloc));
+    }
+    let found = batch_rows(alloc, conn)?;
+    let rows = rescored(
+        alloc,
+        instance,
+        &made.enrolments,
+        &found.drafts,
+        &found.slots,
+    )?;
+    let drafts = drafts_put(alloc, &rows)?;
+    Ok(drafts)
+}
+
+// Puts in a batch, with the lines that act and, where there are any, all drafts anew.
 pub(crate) fn put_batch<S: Alter>(
     conn: &mut Connection<S>,
     new: &NewBatch,
@@ -103,6 +135,10 @@ pub(crate) fn put_batch<S: Alter>(
         dropped: new.counts.dropped,
         unchanged: new.counts.unchanged,
     };
+    if new.lines.is_empty() {
+        transact(conn, &batch)?;
+        return Ok(());
+    }
     let drafts = Both {
         first: DeleteDrafts,
         second: Each {
