@@ -1,5 +1,5 @@
 // Two exams that are to coincide, as students enrol.
-ghost use Rattle.std.specs.Prelude.{◌≡◌, ◌×◌, IfOk};
+ghost use Rattle.std.specs.Prelude.{◌≡◌, IfOk};
 
 use crate::drafts::Step::{Clear, Move};
 use crate::drafts::{breach, broken, meets, solved};
