@@ -1,5 +1,5 @@
 -- The lines of faults.
-use Rattle.std.proofs.Common.{◌≡◌, ℕ, ◌+◌, ◌≤◌, List, [], ◌∷◌, ◌++◌, length, Option, Bool}
+use Rattle.std.proofs.Common.{◌≡◌, ℕ, ◌+◌, ◌≤◌, List, [], ◌∷◌, ◌++◌, Option, Bool}
 use Rattle.std.proofs.Common.{true, false, Result, Ok, Err, refl, ap, sym, subst, ◌∙◌, arith}
 use Rattle.std.proofs.Common.{append_assoc, append-nil, length-append}
 use Rattle.std.specs.Prelude.{IsTrue, OnOk, is_ok, not}
@@ -7,7 +7,7 @@ use Rattle.std.specs.Int.{from_bool}
 use Rattle.std.specs.Io.KnownBytes.{Appends}
 use Rattle.std.proofs.KnownBytes.{Appends-trans}
 use Rattle.office_messages.specs.declared.connection.ServeFault.{ServeFault}
-use Rattle.office_connections.specs.Lines.{fault_line, fault_lines}
+use Rattle.office_connections.specs.Lines.{TellsFaults, fault_line, fault_lines}
 
 fault_lines-append : (fs gs : List ServeFault)
     → fault_lines (fs ++ gs) ≡ fault_lines fs ++ fault_lines gs
@@ -16,14 +16,9 @@ fault_lines-append (f ∷ fs) gs =
     ap (λ l. fault_line f ++ l) (fault_lines-append fs gs)
     ∙ sym (append_assoc (fault_line f) (fault_lines fs) (fault_lines gs))
 
--- so many lines at most were written
-abbrev pub AppendsLines : ℕ → Option (List ℕ) → Option (List ℕ) → Type 0
-AppendsLines most old new =
-    (fs : List ServeFault) × (length fs ≤ most) × Appends old new (fault_lines fs)
-
 -- some lines, and then some more
-pub more_lines : (m n : ℕ) (old mid new : Option (List ℕ)) → AppendsLines m old mid
-    → AppendsLines n mid new → AppendsLines (m + n) old new
+pub more_lines : (m n : ℕ) (old mid new : Option (List ℕ)) → TellsFaults m old mid
+    → TellsFaults n mid new → TellsFaults (m + n) old new
 more_lines m n old mid new (fs, few, p) (gs, fewer, q) = (
   fs ++ gs,
   omega (arith, length-append fs gs, few, fewer),
@@ -33,7 +28,7 @@ more_lines m n old mid new (fs, few, p) (gs, fewer, q) = (
 -- one line, where its writing succeeded
 pub one_line : {T E : Type 0} (r : Result T E) (old new : Option (List ℕ)) (f : ServeFault)
     → OnOk r (Appends old new (fault_line f)) → (b : Bool) → b ≡ is_ok r → IsTrue b
-    → AppendsLines 1 old new
+    → TellsFaults 1 old new
 one_line (Ok x) old new f p b is ok =
     (f ∷ [], omega arith, subst (Appends old new) (sym (append-nil (fault_line f))) p)
 one_line (Err e) old new f p b is ok = let never : true ≡ false = sym ok ∙ is in cc

@@ -1,5 +1,5 @@
 -- The lines that are printed while connections are served.
-use Rattle.std.specs.Prelude.{ℕ, ◌≤◌, List, [], ◌∷◌, ◌++◌, Option, codes, decimal}
+use Rattle.std.specs.Prelude.{◌≡◌, ◌≢◌, ℕ, ◌≤◌, List, [], ◌∷◌, ◌++◌, length, Option, codes, decimal}
 use Rattle.std.specs.Io.KnownBytes.{Appends}
 use Rattle.office_connections.specs.declared.listening.TheConstants.{MAX_PORT}
 use Rattle.office_messages.specs.declared.connection.ServeFault.{ServeFault}
@@ -22,10 +22,20 @@ abbrev pub fault_lines : List ServeFault → List ℕ
 fault_lines [] = []
 fault_lines (f ∷ fs) = fault_line f ++ fault_lines fs
 
+-- the lines of so many faults at most are printed
+abbrev pub TellsFaults : ℕ → Option (List ℕ) → Option (List ℕ) → Type 0
+TellsFaults most old new =
+    (faults : List ServeFault) × (length faults ≤ most) × Appends old new (fault_lines faults)
+
 -- the line that tells the port
 abbrev pub listening_line : ℕ → List ℕ
 listening_line port = codes "listening 127.0.0.1:" ++ decimal port ++ 10 ∷ []
 
--- the line that tells some port is printed
-abbrev pub PrintsPort : Option (List ℕ) → Option (List ℕ) → Type 0
-PrintsPort old new = (port : ℕ) × (port ≤ MAX_PORT) × Appends old new (listening_line port)
+-- the port that is listened on where this one is asked for: that one, or any where 0 is
+abbrev pub IsPortOf : ℕ → ℕ → Type 0
+IsPortOf asked port = (port ≤ MAX_PORT) × (asked ≢ 0 → port ≡ asked)
+
+-- the line that tells the port is printed, where this one is asked for
+abbrev pub PrintsPort : ℕ → Option (List ℕ) → Option (List ℕ) → Type 0
+PrintsPort asked old new =
+    (port : ℕ) × IsPortOf asked port × Appends old new (listening_line port)

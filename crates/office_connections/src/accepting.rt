@@ -1,8 +1,7 @@
 // Connections, one after another.
-ghost use Rattle.std.specs.Prelude.{◌≡◌, ◌≤◌, IsTrue, List, OnOk, length};
+ghost use Rattle.std.specs.Prelude.{◌≡◌, ◌≤◌, IsTrue, OnOk};
 ghost use Rattle.std.specs.Io.KnownBytes.{Appends};
-ghost use Rattle.office_messages.specs.declared.connection.ServeFault.{ServeFault};
-ghost use Rattle.office_connections.specs.Lines.{fault_line, fault_lines, connection_fault_number};
+ghost use Rattle.office_connections.specs.Lines.{TellsFaults, connection_fault_number, fault_line};
 ghost use Rattle.office_connections.specs.Reaches.{Reaches};
 
 use crate::serving::serve_connection;
@@ -43,9 +42,8 @@ pub fn serve_connections<C: Clock, M: Machine, E: Write>(
 ) -> Service
     ensures reached { Reaches M.Answers machine.old machine.new }
     ensures accepted { result.accepted ≤ plan.connections }
-    ensures told { result.unwritten ≡ 0 → (faults : List ServeFault)
-        × (length faults ≤ result.accepted)
-        × Appends (E.contents err.old) (E.contents err.new) (fault_lines faults) }
+    ensures told { result.unwritten ≡ 0
+        → TellsFaults result.accepted (E.contents err.old) (E.contents err.new) }
 {
     let mut service = Service {
         accepted: 0,
@@ -72,8 +70,7 @@ fn serve_and_tell<C: Clock, M: Machine, E: Write>(
     err: &mut E,
 ) -> bool
     ensures reached { Reaches M.Answers machine.old machine.new }
-    ensures told { IsTrue result → (faults : List ServeFault) × (length faults ≤ 1)
-        × Appends (E.contents err.old) (E.contents err.new) (fault_lines faults) }
+    ensures told { IsTrue result → TellsFaults 1 (E.contents err.old) (E.contents err.new) }
 {
     match serve_connection(alloc, clock, stream, machine, patience) {
         Ok(_) => true,

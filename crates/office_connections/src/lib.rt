@@ -9,6 +9,6 @@ mod running;
 mod serving;
 
 pub use accepting::{Plan, Service, serve_connections};
-pub use listening::{MAX_PORT, announce, listen};
+pub use listening::{Listening, MAX_PORT, announce, listen};
 pub use running::{RunFault, serve_run};
 pub use serving::serve_connection;

@@ -1,7 +1,7 @@
 // Where connections come from.
-ghost use Rattle.std.specs.Prelude.{◌≡◌, ◌≤◌, ℕ, OnOk};
+ghost use Rattle.std.specs.Prelude.{IfOk, OnOk};
 ghost use Rattle.std.specs.Io.KnownBytes.{Appends};
-ghost use Rattle.office_connections.specs.Lines.{listening_line};
+ghost use Rattle.office_connections.specs.Lines.{IsPortOf, listening_line};
 
 use std::io;
 use std::io::Write;
@@ -10,12 +10,30 @@ use std::net::{Ipv4Addr, Net, SocketAddr, TcpListener, TcpStream};
 /// The greatest port.
 pub const MAX_PORT: u32 = 65_535;
 
+/// A port of 127.0.0.1 that is listened on.
+#[derive(Drop)]
+pub struct Listening {
+    /// Which port it is.
+    pub port: u16,
+    pub(crate) listener: TcpListener,
+}
+
 /// Listens on this port of 127.0.0.1; 0 takes any that is free.
 pub fn listen<R: Net<Listener = TcpListener, Stream = TcpStream>>(
     net: &R,
     port: u16,
-) -> io::Result<TcpListener> {
-    TcpListener::bind(net, SocketAddr::from((Ipv4Addr::LOCALHOST, port)))
+) -> io::Result<Listening>
+    ensures port { IfOk result (λ listening. IsPortOf port listening.port) }
+{
+    let listener = TcpListener::bind(net, SocketAddr::from((Ipv4Addr::LOCALHOST, port)))?;
+    let found = match port {
+        0 => listener.local_addr()?.port(),
+        asked => asked,
+    };
+    Ok(Listening {
+        port: found,
+        listener,
+    })
 }
 
 /// Tells the port that is listened on, as a line, and flushes it.

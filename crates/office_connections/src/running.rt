@@ -1,22 +1,20 @@
 // The run of a server.
-ghost use Rattle.std.specs.Prelude.{◌≡◌, ◌≤◌, IfErr, IfOk, List, length};
+ghost use Rattle.std.specs.Prelude.{◌≡◌, IfErr, IfOk};
 ghost use Rattle.std.specs.Io.KnownBytes.{Appends};
-ghost use Rattle.office_messages.specs.declared.connection.ServeFault.{ServeFault};
-ghost use Rattle.office_connections.specs.Lines.{PrintsPort, fault_lines};
+ghost use Rattle.office_connections.specs.Lines.{TellsFaults, listening_line};
 ghost use Rattle.office_connections.specs.Reaches.{Reaches};
 
 use crate::accepting::{Plan, serve_connections};
-use crate::listening::announce;
+use crate::listening::{Listening, announce};
 use office_messages::Machine;
 use std::alloc::Global;
 use std::io::Write;
-use std::net::TcpListener;
 use std::time::Clock;
 
 /// Why not all connections were served.
 #[derive(Clone, Copy)]
 pub enum RunFault {
-    /// The listener has no address, or an accept failed.
+    /// An accept failed.
     Listen,
     /// The line that tells the port could not be written; no connection was accepted.
     Write,
@@ -28,27 +26,27 @@ pub enum RunFault {
 pub fn serve_run<C: Clock, M: Machine, O: Write, E: Write>(
     alloc: Global,
     clock: &C,
-    listener: &TcpListener,
+    listening: &Listening,
     plan: Plan,
     machine: &mut M,
     out: &mut O,
     err: &mut E,
 ) -> Result<u32, RunFault>
     ensures reached { Reaches M.Answers machine.old machine.new }
-    ensures port { IfOk result (λ _. PrintsPort (O.contents out.old) (O.contents out.new)) }
-    ensures told { IfOk result (λ unwritten. unwritten ≡ 0 → (faults : List ServeFault)
-        × (length faults ≤ plan.connections)
-        × Appends (E.contents err.old) (E.contents err.new) (fault_lines faults)) }
+    ensures port { IfOk result (λ _. Appends (O.contents out.old) (O.contents out.new)
+        (listening_line listening.now.port)) }
+    ensures unaccepted { IfErr result (λ fault. fault ≡ RunFault.Listen
+        → Appends (O.contents out.old) (O.contents out.new)
+        (listening_line listening.now.port)) }
+    ensures told { IfOk result (λ unwritten. unwritten ≡ 0
+        → TellsFaults plan.connections (E.contents err.old) (E.contents err.new)) }
     ensures unserved { IfErr result (λ fault. fault ≡ RunFault.Write
-        → (machine.new ≡ machine.old)) }
+        → (machine.new ≡ machine.old) × (err.new ≡ err.old)) }
 {
-    let Ok(address) = listener.local_addr() else {
-        return Err(RunFault::Listen);
-    };
-    if announce(address.port(), out).is_err() {
+    if announce(listening.port, out).is_err() {
         return Err(RunFault::Write);
     }
-    let service = serve_connections(alloc, clock, listener, plan, machine, err);
+    let service = serve_connections(alloc, clock, &listening.listener, plan, machine, err);
     if service.accepted < plan.connections {
         return Err(RunFault::Listen);
     }

@@ -1,10 +1,12 @@
 -- What an office comes to while its desk is served.
-use Rattle.std.proofs.Common.{[], refl}
+use Rattle.std.proofs.Common.{◌≡◌, ◌⊎◌, [], inl, inr, refl}
 use Rattle.sqlite.specs.Held.{Held, state}
 use Rattle.sqlite.specs.State.{HasCleanDisk}
 use Rattle.sqlite.specs.Store.{Ghosts}
 use Rattle.office_store.specs.Running.{Now}
 use Rattle.office_connections.specs.Reaches.{Reaches}
+use Rattle.office_connections.specs.declared.running.RunFault.{RunFault}
+use Rattle.office_connections.specs.declared.running.RunFault.TheVariants.{Listen, Write}
 use Rattle.office_connections.proofs.ReachLemmas.{reaches_along, reaches_leads, reaches_sound}
 use Rattle.office_http.specs.Replying.{Answered, Replies, TellsCandidate}
 use Rattle.office_http.specs.Serving.{LeadsOffice}
@@ -46,3 +48,8 @@ module _ {S : Type 0} (store : Ghosts S) where
   -- and one that is left alone leads it nowhere
   pub stays_put : (old : Held S) → LeadsOffice store (Reaches RepliesByView) old old
   stays_put old = λ clean office now. (office, ([], refl), now)
+
+-- a run fails at listening or at writing
+pub listens_or_writes : (fault : RunFault) → (fault ≡ Listen) ⊎ (fault ≡ Write)
+listens_or_writes Listen = inl refl
+listens_or_writes Write = inr refl

@@ -1,12 +1,13 @@
--- What is said of the fault that the program ends with.
-use Rattle.std.specs.Prelude.{◌≡◌, ◌⊎◌, ℕ, ◌++◌, ◌∷◌, [], List, Option}
-use Rattle.std.specs.Io.KnownBytes.{Appends}
+-- What is said on the writer of faults, and what else is then printed.
+use Rattle.std.specs.Prelude.{◌≡◌, ◌≢◌, ◌⊎◌, ℕ, ◌++◌, ◌∷◌, [], List, Option}
+use Rattle.std.specs.Io.KnownBytes.{Appends, Keeps}
 use Rattle.clap.specs.Words.{Text}
+use Rattle.office_connections.specs.Lines.{PrintsPort, TellsFaults}
 use Rattle.office_program.specs.FaultLines.{fault_line}
 use Rattle.office_program.specs.Program.{IsTask}
 use Rattle.office_program.specs.Tasks.{IsOfTask}
 use Rattle.office_program.specs.declared.faults.ProgramFault.{ProgramFault}
-use Rattle.office_program.specs.declared.faults.ProgramFault.TheVariants as fault
+use Rattle.office_program.specs.declared.faults.ProgramFault.TheVariants.{CannotWrite, NoMemory}
 use Rattle.office_program.specs.declared.words.Task.{Task}
 use Rattle.office_program.specs.declared.words.Task.TheVariants.{Check, Export, Load, Serve}
 
@@ -18,24 +19,50 @@ IsSilent (Load database instance) old new = new ≡ old
 IsSilent (Serve database terms) old new = Unit {0}
 IsSilent (Export database) old new = new ≡ old
 
--- the line of a fault of the task is written, behind what the writer held when the fault came
+-- what is told there of a task that is done: nothing, but of a server the faults of as many
+-- connections at most as it was to serve
+abbrev pub TellsConnections : {W : Type 0} → (W → Option (List ℕ)) → Task → W → W → Type 0
+TellsConnections contents (Check instance solution) old new = new ≡ old
+TellsConnections contents (Load database instance) old new = new ≡ old
+TellsConnections contents (Serve database terms) old new =
+    TellsFaults terms.connections (contents old) (contents new)
+TellsConnections contents (Export database) old new = new ≡ old
+
+-- the writer of faults is as it was, or was told what a task of the words tells that is done
+abbrev pub IsQuiet : {W : Type 0} → (W → Option (List ℕ)) → List Text → W → W → Type 0
+IsQuiet contents words old new =
+    (new ≡ old)
+    ⊎ ((task : Task) × IsTask words task × TellsConnections contents task old new)
+
+-- what a task leaves printed whose fault is none of writing: what was, and of a server its port
+abbrev pub LeavesPrinted : Task → Option (List ℕ) → Option (List ℕ) → Type 0
+LeavesPrinted (Check instance solution) old new = Keeps old new
+LeavesPrinted (Load database instance) old new = Keeps old new
+LeavesPrinted (Serve database terms) old new = Keeps old new ⊎ PrintsPort terms.port old new
+LeavesPrinted (Export database) old new = Keeps old new
+
+-- the line of a fault of the task is written, behind what the writer held when the fault came; and
+-- where it is none of writing, nothing else is printed but a server's port
 pub record TellsTask {W : Type 0} (contents : W → Option (List ℕ)) (task : Task) (old new : W)
-    : Type 0 where
+    (printed_old printed_new : Option (List ℕ)) : Type 0 where
   pub shown : ProgramFault
   pub fault : IsOfTask task shown
   pub before : W
   pub silent : IsSilent task old before
   pub line : Appends (contents before) (contents new) (fault_line shown ++ 10 ∷ [])
+  pub printed : shown ≢ CannotWrite → LeavesPrinted task printed_old printed_new
 
--- the line of words that give no task is written: memory ran out for them, or the help that they
--- ask for could not be written
-abbrev pub TellsNoTask : Option (List ℕ) → Option (List ℕ) → Type 0
-TellsNoTask old new =
-    Appends old new (fault_line fault.NoMemory ++ 10 ∷ [])
-    ⊎ Appends old new (fault_line fault.CannotWrite ++ 10 ∷ [])
+-- the line of words that give no task is written: memory ran out for them, and nothing is printed;
+-- or the help that they ask for could not be written
+abbrev pub TellsNoTask : (old new printed_old printed_new : Option (List ℕ)) → Type 0
+TellsNoTask old new printed_old printed_new =
+    (Appends old new (fault_line NoMemory ++ 10 ∷ []) × Keeps printed_old printed_new)
+    ⊎ Appends old new (fault_line CannotWrite ++ 10 ∷ [])
 
 -- the line of a fault is written, of the task of the words or of words that give none
-abbrev pub TellsFault : {W : Type 0} → (W → Option (List ℕ)) → List Text → W → W → Type 0
-TellsFault contents words old new =
-    ((task : Task) × IsTask words task × TellsTask contents task old new)
-    ⊎ TellsNoTask (contents old) (contents new)
+abbrev pub TellsFault : {W : Type 0} → (W → Option (List ℕ)) → List Text → (old new : W)
+    → (printed_old printed_new : Option (List ℕ)) → Type 0
+TellsFault contents words old new printed_old printed_new =
+    ((task : Task) × IsTask words task
+    × TellsTask contents task old new printed_old printed_new)
+    ⊎ TellsNoTask (contents old) (contents new) printed_old printed_new

@@ -1,9 +1,9 @@
 -- What `export` makes of the office that a database stands for.
-use Rattle.std.specs.Prelude.{◌≡◌, List, ℕ, Option, Some, None, option_map}
+use Rattle.std.specs.Prelude.{◌≡◌, ◌<◌, ◌≤◌, List, length, ℕ, Option, Some, None, IsSome, option_map}
 use Rattle.std.specs.Io.KnownBytes.{Appends}
 use Rattle.sqlite.specs.State.{State}
 use Rattle.exam_model.specs.Instance.{Session}
-use Rattle.exam_model.specs.Timetable.{Placing}
+use Rattle.exam_model.specs.Timetable.{Placing, place_of}
 use Rattle.office_files.specs.CanonicalSolution.{canonical_solution}
 use Rattle.office_model.specs.Office.{OfficeState, Publication}
 use Rattle.office_model.specs.Step.{publication_in}
@@ -34,6 +34,11 @@ RefusesExport office fault.NoPublication = published_solution office ≡ None
 RefusesExport office fault.NoMemory = Unit {0}
 RefusesExport office fault.Write = (text : List ℕ) × (published_solution office ≡ Some text)
 
--- the canonical solution of some timetable is printed
+-- a whole timetable: it has exams, and each of them a place
+abbrev pub IsWhole : Placing → Type 0
+IsWhole T = (1 ≤ length T) × ((e : ℕ) → e < length T → IsSome (place_of T e))
+
+-- the canonical solution of some whole timetable is printed
 abbrev pub PrintsSolution : Option (List ℕ) → Option (List ℕ) → Type 0
-PrintsSolution old new = (T : Placing) × Appends old new (canonical_solution T)
+PrintsSolution old new =
+    (T : Placing) × IsWhole T × Appends old new (canonical_solution T)

@@ -10,11 +10,11 @@ use Rattle.office_program.specs.declared.words.Task.{Task}
 use Rattle.office_program.specs.declared.words.Task.TheVariants.{Check, Export, Load, Serve}
 
 -- a report on a solution that breaks no hard rule, the line of what some text spells, the line of
--- some port, or some timetable's solution
+-- the port, or some whole timetable's solution
 abbrev pub Prints : Task → Option (List ℕ) → Option (List ℕ) → Type 0
 Prints (Check instance solution) old new = WritesReport old new 0
 Prints (Load database instance) old new = (text : List ℕ) × PrintsCounts text old new
-Prints (Serve database terms) old new = PrintsPort old new
+Prints (Serve database terms) old new = PrintsPort terms.port old new
 Prints (Export database) old new = PrintsSolution old new
 
 -- the fault shows as one of the files that the task names

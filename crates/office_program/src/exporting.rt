@@ -8,10 +8,11 @@ ghost use Rattle.office_files.specs.CanonicalSolution.{canonical_solution};
 ghost use Rattle.office_model.specs.Office.{OfficeState};
 ghost use Rattle.office_records.specs.Stands.{IsKept};
 ghost use Rattle.office_store.specs.Running.{Now};
-ghost use Rattle.office_program.specs.Export.{Exports, PrintsSolution, RefusesExport};
+ghost use Rattle.office_program.specs.Export.{Exports, IsWhole, PrintsSolution, RefusesExport};
 ghost use Rattle.office_program.specs.Export.{published_solution};
 ghost use Rattle.office_program.specs.TaskFaults.{IsOfExport};
 
+use crate::ending::Ending;
 use crate::faults::{ProgramFault, fault_of_export, fault_of_open};
 use crate::telling::{LongWork, tell};
 use office_files::{FaultKind, write_solution};
@@ -37,10 +38,12 @@ pub(crate) fn export<'a, W: Write>(
     rt: &HostRuntime,
     database: &str,
     out: &mut W,
-) -> Result<u8, ProgramFault<'a>>
-    ensures status { IfOk result (λ status. status ≡ 0) }
+) -> Result<Ending, ProgramFault<'a>>
+    ensures status { IfOk result (λ ending. ending.status ≡ 0) }
     ensures printed { IfOk result (λ _. PrintsSolution (W.contents out.old) (W.contents out.new)) }
     ensures fault { IfErr result IsOfExport }
+    ensures unwritten { IfErr result (λ fault. fault ≢ ProgramFault.CannotWrite
+        → Keeps (W.contents out.old) (W.contents out.new)) }
 {
     tell(rt, LongWork::Opening(database));
     let conn = match Connection::open(rt, database) {
@@ -51,7 +54,7 @@ pub(crate) fn export<'a, W: Write>(
     match export_run(rt.alloc(), conn, out) {
         Ok(conn) => {
             let _ = conn.close();
-            Ok(0)
+            Ok(Ending::quiet(0))
         }
         Err((fault, conn)) => {
             let _ = conn.close();
@@ -126,7 +129,8 @@ fn published_text<S: Alter>(alloc: Global, office: &mut Office<S>) -> Result<Vec
         → IfOk result (λ _. Now (state S.Store office.new) there) }
     ensures refused { HasCleanDisk (state S.Store office.new) → (there : OfficeState)
         → Now (state S.Store office.old) there → IfErr result (RefusesExport there) }
-    ensures solution { IfOk result (λ text. (T : Placing) × (text.items ≡ canonical_solution T)) }
+    ensures solution { IfOk result (λ text. (T : Placing) × IsWhole T
+        × (text.items ≡ canonical_solution T)) }
     ensures read { IfErr result (λ fault. fault ≢ ExportFault.Write) }
     ensures clean { HasCleanDisk (state S.Store office.new)
         → HasCleanDisk (state S.Store office.old) }
@@ -138,6 +142,7 @@ fn published_text<S: Alter>(alloc: Global, office: &mut Office<S>) -> Result<Vec
     let Some((timetable, _)) = found else {
         return Err(ExportFault::NoPublication);
     };
+    let _exams = timetable.exams(); // read for its bound
     match write_solution(alloc, &timetable) {
         Ok(text) => Ok(text),
         Err(fault) => Err(text_fault(fault.what)),

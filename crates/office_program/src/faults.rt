@@ -63,7 +63,8 @@ pub(crate) fn fault_on<'a>(
     instance: &'a str,
     solution: &'a str,
 ) -> ProgramFault<'a>
-    ensures { fault_line result ≡ check_line instance.now solution.now fault }
+    ensures line { fault_line result ≡ check_line instance.now solution.now fault }
+    ensures write { fault ≡ CheckFault.Write → result ≡ ProgramFault.CannotWrite }
 {
     match fault {
         CheckFault::ReadInstance => ProgramFault::CannotRead(instance),
@@ -88,7 +89,8 @@ pub(crate) fn fault_of_input<'a>(fault: InputFault, path: &'a str) -> ProgramFau
 
 // What a fault of `load` is to the program.
 pub(crate) fn fault_of_load<'a>(fault: LoadFault) -> ProgramFault<'a>
-    ensures { fault_line result ≡ load_line fault }
+    ensures line { fault_line result ≡ load_line fault }
+    ensures write { fault ≡ LoadFault.Write → result ≡ ProgramFault.CannotWrite }
 {
     match fault {
         LoadFault::Store(StoreFault::Refused(Refusal::File(fault))) => ProgramFault::Instance(
@@ -101,7 +103,8 @@ pub(crate) fn fault_of_load<'a>(fault: LoadFault) -> ProgramFault<'a>
 
 // What a fault of `export` is to the program.
 pub(crate) fn fault_of_export<'a>(fault: ExportFault) -> ProgramFault<'a>
-    ensures { fault_line result ≡ export_line fault }
+    ensures line { fault_line result ≡ export_line fault }
+    ensures write { fault ≡ ExportFault.Write → result ≡ ProgramFault.CannotWrite }
 {
     match fault {
         ExportFault::Store(fault) => ProgramFault::Store(fault),
@@ -113,7 +116,8 @@ pub(crate) fn fault_of_export<'a>(fault: ExportFault) -> ProgramFault<'a>
 
 // What a fault of a server's run is to the program.
 pub(crate) fn fault_of_run<'a>(fault: RunFault) -> ProgramFault<'a>
-    ensures { fault_line result ≡ run_line fault }
+    ensures line { fault_line result ≡ run_line fault }
+    ensures write { fault ≡ RunFault.Write → result ≡ ProgramFault.CannotWrite }
 {
     match fault {
         RunFault::Listen => ProgramFault::CannotListen,

@@ -2,6 +2,7 @@
 //! published, as the words of its command line say.
 #![tactic(auto)]
 
+mod ending;
 mod exporting;
 mod faults;
 mod helps;
@@ -11,8 +12,9 @@ mod serving;
 mod telling;
 mod words;
 
+pub use ending::Ending;
 pub use exporting::{ExportFault, export_run};
 pub use loading::{LoadFault, load_run};
-pub use program::{Ending, refuse_arguments, run_program};
+pub use program::{refuse_arguments, run_program};
 pub use serving::{serve_desk, serve_stored};
 pub use words::{Task, Terms, read_words, words_of};

@@ -1,7 +1,7 @@
 // The whole program, over a file system and two writers.
 ghost use Rattle.std.specs.Prelude.{◌≡◌, ◌≢◌, ◌≤◌, ◌↔◌, ◌⊎◌, ◌++◌, ◌∷◌, [], IfErr, IfOk, OnOk};
 ghost use Rattle.std.specs.Prelude.{ℕ, IsTrue, List, length, map, string_bytes};
-ghost use Rattle.std.specs.Io.KnownBytes.{Appends};
+ghost use Rattle.std.specs.Io.KnownBytes.{Appends, Keeps};
 ghost use Rattle.std.specs.IoError.{error_kind};
 ghost use Rattle.std.specs.declared.io.ErrorKind.TheVariants as failure;
 ghost use Rattle.clap.specs.Words.{kind_of};
@@ -9,7 +9,8 @@ ghost use Rattle.clap.specs.Faults.{fault_of};
 ghost use Rattle.clap.specs.declared.error.kind.ErrorKind.TheVariants as kind;
 ghost use Rattle.exam_terms.specs.declared.limits.TheConstants.{INSTANCE_BYTES};
 ghost use Rattle.office_check.specs.Check.{WritesReport};
-ghost use Rattle.office_program.specs.Endings.{IsSilent, TellsFault, TellsNoTask};
+ghost use Rattle.office_program.specs.Endings.{IsQuiet, IsSilent, LeavesPrinted};
+ghost use Rattle.office_program.specs.Endings.{TellsConnections, TellsFault, TellsNoTask};
 ghost use Rattle.office_program.specs.FaultLines.{fault_line, not_text_line};
 ghost use Rattle.office_program.specs.Load.{PrintsCounts};
 ghost use Rattle.office_program.specs.Program.{AreAnswered, IsMistake, IsTask, program};
@@ -17,6 +18,7 @@ ghost use Rattle.office_program.specs.TaskFaults.{IsOfCheck, IsOfLoad, IsOfOffic
 ghost use Rattle.office_program.specs.Tasks.{IsOfTask, Prints};
 ghost use Rattle.office_program.specs.declared.words.Task.{Task};
 
+use crate::ending::Ending;
 use crate::exporting::export;
 use crate::faults::{ProgramFault, fault_of_input, fault_of_load, fault_of_open, fault_on};
 use crate::loading::load_run;
@@ -31,17 +33,6 @@ use office_http::Connection;
 use std::io::Write;
 use std::rt::Files;
 use std::{fs, io};
-
-/// How the program ended.
-#[derive(Clone, Copy)]
-pub struct Ending {
-    /// The exit status: 0 done, 1 a fault of a file, an office, a port, `out` or memory, 2 a
-    /// mistake in the words, 3 a solution that breaks a hard rule.
-    pub status: u8,
-    /// Whether the writer of faults took the whole line of the fault, or text of the mistake, that
-    /// it ended with; true where it ended with none.
-    pub is_told: bool,
-}
 
 /// Does what the words say, of which the first is the program's name. The line of a fault, also of
 /// a connection, and the text of a mistake go to `err`, all else goes to `out`.
@@ -62,24 +53,29 @@ pub fn run_program<O: Write, E: Write>(
     ensures reported { result.status ≡ 3
         → WritesReport (O.contents out.old) (O.contents out.new) 3 }
 
+    // Help, and what a task prints that is done, are written on `out` alone; but a server tells on
+    // `err` the faults of connections. A mistake leaves `out` as it was.
+    ensures quiet { (result.status ≡ 0) ⊎ (result.status ≡ 3) → IsTrue result.is_told
+        → IsQuiet E.contents (map string_bytes words.now) err.old err.new }
+    ensures unprinted { result.status ≡ 2 → out.new ≡ out.old }
+
     // What is done is the task of the words, and what it prints is written whole.
     ensures done { result.status ≡ 0 → fault_of program (map string_bytes words.now) ≡ []
         → (task : Task) × IsTask (map string_bytes words.now) task
         × Prints task (O.contents out.old) (O.contents out.new) }
 
-    // Status 1 comes with the line of a fault of the words, written whole, unless `err` failed.
+    // Status 1 comes with the line of a fault of the words, written whole, unless `err` failed; and
+    // where it is none of writing, `out` is as it was, or the port was told there.
     ensures told { result.status ≡ 1 → IsTrue result.is_told
-        → TellsFault E.contents (map string_bytes words.now) err.old err.new }
+        → TellsFault E.contents (map string_bytes words.now) err.old err.new
+        (O.contents out.old) (O.contents out.new) }
 {
     let task = match read_words(rt.alloc(), words) {
         Ok(task) => task,
         Err(error) => return refuse_words(&error, out, err),
     };
     match run_task(rt, &task, out, err) {
-        Ok(status) => Ending {
-            status,
-            is_told: true,
-        },
+        Ok(ending) => ending,
         Err(fault) => complain(&fault, err),
     }
 }
@@ -90,16 +86,20 @@ fn run_task<'a, W: Write, E: Write>(
     task: &'a Task,
     out: &mut W,
     err: &mut E,
-) -> Result<u8, ProgramFault<'a>>
-    ensures status { IfOk result (λ status. (status ≡ 0) ⊎ (status ≡ 3)) }
-    ensures broken { IfOk result (λ status. status ≡ 3
+) -> Result<Ending, ProgramFault<'a>>
+    ensures status { IfOk result (λ ending. (ending.status ≡ 0) ⊎ (ending.status ≡ 3)) }
+    ensures broken { IfOk result (λ ending. ending.status ≡ 3
         → WritesReport (W.contents out.old) (W.contents out.new) 3) }
-    ensures done { IfOk result (λ status. status ≡ 0
+    ensures done { IfOk result (λ ending. ending.status ≡ 0
         → Prints task.now (W.contents out.old) (W.contents out.new)) }
+    ensures quiet { IfOk result (λ ending. IsTrue ending.is_told
+        → TellsConnections E.contents task.now err.old err.new) }
 
     // A line that names a file names one of the task's.
     ensures fault { IfErr result (IsOfTask task.now) }
     ensures silent { IsSilent task.now err.old err.new }
+    ensures unwritten { IfErr result (λ fault. fault ≢ ProgramFault.CannotWrite
+        → LeavesPrinted task.now (W.contents out.old) (W.contents out.new)) }
 {
     match task {
         Task::Check(instance, solution) => check(rt, instance, solution, out),
@@ -115,12 +115,15 @@ fn check<'a, R: Files + AllocGlobal, W: Write>(
     instance: &'a str,
     solution: &'a str,
     out: &mut W,
-) -> Result<u8, ProgramFault<'a>>
-    ensures status { IfOk result (λ status. (status ≡ 0) ⊎ (status ≡ 3)) }
-    ensures reported { IfOk result (WritesReport (W.contents out.old) (W.contents out.new)) }
+) -> Result<Ending, ProgramFault<'a>>
+    ensures status { IfOk result (λ ending. (ending.status ≡ 0) ⊎ (ending.status ≡ 3)) }
+    ensures reported { IfOk result (λ ending.
+        WritesReport (W.contents out.old) (W.contents out.new) ending.status) }
 
     // A line that names a file names one of the two.
     ensures fault { IfErr result (IsOfCheck instance.now solution.now) }
+    ensures unwritten { IfErr result (λ fault. fault ≢ ProgramFault.CannotWrite
+        → Keeps (W.contents out.old) (W.contents out.new)) }
 {
     let Ok(mut instance_file) = fs::open(rt, instance) else {
         return Err(ProgramFault::CannotRead(instance));
@@ -129,7 +132,7 @@ fn check<'a, R: Files + AllocGlobal, W: Write>(
         return Err(ProgramFault::CannotRead(solution));
     };
     match check_run(rt.alloc(), &mut instance_file, &mut solution_file, out) {
-        Ok(status) => Ok(status),
+        Ok(status) => Ok(Ending::quiet(status)),
         Err(fault) => Err(fault_on(fault, instance, solution)),
     }
 }
@@ -140,13 +143,15 @@ fn load<'a, W: Write>(
     database: &str,
     instance: &'a str,
     out: &mut W,
-) -> Result<u8, ProgramFault<'a>>
-    ensures status { IfOk result (λ status. status ≡ 0) }
+) -> Result<Ending, ProgramFault<'a>>
+    ensures status { IfOk result (λ ending. ending.status ≡ 0) }
     ensures printed { IfOk result (λ _. (text : List ℕ)
         × PrintsCounts text (W.contents out.old) (W.contents out.new)) }
 
     // A line that names a file names the instance's.
     ensures fault { IfErr result (IsOfLoad instance.now) }
+    ensures unwritten { IfErr result (λ fault. fault ≢ ProgramFault.CannotWrite
+        → Keeps (W.contents out.old) (W.contents out.new)) }
 {
     tell(rt, LongWork::Loading(instance));
     match text_at(rt, instance) {
@@ -171,11 +176,13 @@ fn load_text<'a, W: Write>(
     database: &str,
     text: &[u8],
     out: &mut W,
-) -> Result<u8, ProgramFault<'a>>
-    ensures status { IfOk result (λ status. status ≡ 0) }
+) -> Result<Ending, ProgramFault<'a>>
+    ensures status { IfOk result (λ ending. ending.status ≡ 0) }
     ensures printed { IfOk result (λ _.
         PrintsCounts text.now (W.contents out.old) (W.contents out.new)) }
     ensures fault { IfErr result (IsOfOffice text.now) }
+    ensures unwritten { IfErr result (λ fault. fault ≢ ProgramFault.CannotWrite
+        → Keeps (W.contents out.old) (W.contents out.new)) }
 {
     tell(rt, LongWork::Opening(database));
     let conn = match Connection::open(rt, database) {
@@ -186,7 +193,7 @@ fn load_text<'a, W: Write>(
     match load_run(rt.alloc(), conn, text, out) {
         Ok(conn) => {
             let _ = conn.close();
-            Ok(0)
+            Ok(Ending::quiet(0))
         }
         Err((fault, conn)) => {
             let _ = conn.close();
@@ -202,7 +209,10 @@ fn refuse_words<O: Write, E: Write>(error: &Error, out: &mut O, err: &mut E) -> 
         ⊎ (kind_of error.now ≡ kind.DisplayVersion) }
     ensures mistake { (result.status ≡ 2) ↔ IsMistake (kind_of error.now) }
     ensures told { result.status ≡ 1 → IsTrue result.is_told
-        → TellsNoTask (E.contents err.old) (E.contents err.new) }
+        → TellsNoTask (E.contents err.old) (E.contents err.new)
+        (O.contents out.old) (O.contents out.new) }
+    ensures quiet { result.status ≡ 0 → err.new ≡ err.old }
+    ensures unprinted { result.status ≡ 2 → out.new ≡ out.old }
 {
     if error.kind() == ErrorKind::OutOfMemory {
         return complain(&ProgramFault::NoMemory, err);
@@ -214,10 +224,7 @@ fn refuse_words<O: Write, E: Write>(error: &Error, out: &mut O, err: &mut E) -> 
         };
     }
     match write!(out, "{error}") {
-        Ok(()) => Ending {
-            status: 0,
-            is_told: true,
-        },
+        Ok(()) => Ending::quiet(0),
         Err(_) => complain(&ProgramFault::CannotWrite, err),
     }
 }

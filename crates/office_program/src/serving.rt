@@ -2,14 +2,14 @@
 ghost use Rattle.std.specs.Prelude.{◌≡◌, IfErr, IfOk};
 ghost use Rattle.sqlite.specs.Held.{state};
 ghost use Rattle.sqlite.specs.State.{HasCleanDisk};
-ghost use Rattle.office_connections.specs.Lines.{PrintsPort};
 ghost use Rattle.office_connections.specs.Reaches.{Reaches};
 ghost use Rattle.office_http.specs.Serving.{LeadsOffice};
 ghost use Rattle.office_model.specs.Office.{OfficeState};
 ghost use Rattle.office_store.specs.Opening.{IsOfficeOf};
-ghost use Rattle.office_program.specs.Serve.{ComesTo, RepliesByView};
+ghost use Rattle.office_program.specs.Serve.{ComesTo, LeavesPort, PrintsServed, RepliesByView};
 ghost use Rattle.office_program.specs.TaskFaults.{IsOfServe};
 
+use crate::ending::Ending;
 use crate::faults::{ProgramFault, fault_of_open, fault_of_run};
 use crate::telling::{LongWork, TellingMachine, tell};
 use crate::words::Terms;
@@ -26,10 +26,12 @@ pub(crate) fn serve<'a, O: Write, E: Write>(
     terms: Terms,
     out: &mut O,
     err: &mut E,
-) -> Result<u8, ProgramFault<'a>>
-    ensures status { IfOk result (λ status. status ≡ 0) }
-    ensures port { IfOk result (λ _. PrintsPort (O.contents out.old) (O.contents out.new)) }
+) -> Result<Ending, ProgramFault<'a>>
+    ensures served { IfOk result (PrintsServed terms (O.contents out.old) (O.contents out.new)
+        (E.contents err.old) (E.contents err.new)) }
     ensures fault { IfErr result IsOfServe }
+    ensures port { IfErr result
+        (LeavesPort terms (O.contents out.old) (O.contents out.new)) }
 {
     tell(rt, LongWork::Opening(database));
     let conn = match Connection::open(rt, database) {
@@ -51,7 +53,7 @@ pub fn serve_stored<'a, S: Alter, O: Write, E: Write>(
     terms: Terms,
     out: &mut O,
     err: &mut E,
-) -> (Connection<S>, Result<u8, ProgramFault<'a>>)
+) -> (Connection<S>, Result<Ending, ProgramFault<'a>>)
     // Over a disk that returns what was written, and that has nothing uncommitted: however it ends,
     // the database stands for an office that the one which was found comes to by replying to some
     // requests.
@@ -59,9 +61,11 @@ pub fn serve_stored<'a, S: Alter, O: Write, E: Write>(
         → ((state S.Store conn).now ≡ (state S.Store conn).committed)
         → (there : OfficeState) → IsOfficeOf (state S.Store conn).now there
         → ComesTo there (state S.Store result.0) }
-    ensures status { IfOk result.1 (λ status. status ≡ 0) }
-    ensures port { IfOk result.1 (λ _. PrintsPort (O.contents out.old) (O.contents out.new)) }
+    ensures served { IfOk result.1 (PrintsServed terms (O.contents out.old) (O.contents out.new)
+        (E.contents err.old) (E.contents err.new)) }
     ensures fault { IfErr result.1 IsOfServe }
+    ensures port { IfErr result.1
+        (LeavesPort terms (O.contents out.old) (O.contents out.new)) }
 {
     let office = match Office::open(rt.alloc(), conn) {
         Ok(office) => office,
@@ -82,13 +86,15 @@ pub fn serve_desk<'a, S: Alter, O: Write, E: Write>(
     desk: &mut Desk<S>,
     out: &mut O,
     err: &mut E,
-) -> Result<u8, ProgramFault<'a>>
+) -> Result<Ending, ProgramFault<'a>>
     // Over a disk that returns what was written, whatever office stood there before.
     ensures reached { LeadsOffice S.Store (Reaches RepliesByView) desk.old desk.new }
     ensures clean { HasCleanDisk (state S.Store desk.new) → HasCleanDisk (state S.Store desk.old) }
-    ensures status { IfOk result (λ status. status ≡ 0) }
-    ensures port { IfOk result (λ _. PrintsPort (O.contents out.old) (O.contents out.new)) }
+    ensures served { IfOk result (PrintsServed terms (O.contents out.old) (O.contents out.new)
+        (E.contents err.old) (E.contents err.new)) }
     ensures fault { IfErr result IsOfServe }
+    ensures port { IfErr result
+        (LeavesPort terms (O.contents out.old) (O.contents out.new)) }
 {
     let Ok(routes) = Routes::new(rt.alloc()) else {
         return Err(ProgramFault::NoMemory);
@@ -109,11 +115,13 @@ fn serve_with_notices<'a, M: Machine, O: Write, E: Write>(
     machine: &mut M,
     out: &mut O,
     err: &mut E,
-) -> Result<u8, ProgramFault<'a>>
+) -> Result<Ending, ProgramFault<'a>>
     ensures reached { Reaches M.Answers machine.old machine.new }
-    ensures status { IfOk result (λ status. status ≡ 0) }
-    ensures port { IfOk result (λ _. PrintsPort (O.contents out.old) (O.contents out.new)) }
+    ensures served { IfOk result (PrintsServed terms (O.contents out.old) (O.contents out.new)
+        (E.contents err.old) (E.contents err.new)) }
     ensures fault { IfErr result IsOfServe }
+    ensures port { IfErr result
+        (LeavesPort terms (O.contents out.old) (O.contents out.new)) }
 {
     let mut telling = TellingMachine {
         rt,
@@ -130,21 +138,26 @@ fn serve_on<'a, M: Machine, O: Write, E: Write>(
     machine: &mut M,
     out: &mut O,
     err: &mut E,
-) -> Result<u8, ProgramFault<'a>>
+) -> Result<Ending, ProgramFault<'a>>
     ensures reached { Reaches M.Answers machine.old machine.new }
-    ensures status { IfOk result (λ status. status ≡ 0) }
-    ensures port { IfOk result (λ _. PrintsPort (O.contents out.old) (O.contents out.new)) }
+    ensures served { IfOk result (PrintsServed terms (O.contents out.old) (O.contents out.new)
+        (E.contents err.old) (E.contents err.new)) }
     ensures fault { IfErr result IsOfServe }
+    ensures port { IfErr result
+        (LeavesPort terms (O.contents out.old) (O.contents out.new)) }
 {
-    let Ok(listener) = listen(rt, terms.port) else {
+    let Ok(listening) = listen(rt, terms.port) else {
         return Err(ProgramFault::CannotListen);
     };
     let plan = Plan {
         connections: terms.connections,
         patience: Duration::from_secs(u64::from(terms.patience)),
     };
-    match serve_run(rt.alloc(), rt, &listener, plan, machine, out, err) {
-        Ok(_) => Ok(0),
+    match serve_run(rt.alloc(), rt, &listening, plan, machine, out, err) {
+        Ok(unwritten) => Ok(Ending {
+            status: 0,
+            is_told: unwritten == 0,
+        }),
         Err(fault) => Err(fault_of_run(fault)),
     }
 }

@@ -1,7 +1,5 @@
-use Rattle.std.specs.Prelude.{◌≡◌, ◌-◌, ◌≤◌, List, length}
-use Rattle.std.specs.Io.KnownBytes.{Appends}
-use Rattle.office_messages.specs.declared.connection.ServeFault.{ServeFault}
-use Rattle.office_connections.specs.Lines.{fault_lines}
+use Rattle.std.specs.Prelude.{◌≡◌, ◌-◌, ◌≤◌}
+use Rattle.office_connections.specs.Lines.{TellsFaults}
 use Rattle.office_connections.specs.Reaches.{Reaches}
 use Rattle.office_connections.proofs.accepting.serve_connections.Given as goal
 
@@ -11,9 +9,8 @@ invariant-loop-service g l = record {
   reached : Reaches g.M.Machine.Answers l.fn.machine l.machine;
   accepted : l.service.accepted ≤ l.plan.connections;
   unwritten : l.service.unwritten ≤ l.service.accepted;
-  told : l.service.unwritten ≡ 0 → (faults : List ServeFault)
-      × (length faults ≤ l.service.accepted)
-      × Appends (g.E.Write.contents l.fn.err) (g.E.Write.contents l.err) (fault_lines faults);
+  told : l.service.unwritten ≡ 0 → TellsFaults l.service.accepted
+      (g.E.Write.contents l.fn.err) (g.E.Write.contents l.err);
 }
 
 abbrev pub decreases-loop-service : goal.decreases-loop-service

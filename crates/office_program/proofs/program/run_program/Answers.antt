@@ -1,10 +1,15 @@
-use Rattle.std.proofs.Common.{inl}
+use Rattle.std.proofs.Common.{inl, inr}
 use Rattle.office_program.proofs.program.run_program.Goals as goal
 
 -- the task of the words prints what it has to
 pub returns-in-Ok-run_task-clause-done : goal.returns-in-Ok-run_task-clause-done
 returns-in-Ok-run_task-clause-done g c = λ zero valid.
     (c.in-Ok.task, c.in-Ok.ensures.task, c.in-Ok-run_task.ensures.done zero)
+
+-- and tells of connections alone
+pub returns-in-Ok-run_task-clause-quiet : goal.returns-in-Ok-run_task-clause-quiet
+returns-in-Ok-run_task-clause-quiet g c = λ ended told. inr
+    (c.in-Ok.task, c.in-Ok.ensures.task, c.in-Ok-run_task.ensures.quiet told)
 
 -- or its fault is told
 pub returns-clause-told : goal.returns-clause-told
@@ -17,5 +22,6 @@ returns-clause-told g c = λ one told. inl (
     before = c.run_task.new.err;
     silent = c.run_task.ensures.silent;
     line = c.complain.ensures.told told;
+    printed = c.in-Err-run_task.ensures.unwritten;
   },
 )
