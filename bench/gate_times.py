@@ -3,7 +3,10 @@
 
 Runs the command in a session of its own, and looks twice a second at the prover's processes of that
 session. In the end it prints the rows of the table in docs/WORKING.md: seconds of processor for proofs, for tests
-and for the wrong bodies of the gate, and how long a Python loop of 5,000,000 additions took."""
+and for the wrong bodies of the gate, then the seconds of the whole run beside the gate's budget, and how long a Python
+loop of 5,000,000 additions took. Proofs that an earlier run kept take nothing: only a run from nothing
+(`rt ci --anew` in ./test, or a machine that has kept none) is measured against the budget."""
+import resource
 import subprocess
 import sys
 import time
@@ -11,6 +14,7 @@ from collections import defaultdict
 from pathlib import Path
 
 TICKS = 100  # of a second: what /proc counts in
+BUDGET = 9_500  # seconds of processor that the gate may take from nothing
 
 
 def main(words):
@@ -25,6 +29,8 @@ def main(words):
     minutes = (time.monotonic() - begun) / 60
     loops.append(loop())
     print(table(seen))
+    used = resource.getrusage(resource.RUSAGE_CHILDREN)
+    print(f"{used.ru_utime + used.ru_stime:,.0f} s of processor in all; the budget from nothing is {BUDGET:,} s")
     print(f"{minutes:.1f} minutes; the loop took {loops[0]:.2f} s before, {loops[1]:.2f} s after")
     return run.returncode
 

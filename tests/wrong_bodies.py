@@ -1,17 +1,21 @@
 #!/usr/bin/env python3
 """The wrong bodies that the gate does not try each time: crates/*/wrong-bodies/*.edit.
 
-    python3 tests/wrong_bodies.py try [CRATE..]   tries those of these crates, or of all
-    python3 tests/wrong_bodies.py current         says which crates have to be tried again
+    python3 tests/wrong_bodies.py try [CRATE..]   tries those of these crates, or of all, that were not
+                                                  refused with these sources before
+    python3 tests/wrong_bodies.py current         lists those that have to be tried
 
 A crate is proved first, without an edit. Then its edits are tried in a copy, over what that proof
 kept, so that a check proves what an edit touches; each must be refused by the prover. A function is
 proved from its own body and from the contracts of what it calls, so edits of different functions are
-tried together, in one check: an edit is refused where a goal of the function that it is in stays
-open. That this one calls another that is not proved counts for nothing. What is not refused so is
-tried alone, and refused where a goal of any function stays open, that of a caller, say; the rest is
-left to `rt must-fail`. All checks of a crate, and crates, run side by side. Where all of a crate
-are refused, wrong-bodies/TRIED gets the hash of all that was tried."""
+tried together, in one check: an edit is refused if a goal of its own function stays open. That this
+function calls another that is not proved doesn't count. What is not refused so is tried alone, and is
+refused if a goal of any function stays open, that of a caller, say; the rest is left to
+`rt must-fail`. All checks of a crate, and crates, run side by side.
+
+wrong-bodies/TRIED has a line for each edit that was refused: a hash of the crate's sources and of the
+edit, and the edit's name. So an edit that is added or changed is tried by itself, and a change of the
+sources makes all edits of the crate to be tried again."""
 import hashlib
 import os
 import re
@@ -27,7 +31,6 @@ from queue import Empty, SimpleQueue
 
 ROOT = Path(__file__).resolve().parent.parent
 SOURCES = ("src", "specs", "proofs")
-PARTS = (*SOURCES, "wrong-bodies")
 # what a comment begins with
 COMMENT = {".rt": b"//", ".antt": b"--"}
 # what a check keeps for the next one
@@ -57,9 +60,11 @@ def crates_with_edits():
 
 
 def say_current(crates):
-    late = [name for name in crates if tried(name) != hash_of(name)]
+    late = {name: edits for name in crates if (edits := untried(name))}
+    for name, edits in late.items():
+        print(f"wrong bodies: {name}: to be tried: {' '.join(at.stem for at in edits)}", file=sys.stderr)
     if late:
-        print(f"wrong bodies: to be tried again, by ./test wrong {' '.join(late)}", file=sys.stderr)
+        print(f"wrong bodies: run ./test wrong {' '.join(late)}", file=sys.stderr)
         return 1
     print(f"wrong bodies: {sum(len(edits_of(name)) for name in crates)} of {len(crates)} crates tried as they are")
     return 0
@@ -67,14 +72,15 @@ def say_current(crates):
 
 def try_all(names):
     begun = time.monotonic()
-    wanted = sum(len(edits_of(name)) for name in names)
+    names = [name for name in names if untried(name)]
+    wanted = sum(len(untried(name)) for name in names)
     if not are_proved(names):
         print(f"wrong bodies: 0 refused, {wanted} not refused")
         return 1
     print(f"wrong bodies: their crates proved, {(time.monotonic() - begun) / 60:.1f} minutes", flush=True)
-    names = sorted(names, key=lambda name: -len(edits_of(name)) * size_of(name))
+    names = sorted(names, key=lambda name: -len(untried(name)) * size_of(name))
     # the crates' threads only wait for their checks
-    with ThreadPoolExecutor(lanes()) as checks, ThreadPoolExecutor(len(names)) as crates:
+    with ThreadPoolExecutor(lanes()) as checks, ThreadPoolExecutor(len(names) or 1) as crates:
         refused = sum(crates.map(lambda name: try_crate(name, checks), names))
     print(f"wrong bodies: {(time.monotonic() - begun) / 60:.1f} minutes")
     print(f"{refused} refused, {wanted - refused} not refused")
@@ -96,24 +102,32 @@ def upwards(names):
 
 
 def try_crate(name, checks):
-    """Tries the crate's wrong bodies, and gives how many of them were refused."""
-    before, begun = hash_of(name), time.monotonic()
-    edits = [Edit(name, at) for at in edits_of(name)]
+    """Tries the crate's wrong bodies, and returns how many of them were refused."""
+    before, begun = hashes(name), time.monotonic()
+    edits = [Edit(name, at) for at in untried(name)]
     with Copies(name) as copies:
         def refused_of(batches):
             return sum(checks.map(lambda batch: try_together(copies, batch), batches), [])
 
         refused = refused_of(batches(edits))
         alone = [edit for edit in edits if edit not in refused]
-        refused_alone = refused_of([edit] for edit in alone)
-        left = [edit for edit in alone if edit not in refused_alone]
+        refused += refused_of([edit] for edit in alone)
+        left = [edit for edit in edits if edit not in refused]
         said = checks.submit(must_fail, copies, left).result() if left else ""
-    count = len(edits) - len(left) + len(re.findall(rf"must-fail {name}/\S+: refused, as it must be", said))
-    print(f"{said}wrong bodies: {name}: {count} of {len(edits)} refused, {len(alone)} of them alone, "
+    late = re.findall(rf"must-fail {name}/(\S+?)(?:\.edit)?: refused, as it must be", said)
+    refused += [edit for edit in left if edit.at.stem in late]
+    print(f"{said}wrong bodies: {name}: {len(refused)} of {len(edits)} refused, {len(alone)} of them alone, "
           f"{time.monotonic() - begun:.0f} s", flush=True)
-    if count == len(edits) and before == hash_of(name):
-        mark(name).write_text(before + "\n")
-    return count
+    keep(name, before, {edit.at.name for edit in refused})
+    return len(refused)
+
+
+def keep(name, before, refused):
+    """Notes the edits that were refused, if nothing that they were tried with has changed since."""
+    now, noted = hashes(name), tried(name)
+    lines = [f"{value} {at}" for at, value in now.items()
+             if noted.get(at) == value or at in refused and before.get(at) == value]
+    mark(name).write_text("".join(line + "\n" for line in lines))
 
 
 class Copies:
@@ -186,14 +200,14 @@ class Edit:
             (crate / file).write_text(text.replace(old, new, 1))
 
     def is_of(self, crate, path):
-        """Whether a function's path, as the prover prints it, may be that of one it is in."""
+        """Whether a function's path, as the prover prints it, may be that of one it is in. A method
+        is printed with the module of its type, which may be another than that of the edited file."""
+        *outer, last = path.split("::")
         for file, (owner, name) in self.functions:
-            module = re.sub(r"^src/|\.rt$", "", file).replace("/", "::")
-            before = f"{crate}::" if module == "lib" else f"{crate}::{module}::"
-            *owners, last = path[len(before):].split("::")
-            if path.startswith(before) and last == name:
-                if owners[0].startswith(owner) if owner and owners else not (owner or owners):
-                    return True
+            module = re.sub(r"^src/|\.rt$", "", file).split("/")
+            around = [crate] if module == ["lib"] else [crate, *module]
+            if last == name and (outer[-1].startswith(owner) if owner else outer == around):
+                return True
         return False
 
 
@@ -271,18 +285,30 @@ def edits_of(name):
     return sorted((ROOT / "crates" / name / "wrong-bodies").glob("*.edit"))
 
 
+def untried(name):
+    """The edits of a crate that were not refused with the sources as they are."""
+    now, noted = hashes(name), tried(name)
+    return [at for at in edits_of(name) if noted.get(at.name) != now[at.name]]
+
+
 def size_of(name):
     return sum(file.stat().st_size for file in files_of(name))
 
 
 def files_of(name):
     crate = ROOT / "crates" / name
-    return sorted(at for part in PARTS for at in (crate / part).rglob("*") if at.is_file() and at != mark(name))
+    return sorted(at for part in SOURCES for at in (crate / part).rglob("*") if at.is_file())
 
 
-def hash_of(name):
-    sum_of_all = hashlib.sha256()
-    for file in files_of(name):
+def hashes(name):
+    """For each edit of a crate, by its file's name, a hash of it and of the crate's sources."""
+    sources = hash_of(files_of(name))
+    return {at.name: hash_of([at], sources) for at in edits_of(name)}
+
+
+def hash_of(files, begun_with=""):
+    sum_of_all = hashlib.sha256(begun_with.encode())
+    for file in files:
         text = without_comments(file)
         sum_of_all.update(f"{file.relative_to(ROOT)} {len(text)}\n".encode())
         sum_of_all.update(text)
@@ -301,7 +327,9 @@ def mark(name):
 
 
 def tried(name):
-    return mark(name).read_text().strip() if mark(name).is_file() else ""
+    """The hash with which each edit of a crate was refused, by the name of the edit's file."""
+    lines = mark(name).read_text().splitlines() if mark(name).is_file() else []
+    return {at: value for value, at in (line.split() for line in lines)}
 
 
 if __name__ == "__main__":
