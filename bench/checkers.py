@@ -8,7 +8,7 @@ from collections import namedtuple
 HERE = pathlib.Path(__file__).resolve().parent
 DATA = HERE / "data"
 TOP = HERE.parent
-PROGRAM = TOP / "crates" / "examoffice" / "out" / "examoffice"
+PROGRAM = TOP / "release" / "examoffice"
 RUST = HERE / "build" / "rust" / "release" / "check"
 CPP = HERE / "build" / "cpp" / "check"
 ORACLE = [sys.executable, str(HERE / "oracle.py")]
@@ -52,12 +52,8 @@ def baselines():
 
 
 def program(path=None):
-    """The program's command. Without a path the launcher builds it first where it has to."""
-    if not path:
-        launched = [TOP / "examoffice", "--build"]
-        if subprocess.run(launched, stdout=subprocess.DEVNULL, check=False).returncode:
-            sys.exit("the program does not build")
-    return [str(pathlib.Path(path).resolve() if path else PROGRAM), "check"]
+    """The program's command: that of the path, or else the release."""
+    return [str(pathlib.Path(path or PROGRAM).resolve()), "check"]
 
 
 def ask(command, instance, solution):

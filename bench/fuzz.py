@@ -86,7 +86,7 @@ def texts_of(rng, turn, pool):
 
 def words():
     parser = argparse.ArgumentParser(description=__doc__)
-    parser.add_argument("--program", help="a program in the place of the built one")
+    parser.add_argument("--program", help="a program other than the release")
     parser.add_argument("--rounds", type=int, default=2_000)
     parser.add_argument("--seed", type=int, default=1)
     return parser.parse_args()

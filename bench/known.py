@@ -31,7 +31,7 @@ def cases():
 
 def main():
     parser = argparse.ArgumentParser(description=__doc__)
-    parser.add_argument("--program", help="a program in the place of the built one")
+    parser.add_argument("--program", help="a program other than the release")
     path = parser.parse_args().program
     commands = {"examoffice": program(path), **baselines()}
     count = failed = 0

@@ -234,6 +234,7 @@ def main():
     words = argparse.ArgumentParser(description=__doc__.partition("\n")[0])
     words.add_argument("program")
     words.add_argument("--pictures", type=pathlib.Path, help="a folder for pictures of the pages")
+    words.add_argument("--no-browser", action="store_true", help="leaves the pages out")
     given = words.parse_args()
     if not NGINX:
         print("front: left out without nginx")
@@ -246,7 +247,8 @@ def main():
             front = Front(folder, office.port, client_seconds=4, rate="1000r/s")
             try:
                 before_the_office(run, front, office)
-                front_pages.judge(run, front, office, given.pictures)
+                if not given.no_browser:
+                    front_pages.judge(run, front, office, given.pictures)
                 described_exchanges(run, front)
             finally:
                 front.stop()

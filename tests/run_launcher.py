@@ -1,10 +1,11 @@
 #!/usr/bin/env python3
-"""run_launcher.py LAUNCHER: whether the launcher builds when it must, runs the release where it
-may, and hands every word on; and whether `release/check` tells one release from another.
+"""run_launcher.py LAUNCHER: whether the launcher builds when it must, runs the release at once, passes
+every word on, installs what belongs to the program, and compares release and sources only when it
+is asked; and whether `release/check` distinguishes one release from another.
 
-It runs copies of the launcher and of the scripts of `release/` beside it in a repository of its
-own, with a stand-in for `rt` that writes a stand-in program, so nothing is proved here. Each
-failing case is printed with what was expected and what came, and the last line counts the cases.
+It runs copies of the launcher and of the files of `release/` beside it in a repository of its own,
+with a stand-in for `rt` that writes a stand-in program, so nothing is proved here. Each failing case
+is printed with what was expected and what came, and the last line counts the cases.
 """
 import os
 import pathlib
@@ -19,6 +20,7 @@ printf '[%s]\\n' "$@"
 """
 # As rt does, it leaves a built file as it is where no text has changed.
 RT = """#!/bin/sh
+[ "$1" = version ] && { echo 'a kit'; exit; }
 [ -e ../../broken ] && { echo 'no proof' >&2; exit 1; }
 [ -e ../../meanwhile ] && { sleep 0.1; echo >> src/main.rt; rm ../../meanwhile; }
 echo x >> ../../builds
@@ -26,6 +28,14 @@ mkdir -p out
 [ -e out/examoffice ] || cp ../../program out/examoffice
 out/examoffice "$@"
 """
+# What no call of the release may run.
+BANNED = ("find", "git", "sha256sum", "date", "touch")
+OLDER = "examoffice: the release is older than the sources; --build builds these\n"
+INSTALLED = [
+    "bin/examoffice", "share/bash-completion/completions/examoffice",
+    "share/fish/vendor_completions.d/examoffice.fish", "share/man/man1/examoffice.1",
+    "share/zsh/site-functions/_examoffice",
+]
 
 
 class Repository:
@@ -40,8 +50,13 @@ class Repository:
         (folder / "bin").mkdir()
         shutil.copy(launcher, self.top / "examoffice")
         (self.top / "release").mkdir()
+        released = pathlib.Path(launcher).parent / "release"
         for script in ("sources", "make", "check"):
-            shutil.copy(pathlib.Path(launcher).parent / "release" / script, self.top / "release")
+            shutil.copy(released / script, self.top / "release")
+        # help2man has nothing to read here
+        (self.top / "release" / "man").write_text("#!/bin/sh\n")
+        (self.top / "release" / "man").chmod(0o755)
+        shutil.copytree(released / "share", self.top / "release" / "share")
         self.source = self.crate / "src" / "main.rt"
         for file in (self.source, self.crate / "specs" / "Lib.antt"):
             file.write_text("\n")
@@ -86,9 +101,19 @@ def without_rt(folder):
     """A PATH with the few commands that the launcher calls, and no rt."""
     few = folder / "few"
     few.mkdir()
-    for name in ("sh", "dirname", "find", "date", "touch", "uname"):
+    for name in ("sh", "find", "date", "touch"):
         (few / name).symlink_to(shutil.which(name))
     return str(few)
+
+
+def without_banned(folder):
+    """A PATH in which the commands fail that a call of the release may not run."""
+    room = folder / "banned"
+    room.mkdir()
+    for name in BANNED:
+        (room / name).write_text(f"#!/bin/sh\necho {name} was run >&2\nexit 1\n")
+        (room / name).chmod(0o755)
+    return f"{room}:{os.environ['PATH']}"
 
 
 def calls(repository, few):
@@ -142,7 +167,7 @@ def refusals(repository, few):
            (done.returncode, done.stdout, done.stderr.splitlines()[1:]))
 
 
-def releases(repository):
+def releases(repository, banned):
     """Yields the cases with a release, which is the stand-in program with a line of its own."""
     (repository.top / "program").write_text(PROGRAM + "echo released\n")
     (repository.crate / "out" / "examoffice").unlink()
@@ -153,37 +178,63 @@ def releases(repository):
            "byte for byte\n"), repository.checked())
     (repository.crate / "out" / "examoffice").unlink()
     (repository.top / "program").write_text(PROGRAM)
-    empty = f"{repository.caller}\n0\n[]\n"
-    older = "examoffice: the release is older than the sources; --build builds these\n"
-    worked = repository.top / "crates" / "worked_office" / "src"
-    worked.mkdir(parents=True)
-    (worked / "lib.rt").write_text("\n")
-    (repository.top / "crates.txt").write_text("# Still one crate.\nexamoffice:\n")
-    for case, text, said in (("no program", None, ""), ("an edit", "\n\n\n", older),
-                             ("an edit that is taken back", "\n\n", "")):
-        if text:
-            repository.source.write_text(text)
-        done = repository.call()
-        yield (f"the release runs: {case}", (0, empty + "released\n", said, builds),
-               (done.returncode, done.stdout, done.stderr, repository.builds()))
+    yield from released_calls(repository, banned)
     specs = repository.crate / "specs" / "Lib.antt"
     specs.write_text("\n")
-    yield "the release is older than a file that is new", older, repository.call().stderr
-    yield ("a release of other sources is none to compare", (0, "release: it is whole, and older "
+    yield ("a release of other sources can't be compared", (0, "release: it is whole, and older "
            "than the sources\n"), repository.checked())
-    builds += 1
-    yield ("a build is asked for", (0, "", True, builds),
-           told(repository, repository.call("--build")))
-    yield "a program that was built runs", (0, empty, False, builds), told(repository,
-                                                                          repository.call())
-    yield ("a build is asked for again", (0, "", False, builds),
-           told(repository, repository.call("--build")))
+    yield from asked_builds(repository)
     specs.unlink()
     yield ("the program is not what its sources are built to", 1, repository.checked()[0])
     with open(repository.top / "release" / "examoffice", "a", encoding="utf-8") as program:
         program.write("\n")
     yield ("a release that was changed", (1, "release: examoffice is not the program of SHA256\n"),
            repository.checked())
+
+
+def released_calls(repository, banned):
+    """Yields the cases of a clone in which nothing is built."""
+    shown, builds = f"{repository.caller}\n0\n[]\nreleased\n", repository.builds()
+    version = repository.call("--version")
+    first = (repository.top / "release" / "SHA256").read_text()[:8]
+    line = f"examoffice, release {first}, proved with a kit\n"
+    yield "its version", (0, line, ""), (version.returncode, version.stdout, version.stderr)
+    worked = repository.top / "crates" / "worked_office" / "src"
+    worked.mkdir(parents=True)
+    (worked / "lib.rt").write_text("\n")
+    (repository.top / "crates.txt").write_text("# Still one crate.\nexamoffice:\n")
+    yield "tests are none of its sources", "", repository.call("--version").stderr
+    for case, text, said in (("an edit", "\n\n\n", OLDER), ("an edit that is taken back", "\n\n", "")):
+        repository.source.write_text(text)
+        done = repository.call(path=banned)
+        yield (f"the release runs at once: {case}", (0, shown, "", builds),
+               (done.returncode, done.stdout, done.stderr, repository.builds()))
+        yield f"its version: {case}", said, repository.call("--version").stderr
+    for words in (("--prefix", str(repository.caller)), (f"--prefix={repository.caller}",)):
+        done = repository.call("install", *words)
+        yield (f"it is installed: {words[0]}",
+               (0, f"installed {repository.caller}/bin/examoffice\n"), (done.returncode, done.stdout))
+        found = sorted(str(it.relative_to(repository.caller)) for it in repository.caller.rglob("*")
+                       if it.is_file())
+        yield f"what is installed: {words[0]}", INSTALLED, found
+        done = repository.call(start=repository.caller / "bin" / "examoffice")
+        yield f"what is installed runs: {words[0]}", shown, done.stdout
+        for folder in ("bin", "share"):
+            shutil.rmtree(repository.caller / folder)
+    yield "no folder to install to", 2, repository.call("install", "here").returncode
+
+
+def asked_builds(repository):
+    """Yields the cases of a build that is asked for."""
+    builds = repository.builds() + 1
+    done = repository.call("--build")
+    yield ("a build is asked for", (0, "", builds, OLDER.split(";")[0]),
+           (done.returncode, done.stdout, repository.builds(), done.stderr.splitlines()[0]))
+    empty = f"{repository.caller}\n0\n[]\n"
+    yield "a program that was built runs", (0, empty, False, builds), told(repository,
+                                                                          repository.call())
+    yield ("a build is asked for again", (0, "", False, builds),
+           told(repository, repository.call("--build")))
 
 
 def unable(repository, few):
@@ -219,7 +270,7 @@ def cases(repository, folder):
     few = without_rt(folder)
     yield from calls(repository, few)
     yield from edits(repository)
-    yield from releases(repository)
+    yield from releases(repository, without_banned(folder))
     yield from unable(repository, few)
     yield from refusals(repository, few)
 
