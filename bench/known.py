@@ -11,6 +11,7 @@ import tempfile
 from checkers import ORACLE, TOP, Answer, ask, baselines, difference, program
 
 sys.path.insert(0, str(TOP / "tests"))
+from cases import Cases
 from check_cases import FAULTS, PARTS, REPORTS
 
 
@@ -34,22 +35,17 @@ def main():
     parser.add_argument("--program", help="a program other than the release")
     path = parser.parse_args().program
     commands = {"examoffice": program(path), **baselines()}
-    count = failed = 0
+    judged = Cases("known")
     with tempfile.TemporaryDirectory() as folder:
         files = [str(pathlib.Path(folder, name)) for name in ("known.exam", "known.sol")]
         for name, instance, solution, known in cases():
-            count += 1
             for file, text in zip(files, (instance, solution)):
                 pathlib.Path(file).write_bytes(text.encode())
             answers = {it: ask(command, *files) for it, command in commands.items()}
             if known.status != 1:
                 answers["oracle"] = ask(ORACLE, *files)
-            told = difference({"by hand": known, **answers})
-            if told:
-                failed += 1
-                print(f"known: {name}: {told}")
-    print(f"known: {count} cases of {', '.join(commands)}, {failed} failed")
-    sys.exit(1 if failed else 0)
+            judged.judge(name, None, difference({"by hand": known, **answers}))
+    sys.exit(judged.end(f"cases of {', '.join(commands)}"))
 
 
 if __name__ == "__main__":

@@ -26,7 +26,7 @@ from front_cases import (
     CALLERS, CANDIDATE, FIRST_VIEW, MADE, PAGES, SECOND_VIEW, TARGETS, ask, parted, password,
     told_error)
 from openapi import Described
-from run_serve import Office, Run, one_reply, rest
+from run_serve import Run, one_reply, rest
 from serve_cases import SOLUTION, cost, message
 
 TOP = pathlib.Path(__file__).resolve().parent.parent
@@ -254,8 +254,7 @@ def main():
                 front.stop()
         finally:
             office.killed()
-    print(f"front: {run.count} cases, {run.failed} failed")
-    return 1 if run.failed else 0
+    return run.end()
 
 
 if __name__ == "__main__":

@@ -233,7 +233,7 @@ def whole_reply(connection):
 
 
 class Run(run_serve.Run):
-    """The cases that were run, and how many failed; how much was accepted."""
+    """The cases, and how much was accepted."""
 
     accepted = again = 0
 
@@ -315,13 +315,12 @@ def main():
     parser.add_argument("--seed", type=int, default=2007, help="the first round's seed (2007)")
     given = parser.parse_args()
     with tempfile.TemporaryDirectory() as folder:
-        run = Run(str(pathlib.Path(given.program).resolve()), folder)
+        run = Run(str(pathlib.Path(given.program).resolve()), folder, "isolation")
         for seed in range(given.seed, given.seed + given.rounds):
             one_round(run, seed)
     print(f"isolation: {given.rounds} rounds, {run.accepted} changes of hers accepted,"
           f" {run.again} publications again")
-    print(f"isolation: {run.count} cases, {run.failed} failed")
-    sys.exit(1 if run.failed else 0)
+    sys.exit(run.end())
 
 
 if __name__ == "__main__":

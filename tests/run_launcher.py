@@ -14,6 +14,8 @@ import subprocess
 import sys
 import tempfile
 
+from cases import Cases
+
 PROGRAM = """#!/bin/sh
 printf '%s\\n' "$(pwd)" "$#"
 printf '[%s]\\n' "$@"
@@ -278,16 +280,12 @@ def cases(repository, folder):
 def main():
     if len(sys.argv) != 2:
         sys.exit("usage: run_launcher.py LAUNCHER")
-    count = failed = 0
+    judged = Cases("launcher")
     with tempfile.TemporaryDirectory() as room:
         folder = pathlib.Path(room).resolve()
-        for name, expected, got in cases(Repository(folder, sys.argv[1]), folder):
-            count += 1
-            if got != expected:
-                failed += 1
-                print(f"launcher: {name}\n  expected {expected!r}\n  got      {got!r}")
-    print(f"launcher: {count} cases, {failed} failed")
-    sys.exit(1 if failed else 0)
+        for case in cases(Repository(folder, sys.argv[1]), folder):
+            judged.judge(*case)
+    sys.exit(judged.end())
 
 
 if __name__ == "__main__":

@@ -15,6 +15,7 @@ import tempfile
 import tty
 from collections import namedtuple
 
+from cases import Cases
 from serve_cases import MANY
 
 TOP = pathlib.Path(__file__).resolve().parent.parent
@@ -301,28 +302,18 @@ def all_shown(screen):
     return shown[:-1]
 
 
-def shown(ended):
-    status, stdout, stderr = (repr(it)[:500] for it in ended)
-    return f"status {status}, stdout {stdout}, stderr {stderr}"
-
-
 def main():
     if len(sys.argv) != 2:
         sys.exit("usage: run_program.py PROGRAM")
-    program, failed = str(pathlib.Path(sys.argv[1]).resolve()), 0
+    program, judged = str(pathlib.Path(sys.argv[1]).resolve()), Cases("program")
     with tempfile.TemporaryDirectory() as folder:
         for name, text in files().items():
             path = pathlib.Path(folder, name)
             path.parent.mkdir(exist_ok=True)
             path.write_bytes(text)
         for case in CASES:
-            expected, got = (case.status, case.stdout, case.stderr), run(program, case, folder)
-            if expected != got:
-                failed += 1
-                print(f"program: {case.name}", f"  expected {shown(expected)}",
-                      f"  got      {shown(got)}", sep="\n")
-    print(f"program: {len(CASES)} cases, {failed} failed")
-    sys.exit(1 if failed else 0)
+            judged.judge(case.name, (case.status, case.stdout, case.stderr), run(program, case, folder))
+    sys.exit(judged.end())
 
 
 if __name__ == "__main__":

@@ -25,6 +25,7 @@ import time
 import tty
 from collections import namedtuple
 
+from cases import Cases
 from serve_cases import (
     CASES, EMPTY, EXAMPLES, FIRST_MOVED, MANY, MOVED_ROOMS, MOVED_TEXT, PENALTY, PENDING, PUBLISHED,
     SECOND_PAGE, SHOWN, SMALL, SOLUTION, STORED, THIRD, UNPLACED, asked_by, at, batch, batch_text,
@@ -113,13 +114,12 @@ def in_one_piece(client, case):
     return asked(client, b"".join(case.asked), b"".join(case.replies))
 
 
-class Run:
-    """The cases that were run, and how many failed."""
+class Run(Cases):
+    """The cases of a program, with its databases in a folder."""
 
     def __init__(self, program, folder, about="serve"):
-        self.program, self.folder, self.about = program, pathlib.Path(folder), about
-        self.count = self.failed = 0
-        self.loaded = {}
+        super().__init__(about)
+        self.program, self.folder, self.loaded = program, pathlib.Path(folder), {}
 
     def database(self, start):
         """A file of its own, into which this instance is loaded."""
@@ -138,18 +138,6 @@ class Run:
 
     def office(self, start=SMALL, **more):
         return Office(self.program, self.database(start), **more)
-
-    def judge(self, name, expected, got):
-        self.count += 1
-        if expected != got:
-            self.failed += 1
-            print(f"{self.about}: {name}", f"  expected {shown(expected)}", f"  got      {shown(got)}",
-                  sep="\n", flush=True)
-
-
-def shown(it):
-    mine = repr(it)
-    return mine if len(mine) < 1_200 else f"{mine[:800]} .. {mine[-300:]}"
 
 
 def worked_examples(run):
@@ -697,8 +685,7 @@ def main():
             test(run)
         kills(run, given.kills)
         killed_amid_batch(run, given.kills // 2)
-    print(f"serve: {run.count} cases, {run.failed} failed")
-    sys.exit(1 if run.failed else 0)
+    sys.exit(run.end())
 
 
 if __name__ == "__main__":

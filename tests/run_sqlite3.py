@@ -12,6 +12,8 @@ import subprocess
 import sys
 import tempfile
 
+from cases import Cases
+
 TOP = pathlib.Path(__file__).resolve().parent.parent
 FORMATS, SMALL = TOP / "docs" / "FORMATS.md", TOP / "examples" / "small.exam"
 # An office of the small example as the release of 25 November 2026 left it: an owner, two drafts, a
@@ -209,19 +211,14 @@ def made_before(program, folder):
 def main():
     if len(sys.argv) != 2:
         sys.exit("usage: run_sqlite3.py PROGRAM")
-    program, count, failed = str(pathlib.Path(sys.argv[1]).resolve()), 0, 0
+    program, judged = str(pathlib.Path(sys.argv[1]).resolve()), Cases("sqlite3")
     with tempfile.TemporaryDirectory() as folder:
         folder = pathlib.Path(folder)
         made = (*cases(program, folder), *changed(program, folder), *published(program, folder),
                 *made_before(program, folder))
-        for name, expected, got in made:
-            count += 1
-            if expected != got:
-                failed += 1
-                print(f"sqlite3: {name}", f"  expected {expected!r}", f"  got      {got!r}",
-                      sep="\n")
-    print(f"sqlite3: {count} cases, {failed} failed")
-    sys.exit(1 if failed else 0)
+        for case in made:
+            judged.judge(*case)
+    sys.exit(judged.end())
 
 
 if __name__ == "__main__":

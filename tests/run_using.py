@@ -21,6 +21,7 @@ import time
 import urllib.parse
 
 from browser import free_port
+from cases import Cases
 from openapi import Described
 
 TOP = pathlib.Path(__file__).resolve().parent.parent
@@ -70,18 +71,13 @@ class Shell:
                 yield method, urllib.parse.urlsplit(url).path, int(status), kind
 
 
-def judged(page, shell, port):
-    """The failures of a page's blocks, and how many there are."""
-    count = failed = 0
+def judge_blocks(judged, page, shell, port):
+    """Types a page's blocks into the shell."""
     for commands, expected in BLOCK.findall(page.read_text()):
         commands, expected = (text.replace(PORT, port) for text in (commands, expected))
         came = shell.answer(commands, expected)
-        count += 1
-        if expected not in (came, came + "\n"):
-            failed += 1
-            print(f"using: {page.name}: {commands.strip()}", f"  expected {expected!r}",
-                  f"  got      {came!r}", sep="\n", flush=True)
-    return count, failed
+        judged.judge(f"{page.name}: {commands.strip()}", expected,
+                     expected if came + "\n" == expected else came)
 
 
 def main():
@@ -90,19 +86,19 @@ def main():
         return 2
     program = pathlib.Path(sys.argv[1]).resolve()
     pages = [pathlib.Path(word) for word in sys.argv[2:]] or PAGES
-    count = failed = asked = 0
+    judged, asked = Cases("using"), 0
     for page in pages:
         with tempfile.TemporaryDirectory() as folder:
             shell = Shell(program, pathlib.Path(folder))
-            blocks, wrong = judged(page, shell, str(free_port()))
+            judge_blocks(judged, page, shell, str(free_port()))
             described = Described()
             exchanges = list(shell.ended())
-        faults = [*filter(None, (described.fault(*exchange) for exchange in exchanges))]
-        for fault in faults:
-            print(f"using: {page.name}: not in docs/openapi.yaml: {fault}")
-        count, failed, asked = count + blocks, failed + wrong + len(faults), asked + len(exchanges)
-    print(f"using: {count} blocks, {asked} requests, {failed} failed")
-    return 1 if failed or not count or not asked else 0
+        for exchange in exchanges:
+            judged.judge(f"{page.name}: {exchange} by docs/openapi.yaml", None,
+                         described.fault(*exchange))
+        asked += len(exchanges)
+    judged.judge("requests are made", True, asked > 0)
+    return judged.end("blocks and requests")
 
 
 if __name__ == "__main__":
