@@ -73,23 +73,30 @@ class Driver:
 
 
 class Browser:
-    """A browser of its own, with no cookie and no password of another."""
+    """A browser. For each reader it opens a host of their own, so that none has another's password."""
 
-    def __init__(self, driver, width=1200, height=900, language="en-GB", is_dark=False, ratio=1):
+    def __init__(self, driver):
         driver.sessions += 1
         data = driver.folder / f"browser{driver.sessions}"
         words = ["--headless=new", "--no-sandbox", "--disable-dev-shm-usage", "--disable-gpu",
-                 "--hide-scrollbars", f"--user-data-dir={data}", f"--lang={language}",
-                 "--host-resolver-rules=MAP * ~NOTFOUND, EXCLUDE 127.0.0.1"]
-        options = {"args": words, "binary": shutil.which("chromium"),
-                   "prefs": {"intl.accept_languages": language}}
+                 "--hide-scrollbars", f"--user-data-dir={data}",
+                 "--host-resolver-rules=MAP *.localhost 127.0.0.1, MAP * ~NOTFOUND"]
+        options = {"args": words, "binary": shutil.which("chromium")}
         wanted = {"goog:chromeOptions": options, "goog:loggingPrefs": {"browser": "ALL"}}
         made = driver.ask("POST", "/session", capabilities={"alwaysMatch": wanted})
-        self.driver, self.path = driver, f"/session/{made['sessionId']}"
+        self.driver, self.path, self.readers = driver, f"/session/{made['sessionId']}", 0
+        self.agent = self.run("return navigator.userAgent")
+
+    def new_host(self, width=1200, height=900, language="en-GB", is_dark=False, ratio=1):
+        """A host for a reader with such a screen and such a language."""
         self.devtools("Emulation.setDeviceMetricsOverride", width=width, height=height,
                       deviceScaleFactor=ratio, mobile=width < 600)
-        self.devtools("Emulation.setEmulatedMedia", features=[
+        self.devtools("Emulation.setEmulatedMedia", media="", features=[
             {"name": "prefers-color-scheme", "value": "dark" if is_dark else "light"}])
+        self.devtools("Network.setUserAgentOverride", userAgent=self.agent,
+                      acceptLanguage=language)
+        self.readers += 1
+        return f"reader{self.readers}.localhost"
 
     def __enter__(self):
         return self
@@ -139,10 +146,17 @@ class Browser:
         pressed = [{"type": kind, "value": key} for key in keys for kind in ("keyDown", "keyUp")]
         self.ask("POST", "/actions", actions=[{"type": "key", "id": "keys", "actions": pressed}])
 
-    def complaints(self):
-        """What the console was told, but of replies that are refusals."""
+    def complaints(self, *sources):
+        """What the console got from these sources, else from all but the network, which reports each
+        refusal."""
         said = self.ask("POST", "/se/log", type="browser")
-        return [entry["message"] for entry in said if entry["source"] != "network"]
+        return [entry["message"] for entry in said
+                if (entry["source"] in sources if sources else entry["source"] != "network")]
+
+    def pdf(self, path, width, height):
+        """The page as it is printed, on paper of this size in inches."""
+        made = self.devtools("Page.printToPDF", paperWidth=width, paperHeight=height)
+        pathlib.Path(path).write_bytes(base64.b64decode(made["data"]))
 
     def picture(self, path):
         """The whole page."""

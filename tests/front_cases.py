@@ -5,6 +5,18 @@ from serve_cases import FIRST, SECOND, SOLUTION, cost, me, message, report
 
 BROKEN = b"3, 0\n1, 0\n3, 1\n2, 0\n"
 
+# A session with 40 rooms, and six days of two periods. Candidate 1 takes exams 0 to 4, on five days; each
+# other exam has one candidate.
+WIDE_ROOMS, WIDE_PERIODS = 40, 12
+WIDE = "".join(f"{line}\n" for line in [
+    f"[Exams:{WIDE_ROOMS}]", *(f"60, {1 if exam < 5 else 1_000 + exam}" for exam in range(WIDE_ROOMS)),
+    f"[Periods:{WIDE_PERIODS}]", *(f"{6 + half // 2:02}:06:2005, {9 + 5 * (half % 2):02}:00:00, 120, 0"
+                                   for half in range(WIDE_PERIODS)),
+    f"[Rooms:{WIDE_ROOMS}]", *(f"{20 + room}, 0" for room in range(WIDE_ROOMS)),
+    "[PeriodHardConstraints]", "[RoomHardConstraints]", "[InstitutionalWeightings]",
+    "PERIODSPREAD,2"]).encode()
+WIDE_SOLUTION = "".join(f"{2 * exam % WIDE_PERIODS}, {exam}\n" for exam in range(WIDE_ROOMS)).encode()
+
 
 def password(user, word=None):
     token = base64.b64encode(f"{user}:{word or 'try-' + user}".encode()).decode()
@@ -106,6 +118,27 @@ TARGETS = [
     ("a publish of its own page", ask("registry", "POST", "/drafts/1/publish", b"",
                                       "Origin: http://office"),
      (200, b'{"changed":0,"draft":1,"penalty":37}')),
+]
+# What the registry's page looks for: null if it isn't there.
+NO_DRAFT, ONE_DRAFT = (200, b'{"draft":null}'), (200, b'{"draft":1,"exams":['
+    b'{"exam":0,"period":0,"room":0},{"exam":1,"period":1,"room":0},{"exam":2,"period":3,"room":1},'
+    b'{"exam":3,"period":2,"room":0}],"penalty":37}')
+LOOKED_FOR = [
+    ("a draft that isn't there", ask("registry", "GET", "/-/drafts/8"), NO_DRAFT),
+    ("a draft that is there", ask("physics", "GET", "/-/drafts/1"), ONE_DRAFT),
+    ("a draft beyond 8", ask("registry", "GET", "/-/drafts/9"), 404),
+    ("the publication", ask("registry", "GET", "/-/publication/penalty"),
+     (200, report(7, 5, 3, 0, 0, 15, 7, 37).encode())),
+    ("a draft, for a candidate", ask("ada", "GET", "/-/drafts/1"), P1),
+    ("a draft, for nobody", ask("nobody", "GET", "/-/drafts/8"), CALLER),
+    ("a draft, by X-Caller", ask("ada", "GET", "/-/drafts/1", b"", "X-Caller: office"), P1),
+    ("a draft, for another site", ask("registry", "GET", "/-/drafts/1", b"",
+                                      "Origin: https://elsewhere.example"),
+     told_error(403, "forbidden", rule="origin")),
+    ("a change of a draft there", ask("registry", "DELETE", "/-/drafts/1"),
+     told_error(405, "method")),
+    ("more of a draft there", ask("registry", "GET", "/-/drafts/1/penalty"), 404),
+    ("its absolute target", ask("registry", "GET", "http://office/-/drafts/1"), REQUEST),
 ]
 # What is asked of the front's pages, and what the front answers itself.
 PAGES = [

@@ -10,6 +10,9 @@ counts the cases.
 """
 import argparse
 import contextlib
+import gzip
+import http.client
+import json
 import pathlib
 import re
 import shutil
@@ -22,35 +25,39 @@ import time
 
 import browser
 import front_pages
+import openapi
 from front_cases import (
-    CALLERS, CANDIDATE, FIRST_VIEW, MADE, PAGES, SECOND_VIEW, TARGETS, ask, parted, password,
-    told_error)
-from openapi import Described
-from run_serve import Run, one_reply, rest
-from serve_cases import SOLUTION, cost, message
+    CALLERS, CANDIDATE, FIRST_VIEW, LOOKED_FOR, MADE, PAGES, SECOND_VIEW, TARGETS, WIDE, WIDE_SOLUTION, ask,
+    password, told_error)
+from run_serve import Office, Run, one_reply, rest
+from serve_cases import SOLUTION, message, reply
 
 TOP = pathlib.Path(__file__).resolve().parent.parent
 NGINX = shutil.which("nginx") or shutil.which("nginx", path="/usr/sbin:/usr/local/sbin")
-LOG = ("log_format exchange '$request_method $request_uri $status $upstream_status"
-       " $upstream_http_content_type'; access_log run/exchanges exchange;")
+LOG = ("log_format exchange '$request_method $request_uri $upstream_status"
+       " $upstream_http_content_type'; access_log run/exchanges exchange;\n    access_log run/changes")
 SECONDS = 20
+# For the tests that ask often from one address or with wrong passwords, and those of slow clients.
+QUICK = (("rate=20r/s", "rate=9000r/s"), ("rate=300r/s", "rate=9000r/s"),
+         ("auth_delay 1s", "auth_delay 0"), ("client_header_timeout 10s", "client_header_timeout 4s"),
+         ("client_body_timeout 10s", "client_body_timeout 4s"))
 
 
 class Front:
     """nginx with a copy of the front's folder, before an office on that port."""
 
-    def __init__(self, folder, office_port, client_seconds=None, rate=None, burst=200):
+    def __init__(self, folder, office_port, edits=QUICK):
         self.folder, self.port = pathlib.Path(folder) / "front", browser.free_port()
         shutil.copytree(TOP / "front", self.folder, dirs_exist_ok=True)
         pathlib.Path(folder).chmod(0o755)
         path = self.folder / "nginx.conf"
-        text = path.read_text().replace("127.0.0.1:8000", f"127.0.0.1:{self.port}")
-        text = text.replace("127.0.0.1:8080", f"127.0.0.1:{office_port}")
-        text = text.replace("access_log off;", LOG)
-        if client_seconds:
-            text = re.sub(r"(client_\w+_timeout) 10s", rf"\1 {client_seconds}s", text)
-        if rate:
-            text = text.replace("rate=50r/s", f"rate={rate}").replace("burst=200", f"burst={burst}")
+        text = path.read_text()
+        for old, new in (("127.0.0.1:8000", f"127.0.0.1:{self.port}"),
+                         ("127.0.0.1:8080", f"127.0.0.1:{office_port}"),
+                         ("access_log run/changes", LOG), *edits):
+            if old not in text:
+                raise ValueError(f"nginx.conf does not have {old}")
+            text = text.replace(old, new)
         path.write_text(text)
         with (self.folder / "run" / "errors").open("wb") as errors:
             self.process = subprocess.Popen([NGINX, "-p", str(self.folder), "-c", "nginx.conf"],
@@ -75,12 +82,27 @@ class Front:
                 return one_reply(client)
         return None
 
+    def fetch(self, path, user=None, word=None, method="GET", source="127.0.0.1", **fields):
+        """The status, the header and the body of a reply, as stock http.client has them."""
+        name, _, value = password(user, word).partition(": ") if user else ("Accept", "", "*/*")
+        client = http.client.HTTPConnection("127.0.0.1", self.port, SECONDS, (source, 0))
+        with contextlib.closing(client):
+            client.request(method, path, headers={
+                **{field.replace("_", "-"): text for field, text in fields.items()}, name: value})
+            reply = client.getresponse()
+            return reply.status, reply.headers, reply.read()
+
     def exchanges(self):
         """What reached the office."""
         for line in (self.folder / "run" / "exchanges").read_text().splitlines():
-            method, target, status, upstream, kind = line.split(" ", 4)
-            if upstream not in ("-", "502", "504"):
-                yield method, target, int(status), kind
+            method, target, status, kind = line.split(" ", 3)
+            if status not in ("-", "502", "504"):
+                yield method, target.removeprefix("/-"), int(status), kind
+
+    def changes(self):
+        """The lines of the log of changes."""
+        return [json.loads(line) for line in
+                (self.folder / "run" / "changes.log").read_text().splitlines()]
 
     def stop(self):
         self.process.terminate()
@@ -88,7 +110,7 @@ class Front:
 
 
 def who_asks_and_what(run, front):
-    for name, question, answer in CALLERS + TARGETS + PAGES:
+    for name, question, answer in CALLERS + TARGETS + LOOKED_FOR + PAGES:
         told = front.told(question)
         if isinstance(answer, int):
             told = told and told[0]
@@ -96,7 +118,7 @@ def who_asks_and_what(run, front):
     for name, fields in (("no password", []), ("a wrong password", [password("ada", "guess")]),
                          ("a user who isn't there", [password("eve")]),
                          ("X-Caller without a password", ["X-Caller: office"])):
-        for path in ("/me", "/drafts/1", "/", "/registry.html"):
+        for path in ("/me", "/drafts/1", "/-/drafts/1", "/", "/registry.html", "/nothing"):
             status, body = front.told(message("GET", path, caller=None, fields=fields))
             run.judge(f"{name}, {path}", (401, True), (status, b"not signed in" in body))
     for path, methods in (("/", "GET, HEAD"), ("/registry.html", "GET, HEAD"),
@@ -188,27 +210,125 @@ def no_office(run):
     """Where nothing listens behind the front."""
     front = Front(run.folder / "alone", browser.free_port())
     run.judge("no office", told_error(503, "unavailable"), front.told(CANDIDATE))
+    health(run, front, told_error(503, "unavailable"))
     front.stop()
 
 
-def too_often(run, office):
-    """Who asks too much in a short time is told so, and served again a moment later."""
-    front = Front(run.folder / "often", office.port, rate="1r/s", burst=20)
+def statuses(front, question, count):
+    """The statuses of replies to one message that is sent this often on one connection."""
     with front.connect() as client:
-        client.sendall(ask("ada", "GET", "/me/penalty") * 100)
-        told = [one_reply(client) for _ in range(100)]
-    run.judge("too often", {parted(cost(0, 5, 1)), told_error(429, "often")}, set(told))
-    run.judge("a moment later", True, browser.until(
-        "she is served again", lambda: front.told(CANDIDATE) == FIRST_VIEW))
+        client.sendall(question * (count - 1) + question[:-2] + b"Connection: close\r\n\r\n")
+        return re.findall(rb"HTTP/1.1 (\d+) ", rest(client))
+
+
+def limits(run, office):
+    """The limits as they are in nginx.conf: by user, by address, none for the office and for files."""
+    front = Front(run.folder / "limits", office.port, edits=())
+    asked = statuses(front, ask("ada", "GET", "/me/penalty"), 200)
+    run.judge("a user who asks too often", (True, True, {b"200", b"429"}),
+              (asked[:60] == [b"200"] * 60, asked.count(b"200") < 90, set(asked)))
+    run.judge("another user at their address", SECOND_VIEW,
+              front.told(ask("ben", "GET", "/me")))
+    run.judge("the office", {b"200"}, set(statuses(front, ask("registry", "GET", "/drafts/1"), 200)))
+    run.judge("a second later", True, browser.until(
+        "they are served again", lambda: front.told(CANDIDATE) == FIRST_VIEW))
+    began = time.monotonic()
+    front.fetch("/me", "ben", "guess")
+    run.judge("a wrong password takes a second", True, time.monotonic() - began > 0.95)
+    run.judge("files have no limit", {b"200"}, {status for _ in range(3) for status in statuses(
+        front, message("HEAD", "/candidate.js", caller=None), 900)})
+    asked = [status for _ in range(3) for status in statuses(
+        front, ask("cleo", "HEAD", "/candidate.html"), 900)]
+    run.judge("an address that asks too often", (True, {b"200", b"429"}),
+              (asked[:1_900] == [b"200"] * 1_900, set(asked)))
+    front.stop()
+    front = Front(run.folder / "limited", office.port,
+                  (("rate=300r/s", "rate=1r/s"), ("burst=2000", "burst=20")))
+    statuses(front, ask("cleo", "HEAD", "/candidate.html"), 40)
+    status, header, body = front.fetch("/", "cleo", Accept="text/html,*/*")
+    run.judge("the page of 429", (429, "text/html; charset=utf-8", True),
+              (status, header["Content-Type"], b"Too many requests" in body))
+    run.judge("the same for a program", told_error(429, "often"), front.told(
+        ask("cleo", "GET", "/me")))
     front.stop()
 
 
-def described_exchanges(run, front):
+@contextlib.contextmanager
+def busy_office(run):
+    """An office whose queue is full for longer than 5 seconds answers late, and not 503."""
+    with socket.create_server(("127.0.0.1", 0), backlog=0) as listener:
+        port = listener.getsockname()[1]
+        first = [socket.create_connection(("127.0.0.1", port), SECONDS)]
+        front = Front(run.folder / "busy", port, edits=())
+        replies, began = [], time.monotonic()
+        waiting = threading.Thread(target=lambda: replies.append(front.told(CANDIDATE)))
+        waiting.start()
+        yield
+        time.sleep(max(0, began + 5.5 - time.monotonic()))
+        listener.settimeout(SECONDS)
+        while not replies:
+            with listener.accept()[0] as behind:
+                if first:
+                    first.pop().close()
+                    continue
+                behind.recv(65_536)
+                behind.sendall(reply(200, "{}"))
+                waiting.join(SECONDS)
+        run.judge("a queue in front of the office", [(200, b"{}")], replies)
+        front.stop()
+
+
+def compressed(run, front):
+    """Texts, JSON, styles and scripts are compressed for a client that takes it."""
+    for path, kind in (("/instance", "text/plain"), ("/drafts/1", "application/json"),
+                       ("/style.css", "text/css"), ("/registry.js", "text/javascript")):
+        _, plain, body = front.fetch(path, "registry")
+        _, header, small = front.fetch(path, "registry", Accept_Encoding="gzip")
+        run.judge(f"{path} compressed", (kind, None, "gzip", True, True),
+                  (header["Content-Type"].partition(";")[0], plain["Content-Encoding"],
+                   header["Content-Encoding"], gzip.decompress(small) == body,
+                   len(small) < len(body) * 0.7))
+
+
+def health(run, front, answer):
+    """Whether the office answers, without a password, on this machine only."""
+    for what, expected, more in (("health", answer, {}),
+                                 ("health, from elsewhere", (404, None), {"source": "127.0.0.2"}),
+                                 ("a change of health", told_error(405, "method"), {"method": "POST"})):
+        status, _, body = front.fetch("/health", **more)
+        run.judge(what, expected, (status, body if expected[1] else None))
+
+
+def log_of_changes(run, front):
+    """Who changed what: each request that may change something, and no other."""
+    lines = front.changes()
+    found = {(line["user"], line["caller"], line["request"], line["status"]) for line in lines}
+    for line in (("registry", "office", "POST /drafts/1/publish HTTP/1.1", 200),
+                 ("registry", "office", "PUT /drafts/2 HTTP/1.1", 201),
+                 ("physics", "dept:3", "POST /drafts/1/publish HTTP/1.1", 403)):
+        run.judge("the log of changes", True, line in found)
+    run.judge("its fields, and which requests", ([], []), (
+        [line for line in lines if list(line) != ["at", "user", "caller", "request", "status"]
+         or not re.match(r"\d{4}-\d\d-\d\dT\d\d:\d\d:\d\d[+-]", line["at"])],
+        [line for line in lines if line["request"].startswith(("GET ", "HEAD "))]))
+
+
+def styled_pages(run, front):
+    """The pages for 401 and 404 have the styles of the others, which need no password."""
+    for path, user, status, words in (("/me", None, 401, b"not signed in"),
+                                      ("/nothing", "ada", 404, b"no such page")):
+        came, _, page = front.fetch(path, user)
+        styles = re.search(rb'href="(/\w+\.css)"', page).group(1).decode()
+        run.judge(f"the page of {status}", (status, True, 200),
+                  (came, words in page, front.fetch(styles)[0]))
+
+
+def described_exchanges(run, front, least):
     """What reached the office stands in docs/openapi.yaml."""
-    described = Described()
+    described = openapi.Described()
     exchanges = list(front.exchanges())
     faults = {described.fault(*exchange) for exchange in exchanges} - {None}
-    run.judge("exchanges that docs/openapi.yaml has", (set(), True), (faults, len(exchanges) > 100))
+    run.judge("exchanges that docs/openapi.yaml has", (set(), True), (faults, len(exchanges) > least))
     for name, question, answer in CALLERS + TARGETS:
         if isinstance(answer, tuple) and b'"origin"' not in answer[1]:
             method, path = question.decode().split(" ")[:2]
@@ -217,17 +337,60 @@ def described_exchanges(run, front):
                       described.fault(method, path, answer[0], kind, answer[1]))
 
 
+def words_of_pages(run):
+    """The pages have words for each rule and each error, and for no fault that docs/FORMATS.md lacks."""
+    formats = (TOP / "docs" / "FORMATS.md").read_text()
+    script = (TOP / "front" / "page" / "office.js").read_text()
+
+    def keys(name):
+        block = script.split(f"const {name} = {{")[1].split("\n};")[0]
+        return set(re.findall(r"^  '?([\w-]+)'?:", block, re.M))
+
+    rules = re.search(r"^RULE is one of (.*?)\.", formats, re.M | re.S).group(1)
+    run.judge("rules in words", set(re.findall(r"`(\w+)`", rules)), keys("RULES"))
+    run.judge("faults in words", set(), keys("FAULTS") - set(
+        re.findall(r"^\| (\d+) [A-Z]\w+ \|", formats, re.M)))
+    run.judge("errors in words", {error for _, error in openapi.formats()[1]} | {"often"},
+              keys("REFUSALS") | {"forbidden", "broken", "unplaced", "file"})
+
+
 def before_the_office(run, front, office):
-    """All that is asked over raw sockets."""
+    """All that is asked without a browser."""
     for question, answer in MADE:
         run.judge("the start", answer, front.told(question))
+    words_of_pages(run)
     who_asks_and_what(run, front)
+    styled_pages(run, front)
+    health(run, front, (200, b'{"health":"ok"}'))
     what_passes(run, run.folder)
     waits_for_no_body(run, front)
     many_at_once(run, front)
-    slow_ones(run, front)
-    too_often(run, office)
+    with busy_office(run):
+        slow_ones(run, front)
+        limits(run, office)
     no_office(run)
+    log_of_changes(run, front)
+
+
+@contextlib.contextmanager
+def wide_session(run):
+    """A front before an office whose session has many rooms; it is published."""
+    source, database = run.folder / "wide.exam", run.folder / "wide.db"
+    source.write_bytes(WIDE)
+    subprocess.run([run.program, "load", "--db", str(database), str(source)], check=True,
+                   stdout=subprocess.DEVNULL, timeout=SECONDS)
+    office = Office(run.program, database)
+    try:
+        front = Front(run.folder / "wide", office.port)
+        for question in (ask("registry", "PUT", "/drafts/1", WIDE_SOLUTION),
+                         ask("registry", "POST", "/drafts/1/publish")):
+            run.judge("a wide session", True, front.told(question)[0] in (200, 201))
+        try:
+            yield front
+        finally:
+            front.stop()
+    finally:
+        office.killed()
 
 
 def main():
@@ -243,13 +406,15 @@ def main():
         run = Run(pathlib.Path(given.program).resolve(), folder, "front")
         office = run.office()
         try:
-            # All ask from one address, and how often it may is too_often's to try.
-            front = Front(folder, office.port, client_seconds=4, rate="1000r/s")
+            front = Front(folder, office.port)
             try:
                 before_the_office(run, front, office)
-                if not given.no_browser:
-                    front_pages.judge(run, front, office, given.pictures)
-                described_exchanges(run, front)
+                with wide_session(run) as wide:
+                    compressed(run, wide)
+                    if not given.no_browser:
+                        front_pages.judge(run, front, wide, office, given.pictures)
+                    described_exchanges(run, wide, 1 if given.no_browser else 10)
+                described_exchanges(run, front, 100)
             finally:
                 front.stop()
         finally:

@@ -1,78 +1,86 @@
-// What both pages share: asking the office, its refusals in words, dates in the reader's language.
+// Shared by all pages: asking the office, refusals in words, dates in the reader's language, elements.
 
 const NO_CONNECTION = 'There is no connection to the office. Please try again in a minute.';
 
 const RULES = {
-  Duration: (e) => `Exam ${e} takes more minutes than its period has.`,
-  Clash: (e, o) => `Exams ${e} and ${o} are in one period, and a candidate sits both.`,
+  Duration: (e) => `Exam ${e} is longer than its period.`,
+  Clash: (e, o) => `Exams ${e} and ${o} are in the same period, and a candidate takes both.`,
   Capacity: (e) => `Exam ${e} is in a room and period with more candidates than seats.`,
-  After: (e, o) => `Exam ${e} has to come after exam ${o}, and does not.`,
-  Coincidence: (e, o) => `Exams ${e} and ${o} have to be in one period, and are not.`,
-  Exclusion: (e, o) => `Exams ${e} and ${o} may not be in one period, and are.`,
-  RoomExclusive: (e, o) => `Exam ${e} has to have its room to itself, and exam ${o} is there too.`,
+  After: (e, o) => `Exam ${e} must come after exam ${o}, and does not.`,
+  Coincidence: (e, o) => `Exams ${e} and ${o} must be in the same period, and are not.`,
+  Exclusion: (e, o) => `Exams ${e} and ${o} must not be in the same period, and are.`,
+  RoomExclusive: (e, o) => `Exam ${e} must have its room to itself, and exam ${o} is there too.`,
 };
 
 const FORBIDDEN = {
-  P1: 'This is for the examination office. Candidates see their own examinations alone.',
+  P1: 'This is for the examination office. Candidates see only their own examinations.',
   P2: 'Only the examination office may do this.',
   P3: 'Your department does not own this exam.',
   P4: 'This page is for candidates.',
-  origin: 'This was asked from another site, and was refused.',
+  origin: 'Another site sent this request, so it was refused.',
 };
 
 // The faults that a line of a batch can have, by number.
 const FAULTS = {
-  4: 'a number is expected, and is not there',
-  7: 'the action is neither add nor drop',
-  8: 'a number is beyond its limit',
-  10: 'something stands behind the action',
-  11: 'the first line has to be student,exam,action',
+  4: 'a whole number is expected',
+  7: 'the action must be add or drop',
+  8: 'a number is too large',
+  10: 'there is something after the action',
+  11: 'the first line must be student,exam,action',
 };
 
 const REFUSALS = {
-  caller: 'Your account is linked to no candidate, department or office. Please ask the registry.',
+  caller: 'Your account is not linked to a candidate, a department or the office. Please ask the registry.',
   request: 'The office could not read this request.',
-  path: 'There is no such page at the office.',
+  path: 'The office has no such page.',
   method: 'The office does not do this.',
-  draft: 'This draft is no longer there.',
-  exam: 'This exam is none of yours.',
+  body: 'The office could not read this request.',
+  transfer: 'The office could not read this request.',
+  draft: 'This draft no longer exists.',
+  exam: 'You are not enrolled in this exam.',
   number: 'There is no such exam, period or room.',
   publication: 'No timetable is published yet.',
+  loaded: 'A session is loaded already.',
   'not-loaded': 'No session is loaded yet.',
-  'batch-differs': 'Other lines have come under this number before. Please take a new number.',
-  'too-many': 'There would be too many enrolments, or batches.',
-  length: 'This is longer than the office takes.',
-  often: 'Too much was asked in a short time. Please wait a moment, and try again.',
+  'draft-taken': 'This draft exists already.',
+  'already-placed': 'This exam is placed already.',
+  'not-placed': 'This exam is not placed.',
+  'same-exam': 'These are the same exam.',
+  'batch-differs': 'A different batch was already sent under this number. Please choose a new number.',
+  'too-many': 'There would be too many enrolments, or too many batches.',
+  length: 'This is too long for the office.',
+  often: 'There were too many requests in a short time. Please wait a moment, then try again.',
   unavailable: 'The office cannot answer at the moment, and nothing was changed.'
     + ' Please try again in a minute.',
 };
 
-export function ruleInWords(rule, exam, other) {
+export function ruleText(rule, exam, other) {
   return (RULES[rule] ?? (() => `${rule}: exams ${exam} and ${other}.`))(exam, other);
 }
 
-function inWords(status, told) {
-  if (told.error === 'forbidden') return FORBIDDEN[told.rule] ?? 'You may not do this.';
-  if (told.error === 'broken') return ruleInWords(told.rule, told.exam, told.other);
-  if (told.error === 'unplaced') return `Exam ${told.exam} has no place yet.`;
-  if (told.error === 'file') {
-    return `Line ${told.line}: ${FAULTS[told.fault] ?? `fault ${told.fault}`}.`;
+function refusalText(status, answer) {
+  if (!status) return NO_CONNECTION;
+  if (answer.error === 'forbidden') return FORBIDDEN[answer.rule] ?? 'You may not do this.';
+  if (answer.error === 'broken') return ruleText(answer.rule, answer.exam, answer.other);
+  if (answer.error === 'unplaced') return `Exam ${answer.exam} is not placed yet.`;
+  if (answer.error === 'file') {
+    return `Line ${answer.line}: ${FAULTS[answer.fault] ?? `fault ${answer.fault}`}.`;
   }
-  if (status === 401) return 'You are not signed in any more. Please reload this page.';
-  return REFUSALS[told.error] ?? `The office refused this (${status}).`;
+  if (status === 401) return 'You are no longer signed in. Please reload this page.';
+  return REFUSALS[answer.error] ?? `The office refused this (${status}).`;
 }
 
-/** A refusal of the office, or no answer at all (status 0); its message is for the reader. */
+/** A refusal, or no answer at all (status 0). Its message is for the reader. */
 export class Refusal extends Error {
-  constructor(status, told) {
-    super(status ? inWords(status, told) : NO_CONNECTION);
+  constructor(status, answer, message = refusalText(status, answer)) {
+    super(message);
     this.status = status;
-    this.error = told.error;
-    this.rule = told.rule;
+    this.error = answer.error;
+    this.rule = answer.rule;
   }
 }
 
-/** What the office answers: an object, or a text. */
+/** Returns the office's answer: an object or a text. */
 export async function ask(path, method = 'GET', body = undefined) {
   let reply, text;
   try {
@@ -82,13 +90,13 @@ export async function ask(path, method = 'GET', body = undefined) {
     throw new Refusal(0, {});
   }
   const isJson = reply.headers.get('Content-Type')?.startsWith('application/json');
-  const told = isJson ? JSON.parse(text) : text;
-  if (!reply.ok) throw new Refusal(reply.status, isJson ? told : {});
-  return told;
+  const answer = isJson ? JSON.parse(text) : text;
+  if (!reply.ok) throw new Refusal(reply.status, isJson ? answer : {});
+  return answer;
 }
 
-/** The same, or null where the refusal has this error. */
-export async function askOr(error, path) {
+/** Like `ask`, but returns null on a refusal with this error. */
+export async function askOrNull(error, path) {
   try {
     return await ask(path);
   } catch (refusal) {
@@ -97,7 +105,7 @@ export async function askOr(error, path) {
   }
 }
 
-/** The same for a change; where it is refused, these words come first. */
+/** Like `ask`, for a change; puts these words before a refusal's message. */
 export async function change(words, ...question) {
   try {
     return await ask(...question);
@@ -109,42 +117,42 @@ export async function change(words, ...question) {
 
 const language = navigator.languages?.length ? [...navigator.languages] : undefined;
 
-function formatted(options) {
+function dateFormat(options) {
   const format = new Intl.DateTimeFormat(language, options);
   const { locale } = format.resolvedOptions();
   return Object.assign((moment) => format.format(moment), { language: locale });
 }
 
-// A day and a time of the office's have no zone: they are told as they stand.
-const longDay = formatted({ dateStyle: 'full', timeZone: 'UTC' });
-const shortDay = formatted({ weekday: 'short', day: 'numeric', month: 'short', timeZone: 'UTC' });
-const shortTime = formatted({ timeStyle: 'short', timeZone: 'UTC' });
-const now = formatted({ dateStyle: 'long', timeStyle: 'short' });
+// The office's days and times have no time zone, so they are shown unchanged.
+const longDay = dateFormat({ dateStyle: 'full', timeZone: 'UTC' });
+const shortDay = dateFormat({ weekday: 'short', day: 'numeric', month: 'short', timeZone: 'UTC' });
+const shortTime = dateFormat({ timeStyle: 'short', timeZone: 'UTC' });
+const now = dateFormat({ dateStyle: 'long', timeStyle: 'short' });
 
-function timed(format, value, moment) {
+function timeElement(format, value, moment) {
   return element('time', { datetime: value, lang: format.language }, format(moment));
 }
 
-export const day = (date) => timed(longDay, date, new Date(`${date}T00:00:00Z`));
-export const dayInShort = (date) => timed(shortDay, date, new Date(`${date}T00:00:00Z`));
-export const time = (start) => timed(shortTime, start, new Date(`2000-01-01T${start}Z`));
-export const moment = (date) => timed(now, date.toISOString(), date);
+export const day = (date) => timeElement(longDay, date, new Date(`${date}T00:00:00Z`));
+export const dayInShort = (date) => timeElement(shortDay, date, new Date(`${date}T00:00:00Z`));
+export const time = (start) => timeElement(shortTime, start, new Date(`2000-01-01T${start}Z`));
+export const moment = (date) => timeElement(now, date.toISOString(), date);
 
-const isThere = (it) => it !== null && it !== undefined && it !== false;
+const isPresent = (it) => it !== null && it !== undefined && it !== false;
 
-// On a phone the rows of a table are shown as blocks. To some screen readers they would be no table
-// any more, so roles say it.
+// On a phone the rows of a table are shown as blocks. Some screen readers then no longer take it for a
+// table, so its roles are written out.
 const ROLES = { table: 'table', thead: 'rowgroup', tbody: 'rowgroup', tr: 'row', td: 'cell' };
 const roleOf = (name, { scope }) => (
   name === 'th' ? `${scope === 'col' ? 'column' : 'row'}header` : ROLES[name]);
 
-/** An element; attributes and children that are null or false are left out. */
+/** Returns a new element, without the attributes and children that are null or false. */
 export function element(name, attributes = {}, ...children) {
   const made = document.createElement(name);
   for (const [key, value] of Object.entries({ role: roleOf(name, attributes), ...attributes })) {
-    if (isThere(value)) made.setAttribute(key, value);
+    if (isPresent(value)) made.setAttribute(key, value);
   }
-  made.append(...children.flat().filter(isThere));
+  made.append(...children.flat().filter(isPresent));
   return made;
 }
 
@@ -165,8 +173,8 @@ export function count(number, one, many = `${one}s`) {
   return `${numeral(number)} ${number === 1 ? one : many}`;
 }
 
-/** Does the work, and shows what it is about, or why it could not be done. */
-export async function shown(words, work) {
+/** Does the work, and shows what it returns, or why it failed. */
+export async function showProgress(words, work) {
   byId('status').textContent = words;
   byId('error').replaceChildren();
   document.body.setAttribute('aria-busy', 'true');
@@ -176,16 +184,16 @@ export async function shown(words, work) {
   } catch (refusal) {
     if (!(refusal instanceof Refusal)) console.error(refusal);
     byId('status').textContent = '';
-    const told = refusal instanceof Refusal ? refusal.message
+    const message = refusal instanceof Refusal ? refusal.message
       : 'Something went wrong on this page. Please reload it.';
-    byId('error').replaceChildren(element('p', {}, told), elsewhere(refusal) ?? '');
+    byId('error').replaceChildren(element('p', {}, message), linkToOwnPage(refusal) ?? '');
     byId('error').scrollIntoView({ block: 'nearest' });
   }
   document.body.removeAttribute('aria-busy');
 }
 
-// Where the reader has a page of her own.
-function elsewhere({ rule }) {
+// Whoever opens a page that isn't for them gets a link to their own.
+function linkToOwnPage({ rule }) {
   const link = (href, words) => element('p', {}, element('a', { href }, words));
   if (rule === 'P1') return link('candidate.html', 'Your examinations');
   return rule === 'P4' ? link('registry.html', 'The timetables') : null;

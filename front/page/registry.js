@@ -1,19 +1,21 @@
-// The registry's page: what is published and the drafts, with their penalties and violations,
-// rooms by period, and batches of late changes.
+// The registry's page: the published timetable and the drafts, with their penalties, violations and
+// rooms by period; publishing; batches of late changes.
 import {
-  ask, askOr, byId, cell, change, columnHead, count, dayInShort, element, numeral, row, rowHead,
-  ruleInWords, shown, small, time, unseen,
+  ask, askOrNull, byId, cell, change, columnHead, count, dayInShort, element, numeral, Refusal, row,
+  rowHead, ruleText, showProgress, small, time, unseen,
 } from './office.js';
 
-// The office lists no drafts, and takes eight at most.
+// The office has no list of its drafts; their numbers are these eight.
 const DRAFTS = [1, 2, 3, 4, 5, 6, 7, 8];
 const MOST_SHOWN = 200;
+const MOST_MOVES_SHOWN = 20;
 
+// The timetables as they were last read and shown.
 const office = { timetables: [], session: null, open: null, mayPublish: true };
 
 // ---- Texts of the office
 
-/** The lines of a penalty report: names and numbers. */
+/** The names and numbers of a penalty report. */
 function penaltyIn(report) {
   const lines = report.trimEnd().split('\n').map((line) => line.match(/^(.*) (\d+)$/));
   const capital = (name) => name[0].toUpperCase() + name.slice(1);
@@ -21,12 +23,12 @@ function penaltyIn(report) {
   return { parts: parts.slice(0, -1), total: parts.at(-1)[1] };
 }
 
-/** The breaches of a violation report. */
+/** The breaches in a violation report. */
 function breachesIn(report) {
   return report.trimEnd().split('\n').slice(1).map((line) => line.split(' '));
 }
 
-/** Of a session: the candidates of each exam, the periods and the rooms. */
+/** A session's exams (how many candidates), periods and rooms. */
 function sessionIn(text) {
   const fields = (line) => line.split(',').map((field) => field.trim());
   const lines = (section) => section.split('\r\n').slice(0, -1).map(fields);
@@ -38,31 +40,55 @@ function sessionIn(text) {
   };
 }
 
-/** Where exams stand, of a published solution. */
-function placesIn(solution) {
-  return solution.trimEnd().split('\r\n').map((line, exam) => {
-    const [period, room] = line.split(',').map(Number);
-    return { exam, period, room };
+/** The rooms in use in a rooms report, with their exams and the number of seats taken. */
+function usesIn(report) {
+  return report.trimEnd().split('\n').slice(1).map((line) => {
+    const [period, room, used, capacity, ...exams] = line.trim().split(/\s+/).map(Number);
+    return { period, room, used, capacity, exams };
   });
+}
+
+/** The rooms in use in a draft; the number of seats taken is unknown without the session. */
+function usesOf(places, session) {
+  const uses = new Map();
+  for (const { exam, period, room } of places.filter((place) => place.period !== null)) {
+    const use = uses.get(`${period} ${room}`)
+      ?? { period, room, used: session && 0, capacity: session?.capacities[room], exams: [] };
+    use.exams.push(exam);
+    if (session) use.used += session.sizes[exam];
+    uses.set(`${period} ${room}`, use);
+  }
+  return [...uses.values()];
 }
 
 // ---- Reading
 
 async function readPublished() {
-  const report = await askOr('publication', '/publication/penalty');
-  return report === null ? null : { name: 'Published', penalty: penaltyIn(report), breaches: [] };
+  const report = await ask('/-/publication/penalty');
+  if (report.publication === null) return null;
+  const uses = usesIn(await ask('/publication/rooms'));
+  return { name: 'Published', penalty: penaltyIn(report), breaches: [], uses, unplaced: [] };
 }
 
+// A draft's places, penalty and violations are three requests. If it changes between them, they are
+// read again.
 async function readDraft(number) {
-  const report = await askOr('draft', `/drafts/${number}/penalty`);
-  const violations = report === null ? null : await askOr('draft', `/drafts/${number}/violations`);
-  return violations === null ? null : {
-    name: `Draft ${number}`, number, penalty: penaltyIn(report), breaches: breachesIn(violations),
-  };
+  for (let tries = 0; tries < 5; tries += 1) {
+    const { draft, exams: places, penalty: total } = await ask(`/-/drafts/${number}`);
+    if (draft === null) return null;
+    const violations = await askOrNull('draft', `/drafts/${number}/violations`);
+    const report = violations && await askOrNull('draft', `/drafts/${number}/penalty`);
+    if (report && penaltyIn(report).total === total) {
+      const unplaced = places.filter(({ period }) => period === null).map(({ exam }) => exam);
+      return { name: `Draft ${number}`, number, penalty: penaltyIn(report),
+        breaches: breachesIn(violations), places, unplaced };
+    }
+  }
+  throw new Refusal(503, { error: 'unavailable' });
 }
 
-// A department may look at drafts, and at nothing else.
-async function orNothing(work) {
+// A department may see drafts, and nothing else.
+async function nullIfForbidden(work) {
   try {
     return await work();
   } catch (refusal) {
@@ -73,20 +99,33 @@ async function orNothing(work) {
 }
 
 async function load() {
-  office.session = null;
-  const reading = [orNothing(readPublished), ...DRAFTS.map(readDraft)];
-  const [published, ...drafts] = await Promise.all(reading);
-  office.timetables = [published, ...drafts].filter((timetable) => timetable !== null);
+  const timetables = [await nullIfForbidden(readPublished)];
+  for (const number of DRAFTS) timetables.push(await readDraft(number));
+  office.timetables = timetables.filter((timetable) => timetable !== null);
+  office.session = office.timetables.length
+    ? await nullIfForbidden(async () => sessionIn(await ask('/instance'))) : null;
   showOverview();
-  const again = office.timetables.find(({ name }) => name === office.open) ?? office.timetables[0];
-  if (again) await open(again);
-  byId('detail').hidden = !again;
+  const open = office.timetables.find(({ name }) => name === office.open) ?? office.timetables[0];
+  if (open) showDetail(open);
+  byId('detail').hidden = !open;
   byId('late').hidden = !office.mayPublish;
-  const found = office.timetables.filter(({ number }) => number).length;
-  const drafted = found ? count(found, 'draft') : 'no draft';
-  if (!office.mayPublish) return `You see ${drafted}.`;
-  return `${published ? 'One timetable is published' : 'Nothing is published yet'}, and there ${
-    found > 1 ? 'are' : 'is'} ${drafted}.`;
+  const drafts = office.timetables.filter(({ number }) => number).length;
+  const found = drafts ? count(drafts, 'draft') : 'no draft';
+  if (!office.mayPublish) return `You see ${found}.`;
+  return `${publication() ? 'One timetable is published' : 'Nothing is published yet'}, and there ${
+    drafts > 1 ? 'are' : 'is'} ${found}.`;
+}
+
+const publication = () => office.timetables.find(({ number }) => !number);
+
+/** Reads a draft again and shows it in its card, and below if it is open. */
+async function reread(number) {
+  const found = await readDraft(number);
+  if (!found) throw new Refusal(404, { error: 'draft' });
+  office.timetables = office.timetables.map((old) => (old.number === number ? found : old));
+  showOverview();
+  if (office.open === found.name) showDetail(found);
+  return found;
 }
 
 // ---- The overview
@@ -97,11 +136,14 @@ function bar(points, most) {
   return element('span', { class: 'bar', 'aria-hidden': 'true' }, filled);
 }
 
-function verdict({ breaches, number }) {
+function verdict({ breaches, number, unplaced }) {
   if (!number) return 'What candidates see';
-  if (!breaches.length) return 'Breaks no rule';
-  return `Breaks rules: ${count(breaches.length, 'violation')}`;
+  const rules = breaches.length ? `Breaks rules: ${count(breaches.length, 'violation')}`
+    : 'Breaks no rule';
+  return unplaced.length ? `${rules}; ${count(unplaced.length, 'exam')} not placed` : rules;
 }
+
+const isPublishable = ({ breaches, unplaced }) => !breaches.length && !unplaced.length;
 
 function button(title, words, more, act) {
   const made = element('button', { type: 'button', 'aria-describedby': title, ...more }, words);
@@ -119,14 +161,15 @@ function bars({ name, penalty }, most) {
 function card(timetable, most) {
   const { name, penalty, breaches, number } = timetable;
   const title = `card-${number ?? 'published'}`;
-  const show = button(title, 'Details', { 'data-of': name }, () => shown(`Opening ${name} …`,
-    async () => {
-      await open(timetable);
+  const show = button(title, 'Details', { 'data-of': name }, () => showProgress(
+    `Opening ${name} …`, async () => {
+      showDetail(number ? await reread(number) : timetable);
       byId('detail-title').focus();
       return `${name} is shown.`;
     }));
-  const publishing = button(title, 'Publish …', { class: 'main' }, () => confirmed(timetable));
-  publishing.disabled = breaches.length > 0;
+  const publishing = button(title, 'Publish …', { class: 'main' }, () => showProgress(
+    `Reading ${name} again …`, () => askToPublish(timetable)));
+  publishing.disabled = !isPublishable(timetable);
   return element('article', { class: 'card', 'aria-labelledby': title },
     element('h3', { id: title }, name, small(count(penalty.total, 'point'))),
     bars(timetable, most),
@@ -139,29 +182,31 @@ function showOverview() {
   const most = Math.max(0, ...all);
   byId('cards').replaceChildren(...office.timetables.map((timetable) => card(timetable, most)));
   byId('overview').hidden = !office.timetables.length;
+  markOpen();
+}
+
+function markOpen() {
+  for (const found of document.querySelectorAll('[data-of]')) {
+    found.setAttribute('aria-pressed', found.dataset.of === office.open);
+  }
 }
 
 // ---- One timetable
 
-async function open(timetable) {
-  const { name, number } = timetable;
-  const places = number ? (await ask(`/drafts/${number}`)).exams
-    : placesIn(await ask('/publication'));
-  office.session ??= await orNothing(async () => sessionIn(await ask('/instance')));
+function showDetail(timetable) {
+  const { name, places, uses } = timetable;
   office.open = name;
   byId('detail-title').textContent = name;
   showViolations(timetable);
-  showUnplaced(places.filter(({ period }) => period === null));
-  showGrid(places.filter(({ period }) => period !== null), name);
-  for (const button of document.querySelectorAll('[data-of]')) {
-    button.setAttribute('aria-pressed', button.dataset.of === name);
-  }
+  showUnplaced(timetable.unplaced);
+  showGrid(uses ?? usesOf(places, office.session), name);
+  markOpen();
   byId('detail').hidden = false;
 }
 
 function showViolations({ breaches, number }) {
   const items = breaches.slice(0, MOST_SHOWN).map(([rule, exam, other]) => element('li', {},
-    element('b', {}, rule), ' ', ruleInWords(rule, exam, other)));
+    element('b', {}, rule), ' ', ruleText(rule, exam, other)));
   const more = breaches.length - MOST_SHOWN;
   const found = breaches.length ? count(breaches.length, 'violation') : 'No violation';
   const title = element('h3', {}, found);
@@ -171,87 +216,121 @@ function showViolations({ breaches, number }) {
 }
 
 function showUnplaced(exams) {
-  const named = exams.slice(0, MOST_SHOWN).map(({ exam }) => exam).join(', ');
+  const named = exams.slice(0, MOST_SHOWN).join(', ');
   const more = exams.length > MOST_SHOWN ? ' and others' : '';
-  const words = `Without a place: ${count(exams.length, 'exam')} (${named}${more}).`;
+  const words = `Not placed: ${count(exams.length, 'exam')} (${named}${more}).`;
   byId('unplaced').textContent = exams.length ? words : '';
 }
 
-// Numbers from 0: all of the session's, or those up to the greatest that is used, for whoever may
-// not see the session.
+// Numbers from 0: all of the session's, or up to the largest in use for a reader who may not see the
+// session.
 function numbers(all, used) {
   const length = all?.length ?? Math.max(-1, ...used) + 1;
   return Array.from({ length }, (_, number) => number);
 }
 
-function showGrid(places, name) {
+// On paper each row is a table of its own, with a line for each room: style.css.
+function showGrid(uses, name) {
   const { session } = office;
-  const at = new Map();
-  for (const { exam, period, room } of places) {
-    const key = `${period} ${room}`;
-    at.set(key, [...(at.get(key) ?? []), exam]);
-  }
-  const periods = numbers(session?.periods, places.map(({ period }) => period));
-  const rooms = numbers(session?.capacities, places.map(({ room }) => room));
+  const at = new Map(uses.map((use) => [`${use.period} ${use.room}`, use]));
+  const periods = numbers(session?.periods, uses.map(({ period }) => period));
+  const rooms = numbers(session?.capacities, uses.map(({ room }) => room));
   const body = periods.map((period) => row(periodHead(period, session?.periods[period]),
-    rooms.map((room) => placed(at.get(`${period} ${room}`), session, room))));
-  byId('grid').style.minInlineSize = `${11 + 9 * rooms.length}rem`;
+    rooms.map((room) => roomCell(room, at.get(`${period} ${room}`)))));
+  byId('grid').style.setProperty('--rooms', rooms.length);
   byId('grid').replaceChildren(unseen('caption', `Exams of ${name} by period and room`),
     element('thead', {}, row(columnHead('Period'), rooms.map((room) => roomHead(room, session)))),
     element('tbody', {}, body));
 }
 
 function roomHead(room, session) {
-  return columnHead(`Room ${room}`, session && small(count(session.capacities[room], 'seat')));
+  return columnHead(roomName(room), session && small(count(session.capacities[room], 'seat')));
 }
+
+const roomName = (room) => `Room ${room}`;
 
 function periodHead(period, when) {
   return rowHead(`Period ${period}`,
     when && small(dayInShort(when.date), ', ', time(when.start)));
 }
 
-function placed(exams, session, room) {
-  if (!exams) return cell();
-  const named = element('b', {}, `${exams.length > 1 ? 'Exams' : 'Exam'} ${exams.join(', ')}`);
-  if (!session) return cell(named);
-  const used = exams.reduce((sum, exam) => sum + session.sizes[exam], 0);
-  const capacity = session.capacities[room];
-  return element('td', { class: used > capacity ? 'over' : null }, named,
+function roomCell(room, use) {
+  const attributes = { 'data-room': roomName(room) };
+  if (!use) return element('td', attributes);
+  const { exams, used, capacity } = use;
+  const name = element('b', {}, `${exams.length > 1 ? 'Exams' : 'Exam'} ${exams.join(', ')}`);
+  if (used === null) return element('td', attributes, name);
+  return element('td', { ...attributes, class: used > capacity ? 'over' : null }, name,
     small(`${used} of ${capacity}`));
 }
 
 // ---- Publishing
 
 const FIRST = 'All candidates get seats, and see the timetable at once.';
-const AGAIN = 'It takes the place of what is published, and all candidates see it at once. '
-  + 'Whoever stays in her room and period keeps her seat.';
+const REPLACES = 'It replaces the published timetable, and all candidates see it at once. '
+  + 'Candidates whose room and period stay the same keep their seats.';
 
-function confirmed(timetable) {
-  const { name, number } = timetable;
-  const isFirst = !office.timetables.some((other) => !other.number);
+const placeText = ({ period, room }) => (
+  period === null ? 'not placed' : `period ${period}, room ${room}`);
+
+/** What changed in a draft from one reading to a later one, in words; empty if nothing did. */
+function changesSince(seen, found) {
+  const moves = found.places.map((place, i) => [seen.places[i], place]).filter(
+    ([before, now]) => before.period !== now.period || before.room !== now.room);
+  const [was, is] = [seen.penalty.total, found.penalty.total];
+  if (!moves.length && was === is) return [];
+  const items = moves.slice(0, MOST_MOVES_SHOWN).map(([before, now]) => element('li', {},
+    `Exam ${now.exam}: ${placeText(before)} before, ${placeText(now)} now`));
+  const more = moves.length - MOST_MOVES_SHOWN;
+  const points = was === is ? `It still has ${count(is, 'point')}.`
+    : `It had ${count(was, 'point')} when you looked, and has ${numeral(is)} now.`;
+  const moved = moves.length ? `${count(moves.length, 'exam has', 'exams have')} moved:`
+    : 'No exam has moved; enrolments have changed.';
+  return [element('p', {}, element('b', {}, 'This draft has changed since you looked.'),
+    ` ${points} ${moved}`), items.length && element('ul', {}, items),
+  more > 0 && element('p', {}, `and ${more} more.`)];
+}
+
+/** Reads the draft again before it asks, so that nothing is published unseen. */
+async function askToPublish(seen) {
+  const found = await reread(seen.number);
+  const changes = changesSince(seen, found);
+  const { number, name } = found;
+  if (!isPublishable(found)) {
+    throw new Refusal(409, {}, `${name} has changed since you looked. It can't be published now: ${
+      verdict(found).toLowerCase()}.`);
+  }
+  const isFirst = (await ask('/-/publication/penalty')).publication === null;
   byId('confirm-title').textContent = `Publish draft ${number}?`;
-  byId('confirm-words').textContent = `${isFirst ? FIRST : AGAIN} This cannot be taken back.`;
+  byId('confirm-text').replaceChildren(...[changes,
+    element('p', {}, `${isFirst ? FIRST : REPLACES} This can't be undone.`),
+    !isFirst && element('p', {}, element('a', { href: '/publication', download: 'publication.sol' },
+      'Download the published timetable'), ' first, to keep a copy.'),
+  ].flat().filter(Boolean));
   byId('confirm-yes').textContent = `Publish draft ${number}`;
   const dialog = byId('confirm');
   dialog.returnValue = 'no';
   dialog.onclose = () => {
-    if (dialog.returnValue === 'yes') shown(`Publishing ${name} …`, () => publish(number));
+    if (dialog.returnValue === 'yes') showProgress(`Publishing ${name} …`, () => publish(found));
   };
   dialog.showModal();
+  return `${name} has ${count(found.penalty.total, 'point')}.`;
 }
 
-async function publish(number) {
-  const told = await change(`Draft ${number} was not published.`,
+async function publish(confirmed) {
+  const { number } = confirmed;
+  if (changesSince(confirmed, await reread(number)).length) return askToPublish(confirmed);
+  const answer = await change(`Draft ${number} was not published.`,
     `/drafts/${number}/publish`, 'POST');
   await load();
   byId('status').focus();
-  const candidates = count(told.changed, 'candidate');
-  return `Draft ${told.draft} is published; the seats of ${candidates} have changed.`;
+  const candidates = count(answer.changed, 'candidate');
+  return `Draft ${answer.draft} is published; the seats of ${candidates} have changed.`;
 }
 
 // ---- Late changes
 
-// Either a file or lines; the browser tells the reader so, as of any field that is wrong.
+// Either a file or lines; the browser reports the error, as for any invalid field.
 function checkLines() {
   const [isFile, isText] = [byId('batch-file').files.length > 0, byId('batch-lines').value !== ''];
   const wrong = isFile ? 'Choose a file or paste lines, not both.'
@@ -259,28 +338,29 @@ function checkLines() {
   byId('batch-lines').setCustomValidity(isFile === isText ? wrong : '');
 }
 
-// A file goes as it is, byte for byte: under its number no other bytes are taken again.
+// A file is sent byte for byte: the office takes no other bytes under its number again.
 async function sendBatch(number) {
   const body = byId('batch-file').files[0] ?? byId('batch-lines').value;
-  const told = await change(`Batch ${number} was not taken.`, `/batches/${number}`, 'PUT', body);
+  const answer = await change(`Batch ${number} was refused.`, `/batches/${number}`, 'PUT', body);
   byId('batch').reset();
   await load();
   byId('status').focus();
-  const counts = ['added', 'dropped', 'unchanged'].map((what) => `${numeral(told[what])} ${what}`);
-  return `Batch ${told.batch} is taken: ${counts.join(', ')}.`;
+  const counts = ['added', 'dropped', 'unchanged'].map((what) => `${numeral(answer[what])} ${what}`);
+  return `Batch ${answer.batch} is accepted: ${counts.join(', ')}.`;
 }
 
-for (const happens of ['input', 'reset']) {
-  // A reset is told before the fields are empty.
-  byId('batch').addEventListener(happens, () => setTimeout(checkLines));
+for (const event of ['input', 'reset']) {
+  // A reset event comes before the fields are empty.
+  byId('batch').addEventListener(event, () => setTimeout(checkLines));
 }
 byId('batch').addEventListener('submit', (event) => {
   event.preventDefault();
   const number = byId('batch-number').value;
-  shown(`Sending batch ${number} …`, () => sendBatch(number));
+  showProgress(`Sending batch ${number} …`, () => sendBatch(number));
 });
 checkLines();
 
-const refresh = () => shown('Loading the timetables …', load);
+const refresh = () => showProgress('Loading the timetables …', load);
 byId('refresh').addEventListener('click', refresh);
+byId('print').addEventListener('click', () => window.print());
 refresh();
