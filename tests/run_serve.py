@@ -39,12 +39,12 @@ class Office:
     """The program while it serves a database; its end is waited for, and judged."""
 
     def __init__(self, program, database, connections=1_000_000, patience=None,
-                 stderr=subprocess.PIPE):
+                 stderr=subprocess.PIPE, env=None):
         more = ["--patience", str(patience)] if patience else []
         self.process = subprocess.Popen(
             [program, "serve", "--db", str(database), "--port", "0",
              "--connections", str(connections), *more],
-            stdin=subprocess.DEVNULL, stdout=subprocess.PIPE, stderr=stderr)
+            stdin=subprocess.DEVNULL, stdout=subprocess.PIPE, stderr=stderr, env=env)
         line = self.process.stdout.readline()
         if not line.startswith(b"listening 127.0.0.1:") or not line.endswith(b"\n"):
             self.process.kill()

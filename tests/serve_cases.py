@@ -13,7 +13,7 @@ MANY = b"[Exams:2000]\n" + b"1, %s\n" % b", ".join(b"%d" % n for n in range(100)
     b"[PeriodHardConstraints]\n[RoomHardConstraints]\n[InstitutionalWeightings]\n")
 PHRASES = {200: "OK", 201: "Created", 400: "Bad Request", 403: "Forbidden", 404: "Not Found",
            405: "Method Not Allowed", 409: "Conflict", 413: "Payload Too Large",
-           501: "Not Implemented"}
+           501: "Not Implemented", 503: "Service Unavailable"}
 
 # What a client asks, in messages, and the bytes that come back; `start` is the file that is loaded.
 Case = namedtuple("Case", "name start asked replies")

@@ -1,0 +1,144 @@
+"""The sweeps of run_refused.py in which a socket's reads or writes fail, or calls of the disk."""
+import errno
+import itertools
+
+import run_serve
+from refusing import (
+    ALL_UNAVAILABLE, COMMANDS, DISK, RECEIVE, SEND, STORE_FAULT, UNAVAILABLE, Office,
+    connection_fault, copy_database, is_change)
+from serve_cases import EXAMPLES, PUBLISHED, SMALL, message, reply
+
+# The small session is loaded, drafted and published.
+SESSION = ((message("PUT", "/instance", SMALL),
+            reply(201, '{"exams":4,"pairs":6,"periods":4,"rooms":2}')), *PUBLISHED)
+ASKED = b"".join(question for question, _ in SESSION)
+CANNOT_OPEN = b"examoffice: cannot open database\n"
+
+
+# ---- Sockets
+
+def shown_after_each(run):
+    """Returns what an office shows before the session's messages, and after each of them."""
+    office = Office(run, None)
+    shown = [office.shown()]
+    for question, _ in SESSION:
+        office.reply(question)
+        shown.append(office.shown())
+    office.ending()
+    return shown
+
+
+def reads(run, first, step):
+    """If the k-th read of one byte fails, the messages that were read whole are answered and done,
+    and no other."""
+    shown = shown_after_each(run)
+    ends = [*itertools.accumulate(len(question) for question, _ in SESSION)]
+    for k in range(first, len(ASKED) + 2, step):
+        office, count = Office(run, None), sum(end < k for end in ends)
+        run.cut(RECEIVE, 1)
+        came, refused = office.reply_under(ASKED[:k - 1], RECEIVE, k)
+        run.cut(RECEIVE, 0)
+        run.record(f"after {count} messages", f"read {k}",
+                   (b"".join(answer for _, answer in SESSION[:count]), 1, shown[count],
+                    (-9, connection_fault(1))),
+                   (came, refused, office.shown(), office.ending()))
+
+
+def writes(run, first, step):
+    """If the k-th write of seven bytes fails, what was written before it has arrived, and the
+    message that it answers is done too."""
+    shown, written = shown_after_each(run), b""
+    pieces = [(count, answer[at:at + 7]) for count, (_, answer) in enumerate(SESSION, 1)
+              for at in range(0, len(answer), 7)]
+    for k, (count, piece) in enumerate(pieces, 1):
+        if k % step == first % step:
+            office, came = Office(run, None), b""
+            run.cut(SEND, 7)
+            run.refuse(SEND, k)
+            with office.server.connect() as client:
+                for exchange in SESSION[:count]:
+                    came += run_serve.asked(client, *exchange)
+            run.cut(SEND, 0)
+            run.record(f"after {count} messages", f"write {k}",
+                       (written, 1, shown[count], (-9, connection_fault(2))),
+                       (came, run.stop_refusing(SEND), office.shown(), office.ending()))
+        written += piece
+
+
+# ---- The disk
+
+def refusals():
+    """Yields how calls of the disk are refused: whether for good, and with which errno."""
+    return itertools.product((False, True), (errno.EIO, errno.ENOSPC))
+
+
+def call(k, is_for_good, number):
+    return f"call {k}{' and on' if is_for_good else ''}, {errno.errorcode[number]}"
+
+
+def found(run, database):
+    """Returns what the next process shows of a database, and how it ends."""
+    office = Office(run, database, "found")
+    return office.shown(), office.ending()
+
+
+def command(run, state, path, name):
+    """A command in a state, while each of its calls of the disk is refused in turn. If it is
+    answered, all that was written is synced, and the next process finds it done. If the reply is
+    503, or the program ends with store fault 8, the next process finds the office before the
+    command or after it; until then the office shows what it did before, or nothing but 503."""
+    question, office = COMMANDS[name], Office(run, path)
+    before, answer, after = office.shown(), office.reply(question), office.shown()
+    office.ending()
+    for how in refusals():
+        for k in itertools.count(1):
+            office = Office(run, path)
+            came, refused = office.reply_under(question, DISK, k, *how)
+            is_unsynced = run.has_unsynced_writes()
+            run.refuse(DISK, 1 if refused and how[0] else 0, *how)
+            shown = office.shown()
+            run.stop_refusing(DISK)
+            ending = office.ending(is_over=not shown)
+            then, next_ending = found(run, office.database)
+            if came == answer:
+                outcome, may_show, may_find = "answered", [after], [after]
+            else:
+                outcome = f"503 and found {'before' if then == before else 'after'}"
+                may_show, may_find = [before], [before, after]
+            goes_on = shown in [*may_show, ALL_UNAVAILABLE] and ending == (-9, b"")
+            has_ended = shown == b"" and ending == (1, STORE_FAULT)
+            run.record(outcome if refused else "not refused", f"{state}, {name}, {call(k, *how)}",
+                       (True, True, True, (-9, b"")),
+                       (came == answer and not is_unsynced
+                        or refused and came in (b"", UNAVAILABLE) or came,
+                        goes_on or has_ended or (shown, ending),
+                        then in may_find or then, next_ending))
+            if not refused:
+                run.judge(f"{state}, {name}, calls of the disk", is_change(question, answer), k > 1)
+                break
+
+
+def load(run):
+    """A load into a new file, likewise. The next process finds an office without a session or with
+    it, and with it if the load said so."""
+    path = run.folder / "new.db"
+    words = "load", "--db", path, EXAMPLES / "small.exam"
+    empty, loaded = (found(run, source) for source in (None, run.database(SMALL)))
+    ample = run.ending(*words)
+    faults = [(1, b"", line) for line in (STORE_FAULT, CANNOT_OPEN)]
+    for how in refusals():
+        for k in itertools.count(1):
+            copy_database(None, path)
+            run.refuse(DISK, k, *how)
+            ending = run.ending(*words)
+            refused, then = run.stop_refusing(DISK), found(run, path)
+            if ending == ample:
+                outcome, may_find = "loaded", [loaded]
+            else:
+                outcome = f"refused and found {'empty' if then == empty else 'loaded'}"
+                may_find = [empty, loaded]
+            run.record(outcome if refused else "not refused", f"load, {call(k, *how)}",
+                       (True, True), (ending == ample or refused and ending in faults or ending,
+                                      then in may_find or then))
+            if not refused:
+                break
