@@ -63,6 +63,9 @@ REPORTS = {
                          [7, 0, 2, 10, 0, 10, 14]),
     "the greatest student number":
         (with_line(2, "120, 999999999, 2"), PLACED, [], [7, 0, 2, 0, 0, 15, 7]),
+    "cut behind the last header, so that all weights are 0":
+        (up_to("TWOINAROW"), PLACED, [], [0, 0, 0, 0, 0, 15, 7]),
+    "without the last line end": (SMALL[:-1], PLACED, [], [7, 5, 3, 0, 0, 15, 7]),
     "a coincidence of exams that share a student":
         (with_rules(COINCIDENCE), PLACED, [], [7, 5, 3, 0, 0, 15, 7]),
     "a coincidence of exams that share none":

@@ -29,8 +29,8 @@ from cases import Cases
 from serve_cases import (
     CASES, EMPTY, EXAMPLES, FIRST_MOVED, MANY, MOVED_ROOMS, MOVED_TEXT, PENALTY, PENDING, PUBLISHED,
     SECOND_PAGE, SHOWN, SMALL, SOLUTION, STORED, THIRD, UNPLACED, asked_by, at, batch, batch_text,
-    clear, drafted, enrolled, error, me, message, move, pending, place, publish, published, reply,
-    report, text)
+    clear, drafted, enrolled, error, forbidden, me, message, move, pending, place, publish, published,
+    reply, report, text)
 
 SECONDS = 60
 
@@ -350,6 +350,17 @@ def long_message(run):
     with office.connect() as client:
         got = told(client, head + b"x" * length)
     run.judge("a long message", (error(413, "length"), (0, b"")), (got, office.ended()))
+
+
+def hostile_messages(run):
+    """A body that is a byte too long is refused for its sender or for its length, and the next
+    question on the connection is answered."""
+    after = asked_by(99), me(99, 0)
+    exchanges = [(message("PUT", "/drafts/1", b"0" * 1_048_577, caller), answer) for caller, answer in
+                 (("office", error(413, "length")), ("cand:1", forbidden("P1")),
+                  ("dept:3", forbidden("P2")))]
+    exchanged(run, "hostile_messages, a body that is too long", run.database(None),
+              [exchange for refused in exchanges for exchange in (refused, after)])
 
 
 def vanish(client):
@@ -679,7 +690,7 @@ def main():
                  port_is_taken]
         if not given.plain:
             tests += [stored_by_hand, adopt_after_republication, last_message, long_message,
-                      batches_are_kept, publication_is_told, slow_clients, patient_client,
+                      hostile_messages, batches_are_kept, publication_is_told, slow_clients, patient_client,
                       default_patience]
         for test in [*tests, longest_batch, most_batches, most_pairs]:
             test(run)

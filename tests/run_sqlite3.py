@@ -99,6 +99,20 @@ PUBLISHED_CHANGES = {
     "INSERT INTO share_part (kind, no, penalty, mixed) VALUES (3, 0, 0, 0)": REFUSED,
     "DELETE FROM share_student; DELETE FROM share_part": REFUSED,
 }
+# Another draft of the small solution; and what makes of an office with both drafts and a publication
+# tables that no office has.
+SECOND_DRAFT = ("INSERT INTO draft VALUES (5, 7, 5, 3, 0, 0, 15, 7)",
+                "INSERT INTO slot VALUES (5, 0, 0, 0), (5, 1, 1, 0), (5, 2, 3, 1), (5, 3, 2, 0)")
+FOR_NOTHING = (
+    "UPDATE meta SET version = 0",
+    "DELETE FROM meta",
+    "UPDATE meta SET instance = CAST(replace(instance, x'0D0A', x'0A') AS BLOB)",
+    "INSERT INTO seat (exam, student, period, room, seat) VALUES (4, 1, 0, 1, 1)",
+    "INSERT INTO share_student VALUES (9, 0, 0, 0)",
+    "UPDATE slot SET period = 4 WHERE draft = 5 AND exam = 3",
+    "INSERT INTO enrol (student, exam) VALUES (1000000000, 0)",
+    "UPDATE draft SET in_day = 6 WHERE no = 3",
+)
 EMPTY = ("owner", "draft", "slot", "placed", "seat", "share_student", "share_part", "batch")
 
 
@@ -154,6 +168,14 @@ def cases(program, folder):
         "sqlite3", other, ".schema")
 
 
+def found_or_refused(office, text, expected, load):
+    """A change by sqlite3, what a load then ends with, and that this leaves the file as it was."""
+    yield f"a change: {text}", lines(), ended("sqlite3", str(office), text)
+    before = 0, dumped(office)[1], b""
+    yield text, expected, ended(*load)
+    yield f"the file after: {text}", before, dumped(office)
+
+
 def changed(program, folder):
     """Each change of an office's database by sqlite3: what it is, what is expected, what came."""
     office = folder / "drafted.db"
@@ -164,10 +186,7 @@ def changed(program, folder):
     stored = office.read_bytes()
     for text, expected in CHANGES.items():
         office.write_bytes(stored)
-        yield f"a change: {text}", lines(), ended("sqlite3", str(office), text)
-        before = 0, dumped(office)[1], b""
-        yield text, expected, ended(*load, str(SMALL))
-        yield f"the file after: {text}", before, dumped(office)
+        yield from found_or_refused(office, text, expected, (*load, str(SMALL)))
     office.write_bytes(stored)
     for text, expected in (("UPDATE owner SET dept = 1000", REFUSED),
                            ("UPDATE owner SET dept = 4", FOUND)):
@@ -190,12 +209,24 @@ def published(program, folder):
     stored = office.read_bytes()
     for text, expected in PUBLISHED_CHANGES.items():
         office.write_bytes(stored)
-        yield f"a change: {text}", lines(), ended("sqlite3", str(office), text)
+        yield from found_or_refused(office, text, expected, load)
         before = 0, dumped(office)[1], b""
-        yield text, expected, ended(*load)
-        yield f"the file after: {text}", before, dumped(office)
         yield f"an export after: {text}", EXPORTED if expected == FOUND else REFUSED, ended(*export)
         yield f"the file after an export after: {text}", before, dumped(office)
+
+
+def tables_that_stand_for_nothing(program, folder):
+    """Each change of an office that has all kinds of rows, likewise."""
+    office = folder / "whole.db"
+    load = program, "load", "--db", str(office), str(SMALL)
+    ended(*load)
+    yield "two drafts and a publication", lines(), ended(
+        "sqlite3", str(office), ";".join((*DRAFTED, *SECOND_DRAFT, *PUBLISHED)))
+    yield "an office with all of them", FOUND, ended(*load)
+    stored = office.read_bytes()
+    for text in FOR_NOTHING:
+        office.write_bytes(stored)
+        yield from found_or_refused(office, text, REFUSED, load)
 
 
 def made_before(program, folder):
@@ -215,7 +246,7 @@ def main():
     with tempfile.TemporaryDirectory() as folder:
         folder = pathlib.Path(folder)
         made = (*cases(program, folder), *changed(program, folder), *published(program, folder),
-                *made_before(program, folder))
+                *tables_that_stand_for_nothing(program, folder), *made_before(program, folder))
         for case in made:
             judged.judge(*case)
     sys.exit(judged.end())
