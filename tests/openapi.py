@@ -1,19 +1,31 @@
 #!/usr/bin/env python3
 """openapi.py: docs/openapi.yaml says what the routes and docs/FORMATS.md say, no more and no less.
 
-Paths, methods, callers, statuses and errors are compared; a difference is printed, and the last
-line counts what was compared. For other tests `Described` judges an exchange by that file: whether
-it has the request, and the reply's status, type and body.
+Paths, methods, callers, statuses and errors are compared, and each example with its schema; a
+difference is printed, and the last line counts the comparisons. For other tests `Described` judges an
+exchange by that file: whether it has the request, and the reply's status, type and body.
+
+It needs python3-yaml and python3-jsonschema. Without them a line says that it is left out, and
+`Described` finds no fault.
 """
 import json
 import pathlib
 import re
 import sys
 
+from cases import Cases
+
+try:
+    import jsonschema
+    import yaml
+except ImportError:
+    jsonschema = yaml = None
+
 TOP = pathlib.Path(__file__).resolve().parent.parent
 REQUESTS = TOP / "crates" / "office_requests" / "src"
-KINDS = {"string": str, "integer": int, "object": dict, "array": list, "null": type(None)}
 VERBS = ("get", "put", "post", "delete")
+# What only the front replies: statuses, and errors by their status.
+OF_THE_FRONT = {"401", "429"}
 # What FORMATS.md calls those who may ask, and the `x-callers` of the page's methods.
 CALLERS = {"candidates": {"candidate"}, "the office": {"office"},
            "the office, departments": {"office", "department"},
@@ -22,60 +34,17 @@ CALLERS = {"candidates": {"candidate"}, "the office": {"office"},
 DEPARTMENTS_GET = "the office; departments may GET"
 
 
-# ---- The part of YAML that the file is written in
-
-def read(text):
-    """Mappings and lists by indentation; a value on a line is a word, or JSON."""
-    lines = [(len(line) - len(line.lstrip()), line.strip()) for line in text.splitlines()
-             if line.strip() and not line.lstrip().startswith("#")]
-    value, rest = block(lines)
-    if rest:
-        raise ValueError(f"not read: {rest[0][1]}")
-    return value
-
-
-def block(lines):
-    """The block that begins with the first line, and the lines behind it."""
-    depth, is_list = lines[0][0], lines[0][1].startswith("- ")
-    made = [] if is_list else {}
-    while lines and lines[0][0] == depth and lines[0][1].startswith("- ") == is_list:
-        text = lines[0][1]
-        if is_list:
-            if ": " in text and not text.startswith("- {"):
-                item, lines = block([(depth + 2, text[2:]), *lines[1:]])
-            else:
-                item, lines = scalar(text[2:]), lines[1:]
-            made.append(item)
-            continue
-        name, _, value = text.partition(": " if ": " in text else ":")
-        name = json.loads(name) if name.startswith('"') else name
-        if name in made:
-            raise ValueError(f"{name} comes twice")
-        lines = lines[1:]
-        if value:
-            made[name] = scalar(value)
-        elif lines and lines[0][0] > depth:
-            made[name], lines = block(lines)
-        else:
-            raise ValueError(f"{name} has no value")
-    return made, lines
-
-
-def scalar(text):
-    if text[0] in '{["' or text in ("true", "false") or text.isdigit():
-        return json.loads(text)
-    return text
-
-
 # ---- Exchanges
 
 class Described:
     """What docs/openapi.yaml says."""
 
     def __init__(self):
-        self.whole = read((TOP / "docs" / "openapi.yaml").read_text())
-        self.pages = [(re.compile(re.sub(r"\{\w+\}", "[0-9]{1,9}", path) + "$"), page)
-                      for path, page in self.whole["paths"].items()]
+        self.pages = []
+        if yaml:
+            self.whole = yaml.safe_load((TOP / "docs" / "openapi.yaml").read_text())
+            self.pages = [(re.compile(re.sub(r"\{\w+\}", "[0-9]{1,9}", path) + "$"), page)
+                          for path, page in self.whole["paths"].items()]
 
     def at(self, part):
         """A part that may be a reference."""
@@ -94,11 +63,13 @@ class Described:
         if page is None:
             return {**both, "404": shared["NotFound"]}
         if method.lower() not in page:
-            return {**both, "405": shared["NoMethod"]}
+            return {**both, **page["x-other-methods"]}
         return page[method.lower()]["responses"]
 
     def fault(self, method, path, status, kind, body=None):
         """What is wrong with an exchange, or None."""
+        if not yaml:
+            return None
         response = self.responses(method, path).get(str(status))
         asked = f"{method} {path} answered {status} {kind}"
         if response is None:
@@ -115,31 +86,9 @@ class Described:
 
     def unlike(self, value, schema):
         """What of a value isn't as its schema says, or None."""
-        schema = self.at(schema)
-        kinds = schema.get("type", [])
-        kinds = kinds if isinstance(kinds, list) else [kinds]
-        if kinds and type(value) not in [KINDS[kind] for kind in kinds]:
-            return f"{value!r} is no {' or '.join(kinds)}"
-        if value is None:
-            return None
-        if "enum" in schema and value not in schema["enum"]:
-            return f"{value!r} is none of {schema['enum']}"
-        if "pattern" in schema and not re.search(schema["pattern"], value):
-            return f"{value!r} is unlike {schema['pattern']}"
-        if isinstance(value, int) and not (schema.get("minimum", value) <= value
-                                           <= schema.get("maximum", value)):
-            return f"{value} is out of range"
-        if isinstance(value, list):
-            return next(filter(None, (self.unlike(item, schema["items"]) for item in value)), None)
-        return self.unlike_members(value, schema) if isinstance(value, dict) else None
-
-    def unlike_members(self, value, schema):
-        missing = set(schema["required"]) - set(value)
-        more = set(value) - set(schema["properties"])
-        if missing or more:
-            return f"without {sorted(missing)}, with {sorted(more)}"
-        return next(filter(None, (self.unlike(value[name], schema["properties"][name])
-                                  for name in value)), None)
+        with_parts = {**schema, "components": self.whole["components"]}
+        wrong = jsonschema.Draft202012Validator(with_parts).iter_errors(value)
+        return next((error.message for error in wrong), None)
 
 
 # ---- What the routes and the page say
@@ -181,13 +130,27 @@ def formats():
 
 
 def named_errors(described, response):
-    schema = described.at(response)["content"]["application/json"]["schema"]
-    return described.at(schema)["properties"]["error"]["enum"]
+    """The errors that a response may name."""
+    content = described.at(response)["content"].get("application/json")
+    schema = described.at(content["schema"]) if content else {}
+    kinds = [described.at(kind) for kind in schema.get("oneOf", [schema])]
+    return {error for kind in kinds
+            for error in kind.get("properties", {}).get("error", {}).get("enum", [])}
+
+
+def examples(described, part, at):
+    """Yields each example of a part with its schema, and where it is."""
+    if isinstance(part, dict):
+        if "example" in part:
+            yield at, part["schema"], part["example"]
+        for name, below in part.items():
+            if name not in ("example", "schema"):
+                yield from examples(described, below, f"{at}/{name}")
 
 
 def differences(described):
     """Each comparison: its name, what the page or the routes have, what the file has."""
-    paths = described.whole["paths"]
+    paths, shared = described.whole["paths"], described.whole["components"]["responses"]
     methods = {path: {verb.upper() for verb in page if verb in VERBS}
                for path, page in paths.items()}
     yield "paths and methods of the routes", routes(), methods
@@ -200,33 +163,36 @@ def differences(described):
         who = ("the office, departments" if verb == "get" else "the office") \
             if who == DEPARTMENTS_GET else who
         yield f"callers of {verb} {path}", CALLERS.get(who), set(operation["x-callers"])
-    statuses = {status for operation in operations.values() for status in operation["responses"]}
-    shared = described.whole["components"]["responses"]
-    yield "statuses", {status for status, _ in refusals} | answers, statuses | {"405"}
+    listed = [*(operation["responses"] for operation in operations.values()),
+              *(page["x-other-methods"] for page in paths.values())]
+    statuses = {status for responses in listed for status in responses}
+    yield "statuses", {status for status, _ in refusals} | answers | OF_THE_FRONT, statuses
     errors = {}
-    for operation in operations.values():
-        for status, response in operation["responses"].items():
-            if status >= "400":
-                errors.setdefault(status, set()).update(response["description"].split(", "))
-    for response in shared.values():
-        content = response["content"].get("application/json")
-        schema = described.at(content["schema"]) if content else {"properties": {}}
-        if "error" in schema["properties"]:
-            named = set(named_errors(described, response))
-            yield f"errors of {sorted(named)}", True, named in [*errors.values(), {"method"}]
-    errors["405"] = set(named_errors(described, shared["NoMethod"]))
+    for responses in listed:
+        for status, response in responses.items():
+            if status >= "400" and status not in OF_THE_FRONT:
+                named = named_errors(described, response)
+                listed_here = set(response.get("description", ", ".join(named)).split(", "))
+                yield f"errors of {status}: {sorted(listed_here)}", True, listed_here <= named
+                errors.setdefault(status, set()).update(listed_here)
     yield "refusals", refusals, {(status, error) for status in errors for error in errors[status]}
+    for status, found in errors.items():
+        kinds = {name: named_errors(described, response) for name, response in shared.items()}
+        yield f"all errors of {status}", True, found in kinds.values()
 
 
 def main():
-    described, count, failed = Described(), 0, 0
+    if not yaml:
+        print("openapi: left out without python3-yaml and python3-jsonschema")
+        return 0
+    described, judged = Described(), Cases("openapi")
     for name, expected, got in differences(described):
-        count += 1
-        if expected != got:
-            failed += 1
-            print(f"openapi: {name}", f"  expected {expected}", f"  got      {got}", sep="\n")
-    print(f"openapi: {count} compared, {failed} failed")
-    return 1 if failed else 0
+        judged.judge(name, expected, got)
+    shown = list(examples(described, described.whole["components"], ""))
+    for at, schema, example in shown:
+        judged.judge(f"the example of {at}", None, described.unlike(example, schema))
+    judged.judge("examples", True, len(shown) > 20)
+    return judged.end("compared")
 
 
 if __name__ == "__main__":
