@@ -5,7 +5,7 @@ import itertools
 import run_serve
 from refusing import (
     ALL_UNAVAILABLE, COMMANDS, DISK, RECEIVE, SEND, STORE_FAULT, UNAVAILABLE, Office,
-    connection_fault, copy_database, is_change)
+    connection_fault, copy_database, filled_log, is_change)
 from serve_cases import EXAMPLES, PUBLISHED, SMALL, message, reply
 
 # The small session is loaded, drafted and published.
@@ -83,16 +83,27 @@ def found(run, database):
 
 
 def command(run, state, path, name):
-    """A command in a state, while each of its calls of the disk is refused in turn. If it is
-    answered, all that was written is synced, and the next process finds it done. If the reply is
-    503, or the program ends with store fault 8, the next process finds the office before the
-    command or after it; until then the office shows what it did before, or nothing but 503."""
-    question, office = COMMANDS[name], Office(run, path)
+    """A command in a state."""
+    call_in_turn(run, f"{state}, {name}", path, COMMANDS[name])
+
+
+def copied_log(run, path):
+    """A command that copies the log into the database."""
+    first, question = filled_log(run, path)
+    call_in_turn(run, "a log that is copied", path, question, first)
+
+
+def call_in_turn(run, name, path, question, first=()):
+    """A message, while each of its calls of the disk is refused in turn. If it is answered, all that
+    was written is synced, and the next process finds it done. If the reply is 503, or the program
+    ends with store fault 8, the next process finds the office before the message or after it; until
+    then the office shows what it did before, or nothing but 503."""
+    office = Office(run, path, first=first)
     before, answer, after = office.shown(), office.reply(question), office.shown()
     office.ending()
     for how in refusals():
         for k in itertools.count(1):
-            office = Office(run, path)
+            office = Office(run, path, first=first)
             came, refused = office.reply_under(question, DISK, k, *how)
             is_unsynced = run.has_unsynced_writes()
             run.refuse(DISK, 1 if refused and how[0] else 0, *how)
@@ -107,14 +118,14 @@ def command(run, state, path, name):
                 may_show, may_find = [before], [before, after]
             goes_on = shown in [*may_show, ALL_UNAVAILABLE] and ending == (-9, b"")
             has_ended = shown == b"" and ending == (1, STORE_FAULT)
-            run.record(outcome if refused else "not refused", f"{state}, {name}, {call(k, *how)}",
+            run.record(outcome if refused else "not refused", f"{name}, {call(k, *how)}",
                        (True, True, True, (-9, b"")),
                        (came == answer and not is_unsynced
                         or refused and came in (b"", UNAVAILABLE) or came,
                         goes_on or has_ended or (shown, ending),
                         then in may_find or then, next_ending))
             if not refused:
-                run.judge(f"{state}, {name}, calls of the disk", is_change(question, answer), k > 1)
+                run.judge(f"{name}, calls of the disk", is_change(question, answer), k > 1)
                 break
 
 

@@ -4,7 +4,7 @@ import subprocess
 
 from refusing import (
     COMMANDS, MEMORY, NO_MEMORY, SECONDS, STORE_FAULT, UNAVAILABLE, Office, connection_fault,
-    copy_database, is_change, read_rows)
+    copy_database, filled_log, is_change, read_rows)
 from serve_cases import CASES, EXAMPLES
 
 SMALL = EXAMPLES / "small.exam"
@@ -15,28 +15,38 @@ REFUSALS = {(1, b"", NO_MEMORY): "no memory", (1, b"", STORE_FAULT): "store faul
 
 def messages(run, number):
     """The messages of a case of serve_cases.py, one after another."""
-    case = CASES[number]
+    case, unanswered = CASES[number], 0
     office = Office(run, case.start and run.database(case.start))
-    unanswered = sum(message_in_turn(run, office, f"{case.name}, message {index}", *exchange)
-                     for index, exchange in enumerate(zip(case.asked, case.replies), 1))
+    for index, exchange in enumerate(zip(case.asked, case.replies), 1):
+        office.save()
+        unanswered += message_in_turn(run, office, f"{case.name}, message {index}", *exchange)
     judge_lines(run, office, case.name, unanswered)
 
 
 def command(run, state, path, name):
-    """A command in a state. Its answer is what it gets with ample memory."""
-    question, office = COMMANDS[name], Office(run, path)
+    """A command in a state."""
+    alone(run, f"{state}, {name}", path, COMMANDS[name])
+
+
+def copied_log(run, path):
+    """A command that copies the log into the database."""
+    first, question = filled_log(run, path)
+    alone(run, "a log that is copied", path, question, first)
+
+
+def alone(run, name, path, question, first=()):
+    """A message in a state. Its answer is what it gets with ample memory."""
+    office = Office(run, path, first=first)
     answer = office.reply(question)
     office.ending()
-    office = Office(run, path)
-    unanswered = message_in_turn(run, office, f"{state}, {name}", question, answer)
-    judge_lines(run, office, f"{state}, {name}", unanswered)
+    office = Office(run, path, first=first)
+    judge_lines(run, office, name, message_in_turn(run, office, name, question, answer))
 
 
 def message_in_turn(run, office, name, question, answer):
     """Sends a message again and again while the k-th allocation is refused, or that and all after
     it, until a run meets no refusal; returns how many got no reply. A run that isn't answered
     changes nothing that the office shows; one that is answered does what ample memory does."""
-    office.save()
     before, after, unanswered = office.shown(), [], 0
     for k in itertools.count(1):
         for is_for_good in False, True:
@@ -53,7 +63,7 @@ def message_in_turn(run, office, name, question, answer):
             else:
                 run.record("answered", this, answer, came)
                 after.append(shown)
-            if shown != before or is_change(question, came):
+            if office.first or shown != before or is_change(question, came):
                 office.reset()
 
 
@@ -64,7 +74,7 @@ def judge_lines(run, office, name, unanswered):
 
 # ---- The words of the program
 
-def in_turn(run, words, first, step, is_for_good=False):
+def words_in_turn(run, words, first, step, is_for_good=False):
     """Runs the program while the k-th allocation is refused, until a run meets no refusal; yields k
     and how each run ended."""
     for k in itertools.count(first, step):
@@ -80,7 +90,7 @@ def without_database(run, words):
     """Words that need no database have their answer, or say that there is no memory."""
     name, ample = " ".join(map(str, words)), run.ending(*words)
     for is_for_good in False, True:
-        for k, ending in in_turn(run, words, 1, 1, is_for_good):
+        for k, ending in words_in_turn(run, words, 1, 1, is_for_good):
             outcome = "answered" if ending == ample else REFUSALS.get(ending)
             run.record(outcome, f"{name}, allocation {k}", True,
                        outcome in ("answered", "no memory") or ending)
@@ -94,7 +104,7 @@ def load(run, first, step):
     no_table, empty = None, read_rows(run.folder / "term.db", run.folder)
     ample, loaded = run.ending(*words), read_rows(path, run.folder)
     copy_database(None, path)
-    for k, ending in in_turn(run, words, first, step):
+    for k, ending in words_in_turn(run, words, first, step):
         outcome = "answered" if ending == ample else REFUSALS.get(ending)
         found = read_rows(path, run.folder)
         may_find = [loaded] if ending == ample else [no_table, empty]
@@ -110,7 +120,7 @@ def words_on_office(run, state, path, words, first, step):
     copy_database(path, office)
     words = [office if word == "FILE" else word for word in words]
     ample, before = run.ending(*words), bytes_of(office)
-    for k, ending in in_turn(run, words, first, step):
+    for k, ending in words_in_turn(run, words, first, step):
         outcome = "answered" if ending == ample else REFUSALS.get(ending)
         run.record(outcome, f"{state}, {words[0]}, allocation {k}", (True, True),
                    (outcome is not None or ending, bytes_of(office) == before))

@@ -2,6 +2,7 @@
 an office, the commands that it gets there, and all that an office shows."""
 import contextlib
 import errno
+import itertools
 import mmap
 import os
 import pathlib
@@ -107,6 +108,21 @@ def make_states(run):
     return paths
 
 
+def filled_log(run, path):
+    """Returns messages that fill the log of an office, and the next one, which copies the log into the
+    database before it is done."""
+    office, sent = Office(run, path), []
+    before = office.database.read_bytes()
+    for question in itertools.islice(itertools.cycle((move(3, 3, 1), move(3, 2, 0))), 2_000):
+        sent.append(question)
+        office.reply(question)
+        if office.database.read_bytes() != before:
+            break
+    run.judge("a log that is copied", True, office.database.read_bytes() != before)
+    office.ending()
+    return sent[:-1], sent[-1]
+
+
 def is_change(question, reply):
     """Whether the office may be another one after this reply."""
     return not question.startswith(b"GET ") and reply.startswith(b"HTTP/1.1 20")
@@ -179,28 +195,31 @@ class Run(run_serve.Run):
 
 
 class Office:
-    """A server of a copy of a database, while calls are refused."""
+    """A server of a copy of a database, while calls are refused. `first` has the messages that each
+    process gets before anything is refused."""
 
-    def __init__(self, run, source, name="office"):
-        self.run, self.database = run, run.folder / f"{name}.db"
-        self.saved = run.folder / f"{name}.saved"
+    def __init__(self, run, source, name="office", first=()):
+        self.run, self.source, self.first = run, source, first
+        self.database, self.saved = run.folder / f"{name}.db", run.folder / f"{name}.saved"
         self.errors = open(run.folder / f"{name}.errors", "w+b")
-        copy_database(source, self.database)
         self.start()
 
     def start(self):
+        copy_database(self.source, self.database)
         self.run.words[DISK * WORDS + UNSYNCED] = 0
         self.server = run_serve.Office(self.run.program, self.database, env=self.run.env,
                                        stderr=self.errors)
+        for index in range(0, len(self.first), 100):
+            self.reply(b"".join(self.first[index:index + 100]))
 
     def save(self):
         """Saves the state, to which `reset` returns. The server is idle, so the files are what a
         kill would leave."""
         copy_database(self.database, self.saved)
+        self.source = self.saved
 
     def reset(self):
         self.server.killed()
-        copy_database(self.saved, self.database)
         self.start()
 
     def reply(self, question):

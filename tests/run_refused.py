@@ -57,7 +57,6 @@ def requests():
 def questions(run, state, path, caller):
     """No request is answered 503, and each reply is one that docs/openapi.yaml has for it."""
     office, described = Office(run, path), Described()
-    office.save()
     for method, target, body in requests():
         question = message(method, target, body, caller)
         came = office.reply(question)
@@ -96,6 +95,9 @@ def sweeps(states, folder):
     for state, name in itertools.product(states.items(), COMMANDS):
         yield Sweep("commands, allocations", memory.command, (*state, name))
         yield Sweep("commands, calls of the disk", devices.command, (*state, name))
+    yield Sweep("a command that copies the log, allocations", memory.copied_log, (states["swap"],))
+    yield Sweep("a command that copies the log, calls of the disk", devices.copied_log,
+                (states["swap"],))
     for state, caller in itertools.product(states.items(), CALLERS):
         yield Sweep("every question", questions, (*state, caller))
     for state in adopted:
