@@ -94,10 +94,10 @@ def copied_log(run, path):
 
 
 def call_in_turn(run, name, path, question, first=()):
-    """A message, while each of its calls of the disk is refused in turn. If it is answered, all that
-    was written is synced, and the next process finds it done. If the reply is 503, or the program
-    ends with store fault 8, the next process finds the office before the message or after it; until
-    then the office shows what it did before, or nothing but 503."""
+    """A message, while each of its calls of the disk is refused in turn. If it is answered, all
+    that was written is synced, and the next process finds it done. If the reply is 503, or the
+    program ends with store fault 8, the next process finds the office before the message or after
+    it; until then the office shows what it did before, or nothing but 503."""
     office = Office(run, path, first=first)
     before, answer, after = office.shown(), office.reply(question), office.shown()
     office.ending()
@@ -152,4 +152,5 @@ def load(run):
                        (True, True), (ending == ample or refused and ending in faults or ending,
                                       then in may_find or then))
             if not refused:
+                run.judge("load, calls of the disk", True, k > 1)
                 break

@@ -109,8 +109,8 @@ def make_states(run):
 
 
 def filled_log(run, path):
-    """Returns messages that fill the log of an office, and the next one, which copies the log into the
-    database before it is done."""
+    """Returns messages that fill the log of an office, and the next one, which copies the log into
+    the database first."""
     office, sent = Office(run, path), []
     before = office.database.read_bytes()
     for question in itertools.islice(itertools.cycle((move(3, 3, 1), move(3, 2, 0))), 2_000):

@@ -30,7 +30,7 @@ CALLERS = "office", "dept:3", "cand:1", "cand:99"
 SLICES = 8
 # What a sweep is called, its function, and what the function gets after a run.
 Sweep = namedtuple("Sweep", "name function given")
-# The bodies with which a path is asked; the others have none.
+# The bodies that a path gets; other paths get none.
 BODIES = {
     ("PUT", "/instance"): [SMALL], ("PUT", "/exams/{e}/owner"): [b'{"dept":3}'],
     ("PUT", "/drafts/{d}"): [b"", SOLUTION],
@@ -144,8 +144,7 @@ def main():
     for name, count in counts.items():
         kinds = ", ".join(f"{number} {outcome}" for outcome, number in outcomes[name].most_common())
         print(f"refused: {name}: {count} cases: {kinds}")
-    print(f"refused: {run.count} cases, {run.failed} failed")
-    sys.exit(1 if run.failed else 0)
+    sys.exit(run.end())
 
 
 if __name__ == "__main__":
