@@ -14,6 +14,15 @@ SECONDS = 30
 NEEDED = ("chromium", "chromedriver")
 # Where the browsers are: a page that took its days to be of a zone would be hours off.
 ZONE = "America/New_York"
+# A clock that is ahead or behind, for pages that are opened from then on.
+CLOCK = """{
+  const Real = Date;
+  const shift = new Real(%r).getTime() - Real.now();
+  window.Date = class extends Real {
+    constructor(...words) { words.length ? super(...words) : super(Real.now() + shift); }
+    static now() { return Real.now() + shift; }
+  };
+}"""
 ELEMENT = "element-6066-11e4-a52e-4f735466cecf"
 
 
@@ -85,17 +94,24 @@ class Browser:
         wanted = {"goog:chromeOptions": options, "goog:loggingPrefs": {"browser": "ALL"}}
         made = driver.ask("POST", "/session", capabilities={"alwaysMatch": wanted})
         self.driver, self.path, self.readers = driver, f"/session/{made['sessionId']}", 0
+        self.clock = None
         self.agent = self.run("return navigator.userAgent")
 
-    def new_host(self, width=1200, height=900, language="en-GB", is_dark=False, ratio=1):
-        """A host for a reader with such a screen and such a language."""
+    def new_host(self, width=1200, height=900, language="en-GB", is_dark=False, ratio=1,
+                 now="2005-04-01T08:00:00"):
+        """A host for a reader with such a screen, language and clock."""
         self.devtools("Emulation.setDeviceMetricsOverride", width=width, height=height,
                       deviceScaleFactor=ratio, mobile=width < 600)
         self.devtools("Emulation.setEmulatedMedia", media="", features=[
             {"name": "prefers-color-scheme", "value": "dark" if is_dark else "light"}])
         self.devtools("Network.setUserAgentOverride", userAgent=self.agent,
                       acceptLanguage=language)
+        if self.clock:
+            self.devtools("Page.removeScriptToEvaluateOnNewDocument", identifier=self.clock)
+        self.clock = self.devtools("Page.addScriptToEvaluateOnNewDocument",
+                                   source=CLOCK % now)["identifier"]
         self.readers += 1
+        self.complaints()
         return f"reader{self.readers}.localhost"
 
     def __enter__(self):
@@ -152,6 +168,10 @@ class Browser:
         said = self.ask("POST", "/se/log", type="browser")
         return [entry["message"] for entry in said
                 if (entry["source"] in sources if sources else entry["source"] != "network")]
+
+    def downloads_to(self, folder):
+        """Keeps downloads in this folder."""
+        self.devtools("Browser.setDownloadBehavior", behavior="allow", downloadPath=str(folder))
 
     def pdf(self, path, width, height):
         """The page as it is printed, on paper of this size in inches."""

@@ -15,6 +15,14 @@ WIDE = "".join(f"{line}\n" for line in [
     f"[Rooms:{WIDE_ROOMS}]", *(f"{20 + room}, 0" for room in range(WIDE_ROOMS)),
     "[PeriodHardConstraints]", "[RoomHardConstraints]", "[InstitutionalWeightings]",
     "PERIODSPREAD,2"]).encode()
+WIDE_LABELS = {
+    "title": "Wide", "university": "", "contact": "https://exams.example", "departments": {},
+    "exams": [{"code": f"EX{exam}", "title": f"Exam é{exam}", "minutes": 60, "department": None}
+              for exam in range(WIDE_ROOMS)],
+    "rooms": [{"name": f"Hall {room}", "building": f"Campus {room % 3}", "capacity": 20 + room}
+              for room in range(WIDE_ROOMS)],
+    "periods": [{"date": f"2005-06-{6 + half // 2:02}", "start": f"{9 + 5 * (half % 2):02}:00:00",
+                 "minutes": 120} for half in range(WIDE_PERIODS)]}
 WIDE_SOLUTION = "".join(f"{2 * exam % WIDE_PERIODS}, {exam}\n" for exam in range(WIDE_ROOMS)).encode()
 
 
@@ -139,6 +147,22 @@ LOOKED_FOR = [
      told_error(405, "method")),
     ("more of a draft there", ask("registry", "GET", "/-/drafts/1/penalty"), 404),
     ("its absolute target", ask("registry", "GET", "http://office/-/drafts/1"), REQUEST),
+]
+# Who is signed in, and what names are for whom.
+LABELS = [
+    ("labels for a candidate", ask("ada", "GET", "/labels/labels.json"), 200),
+    ("labels for nobody", ask("nobody", "GET", "/labels/labels.json"), 200),
+    ("students for the office", ask("registry", "GET", "/labels/students.json"), 200),
+    *((f"students for {user}", ask(user, "GET", "/labels/students.json", b"", *fields), P2)
+      for user, fields in (("ada", ()), ("physics", ()), ("nobody", ()),
+                           ("ben", ("X-Caller: office",)))),
+    ("students by another path", ask("ada", "GET", "/labels/./students.json"), P2),
+    ("a change of labels", ask("registry", "PUT", "/labels/labels.json", b"{}"),
+     told_error(405, "method")),
+    ("the folder of labels", ask("registry", "GET", "/labels/"), 404),
+    *((f"who {user} is", ask(user, "GET", "/-/user"),
+       (200, b'{"caller":"%s","sign_out":""}' % caller)) for user, caller in (
+           ("registry", b"office"), ("physics", b"dept:3"), ("ada", b"cand:1"), ("nobody", b""))),
 ]
 # What is asked of the front's pages, and what the front answers itself.
 PAGES = [

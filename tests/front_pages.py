@@ -1,5 +1,6 @@
 """The pages of the front in a browser, as their users read them."""
 import contextlib
+import json
 import re
 import shutil
 import subprocess
@@ -41,14 +42,23 @@ DAYS = ("return [...document.querySelectorAll('table.exams')].flatMap(table => [
         "row => [...row.cells].map(cell => cell.innerText.trim()))])")
 
 
+# Of the small example, as a candidate's page has them: the time at which an exam ends, its minutes,
+# its name; a room.
+MATH101, MATH102, PHYS101, PHYS102 = (
+    ("11:30:00", 120, "MATH101\nCalculus"), ("15:30:00", 90, "MATH102\nLinear algebra"),
+    ("11:30:00", 120, "PHYS101\nMechanics"), ("18:00:00", 60, "PHYS102\nOptics"))
+HALL, ROOM = "Great Hall\nMain building", "Room 2.14\nPhysics building"
+
+
 def days_and_exams(reader, language, *rows):
     """What a candidate's page should show: a heading for each day, and a row for each exam."""
     made, last = [], None
-    for date, start, *others in rows:
+    for date, start, (end, minutes, name), *others in rows:
         if date != last:
             made.append([reader.run(DAY, language, date)])
             last = date
-        made.append([reader.run(START, language, start), *others])
+        start, end = (reader.run(START, language, moment) for moment in (start, end))
+        made.append([f"{start} – {end}\n{minutes} minutes", name, *others])
     return made
 
 
@@ -57,18 +67,79 @@ def candidates_page(run, chromium, front):
     for language, friday in (("en-GB", "Friday"), ("de", "Freitag")):
         with reading(chromium, front, "ada", language=language) as reader:
             rows = days_and_exams(reader, language,
-                                  (FRIDAY, "09:30:00", "Exam 0", "0", "1", "Seat assigned"),
-                                  (FRIDAY, "17:00:00", "Exam 3", "0", "1", "Seat assigned"))
+                                  (FRIDAY, "09:30:00", MATH101, HALL, "1", "Seat assigned"),
+                                  (FRIDAY, "17:00:00", PHYS102, HALL, "1", "Seat assigned"))
             run.judge(f"their exams, {language}", rows, reader.run(DAYS))
             run.judge(f"their language, {language}", True, rows[0][0].startswith(friday))
-            run.judge("who they are", ("Candidate 1", "2 exams"),
-                      (reader.text("#candidate"), reader.text("#status")))
+            run.judge("who they are", ("Candidate 1", "2 exams",
+                                       "University of Example · Examinations in April 2005"),
+                      (reader.text("#candidate"), reader.text("#status"), reader.text("#session-title")))
+            run.judge("whom they ask", ("Questions? exams@university.example",
+                                        "mailto:exams@university.example"),
+                      (reader.text("#contact"), reader.run("return document.querySelector("
+                                                           "'#contact a').href")))
             run.judge("their points", ["0", "5", "1", "6"], reader.texts("#cost-parts tbody td"))
-            run.judge("another's exam", False, "Exam 1" in reader.text("body"))
+            run.judge("another's exam", False, "MATH102" in reader.text("body"))
             forged = reader.run("return fetch('/me', {headers: {'X-Caller': 'cand:2'}})"
                                 ".then(reply => reply.text())")
             run.judge("X-Caller of a script", FIRST_VIEW[1].decode(), forged)
             run.judge("complaints of the browser", [], reader.complaints())
+
+
+def next_exam_first(run, chromium, front):
+    """An exam that is over stands below the others."""
+    for now, status, days in (
+            ("2005-04-15T09:29:00", "2 exams", [["09:30", "17:00"], []]),
+            ("2005-04-15T11:29:00", "2 exams", [["09:30", "17:00"], []]),
+            ("2005-04-15T11:31:00", "2 exams, 1 of them past", [["17:00"], ["09:30"]]),
+            ("2026-04-15T11:31:00", "2 exams, 2 of them past", [[], ["09:30", "17:00"]])):
+        with reading(chromium, front, "ada", now=now) as reader:
+            run.judge(f"the next exam at {now}", (status, days), (reader.text("#status"), [
+                reader.texts(f"#{section} .time time:first-child") for section in ("timetable", "past")]))
+
+
+def calendar_file(run, chromium, wide):
+    """Exams as a calendar: an event for each, whose uid stays when the exam moves."""
+    with reading(chromium, wide, "ada") as reader:
+        reader.downloads_to(run.folder)
+        reader.click("#calendar")
+        path = run.folder / "exams.ics"
+        browser.until("a calendar is there", lambda: path.exists() and path.stat().st_size)
+        host = f"reader{reader.readers}.localhost"
+    lines = path.read_bytes().decode().split("\r\n")
+    run.judge("stamps of a calendar", 5, sum(
+        re.fullmatch(r"DTSTAMP:20050401T\d{6}Z", line) is not None for line in lines))
+    run.judge("a calendar", [
+        "BEGIN:VCALENDAR", "VERSION:2.0", "PRODID:-//examoffice//candidate//EN", *(
+            line for exam in range(5) for line in (
+                "BEGIN:VEVENT", f"UID:2005-06-06-exam-{exam}-candidate-1@{host}",
+                f"DTSTART:200506{6 + exam:02}T090000", f"DTEND:200506{6 + exam:02}T100000",
+                f"SUMMARY:EX{exam} Exam é{exam}",
+                f"LOCATION:Hall {exam}\\, Campus {exam % 3}\\, seat 1", "END:VEVENT")),
+        "END:VCALENDAR", ""], [line for line in lines if not line.startswith("DTSTAMP")])
+    with reading(chromium, wide, "ben") as reader:
+        event = {"uid": "u", "date": "2005-12-31", "start": "23:30:00", "location": "", "minutes": 60,
+                 "summary": "é" * 40 + ",;\\\n"}
+        # The summary's first line has 8 bytes and 33 letters of two bytes: 74, as one more would be 76.
+        run.judge("over midnight, a long name, signs that have a meaning", "\r\n".join([
+            "BEGIN:VCALENDAR", "VERSION:2.0", "PRODID:-//examoffice//candidate//EN", "BEGIN:VEVENT",
+            "UID:u", "DTSTAMP:19700101T000000Z", "DTSTART:20051231T233000", "DTEND:20060101T003000",
+            "SUMMARY:" + "é" * 33, " " + "é" * 7 + "\\,\\;\\\\\\n", "LOCATION:", "END:VEVENT",
+            "END:VCALENDAR", ""]), reader.run(
+                "return import('/calendar.js').then(calendar => calendar.calendarText("
+                "[arguments[0]], new Date(0)))", event))
+        run.judge("a candidate without exams", ("You are not enrolled in any exam.", True), (
+            reader.text("#status"), reader.run("return document.querySelector('#calendar').hidden")))
+
+
+def signing_out(run, chromium, front, signed_on):
+    """A link that signs out, where the front has a path for it."""
+    for of, expected in ((front, [True, ""]), (signed_on, [False, "/oauth2/sign_out"])):
+        for user in ("ada", "registry"):
+            with reading(chromium, of, user) as reader:
+                run.judge(f"signing out, for {user}", expected, reader.run(
+                    "const link = document.querySelector('#sign-out');"
+                    "return [link.hidden, link.getAttribute('href') ?? '']"))
 
 
 def registrys_page(run, chromium, front):
@@ -92,15 +163,16 @@ def registrys_page(run, chromium, front):
                       [abs(width - number / 20) < 0.02 for width, number in zip(widths, points)])
         reader.click("#cards article:nth-child(3) button")
         is_read(reader)
-        run.judge("violations in words", ["After Exam 1 must come after exam 0, and does not."],
+        run.judge("violations in words", ["After Exam MATH102 must come after exam MATH101, and does not."],
                   reader.texts("#violations li"))
         run.judge("where the focus is", "detail-title",
                   reader.run("return document.activeElement.id"))
         head, *rows = reader.run(CELLS, "#grid tr")
-        run.judge("the rooms", ["Period", "Room 0\n3 seats", "Room 1\n2 seats"], head)
-        run.judge("rooms by period", [["", ""], ["Exam 1\n2 of 3", ""],
-                                      ["Exam 3\n1 of 3", ""],
-                                      ["Exam 0\n2 of 3", "Exam 2\n1 of 2"]],
+        run.judge("the rooms", ["Period", "Great Hall\nMain building\n3 seats",
+                                "Room 2.14\nPhysics building\n2 seats"], head)
+        run.judge("rooms by period", [["", ""], ["MATH102 Linear algebra\n2 of 3", ""],
+                                      ["PHYS102 Optics\n1 of 3", ""],
+                                      ["MATH101 Calculus\n2 of 3", "PHYS101 Mechanics\n1 of 2"]],
                   [row[1:] for row in rows])
         when = [*((FRIDAY, start) for start in ("09:30:00", "14:00:00", "17:00:00")),
                 (MONDAY, "09:30:00")]
@@ -162,7 +234,8 @@ def publishing(run, chromium, front):
         moved(3, 1, 44)
         words = asked(escape)
         for part in ("It had 37 points when you looked, and has 44 now. 1 exam has moved:",
-                     "Exam 3: period 2, room 0 before, period 3, room 1 now"):
+                     "PHYS102: period 2, Great Hall, Main building before, "
+                     "period 3, Room 2.14, Physics building now"):
             run.judge("what changed since the page was read", (part, True), (part, part in words))
         run.judge("its card", "Draft 1 44 points", " ".join(reader.texts("#cards h3")[1].split()))
         run.judge("it has been seen", False, "changed" in asked())
@@ -198,8 +271,9 @@ def publishing(run, chromium, front):
         run.judge("complaints of the browser", [], reader.complaints())
     with reading(chromium, front, "ada") as reader:
         run.judge("an exam has moved", days_and_exams(
-            reader, "en-GB", (FRIDAY, "09:30:00", "Exam 0", "0", "1", "Seat assigned"),
-            (MONDAY, "09:30:00", "Exam 3", "1", "2", "Seat assigned")), reader.run(DAYS))
+            reader, "en-GB", (FRIDAY, "09:30:00", MATH101, HALL, "1", "Seat assigned"),
+            (MONDAY, "09:30:00", ("10:30:00", *PHYS102[1:]), ROOM, "2", "Seat assigned")),
+            reader.run(DAYS))
 
 
 def states_of_exams(run, chromium, front):
@@ -209,16 +283,16 @@ def states_of_exams(run, chromium, front):
     with reading(chromium, front, "registry") as reader:
         # Exam 0 is in the first period and room.
         used = "#grid tbody td"
-        run.judge("seats of the publication", "Exam 0\n2 of 3", reader.texts(used)[0])
+        run.judge("seats of the publication", "MATH101 Calculus\n2 of 3", reader.texts(used)[0])
         reader.click("#cards article:nth-child(2) button")
         is_read(reader)
-        run.judge("candidates of the draft", "Exam 0\n3 of 3", reader.texts(used)[0])
+        run.judge("candidates of the draft", "MATH101 Calculus\n3 of 3", reader.texts(used)[0])
     run.judge("another batch", (200, b'{"added":0,"batch":6,"dropped":1,"unchanged":1}'),
               front.told(ask("registry", "PUT", "/batches/6", batch_text("3,0,add", "2,0,drop"))))
     for user, row, note in (
-            ("cleo", ["Exam 0", "0", "none yet", "No seat yet"], "You enrolled in this exam after the "
+            ("cleo", [MATH101[2], HALL, "none yet", "No seat yet"], "You enrolled in this exam after the "
              "timetable was published. You will get a seat when the timetable is next published."),
-            ("ben", ["Exam 0", "0", "2", "Withdrawn"], "You withdrew from this exam after the "
+            ("ben", [MATH101[2], HALL, "2", "Withdrawn"], "You withdrew from this exam after the "
              "timetable was published. It will disappear from this page when the timetable is next "
              "published.")):
         with reading(chromium, front, user) as reader:
@@ -250,11 +324,12 @@ def printed(run, chromium, wide):
             for line in map(str.strip, lines):
                 if line.startswith("Period ") and line[7].isdigit():
                     tables.append([line.split()[1]])
-                elif line.startswith("Room ") and line[5].isdigit():
+                elif line.startswith("Hall ") and line[5].isdigit():
                     tables[-1].append(" ".join(line.split()))
             run.judge(f"a table for each period on {paper}", [
-                [str(period), *(f"Room {room} Exam {room} 1 of {20 + room}"
-                                if 2 * room % WIDE_PERIODS == period else f"Room {room} free"
+                [str(period), *(f"Hall {room}, Campus {room % 3} EX{room} Exam é{room} 1 of {20 + room}"
+                                if 2 * room % WIDE_PERIODS == period
+                                else f"Hall {room}, Campus {room % 3} free"
                                 for room in range(WIDE_ROOMS))]
                 for period in range(WIDE_PERIODS)], tables)
 
@@ -315,6 +390,54 @@ def late_changes(run, chromium, front):
     with reading(chromium, front, "physics", "registry.html") as reader:
         run.judge("a department sends none", True,
                   reader.run("return document.querySelector('#late').hidden"))
+
+
+# What labels.js says of labels and what the office says.
+DIFFERENCES = "return import('/labels.js').then(labels => labels[arguments[0]](...arguments[1]))"
+
+
+def other_labels(run, chromium, wide):
+    """Labels of another session are not used, and the page says so; without labels there are numbers."""
+    path = wide.folder / "labels" / "labels.json"
+    right = json.loads(path.read_text())
+
+    def changed(table, number, field, value):
+        labels = json.loads(json.dumps(right))
+        labels[table][number][field] = value
+        return labels
+
+    session = {"minutes": [exam["minutes"] for exam in right["exams"]],
+               "capacities": [room["capacity"] for room in right["rooms"]], "periods": right["periods"]}
+    row = {"exam": 3, "room": 3, "period": 6, "date": "2005-06-09", "start": "09:00:00"}
+    undated = {"exam": 39, "room": None, "period": None, "date": None, "start": None}
+    other = changed("rooms", 7, "capacity", 1)
+    with reading(chromium, wide, "ada") as reader:
+        for name, labels, came in (
+                ("the same", right, [[], []]), ("other rooms", other, [["rooms"], []]),
+                ("other minutes", changed("exams", 39, "minutes", 61), [["exams"], []]),
+                ("another date", changed("periods", 6, "date", "2005-06-08"), [["periods"]] * 2),
+                ("another start", changed("periods", 6, "start", "09:30:00"), [["periods"]] * 2),
+                ("fewer", {table: right[table][:3] for table in ("exams", "rooms", "periods")},
+                 [["exams", "rooms", "periods"]] * 2),
+                ("fewer exams", {**right, "exams": right["exams"][:39]}, [["exams"]] * 2)):
+            run.judge(f"labels: {name}", came, [
+                reader.run(DIFFERENCES, "differences", [labels, session]),
+                reader.run(DIFFERENCES, "differencesForCandidate", [labels, [row, undated]])])
+    for user, labels, words, selector, number in (
+            ("registry", other, "The names of rooms don't match this session, so this page shows "
+             "numbers. Please tell the registry.", "#grid thead th:nth-child(2)", "Room 0\n20 seats"),
+            ("ada", changed("periods", 0, "date", "2005-06-07"), "The names of periods don't match this "
+             "session, so this page shows numbers. Please tell the registry.",
+             ".exams [data-label=Room]", "0"),
+            ("registry", None, "", "#grid tbody td", "Exam 0\n1 of 20"),
+            ("ada", None, "", ".exams tbody th", "Exam 0")):
+        path.unlink(missing_ok=True)
+        if labels:
+            path.write_text(json.dumps(labels))
+        with reading(chromium, wide, user) as reader:
+            run.judge(f"{words or 'no labels'} for {user}", (words, number, []), (
+                reader.text("#labels-note"), reader.text(selector),
+                reader.complaints("network", "javascript")))
 
 
 # What a page has to have for whoever doesn't see it, or has no mouse.
@@ -451,16 +574,17 @@ def judge(run, front, wide, office, folder):
         print("front: texts of printed pages are left out without pdftotext")
     driver = browser.Driver(run.folder)
     try:
-        chromium = browser.Browser(driver)
-        candidates_page(run, chromium, front)
-        registrys_page(run, chromium, front)
-        publishing(run, chromium, front)
-        states_of_exams(run, chromium, front)
-        late_changes(run, chromium, front)
-        printed(run, chromium, wide)
-        pages_for_everybody(run, chromium, front)
-        if folder:
-            pictures(chromium, front, folder)
-        pages_in_error(run, chromium, front, office)
+        with browser.Browser(driver) as chromium:
+            for part in (candidates_page, next_exam_first, registrys_page, publishing,
+                         states_of_exams, late_changes):
+                part(run, chromium, front)
+            signing_out(run, chromium, front, wide)
+            calendar_file(run, chromium, wide)
+            printed(run, chromium, wide)
+            other_labels(run, chromium, wide)
+            pages_for_everybody(run, chromium, front)
+            if folder:
+                pictures(chromium, front, folder)
+            pages_in_error(run, chromium, front, office)
     finally:
         driver.ended()

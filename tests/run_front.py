@@ -27,8 +27,8 @@ import browser
 import front_pages
 import openapi
 from front_cases import (
-    CALLERS, CANDIDATE, FIRST_VIEW, LOOKED_FOR, MADE, PAGES, SECOND_VIEW, TARGETS, WIDE, WIDE_SOLUTION, ask,
-    password, told_error)
+    CALLERS, CANDIDATE, FIRST_VIEW, LABELS, LOOKED_FOR, MADE, PAGES, SECOND_VIEW, TARGETS, WIDE,
+    WIDE_LABELS, WIDE_SOLUTION, ask, password, told_error)
 from run_serve import Office, Run, one_reply, rest
 from serve_cases import SOLUTION, message, reply
 
@@ -110,7 +110,7 @@ class Front:
 
 
 def who_asks_and_what(run, front):
-    for name, question, answer in CALLERS + TARGETS + LOOKED_FOR + PAGES:
+    for name, question, answer in CALLERS + TARGETS + LOOKED_FOR + LABELS + PAGES:
         told = front.told(question)
         if isinstance(answer, int):
             told = told and told[0]
@@ -118,7 +118,8 @@ def who_asks_and_what(run, front):
     for name, fields in (("no password", []), ("a wrong password", [password("ada", "guess")]),
                          ("a user who isn't there", [password("eve")]),
                          ("X-Caller without a password", ["X-Caller: office"])):
-        for path in ("/me", "/drafts/1", "/-/drafts/1", "/", "/registry.html", "/nothing"):
+        for path in ("/me", "/drafts/1", "/-/drafts/1", "/-/user", "/labels/labels.json",
+                     "/labels/students.json", "/", "/registry.html", "/nothing"):
             status, body = front.told(message("GET", path, caller=None, fields=fields))
             run.judge(f"{name}, {path}", (401, True), (status, b"not signed in" in body))
     for path, methods in (("/", "GET, HEAD"), ("/registry.html", "GET, HEAD"),
@@ -374,14 +375,16 @@ def before_the_office(run, front, office):
 
 @contextlib.contextmanager
 def wide_session(run):
-    """A front before an office whose session has many rooms; it is published."""
+    """A front before an office whose session has many rooms, and which signs out; it is published."""
     source, database = run.folder / "wide.exam", run.folder / "wide.db"
     source.write_bytes(WIDE)
     subprocess.run([run.program, "load", "--db", str(database), str(source)], check=True,
                    stdout=subprocess.DEVNULL, timeout=SECONDS)
     office = Office(run.program, database)
     try:
-        front = Front(run.folder / "wide", office.port)
+        front = Front(run.folder / "wide", office.port,
+                      (*QUICK, ('set $sign_out ""', 'set $sign_out "/oauth2/sign_out"')))
+        (front.folder / "labels" / "labels.json").write_text(json.dumps(WIDE_LABELS))
         for question in (ask("registry", "PUT", "/drafts/1", WIDE_SOLUTION),
                          ask("registry", "POST", "/drafts/1/publish")):
             run.judge("a wide session", True, front.told(question)[0] in (200, 201))

@@ -1,6 +1,9 @@
-// A candidate's page: their examinations by day, and how close together these are.
+// A candidate's page: their examinations by day, the next one first, and how close together these are.
+import { calendarText } from './calendar.js';
+import { applyLabels, differencesForCandidate, readLabels } from './labels.js';
 import {
-  ask, byId, cell, columnHead, count, day, element, numeral, row, rowHead, showProgress, time,
+  ask, byId, cell, columnHead, count, day, element, endTime, numeral, readUser, row, rowHead,
+  showProgress, time,
 } from './office.js';
 
 const STATES = { seated: 'Seat assigned', pending: 'No seat yet', withdrawn: 'Withdrawn' };
@@ -29,37 +32,90 @@ const byDate = (a, b) => (a.date ?? '9').localeCompare(b.date ?? '9')
 // ---- Their examinations
 
 const noteOf = (exam) => (exam.date ? exam.state : 'undated');
-const placeholder = (words) => element('span', { class: 'quiet' }, words);
+const quiet = (words) => element('span', { class: 'quiet' }, words);
+const below = (words) => element('span', { class: 'below' }, words);
 
-function labelledCell(label, value) {
-  return element('td', { 'data-label': label }, value ?? placeholder('none yet'));
+// Exams have no time zone, so they are compared with the clock on the reader's wall.
+function isPast({ exam, date, start }, names) {
+  if (!date) return false;
+  const now = new Date();
+  const wall = new Date(now.getTime() - 60_000 * now.getTimezoneOffset());
+  return Date.parse(`${date}T${start}Z`) + 60_000 * (names.minutes(exam) ?? 0) < wall.getTime();
 }
 
-function examRow(exam) {
+function timeCell({ exam, start }, names) {
+  if (!start) return element('td', { class: 'time' }, quiet('no time yet'));
+  const minutes = names.minutes(exam);
+  return element('td', { class: 'time' }, time(start),
+    ...(minutes === null ? [] : [' – ', endTime(start, minutes), below(`${minutes} minutes`)]));
+}
+
+// On a phone the label stands in front of a number.
+function labelledCell(label, value) {
+  return element('td', { 'data-label': label }, value ?? quiet('none yet'));
+}
+
+function roomCell(room, names) {
+  if (room === null || !names.labels) return labelledCell('Room', room);
+  return element('td', {}, names.room(room), names.building(room) && below(names.building(room)));
+}
+
+function examRow(exam, names) {
+  const { exam: number, room, seat } = exam;
   const state = exam.date ? STATES[exam.state] : NOTES.undated[0];
+  const title = names.examTitle(number);
   return element('tr', { class: exam.state },
-    element('td', { class: 'time' }, exam.start ? time(exam.start) : placeholder('no time yet')),
-    rowHead(`Exam ${exam.exam}`),
-    labelledCell('Room', exam.room),
-    labelledCell('Seat', exam.seat),
+    timeCell(exam, names),
+    rowHead(names.exam(number), title && below(title)),
+    roomCell(room, names),
+    labelledCell('Seat', seat),
     element('td', { class: 'state' }, state));
 }
 
-function dayTable(date, exams) {
+function dayTable(date, exams, names) {
   const heading = element('h3', {}, date ? day(date) : 'Day not known yet');
   return element('table', { class: 'exams' }, element('caption', {}, heading),
     element('thead', {}, row(HEADS.map((head) => columnHead(head)))),
-    element('tbody', {}, exams.map(examRow)));
+    element('tbody', {}, exams.map((exam) => examRow(exam, names))));
 }
 
-function showExams(exams) {
+function showDays(section, exams, names) {
   const days = [...new Set(exams.map((exam) => exam.date))];
-  byId('days').replaceChildren(
-    ...days.map((date) => dayTable(date, exams.filter((exam) => exam.date === date))));
+  byId(section).querySelector('.days').replaceChildren(...days.map(
+    (date) => dayTable(date, exams.filter((exam) => exam.date === date), names)));
+  byId(section).hidden = exams.length === 0;
+}
+
+function showNotes(exams) {
   const notes = Object.keys(NOTES).filter((note) => exams.some((exam) => noteOf(exam) === note));
   byId('notes').replaceChildren(...notes.flatMap((note) => [
     element('dt', {}, NOTES[note][0]), element('dd', {}, NOTES[note][1])]));
-  byId('timetable').hidden = exams.length === 0;
+}
+
+// ---- Their calendar
+
+// The uid of an exam stays the same when it moves; another session of this site has others.
+function eventOf(candidate, { exam, date, start, room, seat }, names) {
+  const session = names.labels?.periods[0].date ?? 'session';
+  return {
+    uid: `${session}-exam-${exam}-candidate-${candidate}@${location.hostname}`,
+    date, start, minutes: names.minutes(exam),
+    summary: [names.exam(exam), names.examTitle(exam)].filter(Boolean).join(' '),
+    location: `${names.roomInBuilding(room)}${seat === null ? '' : `, seat ${seat}`}`,
+  };
+}
+
+function download(name, type, text) {
+  const href = URL.createObjectURL(new Blob([text], { type }));
+  element('a', { href, download: name }).click();
+  setTimeout(() => URL.revokeObjectURL(href), 60_000);
+}
+
+function showCalendar(candidate, exams, names) {
+  const taken = exams.filter(({ date, state }) => date && state !== 'withdrawn');
+  byId('calendar').hidden = !taken.length;
+  byId('calendar').onclick = () => download('exams.ics', 'text/calendar', calendarText(
+    taken.map((exam) => eventOf(candidate, exam, names)), new Date()));
 }
 
 // ---- How close together they are
@@ -81,14 +137,27 @@ function showCost(cost, exams) {
   byId('cost').hidden = exams.every((exam) => exam.seat === null);
 }
 
+function examCount(exams, past) {
+  if (!exams.length) return 'You are not enrolled in any exam.';
+  return past.length ? `${count(exams.length, 'exam')}, ${past.length} of them past`
+    : count(exams.length, 'exam');
+}
+
 async function load() {
   const view = await ask('/me');
   const cost = await ask('/me/penalty');
+  await readUser();
+  const labels = await readLabels();
   const exams = view.exams.sort(byDate);
+  const names = applyLabels(labels, labels ? differencesForCandidate(labels, exams) : []);
+  const past = exams.filter((exam) => isPast(exam, names));
   byId('candidate').textContent = `Candidate ${view.candidate}`;
-  showExams(exams);
+  showDays('timetable', exams.filter((exam) => !past.includes(exam)), names);
+  showDays('past', past, names);
+  showNotes(exams);
+  showCalendar(view.candidate, exams, names);
   showCost(cost, exams);
-  return exams.length ? count(exams.length, 'exam') : 'You are not enrolled in any exam.';
+  return examCount(exams, past);
 }
 
 const refresh = () => showProgress('Loading your examinations …', load);

@@ -54,15 +54,23 @@ const REFUSALS = {
     + ' Please try again in a minute.',
 };
 
+// What exams are called in these words: numbers, until the page has names.
+let examName = (number) => number;
+
+export function setExamNames(name) {
+  examName = name;
+}
+
 export function ruleText(rule, exam, other) {
-  return (RULES[rule] ?? (() => `${rule}: exams ${exam} and ${other}.`))(exam, other);
+  const words = RULES[rule] ?? ((e, o) => `${rule}: exams ${e} and ${o}.`);
+  return words(examName(exam), examName(other));
 }
 
 function refusalText(status, answer) {
   if (!status) return NO_CONNECTION;
   if (answer.error === 'forbidden') return FORBIDDEN[answer.rule] ?? 'You may not do this.';
   if (answer.error === 'broken') return ruleText(answer.rule, answer.exam, answer.other);
-  if (answer.error === 'unplaced') return `Exam ${answer.exam} is not placed yet.`;
+  if (answer.error === 'unplaced') return `Exam ${examName(answer.exam)} is not placed yet.`;
   if (answer.error === 'file') {
     return `Line ${answer.line}: ${FAULTS[answer.fault] ?? `fault ${answer.fault}`}.`;
   }
@@ -136,6 +144,13 @@ function timeElement(format, value, moment) {
 export const day = (date) => timeElement(longDay, date, new Date(`${date}T00:00:00Z`));
 export const dayInShort = (date) => timeElement(shortDay, date, new Date(`${date}T00:00:00Z`));
 export const time = (start) => timeElement(shortTime, start, new Date(`2000-01-01T${start}Z`));
+
+/** The time so many minutes after a start. */
+export function endTime(start, minutes) {
+  const end = new Date(Date.parse(`2000-01-01T${start}Z`) + 60_000 * minutes);
+  return time(end.toISOString().slice(11, 19));
+}
+
 export const moment = (date) => timeElement(now, date.toISOString(), date);
 
 const isPresent = (it) => it !== null && it !== undefined && it !== false;
@@ -171,6 +186,14 @@ export const numeral = (number) => numerals.format(number);
 
 export function count(number, one, many = `${one}s`) {
   return `${numeral(number)} ${number === 1 ? one : many}`;
+}
+
+/** Shows the link that signs out, if the front has one; returns who the reader is to the office. */
+export async function readUser() {
+  const user = await ask('/-/user');
+  if (user.sign_out) byId('sign-out').href = user.sign_out;
+  byId('sign-out').hidden = !user.sign_out;
+  return user.caller;
 }
 
 /** Does the work, and shows what it returns, or why it failed. */

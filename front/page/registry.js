@@ -1,8 +1,9 @@
 // The registry's page: the published timetable and the drafts, with their penalties, violations and
 // rooms by period; publishing; batches of late changes.
+import { applyLabels, differences, Names, readLabels } from './labels.js';
 import {
-  ask, askOrNull, byId, cell, change, columnHead, count, dayInShort, element, numeral, Refusal, row,
-  rowHead, ruleText, showProgress, small, time, unseen,
+  ask, askOrNull, byId, cell, change, columnHead, count, dayInShort, element, numeral, readUser, Refusal,
+  row, rowHead, ruleText, showProgress, small, time, unseen,
 } from './office.js';
 
 // The office has no list of its drafts; their numbers are these eight.
@@ -11,7 +12,9 @@ const MOST_SHOWN = 200;
 const MOST_MOVES_SHOWN = 20;
 
 // The timetables as they were last read and shown.
-const office = { timetables: [], session: null, open: null, mayPublish: true };
+const office = {
+  timetables: [], session: null, names: new Names(), open: null, mayPublish: true,
+};
 
 // ---- Texts of the office
 
@@ -28,12 +31,13 @@ function breachesIn(report) {
   return report.trimEnd().split('\n').slice(1).map((line) => line.split(' '));
 }
 
-/** A session's exams (how many candidates), periods and rooms. */
+/** A session's exams (minutes, and how many candidates), periods and rooms. */
 function sessionIn(text) {
   const fields = (line) => line.split(',').map((field) => field.trim());
   const lines = (section) => section.split('\r\n').slice(0, -1).map(fields);
   const [exams, periods, rooms] = text.split(/^\[.*\]\r\n/m).slice(1).map(lines);
   return {
+    minutes: exams.map(([minutes]) => Number(minutes)),
     sizes: exams.map((exam) => exam.length - 1),
     periods: periods.map(([date, start]) => ({ date: date.split(':').reverse().join('-'), start })),
     capacities: rooms.map(([capacity]) => Number(capacity)),
@@ -99,11 +103,15 @@ async function nullIfForbidden(work) {
 }
 
 async function load() {
+  await readUser();
   const timetables = [await nullIfForbidden(readPublished)];
   for (const number of DRAFTS) timetables.push(await readDraft(number));
   office.timetables = timetables.filter((timetable) => timetable !== null);
   office.session = office.timetables.length
     ? await nullIfForbidden(async () => sessionIn(await ask('/instance'))) : null;
+  // Labels are used only where they can be compared with the session.
+  const labels = office.session && await readLabels();
+  office.names = applyLabels(labels, labels ? differences(labels, office.session) : []);
   showOverview();
   const open = office.timetables.find(({ name }) => name === office.open) ?? office.timetables[0];
   if (open) showDetail(open);
@@ -216,7 +224,7 @@ function showViolations({ breaches, number }) {
 }
 
 function showUnplaced(exams) {
-  const named = exams.slice(0, MOST_SHOWN).join(', ');
+  const named = exams.slice(0, MOST_SHOWN).map(shortName).join(', ');
   const more = exams.length > MOST_SHOWN ? ' and others' : '';
   const words = `Not placed: ${count(exams.length, 'exam')} (${named}${more}).`;
   byId('unplaced').textContent = exams.length ? words : '';
@@ -244,24 +252,34 @@ function showGrid(uses, name) {
 }
 
 function roomHead(room, session) {
-  return columnHead(roomName(room), session && small(count(session.capacities[room], 'seat')));
+  const { names } = office;
+  return columnHead(names.room(room), names.building(room) && small(names.building(room)),
+    session && small(count(session.capacities[room], 'seat')));
 }
-
-const roomName = (room) => `Room ${room}`;
 
 function periodHead(period, when) {
   return rowHead(`Period ${period}`,
     when && small(dayInShort(when.date), ', ', time(when.start)));
 }
 
+// An exam among others: its code, or its number alone.
+const shortName = (exam) => (office.names.labels ? office.names.exam(exam) : exam);
+
+function examNames(exams) {
+  const { names } = office;
+  if (!names.labels) {
+    return [element('b', {}, `${exams.length > 1 ? 'Exams' : 'Exam'} ${exams.join(', ')}`)];
+  }
+  return exams.map((exam) => element('div', {}, element('b', {}, names.exam(exam)), ' ',
+    names.examTitle(exam)));
+}
+
 function roomCell(room, use) {
-  const attributes = { 'data-room': roomName(room) };
+  const attributes = { 'data-room': office.names.roomInBuilding(room) };
   if (!use) return element('td', attributes);
   const { exams, used, capacity } = use;
-  const name = element('b', {}, `${exams.length > 1 ? 'Exams' : 'Exam'} ${exams.join(', ')}`);
-  if (used === null) return element('td', attributes, name);
-  return element('td', { ...attributes, class: used > capacity ? 'over' : null }, name,
-    small(`${used} of ${capacity}`));
+  return element('td', { ...attributes, class: used > capacity ? 'over' : null },
+    element('div', {}, examNames(exams)), used !== null && small(`${used} of ${capacity}`));
 }
 
 // ---- Publishing
@@ -270,8 +288,8 @@ const FIRST = 'All candidates get seats, and see the timetable at once.';
 const REPLACES = 'It replaces the published timetable, and all candidates see it at once. '
   + 'Candidates whose room and period stay the same keep their seats.';
 
-const placeText = ({ period, room }) => (
-  period === null ? 'not placed' : `period ${period}, room ${room}`);
+const placeText = ({ period, room }) => (period === null ? 'not placed'
+  : `period ${period}, ${office.names.labels ? office.names.roomInBuilding(room) : `room ${room}`}`);
 
 /** What changed in a draft from one reading to a later one, in words; empty if nothing did. */
 function changesSince(seen, found) {
@@ -280,7 +298,7 @@ function changesSince(seen, found) {
   const [was, is] = [seen.penalty.total, found.penalty.total];
   if (!moves.length && was === is) return [];
   const items = moves.slice(0, MOST_MOVES_SHOWN).map(([before, now]) => element('li', {},
-    `Exam ${now.exam}: ${placeText(before)} before, ${placeText(now)} now`));
+    `${office.names.exam(now.exam)}: ${placeText(before)} before, ${placeText(now)} now`));
   const more = moves.length - MOST_MOVES_SHOWN;
   const points = was === is ? `It still has ${count(is, 'point')}.`
     : `It had ${count(was, 'point')} when you looked, and has ${numeral(is)} now.`;

@@ -1,0 +1,89 @@
+// Names for the numbers of a session, from labels.json, where they match what the office says.
+import { byId, element, setExamNames } from './office.js';
+
+/** Returns the labels, or null if there are none. */
+export async function readLabels() {
+  try {
+    const reply = await fetch('/labels/labels.json', { cache: 'no-cache' });
+    return reply.ok ? await reply.json() : null;
+  } catch {
+    return null;
+  }
+}
+
+const isSame = (one, other) => JSON.stringify(one) === JSON.stringify(other);
+
+/** Which labels differ from a session: its exams, rooms or periods. */
+export function differences(labels, session) {
+  const pairs = {
+    exams: [labels.exams.map(({ minutes }) => minutes), session.minutes],
+    rooms: [labels.rooms.map(({ capacity }) => capacity), session.capacities],
+    periods: [labels.periods.map(({ date, start }) => [date, start]),
+      session.periods.map(({ date, start }) => [date, start])],
+  };
+  return Object.keys(pairs).filter((name) => !isSame(...pairs[name]));
+}
+
+/** Which labels differ from a candidate's exams. */
+export function differencesForCandidate(labels, exams) {
+  const dated = exams.filter(({ date }) => date);
+  const wrong = {
+    exams: exams.some(({ exam }) => !labels.exams[exam]),
+    rooms: dated.some(({ room }) => !labels.rooms[room]),
+    periods: dated.some(({ period, date, start }) => (
+      labels.periods[period]?.date !== date || labels.periods[period].start !== start)),
+  };
+  return Object.keys(wrong).filter((name) => wrong[name]);
+}
+
+/** Names of exams and rooms: those of the labels, or numbers if there are none. */
+export class Names {
+  constructor(labels = null) {
+    this.labels = labels;
+  }
+
+  /** What the university calls an exam: its code, or "Exam 0". */
+  exam(number) {
+    return this.labels?.exams[number].code ?? `Exam ${number}`;
+  }
+
+  examTitle(number) {
+    return this.labels?.exams[number].title || null;
+  }
+
+  minutes(number) {
+    return this.labels?.exams[number].minutes ?? null;
+  }
+
+  room(number) {
+    return this.labels?.rooms[number].name ?? `Room ${number}`;
+  }
+
+  building(number) {
+    return this.labels?.rooms[number].building || null;
+  }
+
+  roomInBuilding(number) {
+    return [this.room(number), this.building(number)].filter(Boolean).join(', ');
+  }
+}
+
+/** Shows the labels' texts, or which of them differ; returns the names for the page. */
+export function applyLabels(labels, different) {
+  byId('labels-note').textContent = different.length ? `The names of ${different.join(' and ')
+  } don't match this session, so this page shows numbers. Please tell the registry.` : '';
+  byId('labels-note').hidden = !different.length;
+  const names = new Names(labels && !different.length ? labels : null);
+  setExamNames((number) => names.labels?.exams[number]?.code ?? number);
+  byId('session-title').textContent = names.labels
+    ? [labels.university, labels.title].filter(Boolean).join(' · ') : '';
+  showContact(labels?.contact);
+  return names;
+}
+
+function showContact(contact) {
+  const href = /^\S+@\S+$/.test(contact ?? '') ? `mailto:${contact}`
+    : /^https:\/\//.test(contact ?? '') && contact;
+  byId('contact').replaceChildren(...(contact
+    ? ['Questions? ', href ? element('a', { href }, contact) : contact] : []));
+}
