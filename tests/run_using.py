@@ -2,7 +2,7 @@
 """run_using.py PROGRAM [PAGE..]: what README.md, USING.md and OPERATING.md tell the reader to type
 answers what they say.
 
-A page's blocks of commands are typed into one shell, in a fresh folder that has the examples and
+A page's blocks of commands are typed into one shell, in a fresh folder that has the examples, tools and
 the program, and what each prints is held against the block below it, byte for byte; but for the
 port, which is a free one, and for the line end behind a reply that has none. Each request has to
 stand in docs/openapi.yaml, with its status and type. A failing block is printed with what was
@@ -37,7 +37,8 @@ class Shell:
 
     def __init__(self, program, folder):
         self.errors = folder / "errors"
-        shutil.copytree(TOP / "examples", folder / "examples")
+        for part in ("examples", "tools"):
+            shutil.copytree(TOP / part, folder / part)
         (folder / ".curlrc").write_text(SAID)
         (folder / "examoffice").write_text(f'#!/bin/sh\nexec "{program}" "$@"\n')
         (folder / "examoffice").chmod(0o755)
