@@ -137,13 +137,14 @@ def copy_database(source, target):
 
 
 def read_rows(path, folder):
-    """Returns all that a database and its log hold, or None if there is no table. sqlite3 gets a
-    copy, because it empties the log."""
+    """Returns all that a database and its log hold, and whether they are sound; None if there is no
+    table. sqlite3 gets a copy, because it empties the log."""
     copy_database(path, folder / "copy.db")
     with contextlib.closing(sqlite3.connect(folder / "copy.db")) as database:
         tables = database.execute("SELECT name, sql FROM sqlite_schema ORDER BY rowid").fetchall()
         held = [database.execute(f"SELECT * FROM {name}").fetchall() for name, sql in tables if sql]
-    return (tables, held) if tables else None
+        soundness = database.execute("PRAGMA integrity_check").fetchall()
+    return (tables, held, soundness) if tables else None
 
 
 # ---- The program while its calls are refused

@@ -127,7 +127,7 @@ def main():
     # If there is a file system in memory, databases go there, so that no run waits for a real disk.
     memory = "/dev/shm" if os.access("/dev/shm", os.W_OK) else None
     with (tempfile.TemporaryDirectory() as folder, tempfile.TemporaryDirectory(dir=memory) as data,
-          concurrent.futures.ProcessPoolExecutor() as pool):
+          concurrent.futures.ProcessPoolExecutor(len(os.sched_getaffinity(0))) as pool):
         program = executable(pathlib.Path(given.program).resolve(), folder)
         shared_object = build(folder)
         run = Run(program, shared_object, data)
