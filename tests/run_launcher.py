@@ -59,6 +59,7 @@ class Repository:
         (self.top / "release" / "man").write_text("#!/bin/sh\n")
         (self.top / "release" / "man").chmod(0o755)
         shutil.copytree(released / "share", self.top / "release" / "share")
+        (self.top / "VERSION").write_text("1.2.3\n")
         self.source = self.crate / "src" / "main.rt"
         for file in (self.source, self.crate / "specs" / "Lib.antt"):
             file.write_text("\n")
@@ -199,7 +200,7 @@ def released_calls(repository, banned):
     shown, builds = f"{repository.caller}\n0\n[]\nreleased\n", repository.builds()
     version = repository.call("--version")
     first = (repository.top / "release" / "SHA256").read_text()[:8]
-    line = f"examoffice, release {first}, proved with a kit\n"
+    line = f"examoffice 1.2.3, release {first}, proved with a kit\n"
     yield "its version", (0, line, ""), (version.returncode, version.stdout, version.stderr)
     worked = repository.top / "crates" / "worked_office" / "src"
     worked.mkdir(parents=True)

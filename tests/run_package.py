@@ -1,0 +1,73 @@
+#!/usr/bin/env python3
+"""run_package.py: whether packaging/make makes a Debian package from which docs/USING.md can be followed.
+
+The package is unpacked into a folder, and the blocks of that page are typed with its program. lintian,
+if there is one, has to find nothing. The version is in VERSION; the changelog and docs/openapi.yaml
+repeat it. Without dpkg-deb and help2man a line says that the package is left out.
+"""
+import os
+import pathlib
+import re
+import shutil
+import subprocess
+import sys
+import tempfile
+
+from cases import Cases
+
+TOP = pathlib.Path(__file__).resolve().parent.parent
+VERSION = (TOP / "VERSION").read_text().strip()
+NEEDED = ("dpkg-deb", "help2man", "strip")
+
+
+def ran(*words, **more):
+    done = subprocess.run([*map(str, words)], stdin=subprocess.DEVNULL, stdout=subprocess.PIPE,
+                          stderr=subprocess.STDOUT, text=True, check=False, **more)
+    return done.returncode, done.stdout
+
+
+def of_the_repository(judged):
+    first = re.search(r"^## (\S+)", (TOP / "CHANGELOG.md").read_text(), re.M)
+    judged.judge("the version of the changelog", VERSION, first and first[1])
+    described = re.search(r"^  version: (\S+)", (TOP / "docs" / "openapi.yaml").read_text(), re.M)
+    judged.judge("the version of docs/openapi.yaml", VERSION, described and described[1])
+
+
+def of_the_package(judged, folder):
+    package = folder / f"examoffice_{VERSION}_amd64.deb"
+    judged.judge("it is made", 0, ran(TOP / "packaging" / "make", folder)[0])
+    if shutil.which("lintian"):
+        judged.judge("lintian", (0, ""), ran("lintian", "--fail-on", "error,warning", package,
+                                            env={**os.environ, "LC_ALL": "C"}, user="nobody")
+                     if os.geteuid() == 0 else ran("lintian", package))
+    root = folder / "root"
+    judged.judge("it is unpacked", (0, ""), ran("dpkg-deb", "-x", package, root))
+    program = root / "usr" / "bin" / "examoffice"
+    judged.judge("its program has no symbols", True, "stripped" in ran("file", program)[1]
+                 if shutil.which("file") else True)
+    status, said = ran(sys.executable, TOP / "tests" / "run_using.py", program,
+                       TOP / "docs" / "USING.md")
+    judged.judge("the day of docs/USING.md", 0, status and said)
+    judged.judge("no office on a port", 1, ran(root / "usr" / "bin" / "examoffice-status", "1")[0])
+    links = {it: os.readlink(root / "etc" / "examoffice" / "front" / it) for it in ("page", "run")}
+    judged.judge("the front's folders", {"page": "/usr/share/examoffice/page",
+                                         "run": "/var/lib/examoffice-front"}, links)
+    judged.judge("all pages", sorted(it.name for it in (TOP / "front" / "page").iterdir()),
+                 sorted(it.name for it in (root / "usr/share/examoffice/page").iterdir()))
+
+
+def main():
+    judged = Cases("package")
+    of_the_repository(judged)
+    missing = [tool for tool in NEEDED if not shutil.which(tool)]
+    if missing:
+        print(f"package: left out without {' '.join(missing)}")
+        return judged.end()
+    with tempfile.TemporaryDirectory() as folder:
+        os.chmod(folder, 0o755)
+        of_the_package(judged, pathlib.Path(folder))
+    return judged.end()
+
+
+if __name__ == "__main__":
+    sys.exit(main())
