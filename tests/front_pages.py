@@ -181,11 +181,107 @@ def registrys_page(run, chromium, front):
                                   for number, (date, start) in enumerate(when)],
                   [row[0] for row in rows])
         run.judge("complaints of the browser", [], reader.complaints())
+
+
+def departments_page(run, chromium, front):
+    """A department moves, swaps and takes out its exams by keyboard, undoes it, and sees what it costs."""
+    down, up, tab, enter = "\ue015", "\ue013", "\ue004", "\ue007"
+    focus = "document.querySelector('#edit-%s').focus()"
+
+    def office_moves(exam, period, room, penalty):
+        run.judge("the office moves an exam", (200, b'{"draft":1,"penalty":%d}' % penalty), front.told(
+            ask("registry", "POST", f"/drafts/1/exams/{exam}/move",
+                b'{"period":%d,"room":%d}' % (period, room))))
+
+    def changed(name, words, *keys):
+        """Presses keys in the form's first field, and then Enter on its button."""
+        reader.run(focus % "exam")
+        reader.press(*keys, enter)
+        is_read(reader)
+        run.judge(name, words, reader.text("#status") or reader.text("#error"))
+
+    def undone(name, button, words):
+        run.judge(f"{name}, to undo", button, reader.text("#undo"))
+        reader.run("document.querySelector('#undo').focus()")
+        reader.press(enter)
+        is_read(reader)
+        run.judge(f"{name}, undone", (words, True), (
+            reader.text("#status"), reader.run("return document.querySelector('#undo').hidden")))
+
+    hall, room = "Great Hall, Main building", "Room 2.14, Physics building"
     with reading(chromium, front, "physics") as reader:
-        run.judge("what a department sees",
-                  ("You see 2 drafts.", ["Details", "Details"], ["Period", "Room 0", "Room 1"]),
-                  (reader.text("#status"), reader.texts("#cards button"),
-                   reader.run(CELLS, "#grid tr")[0]))
+        friday, monday = (f"{reader.run(SHORT_DAY, 'en-GB', date)}, {reader.run(START, 'en-GB', start)}"
+                          for date, start in ((FRIDAY, "17:00:00"), (MONDAY, "09:30:00")))
+        mechanics = ["PHYS101\nMechanics", "120", monday, f"{room}\n2 seats", "Change …"]
+        optics = ["PHYS102\nOptics", "60", friday, f"{hall}\n3 seats", "Change …"]
+        run.judge("what a department sees", (
+            "Physics", "2 exams", "37 points. Breaks no rule.", [mechanics, optics],
+            ["Draft 1", "Draft 2"]), (
+            reader.text("#department"), reader.text("#status"), reader.text("#draft-points"),
+            reader.run(CELLS, "#places tr"), reader.texts("#draft-number option")))
+        run.judge("errors in the console", [], reader.complaints("network", "javascript"))
+        run.judge("the rooms and periods to choose", (
+            [f"{hall} (3 seats)", f"{room} (2 seats)"], 4, monday), (
+            reader.texts("#edit-room option"), len(reader.texts("#edit-period option")),
+            reader.texts("#edit-period option")[3]))
+        # From the exam over the kind and the period to the room, and to the button.
+        changed("an exam that it doesn't own", "Your change was not made. Your department does not own "
+                "this exam.", down, tab, tab, down, tab, tab)
+        for exam in (2, 3):
+            front.told(ask("registry", "PUT", f"/exams/{exam}/owner", b'{"dept":3}'))
+        reader.click("#refresh")
+        is_read(reader)
+        changed("a move", f"PHYS102: {monday}, {hall}. 27 points now, 37 before.",
+                down, tab, tab, down, tab, tab)
+        run.judge("what moved", [mechanics, [optics[0], "60", monday, *optics[3:]]],
+                  reader.run(CELLS, "#places tr"))
+        run.judge("where the focus is", "status", reader.run("return document.activeElement.id"))
+        undone("a move", f"Undo: PHYS102 back to {friday}, {hall}",
+               f"PHYS102: {friday}, {hall}. 37 points now, 27 before.")
+        changed("a swap that breaks a rule", "Your change was not made. Exam PHYS101 is longer than its "
+                "period.", tab, down, tab, tab)
+        changed("a move again", f"PHYS102: {monday}, {hall}. 27 points now, 37 before.",
+                tab, up, tab, down, tab, tab)
+        changed("a swap", f"PHYS102: {monday}, {room}. PHYS101: {monday}, {hall}. 27 points now, 27 "
+                "before.", tab, down, tab, tab)
+        undone("a swap", "Undo: swap PHYS102 and PHYS101 back",
+               f"PHYS102: {monday}, {hall}. PHYS101: {monday}, {room}. 27 points now, 27 before.")
+        reader.run("document.querySelector('#edit-kind').value = 'clear';"
+                   "document.querySelector('#edit-kind').dispatchEvent(new Event('change'))")
+        run.judge("what the button says", "Take out PHYS102", reader.text("#edit-submit"))
+        reader.click("#edit-submit")
+        is_read(reader)
+        run.judge("taken out", ("PHYS102: not placed.", "not placed", "Breaks no rule; 1 exam not placed"), (
+            reader.text("#status").split(". ")[0] + ".", reader.run(CELLS, "#places tr")[1][2],
+            reader.text("#draft-points").split(". ")[1].rstrip(".")))
+        reader.run("document.querySelector('#undo').focus()")
+        reader.press(enter)
+        is_read(reader)
+        run.judge("placed again", f"PHYS102: {monday}, {hall}. 27 points now",
+                  reader.text("#status").split(",")[0] + "," + ",".join(
+                      reader.text("#status").split(",")[1:4]))
+        office_moves(3, 2, 0, 37)
+        reader.click("#edit-submit")
+        is_read(reader)
+        words = " ".join(reader.text("#error").split())
+        run.judge("a draft that changed meanwhile", (
+            True, f"PHYS102: {monday}, {hall} before, {friday}, {hall} now", friday), (
+            words.startswith("Your change was not made. Look at the draft, then try again. This draft has "
+                             "changed since you looked. It had 27 points when you looked, and has 37 now."),
+            reader.text("#error li"), reader.run(CELLS, "#places tr")[1][2]))
+        reader.click("#edit-submit")
+        is_read(reader)
+        run.judge("tried again", f"PHYS102: not placed", reader.text("#status").split(".")[0])
+        front.told(ask("registry", "POST", "/drafts/1/exams/3/place", b'{"period":2,"room":0}'))
+        run.judge("complaints of the browser", [], reader.complaints())
+    with reading(chromium, front, "physics", "registry.html") as reader:
+        run.judge("the registry's page, for a department",
+                  ("Only the examination office may do this.\nGo to your own page", True), (
+                      re.sub("\n+", "\n", reader.text("#error")),
+                      reader.run("return document.querySelector('#late').hidden")))
+    with reading(chromium, front, "registry", "department.html") as reader:
+        run.judge("the department's page, for the office", True,
+                  reader.text("#error").startswith("This page is for departments."))
 
 
 def publications(front):
@@ -234,8 +330,9 @@ def publishing(run, chromium, front):
         moved(3, 1, 44)
         words = asked(escape)
         for part in ("It had 37 points when you looked, and has 44 now. 1 exam has moved:",
-                     "PHYS102: period 2, Great Hall, Main building before, "
-                     "period 3, Room 2.14, Physics building now"):
+                     f"PHYS102: {reader.run(SHORT_DAY, 'en-GB', FRIDAY)}, 17:00, Great Hall, Main "
+                     f"building before, {reader.run(SHORT_DAY, 'en-GB', MONDAY)}, 09:30, Room 2.14, "
+                     "Physics building now"):
             run.judge("what changed since the page was read", (part, True), (part, part in words))
         run.judge("its card", "Draft 1 44 points", " ".join(reader.texts("#cards h3")[1].split()))
         run.judge("it has been seen", False, "changed" in asked())
@@ -387,9 +484,6 @@ def late_changes(run, chromium, front):
         run.judge("its bytes", (200, b'{"added":1,"batch":9,"dropped":1,"unchanged":0}'),
                   front.told(ask("registry", "PUT", "/batches/9", bytes_of_file)))
         run.judge("complaints of the browser", [], reader.complaints())
-    with reading(chromium, front, "physics", "registry.html") as reader:
-        run.judge("a department sends none", True,
-                  reader.run("return document.querySelector('#late').hidden"))
 
 
 # What labels.js says of labels and what the office says.
@@ -430,7 +524,10 @@ def other_labels(run, chromium, wide):
              "session, so this page shows numbers. Please tell the registry.",
              ".exams [data-label=Room]", "0"),
             ("registry", None, "", "#grid tbody td", "Exam 0\n1 of 20"),
-            ("ada", None, "", ".exams tbody th", "Exam 0")):
+            ("ada", None, "", ".exams tbody th", "Exam 0"),
+            ("physics", None, "", "#places tr:last-child", "Exam 39\t\tPeriod 6\tRoom 39\tChange …"),
+            ("physics", right, "", "#status",
+             "No exam is listed for your department. Please tell the registry.")):
         path.unlink(missing_ok=True)
         if labels:
             path.write_text(json.dumps(labels))
@@ -451,7 +548,7 @@ const wrong = {
   'scopes of headers': all('th').every(e => e.scope),
   'captions of tables': all('table').every(e => e.caption),
   'roles of tables': all('table, thead, tbody, tr, th, td').every(e => e.getAttribute('role')),
-  'labels of fields': all('input, textarea').every(e => e.labels.length === 1),
+  'labels of fields': all('input, select, textarea').every(e => e.labels.length === 1),
   'names of buttons': all('button').every(e => e.closest('dialog') || e.innerText.trim()),
   'what is labelled by what': all('[aria-labelledby], [aria-describedby]').every(e =>
     ((e.getAttribute('aria-labelledby') ?? '') + ' ' + (e.getAttribute('aria-describedby') ?? ''))
@@ -513,13 +610,14 @@ def tables_told(reader):
 
 def pages_for_everybody(run, chromium, front):
     """On a small phone, in both schemes of colour, by keyboard and for a screen reader."""
-    for user, page in (("cleo", "candidate.html"), ("registry", "registry.html")):
+    for user, page in (("cleo", "candidate.html"), ("registry", "registry.html"),
+                       ("physics", "department.html")):
         for more in ({"width": 320, "height": 600}, {"is_dark": True}):
             with reading(chromium, front, user, page, **more) as reader:
                 run.judge(f"what {page} lacks", [], reader.run(LACKS))
                 tables = reader.run(TABLES)
                 run.judge(f"tables of {page}", (True, tables),
-                          (len(tables) > 1, tables_told(reader)))
+                          (len(tables) > 0, tables_told(reader)))
                 run.judge(f"weak contrasts of {page}", [], reader.run(CONTRAST))
                 reader.press("\ue004")
                 focus = reader.run("const e = document.activeElement; return [e.className, "
@@ -555,6 +653,7 @@ def pictures(chromium, front, folder):
     folder.mkdir(parents=True, exist_ok=True)
     for name, user, more in (("candidate-phone", "cleo", {"width": 390, "height": 700}),
                              ("candidate-desktop", "ben", {"width": 900, "height": 700}),
+                             ("department-desktop", "physics", {"width": 900, "height": 800}),
                              ("registry-desktop", "registry", {"width": 1_200, "height": 800})):
         with reading(chromium, front, user, **more) as reader:
             if user == "registry":
@@ -575,8 +674,8 @@ def judge(run, front, wide, office, folder):
     driver = browser.Driver(run.folder)
     try:
         with browser.Browser(driver) as chromium:
-            for part in (candidates_page, next_exam_first, registrys_page, publishing,
-                         states_of_exams, late_changes):
+            for part in (candidates_page, next_exam_first, registrys_page, departments_page,
+                         publishing, states_of_exams, late_changes):
                 part(run, chromium, front)
             signing_out(run, chromium, front, wide)
             calendar_file(run, chromium, wide)

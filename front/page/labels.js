@@ -1,5 +1,5 @@
 // Names for the numbers of a session, from labels.json, where they match what the office says.
-import { byId, element, setExamNames } from './office.js';
+import { byId, dayInShort, element, setExamNames, time } from './office.js';
 
 /** Returns the labels, or null if there are none. */
 export async function readLabels() {
@@ -36,6 +36,17 @@ export function differencesForCandidate(labels, exams) {
   return Object.keys(wrong).filter((name) => wrong[name]);
 }
 
+/** Which labels differ from a draft, of which a department sees only the places. */
+export function differencesForDepartment(labels, draft) {
+  const placed = draft.places.filter(({ period }) => period !== null);
+  const wrong = {
+    exams: labels.exams.length !== draft.places.length,
+    rooms: placed.some(({ room }) => !labels.rooms[room]),
+    periods: placed.some(({ period }) => !labels.periods[period]),
+  };
+  return Object.keys(wrong).filter((name) => wrong[name]);
+}
+
 /** Names of exams and rooms: those of the labels, or numbers if there are none. */
 export class Names {
   constructor(labels = null) {
@@ -65,6 +76,20 @@ export class Names {
 
   roomInBuilding(number) {
     return [this.room(number), this.building(number)].filter(Boolean).join(', ');
+  }
+
+  /** A period's day and start, or "Period 0". */
+  period(number) {
+    const period = this.labels?.periods[number];
+    return period ? `${dayInShort(period.date).textContent}, ${time(period.start).textContent}`
+      : `Period ${number}`;
+  }
+
+  /** A place in words, amid a sentence. */
+  place({ period, room }) {
+    if (period === null) return 'not placed';
+    return this.labels ? `${this.period(period)}, ${this.roomInBuilding(room)}`
+      : `period ${period}, room ${room}`;
   }
 }
 

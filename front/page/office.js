@@ -17,6 +17,7 @@ const FORBIDDEN = {
   P2: 'Only the examination office may do this.',
   P3: 'Your department does not own this exam.',
   P4: 'This page is for candidates.',
+  department: 'This page is for departments.',
   origin: 'Another site sent this request, so it was refused.',
 };
 
@@ -78,10 +79,11 @@ function refusalText(status, answer) {
   return REFUSALS[answer.error] ?? `The office refused this (${status}).`;
 }
 
-/** A refusal, or no answer at all (status 0). Its message is for the reader. */
+/** A refusal, or no answer at all (status 0). Its message and its details are for the reader. */
 export class Refusal extends Error {
-  constructor(status, answer, message = refusalText(status, answer)) {
+  constructor(status, answer, message = refusalText(status, answer), details = []) {
     super(message);
+    this.details = details;
     this.status = status;
     this.error = answer.error;
     this.rule = answer.rule;
@@ -209,7 +211,8 @@ export async function showProgress(words, work) {
     byId('status').textContent = '';
     const message = refusal instanceof Refusal ? refusal.message
       : 'Something went wrong on this page. Please reload it.';
-    byId('error').replaceChildren(element('p', {}, message), linkToOwnPage(refusal) ?? '');
+    byId('error').replaceChildren(element('p', {}, message), ...(refusal.details ?? []),
+      ...linkToOwnPage(refusal));
     byId('error').scrollIntoView({ block: 'nearest' });
   }
   document.body.removeAttribute('aria-busy');
@@ -217,7 +220,6 @@ export async function showProgress(words, work) {
 
 // Whoever opens a page that isn't for them gets a link to their own.
 function linkToOwnPage({ rule }) {
-  const link = (href, words) => element('p', {}, element('a', { href }, words));
-  if (rule === 'P1') return link('candidate.html', 'Your examinations');
-  return rule === 'P4' ? link('registry.html', 'The timetables') : null;
+  return ['P1', 'P2', 'P4', 'department'].includes(rule)
+    ? [element('p', {}, element('a', { href: '/' }, 'Go to your own page'))] : [];
 }
