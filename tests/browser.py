@@ -1,17 +1,22 @@
-"""Chromium, driven over HTTP by Debian's chromedriver as the WebDriver standard has it."""
+"""Chromium, driven by Debian's python3-selenium and chromium-driver."""
 import base64
-import json
 import os
 import pathlib
 import shutil
 import socket
-import subprocess
 import time
-import urllib.error
-import urllib.request
+
+import debian  # noqa: F401
+
+try:
+    from selenium import webdriver
+    from selenium.webdriver.chrome.service import Service
+    from selenium.webdriver.common.action_chains import ActionChains
+    from selenium.webdriver.common.by import By
+except ImportError:
+    webdriver = None
 
 SECONDS = 30
-NEEDED = ("chromium", "chromedriver")
 # Where the browsers are: a page that took its days to be of a zone would be hours off.
 ZONE = "America/New_York"
 # A clock that is ahead or behind, for pages that are opened from then on.
@@ -23,12 +28,13 @@ CLOCK = """{
     static now() { return Real.now() + shift; }
   };
 }"""
-ELEMENT = "element-6066-11e4-a52e-4f735466cecf"
 
 
 def missing():
-    """Which of the programs aren't installed."""
-    return [name for name in NEEDED if not shutil.which(name)]
+    """Which of the Debian packages aren't installed."""
+    programs = {"chromium": "chromium", "chromedriver": "chromium-driver"}
+    return [*(package for name, package in programs.items() if not shutil.which(name)),
+            *(["python3-selenium"] if webdriver is None else [])]
 
 
 def free_port():
@@ -48,54 +54,30 @@ def until(what, is_so):
     raise TimeoutError(f"not within {SECONDS} s: {what}")
 
 
-class Driver:
-    """A running chromedriver."""
-
-    def __init__(self, folder):
-        self.folder, self.sessions = pathlib.Path(folder), 0
-        self.url = f"http://127.0.0.1:{free_port()}"
-        self.process = subprocess.Popen(
-            ["chromedriver", f"--port={self.url.rpartition(':')[2]}"], stdin=subprocess.DEVNULL,
-            stdout=subprocess.DEVNULL, stderr=subprocess.DEVNULL,
-            env={**os.environ, "TZ": ZONE, "TMPDIR": str(self.folder)})
-        until("chromedriver answers", self.answers)
-
-    def answers(self):
-        try:
-            return self.ask("GET", "/status")["ready"]
-        except OSError:
-            return False
-
-    def ask(self, method, path, **words):
-        """What the driver answers; its refusals are errors of this program."""
-        body = json.dumps(words).encode() if method == "POST" else None
-        request = urllib.request.Request(self.url + path, body, method=method)
-        try:
-            with urllib.request.urlopen(request, timeout=SECONDS) as reply:
-                return json.load(reply)["value"]
-        except urllib.error.HTTPError as refusal:
-            raise RuntimeError(json.load(refusal)["value"]["message"]) from None
-
-    def ended(self):
-        self.process.terminate()
-        self.process.wait(SECONDS)
-
-
 class Browser:
     """A browser. For each reader it opens a host of their own, so that none has another's password."""
 
-    def __init__(self, driver):
-        driver.sessions += 1
-        data = driver.folder / f"browser{driver.sessions}"
-        words = ["--headless=new", "--no-sandbox", "--disable-dev-shm-usage", "--disable-gpu",
-                 "--hide-scrollbars", f"--user-data-dir={data}",
-                 "--host-resolver-rules=MAP *.localhost 127.0.0.1, MAP * ~NOTFOUND"]
-        options = {"args": words, "binary": shutil.which("chromium")}
-        wanted = {"goog:chromeOptions": options, "goog:loggingPrefs": {"browser": "ALL"}}
-        made = driver.ask("POST", "/session", capabilities={"alwaysMatch": wanted})
-        self.driver, self.path, self.readers = driver, f"/session/{made['sessionId']}", 0
-        self.clock = None
+    def __init__(self, folder):
+        folder = pathlib.Path(folder)
+        options = webdriver.ChromeOptions()
+        options.binary_location = shutil.which("chromium")
+        for word in ("--headless=new", "--no-sandbox", "--disable-dev-shm-usage", "--disable-gpu",
+                     "--hide-scrollbars", f"--user-data-dir={folder / 'browser'}",
+                     "--host-resolver-rules=MAP *.localhost 127.0.0.1, MAP * ~NOTFOUND"):
+            options.add_argument(word)
+        options.set_capability("goog:loggingPrefs", {"browser": "ALL"})
+        service = Service(shutil.which("chromedriver"),
+                          env={**os.environ, "TZ": ZONE, "TMPDIR": str(folder)})
+        self.driver = webdriver.Chrome(service=service, options=options)
+        self.driver.set_script_timeout(SECONDS)
+        self.readers, self.clock = 0, None
         self.agent = self.run("return navigator.userAgent")
+
+    def __enter__(self):
+        return self
+
+    def __exit__(self, *_):
+        self.driver.quit()
 
     def new_host(self, width=1200, height=900, language="en-GB", is_dark=False, ratio=1,
                  now="2005-04-01T08:00:00"):
@@ -114,24 +96,15 @@ class Browser:
         self.complaints()
         return f"reader{self.readers}.localhost"
 
-    def __enter__(self):
-        return self
-
-    def __exit__(self, *_):
-        self.driver.ask("DELETE", self.path)
-
-    def ask(self, method, path, **words):
-        return self.driver.ask(method, self.path + path, **words)
-
     def devtools(self, command, **words):
-        return self.ask("POST", "/goog/cdp/execute", cmd=command, params=words)
+        return self.driver.execute_cdp_cmd(command, words)
 
     def go(self, url):
-        self.ask("POST", "/url", url=url)
+        self.driver.get(url)
 
     def run(self, script, *args):
         """What the function body returns."""
-        return self.ask("POST", "/execute/sync", script=script, args=args)
+        return self.driver.execute_script(script, *args)
 
     def waits(self, script, *args):
         """Runs the body again until what it returns is true of something."""
@@ -149,24 +122,20 @@ class Browser:
                         selector)
 
     def click(self, selector):
-        found = self.ask("POST", "/element", using="css selector", value=selector)
-        self.ask("POST", f"/element/{found[ELEMENT]}/click")
+        self.driver.find_element(By.CSS_SELECTOR, selector).click()
 
     def types(self, selector, text):
         """Types into a field; into one for files, the path of one."""
-        found = self.ask("POST", "/element", using="css selector", value=selector)
-        self.ask("POST", f"/element/{found[ELEMENT]}/value", text=text)
+        self.driver.find_element(By.CSS_SELECTOR, selector).send_keys(text)
 
     def press(self, *keys):
         """Presses keys, one after another, wherever the focus is."""
-        pressed = [{"type": kind, "value": key} for key in keys for kind in ("keyDown", "keyUp")]
-        self.ask("POST", "/actions", actions=[{"type": "key", "id": "keys", "actions": pressed}])
+        ActionChains(self.driver, duration=0).send_keys(*keys).perform()
 
     def complaints(self, *sources):
         """What the console got from these sources, else from all but the network, which reports each
         refusal."""
-        said = self.ask("POST", "/se/log", type="browser")
-        return [entry["message"] for entry in said
+        return [entry["message"] for entry in self.driver.get_log("browser")
                 if (entry["source"] in sources if sources else entry["source"] != "network")]
 
     def downloads_to(self, folder):

@@ -15,7 +15,8 @@ from serve_cases import SOLUTION, batch_text
 def reading(reader, front, user, page="", **more):
     """The browser, with a page that a user has opened and that is ready."""
     host = reader.new_host(**more)
-    reader.go(f"http://{user}:try-{user}@{host}:{front.port}/{page}")
+    # A small page that needs the password; the browser keeps it for the others.
+    reader.go(f"http://{user}:try-{user}@{host}:{front.port}/not-found.html")
     reader.go(f"http://{host}:{front.port}/{page}")
     is_read(reader)
     yield reader
@@ -555,7 +556,7 @@ const wrong = {
       .trim().split(/\\s+/).every(id => document.getElementById(id))),
   'a status': all('[role=status]').length === 1, 'an alert': all('[role=alert]').length === 1,
   'times': all('time').every(e => e.dateTime && e.lang),
-  'levels of headings': all('h1, h2, h3').filter(e => e.checkVisibility())
+  'levels of headings': all('h1, h2, h3, h4, h5, h6').filter(e => e.checkVisibility())
     .every((e, i, each) => e.tagName[1] - (each[i - 1]?.tagName[1] ?? 0) <= 1),
   'no wider than the window': document.documentElement.scrollWidth <= window.innerWidth,
 };
@@ -568,24 +569,36 @@ const kind = (cell) => cell.tagName === 'TD' ? 'cell'
 return [...document.querySelectorAll('table')].filter(table => table.checkVisibility())
   .map(table => [table.caption.innerText, [...table.rows].map(row => [...row.cells].map(kind))]);
 """
+# Texts whose colour is too close to what lies behind them: below 4.5 to 1.
 CONTRAST = """
-const style = getComputedStyle(document.documentElement);
-const light = (name) => {
-  const canvas = document.createElement('canvas').getContext('2d');
-  canvas.fillStyle = style.getPropertyValue(name);
-  canvas.fillRect(0, 0, 1, 1);
-  const [r, g, b] = [...canvas.getImageData(0, 0, 1, 1).data].map(v => v / 255)
+const numbers = (colour) => colour.match(/[\\d.]+/g).map(Number);
+const light = ([r, g, b]) => {
+  const [x, y, z] = [r, g, b].map(v => v / 255)
     .map(v => v <= 0.04045 ? v / 12.92 : ((v + 0.055) / 1.055) ** 2.4);
-  return 0.2126 * r + 0.7152 * g + 0.0722 * b;
+  return 0.2126 * x + 0.7152 * y + 0.0722 * z;
 };
-const ratio = ([front, back]) => {
-  const [dark, bright] = [light(front), light(back)].sort((a, b) => a - b);
+const behind = (e) => {
+  const colour = numbers(getComputedStyle(e).backgroundColor);
+  return colour[3] === 0 ? behind(e.parentElement) : colour;
+};
+const ratio = (e) => {
+  const [dark, bright] = [light(numbers(getComputedStyle(e).color)), light(behind(e))]
+    .sort((a, b) => a - b);
   return (bright + 0.05) / (dark + 0.05);
 };
-return [['--ink', '--ground'], ['--quiet', '--ground'], ['--quiet', '--raised'],
-  ['--accent', '--ground'], ['--accent', '--raised'], ['--on-accent', '--accent'],
-  ['--ink', '--tint'], ['--accent', '--tint']]
-  .filter(pair => ratio(pair) < 4.5).map(pair => pair.join(' on '));
+return [...document.body.querySelectorAll('*')].filter(e => e.checkVisibility() && !e.disabled
+  && !e.closest('.unseen, option') && [...e.childNodes].some(n => n.nodeType === 3 && n.data.trim()))
+  .filter(e => ratio(e) < 4.5).map(e => `${e.tagName} ${e.innerText}`);
+"""
+# What the Tab key should reach, in this order; each has a place in the document.
+REACHED = """
+const all = [...document.querySelectorAll('*')];
+return all.filter(e => e.matches('a[href], button:enabled, input, select, textarea, [tabindex="0"]')
+  && e.checkVisibility()).map(e => all.indexOf(e));
+"""
+FOCUSED = """
+const e = document.activeElement;
+return [[...document.querySelectorAll('*')].indexOf(e), getComputedStyle(e).outlineStyle];
 """
 
 
@@ -624,6 +637,14 @@ def pages_for_everybody(run, chromium, front):
                                    "e.getBoundingClientRect().left >= 0, "
                                    "getComputedStyle(e).outlineStyle]")
                 run.judge(f"where a key leads on {page}", ["skip", True, "solid"], focus)
+                if "is_dark" in more:
+                    reached = reader.run(REACHED)
+                    came = [reader.run(FOCUSED)]
+                    for _ in reached[1:]:
+                        reader.press("\ue004")
+                        came.append(reader.run(FOCUSED))
+                    run.judge(f"where the key leads after that on {page}",
+                              [[number, "solid"] for number in reached], came)
                 reader.devtools("Emulation.setEmulatedMedia", media="print")
                 run.judge(f"{page} in print", 0, reader.run(
                     "return [...document.querySelectorAll('button, .skip')]"
@@ -671,19 +692,15 @@ def judge(run, front, wide, office, folder):
         return
     if not shutil.which("pdftotext"):
         print("front: texts of printed pages are left out without pdftotext")
-    driver = browser.Driver(run.folder)
-    try:
-        with browser.Browser(driver) as chromium:
-            for part in (candidates_page, next_exam_first, registrys_page, departments_page,
-                         publishing, states_of_exams, late_changes):
-                part(run, chromium, front)
-            signing_out(run, chromium, front, wide)
-            calendar_file(run, chromium, wide)
-            printed(run, chromium, wide)
-            other_labels(run, chromium, wide)
-            pages_for_everybody(run, chromium, front)
-            if folder:
-                pictures(chromium, front, folder)
-            pages_in_error(run, chromium, front, office)
-    finally:
-        driver.ended()
+    with browser.Browser(run.folder) as chromium:
+        for part in (candidates_page, next_exam_first, registrys_page, departments_page,
+                     publishing, states_of_exams, late_changes):
+            part(run, chromium, front)
+        signing_out(run, chromium, front, wide)
+        calendar_file(run, chromium, wide)
+        printed(run, chromium, wide)
+        other_labels(run, chromium, wide)
+        pages_for_everybody(run, chromium, front)
+        if folder:
+            pictures(chromium, front, folder)
+        pages_in_error(run, chromium, front, office)

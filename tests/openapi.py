@@ -1,25 +1,29 @@
 #!/usr/bin/env python3
 """openapi.py: docs/openapi.yaml says what the routes and docs/FORMATS.md say, no more and no less.
 
-Paths, methods, callers, statuses and errors are compared, and each example with its schema; a
-difference is printed, and the last line counts the comparisons. For other tests `Described` judges an
+Paths, methods, callers, statuses and errors are compared, each example with its schema, and the schemas
+are judged; a difference is printed, and the last line counts the comparisons. For other tests `Described` judges an
 exchange by that file: whether it has the request, and the reply's status, type and body.
 
-It needs python3-yaml and python3-jsonschema. Without them a line says that it is left out, and
-`Described` finds no fault.
+Debian's python3-yaml and python3-jsonschema read it. Without them a line says that it is left out,
+and `Described` finds no fault.
 """
 import json
 import pathlib
 import re
 import sys
 
+import debian  # noqa: F401
 from cases import Cases
 
 try:
-    import jsonschema
     import yaml
 except ImportError:
-    jsonschema = yaml = None
+    yaml = None
+try:
+    import jsonschema
+except ImportError:
+    jsonschema = None
 
 TOP = pathlib.Path(__file__).resolve().parent.parent
 REQUESTS = TOP / "crates" / "office_requests" / "src"
@@ -34,6 +38,25 @@ CALLERS = {"candidates": {"candidate"}, "the office": {"office"},
 DEPARTMENTS_GET = "the office; departments may GET"
 
 
+def missing():
+    """Which of the Debian packages aren't installed."""
+    return [f"python3-{name}" for name, module in (("yaml", yaml), ("jsonschema", jsonschema))
+            if module is None]
+
+
+def read(text):
+    """The file; a name that comes twice in a mapping is an error, which YAML lets pass."""
+    class Loader(yaml.SafeLoader):
+        def construct_mapping(self, node, deep=False):
+            names = [self.construct_object(name) for name, _ in node.value]
+            twice = {name for name in names if names.count(name) > 1}
+            if twice:
+                raise ValueError(f"{sorted(twice)} twice: {node.start_mark}")
+            return super().construct_mapping(node, deep)
+
+    return yaml.load(text, Loader)
+
+
 # ---- Exchanges
 
 class Described:
@@ -41,8 +64,8 @@ class Described:
 
     def __init__(self):
         self.pages = []
-        if yaml:
-            self.whole = yaml.safe_load((TOP / "docs" / "openapi.yaml").read_text())
+        if not missing():
+            self.whole = read((TOP / "docs" / "openapi.yaml").read_text())
             self.pages = [(re.compile(re.sub(r"\{\w+\}", "[0-9]{1,9}", path) + "$"), page)
                           for path, page in self.whole["paths"].items()]
 
@@ -68,7 +91,7 @@ class Described:
 
     def fault(self, method, path, status, kind, body=None):
         """What is wrong with an exchange, or None."""
-        if not yaml:
+        if missing():
             return None
         response = self.responses(method, path).get(str(status))
         asked = f"{method} {path} answered {status} {kind}"
@@ -89,6 +112,22 @@ class Described:
         with_parts = {**schema, "components": self.whole["components"]}
         wrong = jsonschema.Draft202012Validator(with_parts).iter_errors(value)
         return next((error.message for error in wrong), None)
+
+    def faulty_schemas(self):
+        """The parts that are no schemas."""
+        for name, schema in self.whole["components"]["schemas"].items():
+            try:
+                jsonschema.Draft202012Validator.check_schema(schema)
+            except jsonschema.SchemaError as fault:
+                yield f"{name}: {fault.message}"
+
+    def lost_references(self):
+        """References to what isn't there."""
+        for name in set(re.findall(r'"\$ref": "([^"]+)"', json.dumps(self.whole))):
+            try:
+                self.at({"$ref": name})
+            except KeyError:
+                yield name
 
 
 # ---- What the routes and the page say
@@ -150,6 +189,8 @@ def examples(described, part, at):
 
 def differences(described):
     """Each comparison: its name, what the page or the routes have, what the file has."""
+    yield "references to what isn't there", [], [*described.lost_references()]
+    yield "faulty schemas", [], [*described.faulty_schemas()]
     paths, shared = described.whole["paths"], described.whole["components"]["responses"]
     methods = {path: {verb.upper() for verb in page if verb in VERBS}
                for path, page in paths.items()}
@@ -182,8 +223,8 @@ def differences(described):
 
 
 def main():
-    if not yaml:
-        print("openapi: left out without python3-yaml and python3-jsonschema")
+    if missing():
+        print(f"openapi: left out without {' and '.join(missing())}")
         return 0
     described, judged = Described(), Cases("openapi")
     for name, expected, got in differences(described):

@@ -2,11 +2,10 @@
 """run_front.py PROGRAM [--pictures FOLDER]: the front and its pages before the office.
 
 A copy of front/ runs on free ports, before an office of the small example. What nginx must refuse
-or take away is sent over raw sockets (front_cases.py); then Chromium reads the candidate's page and
-the registry's page as their users would (front_pages.py). Each exchange that reached the office has
-to stand in docs/openapi.yaml. Where nginx or Chromium isn't installed, a line says so, and that
-part is left out. A failing case is printed with what was expected and what came, and the last line
-counts the cases.
+or drop is sent over raw sockets (front_cases.py); then Chromium reads the pages as their users would
+(front_pages.py). Each exchange that reached the office must be in docs/openapi.yaml. What needs a
+program or a Debian package that isn't installed is left out, and a line says so. A failing case is
+printed with what was expected and what came, and the last line counts the cases.
 """
 import argparse
 import contextlib
@@ -254,28 +253,22 @@ def limits(run, office):
     front.stop()
 
 
-@contextlib.contextmanager
-def busy_office(run):
-    """An office whose queue is full for longer than 5 seconds answers late, and not 503."""
+def busy_office(folder, replies):
+    """Asks an office whose queue is full for longer than 5 seconds; keeps the reply."""
     with socket.create_server(("127.0.0.1", 0), backlog=0) as listener:
         port = listener.getsockname()[1]
-        first = [socket.create_connection(("127.0.0.1", port), SECONDS)]
-        front = Front(run.folder / "busy", port, edits=())
-        replies, began = [], time.monotonic()
+        first = socket.create_connection(("127.0.0.1", port), SECONDS)
+        front = Front(folder, port, edits=())
         waiting = threading.Thread(target=lambda: replies.append(front.told(CANDIDATE)))
         waiting.start()
-        yield
-        time.sleep(max(0, began + 5.5 - time.monotonic()))
+        time.sleep(5.5)
         listener.settimeout(SECONDS)
-        while not replies:
-            with listener.accept()[0] as behind:
-                if first:
-                    first.pop().close()
-                    continue
-                behind.recv(65_536)
-                behind.sendall(reply(200, "{}"))
-                waiting.join(SECONDS)
-        run.judge("a queue in front of the office", [(200, b"{}")], replies)
+        first.close()
+        while waiting.is_alive():
+            with listener.accept()[0] as behind, contextlib.suppress(ConnectionResetError):
+                if behind.recv(65_536):
+                    behind.sendall(reply(200, "{}"))
+                    waiting.join(SECONDS)
         front.stop()
 
 
@@ -325,7 +318,9 @@ def styled_pages(run, front):
 
 
 def described_exchanges(run, front, least):
-    """What reached the office stands in docs/openapi.yaml."""
+    """What reached the office is in docs/openapi.yaml."""
+    if openapi.missing():
+        return
     described = openapi.Described()
     exchanges = list(front.exchanges())
     faults = {described.fault(*exchange) for exchange in exchanges} - {None}
@@ -366,9 +361,8 @@ def before_the_office(run, front, office):
     what_passes(run, run.folder)
     waits_for_no_body(run, front)
     many_at_once(run, front)
-    with busy_office(run):
-        slow_ones(run, front)
-        limits(run, office)
+    slow_ones(run, front)
+    limits(run, office)
     no_office(run)
     log_of_changes(run, front)
 
@@ -403,23 +397,30 @@ def main():
     words.add_argument("--no-browser", action="store_true", help="leaves the pages out")
     given = words.parse_args()
     if not NGINX:
-        print("front: left out without nginx")
+        print("front: left out without nginx-light")
         return 0
+    if openapi.missing():
+        print(f"front: docs/openapi.yaml is left out without {' and '.join(openapi.missing())}")
     with tempfile.TemporaryDirectory() as folder:
         run = Run(pathlib.Path(given.program).resolve(), folder, "front")
         office = run.office()
         try:
             front = Front(folder, office.port)
+            replies = []
+            busy = threading.Thread(target=busy_office, args=(run.folder / "busy", replies))
+            busy.start()
             try:
                 before_the_office(run, front, office)
                 with wide_session(run) as wide:
                     compressed(run, wide)
                     if not given.no_browser:
                         front_pages.judge(run, front, wide, office, given.pictures)
-                    described_exchanges(run, wide, 1 if given.no_browser else 10)
+                    described_exchanges(run, wide, 1 if given.no_browser else 5)
                 described_exchanges(run, front, 100)
             finally:
                 front.stop()
+                busy.join()
+            run.judge("a queue in front of the office", [(200, b"{}")], replies)
         finally:
             office.killed()
     return run.end()

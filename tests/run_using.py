@@ -20,9 +20,9 @@ import tempfile
 import time
 import urllib.parse
 
+import openapi
 from browser import free_port
 from cases import Cases
-from openapi import Described
 
 TOP = pathlib.Path(__file__).resolve().parent.parent
 PAGES = [TOP / name for name in ("README.md", "docs/USING.md", "docs/OPERATING.md")]
@@ -88,11 +88,13 @@ def main():
     program = pathlib.Path(sys.argv[1]).resolve()
     pages = [pathlib.Path(word) for word in sys.argv[2:]] or PAGES
     judged, asked = Cases("using"), 0
+    if openapi.missing():
+        print(f"using: docs/openapi.yaml is left out without {' and '.join(openapi.missing())}")
     for page in pages:
         with tempfile.TemporaryDirectory() as folder:
             shell = Shell(program, pathlib.Path(folder))
             judge_blocks(judged, page, shell, str(free_port()))
-            described = Described()
+            described = openapi.Described()
             exchanges = list(shell.ended())
         for exchange in exchanges:
             judged.judge(f"{page.name}: {exchange} by docs/openapi.yaml", None,
