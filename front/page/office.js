@@ -51,8 +51,8 @@ const REFUSALS = {
   'too-many': 'There would be too many enrolments, or too many batches.',
   length: 'This is too long for the office.',
   often: 'There were too many requests in a short time. Please wait a moment, then try again.',
-  unavailable: 'The office cannot answer at the moment, and nothing was changed.'
-    + ' Please try again in a minute.',
+  unavailable: 'The office cannot answer at the moment. Please try again in a minute.'
+    + ' If you changed something, first look whether the change is there.',
 };
 
 // What exams are called in these words: numbers, until the page has names.
