@@ -1,5 +1,6 @@
 """The program and the two baselines: how each is built, and what it answers."""
 import pathlib
+import re
 import shutil
 import subprocess
 import sys
@@ -60,6 +61,19 @@ def ask(command, instance, solution):
     done = subprocess.run([*command, instance, solution], stdin=subprocess.DEVNULL,
                           capture_output=True, check=False)
     return Answer(done.returncode, done.stdout, done.stderr)
+
+
+def instructions(command, folder, text=subprocess.DEVNULL):
+    """The instructions of one run by callgrind, or None where there is no valgrind."""
+    if not shutil.which("valgrind"):
+        return None
+    words = ["valgrind", "--tool=callgrind", f"--callgrind-out-file={folder}/callgrind", *command]
+    said = subprocess.run(words, stdin=text, capture_output=True,
+                          check=False).stderr.decode(errors="replace")
+    found = re.search(r"Collected : (\d+)", said)
+    if not found:
+        sys.exit(f"callgrind counted nothing for {' '.join(command)}:\n{said[-2000:]}")
+    return int(found[1])
 
 
 def difference(answers):

@@ -1,16 +1,22 @@
-"""The two servers that are compared: how each is started, and how it is asked."""
+"""The servers that are compared: how each is started, what it is asked, and what that costs."""
+import argparse
 import pathlib
+import re
 import shutil
 import socket
+import sqlite3
+import statistics
 import subprocess
 import sys
+import tempfile
 import time
 
-from checkers import HERE
+from checkers import HERE, program
 
 SOURCE, BUILT = HERE / "office", HERE / "build" / "office"
 MESSAGES = 100
 DRAFTS = 8
+OURS, PLAIN, PLAIN_WAL = COLUMNS = "examoffice", "c++", "c++ in WAL"
 
 
 def build_office():
@@ -28,42 +34,119 @@ def message(method, path, body=b"", closes=False, caller="office"):
 
 
 class Server:
-    """A server of an instance, from a database of its own; `opening` is how long it took to begin."""
+    """A server of an instance with a database of its own, what it replied to `ask`, and the figures
+    of that, by name and unit. A cost is in milliseconds."""
+
+    unit, most_times, patience, prefix = "ms", 1_000, 60, []
 
     def __init__(self, name, command, folder, instance):
         self.name, self.command, self.database = name, command, str(folder / f"{name}.db")
+        self.replies, self.figures = [], {}
         subprocess.run([command, "load", "--db", self.database, str(instance)], check=True,
                        stdout=subprocess.DEVNULL)
-        self.open()
+        if name == PLAIN_WAL:
+            use_wal(self.database)
+        self.open("opening the database")
 
-    def open(self):
-        began = time.perf_counter()
+    def open(self, name):
+        self.began = time.perf_counter()
         self.process = subprocess.Popen(
-            [self.command, "serve", "--db", self.database, "--port", "0",
+            [*self.prefix, self.command, "serve", "--db", self.database, "--port", "0",
              "--connections", "1000000"], stdout=subprocess.PIPE)
         line = self.process.stdout.readline()
-        self.opening = time.perf_counter() - began
         if not line.startswith(b"listening 127.0.0.1:"):
             sys.exit(f"{self.name} does not listen: {line!r}")
         self.address = "127.0.0.1", int(line.rpartition(b":")[2])
+        self.figures[name, self.unit] = self.cost()
 
     def end(self):
         self.process.kill()
         self.process.wait()
 
+    def cost(self):
+        """The cost since `began`."""
+        return 1e3 * (time.perf_counter() - self.began)
+
+    def asked(self, questions, times=1):
+        """The replies to questions, each asked after the reply to the one in front of it, and the
+        cost of each; all of them so many times."""
+        questions, replies, costs = questions * min(times, self.most_times), [], []
+        self.cost()  # What was done in front of the first question is dropped.
+        for start in range(0, len(questions), MESSAGES):
+            with self.connect() as client:
+                for question in questions[start:start + MESSAGES]:
+                    self.began = time.perf_counter()
+                    client.sendall(question)
+                    replies.append(one_reply(client)[0])
+                    costs.append(self.cost())
+        return replies, costs
+
+    def ask(self, name, questions, times=1, status=b"2"):
+        """Asks questions that are to be answered so; the row is the median cost of one."""
+        replies, costs = self.asked(questions, times)
+        for reply in replies:
+            if not reply.startswith(b"HTTP/1.1 " + status):
+                sys.exit(f"{self.name}: {name}: {reply!r}")
+        self.replies += replies
+        self.figures[name, self.unit] = statistics.median(costs)
+        if len(costs) >= 100:
+            slowest = statistics.quantiles(costs, n=100)[98]
+            self.figures[f"{name}, 99 of 100", self.unit] = slowest
+
+    def show_rate(self, name, way, questions):
+        """Asks them all in a way of the three, for a row of how many are answered in a second."""
+        began = time.perf_counter()
+        self.replies += way(self, questions)
+        self.figures[name, "a second"] = len(questions) / (time.perf_counter() - began)
+
     def connect(self):
-        client = socket.create_connection(self.address, 60)
+        client = socket.create_connection(self.address, self.patience)
         client.setsockopt(socket.IPPROTO_TCP, socket.TCP_NODELAY, 1)
         return client
 
-    def peak(self):
-        """The most memory that it held, in kB."""
+    def show_peak(self, name):
+        """A row of the most memory held so far."""
         status = pathlib.Path(f"/proc/{self.process.pid}/status").read_text()
-        return int(status.partition("VmHWM:")[2].split()[0])
+        self.figures[name, "MB"] = int(status.partition("VmHWM:")[2].split()[0]) / 1e3
 
     def forget_peak(self):
-        """From here on `peak` tells what it has now, and what it takes more."""
+        """From now on the most memory is that held now, or more that is taken later."""
         pathlib.Path(f"/proc/{self.process.pid}/clear_refs").write_text("5")
+
+
+class CountedServer(Server):
+    """The same under callgrind. A cost is in millions of instructions, since the cost before."""
+
+    unit, most_times, patience = "M instr", 4, 3_600
+
+    def __init__(self, name, command, folder, instance):
+        self.counts = folder / "counts"
+        self.prefix = ["valgrind", "--quiet", "--tool=callgrind",
+                       f"--callgrind-out-file={self.counts}"]
+        super().__init__(name, command, folder, instance)
+
+    def cost(self):
+        self.wait_until_idle()
+        # A dump zeroes callgrind's counters.
+        subprocess.run(["callgrind_control", "-d", str(self.process.pid)], check=True,
+                       capture_output=True)
+        dump, = self.counts.parent.glob("counts.*")
+        total = re.search(r"^totals: (\d+)", dump.read_text(), re.M)
+        dump.unlink()
+        return int(total[1]) / 1e6
+
+    def wait_until_idle(self):
+        """A server works on after its reply; then it sleeps."""
+        status, sleeps = pathlib.Path(f"/proc/{self.process.pid}/stat"), 0
+        while sleeps < 3:
+            time.sleep(0.02)
+            sleeps = sleeps + 1 if status.read_text().rpartition(")")[2].split()[0] == "S" else 0
+
+    def show_rate(self, name, way, questions):
+        """No row: callgrind takes most of the time."""
+
+    def show_peak(self, name):
+        """No row: callgrind takes memory of its own."""
 
 
 def one_reply(client, came=b""):
@@ -77,22 +160,9 @@ def one_reply(client, came=b""):
     return came[:end], came[end:]
 
 
-def one_after_another(server, questions):
-    """The replies to questions, each asked behind the reply before, and how long each took."""
-    replies, taken = [], []
-    for start in range(0, len(questions), MESSAGES):
-        with server.connect() as client:
-            for question in questions[start:start + MESSAGES]:
-                began = time.perf_counter()
-                client.sendall(question)
-                replies.append(one_reply(client)[0])
-                taken.append(time.perf_counter() - began)
-    return replies, taken
-
-
 def in_one_piece(server, questions):
-    """The replies to questions that are sent a hundred at once, and how long all took."""
-    replies, began = [], time.perf_counter()
+    """The replies to questions that are sent a hundred at once."""
+    replies = []
     for start in range(0, len(questions), MESSAGES):
         asked, rest = questions[start:start + MESSAGES], b""
         with server.connect() as client:
@@ -100,21 +170,77 @@ def in_one_piece(server, questions):
             for _ in asked:
                 reply, rest = one_reply(client, rest)
                 replies.append(reply)
-    return replies, [time.perf_counter() - began]
+    return replies
 
 
 def in_connections(server, questions):
-    """The replies to questions on a connection each, and how long all took."""
-    replies, began = [], time.perf_counter()
+    """The replies to questions on a connection each."""
+    replies = []
     for question in questions:
         with server.connect() as client:
             client.sendall(question)
             replies.append(one_reply(client)[0])
-    return replies, [time.perf_counter() - began]
+    return replies
 
 
-def show(name, ours, theirs, unit):
-    print(f"{name:<44}{ours:>12,.1f}{theirs:>12,.1f}{ours / theirs:>8.2f}  {unit}", flush=True)
+def use_wal(database):
+    """From now on SQLite opens the file in WAL mode: one fsync a commit, as the program has."""
+    sqlite3.connect(database).execute("PRAGMA journal_mode=WAL").connection.close()
+
+
+def commands(path):
+    """The program of each column; `path` is of a program other than the release."""
+    plain = build_office()
+    return {OURS: program(path)[0], PLAIN: plain, PLAIN_WAL: plain}
+
+
+def options(doc, rounds, counts=True):
+    """The options of a command; `counts` says whether it can count instructions."""
+    parser = argparse.ArgumentParser(description=doc)
+    parser.add_argument("--rounds", type=int, default=rounds, help=f"rounds of each ({rounds})")
+    parser.add_argument("--program", help="a program other than the release")
+    if counts:
+        parser.add_argument("--instructions", action="store_true",
+                            help="count instructions, by callgrind and in one round, not time")
+    return parser
+
+
+def compared(given, title, instance, measure):
+    """Lets `measure` ask a new server of each column in turn, in each round. Prints the medians of
+    their figures, and says whether all replied alike."""
+    kind, rounds = (CountedServer, 1) if given.instructions else (Server, given.rounds)
+    rows, is_same, programs = {name: [] for name in COLUMNS}, True, commands(given.program)
+    for _ in range(rounds):
+        replies = []
+        for name, command in programs.items():
+            with tempfile.TemporaryDirectory() as folder:
+                server = kind(name, command, pathlib.Path(folder), instance)
+                try:
+                    measure(server)
+                finally:
+                    server.end()
+            replies.append(server.replies)
+            rows[name].append(server.figures)
+        is_same &= all(them == replies[0] for them in replies)
+    show(title, {name: {key: statistics.median(row[key] for row in found) for key in found[0]}
+                 for name, found in rows.items()})
+    return is_same
+
+
+def stop_unless(is_same):
+    if not is_same:
+        sys.exit("they do not answer the same")
+
+
+def show(title, figures):
+    """Prints a table: each figure of each column, and the ratios of the first to the others."""
+    ours, *others = figures.values()
+    print(f"{title:<44}" + "".join(f"{name:>12}" for name in figures)
+          + "".join(f"{'to ' + name:>14}" for name in list(figures)[1:]))
+    for (name, unit), figure in ours.items():
+        row = [figure, *(other[name, unit] for other in others)]
+        print(f"{name:<44}" + "".join(f"{it:>12,.3f}" for it in row)
+              + "".join(f"{figure / it:>14.2f}" for it in row[1:]) + f"  {unit}", flush=True)
 
 
 def sizes_of(instance):
@@ -126,20 +252,19 @@ def sizes_of(instance):
 
 def drafts_of(solution):
     """The messages that make all drafts of a timetable."""
-    return [message("PUT", f"/drafts/{number}", solution.read_bytes())
-            for number in range(1, DRAFTS + 1)]
+    return [message("PUT", f"/drafts/{number}", solution) for number in range(1, DRAFTS + 1)]
 
 
 def edits_of(server, solution, sizes, wanted):
     """An exam of about so many students, its place, and a clear and a place of it in the last
     draft, of which both are accepted."""
-    places = solution.read_text().splitlines()
+    places = solution.splitlines()
     for exam in sorted(range(len(sizes)), key=lambda exam: (abs(sizes[exam] - wanted), exam)):
-        period, room = map(int, places[exam].split(", "))
+        period, room = map(int, places[exam].split(b", "))
         body = b'{"period":%d,"room":%d}' % (period, room)
         edits = [message("DELETE", f"/drafts/{DRAFTS}/exams/{exam}"),
                  message("POST", f"/drafts/{DRAFTS}/exams/{exam}/place", body)]
-        replies = one_after_another(server, edits)[0]
+        replies = in_connections(server, edits)
         if all(reply.startswith(b"HTTP/1.1 200 ") for reply in replies):
             return exam, (period, room), edits
     sys.exit("no exam of the timetable can be edited")

@@ -1,6 +1,6 @@
 """An instance at the limits that has a timetable without a breach."""
 EXAMS, PERIODS, ROOMS = 2_000, 200, 200
-ALONE, BUSY, BUSY_EXAMS = 0, 1, 100
+ALONE, BUSY, OTHER, BUSY_EXAMS = 0, 1, 2, 100
 
 
 def exams_of(pairs, each):
@@ -10,7 +10,7 @@ def exams_of(pairs, each):
     students[0].append(ALONE)
     for exam in range(BUSY_EXAMS):
         students[exam].append(BUSY)
-    left, student = pairs - BUSY_EXAMS - 1, 2
+    left, student = pairs - BUSY_EXAMS - 1, OTHER
     while left > 0:
         first = student * 7 % EXAMS
         for step in range(min(each, left)):
@@ -23,6 +23,10 @@ def exams_of(pairs, each):
 def place_of(exam):
     """Ten exams a period, two to a room."""
     return exam % PERIODS, exam // PERIODS // 2
+
+
+def solution_of():
+    return "".join("%d, %d\n" % place_of(exam) for exam in range(EXAMS)).encode()
 
 
 def instance_of(pairs, each):
