@@ -8,7 +8,7 @@ import time
 
 import browser
 from front_cases import FIRST_VIEW, WIDE_PERIODS, WIDE_ROOMS, ask
-from serve_cases import SOLUTION, batch_text
+from serve_cases import SMALL, SOLUTION, batch_text
 
 
 @contextlib.contextmanager
@@ -432,59 +432,265 @@ def printed(run, chromium, wide):
                 for period in range(WIDE_PERIODS)], tables)
 
 
+# What is wrong with lines that can't be sent.
+WRONG_LINES = [
+    ("student,exam,action\n3,0,ad", "Line 2: unknown action ad; it must be add or drop"),
+    ("student,exam,action\n3,0,add\nx,1,add", "Line 3: unknown student x"),
+    ("student,exam,action\n\n3,4,add", "Line 3: unknown exam 4"),
+    ("Student ID;Exam code;Action\ns1;MATH999;enrol", "Line 2: unknown exam MATH999"),
+    ("student,exam\n1,0", "Line 1: there is no column for action"),
+    ("student,exam,action\n", "There is no line after the first"),
+]
+# CSV texts of spreadsheets, and the batches that they become.
+TRANSLATED = [
+    ("Exam,Status,Candidate no.\nMATH101,enrolled,s12\n", "12,0,add\n"),
+    ('"student";"exam";"action"\r\n"s3";"phys102";"Withdrawn"\r\n', "3,3,drop\n"),
+    ("\ufeffSTUDENT NUMBER\tModule code\tChange\n0000002\t3\t+\n", "2,3,add\n"),
+    ('student,exam,action,remark\n1,0,add,"moved, ""late""\nin May"\n2,0,drop,', "1,0,add\n2,0,drop\n"),
+]
+TRANSLATE = """
+const [text, session] = arguments;
+return Promise.all([import('/batches.js'), import('/labels.js')]).then(async ([batches, labels]) => {
+  const names = new labels.Names(await labels.readLabels());
+  const { changes, faults } = batches.changesIn(text,
+    batches.studentFinder(await labels.readStudents()), batches.examFinder(names, session));
+  return faults.length ? faults : batches.batchText(changes);
+});
+"""
+EFFECT = """
+return import('/batches.js').then(({ effectOf, inverseOf }) => {
+  const read = (text) => text.split(' ').map(line => line.split(','))
+    .map(([student, exam, action]) => ({ student: Number(student), exam: Number(exam), action }));
+  const effect = effectOf(read(arguments[0]), [[1, 3], [2]]);
+  const write = (changes) => changes.map(c => `${c.student},${c.exam},${c.action}`).join(' ');
+  return [effect.add, effect.drop, effect.there, effect.absent, write(inverseOf(effect.acting))];
+});
+"""
+
+
 def late_changes(run, chromium, front):
-    """A batch is typed and sent by keyboard, another one is a file; refusals name the line."""
+    """Lines with codes become a batch, which is shown before it is sent, by keyboard; and its opposite."""
     tab, enter = "\ue004", "\ue007"
     focus = "document.querySelector('#batch-%s').focus()"
+    value = "return document.querySelector('#batch-%s').value"
+    wrong = ("const e = document.activeElement; return [e.id, e.getAttribute('aria-invalid'), "
+             "e.getAttribute('aria-describedby').split(' ').map(id => document.getElementById(id).innerText)"
+             ".at(-1)]")
     file = run.folder / "late.csv"
-    bytes_of_file = b"student,exam,action\r\n2,0,add\r\n2,0,drop"
+    bytes_of_file = b"student,exam,action\r\n2,0,add"
     file.write_bytes(bytes_of_file)
+
+    def pasted(reader, lines):
+        reader.run("document.querySelector('#batch').reset()")
+        reader.types("#batch-lines", lines)
+        reader.click("#batch button")
+        is_read(reader)
+
+    def numbered(reader, number):
+        reader.run("document.querySelector('#batch-number').value = arguments[0]", number)
+
     with reading(chromium, front, "registry") as reader:
-        reader.run(focus % "number")
-        reader.press("7", tab, tab, *"student,exam,action", enter, *"3,0,add", enter,
-                     *"2,0,add", enter, *"2,0,drop", tab)
-        run.judge("where a key leads behind the lines", "Send",
+        run.judge("the proposed number", "504010800", reader.run(value % "number"))
+        reader.run(focus % "lines")
+        for line in ("Student ID;Exam code;Action", "s3;MATH101;enrol", "s2;math101;add"):
+            reader.press(*line, enter)
+        reader.press(*"s2;MATH101;withdrawn", tab)
+        run.judge("where a key leads behind the lines", "Check",
                   reader.run("return document.activeElement.innerText"))
         reader.press(enter)
-        reader.waits("return document.querySelector('#status').innerText.startsWith('Batch 7')")
-        run.judge("what a batch did", "Batch 7 is accepted: 1 added, 1 dropped, 1 unchanged.",
-                  reader.text("#status"))
-        run.judge("where the focus is then", ["status", ""], reader.run(
-            "return [document.activeElement.id, document.querySelector('#batch-lines').value]"))
-        run.judge("what came", (200, b'{"added":1,"batch":7,"dropped":1,"unchanged":1}'),
-                  front.told(ask("registry", "PUT", "/batches/7",
-                                 batch_text("3,0,add", "2,0,add", "2,0,drop").rstrip())))
-        for number, lines, words in (
-                ("8", ("3,0,ad",), "Batch 8 was refused. Line 2: the action must be add or drop."),
-                ("8", ("3,0,add", "x,1,add"), "Batch 8 was refused. Line 3: a whole number is expected."),
-                ("8", ("3,4,add",), "Batch 8 was refused. There is no such exam, period or room."),
-                ("7", ("3,0,add",), "Batch 7 was refused. A different batch was already sent under "
-                 "this number. Please choose a new number.")):
-            reader.run("document.querySelector('#batch').reset()")
-            reader.types("#batch-number", number)
-            reader.types("#batch-lines", batch_text(*lines).decode())
-            reader.click("#batch button")
-            is_read(reader)
-            run.judge(f"a refusal of {lines}", words, reader.text("#error"))
-            run.judge("its lines are still there", batch_text(*lines).decode(),
-                      reader.run("return document.querySelector('#batch-lines').value"))
+        reader.waits("return !document.querySelector('#batch-preview').hidden")
+        is_read(reader)
+        run.judge("what a batch would do", ("1 to add, 1 to drop, 1 already there.",
+                                            "Send batch 504010800", False), (
+            reader.text("#batch-effect"), reader.run("return document.activeElement.innerText"),
+            any("/batches/504010800" in target for _, target, _, _ in front.exchanges())))
+        reader.press(enter)
+        reader.waits("return document.querySelector('#status').innerText.startsWith('Batch 504010800')")
+        run.judge("what a batch did", ("Batch 504010800 is accepted: 1 added, 1 dropped, 1 unchanged.",
+                                       "status", "", "504010801"), (
+            reader.text("#status"), reader.run("return document.activeElement.id"),
+            reader.run(value % "lines"), reader.run(value % "number")))
+        run.judge("what was sent", (200, b'{"added":1,"batch":504010800,"dropped":1,"unchanged":1}'),
+                  front.told(ask("registry", "PUT", "/batches/504010800",
+                                 batch_text("3,0,add", "2,0,add", "2,0,drop"))))
+        for lines, fault in WRONG_LINES:
+            pasted(reader, lines)
+            run.judge(f"what is wrong with {lines}", (
+                f"Nothing was sent: 1 fault.\n{fault}", ["batch-lines", "true",
+                                                        "Nothing was sent: 1 fault."], lines, True), (
+                re.sub("\n+", "\n", reader.text("#error")), reader.run(wrong), reader.run(value % "lines"),
+                reader.run("return document.querySelector('#batch-preview').hidden")))
+        for text, batch in TRANSLATED:
+            run.judge(f"the batch of {text}", f"student,exam,action\n{batch}",
+                      reader.run(TRANSLATE, text, {"candidates": [[]] * 4}))
+        run.judge("what changes do", [2, 1, 1, 2, "2,1,add 1,1,drop 5,0,drop"], reader.run(
+            EFFECT, "1,0,add 5,0,add 1,1,add 2,1,drop 2,1,drop 7,1,drop"))
+        pasted(reader, "student,exam,action\n3,0,add")
+        numbered(reader, "504010800")
+        reader.click("#batch button")
+        is_read(reader)
+        reader.click("#batch-send")
+        is_read(reader)
+        words = ("Batch 504010800 was refused. A different batch was already sent under this number. Please "
+                 "choose a new number.")
+        run.judge("a number that is taken", (words, ["batch-number", "true", words]),
+                  (reader.text("#error"), reader.run(wrong)))
         reader.types("#batch-file", str(file))
         reader.click("#batch button")
-        run.judge("a file and lines", "Choose a file or paste lines, not both.",
-                  reader.run("return document.activeElement.validationMessage"))
+        is_read(reader)
+        run.judge("a file and lines", ["batch-lines", "true", "Choose a file or paste lines, not both."],
+                  reader.run(wrong))
         reader.run("document.querySelector('#batch').reset()")
-        reader.types("#batch-number", "9")
+        numbered(reader, "9")
         reader.click("#batch button")
-        run.judge("neither a file nor lines", "Choose a file, or paste lines here.",
-                  reader.run("return document.activeElement.validationMessage"))
+        is_read(reader)
+        run.judge("neither a file nor lines", ["batch-lines", "true", "Choose a file, or paste lines."],
+                  reader.run(wrong))
         reader.types("#batch-file", str(file))
         reader.click("#batch button")
+        reader.waits("return !document.querySelector('#batch-preview').hidden")
+        is_read(reader)
+        reader.click("#batch-send")
         reader.waits("return document.querySelector('#status').innerText.startsWith('Batch 9')")
-        run.judge("a file", "Batch 9 is accepted: 1 added, 1 dropped, 0 unchanged.",
+        run.judge("a file", "Batch 9 is accepted: 1 added, 0 dropped, 0 unchanged.",
                   reader.text("#status"))
-        run.judge("its bytes", (200, b'{"added":1,"batch":9,"dropped":1,"unchanged":0}'),
+        run.judge("its bytes", (200, b'{"added":1,"batch":9,"dropped":0,"unchanged":0}'),
                   front.told(ask("registry", "PUT", "/batches/9", bytes_of_file)))
+        reader.click("#batch-inverse")
+        run.judge("the opposite of a batch", "student,exam,action\n2,0,drop\n",
+                  reader.run(value % "lines"))
+        reader.click("#batch button")
+        reader.waits("return !document.querySelector('#batch-preview').hidden")
+        is_read(reader)
+        reader.click("#batch-send")
+        reader.waits("return document.querySelector('#status').innerText.includes('is accepted')")
+        run.judge("it takes the batch back", "0 added, 1 dropped, 0 unchanged.",
+                  reader.text("#status").partition(": ")[2])
         run.judge("complaints of the browser", [], reader.complaints())
+
+
+BY_EXAM = [
+    "MATH101,Calculus,Mathematics,2005-04-18,09:30,11:30,Great Hall,Main building",
+    "MATH102,Linear algebra,Mathematics,2005-04-15,14:00,15:30,Great Hall,Main building",
+    "PHYS101,Mechanics,Physics,2005-04-18,09:30,11:30,Room 2.14,Physics building",
+    "PHYS102,Optics,Physics,2005-04-15,17:00,18:00,Great Hall,Main building"]
+
+
+def registrys_work(run, chromium, front):
+    """Drafts are made, looked at, compared, downloaded and dropped; exams get owners."""
+    folder = run.folder / "downloads"
+    folder.mkdir()
+
+    def sent(form, words):
+        reader.click(f"#{form} button.main")
+        is_read(reader)
+        run.judge(f"{form}: {words}", words,
+                  reader.text("#status") or re.sub("\n+", "\n", reader.text("#error")))
+
+    def downloaded(button, name):
+        path = folder / name
+        reader.click(f"#download-{button}")
+        browser.until(f"{name} is there", lambda: path.exists() and path.stat().st_size)
+        return path.read_bytes()
+
+    solution, faulty, owners = (run.folder / name for name in ("new.sol", "faulty.sol", "owners.csv"))
+    solution.write_bytes(SOLUTION)
+    faulty.write_bytes(SOLUTION.replace(b"1, 0", b"1, x"))
+    with reading(chromium, front, "registry") as reader:
+        reader.downloads_to(folder)
+        reader.types("#draft-file", str(faulty))
+        sent("draft", "Draft 3 was not made. Line 2: a whole number is expected.")
+        run.judge("where a faulty file is shown", ["draft-file", "true"], reader.run(
+            "const e = document.activeElement; return [e.id, e.getAttribute('aria-invalid')]"))
+        reader.types("#draft-file", str(solution))
+        sent("draft", "Draft 3 is made.")
+        sent("draft", "Draft 4 is made.")
+        run.judge("an empty draft", "Breaks no rule; 4 exams not placed",
+                  reader.texts("#cards .verdict")[-1])
+        reader.click("#cards article:nth-child(5) .buttons button:last-child")
+        run.judge("dropping asks", "Drop draft 4?", reader.text("#confirm-title"))
+        reader.click("#confirm-yes")
+        reader.waits("return document.querySelector('#status').innerText === 'Draft 4 is dropped.'")
+        for _ in range(2):
+            reader.click("#cards article:nth-child(3) button")
+            is_read(reader)
+            run.judge("the address of a draft", ("#draft-2", "Draft 2"),
+                      (reader.run("return location.hash"), reader.text("#detail-title")))
+        reader.click("#cards article:nth-child(4) button")
+        is_read(reader)
+        for shown in ("Draft 2", "Published"):
+            reader.run("history.back()")
+            reader.waits(f"return document.querySelector('#detail-title').innerText === '{shown}'")
+            is_read(reader)
+        reader.run("history.forward()")
+        reader.waits("return document.querySelector('#detail-title').innerText === 'Draft 2'")
+        is_read(reader)
+        run.judge("a solution", b"3, 0\r\n1, 0\r\n3, 1\r\n2, 0\r\n", downloaded("solution", "draft-2.sol"))
+        head = "exam,title,department,date,start,end,room,building"
+        for order, exams in (("exam", (0, 1, 2, 3)), ("room", (1, 3, 0, 2)), ("day", (1, 3, 0, 2))):
+            run.judge(f"a timetable by {order}", "\ufeff" + "".join(
+                f"{line}\r\n" for line in [head, *(BY_EXAM[exam] for exam in exams)]),
+                downloaded(order, f"draft-2-by-{order}.csv").decode())
+        reader.run("const list = document.querySelector('#compare'); list.value = 'Draft 3';"
+                   "list.dispatchEvent(new Event('change'))")
+        friday = f"{reader.run(SHORT_DAY, 'en-GB', FRIDAY)}, 09:30, Great Hall, Main building"
+        monday = f"{reader.run(SHORT_DAY, 'en-GB', MONDAY)}, 09:30"
+        run.judge("differences", ("1 exam has another place.", [
+            ["Exam", "Draft 2", "Draft 3"], ["MATH101", f"{monday}, Great Hall, Main building", friday]]), (
+            reader.text("#differences p"), reader.run(CELLS, "#differences tr")))
+        for words, exams in (("optics", ["PHYS102"]), ("phys great", ["PHYS102"]),
+                             ("MATHEMATICS", ["MATH101", "MATH102"]), ("2.14", ["PHYS101"]), ("x", [])):
+            reader.run("document.querySelector('#find').value = ''")
+            reader.types("#find", words)
+            run.judge(f"what is found for {words}", (f"{len(exams)} exam{'' if len(exams) == 1 else 's'}.",
+                                                     exams), (
+                reader.text("#found p"),
+                [name.split("\n")[0] for name in reader.texts("#found tbody th")]))
+        run.judge("what is known of it", ["PHYS101\nMechanics", "Physics", "1 candidate", monday,
+                                          "Room 2.14, Physics building"], (
+            reader.run("const e = document.querySelector('#find'); e.value = 'mechanics';"
+                       "e.dispatchEvent(new Event('input'))")
+            or reader.run(CELLS, "#found tr")[1]))
+        for text, words in (
+                ("Exam;Dept\nMATH101;Chemistry\n9;3\n",
+                 "No owner was set: 2 faults.\nLine 2: unknown department Chemistry\n"
+                 "Line 3: unknown exam 9"),
+                ("Exam;Dept\nmath101;mathematics\n3;0\n", "2 exams have their owners.")):
+            owners.write_text(text)
+            reader.types("#owners-file", str(owners))
+            sent("owners", words)
+        reader.click("#owners-labels")
+        is_read(reader)
+        run.judge("owners of the labels", "4 exams have their owners.", reader.text("#status"))
+        for exam, dept in enumerate((1, 1, 3, 3)):
+            last = [target for method, target, status, _ in front.exchanges()
+                    if (method, status) == ("PUT", 200) and target.endswith("/owner")][-4:]
+            run.judge("which exams", f"/exams/{exam}/owner", last[exam])
+        front.told(ask("registry", "DELETE", "/drafts/3"))
+        run.judge("complaints of the browser", [], reader.complaints())
+
+
+def new_session(run, chromium, program):
+    """A session is loaded from a file on the page; a faulty file says where."""
+    with program() as front, reading(chromium, front, "registry") as reader:
+        run.judge("no session", ("No session is loaded yet.", [False, True, True, True]), (
+            reader.text("#status"), reader.run(
+                "return ['session-new', 'setup', 'late', 'detail'].map(id => "
+                "document.getElementById(id).hidden)")))
+        faulty = run.folder / "faulty.exam"
+        faulty.write_bytes(SMALL.replace(b"15:04:2005, 14", b"31:04:2005, 14"))
+        for path, words in ((faulty, "The session was not loaded. Line 8: a date such as 15:04:2005 is "
+                             "expected."), (run.folder / "small.exam",
+                                            "The session is loaded: 4 exams, 6 enrolments, 4 periods, 2 rooms.")):
+            if not path.exists():
+                path.write_bytes(SMALL)
+            reader.types("#session-file", str(path))
+            reader.click("#session button")
+            is_read(reader)
+            run.judge(f"{path.name} on the page", words, reader.text("#status") or reader.text("#error"))
+        run.judge("what comes next", [True, False, False, True], reader.run(
+            "return ['session-new', 'setup', 'late', 'detail'].map(id => "
+            "document.getElementById(id).hidden)"))
 
 
 # What labels.js says of labels and what the office says.
@@ -684,7 +890,7 @@ def pictures(chromium, front, folder):
             reader.picture(folder / f"{name}.png")
 
 
-def judge(run, front, wide, office, folder):
+def judge(run, front, wide, office, program, folder):
     """What Chromium shows; with pictures, where there is a folder for them."""
     lacking = browser.missing()
     if lacking:
@@ -694,8 +900,9 @@ def judge(run, front, wide, office, folder):
         print("front: texts of printed pages are left out without pdftotext")
     with browser.Browser(run.folder) as chromium:
         for part in (candidates_page, next_exam_first, registrys_page, departments_page,
-                     publishing, states_of_exams, late_changes):
+                     publishing, states_of_exams, late_changes, registrys_work):
             part(run, chromium, front)
+        new_session(run, chromium, program)
         signing_out(run, chromium, front, wide)
         calendar_file(run, chromium, wide)
         printed(run, chromium, wide)

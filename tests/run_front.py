@@ -390,6 +390,20 @@ def wide_session(run):
         office.killed()
 
 
+@contextlib.contextmanager
+def new_office(run):
+    """A front before an office without a session."""
+    office = Office(run.program, run.folder / "new.db")
+    try:
+        front = Front(run.folder / "new", office.port)
+        try:
+            yield front
+        finally:
+            front.stop()
+    finally:
+        office.killed()
+
+
 def main():
     words = argparse.ArgumentParser(description=__doc__.partition("\n")[0])
     words.add_argument("program")
@@ -414,7 +428,8 @@ def main():
                 with wide_session(run) as wide:
                     compressed(run, wide)
                     if not given.no_browser:
-                        front_pages.judge(run, front, wide, office, given.pictures)
+                        front_pages.judge(run, front, wide, office, lambda: new_office(run),
+                                          given.pictures)
                     described_exchanges(run, wide, 1 if given.no_browser else 5)
                 described_exchanges(run, front, 100)
             finally:

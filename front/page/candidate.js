@@ -2,8 +2,8 @@
 import { calendarText } from './calendar.js';
 import { applyLabels, differencesForCandidate, readLabels } from './labels.js';
 import {
-  ask, byId, cell, columnHead, count, day, element, endTime, numeral, readUser, row, rowHead,
-  showProgress, time,
+  ask, byId, cell, columnHead, count, day, download, element, endTime, numeral, readUser, row,
+  rowHead, showProgress, time,
 } from './office.js';
 
 const STATES = { seated: 'Seat assigned', pending: 'No seat yet', withdrawn: 'Withdrawn' };
@@ -103,12 +103,6 @@ function eventOf(candidate, { exam, date, start, room, seat }, names) {
     summary: [names.exam(exam), names.examTitle(exam)].filter(Boolean).join(' '),
     location: `${names.roomInBuilding(room)}${seat === null ? '' : `, seat ${seat}`}`,
   };
-}
-
-function download(name, type, text) {
-  const href = URL.createObjectURL(new Blob([text], { type }));
-  element('a', { href, download: name }).click();
-  setTimeout(() => URL.revokeObjectURL(href), 60_000);
 }
 
 function showCalendar(candidate, exams, names) {

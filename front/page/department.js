@@ -26,7 +26,7 @@ async function load() {
   setUndo(null);
   const open = page.drafts.find(({ number }) => number === page.draft?.number) ?? first;
   page.draft = open ?? null;
-  byId('draft').hidden = !open;
+  byId('own').hidden = !open;
   byId('change').hidden = !open || !ownExams().length;
   if (!open) return 'There is no draft yet. The examination office makes drafts.';
   showDraft();
@@ -191,7 +191,8 @@ async function make(wanted) {
   if (changes.length) {
     const moved = movesBetween(seen, found).map(({ now }) => now.exam);
     if (undo && [undo.exam, undo.other].some((exam) => moved.includes(exam))) setUndo(null);
-    throw new Refusal(409, {}, 'Your change was not made. Look at the draft, then try again.', changes);
+    throw new Refusal(409, {}, 'Your change was not made. Look at the draft, then try again.',
+      { details: changes });
   }
   const answer = await change('Your change was not made.', ...requestOf(wanted, found));
   setUndo(wanted === undo ? null : { ...inverseOf(wanted, found), words: undoText(wanted, found) });

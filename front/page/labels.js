@@ -1,5 +1,5 @@
 // Names for the numbers of a session, from labels.json, where they match what the office says.
-import { byId, dayInShort, element, setExamNames, time } from './office.js';
+import { ask, byId, dayInShort, element, setExamNames, time } from './office.js';
 
 /** Returns the labels, or null if there are none. */
 export async function readLabels() {
@@ -9,6 +9,11 @@ export async function readLabels() {
   } catch {
     return null;
   }
+}
+
+/** Returns the students that have names: their numbers, IDs and names. */
+export async function readStudents() {
+  return (await ask('/labels/students.json'))?.students ?? [];
 }
 
 const isSame = (one, other) => JSON.stringify(one) === JSON.stringify(other);
@@ -60,6 +65,11 @@ export class Names {
 
   examTitle(number) {
     return this.labels?.exams[number].title || null;
+  }
+
+  department(number) {
+    const department = this.labels?.exams[number].department ?? null;
+    return department === null ? null : this.labels.departments[department] ?? `${department}`;
   }
 
   minutes(number) {

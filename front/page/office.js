@@ -1,5 +1,6 @@
 // Shared by all pages: asking the office, refusals in words, dates in the reader's language, elements.
 
+const MOST_FAULTS_SHOWN = 20;
 const NO_CONNECTION = 'There is no connection to the office. Please try again in a minute.';
 
 const RULES = {
@@ -21,13 +22,21 @@ const FORBIDDEN = {
   origin: 'Another site sent this request, so it was refused.',
 };
 
-// The faults that a line of a batch can have, by number.
+// The faults that a line of a file can have, by number.
 const FAULTS = {
+  1: 'the file is too long',
+  2: 'the header of the next section is expected',
+  3: 'there are more or fewer lines than there should be',
   4: 'a whole number is expected',
-  7: 'the action must be add or drop',
-  8: 'a number is too large',
-  10: 'there is something after the action',
+  5: 'a date such as 15:04:2005 is expected',
+  6: 'a time such as 09:30:00 is expected',
+  7: 'this word is not allowed here (in a batch, the action must be add or drop)',
+  8: 'a number is too large, or names something that does not exist',
+  9: 'this weighting is there already',
+  10: 'there is something after the last field',
   11: 'the first line must be student,exam,action',
+  12: 'an exam has no place',
+  13: 'the office is out of memory',
 };
 
 const REFUSALS = {
@@ -79,11 +88,15 @@ function refusalText(status, answer) {
   return REFUSALS[answer.error] ?? `The office refused this (${status}).`;
 }
 
-/** A refusal, or no answer at all (status 0). Its message and its details are for the reader. */
+/**
+ * A refusal, or no answer at all (status 0). Its message and its details, which are elements, are for
+ * the reader; if a field is at fault, it has the field's id.
+ */
 export class Refusal extends Error {
-  constructor(status, answer, message = refusalText(status, answer), details = []) {
+  constructor(status, answer, message = refusalText(status, answer), { details, field } = {}) {
     super(message);
-    this.details = details;
+    this.details = details ?? [];
+    this.field = field;
     this.status = status;
     this.error = answer.error;
     this.rule = answer.rule;
@@ -190,6 +203,21 @@ export function count(number, one, many = `${one}s`) {
   return `${numeral(number)} ${number === 1 ? one : many}`;
 }
 
+/** Returns a list of the first faults, and how many more there are. */
+export function faultList(faults) {
+  const more = faults.length - MOST_FAULTS_SHOWN;
+  return [
+    element('ul', {}, faults.slice(0, MOST_FAULTS_SHOWN).map((fault) => element('li', {}, fault))),
+    ...(more > 0 ? [element('p', {}, `and ${more} more.`)] : [])];
+}
+
+/** Offers a text to the reader as a file. */
+export function download(name, type, text) {
+  const href = URL.createObjectURL(new Blob([text], { type }));
+  element('a', { href, download: name }).click();
+  setTimeout(() => URL.revokeObjectURL(href), 60_000);
+}
+
 /** Shows the link that signs out, if the front has one; returns who the reader is to the office. */
 export async function readUser() {
   const user = await ask('/-/user');
@@ -198,10 +226,32 @@ export async function readUser() {
   return user.caller;
 }
 
+/** Marks a field as wrong, with words below it, and puts the focus there. */
+function showFieldError(id, message) {
+  const field = byId(id);
+  const words = element('p', { id: `${id}-error`, class: 'field-error' }, message);
+  field.after(words);
+  field.setAttribute('aria-invalid', 'true');
+  field.dataset.describedby = field.getAttribute('aria-describedby') ?? '';
+  field.setAttribute('aria-describedby', `${field.dataset.describedby} ${words.id}`.trim());
+  field.focus();
+}
+
+function clearFieldErrors() {
+  for (const words of document.querySelectorAll('.field-error')) {
+    const field = byId(words.id.replace(/-error$/, ''));
+    field.removeAttribute('aria-invalid');
+    if (field.dataset.describedby) field.setAttribute('aria-describedby', field.dataset.describedby);
+    else field.removeAttribute('aria-describedby');
+    words.remove();
+  }
+}
+
 /** Does the work, and shows what it returns, or why it failed. */
 export async function showProgress(words, work) {
   byId('status').textContent = words;
   byId('error').replaceChildren();
+  clearFieldErrors();
   document.body.setAttribute('aria-busy', 'true');
   try {
     byId('status').textContent = await work();
@@ -213,7 +263,8 @@ export async function showProgress(words, work) {
       : 'Something went wrong on this page. Please reload it.';
     byId('error').replaceChildren(element('p', {}, message), ...(refusal.details ?? []),
       ...linkToOwnPage(refusal));
-    byId('error').scrollIntoView({ block: 'nearest' });
+    if (refusal.field) showFieldError(refusal.field, message);
+    else byId('error').scrollIntoView({ block: 'nearest' });
   }
   document.body.removeAttribute('aria-busy');
 }

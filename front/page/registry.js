@@ -1,7 +1,11 @@
 // The registry's page: the published timetable and the drafts, with their penalties, violations and
-// rooms by period; publishing; batches of late changes.
+// rooms by period; publishing. The other modules have its forms and tables.
+import { setUpBatches } from './batches.js';
+import { confirmFirst } from './confirm.js';
 import { changesBetween, penaltyIn, readAgain, readDrafts, verdict } from './drafts.js';
 import { applyLabels, differences, Names, readLabels } from './labels.js';
+import { askToDrop, setUpForms, showForms } from './setup.js';
+import { showComparison, showDownloads, showFinder } from './tables.js';
 import {
   ask, askOrNull, byId, cell, change, columnHead, count, dayInShort, element, numeral, readUser,
   Refusal, row, rowHead, ruleText, showProgress, small, time, unseen,
@@ -14,14 +18,14 @@ const office = { timetables: [], session: null, names: new Names(), open: null }
 
 // ---- Texts of the office
 
-/** A session's exams (minutes, and how many candidates), periods and rooms. */
+/** A session's exams (minutes and candidates), periods and rooms. */
 function sessionIn(text) {
   const fields = (line) => line.split(',').map((field) => field.trim());
   const lines = (section) => section.split('\r\n').slice(0, -1).map(fields);
   const [exams, periods, rooms] = text.split(/^\[.*\]\r\n/m).slice(1).map(lines);
   return {
     minutes: exams.map(([minutes]) => Number(minutes)),
-    sizes: exams.map((exam) => exam.length - 1),
+    candidates: exams.map(([, ...students]) => students.map(Number)),
     periods: periods.map(([date, start]) => ({ date: date.split(':').reverse().join('-'), start })),
     capacities: rooms.map(([capacity]) => Number(capacity)),
   };
@@ -42,7 +46,7 @@ function usesOf(places, session) {
     const use = uses.get(`${period} ${room}`)
       ?? { period, room, used: 0, capacity: session.capacities[room], exams: [] };
     use.exams.push(exam);
-    use.used += session.sizes[exam];
+    use.used += session.candidates[exam].length;
     uses.set(`${period} ${room}`, use);
   }
   return [...uses.values()];
@@ -63,18 +67,23 @@ async function load() {
   office.session = text && sessionIn(text);
   const labels = text && await readLabels();
   office.names = applyLabels(labels, labels ? differences(labels, office.session) : []);
-  const published = await readPublished();
-  office.timetables = [...(published ? [published] : []), ...await readDrafts()];
+  const published = text && await readPublished();
+  const drafts = text ? await readDrafts() : [];
+  office.timetables = [...(published ? [published] : []), ...drafts];
   showOverview();
-  const open = office.timetables.find(({ name }) => name === office.open) ?? office.timetables[0];
+  const open = addressed() ?? office.timetables[0];
   if (open) showDetail(open);
   byId('detail').hidden = !open;
-  byId('late').hidden = false;
+  byId('late').hidden = !text;
+  showForms(office);
   if (!text) return 'No session is loaded yet.';
-  const drafts = office.timetables.filter(({ number }) => number).length;
   return `${published ? 'One timetable is published' : 'Nothing is published yet'}, and there ${
-    drafts > 1 ? 'are' : 'is'} ${drafts ? count(drafts, 'draft') : 'no draft'}.`;
+    drafts.length > 1 ? 'are' : 'is'} ${drafts.length ? count(drafts.length, 'draft') : 'no draft'}.`;
 }
+
+// Each timetable has an address, such as #draft-2, so that Back works.
+const addressOf = ({ name }) => `#${name.toLowerCase().replace(' ', '-')}`;
+const addressed = () => office.timetables.find((one) => addressOf(one) === location.hash);
 
 /** Reads a draft again and shows it in its card, and below if it is open. */
 async function reread(number) {
@@ -111,21 +120,20 @@ function bars({ name, penalty }, most) {
 function card(timetable, most) {
   const { name, penalty, breaches, number } = timetable;
   const title = `card-${number ?? 'published'}`;
-  const show = button(title, 'Details', { 'data-of': name }, () => showProgress(
-    `Opening ${name} …`, async () => {
-      showDetail(number ? await reread(number) : timetable);
-      byId('detail-title').focus();
-      return `${name} is shown.`;
-    }));
+  const show = button(title, 'Details', { 'data-of': name }, () => {
+    if (location.hash === addressOf(timetable)) openAddressed();
+    else location.hash = addressOf(timetable);
+  });
   const publishing = button(title, 'Publish …', { class: 'main' }, () => showProgress(
     `Reading ${name} again …`, () => askToPublish(timetable)));
   publishing.disabled = !isPublishable(timetable);
+  const dropping = button(title, 'Drop …', {}, () => askToDrop(timetable, load));
   return element('article', { class: 'card', 'aria-labelledby': title },
     element('h3', { id: title }, name, small(count(penalty.total, 'point'))),
     bars(timetable, most),
     element('p', { class: breaches.length ? 'verdict broken' : 'verdict' },
       number ? verdict(timetable) : 'What candidates see'),
-    element('div', { class: 'buttons' }, show, number && publishing));
+    element('div', { class: 'buttons' }, show, ...(number ? [publishing, dropping] : [])));
 }
 
 function showOverview() {
@@ -144,6 +152,17 @@ function markOpen() {
 
 // ---- One timetable
 
+/** Opens the timetable of the page's address, or the first. */
+function openAddressed() {
+  const timetable = addressed() ?? office.timetables[0];
+  if (!timetable) return;
+  showProgress(`Opening ${timetable.name} …`, async () => {
+    showDetail(timetable.number ? await reread(timetable.number) : timetable);
+    byId('detail-title').focus();
+    return `${timetable.name} is shown.`;
+  });
+}
+
 function showDetail(timetable) {
   const { name, places, uses } = timetable;
   office.open = name;
@@ -151,6 +170,9 @@ function showDetail(timetable) {
   showViolations(timetable);
   showUnplaced(timetable.unplaced);
   showGrid(uses ?? usesOf(places, office.session), name);
+  showDownloads(timetable, office);
+  showComparison(timetable, office);
+  showFinder(timetable, office);
   markOpen();
   byId('detail').hidden = false;
 }
@@ -232,19 +254,11 @@ async function askToPublish(seen) {
       verdict(found).toLowerCase()}.`);
   }
   const isFirst = (await ask('/-/publication/penalty')).publication === null;
-  byId('confirm-title').textContent = `Publish draft ${number}?`;
-  byId('confirm-text').replaceChildren(...[changes,
+  confirmFirst(`Publish draft ${number}?`, [changes,
     element('p', {}, `${isFirst ? FIRST : REPLACES} This can't be undone.`),
-    !isFirst && element('p', {}, element('a', { href: '/publication', download: 'publication.sol' },
+    isFirst ? [] : element('p', {}, element('a', { href: '/publication', download: 'publication.sol' },
       'Download the published timetable'), ' first, to keep a copy.'),
-  ].flat().filter(Boolean));
-  byId('confirm-yes').textContent = `Publish draft ${number}`;
-  const dialog = byId('confirm');
-  dialog.returnValue = 'no';
-  dialog.onclose = () => {
-    if (dialog.returnValue === 'yes') showProgress(`Publishing ${name} …`, () => publish(found));
-  };
-  dialog.showModal();
+  ].flat(), `Publish draft ${number}`, () => showProgress(`Publishing ${name} …`, () => publish(found)));
   return `${name} has ${count(found.penalty.total, 'point')}.`;
 }
 
@@ -261,37 +275,9 @@ async function publish(confirmed) {
   return `Draft ${answer.draft} is published; the seats of ${candidates} have changed.`;
 }
 
-// ---- Late changes
-
-// Either a file or lines; the browser reports the error, as for any invalid field.
-function checkLines() {
-  const [isFile, isText] = [byId('batch-file').files.length > 0, byId('batch-lines').value !== ''];
-  const wrong = isFile ? 'Choose a file or paste lines, not both.'
-    : 'Choose a file, or paste lines here.';
-  byId('batch-lines').setCustomValidity(isFile === isText ? wrong : '');
-}
-
-// A file is sent byte for byte: the office takes no other bytes under its number again.
-async function sendBatch(number) {
-  const body = byId('batch-file').files[0] ?? byId('batch-lines').value;
-  const answer = await change(`Batch ${number} was refused.`, `/batches/${number}`, 'PUT', body);
-  byId('batch').reset();
-  await load();
-  byId('status').focus();
-  const counts = ['added', 'dropped', 'unchanged'].map((what) => `${numeral(answer[what])} ${what}`);
-  return `Batch ${answer.batch} is accepted: ${counts.join(', ')}.`;
-}
-
-for (const event of ['input', 'reset']) {
-  // A reset event comes before the fields are empty.
-  byId('batch').addEventListener(event, () => setTimeout(checkLines));
-}
-byId('batch').addEventListener('submit', (event) => {
-  event.preventDefault();
-  const number = byId('batch-number').value;
-  showProgress(`Sending batch ${number} …`, () => sendBatch(number));
-});
-checkLines();
+setUpBatches(office, load);
+setUpForms(office, load);
+window.addEventListener('hashchange', openAddressed);
 
 const refresh = () => showProgress('Loading the timetables …', load);
 byId('refresh').addEventListener('click', refresh);

@@ -1,0 +1,131 @@
+// A timetable as tables: files to download, what differs from another one, and what is looked for.
+import { csvText } from './csv.js';
+import {
+  byId, cell, columnHead, count, dayInShort, download, element, endTime, row, rowHead, time, unseen,
+} from './office.js';
+
+const MOST_SHOWN = 200;
+
+/** Where each exam of a timetable is, by number; null in both if it isn't placed. */
+export function placesOf({ places, uses }, session) {
+  if (places) return places;
+  const found = session.candidates.map((_, exam) => ({ exam, period: null, room: null }));
+  for (const { period, room, exams } of uses) {
+    for (const exam of exams) Object.assign(found[exam], { period, room });
+  }
+  return found;
+}
+
+// ---- Files
+
+const solutionText = (places) => places.map(({ period, room }) => `${period}, ${room}\r\n`).join('');
+
+const ORDERS = {
+  exam: (a, b) => a.exam - b.exam,
+  room: (a, b) => (a.room ?? Infinity) - (b.room ?? Infinity) || a.period - b.period || a.exam - b.exam,
+  day: (a, b) => (a.period ?? Infinity) - (b.period ?? Infinity) || a.room - b.room || a.exam - b.exam,
+};
+
+const HEAD = ['exam', 'title', 'department', 'date', 'start', 'end', 'room', 'building'];
+
+/** The rows of a timetable, in the order of exams, rooms or days. */
+export function timetableRows(places, order, { names, session }) {
+  return [HEAD, ...[...places].sort(ORDERS[order]).map(({ exam, period, room }) => {
+    const what = [names.exam(exam), names.examTitle(exam), names.department(exam)];
+    if (period === null) return [...what, '', '', '', '', ''];
+    const { date, start } = session.periods[period];
+    return [...what, date, start.slice(0, 5),
+      endTime(start, session.minutes[exam]).dateTime.slice(0, 5), names.room(room), names.building(room)];
+  })];
+}
+
+/** Sets up the buttons for the timetable that is open. */
+export function showDownloads(timetable, office) {
+  const places = placesOf(timetable, office.session);
+  const file = timetable.name.toLowerCase().replace(' ', '-');
+  byId('download-solution').disabled = timetable.unplaced.length > 0;
+  byId('download-solution').onclick = () => download(`${file}.sol`, 'text/plain', solutionText(places));
+  for (const order of Object.keys(ORDERS)) {
+    byId(`download-${order}`).onclick = () => download(`${file}-by-${order}.csv`, 'text/csv',
+      csvText(timetableRows(places, order, office)));
+  }
+}
+
+// ---- Differences
+
+function table(caption, heads, rows) {
+  return element('table', { class: 'places' }, unseen('caption', caption),
+    element('thead', {}, row(heads.map((head) => columnHead(head)))), element('tbody', {}, rows));
+}
+
+const limited = (made, all) => (all > MOST_SHOWN
+  ? [made, element('p', { class: 'quiet' }, `and ${all - MOST_SHOWN} more.`)] : [made]);
+
+const placeCell = ({ period, room }, names) => cell(names.place({ period, room }));
+
+/** Shows which exams have another place in the chosen timetable. */
+function compare(timetable, office) {
+  const other = office.timetables.find(({ name }) => name === byId('compare').value);
+  if (!other) {
+    byId('differences').replaceChildren();
+    return;
+  }
+  const { names, session } = office;
+  const there = placesOf(other, session);
+  const moved = placesOf(timetable, session).filter(({ exam, period, room }) => (
+    there[exam].period !== period || there[exam].room !== room));
+  const rows = moved.slice(0, MOST_SHOWN).map((place) => row(rowHead(names.exam(place.exam)),
+    placeCell(place, names), placeCell(there[place.exam], names)));
+  byId('differences').replaceChildren(
+    element('p', {}, moved.length ? `${count(moved.length, 'exam has', 'exams have')} another place.`
+      : 'All exams have the same places.'),
+    ...(moved.length ? limited(table(`Exams of ${timetable.name} that have another place in ${other.name}`,
+      ['Exam', timetable.name, other.name], rows), moved.length) : []));
+}
+
+export function showComparison(timetable, office) {
+  const others = office.timetables.filter(({ name }) => name !== timetable.name);
+  const chosen = byId('compare').value;
+  byId('compare').replaceChildren(element('option', { value: '' }, 'none'),
+    ...others.map(({ name }) => element('option', { value: name }, name)));
+  byId('compare').value = others.some(({ name }) => name === chosen) ? chosen : '';
+  byId('compare').onchange = () => compare(timetable, office);
+  byId('comparison').hidden = !others.length;
+  compare(timetable, office);
+}
+
+// ---- What is looked for
+
+/** The exams whose number, code, title, department, room or building has these words. */
+export function examsWith(words, places, names) {
+  const wanted = words.toLowerCase().split(/\s+/).filter(Boolean);
+  return places.filter(({ exam, room }) => {
+    const text = [names.exam(exam), names.examTitle(exam), names.department(exam),
+      room !== null && names.roomInBuilding(room)].filter(Boolean).join(' ').toLowerCase();
+    return wanted.every((word) => text.includes(word));
+  });
+}
+
+function find(timetable, { names, session }) {
+  const words = byId('find').value.trim();
+  if (!words) {
+    byId('found').replaceChildren();
+    return;
+  }
+  const found = examsWith(words, placesOf(timetable, session), names);
+  const rows = found.slice(0, MOST_SHOWN).map(({ exam, period, room }) => row(
+    rowHead(names.exam(exam), names.examTitle(exam)
+      && element('span', { class: 'below' }, names.examTitle(exam))),
+    cell(names.department(exam) ?? ''), cell(count(session.candidates[exam].length, 'candidate')),
+    period === null ? cell('not placed') : cell(dayInShort(session.periods[period].date), ', ',
+      time(session.periods[period].start)),
+    cell(room === null ? '' : names.roomInBuilding(room))));
+  byId('found').replaceChildren(element('p', { role: 'status' }, `${count(found.length, 'exam')}.`),
+    ...(found.length ? limited(table('Exams that were found',
+      ['Exam', 'Department', 'Candidates', 'Period', 'Room'], rows), found.length) : []));
+}
+
+export function showFinder(timetable, office) {
+  byId('find').oninput = () => find(timetable, office);
+  find(timetable, office);
+}
