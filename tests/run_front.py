@@ -47,7 +47,8 @@ class Front:
 
     def __init__(self, folder, office_port, edits=QUICK):
         self.folder, self.port = pathlib.Path(folder) / "front", browser.free_port()
-        shutil.copytree(TOP / "front", self.folder, dirs_exist_ok=True)
+        if not self.folder.exists():
+            shutil.copytree(TOP / "front", self.folder)
         pathlib.Path(folder).chmod(0o755)
         path = self.folder / "nginx.conf"
         text = path.read_text()

@@ -1,5 +1,5 @@
 #!/usr/bin/env python3
-"""run_using.py PROGRAM [PAGE..]: what README.md, USING.md and OPERATING.md tell the reader to type
+"""run_using.py PROGRAM [PAGE..]: what README.md, USING.md, WEEK.md and OPERATING.md tell the reader to type
 answers what they say.
 
 A page's blocks of commands are typed into one shell, in a fresh folder that has the examples, tools and
@@ -25,7 +25,7 @@ from browser import free_port
 from cases import Cases
 
 TOP = pathlib.Path(__file__).resolve().parent.parent
-PAGES = [TOP / name for name in ("README.md", "docs/USING.md", "docs/OPERATING.md")]
+PAGES = [TOP / name for name in ("README.md", "docs/USING.md", "docs/WEEK.md", "docs/OPERATING.md")]
 PORT, SECONDS, END = "8080", 60, b"\1"
 BLOCK = re.compile(r"^```sh\n(.*?)^```\n(?:\n```\n(.*?)^```\n)?", re.M | re.S)
 # What curl says of each exchange, on standard error.

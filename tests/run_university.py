@@ -1,0 +1,153 @@
+#!/usr/bin/env python3
+"""run_university.py PROGRAM: the pages at the size of a university, and the time that they take.
+
+The CSV files of examples/university become a session; a browser opens the registry's page, publishes
+the timetable, prints it, and sends late changes by codes; a hundred candidates open their pages at once
+from one address. A failing case is printed with what was expected and what came; then come the times,
+and the last line counts the cases. It isn't part of the gate, which `./test university` says.
+"""
+import concurrent.futures
+import contextlib
+import json
+import pathlib
+import shutil
+import subprocess
+import sys
+import tempfile
+import time
+
+import browser
+import front_pages
+from front_cases import ask, password
+from run_front import NGINX, TOP, Front
+from run_serve import Office, Run
+from serve_cases import message
+
+UNIVERSITY = TOP / "examples" / "university"
+# They sign in with their student ID.
+CANDIDATES = [f"s2026{number:04}" for number in range(1, 101)]
+PATHS = ("/", "/me", "/me/penalty", "/-/user", "/labels/labels.json")
+
+
+class Times:
+    """What took how long."""
+
+    def __init__(self):
+        self.lines = []
+
+    @contextlib.contextmanager
+    def of(self, what):
+        began = time.monotonic()
+        yield
+        self.lines.append(f"{what:45} {time.monotonic() - began:6.2f} s")
+
+
+def set_up(run, times):
+    """The office with the session, and the front with the labels and a hundred users."""
+    made, database = run.folder / "made", run.folder / "university.db"
+    # nginx's workers read there as another user.
+    run.folder.chmod(0o755)
+    with times.of("session and labels from CSV"):
+        subprocess.run([TOP / "tools" / "session_from_csv", UNIVERSITY, made], check=True)
+    with times.of("load"):
+        subprocess.run([run.program, "load", "--db", database, made / "session.exam"], check=True,
+                       stdout=subprocess.DEVNULL)
+    office = Office(run.program, database)
+    folder = run.folder / "university"
+    shutil.copytree(TOP / "front", folder / "front")
+    for name in ("labels.json", "students.json"):
+        shutil.copy(made / name, folder / "front" / "labels" / name)
+    with (folder / "front" / "users").open("a") as users:
+        users.writelines(f"{user}:{{PLAIN}}try-{user}\n" for user in CANDIDATES)
+    with (folder / "front" / "callers").open("a") as callers:
+        callers.write('"~^s(?<number>[0-9]{1,9})$" cand:$number;\n')
+    return office, folder, json.loads((made / "labels.json").read_text())
+
+
+def registrys_week(run, times, chromium, front, labels):
+    """From a draft to a published timetable, on paper, to late changes."""
+    with times.of("a draft of the timetable"):
+        run.judge("a draft", 201, front.told(ask("registry", "PUT", "/drafts/1", (
+            UNIVERSITY / "timetable.sol").read_bytes()))[0])
+    with contextlib.ExitStack() as stack:
+        with times.of("the registry's page is ready"):
+            reader = stack.enter_context(front_pages.reading(chromium, front, "registry"))
+        run.judge("the session's title", "University of Example · Summer examinations 2027",
+                  reader.text("#session-title"))
+        with times.of("publish, and show it"):
+            reader.click("#cards article button.main")
+            reader.waits("return document.querySelector('#confirm').open")
+            reader.click("#confirm-yes")
+            reader.waits("return document.querySelector('#status').innerText.includes('is published')")
+        run.judge("what was published",
+                  "Draft 1 is published; the seats of 25,000 candidates have changed.",
+                  reader.text("#status"))
+        path = run.folder / "university.pdf"
+        with times.of("print it as PDF"):
+            reader.pdf(path, 8.27, 11.69)
+        if shutil.which("pdftotext"):
+            printed = subprocess.run(["pdftotext", "-layout", path, "-"], check=True,
+                                     stdout=subprocess.PIPE).stdout.decode()
+            words = [f"{room['name']}, {room['building']}" for room in labels["rooms"]]
+            run.judge("each room in each period on paper", {len(labels["periods"])},
+                      {sum(line.strip().startswith(word) for line in printed.splitlines())
+                       for word in words})
+        late = "\n".join(["Student ID;Exam code;Action",
+                          *(f"{user};MATH101;enrol" for user in CANDIDATES)])
+        reader.run("document.querySelector('#batch-lines').value = arguments[0]", late)
+        with times.of("check a hundred late changes"):
+            reader.click("#batch button")
+            reader.waits("return !document.querySelector('#batch-preview').hidden")
+            front_pages.is_read(reader)
+        effect = reader.text("#batch-effect")
+        with times.of("send them"):
+            reader.click("#batch-send")
+            reader.waits("return document.querySelector('#status').innerText.includes('accepted')")
+        run.judge("late changes", effect.split(" to add")[0],
+                  reader.text("#status").split(": ")[1].split(" added")[0])
+
+
+def many_candidates(run, times, front):
+    """A hundred candidates behind one address open their pages at once."""
+    def opened(user):
+        return [front.told(message("GET", path, caller=None, fields=[
+            password(user), "Accept: text/html,*/*"]))[0] for path in PATHS]
+
+    with times.of("a hundred candidates open their pages"):
+        with concurrent.futures.ThreadPoolExecutor(len(CANDIDATES)) as pool:
+            replies = [status for page in pool.map(opened, CANDIDATES) for status in page]
+    run.judge("a hundred candidates at once", [200] * len(CANDIDATES) * len(PATHS), replies)
+
+
+def main():
+    if len(sys.argv) != 2:
+        print(__doc__.partition(":")[0], file=sys.stderr)
+        return 2
+    lacking = [*([] if NGINX else ["nginx-light"]), *browser.missing()]
+    if lacking:
+        print(f"university: left out without {' and '.join(lacking)}")
+        return 0
+    with tempfile.TemporaryDirectory() as folder:
+        run, times = Run(pathlib.Path(sys.argv[1]).resolve(), folder, "university"), Times()
+        office, front_folder, labels = set_up(run, times)
+        try:
+            front = Front(front_folder, office.port, edits=())
+            try:
+                with browser.Browser(run.folder) as chromium:
+                    registrys_week(run, times, chromium, front, labels)
+                    with times.of("a candidate's page is ready"):
+                        with front_pages.reading(chromium, front, CANDIDATES[0]) as reader:
+                            run.judge("a candidate's page", True,
+                                      "Seat assigned" in reader.text("#timetable, #past"))
+                many_candidates(run, times, front)
+            finally:
+                front.stop()
+        finally:
+            office.killed()
+    print(*(f"university: {line}" for line in times.lines), sep="\n")
+    print(f"university: {run.count} cases, {run.failed} failed")
+    return 1 if run.failed else 0
+
+
+if __name__ == "__main__":
+    sys.exit(main())
