@@ -1,5 +1,5 @@
 -- The shares of a publication, read back from rows.
-use Rattle.std.proofs.Common.{◌≡◌, ℕ, ◌+◌, ◌<◌, ◌≤◌, ◌^◌, List, [], ◌∷◌, ◌++◌, length, map, take, drop, All, Some, sym, ◌∙◌, ap₂, subst, arith, take-append-drop}
+use Rattle.std.proofs.Common.{◌≡◌, ℕ, ◌+◌, ◌<◌, ◌≤◌, ◌^◌, List, [], ◌∷◌, ◌++◌, length, map, take, drop, All, Some, sym, ◌∙◌, ap, ap₂, subst, arith, take-append-drop, length-take, length-drop}
 use Rattle.std.specs.List.{AllByRecursion}
 use Rattle.std.specs.Prelude.{IsPermutation}
 use Rattle.std.proofs.lemmas.List.Elements.{All-from_recursion, recursion_from_All}
@@ -22,8 +22,8 @@ use Rattle.office_tables.specs.declared.share_student.StudentShareRow.{StudentSh
 use Rattle.office_model.specs.Office.{IsPublication, Publication}
 use Rattle.office_records.specs.FoundPublications.{HasPlacesAndSeats}
 use Rattle.office_records.specs.SharesStored.{AreShared, AreSharesOf, IsShare, student_share_row}
-use Rattle.office_records.specs.PartShares.{HasFewParts, part_rows, plain_rows, room_rows}
-use Rattle.office_records.proofs.PartRowLemmas.{exam_part, long, period_part, room_part, same_plain, same_rooms}
+use Rattle.office_records.specs.PartShares.{HasFewParts, HasShareOfEach, part_rows, plain_rows, room_rows}
+use Rattle.office_records.proofs.PartRowLemmas.{exam_part, length-plain, length-rooms, long, period_part, room_part, same_plain, same_rooms}
 use Rattle.office_records.proofs.ShareRowLemmas.{same_shares}
 
 -- ---- how many
@@ -133,6 +133,39 @@ shares_are found sorted parts rows exams periods shares moved order read = recor
   of_parts = subst (IsPermutation parts)
       (sym (joined exams periods rows _ _ _ read.of_exams read.of_periods read.of_rooms)) order;
 }
+
+-- each exam, period and room has one
+pub each_has : (I : Session) (sorted : List StudentShareRow) (rows : List PartShareRow)
+    (shares : Sharing) → length rows ≡ length I.exams + length I.periods + length I.rooms
+    → AreRead sorted rows (length I.exams) (length I.periods) shares → HasShareOfEach I shares
+each_has I sorted rows shares count read =
+    let others = drop (length I.exams) rows in
+    let after = length-drop (length I.exams) rows in
+    record {
+      exams = omega (
+        arith,
+        length-plain 0 0 shares.exams,
+        ap length read.of_exams,
+        length-take (length I.exams) rows,
+        count,
+      );
+      periods = omega (
+        arith,
+        length-plain 1 0 shares.periods,
+        ap length read.of_periods,
+        length-take (length I.periods) others,
+        after,
+        count,
+      );
+      rooms = omega (
+        arith,
+        length-rooms 0 shares.rooms,
+        ap length read.of_rooms,
+        length-drop (length I.periods) others,
+        after,
+        count,
+      );
+    }
 
 module _ (I : Session) (p : Publication) (sorted : List StudentShareRow)
     (rows : List PartShareRow)

@@ -1,4 +1,6 @@
--- What a refusal of rows is called by the office.
+-- Why rows are refused, and what that is called by the office.
+use Rattle.office_files.specs.declared.fault.FaultKind.{FaultKind}
+use Rattle.office_files.specs.declared.fault.FaultKind.TheVariants as kind
 use Rattle.office_model.specs.declared.fault.StoreFault.{StoreFault}
 use Rattle.office_model.specs.declared.fault.StoreFault.TheVariants.{Store, BadSchema}
 use Rattle.office_records.specs.declared.fault.RecordFault.{RecordFault}
@@ -8,3 +10,8 @@ use Rattle.office_records.specs.declared.fault.RecordFault.TheVariants.{NoMemory
 abbrev pub store_fault : RecordFault → StoreFault
 store_fault NoMemory = Store
 store_fault BadRows = BadSchema
+
+-- a stored text that has a fault is no session's; out of memory is no fault of the text
+abbrev pub text_fault : FaultKind → RecordFault
+text_fault kind.NoMemory = NoMemory
+text_fault fault = BadRows

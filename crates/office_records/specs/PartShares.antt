@@ -1,5 +1,5 @@
 -- The rows of the shares of exams, periods and rooms.
-use Rattle.std.specs.Prelude.{ℕ, ◌+◌, ◌≤◌, List, [], ◌∷◌, ◌++◌, length, Option, Some, None}
+use Rattle.std.specs.Prelude.{◌≡◌, ℕ, ◌+◌, ◌≤◌, List, [], ◌∷◌, ◌++◌, length, Option, Some, None}
 use Rattle.exam_terms.specs.declared.limits.TheConstants.{MAX_EXAMS, MAX_PERIODS, MAX_ROOMS}
 use Rattle.exam_model.specs.Instance.{Session}
 use Rattle.exam_publish.specs.Shares.{Sharing, shares_of}
@@ -43,3 +43,9 @@ pub record HasFewParts (shares : Sharing) : Type 0 where
   pub exams : length shares.exams ≤ MAX_EXAMS
   pub periods : length shares.periods ≤ MAX_PERIODS
   pub rooms : length shares.rooms ≤ MAX_ROOMS
+
+-- each exam, each period and each room of the session has one share
+pub record HasShareOfEach (I : Session) (shares : Sharing) : Type 0 where
+  pub exams : length shares.exams ≡ length I.exams
+  pub periods : length shares.periods ≡ length I.periods
+  pub rooms : length shares.rooms ≡ length I.rooms

@@ -24,11 +24,10 @@ impl From<AllocError> for RecordFault {
 }
 
 impl From<FileFault> for RecordFault {
-    ghost use Rattle.std.specs.Prelude.{◌≡◌, ◌≢◌};
-    ghost use Rattle.office_files.specs.declared.fault.FaultKind.TheVariants.{NoMemory};
-    ghost use Rattle.office_records.specs.declared.fault.RecordFault.TheVariants.{BadRows};
+    ghost use Rattle.std.specs.Prelude.{◌≡◌};
+    ghost use Rattle.office_records.specs.Faults.{text_fault};
 
-    ghost from_gives = { λ fault e. e ≡ BadRows → fault.what ≢ NoMemory };
+    ghost from_gives = { λ fault e. e ≡ text_fault fault.what };
 
     fn from(fault: FileFault) -> RecordFault {
         match fault.what {

@@ -4,6 +4,7 @@ ghost use Rattle.exam_publish.specs.Rows.{ArePublishedRows};
 ghost use Rattle.exam_publish.specs.Shares.{shares_of};
 ghost use Rattle.office_model.specs.Office.{IsPublication, Publication};
 ghost use Rattle.office_records.specs.FoundPublications.{publication};
+ghost use Rattle.office_records.specs.PartShares.{HasShareOfEach};
 ghost use Rattle.office_records.specs.SharesStored.{AreShared, AreSharesOf};
 
 use crate::fault::RecordFault;
@@ -64,7 +65,7 @@ pub fn shares_of(
     parts: &[PartShareRow],
 ) -> Result<Shares, RecordFault>
     ensures are { IfOk result (AreSharesOf students.now parts.now) }
-
+    ensures fits { IfOk result (HasShareOfEach instance.now) }
     // No publication has these rows for other shares.
     ensures only { IfOk result (λ shares. (p : Publication)
         → AreShared instance.now (Some p) students.now parts.now

@@ -10,6 +10,7 @@ use Rattle.office_files.specs.declared.fault.FileFault.{FileFault}
 use Rattle.office_files.specs.InstanceText.{instance_in}
 use Rattle.office_tables.specs.Meta.{meta_from}
 use Rattle.office_tables.specs.Tables.{Meta}
+use Rattle.office_records.specs.Faults.{text_fault}
 use Rattle.office_records.specs.Found.{IsSessionRow}
 use Rattle.office_records.specs.TableRows.{session_text}
 use Rattle.office_records.specs.declared.fault.RecordFault.{RecordFault}
@@ -18,11 +19,15 @@ use Rattle.office_records.proofs.SessionLemmas.{no_row, row_of}
 use Rattle.office_records.proofs.session.session_of.Goals as goal
 
 refused : {X : Type 0} (m : Meta) (fault : FileFault) (r : Result X RecordFault)
-    → IsErrAnd r (λ e. e ≡ BadRows → fault.what ≢ NoMemory)
+    → IsErrAnd r (λ e. e ≡ text_fault fault.what)
     → (fault.what ≢ NoMemory → instance_in m.instance ≡ Err fault)
     → IfErr r (λ e. e ≡ BadRows → (I : Session) → IsSessionRow m I → ⊥)
 refused m fault (Ok x) named reads = tt
-refused m fault (Err e) named reads = λ bad I is. no_row m I fault (reads (named bad)) is
+refused m fault (Err e) named reads = λ bad I is.
+    no_row m I fault (reads (λ memory. no_rows (sym bad ∙ named ∙ ap text_fault memory))) is
+  where
+    no_rows : BadRows ≡ text_fault NoMemory → ⊥
+    no_rows same = absurd cc
 
 itself : (xs : List ℕ) → pointwise nat_eq xs xs ≡ true
 itself [] = refl

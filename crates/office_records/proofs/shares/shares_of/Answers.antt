@@ -1,8 +1,9 @@
-use Rattle.std.proofs.Common.{◌≡◌, length, take, drop, arith, sym, ◌∙◌, ap₂}
+use Rattle.std.proofs.Common.{◌≡◌, length, take, drop, arith, subst, sym, ◌∙◌, ap₂}
 use Rattle.exam_publish.specs.Shares.{shares_of, student_shares}
+use Rattle.office_records.specs.PartShares.{HasShareOfEach}
 use Rattle.office_records.proofs.PublicationLemmas.{has_places_and_seats}
 use Rattle.office_records.proofs.ResultLemmas.{passed_on}
-use Rattle.office_records.proofs.SharesLemmas.{AreOfNone, are_personal, as_long, exam_rows, in_order, only_shares, period_rows, rooms_rows}
+use Rattle.office_records.proofs.SharesLemmas.{AreOfNone, are_personal, as_long, each_has, exam_rows, in_order, only_shares, period_rows, rooms_rows}
 use Rattle.office_records.proofs.shares.shares_of.Goals as goal
 
 pub returns-then-len-exams-clause-none : goal.returns-then-len-exams-clause-none
@@ -120,3 +121,33 @@ returns-clause-only c p shared =
       of_periods = c.in_ok-period_shares.ensures.are ∙ periods;
       of_rooms = c.in_ok-room_shares.ensures.are ∙ rooms;
     })
+
+pub returns-clause-fits : goal.returns-clause-fits
+returns-clause-fits c =
+    let I = c.args.instance.now in
+    let sorted = c.in_ok-students.students.items in
+    let rows = c.in_ok-parts.parts.items in
+    let exams : c.split_at.result.0.now ≡ take (length I.exams) rows
+    = c.split_at.ensures.front ∙ ap₂ take c.exams-exams.ensures.count c.deref-2.ensures.value in
+    let others : c.split_at.result.1.now ≡ drop (length I.exams) rows
+    = c.split_at.ensures.back ∙ ap₂ drop c.exams-exams.ensures.count c.deref-2.ensures.value in
+    let periods : c.split_at-2.result.0.now ≡ take (length I.periods) (drop (length I.exams) rows)
+    = c.split_at-2.ensures.front ∙ ap₂ take c.periods-periods.ensures.count others in
+    let rooms : c.split_at-2.result.1.now ≡ drop (length I.periods) (drop (length I.exams) rows)
+    = c.split_at-2.ensures.back ∙ ap₂ drop c.periods-periods.ensures.count others in
+    subst (HasShareOfEach I) (sym c.of.ensures)
+    (each_has I sorted rows _
+    (omega (
+      arith,
+      c.len.ensures,
+      c.exams-exams.ensures.count,
+      c.periods-periods.ensures.count,
+      c.rooms-rooms.ensures.count,
+      c.if-len-exams.false,
+    ))
+    (record {
+      personal = c.in_ok-personal.ensures.are ∙ c.deref.ensures.value;
+      of_exams = c.in_ok-exam_shares.ensures.are ∙ exams;
+      of_periods = c.in_ok-period_shares.ensures.are ∙ periods;
+      of_rooms = c.in_ok-room_shares.ensures.are ∙ rooms;
+    }))
