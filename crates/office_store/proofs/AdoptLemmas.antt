@@ -22,6 +22,7 @@ use Rattle.office_records.specs.Stands.{IsKept, IsSound, StandsForOffice}
 use Rattle.office_records.proofs.BatchRowLemmas.{stored_short}
 use Rattle.office_records.proofs.SameTables.{same_sound, same_stands}
 use Rattle.office_tables.specs.Alterations.{Undone}
+use Rattle.office_store.specs.Running.{IsAwake}
 
 -- the office that was there is there
 pub kept_still : {S : Type 0} (g : Ghosts S) (old new : Held S) (o : OfficeState)
@@ -157,3 +158,29 @@ undone_reading a b settled keeps = record {
   ];
   committed = keeps.committed;
 }
+
+-- ---- a database that was at rest
+
+module _ {S : Type 0} (g : Ghosts S) (old new : Held S)
+    (same : (new ≡ old) ⊎ IsUnchanged (state g old) (state g new)) where
+  -- what was open is
+  pub open_still : IsTrue (state g old).is_open → IsTrue (state g new).is_open
+  open_still opened = elim same [
+    | inl is ↦ subst (λ h. IsTrue (state g h).is_open) (sym is) opened
+    | inr still ↦ still.0.is_open
+  ]
+
+  -- and all that was written is committed
+  pub awake_still : (IsTrue (state g old).is_open → (state g old).now ≡ (state g old).committed)
+      → IsTrue (state g new).is_open → IsAwake (state g new)
+  awake_still settled opened = elim same [
+    | inl is ↦ (
+      opened,
+      subst (λ h. (state g h).now ≡ (state g h).committed) (sym is)
+          (settled (subst (λ h. IsTrue (state g h).is_open) is opened)),
+    )
+    | inr still ↦ (
+      opened,
+      still.0.now_is ∙ settled still.0.was_open ∙ sym still.0.committed_is,
+    )
+  ]

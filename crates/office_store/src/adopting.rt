@@ -1,5 +1,5 @@
 // A database that holds an office, taken over.
-ghost use Rattle.std.specs.Prelude.{◌≡◌, ◌⊎◌, false, IfErr, IfOk, OnOk};
+ghost use Rattle.std.specs.Prelude.{◌≡◌, ◌⊎◌, false, IfErr, IfOk, IsTrue, OnOk};
 ghost use Rattle.sqlite.specs.Held.{state};
 ghost use Rattle.sqlite.specs.State.{HasCleanDisk, IsUnchanged};
 ghost use Rattle.office_tables.specs.Readers.{Keeps};
@@ -7,6 +7,7 @@ ghost use Rattle.office_model.specs.Office.{OfficeState};
 ghost use Rattle.office_records.specs.Memory.{AreTogether, memory_of};
 ghost use Rattle.office_records.specs.Stands.{IsKept};
 ghost use Rattle.office_store.specs.Faults.{IsOfDatabase};
+ghost use Rattle.office_store.specs.Running.{IsAwake};
 ghost use Rattle.office_tables.specs.Alterations.{Undone};
 
 use crate::kept_bytes::check_bytes;
@@ -29,6 +30,9 @@ impl<S: Alter> Office<S> {
         // The tables stand for an office.
         ensures adopted { IfOk result (λ office. HasCleanDisk (state S.Store office)
             → (o : OfficeState) × IsKept (state S.Store office).now o) }
+        // The database is open.
+        ensures awake { IfOk result (λ office. HasCleanDisk (state S.Store office)
+            → IsAwake (state S.Store office)) }
         ensures same { IfOk result (λ office. HasCleanDisk (state S.Store office)
             → (office ≡ conn) ⊎ IsUnchanged (state S.Store conn) (state S.Store office)) }
         // They stand for none.
@@ -59,6 +63,8 @@ fn kept_in<S: Alter>(
     ensures kept { HasCleanDisk (state S.Store conn.new) → IfOk result (λ kept. (o : OfficeState)
         × IsKept (state S.Store conn.old).now o × (memory_of o ≡ kept)) }
     ensures together { IfOk result AreTogether }
+    ensures open { HasCleanDisk (state S.Store conn.new)
+        → OnOk result (IsTrue (state S.Store conn.new).is_open) }
     ensures same { HasCleanDisk (state S.Store conn.new) → OnOk result ((conn.new ≡ conn.old)
         ⊎ IsUnchanged (state S.Store conn.old) (state S.Store conn.new)) }
     ensures none { HasCleanDisk (state S.Store conn.new)

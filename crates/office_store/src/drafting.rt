@@ -32,6 +32,9 @@ impl<S: Alter> Office<S> {
     /// `NoDraft`: not 1 to 8; then `DraftTaken`; then `Refused`: the file is faulty.
     pub fn new_draft(&mut self, alloc: Global, number: u32, text: &[u8]) -> Result<u64, StoreFault>
         ensures runs { Runs S.Store (draft_made number text.now) self.old self.new result }
+        // On `Ok` the database is open, and the change is committed.
+        ensures awake { HasCleanDisk (state S.Store self.new)
+            → OnOk result (IsAwake (state S.Store self.new)) }
         // Whatever the refusal, the tables are as they were.
         ensures stays { StaysOnErr S.Store self.old self.new result }
         ensures clean { HasCleanDisk (state S.Store self.new)
@@ -63,6 +66,9 @@ impl<S: Alter> Office<S> {
     /// Takes a draft out. `NotLoaded`, then `NoDraft`: there is none of this number.
     pub fn drop_draft(&mut self, alloc: Global, number: u32) -> Result<(), StoreFault>
         ensures runs { Runs S.Store (draft_dropped number) self.old self.new result }
+        // On `Ok` the database is open, and the change is committed.
+        ensures awake { HasCleanDisk (state S.Store self.new)
+            → OnOk result (IsAwake (state S.Store self.new)) }
         // Whatever the refusal, the tables are as they were.
         ensures stays { StaysOnErr S.Store self.old self.new result }
         ensures clean { HasCleanDisk (state S.Store self.new)

@@ -44,6 +44,9 @@ impl<S: Alter> Office<S> {
     /// number, then `Refused` with the edit's own fault.
     pub fn edit(&mut self, alloc: Global, number: u32, edit: Edit) -> Result<u64, StoreFault>
         ensures runs { Runs S.Store (draft_edited number edit) self.old self.new result }
+        // On `Ok` the database is open, and the change is committed.
+        ensures awake { HasCleanDisk (state S.Store self.new)
+            → OnOk result (IsAwake (state S.Store self.new)) }
         // Whatever the refusal, the tables are as they were.
         ensures stays { StaysOnErr S.Store self.old self.new result }
         ensures clean { HasCleanDisk (state S.Store self.new)

@@ -39,6 +39,9 @@ impl<S: Alter> Office<S> {
     ) -> Result<Counts, StoreFault>
         requires number { number ≤ MAX_BATCH }
         ensures runs { Runs S.Store (batch_enrolled number text.now) self.old self.new result }
+        // On `Ok` the database is open, and what it did is committed.
+        ensures awake { HasCleanDisk (state S.Store self.new)
+            → OnOk result (IsAwake (state S.Store self.new)) }
         // Whatever the refusal, the tables are as they were.
         ensures stays { StaysOnErr S.Store self.old self.new result }
         ensures clean { HasCleanDisk (state S.Store self.new)
@@ -70,6 +73,8 @@ impl<S: Alter> Office<S> {
             → IsKept (state S.Store self.old).now office → kept_in office number ≡ None }
         requires awake { HasCleanDisk (state S.Store self.old) → IsAwake (state S.Store self.old) }
         ensures runs { Runs S.Store (batch_enrolled number text.now) self.old self.new result }
+        ensures awake { HasCleanDisk (state S.Store self.new)
+            → OnOk result (IsAwake (state S.Store self.new)) }
         ensures stays { StaysOnErr S.Store self.old self.new result }
         ensures clean { HasCleanDisk (state S.Store self.new)
             → HasCleanDisk (state S.Store self.old) }

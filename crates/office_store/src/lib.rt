@@ -9,6 +9,7 @@ mod enrolling;
 mod fault;
 mod folding;
 mod kept_bytes;
+mod laws;
 mod loading;
 mod new_batch;
 mod new_publication;
@@ -25,5 +26,6 @@ mod transactions;
 mod viewing;
 
 pub use exam_draft::Edit;
+pub use laws::stored_shares_add_up;
 pub use office::Office;
 pub use office_model::{CandidateView, Counts, Loaded, Published, Refusal, StoreFault};

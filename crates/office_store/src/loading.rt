@@ -6,7 +6,7 @@ ghost use Rattle.exam_model.specs.Enrolments.{AreEnrolments};
 ghost use Rattle.exam_model.specs.Instance.{IsInstance};
 ghost use Rattle.exam_model.specs.Pairs.{pairs_at, pairs_of};
 ghost use Rattle.office_model.specs.Loading.{NamesFirstFault, SpellsSession, loaded_of, loaded};
-ghost use Rattle.office_store.specs.Running.{Runs, StaysOnErr};
+ghost use Rattle.office_store.specs.Running.{IsAwake, Runs, StaysOnErr};
 ghost use Rattle.office_records.specs.TableRows.{enrol_row};
 
 use crate::office::Office;
@@ -24,6 +24,9 @@ impl<S: Alter> Office<S> {
     /// faulty; then `Loaded`: there is a session already.
     pub fn load(&mut self, alloc: Global, text: &[u8]) -> Result<Loaded, StoreFault>
         ensures runs { Runs S.Store (loaded text.now) self.old self.new result }
+        // On `Ok` the database is open, and the change is committed.
+        ensures awake { HasCleanDisk (state S.Store self.new)
+            → OnOk result (IsAwake (state S.Store self.new)) }
         // Over any disk it is how much the text spells.
         ensures counts { IfOk result (SpellsSession text.now) }
         // Over any disk a text that is refused has the fault first that is named.

@@ -48,6 +48,9 @@ impl<S: Alter> Office<S> {
         // The tables stand for the office without a session.
         ensures made { IfOk result (λ office. HasCleanDisk (state S.Store office)
             → IsKept (state S.Store office).now None) }
+        // The database is open, and the tables are committed.
+        ensures awake { IfOk result (λ office. HasCleanDisk (state S.Store office)
+            → IsAwake (state S.Store office)) }
         // There were none.
         ensures bare { IfOk result (λ _. (state S.Store conn).now.schema ≡ no_schema) }
         ensures not_bare { IfErr result (λ e. e.0 ≡ StoreFault.BadSchema

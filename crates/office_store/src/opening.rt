@@ -5,7 +5,7 @@ ghost use Rattle.sqlite.specs.State.{HasCleanDisk};
 ghost use Rattle.office_model.specs.Office.{OfficeState};
 ghost use Rattle.office_store.specs.Faults.{IsOfDatabase};
 ghost use Rattle.office_store.specs.Opening.{IsOfficeOf};
-ghost use Rattle.office_store.specs.Running.{Now};
+ghost use Rattle.office_store.specs.Running.{IsAwake, Now};
 ghost use Rattle.office_tables.specs.Alterations.{Undone};
 
 use crate::office::Office;
@@ -26,6 +26,9 @@ impl<S: Alter> Office<S> {
         ensures found { IfOk result (λ office. HasCleanDisk (state S.Store office)
             → (there : OfficeState) → IsOfficeOf (state S.Store conn).now there
             → Now (state S.Store office) there) }
+        // The database is open.
+        ensures awake { IfOk result (λ office. HasCleanDisk (state S.Store office)
+            → IsAwake (state S.Store office)) }
         // It stood for one.
         ensures stood { IfOk result (λ office. HasCleanDisk (state S.Store office)
             → (there : OfficeState) × IsOfficeOf (state S.Store conn).now there) }

@@ -6,7 +6,7 @@ ghost use Rattle.exam_terms.specs.declared.limits.TheConstants.{MAX_DEPARTMENT};
 ghost use Rattle.office_model.specs.Commands.{owned, owner_in};
 ghost use Rattle.office_model.specs.Office.{OfficeState};
 ghost use Rattle.office_store.specs.Changes.{new_owner};
-ghost use Rattle.office_store.specs.Running.{IsAwake, Now, ReadsOffice, Runs, StaysOnErr};
+ghost use Rattle.office_store.specs.Running.{IsAwake, IsStill, Now, ReadsOffice, Runs, StaysOnErr};
 ghost use Rattle.office_records.specs.TableRows.{some_dept};
 
 use crate::fault::Failed;
@@ -25,6 +25,9 @@ impl<S: Alter> Office<S> {
     pub fn set_owner(&mut self, exam: ExamNo, dept: u32) -> Result<(), StoreFault>
         requires dept { dept ≤ MAX_DEPARTMENT }
         ensures runs { Runs S.Store (owned exam dept) self.old self.new result }
+        // On `Ok` the database is open, and the change is committed.
+        ensures awake { HasCleanDisk (state S.Store self.new)
+            → OnOk result (IsAwake (state S.Store self.new)) }
         // Whatever the refusal, the tables are as they were.
         ensures stays { StaysOnErr S.Store self.old self.new result }
         ensures clean { HasCleanDisk (state S.Store self.new)
@@ -49,6 +52,9 @@ impl<S: Alter> Office<S> {
     /// The department that owns an exam; 0 for one that nobody owns or that isn't there.
     pub fn owner(&mut self, alloc: Global, exam: ExamNo) -> Result<u32, StoreFault>
         ensures reads { ReadsOffice S.Store (owner_in exam) self.old self.new result }
+        // While it is open, the database is as it was, every row where it lay.
+        ensures still { HasCleanDisk (state S.Store self.new)
+            → IsStill (state S.Store self.old) (state S.Store self.new) }
         // What is at hand is then what the file says.
         ensures awake { HasCleanDisk (state S.Store self.new)
             → OnOk result (IsAwake (state S.Store self.new)) }
@@ -69,8 +75,10 @@ impl<S: Alter> Office<S> {
             → Now (state S.Store self.old) office
             → IfOk result (λ rows.
             map (λ r. r.dept) rows.items ≡ some_dept (owner_in exam office)) }
-        ensures still { HasCleanDisk (state S.Store self.new) → (office : OfficeState)
+        ensures stays { HasCleanDisk (state S.Store self.new) → (office : OfficeState)
             → Now (state S.Store self.old) office → Now (state S.Store self.new) office }
+        ensures still { HasCleanDisk (state S.Store self.new)
+            → IsStill (state S.Store self.old) (state S.Store self.new) }
         ensures awake { HasCleanDisk (state S.Store self.new)
             → OnOk result (IsAwake (state S.Store self.new)) }
         ensures clean { HasCleanDisk (state S.Store self.new)

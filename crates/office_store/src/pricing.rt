@@ -10,7 +10,7 @@ ghost use Rattle.office_records.specs.Stands.{parts_of};
 ghost use Rattle.office_records.specs.TableRows.{once};
 ghost use Rattle.office_store.specs.OfficeRows.{AreScored};
 ghost use Rattle.office_store.specs.Pricing.{draft_priced};
-ghost use Rattle.office_store.specs.Running.{Does, IsAwake, Runs};
+ghost use Rattle.office_store.specs.Running.{Does, IsAwake, IsStill, Runs};
 
 use crate::office::Office;
 use exam_score::Parts;
@@ -24,6 +24,9 @@ impl<S: Alter> Office<S> {
     /// then `NoDraft`: there is none of this number.
     pub fn penalty(&mut self, alloc: Global, number: u32) -> Result<Parts, StoreFault>
         ensures runs { Runs S.Store (draft_priced number) self.old self.new result }
+        // While it is open, the database is as it was, every row where it lay.
+        ensures still { HasCleanDisk (state S.Store self.new)
+            → IsStill (state S.Store self.old) (state S.Store self.new) }
         // What is at hand is then what the file says.
         ensures awake { HasCleanDisk (state S.Store self.new)
             → OnOk result (IsAwake (state S.Store self.new)) }

@@ -8,7 +8,7 @@ ghost use Rattle.office_records.specs.FoundPublications.{AreFound, publication_f
 ghost use Rattle.office_records.specs.SharesStored.{AreShared};
 ghost use Rattle.office_store.specs.Publications.{AddUpIn, plain, publication_shown, shares_in};
 ghost use Rattle.office_store.specs.Publications.{timetable_shown};
-ghost use Rattle.office_store.specs.Running.{IsAwake, Now, ReadsOffice, Tells};
+ghost use Rattle.office_store.specs.Running.{IsAwake, IsStill, Now, ReadsOffice, Tells};
 
 use crate::office::Office;
 use crate::published_rows::{PublishedRows, ShareRows};
@@ -28,6 +28,9 @@ impl<S: Alter> Office<S> {
         alloc: Global,
     ) -> Result<Option<(Timetable, Vec<SeatRow>)>, StoreFault>
         ensures reads { ReadsOffice S.Store publication_shown self.old self.new (plain result) }
+        // While it is open, the database is as it was, every row where it lay.
+        ensures still { HasCleanDisk (state S.Store self.new)
+            → IsStill (state S.Store self.old) (state S.Store self.new) }
         // What is at hand is then what the file says.
         ensures awake { HasCleanDisk (state S.Store self.new)
             → OnOk result (IsAwake (state S.Store self.new)) }
@@ -44,6 +47,9 @@ impl<S: Alter> Office<S> {
     /// The published timetable alone; no seat is read. `None`: nothing is published.
     pub fn published_timetable(&mut self, alloc: Global) -> Result<Option<Timetable>, StoreFault>
         ensures reads { ReadsOffice S.Store timetable_shown self.old self.new result }
+        // While it is open, the database is as it was, every row where it lay.
+        ensures still { HasCleanDisk (state S.Store self.new)
+            → IsStill (state S.Store self.old) (state S.Store self.new) }
         // What is at hand is then what the file says.
         ensures awake { HasCleanDisk (state S.Store self.new)
             → OnOk result (IsAwake (state S.Store self.new)) }
@@ -63,6 +69,9 @@ impl<S: Alter> Office<S> {
         // Together they are the penalty of the publication.
         ensures add_up { HasCleanDisk (state S.Store self.new) → (office : OfficeState)
             → Now (state S.Store self.old) office → IfOk result (AddUpIn office) }
+        // While it is open, the database is as it was, every row where it lay.
+        ensures still { HasCleanDisk (state S.Store self.new)
+            → IsStill (state S.Store self.old) (state S.Store self.new) }
         ensures awake { HasCleanDisk (state S.Store self.new)
             → OnOk result (IsAwake (state S.Store self.new)) }
         ensures clean { HasCleanDisk (state S.Store self.new)

@@ -7,7 +7,6 @@ ghost use Rattle.office_model.specs.Publishing.{draft_published};
 ghost use Rattle.office_records.specs.Stands.{IsKept};
 ghost use Rattle.office_store.specs.NewPublications.{AreSmallShares, PutsIn};
 ghost use Rattle.office_store.specs.OfficeRows.{AreRowsOf};
-ghost use Rattle.office_store.specs.Publications.{StoredAddUp};
 ghost use Rattle.office_store.specs.Running.{IsAwake, IsStill, Runs, StaysOnErr};
 
 use crate::new_publication::{NewPublication, new_publication};
@@ -25,10 +24,9 @@ impl<S: Alter> Office<S> {
     /// number; then `Refused`: an exam has no place, or a hard rule is broken.
     pub fn publish(&mut self, alloc: Global, number: u32) -> Result<Published, StoreFault>
         ensures runs { Runs S.Store (draft_published number) self.old self.new result }
-        // The rows of shares that are stored then are, together, the penalty of what is published.
-        ensures add_up { (office : OfficeState)
-            → (kept : IsKept (state S.Store self.new).now office)
-            → StoredAddUp office kept.held.share_student kept.held.share_part }
+        // On `Ok` the database is open, and the change is committed.
+        ensures awake { HasCleanDisk (state S.Store self.new)
+            → OnOk result (IsAwake (state S.Store self.new)) }
         // Whatever the refusal, the tables are as they were.
         ensures stays { StaysOnErr S.Store self.old self.new result }
         ensures clean { HasCleanDisk (state S.Store self.new)

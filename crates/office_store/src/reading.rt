@@ -54,6 +54,9 @@ impl<S: Alter> Office<S> {
     /// number.
     pub fn draft(&mut self, alloc: Global, number: u32) -> Result<(Timetable, Parts), StoreFault>
         ensures runs { Runs S.Store (draft_shown number) self.old self.new result }
+        // While it is open, the database is as it was, every row where it lay.
+        ensures still { HasCleanDisk (state S.Store self.new)
+            → IsStill (state S.Store self.old) (state S.Store self.new) }
         // What is at hand is then what the file says.
         ensures awake { HasCleanDisk (state S.Store self.new)
             → OnOk result (IsAwake (state S.Store self.new)) }
@@ -71,6 +74,9 @@ impl<S: Alter> Office<S> {
     /// number.
     pub fn breaches(&mut self, alloc: Global, number: u32) -> Result<Vec<Breach>, StoreFault>
         ensures runs { Runs S.Store (draft_judged number) self.old self.new (listed result) }
+        // While it is open, the database is as it was, every row where it lay.
+        ensures still { HasCleanDisk (state S.Store self.new)
+            → IsStill (state S.Store self.old) (state S.Store self.new) }
         // What is at hand is then what the file says.
         ensures awake { HasCleanDisk (state S.Store self.new)
             → OnOk result (IsAwake (state S.Store self.new)) }

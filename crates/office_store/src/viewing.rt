@@ -50,6 +50,9 @@ impl<S: Alter> Office<S> {
     ) -> Result<CandidateView, StoreFault>
         ensures reads { ReadsOffice S.Store (λ o. shown_to student (view_of student o))
             self.old self.new result }
+        // While it is open, the database is as it was, every row where it lay.
+        ensures still { HasCleanDisk (state S.Store self.new)
+            → IsStill (state S.Store self.old) (state S.Store self.new) }
         // What is at hand is then what the file says.
         ensures awake { HasCleanDisk (state S.Store self.new)
             → OnOk result (IsAwake (state S.Store self.new)) }
@@ -72,6 +75,9 @@ impl<S: Alter> Office<S> {
         ensures reads { ReadsOffice S.Store
             (λ o. find (λ row. row.exam == exam) (shown_exams (view_of student o)))
             self.old self.new result }
+        // While it is open, the database is as it was, every row where it lay.
+        ensures still { HasCleanDisk (state S.Store self.new)
+            → IsStill (state S.Store self.old) (state S.Store self.new) }
         // What is at hand is then what the file says.
         ensures awake { HasCleanDisk (state S.Store self.new)
             → OnOk result (IsAwake (state S.Store self.new)) }
@@ -90,6 +96,9 @@ impl<S: Alter> Office<S> {
     ) -> Result<PersonalParts, StoreFault>
         ensures reads { ReadsOffice S.Store (λ o. shown_penalty (view_of student o))
             self.old self.new result }
+        // While it is open, the database is as it was, every row where it lay.
+        ensures still { HasCleanDisk (state S.Store self.new)
+            → IsStill (state S.Store self.old) (state S.Store self.new) }
         // What is at hand is then what the file says.
         ensures awake { HasCleanDisk (state S.Store self.new)
             → OnOk result (IsAwake (state S.Store self.new)) }
@@ -104,6 +113,8 @@ impl<S: Alter> Office<S> {
     fn her_exams(&mut self, alloc: Global, student: StudentNo) -> Result<Vec<ViewRow>, StoreFault>
         ensures reads { ReadsOffice S.Store (λ o. shown_exams (view_of student o))
             self.old self.new (listed result) }
+        ensures still { HasCleanDisk (state S.Store self.new)
+            → IsStill (state S.Store self.old) (state S.Store self.new) }
         ensures awake { HasCleanDisk (state S.Store self.new)
             → OnOk result (IsAwake (state S.Store self.new)) }
         ensures clean { HasCleanDisk (state S.Store self.new)

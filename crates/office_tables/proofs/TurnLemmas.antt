@@ -1,14 +1,25 @@
 -- A whole transaction, from a connection at rest to its commit.
-use Rattle.std.proofs.Common.{◌≡◌, refl, sym, subst, IsTrue, Result, OnOk, arith, true, false, []}
+use Rattle.std.proofs.Common.{◌≡◌, ◌∙◌, refl, sym, subst, IsTrue, Result, OnOk, arith, true, false, []}
 use Rattle.std.proofs.lemmas.Result.{on_ok_weaker}
 use Rattle.sqlite.specs.declared.error.Error.{Error}
+use Rattle.sqlite.specs.Effect.{Database}
 use Rattle.sqlite.specs.Held.{Held, state}
 use Rattle.sqlite.specs.State.{HasCleanDisk, Survives, Shows, KeepsCounts}
 use Rattle.sqlite.specs.Store.{Ghosts}
-use Rattle.office_tables.specs.Alterations.{Changed}
+use Rattle.sqlite.proofs.StateLemmas.{survives_then}
+use Rattle.sqlite_trees.specs.Tree.{Trees}
+use Rattle.office_schema.specs.Schema.{office_schema}
+use Rattle.office_tables.specs.Alterations.{Changed, HoldsChanged}
 use Rattle.office_tables.specs.Standing.{Stands}
 use Rattle.office_tables.specs.Steps.{Within, Makes}
 use Rattle.office_tables.specs.Tables.{Tables}
+
+-- the trees of tables that stand hold these tables
+trees_hold : (db : Database) (found : Trees) (t : Tables) → found ≡ db.trees → Stands db t
+    → Stands (record { schema = office_schema; trees = found }) t
+trees_hold db found t is held =
+    subst (λ s. Stands (record { schema = s; trees = found }) t) held.schema
+    (subst (λ trees. Stands (record { schema = db.schema; trees = trees }) t) (sym is) held)
 
 module _ {S : Type 0} (g : Ghosts S) (old begun last end : Held S)
     (begins : begun ≡ record old { in_transaction = true })
@@ -36,5 +47,33 @@ module _ {S : Type 0} (g : Ghosts S) (old begun last end : Held S)
       (makes before) refl in
       on_ok_weaker r (λ done. record {
         was_open = was_open before done.1.was_open;
+        is_open = done.1.is_open;
+        committed = done.1.now_is ∙ sym done.1.committed_is;
         makes = λ t h. subst (λ db. Stands db (f t)) (sym done.1.now_is) (made.1 t h);
       }) (ok clean)
+
+  -- a crash leaves what it left before the transaction
+  inside_survives : Survives (state g old) (state g last) (λ _. ⊥)
+  inside_survives =
+      let inside = (subst (λ h. Within (state g h) (state g last)) begins within).survives in
+      record {
+        clean = inside.clean;
+        shield = inside.shield;
+        counts = inside.counts;
+        limit = inside.limit;
+        closes = inside.closes;
+        crash = inside.crash;
+      }
+
+  -- or what is committed: the tables after the change
+  pub survived : (f : Tables → Tables)
+      → (HasCleanDisk (state g last) → IsTrue begun.in_transaction
+      → Makes f (state g begun) (state g last))
+      → Survives (state g old) (state g end) (HoldsChanged f (state g old))
+  survived f makes =
+      survives_then (state g old) (state g last) (state g end) (λ _. ⊥)
+      (λ db. db ≡ (state g last).now.trees) (HoldsChanged f (state g old)) (λ _ db none. absurd none)
+      (λ clean db is t held. trees_hold (state g last).now db (f t) is
+      ((subst (λ h. IsTrue h.in_transaction → Makes f (state g h) (state g last)) begins
+      (makes (last_clean clean)) refl).1 t held))
+      inside_survives survives

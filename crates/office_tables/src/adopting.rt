@@ -1,5 +1,5 @@
 // An office's tables, taken over from a database that may be any.
-ghost use Rattle.std.specs.Prelude.{◌≡◌, ◌⊎◌, false, IfOk, OnOk};
+ghost use Rattle.std.specs.Prelude.{◌≡◌, ◌⊎◌, false, IfOk, IsSome, IsTrue, OnOk};
 ghost use Rattle.sqlite.specs.Held.{state};
 ghost use Rattle.sqlite.specs.State.{HasCleanDisk, IsUnchanged, Survives};
 ghost use Rattle.office_tables.specs.Adopting.{IsAdopted, IsDrafts, IsFoundDrafts, IsFoundPublication, IsFoundSession, HasAllOfPublication, IsSession, IsWhole};
@@ -32,6 +32,9 @@ pub fn adopt_tables<S: Alter>(
     ensures same { HasCleanDisk (state S.Store conn.new)
         → OnOk result ((conn.new ≡ conn.old)
         ⊎ IsUnchanged (state S.Store conn.old) (state S.Store conn.new)) }
+    // Rows that were found were read from a database that is open.
+    ensures open { HasCleanDisk (state S.Store conn.new)
+        → IfOk result (λ found. IsSome found → IsTrue (state S.Store conn.new).is_open) }
     ensures kept { HasCleanDisk (state S.Store conn.new)
         → Keeps (state S.Store conn.old) (state S.Store conn.new) }
     ensures mode { conn.old.in_transaction ≡ false → conn.new.in_transaction ≡ false }

@@ -1,8 +1,8 @@
 // Whole transactions: all of an alteration of the tables is made, or nothing.
 ghost use Rattle.std.specs.Prelude.{◌≡◌, false, OnErr, OnOk};
 ghost use Rattle.sqlite.specs.Held.{state};
-ghost use Rattle.sqlite.specs.State.{HasCleanDisk};
-ghost use Rattle.office_tables.specs.Alterations.{Changed, Undone};
+ghost use Rattle.sqlite.specs.State.{HasCleanDisk, Survives};
+ghost use Rattle.office_tables.specs.Alterations.{Changed, HoldsChanged, Undone};
 ghost use Rattle.office_tables.specs.Steps.{Changes, Within};
 ghost use Rattle.office_tables.specs.Tables.{Tables};
 
@@ -35,6 +35,9 @@ pub fn transact<S: Alter, A: Alteration>(
         (Changed (A.alteration alteration.now) (state S.Store conn.old) (state S.Store conn.new)) }
     ensures undone { HasCleanDisk (state S.Store conn.new)
         → OnErr result (Undone (state S.Store conn.old) (state S.Store conn.new)) }
+    // A crash leaves what it left before, or the tables after the change.
+    ensures survives { Survives (state S.Store conn.old) (state S.Store conn.new)
+        (HoldsChanged (A.alteration alteration.now) (state S.Store conn.old)) }
     ensures rests { conn.new.in_transaction ≡ false }
     ensures clean { HasCleanDisk (state S.Store conn.new) → HasCleanDisk (state S.Store conn.old) }
 {

@@ -1,5 +1,5 @@
 use Rattle.std.proofs.Common.{rules, ◌≡◌, Some, None, Result, Ok, Err, refl, sym, ◌∙◌, inl, inr, subst}
-use Rattle.std.specs.Prelude.{IfErr}
+use Rattle.std.specs.Prelude.{IfErr, IsSome}
 use Rattle.std.specs.Result.{IsErrAnd}
 use Rattle.sqlite.specs.Held.{state}
 use Rattle.office_tables.specs.Adopting.{IsAdopted, tables_of}
@@ -11,6 +11,7 @@ use Rattle.office_store.specs.Faults.{IsOfDatabase}
 use Rattle.office_model.specs.declared.fault.StoreFault.{StoreFault}
 use Rattle.office_model.specs.declared.fault.StoreFault.TheVariants.{BadSchema}
 use Rattle.office_store.proofs.AdoptLemmas.{both_same, found_batches, held_still, keeps_still}
+use Rattle.office_store.proofs.AdoptLemmas.{open_still}
 use Rattle.office_store.proofs.AdoptLemmas.{none_long, none_refused}
 use Rattle.office_store.proofs.adopting.kept_in.Goals as goal
 
@@ -102,6 +103,21 @@ returns-clause-same g c clean =
     let held = held_still g.S.Store old mid (tables_of found adopted.0) same adopted.2 in
     both_same g.S.Store old mid c.check_bytes.new.conn same
     (c.in_ok-check_bytes.ensures.same clean (tables_of found adopted.0) held)
+
+pub returns-clause-open : goal.returns-clause-open
+returns-clause-open g c clean =
+    let old = c.args.conn.now in
+    let mid = c.adopt_tables.new.conn in
+    let found = c.in-Ok-Some.found in
+    let some : c.in-Ok-Some.field-0 ≡ Some found = search rules in
+    let clean_mid = c.check_bytes.ensures.clean clean in
+    let adopted = subst (IsAdopted (state g.S.Store old).now) some
+    (c.in-Ok-Some.ensures.found clean_mid) in
+    let same = c.in-Ok-Some.ensures.same clean_mid in
+    let held = held_still g.S.Store old mid (tables_of found adopted.0) same adopted.2 in
+    open_still g.S.Store mid c.check_bytes.new.conn
+    (c.in_ok-check_bytes.ensures.same clean (tables_of found adopted.0) held)
+    (c.in-Ok-Some.ensures.open clean_mid (subst IsSome (sym some) refl))
 
 pub returns-clause-kept : goal.returns-clause-kept
 returns-clause-kept g c clean =

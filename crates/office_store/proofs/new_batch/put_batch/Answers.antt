@@ -11,6 +11,8 @@ returns-clause-done g c clean =
     let done = c.in_ok-transact-2.ensures.done clean in
     record {
       was_open = done.was_open;
+      is_open = done.is_open;
+      committed = done.committed;
       makes = λ t held. subst (Stands db)
           (batch_made c.args.number c.args.text.now c.args.new.now _ _ c.deref-2.ensures.value
           c.deref.ensures.value

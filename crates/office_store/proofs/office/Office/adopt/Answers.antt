@@ -1,6 +1,6 @@
 use Rattle.std.proofs.Common.{◌≡◌, inr, refl, Bool, true, false, not}
 use Rattle.sqlite.specs.Held.{state}
-use Rattle.office_store.proofs.AdoptLemmas.{kept_still, undone_reading}
+use Rattle.office_store.proofs.AdoptLemmas.{awake_still, kept_still, undone_reading}
 use Rattle.office_store.proofs.office.Office.adopt.Goals as goal
 
 at_rest : (answer within : Bool) → answer ≡ not within → answer ≡ true → within ≡ false
@@ -28,6 +28,11 @@ returns-in-Ok-clause-adopted g c clean =
       kept_still g.S.Store c.args.conn c.kept_in.new.conn here.0 (c.in-Ok.ensures.same clean)
           here.1,
     )
+
+pub returns-in-Ok-clause-awake : goal.returns-in-Ok-clause-awake
+returns-in-Ok-clause-awake g c clean =
+    awake_still g.S.Store c.args.conn c.kept_in.new.conn (c.in-Ok.ensures.same clean)
+    (c.is_autocommit.ensures.settled c.if-not-is_autocommit.false) (c.in-Ok.ensures.open clean)
 
 pub returns-in-Err-clause-no_office : goal.returns-in-Err-clause-no_office
 returns-in-Err-clause-no_office g c bad clean o kept = c.in-Err.ensures.none clean bad o kept

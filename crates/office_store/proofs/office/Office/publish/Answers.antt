@@ -4,7 +4,6 @@ use Rattle.office_model.specs.Publishing.{draft_published}
 use Rattle.office_store.specs.Running.{Runs}
 use Rattle.office_store.proofs.CommandLemmas.{rests, runs, stays_by, stays_on, stays_undone}
 use Rattle.office_store.proofs.PublishLemmas.{publication_moves}
-use Rattle.office_store.proofs.PublishedReadLemmas.{stored_add_up}
 use Rattle.office_store.proofs.RunLemmas.{now_still, still_then}
 use Rattle.office_store.proofs.office.Office.publish.Goals as goal
 
@@ -90,15 +89,3 @@ invariant_of-self-2 g c = (
       (c.put_publication.ensures.clean k) (c.in_ok-put_publication.ensures.done k).makes),
   c.self.invariant.2,
 )
-
-pub returns-in_err-found-clause-add_up : goal.returns-in_err-found-clause-add_up
-returns-in_err-found-clause-add_up g c office kept = stored_add_up _ office kept
-
-pub returns-in_err-new-clause-add_up : goal.returns-in_err-new-clause-add_up
-returns-in_err-new-clause-add_up g c office kept = stored_add_up _ office kept
-
-pub returns-in_err-put_publication-clause-add_up : goal.returns-in_err-put_publication-clause-add_up
-returns-in_err-put_publication-clause-add_up g c office kept = stored_add_up _ office kept
-
-pub returns-clause-add_up : goal.returns-clause-add_up
-returns-clause-add_up g c office kept = stored_add_up _ office kept
