@@ -34,8 +34,8 @@ def message(method, path, body=b"", closes=False, caller="office"):
 
 
 class Server:
-    """A server of an instance with a database of its own, what it replied to `ask`, and the figures
-    of that, by name and unit. A cost is in milliseconds."""
+    """A server of an instance with its own database. `ask` collects its replies and its figures,
+    by name and unit. A cost is in milliseconds."""
 
     unit, most_times, patience, prefix = "ms", 1_000, 60, []
 
@@ -68,10 +68,10 @@ class Server:
         return 1e3 * (time.perf_counter() - self.began)
 
     def asked(self, questions, times=1):
-        """The replies to questions, each asked after the reply to the one in front of it, and the
-        cost of each; all of them so many times."""
+        """Asks all questions n times, each after the reply to the last. Returns each reply and its
+        cost."""
         questions, replies, costs = questions * min(times, self.most_times), [], []
-        self.cost()  # What was done in front of the first question is dropped.
+        self.cost()  # Work from before the first question is not counted.
         for start in range(0, len(questions), MESSAGES):
             with self.connect() as client:
                 for question in questions[start:start + MESSAGES]:
@@ -82,7 +82,7 @@ class Server:
         return replies, costs
 
     def ask(self, name, questions, times=1, status=b"2"):
-        """Asks questions that are to be answered so; the row is the median cost of one."""
+        """Asks questions, which have to get this status. The row is the median cost of one."""
         replies, costs = self.asked(questions, times)
         for reply in replies:
             if not reply.startswith(b"HTTP/1.1 " + status):
@@ -90,11 +90,13 @@ class Server:
         self.replies += replies
         self.figures[name, self.unit] = statistics.median(costs)
         if len(costs) >= 100:
-            slowest = statistics.quantiles(costs, n=100)[98]
-            self.figures[f"{name}, 99 of 100", self.unit] = slowest
+            cuts = statistics.quantiles(costs, n=100)
+            # The tenth percentile repeats on a busy machine, where the median does not.
+            for percent in 10, 99:
+                self.figures[f"{name}, {percent} of 100", self.unit] = cuts[percent - 1]
 
     def show_rate(self, name, way, questions):
-        """Asks them all in a way of the three, for a row of how many are answered in a second."""
+        """Asks questions by `in_one_piece` or `in_connections`. The row is the rate of replies."""
         began = time.perf_counter()
         self.replies += way(self, questions)
         self.figures[name, "a second"] = len(questions) / (time.perf_counter() - began)
@@ -105,17 +107,17 @@ class Server:
         return client
 
     def show_peak(self, name):
-        """A row of the most memory held so far."""
+        """The row is the peak memory so far."""
         status = pathlib.Path(f"/proc/{self.process.pid}/status").read_text()
         self.figures[name, "MB"] = int(status.partition("VmHWM:")[2].split()[0]) / 1e3
 
     def forget_peak(self):
-        """From now on the most memory is that held now, or more that is taken later."""
+        """Resets the peak to the memory held now."""
         pathlib.Path(f"/proc/{self.process.pid}/clear_refs").write_text("5")
 
 
 class CountedServer(Server):
-    """The same under callgrind. A cost is in millions of instructions, since the cost before."""
+    """The same under callgrind. A cost is in millions of instructions since the last cost."""
 
     unit, most_times, patience = "M instr", 4, 3_600
 
@@ -136,7 +138,7 @@ class CountedServer(Server):
         return int(total[1]) / 1e6
 
     def wait_until_idle(self):
-        """A server works on after its reply; then it sleeps."""
+        """Waits until the server sleeps: it still works after its reply."""
         status, sleeps = pathlib.Path(f"/proc/{self.process.pid}/stat"), 0
         while sleeps < 3:
             time.sleep(0.02)
@@ -206,8 +208,8 @@ def options(doc, rounds, counts=True):
 
 
 def compared(given, title, instance, measure):
-    """Lets `measure` ask a new server of each column in turn, in each round. Prints the medians of
-    their figures, and says whether all replied alike."""
+    """In each round, `measure` asks a new server of each column. Prints the medians of their
+    figures, and returns whether all replied alike."""
     kind, rounds = (CountedServer, 1) if given.instructions else (Server, given.rounds)
     rows, is_same, programs = {name: [] for name in COLUMNS}, True, commands(given.program)
     for _ in range(rounds):
@@ -233,7 +235,7 @@ def stop_unless(is_same):
 
 
 def show(title, figures):
-    """Prints a table: each figure of each column, and the ratios of the first to the others."""
+    """Prints each figure of each column, and the ratios of the first column to the others."""
     ours, *others = figures.values()
     print(f"{title:<44}" + "".join(f"{name:>12}" for name in figures)
           + "".join(f"{'to ' + name:>14}" for name in list(figures)[1:]))
