@@ -164,6 +164,19 @@ LABELS = [
        (200, b'{"caller":"%s","sign_out":""}' % caller)) for user, caller in (
            ("registry", b"office"), ("physics", b"dept:3"), ("ada", b"cand:1"), ("nobody", b""))),
 ]
+# Files of people for tools/users_from_csv that are faulty, and what is printed.
+FAULTY_PEOPLE = [
+    ("user,caller\nregistry,office\nRegistry,dept:1\n", "line 3, user: 'Registry' is on line 2 already"),
+    ("user,caller\n~x,office\n", "line 2, user: a name of letters, digits and . _ @ + - is expected, "
+     "not '~x'"),
+    ("user,caller\ndefault,office\n", "line 2, user: a name of letters, digits and . _ @ + - is "
+     "expected, not 'default'"),
+    ("user,caller\nx,dept:1000\n", "line 2, caller: office, dept:N or cand:N is expected, not 'dept:1000'"),
+    ("user,student\nx,s9\n", "line 2, student: there is no student 's9' in --students"),
+    ("name,caller\nx,office\n", "line 1, user: there is no such column"),
+    ("user\nx\n", "line 1, caller: there is no such column, nor student"),
+    ('user,caller\n"x,office\n', "line 2: this is not CSV: unexpected end of data"),
+]
 # What is asked of the front's pages, and what the front answers itself.
 PAGES = [
     *((f"{method} {path}", ask(user, method, path, body), told_error(405, "method"))

@@ -26,8 +26,8 @@ import browser
 import front_pages
 import openapi
 from front_cases import (
-    CALLERS, CANDIDATE, FIRST_VIEW, LABELS, LOOKED_FOR, MADE, PAGES, SECOND_VIEW, TARGETS, WIDE,
-    WIDE_LABELS, WIDE_SOLUTION, ask, password, told_error)
+    CALLERS, CANDIDATE, FAULTY_PEOPLE, FIRST_VIEW, LABELS, LOOKED_FOR, MADE, PAGES, SECOND_VIEW,
+    TARGETS, WIDE, WIDE_LABELS, WIDE_SOLUTION, ask, password, told_error)
 from run_serve import Office, Run, one_reply, rest
 from serve_cases import SOLUTION, message, reply
 
@@ -334,6 +334,45 @@ def described_exchanges(run, front, least):
                       described.fault(method, path, answer[0], kind, answer[1]))
 
 
+def users_from_csv(run, office):
+    """Users of a CSV file sign in with the passwords that it has, or that were made for them."""
+    if not shutil.which("openssl"):
+        print("front: tools/users_from_csv is left out without openssl")
+        return
+    folder, tool = run.folder / "people", TOP / "tools" / "users_from_csv"
+    folder.mkdir()
+    people, made, front = folder / "people.csv", folder / "made", folder / "front"
+
+    def ended(text):
+        people.write_text(text)
+        return subprocess.run([tool, people, made, "--students", TOP / "front/labels/students.json"],
+                              capture_output=True, text=True, timeout=SECONDS)
+
+    for text, words in FAULTY_PEOPLE:
+        came = ended(text)
+        run.judge(f"people: {text}", (1, f"{words}\n", False),
+                  (came.returncode, came.stderr, made.exists()))
+    came = ended("User;Caller;Student;Password\noffice-1;office;;with blanks: é\nada@x;;S1;\n"
+                 "ben;cand:2;;ben's\n")
+    run.judge("people", (0, ""), (came.returncode, came.stderr))
+    run.judge("who may read passwords", "600", oct((made / "passwords.csv").stat().st_mode)[-3:])
+    passwords = dict(line.split(",") for line in
+                     (made / "passwords.csv").read_text().splitlines()[1:])
+    run.judge("passwords that were made", ["ada@x"], [*passwords])
+    shutil.copytree(TOP / "front", front)
+    for name in ("users", "callers"):
+        (front / name).write_bytes((made / name).read_bytes())
+    made_front = Front(folder, office.port)
+    for user, word, path, answer in (
+            ("ada@x", passwords["ada@x"], "/me", FIRST_VIEW), ("ben", "ben's", "/me", SECOND_VIEW),
+            ("office-1", "with blanks: é", "/drafts/1/violations", (200, b"breaches 0\n"))):
+        run.judge(f"{user} signs in", answer, made_front.told(message(
+            "GET", path, caller=None, fields=[password(user, word)])))
+        run.judge(f"{user} with another password", 401, made_front.told(message(
+            "GET", path, caller=None, fields=[password(user, word[:-1])]))[0])
+    made_front.stop()
+
+
 def words_of_pages(run):
     """The pages have words for each rule and each error, and for no fault that docs/FORMATS.md lacks."""
     formats = (TOP / "docs" / "FORMATS.md").read_text()
@@ -356,6 +395,7 @@ def before_the_office(run, front, office):
     for question, answer in MADE:
         run.judge("the start", answer, front.told(question))
     words_of_pages(run)
+    users_from_csv(run, office)
     who_asks_and_what(run, front)
     styled_pages(run, front)
     health(run, front, (200, b'{"health":"ok"}'))
