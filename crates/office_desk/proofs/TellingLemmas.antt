@@ -1,11 +1,15 @@
 -- What a call of the office gives is what is told of a command.
+use Rattle.std.specs.Prelude.{IfErr}
 use Rattle.std.specs.Result.{IsErrAnd}
+use Rattle.sqlite.specs.Held.{Held}
+use Rattle.sqlite.specs.Store.{Ghosts}
+use Rattle.office_policy.specs.declared.command.Body.{Body}
 use Rattle.std.proofs.Common.{◌≡◌, ◌∙◌, ℕ, List, Option, Some, Result, Ok, Err, ap, inl, inr, subst, sym, refl}
 use Rattle.exam_model.specs.Instance.{Session}
 use Rattle.office_policy.specs.declared.callers.Caller.{Caller}
 use Rattle.office_policy.specs.declared.callers.Caller.TheVariants.{Cand, Dept}
 use Rattle.office_policy.specs.declared.callers.Caller.TheVariants as caller
-use Rattle.office_model.specs.Answers.{PlainAnswer, my_cost, refused, text}
+use Rattle.office_model.specs.Answers.{PlainAnswer, my_cost, refused, text, unavailable}
 use Rattle.office_model.specs.Candidates as candidates
 use Rattle.office_model.specs.Candidates.{Asked}
 use Rattle.office_model.specs.Commands.{Gives}
@@ -24,8 +28,8 @@ use Rattle.office_store.specs.Pricing.{draft_priced}
 use Rattle.office_store.specs.Running.{Does}
 use Rattle.office_desk.specs.Answers.{refusal}
 use Rattle.office_desk.specs.Performing.{AnswersExam, AnswersOutcome, AnswersPenalty, AnswersView}
-use Rattle.office_desk.specs.Performing.{told_of}
-use Rattle.office_desk.specs.Answers.{plain_answer}
+use Rattle.office_desk.specs.Performing.{AwakeUnlessRefused, IsGiven, told_of}
+use Rattle.office_desk.specs.Answers.{IsRefusal, plain_answer}
 use Rattle.office_desk.specs.declared.answer.Answer.{Answer}
 
 -- what a command gives
@@ -87,6 +91,39 @@ pub err_told : (r : Result Answer Answer) (f : StoreFault)
     → IsErrAnd r (λ answer. plain_answer answer ≡ refusal f) → told_of r ≡ refusal f
 err_told (Ok answer) f is = absurd is
 err_told (Err answer) f is = is
+
+-- ---- refusals
+
+is_refusal : (f : StoreFault) → IsRefusal (refusal f)
+is_refusal Store = tt
+is_refusal BadSchema = tt
+is_refusal f = tt
+
+-- what `?` makes of a fault is a refusal
+pub fault_refused : {S : Type 0} (g : Ghosts S) (new : Held S) (r : Result Answer Answer)
+    (f : StoreFault) → IsErrAnd r (λ answer. plain_answer answer ≡ refusal f)
+    → AwakeUnlessRefused g new r
+fault_refused g new r f is clean =
+    inl (subst IsRefusal (sym (err_told r f is)) (is_refusal f))
+
+-- of a candidate's command too
+pub fault_refuses : {X : Type 0} (r : Result X Answer) (f : StoreFault)
+    → IsErrAnd r (λ answer. plain_answer answer ≡ refusal f)
+    → IfErr r (λ answer. IsRefusal (plain_answer answer))
+fault_refuses (Ok x) f is = tt
+fault_refuses (Err answer) f is = subst IsRefusal (sym is) (is_refusal f)
+
+-- so is what it makes of refused memory
+pub memory_refused : {S : Type 0} (g : Ghosts S) (new : Held S) (r : Result Answer Answer)
+    → IsErrAnd r (λ answer. plain_answer answer ≡ unavailable) → AwakeUnlessRefused g new r
+memory_refused g new (Ok answer) is clean = absurd is
+memory_refused g new (Err answer) is clean = inl (subst IsRefusal (sym is) tt)
+
+-- and a body that says nothing
+pub body_refused : {A : Type 0} (body : Body A) (answer : Answer) → IsGiven body (Err answer)
+    → IsRefusal (plain_answer answer)
+body_refused body answer (inl bad) = subst IsRefusal (sym bad.1) tt
+body_refused body answer (inr long) = subst IsRefusal (sym long.1) tt
 
 -- ---- candidates
 

@@ -35,3 +35,12 @@ abbrev pub refusal : StoreFault → PlainAnswer
 refusal Store = unavailable
 refusal BadSchema = unavailable
 refusal fault = refused fault
+
+-- the policy, the body or the state refuses the command, or the office is unavailable
+abbrev pub IsRefusal : PlainAnswer → Type 0
+IsRefusal (denied denial) = Unit {0}
+IsRefusal bad_body = Unit {0}
+IsRefusal long_body = Unit {0}
+IsRefusal (refused fault) = Unit {0}
+IsRefusal unavailable = Unit {0}
+IsRefusal answer = ⊥

@@ -16,8 +16,8 @@ use Rattle.office_model.specs.Step.{Outcome, permitted}
 use Rattle.office_model.specs.Shown.{ShownView, shown_exams, shown_penalty, shown_to}
 use Rattle.office_model.specs.Views.{view_of}
 use Rattle.office_model.specs.declared.views.ViewRow.{ViewRow}
-use Rattle.office_store.specs.Running.{Now}
-use Rattle.office_desk.specs.Answers.{plain_answer}
+use Rattle.office_store.specs.Running.{IsAwake, Now}
+use Rattle.office_desk.specs.Answers.{IsRefusal, plain_answer}
 use Rattle.office_desk.specs.declared.answer.Answer.{Answer}
 
 -- what is told, whether something was done or not
@@ -48,6 +48,12 @@ abbrev pub PerformsFor : {S : Type 0} → Ghosts S → Caller → PlainCommand �
     → Result Answer Answer → Type 0
 PerformsFor store caller command old new result =
     Yields store (λ office. permitted office caller command) old new result
+
+-- over a disk that returns what was written, a command that isn't refused leaves the database open,
+-- and all that was written committed
+abbrev pub AwakeUnlessRefused : {S : Type 0} → Ghosts S → Held S → Result Answer Answer → Type 0
+AwakeUnlessRefused store new result =
+    HasCleanDisk (state store new) → IsRefusal (told_of result) ⊎ IsAwake (state store new)
 
 -- a candidate is shown her view; of what fails, and to whoever is no candidate, nothing is told
 abbrev pub AnswersView : Caller → OfficeState → (OfficeState → Type 0) → Result ShownView Answer

@@ -8,7 +8,7 @@ ghost use Rattle.office_policy.specs.CommandBodies.{plain_text};
 ghost use Rattle.office_policy.specs.Commands.{new_draft, place, publish, set_owner, swap};
 ghost use Rattle.exam_terms.specs.declared.limits.TheConstants.{MAX_BATCH, MAX_DEPARTMENT};
 ghost use Rattle.office_model.specs.Step.{edit_outcome};
-ghost use Rattle.office_desk.specs.Performing.{IsGiven, Performs, Yields};
+ghost use Rattle.office_desk.specs.Performing.{AwakeUnlessRefused, IsGiven, Performs, Yields};
 
 use crate::answer::Answer;
 use exam_draft::Edit;
@@ -25,6 +25,7 @@ pub(crate) fn load<S: Alter>(
 ) -> Result<Answer, Answer>
     ensures performs { Performs S.Store (load (plain_text body.entry))
         office.old office.new result }
+    ensures awake { AwakeUnlessRefused S.Store office.new result }
     ensures clean { HasCleanDisk (state S.Store office.new)
         → HasCleanDisk (state S.Store office.old) }
 {
@@ -40,6 +41,7 @@ pub(crate) fn set_owner<S: Alter>(
 ) -> Result<Answer, Answer>
     requires { IfGiven body (λ dept. dept ≤ MAX_DEPARTMENT) }
     ensures performs { Performs S.Store (set_owner exam body) office.old office.new result }
+    ensures awake { AwakeUnlessRefused S.Store office.new result }
     ensures clean { HasCleanDisk (state S.Store office.new)
         → HasCleanDisk (state S.Store office.old) }
 {
@@ -56,6 +58,7 @@ pub(crate) fn new_draft<S: Alter>(
 ) -> Result<Answer, Answer>
     ensures performs { Performs S.Store (new_draft number (plain_text body.entry))
         office.old office.new result }
+    ensures awake { AwakeUnlessRefused S.Store office.new result }
     ensures clean { HasCleanDisk (state S.Store office.new)
         → HasCleanDisk (state S.Store office.old) }
 {
@@ -70,6 +73,7 @@ pub(crate) fn drop_draft<S: Alter>(
     number: u32,
 ) -> Result<Answer, Answer>
     ensures performs { Performs S.Store (drop_draft number) office.old office.new result }
+    ensures awake { AwakeUnlessRefused S.Store office.new result }
     ensures clean { HasCleanDisk (state S.Store office.new)
         → HasCleanDisk (state S.Store office.old) }
 {
@@ -85,6 +89,7 @@ pub(crate) fn place_exam<S: Alter>(
     body: Body<Place>,
 ) -> Result<Answer, Answer>
     ensures performs { Performs S.Store (place number exam body) office.old office.new result }
+    ensures awake { AwakeUnlessRefused S.Store office.new result }
     ensures clean { HasCleanDisk (state S.Store office.new)
         → HasCleanDisk (state S.Store office.old) }
 {
@@ -100,6 +105,7 @@ pub(crate) fn move_exam<S: Alter>(
     body: Body<Place>,
 ) -> Result<Answer, Answer>
     ensures performs { Performs S.Store (move number exam body) office.old office.new result }
+    ensures awake { AwakeUnlessRefused S.Store office.new result }
     ensures clean { HasCleanDisk (state S.Store office.new)
         → HasCleanDisk (state S.Store office.old) }
 {
@@ -114,6 +120,7 @@ pub(crate) fn clear_exam<S: Alter>(
     exam: ExamNo,
 ) -> Result<Answer, Answer>
     ensures performs { Performs S.Store (clear number exam) office.old office.new result }
+    ensures awake { AwakeUnlessRefused S.Store office.new result }
     ensures clean { HasCleanDisk (state S.Store office.new)
         → HasCleanDisk (state S.Store office.old) }
 {
@@ -128,6 +135,7 @@ pub(crate) fn swap_exams<S: Alter>(
     b: ExamNo,
 ) -> Result<Answer, Answer>
     ensures performs { Performs S.Store (swap number a b) office.old office.new result }
+    ensures awake { AwakeUnlessRefused S.Store office.new result }
     ensures clean { HasCleanDisk (state S.Store office.new)
         → HasCleanDisk (state S.Store office.old) }
 {
@@ -140,6 +148,7 @@ pub(crate) fn publish<S: Alter>(
     number: u32,
 ) -> Result<Answer, Answer>
     ensures performs { Performs S.Store (publish number) office.old office.new result }
+    ensures awake { AwakeUnlessRefused S.Store office.new result }
     ensures clean { HasCleanDisk (state S.Store office.new)
         → HasCleanDisk (state S.Store office.old) }
 {
@@ -156,6 +165,7 @@ pub(crate) fn enrol_batch<S: Alter>(
     requires { number ≤ MAX_BATCH }
     ensures performs { Performs S.Store (batch number (plain_text body.entry))
         office.old office.new result }
+    ensures awake { AwakeUnlessRefused S.Store office.new result }
     ensures clean { HasCleanDisk (state S.Store office.new)
         → HasCleanDisk (state S.Store office.old) }
 {
@@ -171,6 +181,7 @@ fn edit<S: Alter>(
     change: Edit,
 ) -> Result<Answer, Answer>
     ensures edits { Yields S.Store (edit_outcome number change) office.old office.new result }
+    ensures awake { AwakeUnlessRefused S.Store office.new result }
     ensures clean { HasCleanDisk (state S.Store office.new)
         → HasCleanDisk (state S.Store office.old) }
 {

@@ -1,13 +1,13 @@
 // The desk, where every command of the office is asked.
-ghost use Rattle.std.specs.Prelude.{◌≡◌};
+ghost use Rattle.std.specs.Prelude.{◌≡◌, ◌⊎◌};
 ghost use Rattle.sqlite.specs.Held.{state};
 ghost use Rattle.sqlite.specs.State.{HasCleanDisk};
 ghost use Rattle.office_policy.specs.Commands.{HasSmallNumbers, plain_command};
 ghost use Rattle.office_model.specs.Office.{OfficeState};
 ghost use Rattle.office_model.specs.Step.{Steps};
-ghost use Rattle.office_store.specs.Running.{Now};
-ghost use Rattle.office_desk.specs.Answers.{plain_answer};
-ghost use Rattle.office_desk.specs.Performing.{PerformsFor, told_of};
+ghost use Rattle.office_store.specs.Running.{IsAwake, Now};
+ghost use Rattle.office_desk.specs.Answers.{IsRefusal, plain_answer};
+ghost use Rattle.office_desk.specs.Performing.{AwakeUnlessRefused, PerformsFor, told_of};
 
 use crate::answer::Answer;
 use crate::candidates::{me, my_exam, my_penalty};
@@ -65,6 +65,9 @@ impl<S: Alter> Desk<S> {
             → (new : OfficeState)
             × Steps office caller (plain_command command.now) (plain_answer result) new
             × Now (state S.Store self.new) new }
+        // What isn't refused is done: the database is open, and all that was written is committed.
+        ensures awake { HasCleanDisk (state S.Store self.new)
+            → IsRefusal (plain_answer result) ⊎ IsAwake (state S.Store self.new) }
         ensures clean { HasCleanDisk (state S.Store self.new)
             → HasCleanDisk (state S.Store self.old) }
     {
@@ -96,6 +99,7 @@ fn perform<S: Alter>(
     requires { HasSmallNumbers (plain_command command.now) }
     ensures performs { PerformsFor S.Store caller (plain_command command.now)
         office.old office.new result }
+    ensures awake { AwakeUnlessRefused S.Store office.new result }
     ensures clean { HasCleanDisk (state S.Store office.new)
         → HasCleanDisk (state S.Store office.old) }
 {

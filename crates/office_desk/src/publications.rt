@@ -2,7 +2,7 @@
 ghost use Rattle.sqlite.specs.Held.{state};
 ghost use Rattle.sqlite.specs.State.{HasCleanDisk};
 ghost use Rattle.office_policy.specs.Commands.{publication, publication_penalty, publication_rooms};
-ghost use Rattle.office_desk.specs.Performing.{Performs};
+ghost use Rattle.office_desk.specs.Performing.{AwakeUnlessRefused, Performs};
 
 use crate::answer::Answer;
 use office_files::write_solution;
@@ -14,6 +14,7 @@ use std::alloc::Global;
 // The published timetable, as a solution file.
 pub(crate) fn publication<S: Alter>(office: &mut Office<S>, alloc: Global) -> Result<Answer, Answer>
     ensures performs { Performs S.Store publication office.old office.new result }
+    ensures awake { AwakeUnlessRefused S.Store office.new result }
     ensures clean { HasCleanDisk (state S.Store office.new)
         → HasCleanDisk (state S.Store office.old) }
 {
@@ -32,6 +33,7 @@ pub(crate) fn publication_penalty<S: Alter>(
     alloc: Global,
 ) -> Result<Answer, Answer>
     ensures performs { Performs S.Store publication_penalty office.old office.new result }
+    ensures awake { AwakeUnlessRefused S.Store office.new result }
     ensures clean { HasCleanDisk (state S.Store office.new)
         → HasCleanDisk (state S.Store office.old) }
 {
@@ -51,6 +53,7 @@ pub(crate) fn publication_rooms<S: Alter>(
     alloc: Global,
 ) -> Result<Answer, Answer>
     ensures performs { Performs S.Store publication_rooms office.old office.new result }
+    ensures awake { AwakeUnlessRefused S.Store office.new result }
     ensures clean { HasCleanDisk (state S.Store office.new)
         → HasCleanDisk (state S.Store office.old) }
 {
