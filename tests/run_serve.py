@@ -506,27 +506,31 @@ def patient_client(run):
 
 
 def kept_alive(office):
-    """Asks three times, with waits below the patience and more than that in all."""
+    """Asks three times, and waits in the middle of two of the messages: below the patience each
+    time, and longer than that in all."""
     question, answer, began = message("GET", "/drafts/1"), error(404, "draft"), time.monotonic()
+    middle = len(question) // 2
     with office.connect() as client:
         got = asked(client, question, answer)
         for _ in range(2):
+            client.sendall(question[:middle])
             time.sleep(18)
-            got += asked(client, question, answer)
+            got += asked(client, question[middle:], answer)
     return got, time.monotonic() - began > 30
 
 
 def silent(office):
-    """Asks nothing; what came, whether it was let go in about 30 seconds, and the next one's reply."""
+    """Asks nothing; what came, whether its connection ended after about 5 seconds, and the next
+    one's reply."""
     question, answer, began = message("GET", "/drafts/1"), error(404, "draft"), time.monotonic()
     with office.connect() as client, office.connect() as after:
         came = rest(client)
-        is_in_time = 29 < time.monotonic() - began < 40
+        is_in_time = 4 < time.monotonic() - began < 15
         return came, is_in_time, asked(after, question, answer)
 
 
 def default_patience(run):
-    """Without `--patience` it is 30 seconds, for each wait by itself."""
+    """Without `--patience` it is 30 seconds for each wait by itself, and 5 to begin a message."""
     answer, offices = error(404, "draft"), []
     for name, connections in ("kept", 1), ("silent", 2):
         database = run.folder / f"{name}.db"

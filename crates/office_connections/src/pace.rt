@@ -1,5 +1,5 @@
 // The time that a client has.
-ghost use Rattle.std.specs.Prelude.{◌<◌, IfOk};
+ghost use Rattle.std.specs.Prelude.{◌≡◌, ◌≢◌, ◌*◌, ◌^◌, ◌<◌, IfOk, min};
 ghost use Rattle.std.specs.Duration.{as_nanos};
 
 use std::cell::Cell;
@@ -16,6 +16,10 @@ enum Awaited {
     // To take a reply.
     Taking,
 }
+
+// How many seconds a client has at most to begin a message: while it says nothing, it holds all
+// others.
+const SECONDS_TO_BEGIN: u64 = 5;
 
 // How long a client may take for each thing that it is to do. A wait begins with the first call
 // that waits, so the office's own time is not the client's.
@@ -91,10 +95,23 @@ impl<'a, C: Clock> Pace<'a, C> {
         if let Some(end) = self.due.get() {
             return Ok(end);
         }
-        let Some(end) = now.checked_add(self.patience) else {
+        let time = time_for(self.awaited.get(), self.patience);
+        let Some(end) = now.checked_add(time) else {
             return Err(Error::from(ErrorKind::InvalidInput));
         };
         self.due.set(Some(end));
         Ok(end)
+    }
+}
+
+// How long a client has to do this.
+fn time_for(awaited: Awaited, patience: Duration) -> Duration
+    ensures beginning { awaited ≡ Awaited.Message
+        → as_nanos result ≡ min (as_nanos patience) (5 * 10 ^ 9) }
+    ensures other { awaited ≢ Awaited.Message → result ≡ patience }
+{
+    match awaited {
+        Awaited::Message => patience.min(Duration::from_secs(SECONDS_TO_BEGIN)),
+        Awaited::Rest | Awaited::Taking => patience,
     }
 }

@@ -1,46 +1,58 @@
-// A socket and a machine that keep a client's pace.
+// A reader, a writer and a machine that keep a client's pace.
+ghost use Rattle.std.specs.Prelude.{◌≡◌};
+
 use crate::pace::Pace;
+use crate::timed::Timed;
 use office_messages::{Machine, Reply, Request};
 use std::alloc::Global;
 use std::io::{Read, Result, Write};
-use std::net::TcpStream;
 use std::time::{Clock, Duration};
 
-// Reads no longer than the client may take.
+// Reads no longer than the client may take. Its bytes are those of the reader below it.
 #[derive(Drop)]
-pub(crate) struct PacedReader<'a, C> {
-    stream: &'a TcpStream,
+pub(crate) struct PacedReader<'a, C, R: Drop> {
+    inner: R,
     pace: &'a Pace<'a, C>,
-    // The time-out that the socket has.
+    // The timeout that the reader below has.
     limit: Duration,
 }
 
-impl<'a, C: Clock> PacedReader<'a, C> {
-    pub(crate) fn new(stream: &'a TcpStream, pace: &'a Pace<'a, C>) -> PacedReader<'a, C> {
+impl<'a, C: Clock, R: Read + Timed + Drop> PacedReader<'a, C, R> {
+    pub(crate) fn new(inner: R, pace: &'a Pace<'a, C>) -> PacedReader<'a, C, R>
+        ensures { result.inner ≡ inner }
+    {
         PacedReader {
-            stream,
+            inner,
             pace,
             limit: Duration::ZERO,
         }
     }
 
-    // Sets the time-out of the next read, where the socket has another.
-    fn set_limit(&mut self, limit: Duration) -> Result<()> {
+    // Tells the client that nothing more is sent.
+    pub(crate) fn end_sending(&self) -> Result<()> {
+        self.inner.end_sending()
+    }
+
+    // Sets the timeout of the next read, if the reader below has another.
+    fn set_limit(&mut self, limit: Duration) -> Result<()>
+        ensures { self.new.inner ≡ self.old.inner }
+    {
         if self.limit != limit {
-            self.stream.set_read_timeout(Some(limit))?;
+            self.inner.set_read_limit(limit)?;
             self.limit = limit;
         }
         Ok(())
     }
 }
 
-impl<C: Clock> Read for PacedReader<'_, C> {
+impl<C: Clock, R: Read + Timed + Drop> Read for PacedReader<'_, C, R> {
+    ghost remaining = { λ reader. R.remaining reader.inner };
+
     fn read(&mut self, buf: &mut [u8]) -> Result<usize> {
         self.pace.is_to_send();
         let left = self.pace.left()?;
         self.set_limit(left)?;
-        let mut stream = self.stream;
-        let count = stream.read(buf)?;
+        let count = self.inner.read(buf)?;
         if count > 0 {
             self.pace.has_sent();
         }
@@ -48,41 +60,58 @@ impl<C: Clock> Read for PacedReader<'_, C> {
     }
 }
 
-// Writes no longer than the client may take.
+// Writes no longer than the client may take. Its bytes go to the writer below it.
 #[derive(Drop)]
-pub(crate) struct PacedWriter<'a, C> {
-    stream: &'a TcpStream,
+pub(crate) struct PacedWriter<'a, C, W: Drop> {
+    inner: W,
     pace: &'a Pace<'a, C>,
-    // The time-out that the socket has.
+    // The timeout that the writer below has.
     limit: Duration,
 }
 
-impl<'a, C: Clock> PacedWriter<'a, C> {
-    pub(crate) fn new(stream: &'a TcpStream, pace: &'a Pace<'a, C>) -> PacedWriter<'a, C> {
+impl<'a, C: Clock, W: Write + Timed + Drop> PacedWriter<'a, C, W> {
+    pub(crate) fn new(inner: W, pace: &'a Pace<'a, C>) -> PacedWriter<'a, C, W>
+        ensures { result.inner ≡ inner }
+    {
         PacedWriter {
-            stream,
+            inner,
             pace,
             limit: Duration::ZERO,
         }
     }
 
-    // Sets the time-out of the next write, where the socket has another.
-    fn set_limit(&mut self, limit: Duration) -> Result<()> {
+    // Returns the writer below.
+    pub(crate) fn into_inner(self) -> W
+        ensures { result ≡ self.entry.inner }
+    {
+        let PacedWriter {
+            inner,
+            pace: _,
+            limit: _,
+        } = self;
+        inner
+    }
+
+    // Sets the timeout of the next write, if the writer below has another.
+    fn set_limit(&mut self, limit: Duration) -> Result<()>
+        ensures { self.new.inner ≡ self.old.inner }
+    {
         if self.limit != limit {
-            self.stream.set_write_timeout(Some(limit))?;
+            self.inner.set_write_limit(limit)?;
             self.limit = limit;
         }
         Ok(())
     }
 }
 
-impl<C: Clock> Write for PacedWriter<'_, C> {
+impl<C: Clock, W: Write + Timed + Drop> Write for PacedWriter<'_, C, W> {
+    ghost contents = { λ writer. W.contents writer.inner };
+
     fn write(&mut self, buf: &[u8]) -> Result<usize> {
         self.pace.is_to_take();
         let left = self.pace.left()?;
         self.set_limit(left)?;
-        let mut stream = self.stream;
-        stream.write(buf)
+        self.inner.write(buf)
     }
 
     fn flush(&mut self) -> Result<()> {
@@ -90,7 +119,7 @@ impl<C: Clock> Write for PacedWriter<'_, C> {
     }
 }
 
-// A machine that tells when a reply is made.
+// A machine that records when a reply is made.
 #[derive(Drop)]
 pub(crate) struct PacedMachine<'a, 'b, C, M> {
     pub(crate) machine: &'a mut M,

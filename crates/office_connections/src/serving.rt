@@ -1,11 +1,15 @@
 // One connection.
+ghost use Rattle.std.specs.Prelude.{IfErr, IfOk};
+ghost use Rattle.office_messages.specs.Serve.{Serves, ServesFront};
 ghost use Rattle.office_connections.specs.Reaches.{Reaches};
 
 use crate::pace::Pace;
 use crate::paced::{PacedMachine, PacedReader, PacedWriter};
+use crate::timed::Timed;
 use office_messages::{End, Machine, ServeFault, Served, drain, serve};
 use std::alloc::Global;
-use std::net::{Shutdown, TcpStream};
+use std::io::{Read, Write};
+use std::net::TcpStream;
 use std::time::{Clock, Duration};
 
 // How often a connection is read.
@@ -14,13 +18,7 @@ const TURNS: u64 = 430_000_000;
 // How often what is not answered any more is read.
 const LAST_TURNS: u64 = 100_000;
 
-/// Serves a connection as `serve` of office_messages does, in 430,000,000 turns. The client has
-/// this patience to begin each message, from a message's first byte to its last, and to take each
-/// reply; past it the connection ends as a fault of reading or writing. Two waits are longer: of a
-/// message that began in one piece with the message before, the time begins with the next piece;
-/// and the reply to a fault of head or framing in such a piece has what the reply before it left.
-/// Where the office ends the connection, it stops sending, and reads on for at most this patience,
-/// so that what was answered arrives.
+/// Serves a client over a socket, as `serve_client` does over any reader and writer.
 pub fn serve_connection<C: Clock, M: Machine>(
     alloc: Global,
     clock: &C,
@@ -32,42 +30,80 @@ pub fn serve_connection<C: Clock, M: Machine>(
 {
     // A reply is not held back until the one before is acknowledged; without this it goes slower.
     let _ = stream.set_nodelay(true);
-    let pace = Pace::new(clock, patience);
-    let mut reader = PacedReader::new(stream, &pace);
-    let mut writer = PacedWriter::new(stream, &pace);
-    let served = serve_paced(alloc, &pace, &mut reader, &mut writer, machine)?;
-    if is_ended_by_office(served.end) {
-        leave(stream, &pace, &mut reader);
-    }
-    Ok(served)
+    let (served, _) = serve_client(alloc, clock, stream, stream, machine, patience);
+    served
 }
 
-// Serves a connection with the machine that tells the pace of its replies.
-fn serve_paced<C: Clock, M: Machine>(
+/// Serves a client as `serve` of office_messages does, in at most 430,000,000 reads, and returns
+/// the writer. The client has the lesser of 5 seconds and this patience to begin a message, this
+/// patience to send it from its first byte to its last, and this patience to take each reply;
+/// after that the connection ends with an I/O error of the read or the write. Two waits are
+/// longer: if a message began in one piece with the message before, its time begins with the next
+/// piece; and the reply to a fault of head or framing in such a piece has what the reply before it
+/// left. If the office ends the connection, it stops sending and reads on for at most this
+/// patience, so that what was answered arrives.
+pub fn serve_client<C: Clock, M: Machine, R: Read + Timed + Drop, W: Write + Timed + Drop>(
+    alloc: Global,
+    clock: &C,
+    from: R,
+    to: W,
+    machine: &mut M,
+    patience: Duration,
+) -> (Result<Served, ServeFault>, W)
+    ensures reached { Reaches M.Answers machine.old machine.new }
+
+    // The bytes are the machine's replies to the messages of the whole stream, in whatever pieces
+    // and at whatever pace it came; after a fault, to the first of them.
+    ensures ok { IfOk result.0 (λ served. Serves M.Answers (R.remaining from)
+        (W.contents to) (W.contents result.1) machine.old machine.new served) }
+    ensures err { IfErr result.0 (λ fault. ServesFront M.Answers (R.remaining from)
+        (W.contents to) (W.contents result.1) machine.old machine.new fault) }
+{
+    let pace = Pace::new(clock, patience);
+    let mut reader = PacedReader::new(from, &pace);
+    let mut writer = PacedWriter::new(to, &pace);
+    let served = serve_paced(alloc, &pace, &mut reader, &mut writer, machine);
+    if is_ended_by_office(served) {
+        leave(&pace, &mut reader);
+    }
+    (served, writer.into_inner())
+}
+
+// Serves a client with the machine that records when a reply is made.
+fn serve_paced<C: Clock, M: Machine, R: Read + Timed + Drop, W: Write + Timed + Drop>(
     alloc: Global,
     pace: &Pace<'_, C>,
-    reader: &mut PacedReader<'_, C>,
-    writer: &mut PacedWriter<'_, C>,
+    reader: &mut PacedReader<'_, C, R>,
+    writer: &mut PacedWriter<'_, C, W>,
     machine: &mut M,
 ) -> Result<Served, ServeFault>
     ensures reached { Reaches M.Answers machine.old machine.new }
+    ensures ok { IfOk result (λ served. Serves M.Answers (R.remaining reader.old.inner)
+        (W.contents writer.old.inner) (W.contents writer.new.inner)
+        machine.old machine.new served) }
+    ensures err { IfErr result (λ fault. ServesFront M.Answers (R.remaining reader.old.inner)
+        (W.contents writer.old.inner) (W.contents writer.new.inner)
+        machine.old machine.new fault) }
 {
     let mut paced = PacedMachine { machine, pace };
     let mut turns = TURNS;
     serve(alloc, reader, writer, &mut paced, &mut turns)
 }
 
-// Bytes of the client may lie unread.
-fn is_ended_by_office(end: End) -> bool {
-    match end {
-        End::Refused | End::Asked | End::Limit => true,
-        End::Closed | End::Cut => false,
+// Whether bytes of the client may be unread.
+fn is_ended_by_office(served: Result<Served, ServeFault>) -> bool {
+    match served {
+        Ok(served) => match served.end {
+            End::Refused | End::Asked | End::Limit => true,
+            End::Closed | End::Cut => false,
+        },
+        Err(_) => false,
     }
 }
 
-// A socket that is closed while bytes lie unread is reset, and replies on their way are lost.
-fn leave<C: Clock>(stream: &TcpStream, pace: &Pace<'_, C>, reader: &mut PacedReader<'_, C>) {
-    if stream.shutdown(Shutdown::Write).is_ok() {
+// A socket that is closed while bytes are unread is reset, and replies on their way are lost.
+fn leave<C: Clock, R: Read + Timed + Drop>(pace: &Pace<'_, C>, reader: &mut PacedReader<'_, C, R>) {
+    if reader.end_sending().is_ok() {
         pace.is_left();
         let mut turns = LAST_TURNS;
         let _ = drain(reader, &mut turns);
