@@ -1,2 +1,2 @@
-pub mod ReachLemmas
 pub mod LineLemmas
+pub mod ClientLemmas

@@ -1,13 +1,13 @@
 -- The lines of faults.
-use Rattle.std.proofs.Common.{◌≡◌, ℕ, ◌+◌, ◌≤◌, List, [], ◌∷◌, ◌++◌, Option, Bool}
+use Rattle.std.proofs.Common.{◌≡◌, ℕ, ◌≤◌, List, [], ◌∷◌, ◌++◌, Option, Bool}
 use Rattle.std.proofs.Common.{true, false, Result, Ok, Err, refl, ap, sym, subst, ◌∙◌, arith}
-use Rattle.std.proofs.Common.{append_assoc, append-nil, length-append}
+use Rattle.std.proofs.Common.{append_assoc, append-nil}
 use Rattle.std.specs.Prelude.{IsTrue, OnOk, is_ok, not}
 use Rattle.std.specs.Int.{from_bool}
 use Rattle.std.specs.Io.KnownBytes.{Appends}
 use Rattle.std.proofs.KnownBytes.{Appends-trans}
 use Rattle.office_messages.specs.declared.connection.ServeFault.{ServeFault}
-use Rattle.office_connections.specs.Lines.{TellsFaults, fault_line, fault_lines}
+use Rattle.office_connections.specs.Lines.{fault_line, fault_lines}
 
 fault_lines-append : (fs gs : List ServeFault)
     → fault_lines (fs ++ gs) ≡ fault_lines fs ++ fault_lines gs
@@ -17,20 +17,17 @@ fault_lines-append (f ∷ fs) gs =
     ∙ sym (append_assoc (fault_line f) (fault_lines fs) (fault_lines gs))
 
 -- some lines, and then some more
-pub more_lines : (m n : ℕ) (old mid new : Option (List ℕ)) → TellsFaults m old mid
-    → TellsFaults n mid new → TellsFaults (m + n) old new
-more_lines m n old mid new (fs, few, p) (gs, fewer, q) = (
-  fs ++ gs,
-  omega (arith, length-append fs gs, few, fewer),
-  subst (Appends old new) (sym (fault_lines-append fs gs)) (Appends-trans old mid new _ _ p q),
-)
+pub more_lines : (fs gs : List ServeFault) (old mid new : Option (List ℕ))
+    → Appends old mid (fault_lines fs) → Appends mid new (fault_lines gs)
+    → Appends old new (fault_lines (fs ++ gs))
+more_lines fs gs old mid new p q =
+    subst (Appends old new) (sym (fault_lines-append fs gs)) (Appends-trans old mid new _ _ p q)
 
--- one line, where its writing succeeded
+-- one line, if its writing succeeded
 pub one_line : {T E : Type 0} (r : Result T E) (old new : Option (List ℕ)) (f : ServeFault)
     → OnOk r (Appends old new (fault_line f)) → (b : Bool) → b ≡ is_ok r → IsTrue b
-    → TellsFaults 1 old new
-one_line (Ok x) old new f p b is ok =
-    (f ∷ [], omega arith, subst (Appends old new) (sym (append-nil (fault_line f))) p)
+    → Appends old new (fault_lines (f ∷ []))
+one_line (Ok x) old new f p b is ok = subst (Appends old new) (sym (append-nil (fault_line f))) p
 one_line (Err e) old new f p b is ok = let never : true ≡ false = sym ok ∙ is in cc
 
 -- a line that was not written counts

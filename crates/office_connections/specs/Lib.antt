@@ -1,2 +1,2 @@
-pub mod Reaches
 pub mod Lines
+pub mod Clients

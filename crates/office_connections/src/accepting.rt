@@ -1,15 +1,16 @@
-// Connections, one after another.
-ghost use Rattle.std.specs.Prelude.{◌≡◌, ◌≤◌, IsTrue, OnOk};
+// Clients, one after another.
+ghost use Rattle.std.specs.Prelude.{◌≡◌, ◌<◌, ◌≤◌, [], IfNone, IfSome, IsTrue, None, OnOk};
 ghost use Rattle.std.specs.Io.KnownBytes.{Appends};
-ghost use Rattle.office_connections.specs.Lines.{TellsFaults, connection_fault_number, fault_line};
-ghost use Rattle.office_connections.specs.Reaches.{Reaches};
+ghost use Rattle.office_messages.specs.Visits.{ServesVisit, ServesVisits, Visit, with_fault};
+ghost use Rattle.office_connections.specs.Lines.{connection_fault_number, fault_line, fault_lines};
+ghost use Rattle.office_connections.specs.Clients.{AreOfClients, ComesNext, ServesClients};
 
-use crate::serving::serve_connection;
+use crate::serving::serve_client;
+use crate::timed::Timed;
 use office_messages::{Machine, ServeFault};
 use std::alloc::Global;
 use std::io;
-use std::io::Write;
-use std::net::{TcpListener, TcpStream};
+use std::io::{Read, Write};
 use std::time::{Clock, Duration};
 
 /// What is to be served.
@@ -24,57 +25,78 @@ pub struct Plan {
 /// What was served.
 #[derive(Clone, Copy)]
 pub struct Service {
-    /// How many connections were accepted: fewer than were to be, where the last accept failed.
+    /// How many connections: fewer than were to be, if no further client came.
     pub accepted: u32,
     /// How many lines could not be written.
     pub unwritten: u32,
 }
 
-/// Accepts connections and serves them, one after another, up to the plan's number or the first
-/// accept that fails. For each connection that ends in a fault a line goes to `err`.
-pub fn serve_connections<C: Clock, M: Machine, E: Write>(
-    alloc: Global,
-    clock: &C,
-    listener: &TcpListener,
-    plan: Plan,
-    machine: &mut M,
-    err: &mut E,
-) -> Service
-    ensures reached { Reaches M.Answers machine.old machine.new }
-    ensures accepted { result.accepted ≤ plan.connections }
-    ensures told { result.unwritten ≡ 0
-        → TellsFaults result.accepted (E.contents err.old) (E.contents err.new) }
+/// Serves clients, each a reader and a writer, one after another as they come, up to the plan's
+/// number. For each connection that ends with a fault a line goes to `err`.
+pub fn serve_clients<
+    C: Clock,
+    M: Machine,
+    R: Read + Timed + Drop,
+    W: Write + Timed + Drop,
+    I: Iterator<Item = (R, W)>,
+    E: Write,
+>(alloc: Global, clock: &C, clients: &mut I, plan: Plan, machine: &mut M, err: &mut E) -> Service
+    requires { I.can_next clients.old }
+
+    // One machine goes from one client to the next, and each client is written its replies.
+    ensures served { ServesClients (AreOfClients I.next_gives R.remaining W.contents clients.old)
+        (ServesVisits M.Answers) result machine.old machine.new
+        (E.contents err.old) (E.contents err.new) }
+    ensures most { result.accepted ≤ plan.connections }
+    ensures all { result.accepted < plan.connections
+        → (last : I) × I.next_gives last None clients.new }
 {
     let mut service = Service {
         accepted: 0,
         unwritten: 0,
     };
     while service.accepted < plan.connections {
-        let Ok((stream, _)) = listener.accept() else {
+        let Some(is_told) = serve_next(alloc, clock, clients, plan.patience, machine, err) else {
             break;
         };
-        let is_told = serve_and_tell(alloc, clock, &stream, plan.patience, machine, err);
         service.accepted += 1;
         service.unwritten += u32::from(!is_told);
     }
     service
 }
 
-// Serves one connection, and tells its fault; whether there is none, or its line was written.
-fn serve_and_tell<C: Clock, M: Machine, E: Write>(
+// Serves the next client, if one comes, and prints the fault of its connection. Returns whether
+// there is none, or its line was written.
+fn serve_next<
+    C: Clock,
+    M: Machine,
+    R: Read + Timed + Drop,
+    W: Write + Timed + Drop,
+    I: Iterator<Item = (R, W)>,
+    E: Write,
+>(
     alloc: Global,
     clock: &C,
-    stream: &TcpStream,
+    clients: &mut I,
     patience: Duration,
     machine: &mut M,
     err: &mut E,
-) -> bool
-    ensures reached { Reaches M.Answers machine.old machine.new }
-    ensures told { IsTrue result → TellsFaults 1 (E.contents err.old) (E.contents err.new) }
+) -> Option<bool>
+    requires { I.can_next clients.old }
+    ensures some { IfSome result (λ is_told. (visit : Visit)
+        × ComesNext I.next_gives R.remaining W.contents clients.old visit clients.new
+        × ServesVisit M.Answers visit machine.old machine.new
+        × (IsTrue is_told → Appends (E.contents err.old) (E.contents err.new)
+        (fault_lines (with_fault visit.ended [])))) }
+    ensures none { IfNone result (I.next_gives clients.old None clients.new
+        × (machine.new ≡ machine.old) × (err.new ≡ err.old)) }
+    ensures goes { IfSome result (λ _. I.can_next clients.new) }
 {
-    match serve_connection(alloc, clock, stream, machine, patience) {
-        Ok(_) => true,
-        Err(fault) => print_fault(fault, err).is_ok(),
+    let (from, to) = clients.next()?;
+    let (served, _) = serve_client(alloc, clock, from, to, machine, patience);
+    match served {
+        Ok(_) => Some(true),
+        Err(fault) => Some(print_fault(fault, err).is_ok()),
     }
 }
 

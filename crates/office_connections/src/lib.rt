@@ -9,8 +9,8 @@ mod running;
 mod serving;
 mod timed;
 
-pub use accepting::{Plan, Service, serve_connections};
-pub use listening::{Listening, MAX_PORT, announce, listen};
+pub use accepting::{Plan, Service, serve_clients};
+pub use listening::{Listening, MAX_PORT, Sockets, announce, listen};
 pub use running::{RunFault, serve_run};
-pub use serving::{serve_client, serve_connection};
+pub use serving::serve_client;
 pub use timed::Timed;

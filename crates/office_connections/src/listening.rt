@@ -15,7 +15,35 @@ pub const MAX_PORT: u32 = 65_535;
 pub struct Listening {
     /// Which port it is.
     pub port: u16,
-    pub(crate) listener: TcpListener,
+    listener: TcpListener,
+}
+
+impl Listening {
+    /// The clients that connect.
+    pub fn clients(&self) -> Sockets<'_> {
+        Sockets {
+            listener: &self.listener,
+        }
+    }
+}
+
+/// Clients over sockets, as they are accepted: each is a reader and a writer of one socket. None
+/// comes if an accept fails.
+#[derive(Drop)]
+pub struct Sockets<'a> {
+    listener: &'a TcpListener,
+}
+
+impl Iterator for Sockets<'_> {
+    type Item = (TcpStream, TcpStream);
+
+    fn next(&mut self) -> Option<(TcpStream, TcpStream)> {
+        let (writer, _) = self.listener.accept().ok()?;
+        // A reply is not held back until the one before is acknowledged; without this it goes slower.
+        let _ = writer.set_nodelay(true);
+        let reader = writer.try_clone().ok()?;
+        Some((reader, writer))
+    }
 }
 
 /// Listens on this port of 127.0.0.1; 0 takes any that is free.

@@ -1,14 +1,16 @@
 // The run of a server.
-ghost use Rattle.std.specs.Prelude.{◌≡◌, IfErr, IfOk};
+ghost use Rattle.std.specs.Prelude.{◌≡◌, ◌<◌, ◌≤◌, IfErr, IfOk};
 ghost use Rattle.std.specs.Io.KnownBytes.{Appends};
-ghost use Rattle.office_connections.specs.Lines.{TellsFaults, listening_line};
-ghost use Rattle.office_connections.specs.Reaches.{Reaches};
+ghost use Rattle.office_messages.specs.Visits.{ServesVisits};
+ghost use Rattle.office_connections.specs.Lines.{listening_line};
+ghost use Rattle.office_connections.specs.Clients.{AreOfClients, ServesPlan};
 
-use crate::accepting::{Plan, serve_connections};
-use crate::listening::{Listening, announce};
+use crate::accepting::{Plan, Service, serve_clients};
+use crate::listening::announce;
+use crate::timed::Timed;
 use office_messages::Machine;
 use std::alloc::Global;
-use std::io::Write;
+use std::io::{Read, Write};
 use std::time::Clock;
 
 /// Why not all connections were served.
@@ -20,33 +22,53 @@ pub enum RunFault {
     Write,
 }
 
-/// Tells on `out` which port is listened on, then serves the plan's connections, one after another;
-/// for each that ends in a fault a line goes to `err`. Answers how many of these lines could not be
-/// written.
-pub fn serve_run<C: Clock, M: Machine, O: Write, E: Write>(
+/// Tells on `out` which port is listened on, then serves the plan's clients, one after another; for
+/// each connection that ends with a fault a line goes to `err`. Answers how many of these lines
+/// could not be written.
+pub fn serve_run<
+    C: Clock,
+    M: Machine,
+    R: Read + Timed + Drop,
+    W: Write + Timed + Drop,
+    I: Iterator<Item = (R, W)>,
+    O: Write,
+    E: Write,
+>(
     alloc: Global,
     clock: &C,
-    listening: &Listening,
+    port: u16,
+    clients: &mut I,
     plan: Plan,
     machine: &mut M,
     out: &mut O,
     err: &mut E,
 ) -> Result<u32, RunFault>
-    ensures reached { Reaches M.Answers machine.old machine.new }
+    requires { I.can_next clients.old }
+    ensures served { ServesPlan (AreOfClients I.next_gives R.remaining W.contents clients.old)
+        (ServesVisits M.Answers) plan.connections result machine.old machine.new
+        (E.contents err.old) (E.contents err.new) }
     ensures port { IfOk result (λ _. Appends (O.contents out.old) (O.contents out.new)
-        (listening_line listening.now.port)) }
+        (listening_line port)) }
     ensures unaccepted { IfErr result (λ fault. fault ≡ RunFault.Listen
-        → Appends (O.contents out.old) (O.contents out.new)
-        (listening_line listening.now.port)) }
-    ensures told { IfOk result (λ unwritten. unwritten ≡ 0
-        → TellsFaults plan.connections (E.contents err.old) (E.contents err.new)) }
+        → Appends (O.contents out.old) (O.contents out.new) (listening_line port)) }
     ensures unserved { IfErr result (λ fault. fault ≡ RunFault.Write
         → (machine.new ≡ machine.old) × (err.new ≡ err.old)) }
 {
-    if announce(listening.port, out).is_err() {
+    if announce(port, out).is_err() {
         return Err(RunFault::Write);
     }
-    let service = serve_connections(alloc, clock, &listening.listener, plan, machine, err);
+    let service = serve_clients(alloc, clock, clients, plan, machine, err);
+    ended(service, plan)
+}
+
+// How a run ended that served this.
+fn ended(service: Service, plan: Plan) -> Result<u32, RunFault>
+    requires { service.accepted ≤ plan.connections }
+    ensures all { IfOk result (λ unwritten.
+        (service.accepted ≡ plan.connections) × (service.unwritten ≡ unwritten)) }
+    ensures fewer { IfErr result (λ fault.
+        (fault ≡ RunFault.Listen) × (service.accepted < plan.connections)) }
+{
     if service.accepted < plan.connections {
         return Err(RunFault::Listen);
     }

@@ -1,7 +1,6 @@
 // One connection.
 ghost use Rattle.std.specs.Prelude.{IfErr, IfOk};
 ghost use Rattle.office_messages.specs.Serve.{Serves, ServesFront};
-ghost use Rattle.office_connections.specs.Reaches.{Reaches};
 
 use crate::pace::Pace;
 use crate::paced::{PacedMachine, PacedReader, PacedWriter};
@@ -9,7 +8,6 @@ use crate::timed::Timed;
 use office_messages::{End, Machine, ServeFault, Served, drain, serve};
 use std::alloc::Global;
 use std::io::{Read, Write};
-use std::net::TcpStream;
 use std::time::{Clock, Duration};
 
 // How often a connection is read.
@@ -17,22 +15,6 @@ const TURNS: u64 = 430_000_000;
 
 // How often what is not answered any more is read.
 const LAST_TURNS: u64 = 100_000;
-
-/// Serves a client over a socket, as `serve_client` does over any reader and writer.
-pub fn serve_connection<C: Clock, M: Machine>(
-    alloc: Global,
-    clock: &C,
-    stream: &TcpStream,
-    machine: &mut M,
-    patience: Duration,
-) -> Result<Served, ServeFault>
-    ensures reached { Reaches M.Answers machine.old machine.new }
-{
-    // A reply is not held back until the one before is acknowledged; without this it goes slower.
-    let _ = stream.set_nodelay(true);
-    let (served, _) = serve_client(alloc, clock, stream, stream, machine, patience);
-    served
-}
 
 /// Serves a client as `serve` of office_messages does, in at most 430,000,000 reads, and returns
 /// the writer. The client has the lesser of 5 seconds and this patience to begin a message, this
@@ -50,8 +32,6 @@ pub fn serve_client<C: Clock, M: Machine, R: Read + Timed + Drop, W: Write + Tim
     machine: &mut M,
     patience: Duration,
 ) -> (Result<Served, ServeFault>, W)
-    ensures reached { Reaches M.Answers machine.old machine.new }
-
     // The bytes are the machine's replies to the messages of the whole stream, in whatever pieces
     // and at whatever pace it came; after a fault, to the first of them.
     ensures ok { IfOk result.0 (λ served. Serves M.Answers (R.remaining from)
@@ -77,7 +57,6 @@ fn serve_paced<C: Clock, M: Machine, R: Read + Timed + Drop, W: Write + Timed + 
     writer: &mut PacedWriter<'_, C, W>,
     machine: &mut M,
 ) -> Result<Served, ServeFault>
-    ensures reached { Reaches M.Answers machine.old machine.new }
     ensures ok { IfOk result (λ served. Serves M.Answers (R.remaining reader.old.inner)
         (W.contents writer.old.inner) (W.contents writer.new.inner)
         machine.old machine.new served) }

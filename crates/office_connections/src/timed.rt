@@ -15,7 +15,7 @@ pub trait Timed {
     fn end_sending(&self) -> Result<()>;
 }
 
-impl Timed for &TcpStream {
+impl Timed for TcpStream {
     fn set_read_limit(&self, limit: Duration) -> Result<()> {
         self.set_read_timeout(Some(limit))
     }

@@ -146,7 +146,7 @@ quiet_end s (asks request ∷ items) old new output (mid, reply, rest, step, is,
     quiet_end s items mid new rest told (All-tail (IsHersOrQuiet s) first later q)
     ∙ leaves s old mid request reply step (All-head (IsHersOrQuiet s) first later q)
 
-abbrev Sees : ℕ → View → Entry → Type 0
+abbrev pub Sees : ℕ → View → Entry → Type 0
 Sees s view e = view_of s e.office ≡ view
 
 pub quiet_each : (s : ℕ) (items : List Item) (old new : OfficeState) (output : List ℕ)
@@ -170,7 +170,7 @@ told_one s view e told same is =
     subst (λ v. (e.reply ≡ her_reply s e.request v) ⊎ (e.reply ≡ unavailable)) same (told s is)
 
 -- where each message finds this view, she is told its text
-both_all : (s : ℕ) (view : View) (es : List Entry) → All TellsHerView es → All (Sees s view) es
+pub both_all : (s : ℕ) (view : View) (es : List Entry) → All TellsHerView es → All (Sees s view) es
     → All (RepliesView s view) es
 both_all s view es told same = λ k d lt. told_one s view (get_or es k d) (told k d lt) (same k d lt)
 

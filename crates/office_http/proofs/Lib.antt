@@ -3,3 +3,4 @@ mod UnavailableLemmas
 mod CandidateLemmas
 mod ServingLemmas
 mod IsolationLemmas
+pub mod ClientLemmas

@@ -3,3 +3,4 @@ pub mod Serving
 pub mod Transcripts
 pub mod HerMessages
 pub mod Isolation
+pub mod Clients

@@ -5,9 +5,11 @@ ghost use Rattle.office_messages.specs.Messages.{Item};
 ghost use Rattle.office_messages.specs.Serve.{Serves, Told};
 ghost use Rattle.office_messages.specs.Statuses.{code_of};
 ghost use Rattle.office_messages.specs.Stream.{PlainRequest};
+ghost use Rattle.office_messages.specs.Visits.{Visit};
 ghost use Rattle.office_messages.specs.declared.connection.Served.{Served};
 ghost use Rattle.office_model.specs.Office.{OfficeState};
 ghost use Rattle.office_model.specs.Views.{view_of};
+ghost use Rattle.office_http.specs.Clients.{ServesAll, all_entries};
 ghost use Rattle.office_http.specs.HerMessages.{AreAlike, AreFrom, IsFrom, her_output};
 ghost use Rattle.office_http.specs.Isolation.{AreAvailable, AreToldAlike, AreToldByView, IsHersOrQuiet, IsQuietFor, LeavesPublication, RepliesView, her_changes};
 ghost use Rattle.office_http.specs.Transcripts.{TellsHerView, entries, entry, said_in, transcript};
@@ -144,4 +146,49 @@ pub fn same_changes_same_view()
         ≡ her_changes s (transcript others old text other second)
         → IsFrom s request → Replies one request reply next → Replies other request answer last
         → AreAlike (request, reply) (request, answer) }
+{}
+
+/// Over clients one after another, connections that end with a fault among them, each candidate is
+/// replied the text of their view in the office that their message came to, whatever others ask
+/// before and between.
+pub fn each_client_told_by_view()
+    ensures { (visits : List Visit) (old new : OfficeState) → (run : ServesAll visits old new)
+        → All TellsHerView (all_entries visits old new run) }
+{}
+
+/// If all others' messages are quiet for a candidate, then over clients one after another,
+/// connections that end with a fault among them, each message, and what comes after the last, finds
+/// the candidate's view as it was before the first, and their own are replied its text.
+pub fn quiet_clients()
+    ensures end { (s : ℕ) (visits : List Visit) (old new : OfficeState)
+        → (run : ServesAll visits old new)
+        → All (IsHersOrQuiet s) (all_entries visits old new run)
+        → view_of s new ≡ view_of s old }
+    ensures each { (s : ℕ) (visits : List Visit) (old new : OfficeState)
+        → (run : ServesAll visits old new)
+        → All (IsHersOrQuiet s) (all_entries visits old new run)
+        → All (λ e. view_of s e.office ≡ view_of s old) (all_entries visits old new run) }
+    ensures told { (s : ℕ) (visits : List Visit) (old new : OfficeState)
+        → (run : ServesAll visits old new)
+        → All (IsHersOrQuiet s) (all_entries visits old new run)
+        → All (RepliesView s (view_of s old)) (all_entries visits old new run) }
+{}
+
+/// Two offices, each with clients one after another, connections that end with a fault among them:
+/// if the offices that a candidate's two messages come to agree on the candidate's view, they get
+/// the same bytes for the same question, unless one of the replies is that the office is
+/// unavailable. They do so throughout if they agree at the start, and others' messages are quiet
+/// for the candidate.
+pub fn same_view_same_clients()
+    ensures agree { (s : ℕ) (visits others : List Visit) (one next other last : OfficeState)
+        → (first : ServesAll visits one next) → (second : ServesAll others other last)
+        → AreToldByView s (all_entries visits one next first)
+        (all_entries others other last second) }
+    ensures quiet { (s : ℕ) (visits others : List Visit) (one next other last : OfficeState)
+        → (first : ServesAll visits one next) → (second : ServesAll others other last)
+        → view_of s one ≡ view_of s other
+        → All (IsHersOrQuiet s) (all_entries visits one next first)
+        → All (IsHersOrQuiet s) (all_entries others other last second)
+        → AreToldAlike s (all_entries visits one next first)
+        (all_entries others other last second) }
 {}

@@ -9,3 +9,4 @@ pub mod MoreLemmas
 pub mod ServeLemmas
 pub mod OneReading
 pub mod RunLemmas
+pub mod VisitLemmas

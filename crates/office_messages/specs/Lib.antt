@@ -10,5 +10,6 @@ pub mod HeadEnds
 pub mod StreamFaults
 pub mod Messages
 pub mod Serve
+pub mod Visits
 pub mod Heads
 pub mod Looks

@@ -1,12 +1,15 @@
 -- What a database stands for once its office was served, and what is printed meanwhile.
-use Rattle.std.specs.Prelude.{◌≡◌, ◌≢◌, ◌⊎◌, ℕ, IsTrue, List, Option}
+use Rattle.std.specs.Prelude.{◌≡◌, ◌≢◌, ◌<◌, ◌≤◌, ◌⊎◌, ℕ, IfErr, IfOk, IsTrue, List, Option, Result, length}
 use Rattle.std.specs.Io.KnownBytes.{Keeps}
+use Rattle.sqlite.specs.Held.{Held}
 use Rattle.sqlite.specs.State.{State}
+use Rattle.sqlite.specs.Store.{Ghosts}
+use Rattle.office_connections.specs.Clients.{ServesClients}
 use Rattle.office_connections.specs.Lines.{PrintsPort, TellsFaults}
-use Rattle.office_connections.specs.Reaches.{Reaches}
-use Rattle.office_http.specs.Replying.{Replies, TellsCandidate}
-use Rattle.office_messages.specs.Reply.{PlainReply}
-use Rattle.office_messages.specs.Stream.{PlainRequest}
+use Rattle.office_connections.specs.declared.accepting.Service.{Service}
+use Rattle.office_http.specs.Clients.{ServesAllByView}
+use Rattle.office_http.specs.Serving.{LeadsOffice}
+use Rattle.office_messages.specs.Visits.{Visit}
 use Rattle.office_model.specs.Office.{OfficeState}
 use Rattle.office_program.specs.declared.faults.ProgramFault.{ProgramFault}
 use Rattle.office_program.specs.declared.faults.ProgramFault.TheVariants as fault
@@ -14,17 +17,30 @@ use Rattle.office_program.specs.declared.ending.Ending.{Ending}
 use Rattle.office_program.specs.declared.words.Terms.{Terms}
 use Rattle.office_store.specs.Opening.{IsOfficeOf}
 
--- the office replies so; and a candidate is replied the text of her view in the office that her
--- request came to, or that the office is unavailable
-abbrev pub RepliesByView : OfficeState → PlainRequest → PlainReply → OfficeState → Type 0
-RepliesByView old request reply new =
-    Replies old request reply new × TellsCandidate old request reply
+-- the office served these connections, by each candidate's view, over a disk that returns what was
+-- written
+abbrev pub OfficeServes : {S : Type 0} → Ghosts S → List Visit → Held S → Held S → Type 0
+OfficeServes store visits old new = LeadsOffice store (ServesAllByView visits) old new
 
--- while it is open, it stands for an office that this one comes to by replying to some requests
-abbrev pub ComesTo : OfficeState → State → Type 0
-ComesTo there s =
-    (next : OfficeState) × Reaches RepliesByView there next
-    × (IsTrue s.is_open → IsOfficeOf s.now next)
+-- the office served as many clients as the terms say; or nobody, or fewer and then an accept failed
+pub record ServesTerms {S : Type 0} (store : Ghosts S) (AreTheirs : List Visit → Type 0)
+    (terms : Terms) (outcome : Result Ending ProgramFault) (old new : Held S)
+    (errors_old errors_new : Option (List ℕ)) : Type 0 where
+  pub service : Service
+  pub most : service.accepted ≤ terms.connections
+  pub serves :
+      ServesClients AreTheirs (OfficeServes store) service old new errors_old errors_new
+  pub all : IfOk outcome (λ ending. (service.accepted ≡ terms.connections)
+      × (IsTrue ending.is_told → service.unwritten ≡ 0))
+  pub fewer : IfErr outcome (λ shown. (service.accepted ≡ 0)
+      ⊎ ((shown ≡ fault.CannotListen) × (service.accepted < terms.connections)))
+
+-- while it is open, it stands for the office that this one comes to by serving some connections, at
+-- most so many
+abbrev pub ComesTo : ℕ → OfficeState → State → Type 0
+ComesTo connections there s =
+    (visits : List Visit) × (length visits ≤ connections) × (next : OfficeState)
+    × ServesAllByView visits there next × (IsTrue s.is_open → IsOfficeOf s.now next)
 
 -- the port of the terms is told on the one writer, and on the other the faults of connections, each
 -- by its line unless the writer failed

@@ -117,6 +117,7 @@ pub(crate) fn fault_of_export<'a>(fault: ExportFault) -> ProgramFault<'a>
 // What a fault of a server's run is to the program.
 pub(crate) fn fault_of_run<'a>(fault: RunFault) -> ProgramFault<'a>
     ensures line { fault_line result ≡ run_line fault }
+    ensures listen { fault ≡ RunFault.Listen → result ≡ ProgramFault.CannotListen }
     ensures write { fault ≡ RunFault.Write → result ≡ ProgramFault.CannotWrite }
 {
     match fault {

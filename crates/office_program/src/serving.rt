@@ -1,22 +1,25 @@
 // `serve`: the office of a database's file, over sockets.
-ghost use Rattle.std.specs.Prelude.{◌≡◌, IfErr, IfOk};
+ghost use Rattle.std.specs.Prelude.{◌≡◌, ◌≢◌, ◌*◌, ◌^◌, ◌⊎◌, IfErr, IfOk};
+ghost use Rattle.std.specs.Duration.{as_nanos};
+ghost use Rattle.std.specs.Io.KnownBytes.{Appends, Keeps};
 ghost use Rattle.sqlite.specs.Held.{state};
 ghost use Rattle.sqlite.specs.State.{HasCleanDisk};
-ghost use Rattle.office_connections.specs.Reaches.{Reaches};
-ghost use Rattle.office_http.specs.Serving.{LeadsOffice};
+ghost use Rattle.office_connections.specs.Clients.{AreOfClients, ServesPlan};
+ghost use Rattle.office_connections.specs.Lines.{listening_line};
+ghost use Rattle.office_messages.specs.Visits.{ServesVisits};
 ghost use Rattle.office_model.specs.Office.{OfficeState};
 ghost use Rattle.office_store.specs.Opening.{IsOfficeOf};
-ghost use Rattle.office_program.specs.Serve.{ComesTo, LeavesPort, PrintsServed, RepliesByView};
+ghost use Rattle.office_program.specs.Serve.{ComesTo, LeavesPort, PrintsServed, ServesTerms};
 ghost use Rattle.office_program.specs.TaskFaults.{IsOfServe};
 
 use crate::ending::Ending;
 use crate::faults::{ProgramFault, fault_of_open, fault_of_run};
 use crate::telling::{LongWork, TellingMachine, tell};
 use crate::words::Terms;
-use office_connections::{Plan, listen, serve_run};
-use office_http::{Alter, AnsweringDesk, Connection, Desk, Office, Routes, told_by_view};
+use office_connections::{Plan, RunFault, Timed, listen, serve_run};
+use office_http::{Alter, AnsweringDesk, Connection, Desk, Office, Routes};
 use office_messages::Machine;
-use std::io::Write;
+use std::io::{Read, Write};
 use std::time::Duration;
 
 // `serve`. The database is opened, and its office found or made, before anything is listened on.
@@ -55,12 +58,11 @@ pub fn serve_stored<'a, S: Alter, O: Write, E: Write>(
     err: &mut E,
 ) -> (Connection<S>, Result<Ending, ProgramFault<'a>>)
     // Over a disk that returns what was written, and that has nothing uncommitted: however it ends,
-    // the database stands for an office that the one which was found comes to by replying to some
-    // requests.
+    // the database represents the office that the one found comes to by serving its connections.
     ensures reached { HasCleanDisk (state S.Store result.0)
         → ((state S.Store conn).now ≡ (state S.Store conn).committed)
         → (there : OfficeState) → IsOfficeOf (state S.Store conn).now there
-        → ComesTo there (state S.Store result.0) }
+        → ComesTo terms.connections there (state S.Store result.0) }
     ensures served { IfOk result.1 (PrintsServed terms (O.contents out.old) (O.contents out.new)
         (E.contents err.old) (E.contents err.new)) }
     ensures fault { IfErr result.1 IsOfServe }
@@ -76,9 +78,7 @@ pub fn serve_stored<'a, S: Alter, O: Write, E: Write>(
     (desk.into_office().release(), done)
 }
 
-/// Serves connections to an office at its desk, as the terms say: one after another, over sockets.
-/// However it ends, the office is one that it comes to by replying to some requests, to those of a
-/// candidate with the text of her view in the office that they came to.
+/// Serves the office at a desk to the clients of a port, one after another, as the terms say.
 pub fn serve_desk<'a, S: Alter, O: Write, E: Write>(
     rt: &HostRuntime,
     database: &str,
@@ -87,59 +87,10 @@ pub fn serve_desk<'a, S: Alter, O: Write, E: Write>(
     out: &mut O,
     err: &mut E,
 ) -> Result<Ending, ProgramFault<'a>>
-    // Over a disk that returns what was written, whatever office stood there before.
-    ensures reached { LeadsOffice S.Store (Reaches RepliesByView) desk.old desk.new }
+    // However it ends; sockets tell nothing of their bytes.
+    ensures reached { ServesTerms S.Store (λ visits. Unit {0}) terms result desk.old desk.new
+        (E.contents err.old) (E.contents err.new) }
     ensures clean { HasCleanDisk (state S.Store desk.new) → HasCleanDisk (state S.Store desk.old) }
-    ensures served { IfOk result (PrintsServed terms (O.contents out.old) (O.contents out.new)
-        (E.contents err.old) (E.contents err.new)) }
-    ensures fault { IfErr result IsOfServe }
-    ensures port { IfErr result
-        (LeavesPort terms (O.contents out.old) (O.contents out.new)) }
-{
-    let Ok(routes) = Routes::new(rt.alloc()) else {
-        return Err(ProgramFault::NoMemory);
-    };
-    told_by_view(); // the law of what a candidate is replied
-    let mut machine = AnsweringDesk {
-        desk,
-        routes: &routes,
-    };
-    serve_with_notices(rt, database, terms, &mut machine, out, err)
-}
-
-// Serves with the machine, and says on a terminal when it is asked to publish.
-fn serve_with_notices<'a, M: Machine, O: Write, E: Write>(
-    rt: &HostRuntime,
-    database: &str,
-    terms: Terms,
-    machine: &mut M,
-    out: &mut O,
-    err: &mut E,
-) -> Result<Ending, ProgramFault<'a>>
-    ensures reached { Reaches M.Answers machine.old machine.new }
-    ensures served { IfOk result (PrintsServed terms (O.contents out.old) (O.contents out.new)
-        (E.contents err.old) (E.contents err.new)) }
-    ensures fault { IfErr result IsOfServe }
-    ensures port { IfErr result
-        (LeavesPort terms (O.contents out.old) (O.contents out.new)) }
-{
-    let mut telling = TellingMachine {
-        rt,
-        database,
-        machine,
-    };
-    serve_on(rt, terms, &mut telling, out, err)
-}
-
-// Listens on the port of the terms, and serves their connections with the machine.
-fn serve_on<'a, M: Machine, O: Write, E: Write>(
-    rt: &HostRuntime,
-    terms: Terms,
-    machine: &mut M,
-    out: &mut O,
-    err: &mut E,
-) -> Result<Ending, ProgramFault<'a>>
-    ensures reached { Reaches M.Answers machine.old machine.new }
     ensures served { IfOk result (PrintsServed terms (O.contents out.old) (O.contents out.new)
         (E.contents err.old) (E.contents err.new)) }
     ensures fault { IfErr result IsOfServe }
@@ -149,15 +100,117 @@ fn serve_on<'a, M: Machine, O: Write, E: Write>(
     let Ok(listening) = listen(rt, terms.port) else {
         return Err(ProgramFault::CannotListen);
     };
-    let plan = Plan {
-        connections: terms.connections,
-        patience: Duration::from_secs(u64::from(terms.patience)),
+    let mut clients = listening.clients();
+    serve_at_desk(
+        rt,
+        database,
+        terms,
+        listening.port,
+        &mut clients,
+        desk,
+        out,
+        err,
+    )
+}
+
+/// Serves the office at a desk to clients, each a reader and a writer, one after another as they
+/// come: prints which port they come from, then serves as many as the terms say.
+pub fn serve_at_desk<
+    'a,
+    S: Alter,
+    R: Read + Timed + Drop,
+    W: Write + Timed + Drop,
+    I: Iterator<Item = (R, W)>,
+    O: Write,
+    E: Write,
+>(
+    rt: &HostRuntime,
+    database: &str,
+    terms: Terms,
+    port: u16,
+    clients: &mut I,
+    desk: &mut Desk<S>,
+    out: &mut O,
+    err: &mut E,
+) -> Result<Ending, ProgramFault<'a>>
+    requires { I.can_next clients.old }
+
+    // However it ends, over a disk that returns what was written, whatever office was found: each
+    // client is written the office's replies to the messages of its whole stream, in whatever
+    // pieces and at whatever pace it comes, or, after a fault, to the first of them; the office
+    // goes from one client to the next, and the file represents it after the last. Each candidate
+    // is replied the text of their view.
+    ensures served { ServesTerms S.Store
+        (AreOfClients I.next_gives R.remaining W.contents clients.old) terms result
+        desk.old desk.new (E.contents err.old) (E.contents err.new) }
+    ensures clean { HasCleanDisk (state S.Store desk.new) → HasCleanDisk (state S.Store desk.old) }
+    ensures status { IfOk result (λ ending. ending.status ≡ 0) }
+    ensures fault { IfErr result IsOfServe }
+    ensures port { IfOk result (λ _. Appends (O.contents out.old) (O.contents out.new)
+        (listening_line port)) }
+    ensures unprinted { IfErr result (λ shown. shown ≢ ProgramFault.CannotWrite
+        → Keeps (O.contents out.old) (O.contents out.new)
+        ⊎ Appends (O.contents out.old) (O.contents out.new) (listening_line port)) }
+{
+    let Ok(routes) = Routes::new(rt.alloc()) else {
+        return Err(ProgramFault::NoMemory);
     };
-    match serve_run(rt.alloc(), rt, &listening, plan, machine, out, err) {
+    let mut machine = AnsweringDesk {
+        desk,
+        routes: &routes,
+    };
+    let plan = plan_of(terms);
+    match serve_with_notices(rt, database, port, clients, plan, &mut machine, out, err) {
         Ok(unwritten) => Ok(Ending {
             status: 0,
             is_told: unwritten == 0,
         }),
         Err(fault) => Err(fault_of_run(fault)),
+    }
+}
+
+// Serves clients with the machine, and says on a terminal when it is asked to publish.
+fn serve_with_notices<
+    M: Machine,
+    R: Read + Timed + Drop,
+    W: Write + Timed + Drop,
+    I: Iterator<Item = (R, W)>,
+    O: Write,
+    E: Write,
+>(
+    rt: &HostRuntime,
+    database: &str,
+    port: u16,
+    clients: &mut I,
+    plan: Plan,
+    machine: &mut M,
+    out: &mut O,
+    err: &mut E,
+) -> Result<u32, RunFault>
+    requires { I.can_next clients.old }
+    ensures served { ServesPlan (AreOfClients I.next_gives R.remaining W.contents clients.old)
+        (ServesVisits M.Answers) plan.connections result machine.old machine.new
+        (E.contents err.old) (E.contents err.new) }
+    ensures port { IfOk result (λ _. Appends (O.contents out.old) (O.contents out.new)
+        (listening_line port)) }
+    ensures unaccepted { IfErr result (λ fault. fault ≡ RunFault.Listen
+        → Appends (O.contents out.old) (O.contents out.new) (listening_line port)) }
+{
+    let mut telling = TellingMachine {
+        rt,
+        database,
+        machine,
+    };
+    serve_run(rt.alloc(), rt, port, clients, plan, &mut telling, out, err)
+}
+
+// What the terms ask to be served.
+fn plan_of(terms: Terms) -> Plan
+    ensures connections { result.connections ≡ terms.connections }
+    ensures patience { as_nanos result.patience ≡ terms.patience * 10 ^ 9 }
+{
+    Plan {
+        connections: terms.connections,
+        patience: Duration::from_secs(u64::from(terms.patience)),
     }
 }

@@ -1,12 +1,8 @@
 use Rattle.office_messages.proofs.RunLemmas.{lent_serves, lent_serves_front}
-use Rattle.office_connections.proofs.ReachLemmas.{lent_reaches, served_reaches}
 use Rattle.office_connections.proofs.serving.serve_paced.Goals as goal
 
 pub returns : goal.returns
 returns g c = record {
-  reached = lent_reaches (λ m. m.machine.ghost_name) (λ m. m.machine.now) g.M.Machine.Answers _ _ _
-      c.machine-1.given.1
-      (served_reaches _ c.serve.result _ _ _ _ _ c.serve.ensures.ok c.serve.ensures.err);
   ok = lent_serves (λ m. m.machine.ghost_name) (λ m. m.machine.now) g.M.Machine.Answers _ _ _ _ _ _
       c.machine-1.given.1 c.serve.result c.serve.ensures.ok;
   err = lent_serves_front (λ m. m.machine.ghost_name) (λ m. m.machine.now) g.M.Machine.Answers

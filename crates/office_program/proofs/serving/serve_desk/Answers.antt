@@ -1,26 +1,18 @@
-use Rattle.std.proofs.Common.{inl, refl}
-use Rattle.sqlite.specs.declared.error.Error.TheVariants.{SqliteFailure}
-use Rattle.sqlite.specs.declared.error.ErrorCode.TheVariants.{OutOfMemory}
-use Rattle.office_connections.proofs.ReachLemmas.{lent_reaches}
-use Rattle.office_http.specs.Replying.{Answered}
-use Rattle.office_program.proofs.ServeFacts.{desk_clean, desk_leads, stays_put}
+use Rattle.office_program.proofs.ServeFacts.{leaves_port, prints_served, serves_nobody, whoever_came}
 use Rattle.office_program.proofs.serving.serve_desk.Goals as goal
 
 pub returns-in_default-clause-reached : goal.returns-in_default-clause-reached
-returns-in_default-clause-reached g c = stays_put g.S.Store c.args.desk.now
+returns-in_default-clause-reached g c = serves_nobody g.S.Store _ _ _ _ _ tt
 
 pub returns-clause-reached : goal.returns-clause-reached
 returns-clause-reached g c =
-    desk_leads g.S.Store c.told_by_view.ensures.told _ _
-    (lent_reaches (λ m. m.desk.ghost_name) (λ m. m.desk.now) (Answered g.S.Store) _ _ _
-    c.desk-1.given.1 c.serve_with_notices.ensures.reached)
+    whoever_came g.S.Store _ _ _ _ _ _ _ c.serve_at_desk.ensures.served
 
-pub returns-clause-clean : goal.returns-clause-clean
-returns-clause-clean g c =
-    desk_clean g.S.Store _ _
-    (lent_reaches (λ m. m.desk.ghost_name) (λ m. m.desk.now) (Answered g.S.Store) _ _ _
-    c.desk-1.given.1 c.serve_with_notices.ensures.reached)
+pub returns-clause-served : goal.returns-clause-served
+returns-clause-served g c =
+    prints_served g.S.Store _ _ _ c.in-Ok.ensures.port _ _ _ _ _ _ _ c.serve_at_desk.ensures.served
+    c.serve_at_desk.ensures.status c.serve_at_desk.ensures.port
 
--- out of memory shows as where a database is opened
-pub returns-in_default-clause-fault : goal.returns-in_default-clause-fault
-returns-in_default-clause-fault g c = inl (SqliteFailure OutOfMemory, refl)
+pub returns-clause-port : goal.returns-clause-port
+returns-clause-port g c =
+    leaves_port c.args.terms _ c.in-Ok.ensures.port _ _ _ c.serve_at_desk.ensures.unprinted

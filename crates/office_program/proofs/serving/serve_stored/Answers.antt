@@ -1,17 +1,18 @@
-use Rattle.std.proofs.Common.{◌∙◌, inl, inr, subst, sym}
+use Rattle.std.proofs.Common.{◌∙◌, [], arith, inl, inr, subst, sym}
 use Rattle.sqlite.specs.Held.{state}
 use Rattle.sqlite.specs.State.{HasCleanDisk}
-use Rattle.office_connections.proofs.ReachLemmas.{reaches_refl}
-use Rattle.office_program.specs.Serve.{RepliesByView}
 use Rattle.office_store.specs.Opening.{IsOfficeOf}
 use Rattle.office_store.specs.Running.{Now}
+use Rattle.office_program.proofs.ServeFacts.{nobody_served}
 use Rattle.office_program.proofs.serving.serve_stored.Goals as goal
 
 -- no office was found, and the tables are as they were
 pub returns-in-Err-clause-reached : goal.returns-in-Err-clause-reached
 returns-in-Err-clause-reached g c = λ clean kept there is. (
+  [],
+  omega arith,
   there,
-  reaches_refl RepliesByView there,
+  nobody_served there,
   λ opened. elim c.in-Err.ensures.undone [
     | inl same ↦ subst (λ held. IsOfficeOf (state g.S.Store held).now there) (sym same) is
     | inr undone ↦ subst (λ db. IsOfficeOf db there)
@@ -29,6 +30,12 @@ returns-clause-reached g c = λ clean kept there is.
     (c.serve_desk-done.ensures.clean at_end) in
     let now = subst (λ held. Now (state g.S.Store held) there) (sym made)
     (c.in-Ok.ensures.found begun there is) in
-    let led = c.serve_desk-done.ensures.reached at_end there now in
-    let after = subst (λ held. Now (state g.S.Store held) led.0) (sym same) led.2 in
-    (led.0, led.1, λ opened. inr (after opened))
+    let x = c.serve_desk-done.ensures.reached in
+    let led = x.serves.served at_end there now in
+    let after = subst (λ held. Now (state g.S.Store held) led.0) (sym same) led.2 in (
+      x.serves.visits,
+      omega (arith, x.serves.count, x.most),
+      led.0,
+      led.1,
+      λ opened. inr (after opened),
+    )

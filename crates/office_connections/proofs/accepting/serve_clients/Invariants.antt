@@ -1,0 +1,18 @@
+use Rattle.std.specs.Prelude.{◌-◌, ◌≤◌}
+use Rattle.office_messages.specs.Visits.{ServesVisits}
+use Rattle.office_connections.specs.Clients.{CameBetween, ServesClients}
+use Rattle.office_connections.proofs.accepting.serve_clients.Given as goal
+
+-- each client so far was served
+abbrev pub invariant-loop-service : goal.invariant-loop-service
+invariant-loop-service g l = record {
+  callable : g.I.Iterator.can_next l.clients;
+  most : l.service.accepted ≤ l.plan.connections;
+  unwritten : l.service.unwritten ≤ l.service.accepted;
+  served : ServesClients (λ visits. CameBetween g.I.Iterator.next_gives g.R.Read.remaining
+      g.W.Write.contents l.fn.clients visits l.clients) (ServesVisits g.M.Machine.Answers)
+      l.service l.fn.machine l.machine (g.E.Write.contents l.fn.err) (g.E.Write.contents l.err);
+}
+
+abbrev pub decreases-loop-service : goal.decreases-loop-service
+decreases-loop-service g l = l.plan.connections - l.service.accepted

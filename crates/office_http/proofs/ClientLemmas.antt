@@ -1,0 +1,197 @@
+-- Many clients, one after another: what the desk serves the office serves, by each candidate's view.
+use Rattle.std.proofs.Common.{◌≡◌, ◌∙◌, ℕ, List, [], ◌∷◌, ◌++◌, Option, Result, Ok, Err, IfOk, IfErr, All}
+use Rattle.std.proofs.Common.{ap, refl, subst, sym}
+use Rattle.std.proofs.lemmas.List.Elements.{All-append, All-cons, All-head, All-nil, All-tail, All-weaker}
+use Rattle.sqlite.specs.Held.{Held, state}
+use Rattle.sqlite.specs.State.{HasCleanDisk}
+use Rattle.sqlite.specs.Store.{Ghosts}
+use Rattle.office_messages.specs.Serve.{Serves, ServesFront}
+use Rattle.office_messages.specs.Visits.{Visit, ServesVisits}
+use Rattle.office_messages.specs.declared.connection.Served.{Served}
+use Rattle.office_messages.specs.declared.connection.ServeFault.{ServeFault}
+use Rattle.office_messages.specs.declared.connection.ServeFault.TheVariants.{Read, Write, TooMany, NoMemory}
+use Rattle.office_model.specs.Office.{OfficeState}
+use Rattle.office_model.specs.Views.{view_of}
+use Rattle.office_store.specs.Running.{Now}
+use Rattle.office_http.specs.Clients.{ServesAll, ServesAllByView, ServesTo, all_entries, entries_to}
+use Rattle.office_http.specs.Isolation.{AreToldAlike, AreToldByView, IsHersOrQuiet, RepliesView}
+use Rattle.office_http.specs.Replying.{Answered}
+use Rattle.office_http.specs.Serving.{LeadsOffice}
+use Rattle.office_http.specs.Transcripts.{Entry, TellsHerView, transcript}
+use Rattle.office_http.proofs.IsolationLemmas.{Sees, all_alike, all_by_view, both_all, each_told, quiet_each, quiet_end}
+use Rattle.office_http.proofs.ServingLemmas.{serves_clean, serves_front_leads, serves_leads}
+
+All-left : {X : Type 0} (P : X → Type 0) (xs ys : List X) → All P (xs ++ ys) → All P xs
+All-left P [] ys all = All-nil P
+All-left P (x ∷ xs) ys all =
+    All-cons P x xs (All-head P x (xs ++ ys) all) (All-left P xs ys (All-tail P x (xs ++ ys) all))
+
+All-right : {X : Type 0} (P : X → Type 0) (xs ys : List X) → All P (xs ++ ys) → All P ys
+All-right P [] ys all = all
+All-right P (x ∷ xs) ys all = All-right P xs ys (All-tail P x (xs ++ ys) all)
+
+-- ---- what the desk serves, the office serves
+
+module _ {S : Type 0} (store : Ghosts S) where
+  -- a disk that is clean after connections was clean before them
+  pub visits_clean : (vs : List Visit) (old new : Held S) → ServesVisits (Answered store) vs old new
+      → HasCleanDisk (state store new) → HasCleanDisk (state store old)
+  visits_clean [] old new is clean = subst (λ h. HasCleanDisk (state store h)) is clean
+  visits_clean (v ∷ vs) old new (mid, served, rest) clean =
+      serves_clean store v.input v.before v.after old mid v.ended served.0 served.1
+      (visits_clean vs mid new rest clean)
+
+  ended_leads : (ended : Result Served ServeFault) (input before after : Option (List ℕ))
+      (old new : Held S)
+      → IfOk ended (λ served. Serves (Answered store) input before after old new served)
+      → IfErr ended (λ fault. ServesFront (Answered store) input before after old new fault)
+      → LeadsOffice store (ServesTo ended input before after) old new
+  ended_leads (Ok served) input before after old new x y =
+      serves_leads store input before after old new (Ok served) x
+  ended_leads (Err fault) input before after old new x y =
+      serves_front_leads store input before after old new (Err fault) y
+
+  pub visits_lead : (vs : List Visit) (old new : Held S) → ServesVisits (Answered store) vs old new
+      → LeadsOffice store (ServesAll vs) old new
+  visits_lead [] old new is = λ clean office now.
+      (office, refl, subst (λ h. Now (state store h) office) (sym is) now)
+  visits_lead (v ∷ vs) old new (mid, served, rest) = λ clean office now.
+      let here = ended_leads v.ended v.input v.before v.after old mid served.0 served.1
+      (visits_clean vs mid new rest clean) office now in
+      let later = visits_lead vs mid new rest clean here.0 here.2 in
+      (later.0, (here.0, here.1, later.1), later.2)
+
+-- ---- by a candidate's view
+
+-- in runs of messages with no order but their own
+told_to : (ended : Result Served ServeFault) (input before after : Option (List ℕ))
+    (old new : OfficeState) (run : ServesTo ended input before after old new)
+    → All TellsHerView (entries_to ended input before after old new run)
+told_to (Ok served) input before after old new run =
+    each_told run.items old new run.output run.told
+told_to (Err Read) input before after old new (items, output, begins, told, written) =
+    each_told items old new output told
+told_to (Err Write) input before after old new (items, output, begins, x) =
+    All-append TellsHerView (transcript x.whole old x.front x.mid x.told)
+    (transcript (x.last ∷ []) x.mid (x.sent ++ x.unsent) new x.told_last)
+    (each_told x.whole old x.mid x.front x.told)
+    (each_told (x.last ∷ []) x.mid new (x.sent ++ x.unsent) x.told_last)
+told_to (Err TooMany) input before after old new (items, output, begins, told, written) =
+    each_told items old new output told
+told_to (Err NoMemory) input before after old new (items, output, begins, told, written) =
+    each_told items old new output told
+
+pub all_told : (vs : List Visit) (old new : OfficeState) (run : ServesAll vs old new)
+    → All TellsHerView (all_entries vs old new run)
+all_told [] old new run = All-nil TellsHerView
+all_told (v ∷ vs) old new (mid, served, rest) =
+    All-append TellsHerView (entries_to v.ended v.input v.before v.after old mid served)
+    (all_entries vs mid new rest) (told_to v.ended v.input v.before v.after old mid served)
+    (all_told vs mid new rest)
+
+pub visits_by_view : {S : Type 0} (store : Ghosts S) (vs : List Visit) (old new : Held S)
+    → ServesVisits (Answered store) vs old new → LeadsOffice store (ServesAllByView vs) old new
+visits_by_view store vs old new served = λ clean office now.
+    let led = visits_lead store vs old new served clean office now in
+    (led.0, (led.1, all_told vs office led.0 led.1), led.2)
+
+-- ---- where others' messages are quiet for the candidate
+
+end_to : (s : ℕ) (ended : Result Served ServeFault) (input before after : Option (List ℕ))
+    (old new : OfficeState) (run : ServesTo ended input before after old new)
+    → All (IsHersOrQuiet s) (entries_to ended input before after old new run)
+    → view_of s new ≡ view_of s old
+end_to s (Ok served) input before after old new run q =
+    quiet_end s run.items old new run.output run.told q
+end_to s (Err Read) input before after old new (items, output, begins, told, written) q =
+    quiet_end s items old new output told q
+end_to s (Err Write) input before after old new (items, output, begins, x) q =
+    let first = transcript x.whole old x.front x.mid x.told in
+    let last = transcript (x.last ∷ []) x.mid (x.sent ++ x.unsent) new x.told_last in
+    quiet_end s (x.last ∷ []) x.mid new (x.sent ++ x.unsent) x.told_last
+    (All-right (IsHersOrQuiet s) first last q)
+    ∙ quiet_end s x.whole old x.mid x.front x.told (All-left (IsHersOrQuiet s) first last q)
+end_to s (Err TooMany) input before after old new (items, output, begins, told, written) q =
+    quiet_end s items old new output told q
+end_to s (Err NoMemory) input before after old new (items, output, begins, told, written) q =
+    quiet_end s items old new output told q
+
+pub all_end : (s : ℕ) (vs : List Visit) (old new : OfficeState) (run : ServesAll vs old new)
+    → All (IsHersOrQuiet s) (all_entries vs old new run) → view_of s new ≡ view_of s old
+all_end s [] old new run q = ap (view_of s) run
+all_end s (v ∷ vs) old new (mid, served, rest) q =
+    let first = entries_to v.ended v.input v.before v.after old mid served in
+    let later = all_entries vs mid new rest in
+    all_end s vs mid new rest (All-right (IsHersOrQuiet s) first later q)
+    ∙ end_to s v.ended v.input v.before v.after old mid served
+    (All-left (IsHersOrQuiet s) first later q)
+
+-- entries that see a view, and then entries that see the same view of a later office
+seen_on : (s : ℕ) (old mid : OfficeState) (first later : List Entry)
+    → view_of s mid ≡ view_of s old → All (Sees s (view_of s old)) first
+    → All (Sees s (view_of s mid)) later → All (Sees s (view_of s old)) (first ++ later)
+seen_on s old mid first later same here there =
+    All-append (Sees s (view_of s old)) first later here
+    (All-weaker (Sees s (view_of s mid)) (Sees s (view_of s old)) (λ e h. h ∙ same) later there)
+
+each_to : (s : ℕ) (ended : Result Served ServeFault) (input before after : Option (List ℕ))
+    (old new : OfficeState) (run : ServesTo ended input before after old new)
+    → All (IsHersOrQuiet s) (entries_to ended input before after old new run)
+    → All (Sees s (view_of s old)) (entries_to ended input before after old new run)
+each_to s (Ok served) input before after old new run q =
+    quiet_each s run.items old new run.output run.told q
+each_to s (Err Read) input before after old new (items, output, begins, told, written) q =
+    quiet_each s items old new output told q
+each_to s (Err Write) input before after old new (items, output, begins, x) q =
+    let first = transcript x.whole old x.front x.mid x.told in
+    let last = transcript (x.last ∷ []) x.mid (x.sent ++ x.unsent) new x.told_last in
+    let here = All-left (IsHersOrQuiet s) first last q in
+    seen_on s old x.mid first last (quiet_end s x.whole old x.mid x.front x.told here)
+    (quiet_each s x.whole old x.mid x.front x.told here)
+    (quiet_each s (x.last ∷ []) x.mid new (x.sent ++ x.unsent) x.told_last
+    (All-right (IsHersOrQuiet s) first last q))
+each_to s (Err TooMany) input before after old new (items, output, begins, told, written) q =
+    quiet_each s items old new output told q
+each_to s (Err NoMemory) input before after old new (items, output, begins, told, written) q =
+    quiet_each s items old new output told q
+
+pub all_each : (s : ℕ) (vs : List Visit) (old new : OfficeState) (run : ServesAll vs old new)
+    → All (IsHersOrQuiet s) (all_entries vs old new run)
+    → All (Sees s (view_of s old)) (all_entries vs old new run)
+all_each s [] old new run q = All-nil (Sees s (view_of s old))
+all_each s (v ∷ vs) old new (mid, served, rest) q =
+    let first = entries_to v.ended v.input v.before v.after old mid served in
+    let later = all_entries vs mid new rest in
+    let here = All-left (IsHersOrQuiet s) first later q in
+    seen_on s old mid first later (end_to s v.ended v.input v.before v.after old mid served here)
+    (each_to s v.ended v.input v.before v.after old mid served here)
+    (all_each s vs mid new rest (All-right (IsHersOrQuiet s) first later q))
+
+pub all_quiet_told : (s : ℕ) (vs : List Visit) (old new : OfficeState) (run : ServesAll vs old new)
+    → All (IsHersOrQuiet s) (all_entries vs old new run)
+    → All (RepliesView s (view_of s old)) (all_entries vs old new run)
+all_quiet_told s vs old new run q =
+    both_all s (view_of s old) (all_entries vs old new run) (all_told vs old new run)
+    (all_each s vs old new run q)
+
+-- ---- two offices
+
+pub two_agree : (s : ℕ) (vs ws : List Visit) (one next other last : OfficeState)
+    (first : ServesAll vs one next) (second : ServesAll ws other last)
+    → AreToldByView s (all_entries vs one next first) (all_entries ws other last second)
+two_agree s vs ws one next other last first second =
+    all_by_view s (all_entries vs one next first) (all_entries ws other last second)
+    (all_told vs one next first) (all_told ws other last second)
+
+pub two_quiet : (s : ℕ) (vs ws : List Visit) (one next other last : OfficeState)
+    (first : ServesAll vs one next) (second : ServesAll ws other last)
+    → view_of s one ≡ view_of s other
+    → All (IsHersOrQuiet s) (all_entries vs one next first)
+    → All (IsHersOrQuiet s) (all_entries ws other last second)
+    → AreToldAlike s (all_entries vs one next first) (all_entries ws other last second)
+two_quiet s vs ws one next other last first second same q k =
+    let here = all_entries vs one next first in
+    let there = all_entries ws other last second in
+    all_alike s (view_of s other) here there (two_agree s vs ws one next other last first second)
+    (subst (λ view. All (Sees s view) here) same (all_each s vs one next first q))
+    (all_each s ws other last second k)

@@ -1,0 +1,11 @@
+use Rattle.office_http.proofs.ClientLemmas.{all_each, all_end, all_quiet_told}
+use Rattle.office_http.proofs.laws.quiet_clients.Goals as goal
+
+pub returns-clause-end : goal.returns-clause-end
+returns-clause-end c = all_end
+
+pub returns-clause-each : goal.returns-clause-each
+returns-clause-each c = all_each
+
+pub returns-clause-told : goal.returns-clause-told
+returns-clause-told c = all_quiet_told

@@ -1,0 +1,63 @@
+use Rattle.std.proofs.Common.{◌∙◌, arith, inl, inr, refl}
+use Rattle.std.proofs.lemmas.Bool.{eqb-true}
+use Rattle.sqlite.specs.declared.error.Error.TheVariants.{SqliteFailure}
+use Rattle.sqlite.specs.declared.error.ErrorCode.TheVariants.{OutOfMemory}
+use Rattle.office_connections.proofs.ClientLemmas.{no_client}
+use Rattle.office_program.proofs.ServeFacts.{desk_clean, desk_serves, listens_or_writes, serves_nobody}
+use Rattle.office_program.proofs.serving.serve_at_desk.Goals as goal
+
+pub returns-in_default-clause-served : goal.returns-in_default-clause-served
+returns-in_default-clause-served g c =
+    serves_nobody g.S.Store _ _ _ _ _ (_, no_client _ _ _ _)
+
+-- out of memory shows as when a database is opened
+pub returns-in_default-clause-fault : goal.returns-in_default-clause-fault
+returns-in_default-clause-fault g c = inl (SqliteFailure OutOfMemory, refl)
+
+-- as many clients as were to be
+pub returns-in-Ok-serve_with_notices-clause-served : goal.returns-in-Ok-serve_with_notices-clause-served
+returns-in-Ok-serve_with_notices-clause-served g c =
+    let x = c.in-Ok-serve_with_notices.ensures.served in
+    let plan = c.plan_of-plan.ensures.connections in
+    record {
+      service = x.service;
+      most = omega (arith, x.most, plan);
+      serves = desk_serves g.S.Store (λ m. m.desk.ghost_name) (λ m. m.desk.now) _ _ _
+          c.desk-1.given.1 _ _ _ _ x.serves;
+      all = (x.all.0 ∙ plan, λ told. x.all.1 ∙ eqb-true _ 0 told);
+      fewer = tt;
+    }
+
+pub returns-in-Ok-serve_with_notices-clause-clean : goal.returns-in-Ok-serve_with_notices-clause-clean
+returns-in-Ok-serve_with_notices-clause-clean g c =
+    desk_clean g.S.Store (λ m. m.desk.ghost_name) (λ m. m.desk.now) _ _ _ c.desk-1.given.1 _ _ _ _
+    c.in-Ok-serve_with_notices.ensures.served.serves
+
+-- fewer, or nobody
+pub returns-clause-served : goal.returns-clause-served
+returns-clause-served g c =
+    let x = c.in-Err.ensures.served in
+    let plan = c.plan_of-plan.ensures.connections in
+    record {
+      service = x.service;
+      most = omega (arith, x.most, plan);
+      serves = desk_serves g.S.Store (λ m. m.desk.ghost_name) (λ m. m.desk.now) _ _ _
+          c.desk-1.given.1 _ _ _ _ x.serves;
+      all = tt;
+      fewer = elim x.fewer [
+        | inl nobody ↦ inl nobody.1
+        | inr some ↦ inr (c.fault_of_run.ensures.listen some.0, omega (arith, some.1, plan))
+      ];
+    }
+
+pub returns-clause-clean : goal.returns-clause-clean
+returns-clause-clean g c =
+    desk_clean g.S.Store (λ m. m.desk.ghost_name) (λ m. m.desk.now) _ _ _ c.desk-1.given.1 _ _ _ _
+    c.in-Err.ensures.served.serves
+
+-- an accept that failed came after the port was printed
+pub returns-clause-unprinted : goal.returns-clause-unprinted
+returns-clause-unprinted g c = λ other. elim (listens_or_writes c.in-Err.fault) [
+  | inl listens ↦ inr (c.in-Err.ensures.unaccepted listens)
+  | inr writes ↦ absurd (other (c.fault_of_run.ensures.write writes))
+]
