@@ -133,14 +133,23 @@ def calendar_file(run, chromium, wide):
             reader.text("#status"), reader.run("return document.querySelector('#calendar').hidden")))
 
 
-def signing_out(run, chromium, front, signed_on):
-    """A link that signs out, where the front has a path for it."""
-    for of, expected in ((front, [True, ""]), (signed_on, [False, "/oauth2/sign_out"])):
-        for user in ("ada", "registry"):
-            with reading(chromium, of, user) as reader:
-                run.judge(f"signing out, for {user}", expected, reader.run(
-                    "const link = document.querySelector('#sign-out');"
-                    "return [link.hidden, link.getAttribute('href') ?? '']"))
+def signing_on(run, chromium, front, sso):
+    """With single sign-on a reader is sent to sign in, gets their page, and can sign out."""
+    hidden = "return document.querySelector('#sign-out').hidden"
+    for user in ("ada", "registry", "physics"):
+        with reading(chromium, front, user) as reader:
+            run.judge(f"no sign-out with a password, for {user}", True, reader.run(hidden))
+    host = chromium.new_host()
+    for _ in range(2):
+        chromium.go(f"http://{host}:{sso.port}/")
+        is_read(chromium)
+        run.judge("signed on", ("Candidate 1", "2 exams", False), (
+            chromium.text("#candidate"), chromium.text("#status"), chromium.run(hidden)))
+        chromium.click("#sign-out")
+        chromium.waits("return location.pathname === '/oauth2/sign_out'")
+        run.judge("signed out", [401, 401], [
+            chromium.run("return fetch(arguments[0]).then(reply => reply.status)", path)
+            for path in ("/me", "/-/user")])
 
 
 def registrys_page(run, chromium, front):
@@ -890,7 +899,7 @@ def pictures(chromium, front, folder):
             reader.picture(folder / f"{name}.png")
 
 
-def judge(run, front, wide, office, program, folder):
+def judge(run, front, wide, sso, office, program, folder):
     """What Chromium shows; with pictures, where there is a folder for them."""
     lacking = browser.missing()
     if lacking:
@@ -903,7 +912,7 @@ def judge(run, front, wide, office, program, folder):
                      publishing, states_of_exams, late_changes, registrys_work):
             part(run, chromium, front)
         new_session(run, chromium, program)
-        signing_out(run, chromium, front, wide)
+        signing_on(run, chromium, front, sso)
         calendar_file(run, chromium, wide)
         printed(run, chromium, wide)
         other_labels(run, chromium, wide)

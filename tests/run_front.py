@@ -11,6 +11,7 @@ import argparse
 import contextlib
 import gzip
 import http.client
+import http.server
 import json
 import pathlib
 import re
@@ -50,15 +51,15 @@ class Front:
         if not self.folder.exists():
             shutil.copytree(TOP / "front", self.folder)
         pathlib.Path(folder).chmod(0o755)
-        path = self.folder / "nginx.conf"
-        text = path.read_text()
+        texts = {path: path.read_text() for path in self.folder.glob("*.conf")}
         for old, new in (("127.0.0.1:8000", f"127.0.0.1:{self.port}"),
                          ("127.0.0.1:8080", f"127.0.0.1:{office_port}"),
                          ("access_log run/changes", LOG), *edits):
-            if old not in text:
-                raise ValueError(f"nginx.conf does not have {old}")
-            text = text.replace(old, new)
-        path.write_text(text)
+            if not any(old in text for text in texts.values()):
+                raise ValueError(f"no file has {old}")
+            texts = {path: text.replace(old, new) for path, text in texts.items()}
+        for path, text in texts.items():
+            path.write_text(text)
         with (self.folder / "run" / "errors").open("wb") as errors:
             self.process = subprocess.Popen([NGINX, "-p", str(self.folder), "-c", "nginx.conf"],
                                             stdin=subprocess.DEVNULL, stderr=errors)
@@ -84,11 +85,11 @@ class Front:
 
     def fetch(self, path, user=None, word=None, method="GET", source="127.0.0.1", **fields):
         """The status, the header and the body of a reply, as stock http.client has them."""
-        name, _, value = password(user, word).partition(": ") if user else ("Accept", "", "*/*")
+        signed = dict([password(user, word).split(": ")]) if user else {}
         client = http.client.HTTPConnection("127.0.0.1", self.port, SECONDS, (source, 0))
         with contextlib.closing(client):
             client.request(method, path, headers={
-                **{field.replace("_", "-"): text for field, text in fields.items()}, name: value})
+                **{field.replace("_", "-"): text for field, text in fields.items()}, **signed})
             reply = client.getresponse()
             return reply.status, reply.headers, reply.read()
 
@@ -373,6 +374,92 @@ def users_from_csv(run, office):
     made_front.stop()
 
 
+class Agent(http.server.BaseHTTPRequestHandler):
+    """A stub of an identity provider's agent: its cookie is the user's name."""
+
+    # Who signs in at the provider next.
+    signs_in = "ada"
+
+    def do_GET(self):
+        path, _, query = self.path.partition("?")
+        user = re.search(r"signed_in=(\w+)", self.headers.get("Cookie", ""))
+        if path == "/oauth2/auth" and user:
+            self.answer(202, X_Auth_Request_User=user[1])
+        elif path == "/oauth2/start":
+            self.answer(302, Location=query.removeprefix("rd="),
+                        Set_Cookie=f"signed_in={self.signs_in}; Path=/; HttpOnly")
+        elif path == "/oauth2/sign_out":
+            self.answer(200, Set_Cookie="signed_in=; Path=/; Max-Age=0")
+        else:
+            self.answer(401)
+
+    def answer(self, status, **fields):
+        self.send_response(status)
+        for name, value in fields.items():
+            self.send_header(name.replace("_", "-"), value)
+        self.send_header("Content-Length", "0")
+        self.end_headers()
+
+    def log_message(self, *_):
+        pass
+
+
+@contextlib.contextmanager
+def signed_on(run, office):
+    """A front with sso.conf, and the stub behind it."""
+    with http.server.ThreadingHTTPServer(("127.0.0.1", 0), Agent) as agent:
+        threading.Thread(target=agent.serve_forever).start()
+        front = Front(run.folder / "sso", office.port, (
+            *QUICK[:2], ("include password.conf", "include sso.conf"),
+            ("127.0.0.1:4180", f"127.0.0.1:{agent.server_port}")))
+        try:
+            yield front
+        finally:
+            front.stop()
+            agent.shutdown()
+
+
+def single_sign_on(run, front):
+    """Who a user is comes from the agent, and from nowhere else."""
+    def told(path, *fields):
+        return front.told(message("GET", path, caller=None, fields=fields))
+
+    ada = "Cookie: signed_in=ada"
+    for name, path, fields, answer in (
+            ("a candidate", "/me", [ada], FIRST_VIEW),
+            ("the office", "/drafts/1/violations", ["Cookie: signed_in=registry"],
+             (200, b"breaches 0\n")),
+            ("somebody whom callers doesn't have", "/me", ["Cookie: signed_in=eve"],
+             told_error(400, "caller")),
+            ("nobody", "/me", [], told_error(401, "signed-out")),
+            ("nobody, at the labels", "/labels/labels.json", [], told_error(401, "signed-out")),
+            ("nobody, who looks for a draft", "/-/drafts/1", [], told_error(401, "signed-out")),
+            ("a password", "/me", [password("ada")], told_error(401, "signed-out")),
+            ("the agent's header, by the client", "/me", ["X-Auth-Request-User: ada"],
+             told_error(401, "signed-out")),
+            ("both", "/me", [ada, "X-Auth-Request-User: registry", "X-Caller: office"], FIRST_VIEW),
+            ("students for a candidate", "/labels/students.json", [ada],
+             told_error(403, "forbidden", rule="P2")),
+            ("who it is", "/-/user", [ada],
+             (200, b'{"caller":"cand:1","sign_out":"/oauth2/sign_out"}'))):
+        run.judge(f"single sign-on: {name}", answer, told(path, *fields))
+    run.judge("single sign-on: what nginx asks the agent", 404, told("/-/who", ada)[0])
+    for path in ("/", "/registry.html", "/me"):
+        status, header, _ = front.fetch(path, Accept="text/html,*/*", Host="exams.example")
+        run.judge(f"{path} sends to sign in", (302, f"http://exams.example/oauth2/start?rd={path}"),
+                  (status, header["Location"]))
+    run.judge("health", (200, b'{"health":"ok"}'), told("/health"))
+
+
+def caches(run, name, front, **signed):
+    """What a browser may keep."""
+    for path, expected in (("/", "no-cache"), ("/style.css", "no-cache"), ("/candidate.html", "no-cache"),
+                           ("/labels/labels.json", "no-cache"), ("/me", "no-store"),
+                           ("/-/user", "no-store"), ("/health", "no-store"), ("/nothing", "no-store")):
+        run.judge(f"what may be kept of {path}, {name}", expected,
+                  front.fetch(path, **signed)[1]["Cache-Control"])
+
+
 def words_of_pages(run):
     """The pages have words for each rule and each error, and for no fault that docs/FORMATS.md lacks."""
     formats = (TOP / "docs" / "FORMATS.md").read_text()
@@ -410,15 +497,14 @@ def before_the_office(run, front, office):
 
 @contextlib.contextmanager
 def wide_session(run):
-    """A front before an office whose session has many rooms, and which signs out; it is published."""
+    """A front before an office whose session has many rooms; it is published."""
     source, database = run.folder / "wide.exam", run.folder / "wide.db"
     source.write_bytes(WIDE)
     subprocess.run([run.program, "load", "--db", str(database), str(source)], check=True,
                    stdout=subprocess.DEVNULL, timeout=SECONDS)
     office = Office(run.program, database)
     try:
-        front = Front(run.folder / "wide", office.port,
-                      (*QUICK, ('set $sign_out ""', 'set $sign_out "/oauth2/sign_out"')))
+        front = Front(run.folder / "wide", office.port)
         (front.folder / "labels" / "labels.json").write_text(json.dumps(WIDE_LABELS))
         for question in (ask("registry", "PUT", "/drafts/1", WIDE_SOLUTION),
                          ask("registry", "POST", "/drafts/1/publish")):
@@ -466,10 +552,13 @@ def main():
             busy.start()
             try:
                 before_the_office(run, front, office)
-                with wide_session(run) as wide:
+                with wide_session(run) as wide, signed_on(run, office) as sso:
                     compressed(run, wide)
+                    single_sign_on(run, sso)
+                    caches(run, "by password", front, user="ada")
+                    caches(run, "by single sign-on", sso, Cookie="signed_in=ada")
                     if not given.no_browser:
-                        front_pages.judge(run, front, wide, office, lambda: new_office(run),
+                        front_pages.judge(run, front, wide, sso, office, lambda: new_office(run),
                                           given.pictures)
                     described_exchanges(run, wide, 1 if given.no_browser else 5)
                 described_exchanges(run, front, 100)
