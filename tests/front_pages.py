@@ -152,6 +152,20 @@ def signing_on(run, chromium, front, sso):
             for path in ("/me", "/-/user")])
 
 
+def list_of_sessions(run, chromium, many):
+    """A page lists the sessions behind one front."""
+    chromium.new_host()
+    address = f"exams.localhost:{many.port}/"
+    chromium.go(f"http://ada:try-ada@{address}not-found.html")
+    chromium.go(f"http://{address}")
+    is_read(chromium)
+    run.judge("the sessions", ("2 sessions", ["Session small", "Session wide"], [
+        f"http://{host}.localhost:{many.port}/" for host in ("small", "wide")], []), (
+        chromium.text("#status"), chromium.texts("#sessions a"),
+        chromium.run("return [...document.querySelectorAll('#sessions a')].map(link => link.href)"),
+        [lack for lack in chromium.run(LACKS) if lack != "a status"]))
+
+
 def registrys_page(run, chromium, front):
     """Penalties by part as bars, violations in words, rooms by period."""
     with reading(chromium, front, "registry") as reader:
@@ -899,7 +913,7 @@ def pictures(chromium, front, folder):
             reader.picture(folder / f"{name}.png")
 
 
-def judge(run, front, wide, sso, office, program, folder):
+def judge(run, front, wide, sso, many, office, program, folder):
     """What Chromium shows; with pictures, where there is a folder for them."""
     lacking = browser.missing()
     if lacking:
@@ -913,6 +927,7 @@ def judge(run, front, wide, sso, office, program, folder):
             part(run, chromium, front)
         new_session(run, chromium, program)
         signing_on(run, chromium, front, sso)
+        list_of_sessions(run, chromium, many)
         calendar_file(run, chromium, wide)
         printed(run, chromium, wide)
         other_labels(run, chromium, wide)

@@ -451,6 +451,41 @@ def single_sign_on(run, front):
     run.judge("health", (200, b'{"health":"ok"}'), told("/health"))
 
 
+@contextlib.contextmanager
+def several(run, offices):
+    """One front before these offices by host name, and a host that lists them."""
+    hosts = "".join(f"{host}.localhost 127.0.0.1:{port};\n" for host, port in offices.items())
+    front = Front(run.folder / "several", next(iter(offices.values())), (
+        *QUICK, ("default 127.0.0.1:", f"exams.localhost list;\n{hosts}default 127.0.0.1:")))
+    for host in offices:
+        (front.folder / "labels" / f"{host}.localhost").mkdir()
+    wide = front.folder / "labels" / "wide.localhost" / "labels.json"
+    wide.write_text(json.dumps(WIDE_LABELS))
+    (front.folder / "labels" / "sessions.json").write_text(json.dumps({"sessions": [
+        {"title": f"Session {host}", "address": f"http://{host}.localhost:{front.port}/"}
+        for host in offices]}))
+    try:
+        yield front
+    finally:
+        front.stop()
+
+
+def several_sessions(run, front):
+    """Each host has its own office and its own names."""
+    for host, path, answer in (
+            ("small", "/me", FIRST_VIEW[1]), ("other", "/me", FIRST_VIEW[1]),
+            ("exams", "/me", b'{"error":"unavailable"}'),
+            ("wide", "/me/exam/4", b'{"date":"2005-06-10","exam":4,"period":8,"room":4,"seat":1,'
+             b'"start":"09:00:00","state":"seated"}')):
+        run.judge(f"{path} of {host}", answer, front.fetch(
+            path, "ada", Host=f"{host}.localhost")[2])
+    for host, title in (("small", "Examinations in April 2005"), ("wide", "Wide")):
+        run.judge(f"names of {host}", title, json.loads(front.fetch(
+            "/labels/labels.json", "ada", Host=f"{host}.localhost")[2])["title"])
+    for path in ("/labels/wide.localhost/labels.json", "/labels/small.localhost/"):
+        run.judge(f"{path} itself", 404, front.fetch(path, "registry")[0])
+
+
 def caches(run, name, front, **signed):
     """What a browser may keep."""
     for path, expected in (("/", "no-cache"), ("/style.css", "no-cache"), ("/candidate.html", "no-cache"),
@@ -510,7 +545,7 @@ def wide_session(run):
                          ask("registry", "POST", "/drafts/1/publish")):
             run.judge("a wide session", True, front.told(question)[0] in (200, 201))
         try:
-            yield front
+            yield front, office
         finally:
             front.stop()
     finally:
@@ -552,14 +587,16 @@ def main():
             busy.start()
             try:
                 before_the_office(run, front, office)
-                with wide_session(run) as wide, signed_on(run, office) as sso:
+                with wide_session(run) as (wide, wide_office), signed_on(run, office) as sso, \
+                        several(run, {"small": office.port, "wide": wide_office.port}) as many:
+                    several_sessions(run, many)
                     compressed(run, wide)
                     single_sign_on(run, sso)
                     caches(run, "by password", front, user="ada")
                     caches(run, "by single sign-on", sso, Cookie="signed_in=ada")
                     if not given.no_browser:
-                        front_pages.judge(run, front, wide, sso, office, lambda: new_office(run),
-                                          given.pictures)
+                        front_pages.judge(run, front, wide, sso, many, office,
+                                          lambda: new_office(run), given.pictures)
                     described_exchanges(run, wide, 1 if given.no_browser else 5)
                 described_exchanges(run, front, 100)
             finally:
