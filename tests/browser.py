@@ -1,5 +1,7 @@
 """Chromium, driven by Debian's python3-selenium and chromium-driver."""
 import base64
+import concurrent.futures
+import contextlib
 import os
 import pathlib
 import shutil
@@ -50,8 +52,22 @@ def until(what, is_so):
         found = is_so()
         if found:
             return found
-        time.sleep(0.05)
+        time.sleep(0.02)
     raise TimeoutError(f"not within {SECONDS} s: {what}")
+
+
+@contextlib.contextmanager
+def starting(folder):
+    """A browser that starts while other tests run: what waits for it; None if something is missing."""
+    if missing():
+        yield None
+        return
+    with concurrent.futures.ThreadPoolExecutor(1) as pool:
+        future = pool.submit(Browser, folder)
+        try:
+            yield future.result
+        finally:
+            future.result().driver.quit()
 
 
 class Browser:

@@ -913,25 +913,24 @@ def pictures(chromium, front, folder):
             reader.picture(folder / f"{name}.png")
 
 
-def judge(run, front, wide, sso, many, office, program, folder):
-    """What Chromium shows; with pictures, where there is a folder for them."""
-    lacking = browser.missing()
-    if lacking:
-        print(f"front: the pages are left out without {' and '.join(lacking)}")
+def judge(run, started, front, wide, sso, many, office, program, folder):
+    """What Chromium shows; with pictures, if there is a folder for them."""
+    if not started:
+        print(f"front: the pages are left out without {' and '.join(browser.missing())}")
         return
     if not shutil.which("pdftotext"):
-        print("front: texts of printed pages are left out without pdftotext")
-    with browser.Browser(run.folder) as chromium:
-        for part in (candidates_page, next_exam_first, registrys_page, departments_page,
-                     publishing, states_of_exams, late_changes, registrys_work):
-            part(run, chromium, front)
-        new_session(run, chromium, program)
-        signing_on(run, chromium, front, sso)
-        list_of_sessions(run, chromium, many)
-        calendar_file(run, chromium, wide)
-        printed(run, chromium, wide)
-        other_labels(run, chromium, wide)
-        pages_for_everybody(run, chromium, front)
-        if folder:
-            pictures(chromium, front, folder)
-        pages_in_error(run, chromium, front, office)
+        print("front: texts of printed pages are left out without poppler-utils")
+    chromium = started()
+    for part in (candidates_page, next_exam_first, registrys_page, departments_page, publishing,
+                 states_of_exams, late_changes, registrys_work):
+        part(run, chromium, front)
+    new_session(run, chromium, program)
+    signing_on(run, chromium, front, sso)
+    list_of_sessions(run, chromium, many)
+    calendar_file(run, chromium, wide)
+    printed(run, chromium, wide)
+    other_labels(run, chromium, wide)
+    pages_for_everybody(run, chromium, front)
+    if folder:
+        pictures(chromium, front, folder)
+    pages_in_error(run, chromium, front, office)

@@ -191,9 +191,10 @@ def many_at_once(run, front):
     run.judge("forty clients at once", [], wrong)
 
 
+@contextlib.contextmanager
 def slow_ones(run, front):
     """Thirty clients that stop within their messages, one that stops within its reply, and one that
-    keeps its connection hold nobody up; and each is left in its time."""
+    keeps its connection delay nobody; and each is left in its time, while other tests go on."""
     held, began = [front.connect() for _ in range(30)], time.monotonic()
     for number, client in enumerate(held):
         client.sendall(ask("registry", "PUT", "/drafts/5", SOLUTION)[:-1 - 40 * (number % 4)])
@@ -202,6 +203,7 @@ def slow_ones(run, front):
         run.judge("a client that stays", FIRST_VIEW, one_reply(idle))
         run.judge("a client beside slow ones", SECOND_VIEW, front.told(ask("ben", "GET", "/me")))
         run.judge("it is served at once", True, time.monotonic() - began < 4)
+    yield
     for client in held:
         with client, contextlib.suppress(ConnectionResetError):
             run.judge("a slow client is left", b"", rest(client))
@@ -517,16 +519,16 @@ def before_the_office(run, front, office):
     for question, answer in MADE:
         run.judge("the start", answer, front.told(question))
     words_of_pages(run)
-    users_from_csv(run, office)
     who_asks_and_what(run, front)
     styled_pages(run, front)
     health(run, front, (200, b'{"health":"ok"}'))
     what_passes(run, run.folder)
     waits_for_no_body(run, front)
     many_at_once(run, front)
-    slow_ones(run, front)
-    limits(run, office)
-    no_office(run)
+    with slow_ones(run, front):
+        users_from_csv(run, office)
+        limits(run, office)
+        no_office(run)
     log_of_changes(run, front)
 
 
@@ -577,7 +579,8 @@ def main():
         return 0
     if openapi.missing():
         print(f"front: docs/openapi.yaml is left out without {' and '.join(openapi.missing())}")
-    with tempfile.TemporaryDirectory() as folder:
+    with tempfile.TemporaryDirectory() as folder, \
+            contextlib.nullcontext() if given.no_browser else browser.starting(folder) as started:
         run = Run(pathlib.Path(given.program).resolve(), folder, "front")
         office = run.office()
         try:
@@ -595,7 +598,7 @@ def main():
                     caches(run, "by password", front, user="ada")
                     caches(run, "by single sign-on", sso, Cookie="signed_in=ada")
                     if not given.no_browser:
-                        front_pages.judge(run, front, wide, sso, many, office,
+                        front_pages.judge(run, started, front, wide, sso, many, office,
                                           lambda: new_office(run), given.pictures)
                     described_exchanges(run, wide, 1 if given.no_browser else 5)
                 described_exchanges(run, front, 100)
