@@ -5,6 +5,9 @@ use Rattle.office_model.specs.Commands.{Gives}
 use Rattle.office_store.specs.Running.{IsFault}
 use Rattle.office_model.specs.declared.fault.StoreFault.{StoreFault}
 use Rattle.office_model.specs.declared.fault.StoreFault.TheVariants.{Store}
+use Rattle.office_program.specs.Load.{IfRefused}
+use Rattle.office_program.specs.declared.loading.LoadFault.{LoadFault}
+use Rattle.office_program.specs.declared.loading.LoadFault.TheVariants.{Store as Refused, Write}
 
 -- a refusal where no office is found is none of a command's
 pub no_office : {A : Type 0} (gives : Gives A) (fault : StoreFault) (P : OfficeState → Type 0)
@@ -18,3 +21,9 @@ pub if_err : {A E : Type 0} (result : Result A E) (P Q T : E → Type 0)
     → ((e : E) → P e → Q e → T e) → IfErr result P → IfErr result Q → IfErr result T
 if_err (Ok a) P Q T follows p q = tt
 if_err (Err e) P Q T follows p q = follows e p q
+
+-- what follows when the office refuses
+pub if_refused : {P T : Type 0} (fault : LoadFault) → (P → T) → IfRefused P fault
+    → IfRefused T fault
+if_refused (Refused fault) follows p = follows p
+if_refused Write follows p = tt

@@ -38,6 +38,11 @@ abbrev pub RefusesLoad : List ℕ → OfficeState → State → LoadFault → Ty
 RefusesLoad text office after (Store fault) = IsFault (loaded text office) fault
 RefusesLoad text office after Write = (counts : Loaded) × IsLoaded text office after counts
 
+-- what holds when the office refuses the text, or a statement failed
+abbrev pub IfRefused : Type 0 → LoadFault → Type 0
+IfRefused Then (Store fault) = Then
+IfRefused Then Write = Unit {0}
+
 -- a text that the office refuses has this fault first
 abbrev pub NamesTextFault : List ℕ → LoadFault → Type 0
 NamesTextFault text (Store fault) = NamesFirstFault text fault

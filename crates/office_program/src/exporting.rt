@@ -76,6 +76,11 @@ pub fn export_run<S: Alter, W: Write>(
     ensures refused { IfErr result (λ e. HasCleanDisk (state S.Store e.1)
         → (there : OfficeState) → IsKept (state S.Store conn).now there
         → RefusesExport there e.0) }
+    // A refusal leaves the office as it was, in a database that has nothing uncommitted.
+    ensures stays { IfErr result (λ e. HasCleanDisk (state S.Store e.1)
+        → ((state S.Store conn).now ≡ (state S.Store conn).committed)
+        → (there : OfficeState) → IsKept (state S.Store conn).now there
+        → Now (state S.Store e.1) there) }
 
     // Over any disk a whole solution is written, or nothing.
     ensures printed { IfOk result (λ _.
@@ -105,6 +110,8 @@ fn export_from<S: Alter, W: Write>(
         (W.contents writer.old) (W.contents writer.new)) }
     ensures refused { HasCleanDisk (state S.Store office.new) → (there : OfficeState)
         → Now (state S.Store office.old) there → IfErr result (RefusesExport there) }
+    ensures stays { HasCleanDisk (state S.Store office.new) → (there : OfficeState)
+        → Now (state S.Store office.old) there → Now (state S.Store office.new) there }
     ensures printed { IfOk result (λ _.
         PrintsSolution (W.contents writer.old) (W.contents writer.new)) }
     ensures unwritten { IfErr result (λ fault. fault ≢ ExportFault.Write
@@ -125,8 +132,7 @@ fn published_text<S: Alter>(alloc: Global, office: &mut Office<S>) -> Result<Vec
         → Now (state S.Store office.old) there
         → IfOk result (λ text. published_solution there ≡ Some text.items) }
     ensures stays { HasCleanDisk (state S.Store office.new) → (there : OfficeState)
-        → Now (state S.Store office.old) there
-        → IfOk result (λ _. Now (state S.Store office.new) there) }
+        → Now (state S.Store office.old) there → Now (state S.Store office.new) there }
     ensures refused { HasCleanDisk (state S.Store office.new) → (there : OfficeState)
         → Now (state S.Store office.old) there → IfErr result (RefusesExport there) }
     ensures solution { IfOk result (λ text. (T : Placing) × IsWhole T

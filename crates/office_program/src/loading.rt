@@ -1,12 +1,12 @@
 // A session loaded into the office of a database.
-ghost use Rattle.std.specs.Prelude.{◌≢◌, IfErr, IfOk, OnOk};
+ghost use Rattle.std.specs.Prelude.{◌≡◌, ◌≢◌, IfErr, IfOk, IsTrue, OnOk};
 ghost use Rattle.std.specs.Io.KnownBytes.{Appends, Keeps};
 ghost use Rattle.sqlite.specs.Held.{state};
 ghost use Rattle.sqlite.specs.State.{HasCleanDisk};
 ghost use Rattle.office_model.specs.Office.{OfficeState};
 ghost use Rattle.office_store.specs.Running.{Now};
 ghost use Rattle.office_store.specs.Opening.{IsOfficeOf};
-ghost use Rattle.office_program.specs.Load.{Loads, NamesTextFault, PrintsCounts, RefusesLoad, loaded_text};
+ghost use Rattle.office_program.specs.Load.{IfRefused, Loads, NamesTextFault, PrintsCounts, RefusesLoad, loaded_text};
 
 use office_http::{Alter, Connection, Loaded, Office, StoreFault};
 use std::alloc::Global;
@@ -65,6 +65,12 @@ pub fn load_run<S: Alter, W: Write>(
     ensures refused { IfErr result (λ e. HasCleanDisk (state S.Store e.1)
         → (there : OfficeState) → IsOfficeOf (state S.Store conn).now there
         → RefusesLoad text.now there (state S.Store e.1) e.0) }
+    // A refusal leaves the office as it was, in a database that has nothing uncommitted.
+    ensures stays { IfErr result (λ e. HasCleanDisk (state S.Store e.1)
+        → ((state S.Store conn).now ≡ (state S.Store conn).committed)
+        → (there : OfficeState) → IsOfficeOf (state S.Store conn).now there
+        → IfRefused (IsTrue (state S.Store e.1).is_open
+        → IsOfficeOf (state S.Store e.1).now there) e.0) }
 
     // Over any disk the line says how much the text spells, or nothing is written.
     ensures printed { IfOk result (λ _.
@@ -100,6 +106,9 @@ fn load_into<S: Alter, W: Write>(
     ensures refused { HasCleanDisk (state S.Store office.new) → (there : OfficeState)
         → Now (state S.Store office.old) there
         → IfErr result (RefusesLoad text.now there (state S.Store office.new)) }
+    ensures stays { HasCleanDisk (state S.Store office.new) → (there : OfficeState)
+        → Now (state S.Store office.old) there
+        → IfErr result (IfRefused (Now (state S.Store office.new) there)) }
     ensures unwritten { IfErr result (λ fault. fault ≢ LoadFault.Write
         → Keeps (W.contents writer.old) (W.contents writer.new)) }
     ensures first { IfErr result (NamesTextFault text.now) }

@@ -1,6 +1,6 @@
 // The whole program, over a file system and two writers.
 ghost use Rattle.std.specs.Prelude.{◌≡◌, ◌≢◌, ◌≤◌, ◌↔◌, ◌⊎◌, ◌++◌, ◌∷◌, [], IfErr, IfOk, OnOk};
-ghost use Rattle.std.specs.Prelude.{ℕ, IsTrue, List, length, map, string_bytes};
+ghost use Rattle.std.specs.Prelude.{ℕ, IsTrue, List, false, is_ok, length, map, string_bytes, true};
 ghost use Rattle.std.specs.Io.KnownBytes.{Appends, Keeps};
 ghost use Rattle.std.specs.IoError.{error_kind};
 ghost use Rattle.std.specs.declared.io.ErrorKind.TheVariants as failure;
@@ -27,7 +27,7 @@ use crate::telling::{LongWork, tell};
 use crate::words::{Task, read_words};
 use clap::Error;
 use clap::error::ErrorKind;
-use office_check::check_run;
+use office_check::{CheckFault, check_run};
 use office_files::{InputFault, instance_text};
 use office_http::Connection;
 use std::io::Write;
@@ -125,16 +125,34 @@ fn check<'a, R: Files + AllocGlobal, W: Write>(
     ensures unwritten { IfErr result (λ fault. fault ≢ ProgramFault.CannotWrite
         → Keeps (W.contents out.old) (W.contents out.new)) }
 {
-    let Ok(mut instance_file) = fs::open(rt, instance) else {
-        return Err(ProgramFault::CannotRead(instance));
-    };
-    let Ok(mut solution_file) = fs::open(rt, solution) else {
-        return Err(ProgramFault::CannotRead(solution));
-    };
-    match check_run(rt.alloc(), &mut instance_file, &mut solution_file, out) {
-        Ok(status) => Ok(Ending::quiet(status)),
+    match both_open(fs::open(rt, instance), fs::open(rt, solution)) {
+        Ok((mut instance_file, mut solution_file)) => {
+            match check_run(rt.alloc(), &mut instance_file, &mut solution_file, out) {
+                Ok(status) => Ok(Ending::quiet(status)),
+                Err(fault) => Err(fault_on(fault, instance, solution)),
+            }
+        }
         Err(fault) => Err(fault_on(fault, instance, solution)),
     }
+}
+
+// Returns both files, or the fault of the first that could not be opened.
+fn both_open<F: Drop>(
+    instance: io::Result<F>,
+    solution: io::Result<F>,
+) -> Result<(F, F), CheckFault>
+    ensures { IfErr result (λ fault.
+        ((fault ≡ CheckFault.ReadInstance) × (is_ok instance ≡ false))
+        ⊎ ((fault ≡ CheckFault.ReadSolution) × (is_ok instance ≡ true)
+        × (is_ok solution ≡ false))) }
+{
+    let Ok(instance_file) = instance else {
+        return Err(CheckFault::ReadInstance);
+    };
+    let Ok(solution_file) = solution else {
+        return Err(CheckFault::ReadSolution);
+    };
+    Ok((instance_file, solution_file))
 }
 
 // `load`. The instance's file is read before the database is opened.

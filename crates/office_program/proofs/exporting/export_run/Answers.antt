@@ -1,7 +1,9 @@
-use Rattle.std.proofs.Common.{inl, inr, subst, sym}
+use Rattle.std.proofs.Common.{◌∙◌, inl, inr, subst, sym}
 use Rattle.sqlite.specs.Held.{state}
 use Rattle.sqlite.specs.State.{HasCleanDisk}
 use Rattle.office_program.specs.Export.{Exports}
+use Rattle.office_records.specs.Stands.{IsKept}
+use Rattle.office_store.specs.Running.{Now}
 use Rattle.office_store.proofs.AdoptLemmas.{kept_still}
 use Rattle.office_program.proofs.exporting.export_run.Goals as goal
 
@@ -30,3 +32,19 @@ returns-in-Err-export_from-clause-refused g c = λ clean there kept.
     c.release-in-Err-export_from.ensures clean in
     c.in-Err-export_from.ensures.refused now there (λ opened. kept_still g.S.Store _ _ there
     (c.in-Ok.ensures.same (c.export_from.ensures.clean now)) kept)
+
+-- no office was found, and the tables are as they were
+pub returns-in-Err-clause-stays : goal.returns-in-Err-clause-stays
+returns-in-Err-clause-stays g c = λ clean kept there is opened. elim c.in-Err.ensures.undone [
+  | inl same ↦ subst (λ held. IsKept (state g.S.Store held).now there) (sym same) is
+  | inr undone ↦ subst (λ db. IsKept db there) (kept ∙ sym ((undone clean).now opened)) is
+]
+
+-- the office that was found refuses, and is as it was
+pub returns-in-Err-export_from-clause-stays : goal.returns-in-Err-export_from-clause-stays
+returns-in-Err-export_from-clause-stays g c = λ clean kept there is.
+    let released = c.release-in-Err-export_from.ensures in
+    let now = subst (λ held. HasCleanDisk (state g.S.Store held)) released clean in
+    subst (λ held. Now (state g.S.Store held) there) (sym released)
+    (c.export_from.ensures.stays now there (λ opened. kept_still g.S.Store _ _ there
+    (c.in-Ok.ensures.same (c.export_from.ensures.clean now)) is))

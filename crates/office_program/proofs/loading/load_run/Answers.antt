@@ -1,8 +1,10 @@
-use Rattle.std.proofs.Common.{sym, subst}
+use Rattle.std.proofs.Common.{◌∙◌, inl, inr, sym, subst}
 use Rattle.sqlite.specs.Held.{state}
 use Rattle.sqlite.specs.State.{HasCleanDisk}
 use Rattle.office_program.specs.Load.{Loads, RefusesLoad}
-use Rattle.office_program.proofs.LoadFacts.{no_office}
+use Rattle.office_store.specs.Opening.{IsOfficeOf}
+use Rattle.office_store.specs.Running.{Now}
+use Rattle.office_program.proofs.LoadFacts.{if_refused, no_office}
 use Rattle.office_program.proofs.loading.load_run.Goals as goal
 
 -- no office was found
@@ -29,4 +31,22 @@ returns-in-Err-load_into-clause-refused g c = λ clean there is.
     c.in-Err-load_into.fault)
     (sym c.release-in-Err-load_into.ensures)
     (c.in-Err-load_into.ensures.refused now there
+    (c.in-Ok.ensures.found (c.load_into.ensures.clean now) there is))
+
+-- no office was found, and the tables are as they were
+pub returns-in-Err-clause-stays : goal.returns-in-Err-clause-stays
+returns-in-Err-clause-stays g c = λ clean kept there is opened. elim c.in-Err.ensures.undone [
+  | inl same ↦ subst (λ held. IsOfficeOf (state g.S.Store held).now there) (sym same) is
+  | inr undone ↦ subst (λ db. IsOfficeOf db there) (kept ∙ sym ((undone clean).now opened)) is
+]
+
+-- the office that was found refuses, and is as it was
+pub returns-in-Err-load_into-clause-stays : goal.returns-in-Err-load_into-clause-stays
+returns-in-Err-load_into-clause-stays g c = λ clean kept there is.
+    let released = c.release-in-Err-load_into.ensures in
+    let now = subst (λ held. HasCleanDisk (state g.S.Store held)) released clean in
+    if_refused c.in-Err-load_into.fault
+    (λ after opened. inr (subst (λ held. Now (state g.S.Store held) there) (sym released) after
+    opened))
+    (c.in-Err-load_into.ensures.stays now there
     (c.in-Ok.ensures.found (c.load_into.ensures.clean now) there is))
