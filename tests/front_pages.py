@@ -648,6 +648,11 @@ def registrys_work(run, chromium, front):
         reader.run("history.forward()")
         reader.waits("return document.querySelector('#detail-title').innerText === 'Draft 2'")
         is_read(reader)
+        reader.run("document.querySelector('.skip').focus()")
+        reader.press("\ue007")
+        run.judge("the link that skips", ("main", "#main", "Draft 2"), (
+            reader.run("return document.activeElement.id"), reader.run("return location.hash"),
+            reader.text("#detail-title")))
         run.judge("a solution", b"3, 0\r\n1, 0\r\n3, 1\r\n2, 0\r\n", downloaded("solution", "draft-2.sol"))
         head = "exam,title,department,date,start,end,room,building"
         for order, exams in (("exam", (0, 1, 2, 3)), ("room", (1, 3, 0, 2)), ("day", (1, 3, 0, 2))):

@@ -230,7 +230,7 @@ def limits(run, office):
     front = Front(run.folder / "limits", office.port, edits=())
     asked = statuses(front, ask("ada", "GET", "/me/penalty"), 200)
     run.judge("a user who asks too often", (True, True, {b"200", b"429"}),
-              (asked[:60] == [b"200"] * 60, asked.count(b"200") < 90, set(asked)))
+              (asked[:60] == [b"200"] * 60, asked.count(b"200") < 150, set(asked)))
     run.judge("another user at their address", SECOND_VIEW,
               front.told(ask("ben", "GET", "/me")))
     run.judge("the office", {b"200"}, set(statuses(front, ask("registry", "GET", "/drafts/1"), 200)))
@@ -241,7 +241,7 @@ def limits(run, office):
     run.judge("a wrong password takes a second", True, time.monotonic() - began > 0.95)
     run.judge("files have no limit", {b"200"}, {status for _ in range(3) for status in statuses(
         front, message("HEAD", "/candidate.js", caller=None), 900)})
-    asked = [status for _ in range(3) for status in statuses(
+    asked = [status for _ in range(5) for status in statuses(
         front, ask("cleo", "HEAD", "/candidate.html"), 900)]
     run.judge("an address that asks too often", (True, {b"200", b"429"}),
               (asked[:1_900] == [b"200"] * 1_900, set(asked)))

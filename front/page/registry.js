@@ -71,7 +71,8 @@ async function load() {
   const drafts = text ? await readDrafts() : [];
   office.timetables = [...(published ? [published] : []), ...drafts];
   showOverview();
-  const open = addressed() ?? office.timetables[0];
+  const open = addressed() ?? office.timetables.find(({ name }) => name === office.open)
+    ?? office.timetables[0];
   if (open) showDetail(open);
   byId('detail').hidden = !open;
   byId('late').hidden = !text;
@@ -121,8 +122,8 @@ function card(timetable, most) {
   const { name, penalty, breaches, number } = timetable;
   const title = `card-${number ?? 'published'}`;
   const show = button(title, 'Details', { 'data-of': name }, () => {
-    if (location.hash === addressOf(timetable)) openAddressed();
-    else location.hash = addressOf(timetable);
+    if (location.hash !== addressOf(timetable)) history.pushState(null, '', addressOf(timetable));
+    openAddressed();
   });
   const publishing = button(title, 'Publish …', { class: 'main' }, () => showProgress(
     `Reading ${name} again …`, () => askToPublish(timetable)));
@@ -152,9 +153,9 @@ function markOpen() {
 
 // ---- One timetable
 
-/** Opens the timetable of the page's address, or the first. */
+/** Opens the timetable of the page's address; the first, if it names none. */
 function openAddressed() {
-  const timetable = addressed() ?? office.timetables[0];
+  const timetable = location.hash ? addressed() : office.timetables[0];
   if (!timetable) return;
   showProgress(`Opening ${timetable.name} …`, async () => {
     showDetail(timetable.number ? await reread(timetable.number) : timetable);
@@ -277,7 +278,7 @@ async function publish(confirmed) {
 
 setUpBatches(office, load);
 setUpForms(office, load);
-window.addEventListener('hashchange', openAddressed);
+window.addEventListener('popstate', openAddressed);
 
 const refresh = () => showProgress('Loading the timetables …', load);
 byId('refresh').addEventListener('click', refresh);
