@@ -1,4 +1,5 @@
 mod AnswerLemmas
+mod DoneLemmas
 mod UnavailableLemmas
 mod CandidateLemmas
 mod ServingLemmas

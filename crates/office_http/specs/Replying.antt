@@ -6,6 +6,8 @@ use Rattle.sqlite.specs.Store.{Ghosts}
 use Rattle.office_messages.specs.Reply.{PlainReply}
 use Rattle.office_messages.specs.FixedReplies.{unavailable}
 use Rattle.office_messages.specs.Stream.{PlainRequest}
+use Rattle.office_messages.specs.declared.statuses.Status.{Status}
+use Rattle.office_messages.specs.declared.statuses.Status.TheVariants as status
 use Rattle.office_policy.specs.Commands.{PlainCommand}
 use Rattle.office_policy.specs.declared.callers.Caller.TheVariants.{Cand}
 use Rattle.office_policy.specs.declared.policy.Denial.TheVariants.{P1}
@@ -20,7 +22,7 @@ use Rattle.office_model.specs.Office.{OfficeState}
 use Rattle.office_model.specs.Step.{Steps}
 use Rattle.office_model.specs.Views.{View, view_of}
 use Rattle.office_replies.specs.Replies.{reply_to, view_text}
-use Rattle.office_store.specs.Running.{Now}
+use Rattle.office_store.specs.Running.{IsAwake, Now}
 
 -- what a message asks for is one step of the office, whose answer is the reply; what asks for
 -- nothing is refused, and the office stays
@@ -39,12 +41,20 @@ Replies old request reply new =
 abbrev pub IsReplyOf : PlainAnswer → PlainReply → Type 0
 IsReplyOf answer reply = (reply ≡ reply_to answer) ⊎ ((shows answer ≡ true) × (reply ≡ unavailable))
 
--- the office that a file stands for replies so, over a disk that returns what was written
+-- the request was done: 200 or 201
+abbrev pub IsDone : Status → Type 0
+IsDone status.Done = Unit {0}
+IsDone status.Created = Unit {0}
+IsDone other = ⊥
+
+-- over a disk that returns what was written, the office that a file represents replies so; if the
+-- request was done, the store is open and all that was written is committed
 pub record Answered {S : Type 0} (store : Ghosts S) (old : Held S) (request : PlainRequest)
     (reply : PlainReply) (new : Held S) : Type 0 where
   pub clean : HasCleanDisk (state store new) → HasCleanDisk (state store old)
   pub step : HasCleanDisk (state store new) → (office : OfficeState) → Now (state store old) office
       → (next : OfficeState) × Replies office request reply next × Now (state store new) next
+  pub awake : HasCleanDisk (state store new) → IsDone reply.status → IsAwake (state store new)
 
 -- ---- candidates
 

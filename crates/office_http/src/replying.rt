@@ -5,10 +5,10 @@ ghost use Rattle.sqlite.specs.State.{HasCleanDisk};
 ghost use Rattle.office_policy.specs.Commands.{HasSmallNumbers, plain_command};
 ghost use Rattle.office_requests.specs.Requests.{plain_asked};
 ghost use Rattle.office_model.specs.Office.{OfficeState};
-ghost use Rattle.office_store.specs.Running.{Now};
+ghost use Rattle.office_store.specs.Running.{IsAwake, Now};
 ghost use Rattle.office_messages.specs.Heads.{plain_request};
 ghost use Rattle.office_messages.specs.Reply.{plain_reply};
-ghost use Rattle.office_http.specs.Replying.{Answered, RepliesTo, TellsCandidate};
+ghost use Rattle.office_http.specs.Replying.{Answered, IsDone, RepliesTo, TellsCandidate};
 
 use crate::answers::answer_reply;
 use office_desk::Desk;
@@ -48,6 +48,8 @@ fn asked_reply<S: Alter>(alloc: Global, desk: &mut Desk<S>, asked: &Asked<'_>) -
         → (next : OfficeState)
         × RepliesTo (Ok (plain_asked asked.now)) office (plain_reply result) next
         × Now (state S.Store desk.new) next }
+    ensures awake { HasCleanDisk (state S.Store desk.new)
+        → IsDone (plain_reply result).status → IsAwake (state S.Store desk.new) }
     ensures clean { HasCleanDisk (state S.Store desk.new)
         → HasCleanDisk (state S.Store desk.old) }
 {

@@ -22,7 +22,7 @@ HTTP/1.1 200 OK\r\nContent-Type: application/json\r\n\
 Content-Length: 38\r\n\r\n{\"candidate\":1,\"exams\":[],\"penalty\":0}";
 
 // The desk of an office in a new database.
-fn new_desk(alloc: Global) -> Result<Desk<MemStore>, Fail> {
+pub(crate) fn new_desk(alloc: Global) -> Result<Desk<MemStore>, Fail> {
     let conn = Connection::open_in_memory(alloc)?;
     match Office::create(conn) {
         Ok(office) => Ok(Desk::new(office)),

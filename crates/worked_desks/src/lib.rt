@@ -3,3 +3,5 @@
 
 #[cfg(test)]
 mod connections;
+#[cfg(test)]
+mod sockets;

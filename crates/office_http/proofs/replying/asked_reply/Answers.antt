@@ -4,6 +4,7 @@ use Rattle.office_requests.specs.Requests.{plain_asked}
 use Rattle.office_desk.specs.Answers.{plain_answer}
 use Rattle.office_model.specs.Answers.{unavailable}
 use Rattle.office_http.proofs.AnswerLemmas.{replied}
+use Rattle.office_http.proofs.DoneLemmas.{not_unavailable, unless_refused}
 use Rattle.office_http.proofs.replying.asked_reply.Goals as goal
 
 pub returns-in_default-clause-step : goal.returns-in_default-clause-step
@@ -19,3 +20,13 @@ returns-clause-step g c =
           (plain_reply c.answer_reply.result) ran.1 c.answer_reply.ensures,
       ran.2,
     )
+
+pub returns-in_default-clause-awake : goal.returns-in_default-clause-awake
+returns-in_default-clause-awake g c =
+    λ clean done. not_unavailable (plain_reply c.unavailable.result) c.unavailable.ensures done
+
+pub returns-clause-awake : goal.returns-clause-awake
+returns-clause-awake g c =
+    λ clean done. unless_refused (plain_answer c.run-answer.result)
+    (plain_reply c.answer_reply.result) c.answer_reply.ensures (c.run-answer.ensures.awake clean)
+    done

@@ -6,6 +6,7 @@ use Rattle.office_requests.specs.Answering.{GivesAsked}
 use Rattle.office_http.specs.Replying.{RepliesTo}
 use Rattle.office_http.proofs.AnswerLemmas.{refused}
 use Rattle.office_http.proofs.CandidateLemmas.{tells}
+use Rattle.office_http.proofs.DoneLemmas.{not_unread}
 use Rattle.office_http.proofs.replying.reply.Goals as goal
 
 -- what is refused unread changes nothing
@@ -16,6 +17,8 @@ returns-in-Err-clause-answered g c =
     request.body.now in
     record {
       clean = λ h. h;
+      awake = λ clean done.
+          not_unread c.in-Err.refusal (plain_reply c.reply.result) c.reply.ensures done;
       step = λ clean office now. (
         office,
         subst (λ (r : PlainReply). RepliesTo said office r office) (sym c.reply.ensures)

@@ -1,0 +1,71 @@
+// A published office that a candidate asks over a socket of this machine.
+use crate::connections::new_desk;
+use office_http::{Desk, End, Served, serve};
+use sqlite::MemStore;
+use std::alloc::Global;
+use std::io::{Read, Write};
+use std::net::{Ipv4Addr, SocketAddr, TcpListener, TcpStream};
+use std::test::Fail;
+
+// The small session is loaded, drafted and published.
+const PUBLISHED: &[u8] = b"PUT /instance HTTP/1.1\r\nHost: office\r\nX-Caller: office\r\n\
+Content-Length: 350\r\n\r\n\
+[Exams:4]\n120, 1, 2\n90, 2, 3\n120, 3\n60, 1\n\
+[Periods:4]\n15:04:2005, 09:30:00, 120, 0\n15:04:2005, 14:00:00, 120, 0\n\
+15:04:2005, 17:00:00, 90, 10\n18:04:2005, 09:30:00, 120, 5\n\
+[Rooms:2]\n3, 0\n2, 7\n\
+[PeriodHardConstraints]\n1, AFTER, 0\n[RoomHardConstraints]\n[InstitutionalWeightings]\n\
+TWOINAROW,7\nTWOINADAY,5\nPERIODSPREAD,3\nNONMIXEDDURATIONS,10\nFRONTLOAD,1,2,4\n\
+PUT /drafts/1 HTTP/1.1\r\nHost: office\r\nX-Caller: office\r\n\
+Content-Length: 20\r\n\r\n0, 0\n1, 0\n3, 1\n2, 0\n\
+POST /drafts/1/publish HTTP/1.1\r\nHost: office\r\nX-Caller: office\r\n\r\n";
+
+const REQUEST: &[u8] =
+    b"GET /me HTTP/1.1\r\nHost: office\r\nX-Caller: cand:2\r\nConnection: close\r\n\r\n";
+
+// Candidate 2 has exams 0 and 1, two in a row on one day: 7 and 1.
+const REPLY: &[u8] = b"HTTP/1.1 200 OK\r\nContent-Type: application/json\r\n\
+Content-Length: 229\r\n\r\n\
+{\"candidate\":2,\"exams\":[\
+{\"date\":\"2005-04-15\",\"exam\":0,\"period\":0,\"room\":0,\"seat\":2,\"start\":\"09:30:00\",\"state\":\"seated\"},\
+{\"date\":\"2005-04-15\",\"exam\":1,\"period\":1,\"room\":0,\"seat\":1,\"start\":\"14:00:00\",\"state\":\"seated\"}\
+],\"penalty\":8}";
+
+// Has the small session published at the desk.
+fn publish(alloc: Global, desk: &mut Desk<MemStore>) -> Result<(), Fail> {
+    let mut asked = PUBLISHED;
+    let mut replies = Vec::new(alloc);
+    let mut turns = 100;
+    let closed = Served {
+        answered: 3,
+        end: End::Closed,
+    };
+    if serve(alloc, &mut asked, &mut replies, desk, &mut turns) == Ok(closed) {
+        Ok(())
+    } else {
+        Err("not published")?
+    }
+}
+
+#[test]
+fn a_candidate_asks_over_a_socket(rt: HostRuntime) -> Result<(), Fail> {
+    let alloc = rt.alloc();
+    let mut desk = new_desk(alloc)?;
+    publish(alloc, &mut desk)?;
+    let listener = TcpListener::bind(&rt, SocketAddr::from((Ipv4Addr::LOCALHOST, 0)))?;
+    let mut asking = TcpStream::connect(&rt, listener.local_addr()?)?;
+    asking.write_all(REQUEST)?;
+    let (stream, _) = listener.accept()?;
+    let mut turns = 100;
+    let served = serve(alloc, &mut &stream, &mut &stream, &mut desk, &mut turns);
+    let asked = Served {
+        answered: 1,
+        end: End::Asked,
+    };
+    assert_eq!(rt; served, Ok(asked));
+    drop(stream);
+    let mut reply = Vec::new(alloc);
+    asking.read_to_end(&mut reply)?;
+    assert_eq!(rt; reply.as_slice(), REPLY);
+    Ok(())
+}
