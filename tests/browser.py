@@ -18,7 +18,8 @@ try:
 except ImportError:
     webdriver = None
 
-SECONDS = 30
+# Long, because a busy machine needs seconds to show a page.
+SECONDS = 120
 # Where the browsers are: a page that took its days to be of a zone would be hours off.
 ZONE = "America/New_York"
 # A clock that is ahead or behind, for pages that are opened from then on.
