@@ -41,10 +41,10 @@ def asked(office, question):
 
 
 def slow_copies(folder):
-    """A PATH in which cp takes long."""
+    """A PATH in which cp takes long, and makes a file `copying` when it starts."""
     room = folder / "slow"
     room.mkdir()
-    (room / "cp").write_text("#!/bin/sh\nsleep 30\n")
+    (room / "cp").write_text(f"#!/bin/sh\ntouch '{folder}/copying'\nexec sleep 30\n")
     (room / "cp").chmod(0o755)
     return f"{room}:{os.environ['PATH']}"
 
@@ -66,8 +66,10 @@ def while_it_runs(judged, program, folder, office, database):
     for number in signal.SIGTERM, signal.SIGINT, signal.SIGHUP:
         running = backup(program, database, copies, 2, path=slow_copies(folder / number.name))
         end = time.monotonic() + SECONDS
-        while state_of(office) != "T" and time.monotonic() < end:
+        # A signal that comes while the script forks would wait for the copy to end.
+        while not (folder / number.name / "copying").exists() and time.monotonic() < end:
             time.sleep(0.01)
+        time.sleep(0.2)
         judged.judge(f"{number.name}, the office is stopped", "T", state_of(office))
         # as a terminal and systemd do, to all processes of it
         os.killpg(running.pid, number)
