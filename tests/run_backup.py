@@ -15,13 +15,20 @@ from serve_cases import EXAMPLES, PENALTY, SOLUTION, message
 
 TOP = pathlib.Path(__file__).resolve().parent.parent
 SECONDS = 60
+SIGNALS = signal.SIGTERM, signal.SIGINT, signal.SIGHUP
+
+
+def with_signals():
+    """Undoes what `nohup` and a background job leave: no shell can trap a signal that it ignores."""
+    for number in SIGNALS:
+        signal.signal(number, signal.SIG_DFL)
 
 
 def backup(program, *words, path=None):
     environment = {**os.environ, "EXAMOFFICE": str(program), "PATH": path or os.environ["PATH"]}
     return subprocess.Popen([TOP / "tools" / "backup", *map(str, words)], env=environment,
                             stdout=subprocess.PIPE, stderr=subprocess.PIPE, text=True,
-                            start_new_session=True)
+                            start_new_session=True, preexec_fn=with_signals)
 
 
 def ended(process):
@@ -63,7 +70,7 @@ def while_it_runs(judged, program, folder, office, database):
     copy = Office(program, made[-1])
     judged.judge("a copy is the same office", before, asked(copy, PENALTY))
     copy.killed()
-    for number in signal.SIGTERM, signal.SIGINT, signal.SIGHUP:
+    for number in SIGNALS:
         running = backup(program, database, copies, 2, path=slow_copies(folder / number.name))
         end = time.monotonic() + SECONDS
         # A signal that comes while the script forks would wait for the copy to end.
@@ -94,7 +101,7 @@ def main():
     program, judged = pathlib.Path(sys.argv[1]).resolve(), Cases("backup")
     with tempfile.TemporaryDirectory() as folder:
         folder = pathlib.Path(folder)
-        for number in signal.SIGTERM, signal.SIGINT, signal.SIGHUP:
+        for number in SIGNALS:
             (folder / number.name).mkdir()
         database = folder / "term.db"
         subprocess.run([program, "load", "--db", database, EXAMPLES / "small.exam"], check=True,
