@@ -16,9 +16,6 @@ from cases import Cases
 
 TOP = pathlib.Path(__file__).resolve().parent.parent
 FORMATS, SMALL = TOP / "docs" / "FORMATS.md", TOP / "examples" / "small.exam"
-# An office of the small example as the release of 25 November 2026 left it: an owner, two drafts, a
-# publication, a batch behind it.
-BEFORE = TOP / "tests" / "office_before.sqlite"
 SECONDS = 60
 LOADED = b"loaded exams 4 pairs 6 periods 4 rooms 2\n"
 # The canonical text of the small example, with no student.
@@ -77,6 +74,12 @@ PUBLISHED = ("UPDATE meta SET published = 1",
              " (0, 2, 0, 0), (0, 3, 0, 0), (1, 0, 0, 0), (1, 1, 0, 0), (1, 2, 10, 0), (1, 3, 5, 0),"
              " (2, 0, 0, 0), (2, 1, 7, 0)")
 EXPORTED = (0, b"0, 0\r\n1, 0\r\n3, 1\r\n2, 0\r\n", b"")
+NO_PUBLICATION = (1, b"", b"examoffice: no publication\n")
+# Offices of the small example as earlier releases left them, all with tables of version 1, and what an
+# export prints of each: one of 25 November 2026 with an owner, two drafts, a publication and a later
+# batch; two of 27 November 2026, the second after two publications.
+BEFORE = {"everything": EXPORTED, "loaded": NO_PUBLICATION,
+          "published_twice": (0, b"0, 0\r\n1, 0\r\n3, 1\r\n3, 1\r\n", b"")}
 # What a statement makes of that office.
 PUBLISHED_CHANGES = {
     "UPDATE seat SET seat = 3 WHERE exam = 3": FOUND,
@@ -200,7 +203,7 @@ def published(program, folder):
     load, export = ((program, *words) for words in (("load", "--db", str(office), str(SMALL)),
                                                     ("export", "--db", str(office))))
     ended(*load)
-    yield "no publication", (1, b"", b"examoffice: no publication\n"), ended(*export)
+    yield "no publication", NO_PUBLICATION, ended(*export)
     yield "a publication", lines(), ended("sqlite3", str(office), ";".join(PUBLISHED))
     yield "an office with it", FOUND, ended(*load)
     yield "an export", EXPORTED, ended(*export)
@@ -230,13 +233,15 @@ def tables_that_stand_for_nothing(program, folder):
 
 
 def made_before(program, folder):
-    """What a program before this one left is an office of this one, which leaves it as it is."""
+    """What an earlier release left is an office of this one, which leaves it as it is."""
     office = folder / "before.db"
-    office.write_bytes(BEFORE.read_bytes())
-    before = 0, dumped(office)[1], b""
-    yield "an export of a program before", EXPORTED, ended(program, "export", "--db", str(office))
-    yield "its session", FOUND, ended(program, "load", "--db", str(office), str(SMALL))
-    yield "its file", before, dumped(office)
+    for name, exported in BEFORE.items():
+        office.write_bytes((TOP / "tests" / "before" / f"{name}.sqlite").read_bytes())
+        before = 0, dumped(office)[1], b""
+        yield f"before, {name}: an export", exported, ended(program, "export", "--db", str(office))
+        yield f"before, {name}: its session", FOUND, ended(
+            program, "load", "--db", str(office), str(SMALL))
+        yield f"before, {name}: its file", before, dumped(office)
 
 
 def main():
