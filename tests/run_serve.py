@@ -26,6 +26,7 @@ import tty
 from collections import namedtuple
 
 from cases import Cases
+from further_cases import ASKED, FURTHER
 from serve_cases import (
     CASES, EMPTY, EXAMPLES, FIRST_MOVED, MANY, MOVED_ROOMS, MOVED_TEXT, PENALTY, PENDING, PUBLISHED,
     SECOND_PAGE, SHOWN, SMALL, SOLUTION, STORED, THIRD, UNPLACED, asked_by, at, batch, batch_text,
@@ -141,7 +142,7 @@ class Run(Cases):
 
 
 def worked_examples(run):
-    for case in CASES:
+    for case in (*CASES, *FURTHER):
         for way in (whole, in_single_bytes, in_one_piece):
             office = run.office(case.start, connections=1)
             with office.connect() as client:
@@ -169,9 +170,9 @@ def stored_by_hand(run):
                   (came[:2], came[2], rows))
 
 
-def served_again(run, name, first, again):
+def served_again(run, name, first, again, start=SMALL):
     """Exchanges, and then others when the file is served again; answers the file."""
-    database, came, expected = run.database(SMALL), [], []
+    database, came, expected = run.database(start), [], []
     for exchanges in (first, again):
         office = Office(run.program, database, connections=1)
         with office.connect() as client:
@@ -217,6 +218,8 @@ def adopt_after_republication(run):
         shutil.copy(database, altered)
         subprocess.run(["sqlite3", str(altered), share], check=True, timeout=SECONDS)
         run.judge(f"adopt_after_republication, {share}", no_office, exported(run, altered))
+    unloaded = message("GET", "/instance"), error(409, "not-loaded")
+    served_again(run, "an office before a load", [unloaded], [unloaded], start=None)
     bare, other = run.folder / "bare.db", run.folder / "note.db"
     bare.write_bytes(b"")
     run.judge("adopt_after_republication, no tables", no_office, exported(run, bare))
@@ -361,6 +364,31 @@ def hostile_messages(run):
                   ("dept:3", forbidden("P2")))]
     exchanged(run, "hostile_messages, a body that is too long", run.database(None),
               [exchange for refused in exchanges for exchange in (refused, after)])
+
+
+def cut_messages(run):
+    """A message of which only a part comes has no reply, and what came before it has its own."""
+    question, answer = ASKED
+    office = run.office(connections=len(question) - 1)
+    for end in range(1, len(question)):
+        with office.connect() as client:
+            got = told(client, question + question[:end])
+        run.judge(f"a message cut after {end} bytes", answer, got)
+    run.judge("cut messages", (0, b""), office.ended())
+
+
+def longest_body(run):
+    """A body of just 4,194,304 bytes, which comes in pieces of 64."""
+    body = SMALL.ljust(4_194_304)
+    office = run.office(None, connections=1)
+    with office.connect() as client:
+        client.sendall(message("PUT", "/instance", body)[:-len(body)])
+        for start in range(0, len(body), 64):
+            client.sendall(body[start:start + 64])
+        client.shutdown(socket.SHUT_WR)
+        got = rest(client)
+    run.judge("the longest body", (reply(201, '{"exams":4,"pairs":6,"periods":4,"rooms":2}'), (0, b"")),
+              (got, office.ended()))
 
 
 def vanish(client):
@@ -694,7 +722,7 @@ def main():
                  port_is_taken]
         if not given.plain:
             tests += [stored_by_hand, adopt_after_republication, last_message, long_message,
-                      hostile_messages, batches_are_kept, publication_is_told, slow_clients, patient_client,
+                      longest_body, cut_messages, hostile_messages, batches_are_kept, publication_is_told, slow_clients, patient_client,
                       default_patience]
         for test in [*tests, longest_batch, most_batches, most_pairs]:
             test(run)

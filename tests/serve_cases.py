@@ -212,7 +212,9 @@ STORED = (
      b"1|0|5|1 2|7|0|1 3|0|0|1 0|0|0|0 0|1|0|0 0|2|0|0 0|3|0|0 1|0|0|0 1|1|0|0 1|2|10|0 1|3|5|0 "
      b"2|0|0|0 2|1|7|0 "),
     ("two_exams_in_one_room", MOVED_TEXT.encode(), 44, SEATS,
-     b"0|1|0|0|1 0|2|0|0|2 1|2|1|0|1 1|3|1|0|2 2|3|3|1|1 3|1|3|1|2 "))
+     b"0|1|0|0|1 0|2|0|0|2 1|2|1|0|1 1|3|1|0|2 2|3|3|1|1 3|1|3|1|2 "),
+    ("seats that nobody had before", OUT_TEXT.encode(), 36, SEATS,
+     b"0|1|0|0|1 0|2|0|0|2 1|2|1|0|1 1|3|1|0|2 2|3|0|1|1 3|1|3|1|1 "))
 
 
 # What candidate 2 asks in either office: exam 2 exists in both, exam 4 in the other alone.
