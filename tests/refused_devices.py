@@ -44,6 +44,19 @@ def reads(run, first, step):
                    (came, refused, office.shown(), office.ending()))
 
 
+def interrupted_reads(run, first, step):
+    """If the k-th read of one byte is interrupted, every message is answered."""
+    shown = shown_after_each(run)[-1]
+    for k in range(first, len(ASKED) + 1, step):
+        office = Office(run, None)
+        run.cut(RECEIVE, 1)
+        came, refused = office.reply_under(ASKED, RECEIVE, k, False, errno.EINTR)
+        run.cut(RECEIVE, 0)
+        run.record("answered", f"interrupted read {k}",
+                   (b"".join(answer for _, answer in SESSION), 1, shown, (-9, b"")),
+                   (came, refused, office.shown(), office.ending()))
+
+
 def writes(run, first, step):
     """If the k-th write of seven bytes fails, what was written before it has arrived, and the
     message that it answers is done too."""

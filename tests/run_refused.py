@@ -105,6 +105,7 @@ def sweeps(states, folder):
                     (*state, ("load", "--db", "FILE", small), 1, 20))
         yield Sweep("starts of a server, every 20th allocation", memory.start, (*state, 1, 20))
     yield from sliced("a session, reads of a byte", devices.reads)
+    yield Sweep("a session, every 20th read of a byte interrupted", devices.interrupted_reads, (1, 20))
     yield from sliced("a session, writes of seven bytes", devices.writes)
     for words in (("check", small, solution), ("check", faulty, solution), ("--help",),
                   ("check", "--frobnicate")):

@@ -2,21 +2,13 @@
 #![tactic(auto)]
 
 #[cfg(test)]
-mod devices;
-#[cfg(test)]
-mod failing;
-#[cfg(test)]
 mod given;
-#[cfg(test)]
-mod loopback;
-#[cfg(test)]
-mod messages;
-#[cfg(test)]
-mod order;
 #[cfg(test)]
 mod policy;
 #[cfg(test)]
 mod requests;
+#[cfg(test)]
+mod serving;
 mod tally;
 
 pub use tally::{Tally, serve_tally};

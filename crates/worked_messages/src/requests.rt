@@ -6,7 +6,6 @@ use office_requests::{
     place_body, read_request, text_body, unavailable,
 };
 use std::alloc::{AllocError, Global};
-use std::process::Abort;
 use std::test::Fail;
 
 #[test]
@@ -49,14 +48,14 @@ fn paths_lead_to_pages(rt: HostRuntime) -> Result<(), Fail> {
 fn refusal<'a>(
     alloc: Global,
     routes: &Routes,
-    caller: Option<&'a [u8]>,
+    caller: Option<&'a str>,
     method: &'a str,
     target: &'a str,
 ) -> Option<Refusal> {
     let request = Request {
         method,
         target,
-        caller,
+        caller: caller.map(str::as_bytes),
         body: b"",
     };
     match read_request(alloc, routes, &request) {
@@ -65,74 +64,53 @@ fn refusal<'a>(
     }
 }
 
-// Ends the test where a request of this caller is refused otherwise.
-fn refuses<'a, R: Abort>(
-    rt: &R,
-    alloc: Global,
-    caller: &'a str,
-    cases: &[(&'a str, &'a str, Option<Refusal>)],
-) -> Result<(), Fail> {
-    let routes = Routes::new(alloc)?;
-    for (method, target, wanted) in cases {
-        let found = refusal(alloc, &routes, Some(caller.as_bytes()), method, target);
-        assert_same(rt, found, *wanted, (caller, *method, *target));
-    }
-    Ok(())
-}
-
 #[test]
 fn refusals_in_order(rt: HostRuntime) -> Result<(), Fail> {
-    let alloc = rt.alloc();
-    let office = [
-        ("GET", "/drafts/123456789", None),
-        (
-            "POST",
-            "/publication",
-            Some(Refusal::Method(Page::Publication)),
-        ),
-        ("GET", "/me/exam/x", Some(Refusal::Path)),
-        ("GET", "/drafts/1234567890", Some(Refusal::Path)),
-        ("GET", "/drafts/0000000001", Some(Refusal::Path)),
-        ("PATCH", "/drafts/x", Some(Refusal::Path)),
-        ("PATCH", "/drafts/1", Some(Refusal::Method(Page::Draft))),
-        ("get", "/drafts/1", Some(Refusal::Method(Page::Draft))),
-        ("HEAD", "/drafts/1", Some(Refusal::Method(Page::Draft))),
-    ];
-    refuses(&rt, alloc, "office", &office)?;
-    let department = [("PUT", "/instance", None), ("GET", "/me", None)];
-    refuses(&rt, alloc, "dept:3", &department)?;
-    let nobody = Some(Refusal::Caller);
-    refuses(&rt, alloc, "dept:0", &[("GET", "/nowhere", nobody)])?;
-    refuses(&rt, alloc, "cand:1000000000", &[("GET", "/me", nobody)])?;
-    let routes = Routes::new(alloc)?;
-    assert_same(
-        &rt,
-        refusal(alloc, &routes, None, "GET", "/me"),
-        nobody,
-        "no caller",
+    let routes = Routes::new(rt.alloc())?;
+    let (nobody, no_candidate) = (Some(Refusal::Caller), Some(Refusal::Candidate));
+    let (publication, draft) = (
+        Refusal::Method(Page::Publication),
+        Refusal::Method(Page::Draft),
     );
-    Ok(())
-}
-
-#[test]
-fn refusals_of_a_candidate(rt: HostRuntime) -> Result<(), Fail> {
-    let refused = Some(Refusal::Candidate);
-    refuses(
-        &rt,
-        rt.alloc(),
-        "cand:1",
-        &[("POST", "/publication", refused)],
-    )?;
     let cases = [
-        ("GET", "/drafts/8", refused),
-        ("GET", "/me/exam/x", refused),
-        ("GET", "/nowhere", refused),
-        ("PUT", "/me", refused),
-        ("HEAD", "/me", refused),
-        ("GET", "/me", None),
-        ("GET", "/me/exam/000000007", None),
+        (Some("office"), "GET", "/drafts/123456789", None),
+        (Some("office"), "POST", "/publication", Some(publication)),
+        (Some("office"), "GET", "/me/exam/x", Some(Refusal::Path)),
+        (
+            Some("office"),
+            "GET",
+            "/drafts/1234567890",
+            Some(Refusal::Path),
+        ),
+        (
+            Some("office"),
+            "GET",
+            "/drafts/0000000001",
+            Some(Refusal::Path),
+        ),
+        (Some("office"), "PATCH", "/drafts/x", Some(Refusal::Path)),
+        (Some("office"), "PATCH", "/drafts/1", Some(draft)),
+        (Some("office"), "get", "/drafts/1", Some(draft)),
+        (Some("office"), "HEAD", "/drafts/1", Some(draft)),
+        (Some("dept:3"), "PUT", "/instance", None),
+        (Some("dept:3"), "GET", "/me", None),
+        (Some("dept:0"), "GET", "/nowhere", nobody),
+        (Some("cand:1000000000"), "GET", "/me", nobody),
+        (None, "GET", "/me", nobody),
+        (Some("cand:1"), "POST", "/publication", no_candidate),
+        (Some("cand:2"), "GET", "/drafts/8", no_candidate),
+        (Some("cand:2"), "GET", "/me/exam/x", no_candidate),
+        (Some("cand:2"), "GET", "/nowhere", no_candidate),
+        (Some("cand:2"), "PUT", "/me", no_candidate),
+        (Some("cand:2"), "HEAD", "/me", no_candidate),
+        (Some("cand:2"), "GET", "/me", None),
+        (Some("cand:2"), "GET", "/me/exam/000000007", None),
     ];
-    refuses(&rt, rt.alloc(), "cand:2", &cases)
+    for (caller, method, target, wanted) in cases {
+        let found = refusal(rt.alloc(), &routes, caller, method, target);
+        assert_same(&rt, found, wanted, (caller, method, target));
+    }
+    Ok(())
 }
 
 // What a command's body says, in numbers: of a place both, of a department one.
@@ -220,57 +198,34 @@ fn bodies_that_are_too_long(rt: HostRuntime) -> Result<(), Fail> {
     Ok(())
 }
 
-// What a reply says, and its number.
-fn says(rt: &impl Abort, reply: Reply, text: &[u8], code: u16) {
-    assert_same(rt, reply.body.bytes(), text, code);
-    assert_same(rt, reply.status.code().as_u16(), code, code);
-}
-
 #[test]
 fn fixed_texts(rt: HostRuntime) {
-    let denied = FixedError::Denied(Denial::P1);
-    says(
-        &rt,
-        denied.reply(),
-        b"{\"error\":\"forbidden\",\"rule\":\"P1\"}",
-        403,
-    );
-    says(&rt, FixedError::Path.reply(), b"{\"error\":\"path\"}", 404);
-    says(
-        &rt,
-        FixedError::Method.reply(),
-        b"{\"error\":\"method\"}",
-        405,
-    );
-    says(
-        &rt,
-        FixedError::TooMany.reply(),
-        b"{\"error\":\"too-many\"}",
-        409,
-    );
-    says(&rt, unavailable(), b"{\"error\":\"unavailable\"}", 503);
-}
-
-#[test]
-fn fixed_texts_of_faults(rt: HostRuntime) {
-    says(
-        &rt,
-        fault_reply(Fault::Head),
-        b"{\"error\":\"request\"}",
-        400,
-    );
-    says(
-        &rt,
-        fault_reply(Fault::TooLong),
-        b"{\"error\":\"length\"}",
-        413,
-    );
-    says(
-        &rt,
-        fault_reply(Fault::Transfer),
-        b"{\"error\":\"transfer\"}",
-        501,
-    );
+    let cases: [(Reply, &[u8], u16); 8] = [
+        (
+            FixedError::Denied(Denial::P1).reply(),
+            b"{\"error\":\"forbidden\",\"rule\":\"P1\"}",
+            403,
+        ),
+        (FixedError::Path.reply(), b"{\"error\":\"path\"}", 404),
+        (FixedError::Method.reply(), b"{\"error\":\"method\"}", 405),
+        (
+            FixedError::TooMany.reply(),
+            b"{\"error\":\"too-many\"}",
+            409,
+        ),
+        (unavailable(), b"{\"error\":\"unavailable\"}", 503),
+        (fault_reply(Fault::Head), b"{\"error\":\"request\"}", 400),
+        (fault_reply(Fault::TooLong), b"{\"error\":\"length\"}", 413),
+        (
+            fault_reply(Fault::Transfer),
+            b"{\"error\":\"transfer\"}",
+            501,
+        ),
+    ];
+    for (reply, text, code) in cases {
+        assert_same(&rt, reply.body.bytes(), text, code);
+        assert_same(&rt, reply.status.code().as_u16(), code, code);
+    }
 }
 
 #[test]
