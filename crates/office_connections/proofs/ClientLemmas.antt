@@ -1,17 +1,21 @@
 -- Clients one after another, and the lines of their connections' faults.
-use Rattle.std.proofs.Common.{◌≡◌, ℕ, ◌+◌, ◌≤◌, List, [], ◌∷◌, ◌++◌, map, length, Option, Some}
-use Rattle.std.proofs.Common.{Result, Ok, Err, refl, sym, ap, subst, ◌∙◌, arith}
+use Rattle.std.proofs.Common.{◌≡◌, ℕ, ◌+◌, ◌≤◌, Bool, false, List, [], ◌∷◌, ◌++◌, map, length}
+use Rattle.std.proofs.Common.{Option, Some, Result, Ok, Err, IfOk, IfErr, refl, sym, ap, subst}
+use Rattle.std.proofs.Common.{◌∙◌, arith}
 use Rattle.std.proofs.lemmas.List.{map-append}
 use Rattle.std.specs.Io.KnownBytes.{Appends}
 use Rattle.std.specs.Iterator.{Yields}
 use Rattle.office_messages.specs.declared.connection.Served.{Served}
 use Rattle.office_messages.specs.declared.connection.ServeFault.{ServeFault}
-use Rattle.office_messages.specs.Visits.{Visit, faults_of, with_fault}
+use Rattle.office_messages.specs.Reply.{PlainReply}
+use Rattle.office_messages.specs.Serve.{Serves, ServesFront}
+use Rattle.office_messages.specs.Stream.{PlainRequest}
+use Rattle.office_messages.specs.Visits.{ServesVisit, ServesVisits, Visit, faults_of, with_fault}
+use Rattle.office_messages.proofs.RunLemmas.{told_keeps}
 use Rattle.office_messages.proofs.VisitLemmas.{faults_more}
-use Rattle.office_connections.specs.Clients.{CameBetween, ComesNext, ServesClients, ServesPlan}
+use Rattle.office_connections.specs.Clients.{CameBetween, ComesNext, ServesClients, ServesWhileOpen}
 use Rattle.office_connections.specs.Lines.{TellsFaults, fault_lines}
 use Rattle.office_connections.specs.declared.accepting.Service.{Service}
-use Rattle.office_connections.specs.declared.running.RunFault.{RunFault}
 use Rattle.office_connections.proofs.LineLemmas.{more_lines}
 
 yields_more : {I A : Type 0} (gives : I → Option A → I → Type 0) (xs : List A) (x : A)
@@ -44,6 +48,49 @@ module _ {I R W : Type 0} (gives : I → Option (R × W) → I → Type 0)
         ∙ ap (λ i. map (λ c. contents c.1) x.clients ++ i ∷ []) y.before
         ∙ sym (map-append (λ c. contents c.1) x.clients ((y.from, y.to) ∷ []));
   }
+
+module _ {S : Type 0} (Answers : S → PlainRequest → PlainReply → S → Type 0) where
+  module _ (is_shut : S → Bool) where
+    -- one connection more
+    pub open_more : (vs : List Visit) (v : Visit) (old mid new : S)
+        → ServesWhileOpen Answers is_shut vs old mid → is_shut mid ≡ false
+        → ServesVisit Answers v mid new → ServesWhileOpen Answers is_shut (vs ++ v ∷ []) old new
+    open_more [] v old mid new is opened served = (
+      subst (λ (s : S). is_shut s ≡ false) is opened,
+      new,
+      subst (λ (s : S). ServesVisit Answers v s new) is served,
+      refl,
+    )
+    open_more (w ∷ vs) v old mid new (was, next, first, rest) opened served =
+        (was, next, first, open_more vs v next mid new rest opened served)
+
+    -- they were served
+    pub served_open : (vs : List Visit) (old new : S)
+        → ServesWhileOpen Answers is_shut vs old new → ServesVisits Answers vs old new
+    served_open [] old new is = is
+    served_open (v ∷ vs) old new (was, mid, first, rest) =
+        (mid, first, served_open vs mid new rest)
+
+  -- what each answer keeps, connections keep
+  module _ (Holds : S → Type 0)
+      (keeps : (old : S) (r : PlainRequest) (reply : PlainReply) (new : S)
+      → Answers old r reply new → Holds old → Holds new) where
+    ended_keeps : (ended : Result Served ServeFault) (input before after : Option (List ℕ))
+        (old new : S)
+        → IfOk ended (λ served. Serves Answers input before after old new served)
+        → IfErr ended (λ fault. ServesFront Answers input before after old new fault)
+        → Holds old → Holds new
+    ended_keeps (Ok served) input before after old new x y =
+        told_keeps Answers Holds keeps x.items old x.output new x.told
+    ended_keeps (Err fault) input before after old new x y =
+        told_keeps Answers Holds keeps y.items old y.output new y.told
+
+    pub visits_keep : (vs : List Visit) (old new : S) → ServesVisits Answers vs old new
+        → Holds old → Holds new
+    visits_keep [] old new is h = subst Holds (sym is) h
+    visits_keep (v ∷ vs) old new (mid, served, rest) h =
+        visits_keep vs mid new rest
+        (ended_keeps v.ended v.input v.before v.after old mid served.0 served.1 h)
 
 -- the lines of one connection more
 pub printed_more : (vs : List Visit) (v : Visit) (old mid new : Option (List ℕ))
@@ -78,22 +125,6 @@ module _ {S T : Type 0} (AreTheirs : List Visit → Type 0) where
     served = follows x.visits x.served;
     printed = x.printed;
   }
-
-  pub plan_follows : (Serve : List Visit → S → S → Type 0) (Others : List Visit → T → T → Type 0)
-      (old new : S) (start end : T)
-      → ((vs : List Visit) → Serve vs old new → Others vs start end)
-      → (connections : ℕ) (outcome : Result ℕ RunFault) (errors_old errors_new : Option (List ℕ))
-      → ServesPlan AreTheirs Serve connections outcome old new errors_old errors_new
-      → ServesPlan AreTheirs Others connections outcome start end errors_old errors_new
-  plan_follows Serve Others old new start end follows connections outcome errors_old errors_new x =
-      record {
-        service = x.service;
-        most = x.most;
-        serves = clients_follow Serve Others old new start end follows x.service errors_old
-            errors_new x.serves;
-        all = x.all;
-        fewer = x.fewer;
-      }
 
 -- the lines that were printed are those of at most as many faults as clients were served
 pub tells_faults : {S : Type 0} (AreTheirs : List Visit → Type 0)

@@ -1,11 +1,13 @@
 // Clients, one after another.
-ghost use Rattle.std.specs.Prelude.{◌≡◌, ◌<◌, ◌≤◌, [], IfNone, IfSome, IsTrue, None, OnOk};
+ghost use Rattle.std.specs.Prelude.{◌≡◌, ◌<◌, ◌≤◌, ◌⊎◌, [], IfNone, IfSome, IsTrue, None, OnOk};
 ghost use Rattle.std.specs.Io.KnownBytes.{Appends};
-ghost use Rattle.office_messages.specs.Visits.{ServesVisit, ServesVisits, Visit, with_fault};
+ghost use Rattle.office_messages.specs.Visits.{ServesVisit, Visit, with_fault};
 ghost use Rattle.office_connections.specs.Lines.{connection_fault_number, fault_line, fault_lines};
 ghost use Rattle.office_connections.specs.Clients.{AreOfClients, ComesNext, ServesClients};
+ghost use Rattle.office_connections.specs.Clients.{ServesWhileOpen};
 
 use crate::serving::serve_client;
+use crate::shutting::MayShut;
 use crate::timed::Timed;
 use office_messages::{Machine, ServeFault};
 use std::alloc::Global;
@@ -25,17 +27,19 @@ pub struct Plan {
 /// What was served.
 #[derive(Clone, Copy)]
 pub struct Service {
-    /// How many connections: fewer than were to be, if no further client came.
+    /// How many connections: fewer than were to be, if no further client came, or the machine was
+    /// shut.
     pub accepted: u32,
     /// How many lines could not be written.
     pub unwritten: u32,
 }
 
 /// Serves clients, each a reader and a writer, one after another as they come, up to the plan's
-/// number. For each connection that ends with a fault a line goes to `err`.
+/// number, while the machine is open. For each connection that ends with a fault a line goes to
+/// `err`.
 pub fn serve_clients<
     C: Clock,
-    M: Machine,
+    M: Machine + MayShut,
     R: Read + Timed + Drop,
     W: Write + Timed + Drop,
     I: Iterator<Item = (R, W)>,
@@ -43,19 +47,20 @@ pub fn serve_clients<
 >(alloc: Global, clock: &C, clients: &mut I, plan: Plan, machine: &mut M, err: &mut E) -> Service
     requires { I.can_next clients.old }
 
-    // One machine goes from one client to the next, and each client is written its replies.
+    // One machine goes from one client to the next, and each client is written its replies. It was
+    // open before each of them.
     ensures served { ServesClients (AreOfClients I.next_gives R.remaining W.contents clients.old)
-        (ServesVisits M.Answers) result machine.old machine.new
+        (ServesWhileOpen M.Answers M.is_shut) result machine.old machine.new
         (E.contents err.old) (E.contents err.new) }
     ensures most { result.accepted ≤ plan.connections }
-    ensures all { result.accepted < plan.connections
-        → (last : I) × I.next_gives last None clients.new }
+    ensures all { result.accepted < plan.connections → IsTrue (M.is_shut machine.new)
+        ⊎ ((last : I) × I.next_gives last None clients.new) }
 {
     let mut service = Service {
         accepted: 0,
         unwritten: 0,
     };
-    while service.accepted < plan.connections {
+    while service.accepted < plan.connections && !machine.is_shut() {
         let Some(is_told) = serve_next(alloc, clock, clients, plan.patience, machine, err) else {
             break;
         };

@@ -7,10 +7,12 @@ mod pace;
 mod paced;
 mod running;
 mod serving;
+mod shutting;
 mod timed;
 
 pub use accepting::{Plan, Service, serve_clients};
 pub use listening::{Listening, MAX_PORT, Sockets, announce, listen};
 pub use running::{RunFault, serve_run};
 pub use serving::serve_client;
+pub use shutting::MayShut;
 pub use timed::Timed;

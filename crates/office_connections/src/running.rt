@@ -1,12 +1,12 @@
 // The run of a server.
-ghost use Rattle.std.specs.Prelude.{◌≡◌, ◌<◌, ◌≤◌, IfErr, IfOk};
+ghost use Rattle.std.specs.Prelude.{◌≡◌, ◌≢◌, ◌<◌, ◌≤◌, IfErr, IfOk};
 ghost use Rattle.std.specs.Io.KnownBytes.{Appends};
-ghost use Rattle.office_messages.specs.Visits.{ServesVisits};
 ghost use Rattle.office_connections.specs.Lines.{listening_line};
-ghost use Rattle.office_connections.specs.Clients.{AreOfClients, ServesPlan};
+ghost use Rattle.office_connections.specs.Clients.{AreOfClients, ServesPlan, ServesWhileOpen};
 
 use crate::accepting::{Plan, Service, serve_clients};
 use crate::listening::announce;
+use crate::shutting::MayShut;
 use crate::timed::Timed;
 use office_messages::Machine;
 use std::alloc::Global;
@@ -20,6 +20,8 @@ pub enum RunFault {
     Listen,
     /// The line that tells the port could not be written; no connection was accepted.
     Write,
+    /// The machine is shut.
+    Shut,
 }
 
 /// Tells on `out` which port is listened on, then serves the plan's clients, one after another; for
@@ -27,7 +29,7 @@ pub enum RunFault {
 /// could not be written.
 pub fn serve_run<
     C: Clock,
-    M: Machine,
+    M: Machine + MayShut,
     R: Read + Timed + Drop,
     W: Write + Timed + Drop,
     I: Iterator<Item = (R, W)>,
@@ -45,11 +47,11 @@ pub fn serve_run<
 ) -> Result<u32, RunFault>
     requires { I.can_next clients.old }
     ensures served { ServesPlan (AreOfClients I.next_gives R.remaining W.contents clients.old)
-        (ServesVisits M.Answers) plan.connections result machine.old machine.new
-        (E.contents err.old) (E.contents err.new) }
+        (ServesWhileOpen M.Answers M.is_shut) M.is_shut plan.connections result
+        machine.old machine.new (E.contents err.old) (E.contents err.new) }
     ensures port { IfOk result (λ _. Appends (O.contents out.old) (O.contents out.new)
         (listening_line port)) }
-    ensures unaccepted { IfErr result (λ fault. fault ≡ RunFault.Listen
+    ensures unaccepted { IfErr result (λ fault. fault ≢ RunFault.Write
         → Appends (O.contents out.old) (O.contents out.new) (listening_line port)) }
     ensures unserved { IfErr result (λ fault. fault ≡ RunFault.Write
         → (machine.new ≡ machine.old) × (err.new ≡ err.old)) }
@@ -58,10 +60,13 @@ pub fn serve_run<
         return Err(RunFault::Write);
     }
     let service = serve_clients(alloc, clock, clients, plan, machine, err);
+    if machine.is_shut() {
+        return Err(RunFault::Shut);
+    }
     ended(service, plan)
 }
 
-// How a run ended that served this.
+// How a run ended that served this with a machine that is still open.
 fn ended(service: Service, plan: Plan) -> Result<u32, RunFault>
     requires { service.accepted ≤ plan.connections }
     ensures all { IfOk result (λ unwritten.

@@ -1,7 +1,6 @@
-use Rattle.std.proofs.Common.{◌++◌, ◌∷◌, [], arith, length-append, refl}
+use Rattle.std.proofs.Common.{◌++◌, ◌∷◌, [], arith, length-append, refl, rules}
 use Rattle.std.proofs.KnownBytes.{Appends-nil}
-use Rattle.office_messages.proofs.VisitLemmas.{visits_more}
-use Rattle.office_connections.proofs.ClientLemmas.{came_more, no_client, printed_more}
+use Rattle.office_connections.proofs.ClientLemmas.{came_more, no_client, open_more, printed_more}
 use Rattle.office_connections.proofs.LineLemmas.{counted, uncounted}
 use Rattle.office_connections.proofs.accepting.serve_clients.Goals as goal
 
@@ -33,7 +32,8 @@ loop-service-preserved g c =
         visits = so_far.visits ++ next.0 ∷ [];
         theirs = came_more _ _ _ _ _ _ so_far.visits next.0 so_far.theirs next.1;
         count = omega (arith, length-append so_far.visits (next.0 ∷ []), so_far.count);
-        served = visits_more g.M.Machine.Answers so_far.visits next.0 _ _ _ so_far.served next.2;
+        served = open_more g.M.Machine.Answers g.M.MayShut.is_shut so_far.visits next.0 _ _ _
+            so_far.served (search rules) next.2;
         printed = λ none. printed_more so_far.visits next.0 _ _ _ (so_far.printed (omega arith))
             (next.3 (uncounted _ _ c.from.ensures (omega arith)));
       };

@@ -1,6 +1,5 @@
 use Rattle.std.specs.Prelude.{◌-◌, ◌≤◌}
-use Rattle.office_messages.specs.Visits.{ServesVisits}
-use Rattle.office_connections.specs.Clients.{CameBetween, ServesClients}
+use Rattle.office_connections.specs.Clients.{CameBetween, ServesClients, ServesWhileOpen}
 use Rattle.office_connections.proofs.accepting.serve_clients.Given as goal
 
 -- each client so far was served
@@ -10,7 +9,8 @@ invariant-loop-service g l = record {
   most : l.service.accepted ≤ l.plan.connections;
   unwritten : l.service.unwritten ≤ l.service.accepted;
   served : ServesClients (λ visits. CameBetween g.I.Iterator.next_gives g.R.Read.remaining
-      g.W.Write.contents l.fn.clients visits l.clients) (ServesVisits g.M.Machine.Answers)
+      g.W.Write.contents l.fn.clients visits l.clients)
+      (ServesWhileOpen g.M.Machine.Answers g.M.MayShut.is_shut)
       l.service l.fn.machine l.machine (g.E.Write.contents l.fn.err) (g.E.Write.contents l.err);
 }
 
