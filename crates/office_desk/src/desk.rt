@@ -1,11 +1,12 @@
 // The desk, where every command of the office is asked.
-ghost use Rattle.std.specs.Prelude.{◌≡◌, ◌⊎◌};
+ghost use Rattle.std.specs.Prelude.{◌≡◌, ◌⊎◌, IfErr, IfOk, MatchBool};
 ghost use Rattle.sqlite.specs.Held.{state};
 ghost use Rattle.sqlite.specs.State.{HasCleanDisk};
 ghost use Rattle.office_policy.specs.Commands.{HasSmallNumbers, plain_command};
 ghost use Rattle.office_model.specs.Office.{OfficeState};
 ghost use Rattle.office_model.specs.Step.{Steps};
-ghost use Rattle.office_store.specs.Running.{IsAwake, Now};
+ghost use Rattle.office_store.specs.Running.{IsAwake, IsStill, Now};
+ghost use Rattle.office_store.specs.Shut.{IsShut};
 ghost use Rattle.office_desk.specs.Answers.{IsRefusal, plain_answer};
 ghost use Rattle.office_desk.specs.Performing.{AwakeUnlessRefused, PerformsFor, told_of};
 
@@ -19,7 +20,7 @@ use crate::judging::judged;
 use crate::publications::{publication, publication_penalty, publication_rooms};
 use crate::showing::{draft, instance, penalty, violations};
 use office_policy::{Caller, Command};
-use office_store::Office;
+use office_store::{Office, StoreFault};
 use sqlite::Alter;
 use std::alloc::Global;
 use std::marker::Model;
@@ -77,6 +78,20 @@ impl<S: Alter> Desk<S> {
             Ok(Err(denial)) => Answer::Denied(denial),
             Err(fault) => Answer::from(fault),
         }
+    }
+
+    /// Returns whether a failure of the disk has shut the office's store, as [`Office::is_shut`].
+    pub fn is_shut(&mut self) -> Result<bool, StoreFault>
+        ensures shut { HasCleanDisk (state S.Store self.new) → IfOk result (λ is_shut.
+            MatchBool is_shut (IsShut (state S.Store self.new))
+            (IsAwake (state S.Store self.new))) }
+        ensures still { HasCleanDisk (state S.Store self.new)
+            → IsStill (state S.Store self.old) (state S.Store self.new) }
+        ensures fault { IfErr result (λ e. e ≡ StoreFault.Store) }
+        ensures clean { HasCleanDisk (state S.Store self.new)
+            → HasCleanDisk (state S.Store self.old) }
+    {
+        self.office.is_shut()
     }
 }
 

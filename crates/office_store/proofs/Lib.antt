@@ -23,3 +23,4 @@ pub mod AllDraftLemmas
 pub mod KeptBatchLemmas
 pub mod NewBatchLemmas
 pub mod BatchPuttingLemmas
+pub mod ShutLemmas

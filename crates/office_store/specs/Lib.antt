@@ -16,3 +16,4 @@ pub mod FoldReads
 pub mod Folding
 pub mod Pricing
 pub mod NewBatches
+pub mod Shut

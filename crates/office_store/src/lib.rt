@@ -22,6 +22,7 @@ mod published_rows;
 mod publishing;
 mod putting;
 mod reading;
+mod shutting;
 mod transactions;
 mod viewing;
 
