@@ -1,31 +1,41 @@
 -- What is known of an office from the clients that it served.
-use Rattle.std.proofs.Common.{◌≡◌, ◌≢◌, ◌⊎◌, ℕ, List, [], Option, Result, Ok, Err, IfErr, IfOk}
-use Rattle.std.proofs.Common.{arith, inl, inr, refl, subst}
+use Rattle.std.proofs.Common.{◌≡◌, ◌≢◌, ◌⊎◌, ◌∙◌, ℕ, Bool, true, false, List, [], Option, Result}
+use Rattle.std.proofs.Common.{Ok, Err, IfErr, IfOk, IsTrue, arith, inl, inr, refl, subst, sym}
 use Rattle.std.proofs.lemmas.List.Elements.{All-nil}
+use Rattle.std.specs.Prelude.{MatchBool}
 use Rattle.std.specs.Io.KnownBytes.{Appends, Keeps}
 use Rattle.std.proofs.KnownBytes.{Appends-nil}
 use Rattle.sqlite.specs.Held.{Held, state}
 use Rattle.sqlite.specs.State.{HasCleanDisk}
 use Rattle.sqlite.specs.Store.{Ghosts}
-use Rattle.office_connections.specs.Clients.{ServesClients}
+use Rattle.office_connections.specs.Clients.{ServesClients, ServesWhileOpen}
 use Rattle.office_connections.specs.Lines.{IsPortOf, TellsFaults, listening_line}
 use Rattle.office_connections.specs.declared.accepting.Service.{Service}
-use Rattle.office_connections.specs.declared.running.RunFault.{RunFault}
-use Rattle.office_connections.specs.declared.running.RunFault.TheVariants.{Listen, Write}
-use Rattle.office_connections.proofs.ClientLemmas.{clients_follow, tells_faults}
+use Rattle.office_connections.proofs.ClientLemmas.{clients_follow, served_open, tells_faults}
+use Rattle.office_connections.proofs.ClientLemmas.{visits_keep}
 use Rattle.office_http.specs.Clients.{ServesAllByView}
-use Rattle.office_http.specs.Replying.{Answered}
+use Rattle.office_http.specs.Replying.{Answered, IsDone}
 use Rattle.office_http.specs.Transcripts.{TellsHerView}
 use Rattle.office_http.proofs.ClientLemmas.{visits_by_view, visits_clean}
+use Rattle.office_messages.specs.Reply.{PlainReply}
+use Rattle.office_messages.specs.Stream.{PlainRequest}
 use Rattle.office_messages.specs.Visits.{Visit, ServesVisits}
 use Rattle.office_messages.proofs.RunLemmas.{Lends}
-use Rattle.office_messages.proofs.VisitLemmas.{lent_visits}
+use Rattle.office_messages.proofs.VisitLemmas.{lent_visits, visits_along}
 use Rattle.office_model.specs.Office.{OfficeState}
-use Rattle.office_program.specs.Serve.{LeavesPort, OfficeServes, PrintsServed, ServesTerms}
+use Rattle.office_store.specs.Running.{IsAwake, IsStill}
+use Rattle.office_store.proofs.RunLemmas.{now_still}
+use Rattle.office_program.specs.Serve.{IsStoreShut, LeavesPort, OfficeServes}
+use Rattle.office_program.specs.Serve.{PrintsServed, ServesTerms}
 use Rattle.office_program.specs.declared.ending.Ending.{Ending}
 use Rattle.office_program.specs.declared.faults.ProgramFault.{ProgramFault}
 use Rattle.office_program.specs.declared.faults.ProgramFault.TheVariants.{CannotWrite}
 use Rattle.office_program.specs.declared.words.Terms.{Terms}
+
+-- what holds if a bool is true, where it is
+pub if_so : (b : Bool) → IsTrue b → (P Q : Type 0) → MatchBool b P Q → P
+if_so true so P Q h = h
+if_so false so P Q h = absurd cc
 
 -- an office that served nobody
 pub nobody_served : (office : OfficeState) → ServesAllByView [] office office
@@ -49,25 +59,65 @@ module _ {S : Type 0} (store : Ghosts S) where
     fewer = inl refl;
   }
 
-  -- what is served by a machine that lends a desk
-  module _ {F : Type 0} (name : F → ℕ) (now : F → Held S) (old new : F) (last : Held S)
-      (given : name old ≡ name new → last ≡ now new) (AreTheirs : List Visit → Type 0)
+  -- what was answered stays answered after a look at the store
+  pub answered_on : (old mid new : Held S) (request : PlainRequest) (reply : PlainReply)
+      → Answered store old request reply mid → (IsDone reply.status → new ≡ mid)
+      → (HasCleanDisk (state store new) → IsStill (state store mid) (state store new))
+      → (HasCleanDisk (state store new) → HasCleanDisk (state store mid))
+      → Answered store old request reply new
+  answered_on old mid new request reply x done still clean = record {
+    clean = λ k. x.clean (clean k);
+    step = λ k office now.
+        let led = x.step (clean k) office now in
+        (led.0, led.1, now_still (state store mid) (state store new) led.0 (still k) led.2);
+    awake = λ k is. subst (λ h. IsAwake (state store h)) (sym (done is)) (x.awake (clean k) is);
+  }
+
+  -- what holds a desk has it answer, and says that the store is shut only if it is
+  abbrev pub Answering : {F : Type 0} → (name : F → ℕ) → (now : F → Held S) → (is_shut : F → Bool)
+      → F → PlainRequest → PlainReply → F → Type 0
+  Answering name now is_shut old request reply new =
+      (name new ≡ name old) × Answered store (now old) request reply (now new)
+      × (IsTrue (is_shut new) → IsStoreShut store (now new))
+
+  -- what is served by it
+  module _ {F : Type 0} (name : F → ℕ) (now : F → Held S) (is_shut : F → Bool) (old new : F)
+      (last : Held S) (given : name old ≡ name new → last ≡ now new)
+      (AreTheirs : List Visit → Type 0)
       (service : Service) (errors_old errors_new : Option (List ℕ))
-      (x : ServesClients AreTheirs (ServesVisits (Lends name now (Answered store))) service old new
+      (x : ServesClients AreTheirs
+      (ServesWhileOpen (Answering name now is_shut) is_shut) service old new
       errors_old errors_new) where
+    abbrev Answers : F → PlainRequest → PlainReply → F → Type 0
+    Answers = Answering name now is_shut
+
+    desk_visits : (vs : List Visit) → ServesWhileOpen Answers is_shut vs old new
+        → ServesVisits (Answered store) vs (now old) last
+    desk_visits vs run =
+        lent_visits name now (Answered store) old new last given vs
+        (visits_along (λ m. m) Answers (Lends name now (Answered store))
+        (λ o r reply n y. (y.0, y.1)) vs old new (served_open Answers is_shut vs old new run))
+
     pub desk_serves : ServesClients AreTheirs (OfficeServes store) service (now old) last errors_old
         errors_new
     desk_serves =
-        clients_follow AreTheirs (ServesVisits (Lends name now (Answered store)))
-        (OfficeServes store) old new (now old) last
-        (λ vs run. visits_by_view store vs (now old) last
-        (lent_visits name now (Answered store) old new last given vs run))
+        clients_follow AreTheirs (ServesWhileOpen Answers is_shut) (OfficeServes store) old new
+        (now old) last (λ vs run. visits_by_view store vs (now old) last (desk_visits vs run))
         service errors_old errors_new x
 
     pub desk_clean : HasCleanDisk (state store last) → HasCleanDisk (state store (now old))
     desk_clean =
-        visits_clean store x.visits (now old) last
-        (lent_visits name now (Answered store) old new last given x.visits x.served)
+        visits_clean store x.visits (now old) last (desk_visits x.visits x.served)
+
+    -- what was found shut is shut
+    pub desk_shut : is_shut old ≡ false → IsTrue (is_shut new) → IsStoreShut store last
+    desk_shut opened shut =
+        let kept = visits_keep Answers
+        (λ m. (name old ≡ name m) × (IsTrue (is_shut m) → IsStoreShut store (now m)))
+        (λ o r reply n y h. (h.0 ∙ sym y.0, y.2)) x.visits old new
+        (served_open Answers is_shut x.visits old new x.served)
+        (refl, λ is. let never : true ≡ false = sym is ∙ opened in absurd cc) in
+        subst (IsStoreShut store) (sym (given kept.0)) (kept.1 shut)
 
   -- whoever the clients are
   pub whoever_came : (AreTheirs : List Visit → Type 0) (terms : Terms)
@@ -119,8 +169,3 @@ leaves_port terms port is (Err shown) before after kept = λ other. elim (kept o
   | inl same ↦ inl same
   | inr line ↦ inr (port, is, line)
 ]
-
--- a run fails at listening or at writing
-pub listens_or_writes : (fault : RunFault) → (fault ≡ Listen) ⊎ (fault ≡ Write)
-listens_or_writes Listen = inl refl
-listens_or_writes Write = inr refl

@@ -1,8 +1,9 @@
 -- What a database stands for once its office was served, and what is printed meanwhile.
-use Rattle.std.specs.Prelude.{◌≡◌, ◌≢◌, ◌<◌, ◌≤◌, ◌⊎◌, ℕ, IfErr, IfOk, IsTrue, List, Option, Result, length}
+use Rattle.std.specs.Prelude.{◌≡◌, ◌≢◌, ◌<◌, ◌≤◌, ◌⊎◌, ℕ, IfErr, IfOk, IsTrue, List, Option}
+use Rattle.std.specs.Prelude.{Result, length}
 use Rattle.std.specs.Io.KnownBytes.{Keeps}
-use Rattle.sqlite.specs.Held.{Held}
-use Rattle.sqlite.specs.State.{State}
+use Rattle.sqlite.specs.Held.{Held, state}
+use Rattle.sqlite.specs.State.{State, HasCleanDisk}
 use Rattle.sqlite.specs.Store.{Ghosts}
 use Rattle.office_connections.specs.Clients.{ServesClients}
 use Rattle.office_connections.specs.Lines.{PrintsPort, TellsFaults}
@@ -11,18 +12,25 @@ use Rattle.office_http.specs.Clients.{ServesAllByView}
 use Rattle.office_http.specs.Serving.{LeadsOffice}
 use Rattle.office_messages.specs.Visits.{Visit}
 use Rattle.office_model.specs.Office.{OfficeState}
+use Rattle.office_model.specs.declared.fault.StoreFault.TheVariants.{Store}
 use Rattle.office_program.specs.declared.faults.ProgramFault.{ProgramFault}
 use Rattle.office_program.specs.declared.faults.ProgramFault.TheVariants as fault
 use Rattle.office_program.specs.declared.ending.Ending.{Ending}
 use Rattle.office_program.specs.declared.words.Terms.{Terms}
 use Rattle.office_store.specs.Opening.{IsOfficeOf}
+use Rattle.office_store.specs.Shut.{IsShut}
 
 -- the office served these connections, by each candidate's view, over a disk that returns what was
 -- written
 abbrev pub OfficeServes : {S : Type 0} → Ghosts S → List Visit → Held S → Held S → Type 0
 OfficeServes store visits old new = LeadsOffice store (ServesAllByView visits) old new
 
--- the office served as many clients as the terms say; or nobody, or fewer and then an accept failed
+-- over a disk that returns what was written, a failure of it has shut the store
+abbrev pub IsStoreShut : {S : Type 0} → Ghosts S → Held S → Type 0
+IsStoreShut store held = HasCleanDisk (state store held) → IsShut (state store held)
+
+-- the office served as many clients as the terms say; or the store is shut after the last; or fewer
+-- were served, and then an accept failed; or nobody
 pub record ServesTerms {S : Type 0} (store : Ghosts S) (AreTheirs : List Visit → Type 0)
     (terms : Terms) (outcome : Result Ending ProgramFault) (old new : Held S)
     (errors_old errors_new : Option (List ℕ)) : Type 0 where
@@ -33,7 +41,8 @@ pub record ServesTerms {S : Type 0} (store : Ghosts S) (AreTheirs : List Visit �
   pub all : IfOk outcome (λ ending. (service.accepted ≡ terms.connections)
       × (IsTrue ending.is_told → service.unwritten ≡ 0))
   pub fewer : IfErr outcome (λ shown. (service.accepted ≡ 0)
-      ⊎ ((shown ≡ fault.CannotListen) × (service.accepted < terms.connections)))
+      ⊎ (((shown ≡ fault.CannotListen) × (service.accepted < terms.connections))
+      ⊎ ((shown ≡ fault.Store Store) × IsStoreShut store new)))
 
 -- while it is open, it stands for the office that this one comes to by serving some connections, at
 -- most so many

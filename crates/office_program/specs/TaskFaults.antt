@@ -1,6 +1,7 @@
 -- What the faults of each task show as: their lines, and which faults a task has.
 use Rattle.std.specs.Prelude.{◌≡◌, ◌⊎◌, ℕ, ◌++◌, List, codes}
 use Rattle.office_model.specs.declared.fault.StoreFault.{StoreFault}
+use Rattle.office_model.specs.declared.fault.StoreFault.TheVariants.{Store}
 use Rattle.sqlite.specs.declared.error.Error.{Error}
 use Rattle.office_check.specs.declared.checking.CheckFault.{CheckFault}
 use Rattle.office_check.specs.declared.checking.CheckFault.TheVariants as check
@@ -52,6 +53,7 @@ IsOfLoad path shown =
 abbrev pub run_line : RunFault → List ℕ
 run_line run.Listen = fault_line fault.CannotListen
 run_line run.Write = fault_line fault.CannotWrite
+run_line run.Shut = fault_line (fault.Store Store)
 
 -- the fault shows as one of a database, of the office in it, or of a server's run
 abbrev pub IsOfServe : ProgramFault → Type 0

@@ -119,10 +119,12 @@ pub(crate) fn fault_of_run<'a>(fault: RunFault) -> ProgramFault<'a>
     ensures line { fault_line result ≡ run_line fault }
     ensures listen { fault ≡ RunFault.Listen → result ≡ ProgramFault.CannotListen }
     ensures write { fault ≡ RunFault.Write → result ≡ ProgramFault.CannotWrite }
+    ensures shut { fault ≡ RunFault.Shut → result ≡ ProgramFault.Store StoreFault.Store }
 {
     match fault {
         RunFault::Listen => ProgramFault::CannotListen,
         RunFault::Write => ProgramFault::CannotWrite,
+        RunFault::Shut => ProgramFault::Store(StoreFault::Store),
     }
 }
 

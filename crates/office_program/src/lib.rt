@@ -2,6 +2,7 @@
 //! published, as the words of its command line say.
 #![tactic(auto)]
 
+mod answering;
 mod ending;
 mod exporting;
 mod faults;

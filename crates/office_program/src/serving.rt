@@ -4,21 +4,20 @@ ghost use Rattle.std.specs.Duration.{as_nanos};
 ghost use Rattle.std.specs.Io.KnownBytes.{Appends, Keeps};
 ghost use Rattle.sqlite.specs.Held.{state};
 ghost use Rattle.sqlite.specs.State.{HasCleanDisk};
-ghost use Rattle.office_connections.specs.Clients.{AreOfClients, ServesPlan};
+ghost use Rattle.office_connections.specs.Clients.{AreOfClients};
 ghost use Rattle.office_connections.specs.Lines.{listening_line};
-ghost use Rattle.office_messages.specs.Visits.{ServesVisits};
 ghost use Rattle.office_model.specs.Office.{OfficeState};
 ghost use Rattle.office_store.specs.Opening.{IsOfficeOf};
 ghost use Rattle.office_program.specs.Serve.{ComesTo, LeavesPort, PrintsServed, ServesTerms};
 ghost use Rattle.office_program.specs.TaskFaults.{IsOfServe};
 
+use crate::answering::ServingDesk;
 use crate::ending::Ending;
 use crate::faults::{ProgramFault, fault_of_open, fault_of_run};
-use crate::telling::{LongWork, TellingMachine, tell};
+use crate::telling::{LongWork, tell};
 use crate::words::Terms;
-use office_connections::{Plan, RunFault, Timed, listen, serve_run};
-use office_http::{Alter, AnsweringDesk, Connection, Desk, Office, Routes};
-use office_messages::Machine;
+use office_connections::{Plan, Timed, listen, serve_run};
+use office_http::{Alter, Connection, Desk, Office, Routes};
 use std::io::{Read, Write};
 use std::time::Duration;
 
@@ -114,7 +113,8 @@ pub fn serve_desk<'a, S: Alter, O: Write, E: Write>(
 }
 
 /// Serves the office at a desk to clients, each a reader and a writer, one after another as they
-/// come: prints which port they come from, then serves as many as the terms say.
+/// come: prints which port they come from, then serves as many as the terms say, while the store
+/// is open.
 pub fn serve_at_desk<
     'a,
     S: Alter,
@@ -155,53 +155,21 @@ pub fn serve_at_desk<
     let Ok(routes) = Routes::new(rt.alloc()) else {
         return Err(ProgramFault::NoMemory);
     };
-    let mut machine = AnsweringDesk {
+    let mut machine = ServingDesk {
+        rt,
+        database,
         desk,
         routes: &routes,
+        is_shut: false,
     };
     let plan = plan_of(terms);
-    match serve_with_notices(rt, database, port, clients, plan, &mut machine, out, err) {
+    match serve_run(rt.alloc(), rt, port, clients, plan, &mut machine, out, err) {
         Ok(unwritten) => Ok(Ending {
             status: 0,
             is_told: unwritten == 0,
         }),
         Err(fault) => Err(fault_of_run(fault)),
     }
-}
-
-// Serves clients with the machine, and says on a terminal when it is asked to publish.
-fn serve_with_notices<
-    M: Machine,
-    R: Read + Timed + Drop,
-    W: Write + Timed + Drop,
-    I: Iterator<Item = (R, W)>,
-    O: Write,
-    E: Write,
->(
-    rt: &HostRuntime,
-    database: &str,
-    port: u16,
-    clients: &mut I,
-    plan: Plan,
-    machine: &mut M,
-    out: &mut O,
-    err: &mut E,
-) -> Result<u32, RunFault>
-    requires { I.can_next clients.old }
-    ensures served { ServesPlan (AreOfClients I.next_gives R.remaining W.contents clients.old)
-        (ServesVisits M.Answers) plan.connections result machine.old machine.new
-        (E.contents err.old) (E.contents err.new) }
-    ensures port { IfOk result (λ _. Appends (O.contents out.old) (O.contents out.new)
-        (listening_line port)) }
-    ensures unaccepted { IfErr result (λ fault. fault ≡ RunFault.Listen
-        → Appends (O.contents out.old) (O.contents out.new) (listening_line port)) }
-{
-    let mut telling = TellingMachine {
-        rt,
-        database,
-        machine,
-    };
-    serve_run(rt.alloc(), rt, port, clients, plan, &mut telling, out, err)
 }
 
 // What the terms ask to be served.

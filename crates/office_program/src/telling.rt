@@ -3,8 +3,6 @@ ghost use Rattle.std.specs.Prelude.{◌++◌, ◌∷◌, [], OnOk};
 ghost use Rattle.std.specs.Io.KnownBytes.{Appends};
 ghost use Rattle.office_program.specs.LongWork.{work_line};
 
-use office_messages::{Machine, Reply, Request};
-use std::alloc::Global;
 use std::io::{IsTerminal, Write};
 use std::{fmt, fs, io};
 
@@ -74,37 +72,4 @@ fn print_work<W: Write>(work: LongWork<'_>, out: &mut W) -> io::Result<()>
         (Appends (W.contents out.old) (W.contents out.new) (work_line work.entry ++ 10 ∷ [])) }
 {
     writeln!(out, "{work}")
-}
-
-// A machine of an office in a database, which is told when it is asked to publish.
-#[derive(Drop)]
-pub(crate) struct TellingMachine<'a, 'b, M> {
-    pub(crate) rt: &'b HostRuntime,
-    pub(crate) database: &'b str,
-    pub(crate) machine: &'a mut M,
-}
-
-impl<M: Machine> Machine for TellingMachine<'_, '_, M> {
-    ghost use Rattle.std.specs.Prelude.{◌≡◌};
-
-    ghost Answers = { λ old request reply new.
-        (new.machine.ghost_name ≡ old.machine.ghost_name)
-        × M.Answers old.machine.now request reply new.machine.now };
-
-    fn answer(&mut self, alloc: Global, request: &Request<'_>) -> Reply {
-        if asks_to_publish(request) {
-            tell(self.rt, LongWork::Publishing(self.database));
-        }
-        self.machine.answer(alloc, request)
-    }
-}
-
-// Whether the office asks to publish a draft.
-fn asks_to_publish(request: &Request<'_>) -> bool {
-    let Some(caller) = request.caller else {
-        return false;
-    };
-    caller == "office".as_bytes()
-        && request.method == "POST"
-        && request.target.ends_with("/publish")
 }

@@ -3,7 +3,7 @@ use Rattle.std.proofs.lemmas.Bool.{eqb-true}
 use Rattle.sqlite.specs.declared.error.Error.TheVariants.{SqliteFailure}
 use Rattle.sqlite.specs.declared.error.ErrorCode.TheVariants.{OutOfMemory}
 use Rattle.office_connections.proofs.ClientLemmas.{no_client}
-use Rattle.office_program.proofs.ServeFacts.{desk_clean, desk_serves, listens_or_writes, serves_nobody}
+use Rattle.office_program.proofs.ServeFacts.{desk_clean, desk_serves, desk_shut, serves_nobody}
 use Rattle.office_program.proofs.serving.serve_at_desk.Goals as goal
 
 pub returns-in_default-clause-served : goal.returns-in_default-clause-served
@@ -15,25 +15,25 @@ pub returns-in_default-clause-fault : goal.returns-in_default-clause-fault
 returns-in_default-clause-fault g c = inl (SqliteFailure OutOfMemory, refl)
 
 -- as many clients as were to be
-pub returns-in-Ok-serve_with_notices-clause-served : goal.returns-in-Ok-serve_with_notices-clause-served
-returns-in-Ok-serve_with_notices-clause-served g c =
-    let x = c.in-Ok-serve_with_notices.ensures.served in
+pub returns-in-Ok-serve_run-clause-served : goal.returns-in-Ok-serve_run-clause-served
+returns-in-Ok-serve_run-clause-served g c =
+    let x = c.in-Ok-serve_run.ensures.served in
     let plan = c.plan_of-plan.ensures.connections in
     record {
       service = x.service;
       most = omega (arith, x.most, plan);
-      serves = desk_serves g.S.Store (λ m. m.desk.ghost_name) (λ m. m.desk.now) _ _ _
-          c.desk-1.given.1 _ _ _ _ x.serves;
+      serves = desk_serves g.S.Store (λ m. m.desk.ghost_name) (λ m. m.desk.now) (λ m. m.is_shut)
+          _ _ _ c.desk-1.given.1 _ _ _ _ x.serves;
       all = (x.all.0 ∙ plan, λ told. x.all.1 ∙ eqb-true _ 0 told);
       fewer = tt;
     }
 
-pub returns-in-Ok-serve_with_notices-clause-clean : goal.returns-in-Ok-serve_with_notices-clause-clean
-returns-in-Ok-serve_with_notices-clause-clean g c =
-    desk_clean g.S.Store (λ m. m.desk.ghost_name) (λ m. m.desk.now) _ _ _ c.desk-1.given.1 _ _ _ _
-    c.in-Ok-serve_with_notices.ensures.served.serves
+pub returns-in-Ok-serve_run-clause-clean : goal.returns-in-Ok-serve_run-clause-clean
+returns-in-Ok-serve_run-clause-clean g c =
+    desk_clean g.S.Store (λ m. m.desk.ghost_name) (λ m. m.desk.now) (λ m. m.is_shut) _ _ _
+    c.desk-1.given.1 _ _ _ _ c.in-Ok-serve_run.ensures.served.serves
 
--- fewer, or nobody
+-- the store is shut; or fewer were served, or nobody
 pub returns-clause-served : goal.returns-clause-served
 returns-clause-served g c =
     let x = c.in-Err.ensures.served in
@@ -41,23 +41,29 @@ returns-clause-served g c =
     record {
       service = x.service;
       most = omega (arith, x.most, plan);
-      serves = desk_serves g.S.Store (λ m. m.desk.ghost_name) (λ m. m.desk.now) _ _ _
-          c.desk-1.given.1 _ _ _ _ x.serves;
+      serves = desk_serves g.S.Store (λ m. m.desk.ghost_name) (λ m. m.desk.now) (λ m. m.is_shut)
+          _ _ _ c.desk-1.given.1 _ _ _ _ x.serves;
       all = tt;
       fewer = elim x.fewer [
         | inl nobody ↦ inl nobody.1
-        | inr some ↦ inr (c.fault_of_run.ensures.listen some.0, omega (arith, some.1, plan))
+        | inr (inl some) ↦ inr (inl (
+          c.fault_of_run.ensures.listen some.0,
+          omega (arith, some.1, plan),
+        ))
+        | inr (inr shut) ↦ inr (inr (
+          c.fault_of_run.ensures.shut shut.0,
+          desk_shut g.S.Store (λ m. m.desk.ghost_name) (λ m. m.desk.now) (λ m. m.is_shut)
+              _ _ _ c.desk-1.given.1 _ _ _ _ x.serves refl shut.1,
+        ))
       ];
     }
 
 pub returns-clause-clean : goal.returns-clause-clean
 returns-clause-clean g c =
-    desk_clean g.S.Store (λ m. m.desk.ghost_name) (λ m. m.desk.now) _ _ _ c.desk-1.given.1 _ _ _ _
-    c.in-Err.ensures.served.serves
+    desk_clean g.S.Store (λ m. m.desk.ghost_name) (λ m. m.desk.now) (λ m. m.is_shut) _ _ _
+    c.desk-1.given.1 _ _ _ _ c.in-Err.ensures.served.serves
 
--- an accept that failed came after the port was printed
+-- unless it could not be printed, the port was
 pub returns-clause-unprinted : goal.returns-clause-unprinted
-returns-clause-unprinted g c = λ other. elim (listens_or_writes c.in-Err.fault) [
-  | inl listens ↦ inr (c.in-Err.ensures.unaccepted listens)
-  | inr writes ↦ absurd (other (c.fault_of_run.ensures.write writes))
-]
+returns-clause-unprinted g c = λ other.
+    inr (c.in-Err.ensures.unaccepted (λ is. other (c.fault_of_run.ensures.write is)))
