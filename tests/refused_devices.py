@@ -4,7 +4,7 @@ import itertools
 
 import run_serve
 from refusing import (
-    ALL_UNAVAILABLE, COMMANDS, DISK, RECEIVE, SEND, STORE_FAULT, UNAVAILABLE, Office,
+    COMMANDS, DISK, RECEIVE, SEND, STORE_FAULT, UNAVAILABLE, Office,
     connection_fault, copy_database, filled_log, is_change)
 from serve_cases import EXAMPLES, PUBLISHED, SMALL, message, reply
 
@@ -108,9 +108,9 @@ def copied_log(run, path):
 
 def call_in_turn(run, name, path, question, first=()):
     """A message, while each of its calls of the disk is refused in turn. If it is answered, all
-    that was written is synced, and the next process finds it done. If the reply is 503, or the
-    program ends with store fault 8, the next process finds the office before the message or after
-    it; until then the office shows what it did before, or nothing but 503."""
+    that was written is synced, and the next process finds it done. Otherwise the reply is 503, or
+    none comes, and the next process finds the office before the message or after it. Until then the
+    office shows what it did before, or it has ended, with store fault 8 and status 1."""
     office = Office(run, path, first=first)
     before, answer, after = office.shown(), office.reply(question), office.shown()
     office.ending()
@@ -129,7 +129,7 @@ def call_in_turn(run, name, path, question, first=()):
             else:
                 outcome = f"503 and found {'before' if then == before else 'after'}"
                 may_show, may_find = [before], [before, after]
-            goes_on = shown in [*may_show, ALL_UNAVAILABLE] and ending == (-9, b"")
+            goes_on = shown in may_show and ending == (-9, b"")
             has_ended = shown == b"" and ending == (1, STORE_FAULT)
             run.record(outcome if refused else "not refused", f"{name}, {call(k, *how)}",
                        (True, True, True, (-9, b"")),
