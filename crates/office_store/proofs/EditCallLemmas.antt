@@ -55,7 +55,7 @@ use Rattle.office_store.proofs.SlotLemmas.{all_moved, move_made}
 
 -- ---- a draft that is there
 
-ok_is : {X F : Type 0} {x y : X} → ◌≡◌ {A = Result X F} (Ok x) (Ok y) → x ≡ y
+pub ok_is : {X F : Type 0} {x y : X} → ◌≡◌ {A = Result X F} (Ok x) (Ok y) → x ≡ y
 ok_is e = cc
 
 -- a draft that is shown

@@ -8,6 +8,7 @@ pub mod CallLemmas
 pub mod SlotLemmas
 pub mod EditLemmas
 pub mod EditCallLemmas
+pub mod StoredLemmas
 pub mod StepLemmas
 pub mod CommandLemmas
 pub mod OpenLemmas

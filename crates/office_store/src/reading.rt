@@ -2,9 +2,11 @@
 ghost use Rattle.std.specs.Prelude.{◌≡◌, IfErr, IfOk, IsPermutation, IsTrue, OnOk, Some, length};
 ghost use Rattle.sqlite.specs.Held.{state};
 ghost use Rattle.sqlite.specs.State.{HasCleanDisk};
+ghost use Rattle.exam_model.specs.Enrolments.{Enrolled};
 ghost use Rattle.exam_model.specs.Fits.{Fits};
 ghost use Rattle.exam_score.specs.Track.{track};
 ghost use Rattle.office_model.specs.Office.{IsOffice, OfficeState};
+ghost use Rattle.office_records.specs.Found.{AreSlots};
 ghost use Rattle.office_records.specs.Memory.{memory_of};
 ghost use Rattle.office_model.specs.Commands.{session_shown};
 ghost use Rattle.office_model.specs.DraftCommands.{draft_in, draft_shown};
@@ -16,11 +18,12 @@ ghost use Rattle.office_store.specs.Running.{Does, IsAwake, IsStill, Runs};
 
 use crate::fault::Failed;
 use crate::office::Office;
+use crate::pricing::stored_penalty;
 use exam_model::{Enrolments, Instance, Timetable};
 use exam_rules::{Breach, breaches};
 use exam_score::{Parts, score};
 use office_model::StoreFault;
-use office_records::{draft_row, timetable_of};
+use office_records::timetable_of;
 use office_tables::{DraftRow, SlotRow, slots_of};
 use sqlite::Alter;
 use std::alloc::Global;
@@ -50,8 +53,8 @@ impl<S: Alter> Office<S> {
         }
     }
 
-    /// A draft's timetable with its penalty. `NotLoaded`, then `NoDraft`: there is none of this
-    /// number.
+    /// A draft's timetable with the stored penalty. `NotLoaded`, then `NoDraft`: there is none of
+    /// this number.
     pub fn draft(&mut self, alloc: Global, number: u32) -> Result<(Timetable, Parts), StoreFault>
         ensures runs { Runs S.Store (draft_shown number) self.old self.new result }
         // While it is open, the database is as it was, every row where it lay.
@@ -64,10 +67,10 @@ impl<S: Alter> Office<S> {
             → HasCleanDisk (state S.Store self.old) }
     {
         let found = self.draft_rows(alloc, number)?;
-        let Some((instance, enrolments)) = &self.kept else {
+        let Some((instance, _)) = &self.kept else {
             return Err(StoreFault::NotLoaded);
         };
-        draft_of(alloc, instance, enrolments, number, &found)
+        stored_draft(alloc, instance, number, &found)
     }
 
     /// All breaches of a draft, in their order. `NotLoaded`, then `NoDraft`: there is none of this
@@ -130,7 +133,8 @@ impl<S: Alter> Office<S> {
     }
 }
 
-// The draft of the session at hand that these rows tell, with its penalty.
+// The draft of the session at hand that these rows tell, with its penalty, which is computed and
+// has to be the stored one.
 pub(crate) fn draft_of(
     alloc: Global,
     instance: &Instance,
@@ -146,16 +150,30 @@ pub(crate) fn draft_of(
     ensures fits { IfOk result (λ shown. Fits instance.now enrolments.now shown.0) }
     ensures scored { IfOk result (λ shown. shown.1 ≡ track instance.now enrolments.now shown.0) }
 {
-    let row = match found.rows.as_slice() {
-        [] => return Err(StoreFault::NoDraft),
-        [row] => *row,
-        _ => return Err(StoreFault::BadSchema),
-    };
-    let timetable = timetable_of(alloc, instance, number, &found.slots)?;
+    let (timetable, stored) = stored_draft(alloc, instance, number, found)?;
     let parts = score(alloc, instance, enrolments, &timetable)?;
-    if draft_row(number, parts) != row {
+    if parts != stored {
         return Err(StoreFault::BadSchema);
     }
+    Ok((timetable, parts))
+}
+
+// The draft of the session at hand that these rows tell, with the penalty that they store.
+fn stored_draft(
+    alloc: Global,
+    instance: &Instance,
+    number: u32,
+    found: &DraftRows,
+) -> Result<(Timetable, Parts), StoreFault>
+    ensures shown { (enrolments : Enrolled) (office : OfficeState) → IsOffice office
+        → memory_of office ≡ Some (instance.now, enrolments)
+        → AreRowsOf office number found.now.rows.items found.now.slots.items
+        → Does (draft_shown number office) office (λ new. new ≡ office) result }
+    ensures places { IfOk result (λ shown.
+        AreSlots instance.now number found.now.slots.items shown.0) }
+{
+    let parts = stored_penalty(&found.rows)?;
+    let timetable = timetable_of(alloc, instance, number, &found.slots)?;
     Ok((timetable, parts))
 }
 
@@ -173,7 +191,7 @@ fn breaches_in(
         → AreRowsOf office number found.now.rows.items found.now.slots.items
         → Does (draft_judged number office) office (λ new. new ≡ office) (listed result) }
 {
-    let (timetable, _) = draft_of(alloc, instance, enrolments, number, found)?;
+    let (timetable, _) = stored_draft(alloc, instance, number, found)?;
     let breaches = breaches(alloc, instance, enrolments, &timetable)?;
     Ok(breaches)
 }

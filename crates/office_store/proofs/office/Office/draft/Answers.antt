@@ -16,5 +16,5 @@ returns-clause-runs g c =
     shows g.S.Store (draft_shown c.args.number) c.args.self.now c.draft_rows.new.self
     c.self.inside.conn c.self.inside.kept c.self.view_is c.self.invariant.1
     c.in_ok-found.ensures.awake c.in_ok-found.ensures.still _
-    (λ k o kept is. c.draft_of.ensures.shown o kept.office (is ∙ c.in-Some.is)
+    (λ k o kept is. c.stored_draft.ensures.shown _ o kept.office (is ∙ c.in-Some.is)
     (c.in_ok-found.ensures.rows k o kept))
