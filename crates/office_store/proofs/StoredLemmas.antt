@@ -1,5 +1,5 @@
 -- A draft whose penalty is read and not computed.
-use Rattle.std.proofs.Common.{◌≡◌, ℕ, Bool, true, not, arith, map, Result, Option, Some, None, Ok, Err, List, refl, sym, ◌∙◌, ap, subst}
+use Rattle.std.proofs.Common.{◌≡◌, ℕ, Bool, true, not, arith, map, Result, Option, Some, None, Ok, List, refl, sym, ◌∙◌, ap, subst}
 use Rattle.std.specs.Prelude.{◌==◌, ◌&&◌, is_some}
 use Rattle.std.proofs.lemmas.Bool.Decides.{nat_tests}
 use Rattle.exam_model.specs.Enrolments.{Enrolled}

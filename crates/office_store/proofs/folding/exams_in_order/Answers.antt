@@ -1,4 +1,4 @@
-use Rattle.std.proofs.Common.{◌≡◌, ◌∙◌, ap, map, sym, true≢false}
+use Rattle.std.proofs.Common.{◌∙◌, ap, map, sym, true≢false}
 use Rattle.office_store.specs.Viewing.{her_row}
 use Rattle.office_store.proofs.FoldingLemmas.{are_hers_of, hers_back, up_of}
 use Rattle.office_store.proofs.folding.exams_in_order.Goals as goal

@@ -1,4 +1,4 @@
-use Rattle.std.proofs.Common.{◌≡◌, ◌∙◌, ◌++◌, ap, ap₂, sym, take, take_all}
+use Rattle.std.proofs.Common.{◌∙◌, ◌++◌, ap, ap₂, sym, take, take_all}
 use Rattle.std.specs.List.{flat_map}
 use Rattle.std.proofs.lemmas.List.{take_more}
 use Rattle.exam_model.specs.Enrolments.{students}
