@@ -4,4 +4,5 @@ mod UnavailableLemmas
 mod CandidateLemmas
 mod ServingLemmas
 mod IsolationLemmas
+mod TwoOfficesLemmas
 pub mod ClientLemmas

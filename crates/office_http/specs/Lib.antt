@@ -4,3 +4,4 @@ pub mod Transcripts
 pub mod HerMessages
 pub mod Isolation
 pub mod Clients
+pub mod TwoOffices

@@ -5,6 +5,7 @@ mod answers;
 mod laws;
 mod replying;
 mod serving;
+mod two_offices;
 
 pub use laws::{
     each_client_told_by_view, each_told_by_view, quiet_clients, quiet_message, quiet_messages,
@@ -18,3 +19,4 @@ pub use office_requests::{End, Reply, Request, Routes, ServeFault, Served};
 pub use replying::reply;
 pub use serving::{AnsweringDesk, serve};
 pub use sqlite::{Alter, Connection};
+pub use two_offices::{AskFault, ReplyAndShares, ask_two_offices};

@@ -5,3 +5,5 @@
 mod connections;
 #[cfg(test)]
 mod sockets;
+#[cfg(test)]
+mod two_offices;

@@ -1,0 +1,45 @@
+-- Two offices in memory, each after a list of requests.
+use Rattle.std.specs.Prelude.{◌≡◌, ℕ, List, fold, Option, None, Result, Ok, Err}
+use Rattle.exam_publish.specs.Shares.{Sharing}
+use Rattle.office_messages.specs.Heads.{plain_request}
+use Rattle.office_messages.specs.Reply.{PlainReply}
+use Rattle.office_messages.specs.Stream.{PlainRequest}
+use Rattle.office_messages.specs.declared.request.Request.{Request}
+use Rattle.office_requests.specs.Requests.{PlainAsked, reading}
+use Rattle.office_requests.specs.declared.requests.Refusal.{Refusal}
+use Rattle.office_model.specs.Office.{OfficeState}
+use Rattle.office_model.specs.Step.{step}
+use Rattle.office_model.specs.Views.{view_of}
+use Rattle.office_store.specs.Publications.{AddUpIn, shares_in}
+use Rattle.office_http.specs.HerMessages.{IsFrom, bytes_of, her_reply}
+
+-- the office after what a request asks for; a request that asks for nothing leaves it
+abbrev pub office_after_asked : OfficeState → Result PlainAsked Refusal → OfficeState
+office_after_asked office (Ok asked) = (step office asked.caller asked.command).0
+office_after_asked office (Err refusal) = office
+
+-- the office after a request
+abbrev pub office_after : OfficeState → PlainRequest → OfficeState
+office_after office request =
+    office_after_asked office (reading request.method request.target request.caller request.body)
+
+-- the office that these requests lead to, one after another, from the office without a session
+abbrev pub office_of : List Request → OfficeState
+office_of requests =
+    fold (λ office request. office_after office (plain_request request)) None requests
+
+-- a candidate's request is replied the text of the candidate's view
+abbrev pub RepliesText : OfficeState → PlainRequest → PlainReply → Type 0
+RepliesText office request reply =
+    (s : ℕ) → IsFrom s request → reply ≡ her_reply s request (view_of s office)
+
+-- a candidate on whose view two offices agree gets the same bytes from both
+abbrev pub RepliesAlike : (one other : OfficeState) → PlainRequest → (reply answer : PlainReply)
+    → Type 0
+RepliesAlike one other request reply answer =
+    (s : ℕ) → IsFrom s request → view_of s one ≡ view_of s other
+    → bytes_of (request, reply) ≡ bytes_of (request, answer)
+
+-- these are the shares of the publication, if there is one, and together they are its penalty
+abbrev pub AreShares : OfficeState → Option Sharing → Type 0
+AreShares office shares = (shares ≡ shares_in office) × AddUpIn office shares
