@@ -88,7 +88,7 @@ def candidates_page(run, chromium, front):
 
 
 def next_exam_first(run, chromium, front):
-    """An exam that is over stands below the others."""
+    """An exam that is over is below the others."""
     for now, status, days in (
             ("2005-04-15T09:29:00", "2 exams", [["09:30", "17:00"], []]),
             ("2005-04-15T11:29:00", "2 exams", [["09:30", "17:00"], []]),
@@ -153,7 +153,7 @@ def signing_on(run, chromium, front, sso):
 
 
 def list_of_sessions(run, chromium, many):
-    """A page lists the sessions behind one front."""
+    """A page lists the sessions of one front."""
     chromium.new_host()
     address = f"exams.localhost:{many.port}/"
     chromium.go(f"http://ada:try-ada@{address}not-found.html")
@@ -189,7 +189,7 @@ def registrys_page(run, chromium, front):
         is_read(reader)
         run.judge("violations in words", ["After Exam MATH102 must come after exam MATH101, and does not."],
                   reader.texts("#violations li"))
-        run.judge("where the focus is", "detail-title",
+        run.judge("the focus", "detail-title",
                   reader.run("return document.activeElement.id"))
         head, *rows = reader.run(CELLS, "#grid tr")
         run.judge("the rooms", ["Period", "Great Hall\nMain building\n3 seats",
@@ -259,7 +259,7 @@ def departments_page(run, chromium, front):
                 down, tab, tab, down, tab, tab)
         run.judge("what moved", [mechanics, [optics[0], "60", monday, *optics[3:]]],
                   reader.run(CELLS, "#places tr"))
-        run.judge("where the focus is", "status", reader.run("return document.activeElement.id"))
+        run.judge("the focus", "status", reader.run("return document.activeElement.id"))
         undone("a move", f"Undo: PHYS102 back to {friday}, {hall}",
                f"PHYS102: {friday}, {hall}. 37 points now, 27 before.")
         changed("a swap that breaks a rule", "Your change was not made. Exam PHYS101 is longer than its "
@@ -518,7 +518,7 @@ def late_changes(run, chromium, front):
         for line in ("Student ID;Exam code;Action", "s3;MATH101;enrol", "s2;math101;add"):
             reader.press(*line, enter)
         reader.press(*"s2;MATH101;withdrawn", tab)
-        run.judge("where a key leads behind the lines", "Check",
+        run.judge("the link that a key reaches after the lines", "Check",
                   reader.run("return document.activeElement.innerText"))
         reader.press(enter)
         reader.waits("return !document.querySelector('#batch-preview').hidden")
@@ -623,7 +623,7 @@ def registrys_work(run, chromium, front):
         reader.downloads_to(folder)
         reader.types("#draft-file", str(faulty))
         sent("draft", "Draft 3 was not made. Line 2: a whole number is expected.")
-        run.judge("where a faulty file is shown", ["draft-file", "true"], reader.run(
+        run.judge("the field of a faulty file", ["draft-file", "true"], reader.run(
             "const e = document.activeElement; return [e.id, e.getAttribute('aria-invalid')]"))
         reader.types("#draft-file", str(solution))
         sent("draft", "Draft 3 is made.")
@@ -699,7 +699,7 @@ def registrys_work(run, chromium, front):
 
 
 def new_session(run, chromium, program):
-    """A session is loaded from a file on the page; a faulty file says where."""
+    """A session is loaded from a file on the page; a faulty file is named with its line."""
     with program() as front, reading(chromium, front, "registry") as reader:
         run.judge("no session", ("No session is loaded yet.", [False, True, True, True]), (
             reader.text("#status"), reader.run(
@@ -803,7 +803,7 @@ const kind = (cell) => cell.tagName === 'TD' ? 'cell'
 return [...document.querySelectorAll('table')].filter(table => table.checkVisibility())
   .map(table => [table.caption.innerText, [...table.rows].map(row => [...row.cells].map(kind))]);
 """
-# Texts whose colour is too close to what lies behind them: below 4.5 to 1.
+# Texts whose colour is too close to what is behind them: below 4.5 to 1.
 CONTRAST = """
 const numbers = (colour) => colour.match(/[\\d.]+/g).map(Number);
 const light = ([r, g, b]) => {
@@ -870,14 +870,14 @@ def pages_for_everybody(run, chromium, front):
                 focus = reader.run("const e = document.activeElement; return [e.className, "
                                    "e.getBoundingClientRect().left >= 0, "
                                    "getComputedStyle(e).outlineStyle]")
-                run.judge(f"where a key leads on {page}", ["skip", True, "solid"], focus)
+                run.judge(f"the link that a key reaches on {page}", ["skip", True, "solid"], focus)
                 if "is_dark" in more:
                     reached = reader.run(REACHED)
                     came = [reader.run(FOCUSED)]
                     for _ in reached[1:]:
                         reader.press("\ue004")
                         came.append(reader.run(FOCUSED))
-                    run.judge(f"where the key leads after that on {page}",
+                    run.judge(f"the link that the key reaches next on {page}",
                               [[number, "solid"] for number in reached], came)
                 reader.devtools("Emulation.setEmulatedMedia", media="print")
                 run.judge(f"{page} in print", 0, reader.run(

@@ -50,7 +50,7 @@ function timeCell({ exam, start }, names) {
     ...(minutes === null ? [] : [' – ', endTime(start, minutes), below(`${minutes} minutes`)]));
 }
 
-// On a phone the label stands in front of a number.
+// On a phone the label is in front of a number.
 function labelledCell(label, value) {
   return element('td', { 'data-label': label }, value ?? quiet('none yet'));
 }

@@ -87,7 +87,7 @@ function showDraft() {
 
 const option = (value, words) => element('option', { value }, words);
 
-// A session has at most so many periods, and so many rooms.
+// The most periods and the most rooms of a session.
 const MOST_NUMBERS = 200;
 
 /** A list to choose from; without labels all numbers that a session may have. */

@@ -1,4 +1,4 @@
-// Names for the numbers of a session, from labels.json, where they match what the office says.
+// Names for the numbers of a session, from labels.json, if they match what the office says.
 import { ask, byId, dayInShort, element, setExamNames, time } from './office.js';
 
 /** Returns the labels, or null if there are none. */

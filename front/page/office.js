@@ -160,7 +160,7 @@ export const day = (date) => timeElement(longDay, date, new Date(`${date}T00:00:
 export const dayInShort = (date) => timeElement(shortDay, date, new Date(`${date}T00:00:00Z`));
 export const time = (start) => timeElement(shortTime, start, new Date(`2000-01-01T${start}Z`));
 
-/** The time so many minutes after a start. */
+/** The time n minutes after a start. */
 export function endTime(start, minutes) {
   const end = new Date(Date.parse(`2000-01-01T${start}Z`) + 60_000 * minutes);
   return time(end.toISOString().slice(11, 19));

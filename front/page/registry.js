@@ -219,7 +219,7 @@ function periodHead(period, when) {
   return rowHead(`Period ${period}`, small(dayInShort(when.date), ', ', time(when.start)));
 }
 
-// An exam among others: its code, or its number alone.
+// An exam among others: its code, or only its number.
 const shortName = (exam) => (office.names.labels ? office.names.exam(exam) : exam);
 
 function examNames(exams) {

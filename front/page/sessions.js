@@ -1,4 +1,4 @@
-// The page that lists the sessions behind this front.
+// The page that lists the sessions of this front.
 import { ask, byId, count, element, readUser, showProgress } from './office.js';
 
 showProgress('Loading the sessions …', async () => {
