@@ -22,7 +22,9 @@ TOP = pathlib.Path(__file__).resolve().parent.parent
 EXAMPLES = TOP / "examples"
 # A row of the page's table of faults: the number, the words of the help, and such a line.
 FAULT_ROW = re.compile(r"(?m)^\| (\d+) \w+ \| (.*?) \| .*? \| (?:line (\d+): `(.*)` )?\|$")
-FAULTS = FAULT_ROW.findall((TOP / "docs" / "FORMATS.md").read_text(encoding="utf-8"))
+FORMATS = (TOP / "docs" / "FORMATS.md").read_text(encoding="utf-8")
+FAULTS = FAULT_ROW.findall(FORMATS)
+VERSION = (TOP / "VERSION").read_text(encoding="utf-8").strip()
 INSTANCE_LIMIT, SOLUTION_LIMIT = 4_194_304, 1_048_576
 SECONDS = 60
 PENALTIES = ["two in a row", "two in a day", "period spread", "mixed durations", "front load",
@@ -30,9 +32,10 @@ PENALTIES = ["two in a row", "two in a day", "period spread", "mixed durations",
 GOOD = [7, 5, 3, 0, 0, 15, 7]
 TOGETHER = [7, 0, 3, 10, 0, 10, 14]
 
-# `device`: where standard output goes; `terminal`: whether standard error is one.
-Case = namedtuple("Case", "name words status stdout stderr device terminal",
-                  defaults=(b"", b"", None, False))
+# `device`: where standard output goes; `terminal`: whether standard error is one; `journal`:
+# whether the environment says that it goes to a journal.
+Case = namedtuple("Case", "name words status stdout stderr device terminal journal",
+                  defaults=(b"", b"", None, False, False))
 
 
 class Holding:
@@ -46,6 +49,19 @@ class Holding:
 
     def __repr__(self):
         return f"something that holds {self.part!r}" if self.part else "something"
+
+
+class Within:
+    """Stands for any output whose lines have at most so many characters."""
+
+    def __init__(self, columns):
+        self.columns = columns
+
+    def __eq__(self, output):
+        return all(len(line) <= self.columns for line in output.decode().splitlines())
+
+    def __repr__(self):
+        return f"lines of at most {self.columns} characters"
 
 
 def with_line(text, number, line):
@@ -86,6 +102,7 @@ def files():
         "at_limit.exam": exam.ljust(INSTANCE_LIMIT),
         "long.exam": exam.ljust(INSTANCE_LIMIT + 1),
         "many.exam": MANY,
+        "odd.sol": with_line(solution, 2, b"1\x1b\x07[31m\xffx, 0"),
         "three.sol": b"".join(solution.splitlines(True)[:3]),
         "five.sol": solution + b"0, 0\n",
         "beyond.sol": with_line(solution, 2, b"4, 0"),
@@ -119,6 +136,19 @@ def on_terminal(case, *lines):
                          terminal=True)
 
 
+def with_cause(case, line):
+    """The case on a terminal and with a journal, where this line follows the case's."""
+    said = case._replace(stderr=case.stderr + line + b"\n")
+    return (said._replace(name=f"{case.name}, on a terminal", terminal=True),
+            said._replace(name=f"{case.name}, to a journal", journal=True))
+
+
+def numbered_words(heading):
+    """The numbers and the words of a page's table of faults, by its heading."""
+    table = FORMATS.split(f"| {heading} | In words |")[1].split("\n\n")[0]
+    return re.findall(r"(?m)^\| (\d+) \w+ \| (.*) \|$", table)
+
+
 def load(name, database, instance, exams, pairs, periods, rooms):
     line = b"loaded exams %d pairs %d periods %d rooms %d\n" % (exams, pairs, periods, rooms)
     return Case(name, ("load", "--db", database, instance), 0, line)
@@ -139,6 +169,12 @@ def unexported(name, database, text):
 def usage(name, *words):
     return Case(name, words, 2, b"", Holding())
 
+
+KINDS = {
+    "file": [(number, words) for number, words, _, _ in FAULTS],
+    "store": numbered_words("Fault of the store"),
+    "connection": numbered_words("Fault of a connection"),
+}
 
 CASES = [
     check("the small example", "small.exam", "small.sol", GOOD),
@@ -213,6 +249,23 @@ CASES = [
     unexported("an export of a file that is no database", "small.sol", b"cannot open database"),
     Case("words that are no texts", (b"check\xff",), 2, b"",
          b"error: the words are not all UTF-8\n"),
+    unexported("an export of a file that isn't there", "absent.db", b"cannot open database"),
+    *(Case(f"{kind} fault {number} in words", ("explain", kind, number), 0,
+           f"{words}\n".encode())
+      for kind, rows in KINDS.items() for number, words in rows),
+    *(Case(f"{kind} fault {number}, which isn't one", ("explain", kind, str(number)), 2, b"",
+           Holding(message))
+      for kind, rows in KINDS.items()
+      for number, message in ((len(rows) + 1, b""), (0, b"1..=13"), (14, b"1..=13"))),
+    Case("a fault of the store that isn't one", ("explain", "store", "10"), 2, b"",
+         Holding(b"there is no such fault")),
+    Case("a fault of no kind", ("explain", "door", "1"), 2, b"",
+         Holding(b"there is no such fault")),
+    Case("a fault told to a full device", ("explain", "file", "5"), 1, b"",
+         b"examoffice: cannot write\n", "/dev/full"),
+    Case("the version", ("-V",), 0, f"examoffice {VERSION}\n".encode()),
+    Case("the version in full", ("--version",), 0, Holding(f"examoffice {VERSION}".encode())),
+    Case("help names the explanation", ("--help",), 0, Holding(b"\n  explain "), b""),
     Case("help", ("--help",), 0, Holding(b"check"), b""),
     Case("help names the load", ("--help",), 0, Holding(b"load"), b""),
     Case("help for the load", ("load", "--help"), 0, Holding(b"--db <FILE>"), b""),
@@ -227,29 +280,86 @@ CASES = [
       for number, _, line, _ in FAULTS if line),
     *(Case(f"help with an example and statuses: {name}", (name, "--help"), 0,
            Holding(f"\nExample:\n  examoffice {name} ".encode()), b"")
-      for name in ("check", "load", "serve", "export")),
+      for name in ("check", "load", "serve", "export", "explain")),
     *(Case(f"help with statuses: {name}", (name, "--help"), 0,
            Holding(b"\nExit status:\n  0  "), b"")
-      for name in ("check", "load", "serve", "export")),
-    Case("help for the store's faults", ("load", "--help"), 0,
-         Holding(b"\n  9  the tables in the database are not those of an office\n"), b""),
-    Case("help for faults of connections", ("serve", "--help"), 0,
-         Holding(b"\n  2  writing failed, or was not in time\n"), b""),
+      for name in ("check", "load", "serve", "export", "explain")),
+    *(Case(f"help for {kind} fault {number}: {name}", (name, "--help"), 0,
+           Holding(f"\n  {number}  {words}\n".encode()), b"")
+      for name, kind, numbers in (("load", "store", "189"), ("export", "store", "89"),
+                                  ("serve", "store", "89"), ("serve", "connection", "1234"))
+      for number, words in KINDS[kind] if number in numbers),
+    *(Case(f"help within 80 columns: {name}", (*name, "--help"), 0, Within(80), b"")
+      for name in ((), ("check",), ("load",), ("serve",), ("export",), ("explain",))),
     on_terminal(load("a small instance", "small.db", "small.exam", 4, 6, 4, 2)),
     on_terminal(load("a large instance", "padded.db", "at_limit.exam", 4, 6, 4, 2),
                 b"loading at_limit.exam"),
     load("many enrolments", "large.db", "many.exam", 2_000, 200_000, 1, 1),
     on_terminal(unloaded("a load into a large database", "large.db", "small.exam",
-                         b"store fault 1"), b"opening large.db"),
+                         b"store fault 1\nlarge.db: loaded: the office has a session already"),
+                b"opening large.db"),
     on_terminal(unexported("an export of a small database", "small.db", b"no publication")),
     on_terminal(unexported("an export of a large database", "large.db", b"no publication"),
                 b"opening large.db"),
     on_terminal(Case("a server of a large database", served("large.db"), 1, b"",
-                     b"examoffice: cannot write\n", "/dev/full"), b"opening large.db"),
+                     b"examoffice: cannot write\nstandard output: closed, or its disk is full\n",
+                     "/dev/full"), b"opening large.db"),
+    Case("a server of a new file, on a terminal", served("new.db"), 1, b"",
+         b"examoffice: new.db is new: an office without a session\nexamoffice: cannot write\n"
+         b"standard output: closed, or its disk is full\n", "/dev/full", True),
+    on_terminal(Case("a server of a file that is there", served("new.db"), 1, b"",
+                     b"examoffice: cannot write\nstandard output: closed, or its disk is full\n",
+                     "/dev/full")),
+    *with_cause(fault("a day that April lacks", "april.exam", "small.sol",
+                      b"instance line 8: fault 5"),
+                b"april.exam line 8: no such date: 31:04:2005, 14:00:00, 120, 0"),
+    *with_cause(fault("an instance that is too long", "long.exam", "small.sol",
+                      b"instance line 0: fault 1"), b"long.exam: too long"),
+    *with_cause(fault("an empty instance", "empty.exam", "small.sol",
+                      b"instance line 1: fault 2"), b"empty.exam line 1: no header"),
+    *with_cause(fault("a line too few", "small.exam", "three.sol", b"solution line 4: fault 3"),
+                b"three.sol line 4: wrong count"),
+    *with_cause(fault("a line with bytes that don't print", "small.exam", "odd.sol",
+                      b"solution line 2: fault 4"), b"odd.sol line 2: no number: 1  [31m x, 0"),
+    *with_cause(fault("a solution given as the session", "small.sol", "small.sol",
+                      b"instance line 1: fault 2"),
+                b"small.sol line 1: a solution, not a session: 0, 0"),
+    *with_cause(fault("a session given as the solution", "small.exam", "small.exam",
+                      b"solution line 1: fault 4"),
+                b"small.exam line 1: a session, not a solution: [Exams:4]"),
+    *with_cause(unloaded("a solution to load", "wrong.db", "small.sol",
+                         b"instance line 1: fault 2"),
+                b"small.sol line 1: a solution, not a session: 0, 0"),
+    *with_cause(fault("no instance", "none.exam", "small.sol", b"cannot read none.exam"),
+                b"none.exam: No such file or directory (os error 2)"),
+    *with_cause(fault("a folder as solution", "small.exam", "a folder", b"cannot read a folder"),
+                b"a folder: Is a directory (os error 21)"),
+    *with_cause(unloaded("a database in no folder", "none/none.db", "small.exam",
+                         b"cannot open database"),
+                b"none/none.db: No such file or directory (os error 2)"),
+    *with_cause(unloaded("a folder as database", "a folder", "small.exam",
+                         b"cannot open database"),
+                b"a folder: Is a directory (os error 21)"),
+    *with_cause(unloaded("a file that is no database", "small.sol", "small.exam",
+                         b"cannot open database"),
+                b"small.sol: file is not a database that obeys its schema"),
+    *with_cause(unexported("an export of an empty file", "bare.db", b"store fault 9"),
+                b"bare.db: no office: the tables in the database are not those of an office"),
+    *with_cause(unexported("an export of a file that isn't there", "absent.db",
+                           b"cannot open database"),
+                b"absent.db: No such file or directory (os error 2)"),
+    *with_cause(Case("a check to a full device", ("check", "small.exam", "small.sol"), 1, b"",
+                     b"examoffice: cannot write\n", "/dev/full"),
+                b"standard output: closed, or its disk is full"),
     unexported("an export of a large database", "large.db", b"no publication"),
     usage("no words"),
     usage("an unknown command", "frobnicate"),
     usage("an unknown option", "--frobnicate"),
+    usage("no kind of a fault", "explain"),
+    usage("no number of a fault", "explain", "file"),
+    usage("a fault without its kind", "explain", "5"),
+    usage("a fault that is no number", "explain", "file", "five"),
+    usage("the version after a command", "check", "--version"),
     usage("no files", "check"),
     usage("one file", "check", "small.exam"),
     usage("three files", "check", "small.exam", "small.sol", "small.sol"),
@@ -276,11 +386,13 @@ def run(program, case, folder):
     """What the program ended with: its status, standard output and standard error."""
     output = open(case.device, "wb") if case.device else subprocess.PIPE
     screen = os.openpty() if case.terminal else None
+    journal = {"JOURNAL_STREAM": "8:1"} if case.journal else {}
     if screen:
         tty.setraw(screen[1])
     try:
         done = subprocess.run([program, *case.words], cwd=folder, stdin=subprocess.DEVNULL,
                               stdout=output, stderr=screen[1] if screen else subprocess.PIPE,
+                              env={**os.environ, **journal},
                               timeout=SECONDS, check=False)
         shown = all_shown(screen) if screen else done.stderr
     except subprocess.TimeoutExpired:
@@ -313,6 +425,7 @@ def main():
             path.write_bytes(text)
         for case in CASES:
             judged.judge(case.name, (case.status, case.stdout, case.stderr), run(program, case, folder))
+        judged.judge("an export makes no file", False, pathlib.Path(folder, "absent.db").exists())
     sys.exit(judged.end())
 
 

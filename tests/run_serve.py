@@ -433,6 +433,34 @@ def port_is_taken(run):
               (done.returncode, done.stdout, done.stderr, got, office.ended()))
 
 
+def locked_database(run):
+    """A file that an office serves can't be opened; a line for a journal says why."""
+    office = run.office(connections=1)
+    database, journal = str(run.folder / "term.db"), {**os.environ, "JOURNAL_STREAM": "8:1"}
+    expected = (1, b"", b"examoffice: cannot open database\n%s: database is locked\n"
+                % database.encode())
+    for words in (["export", "--db", database],
+                  ["load", "--db", database, str(EXAMPLES / "small.exam")]):
+        done = subprocess.run([run.program, *words], stdin=subprocess.DEVNULL, env=journal,
+                              capture_output=True, timeout=SECONDS, check=False)
+        run.judge(f"a locked database: {words[0]}", expected,
+                  (done.returncode, done.stdout, done.stderr))
+    office.killed()
+
+
+def closed_streams(run):
+    """Neither a database nor a client takes the number of a standard stream that was closed."""
+    script = run.folder / "closed.sh"
+    script.write_text(f"#!/bin/sh\nexec '{run.program}' \"$@\" 0<&- 2>&-\n", encoding="utf-8")
+    script.chmod(0o755)
+    office = Office(str(script), run.database(SMALL), connections=1)
+    streams = [os.readlink(f"/proc/{office.process.pid}/fd/{number}") for number in (0, 2)]
+    with office.connect() as client:
+        came = told(client, b"GET /me HTTP/1.1\r\n")
+    run.judge("closed streams", (["/dev/null"] * 2, False, (0, b"")),
+              (streams, b"examoffice: " in came, office.ended()))
+
+
 def publication_is_told(run):
     """A terminal as standard error gets a line before a publication in a large file, and only
     where the office asks for it; a small file is told of nowhere."""
@@ -719,7 +747,7 @@ def main():
     with tempfile.TemporaryDirectory() as folder:
         run = Run(program, folder)
         tests = [worked_examples, stock_curl, many_connections, failing_reader_and_writer,
-                 port_is_taken]
+                 port_is_taken, locked_database, closed_streams]
         if not given.plain:
             tests += [stored_by_hand, adopt_after_republication, last_message, long_message,
                       longest_body, cut_messages, hostile_messages, batches_are_kept, publication_is_told, slow_clients, patient_client,

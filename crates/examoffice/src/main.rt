@@ -1,12 +1,15 @@
 //! The examination office's program: it judges solutions of examination timetables by the rules
-//! of the International Timetabling Competition 2007, and loads an office.
+//! of the International Timetabling Competition 2007, and loads, serves and exports an office.
 #![tactic(auto)]
 
 use office_program::{refuse_arguments, run_program, words_of};
-use std::env;
+use std::fs::File;
+use std::os::fd::AsRawFd;
 use std::process::ExitCode;
+use std::{env, fs};
 
 fn main(rt: HostRuntime) -> ExitCode {
+    let _standard = (fill(&rt), fill(&rt), fill(&rt));
     let mut err = rt.stderr();
     let words = match env::args(&rt) {
         Ok(args) => words_of(rt.alloc(), args),
@@ -17,4 +20,15 @@ fn main(rt: HostRuntime) -> ExitCode {
         Err(fault) => refuse_arguments(&fault, &mut err),
     };
     ExitCode::from(ending.status)
+}
+
+// Opens /dev/null in the place of a standard stream that is closed, so that no other file takes it.
+// It can only be read: what is printed to a closed stream still fails.
+fn fill(rt: &HostRuntime) -> Option<File> {
+    let null = fs::open(rt, "/dev/null").ok()?;
+    if null.as_raw_fd() <= 2 {
+        Some(null)
+    } else {
+        None
+    }
 }

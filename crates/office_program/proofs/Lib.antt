@@ -2,3 +2,4 @@ pub mod LoadFacts
 pub mod NumberLemmas
 mod ServeFacts
 mod EndingFacts
+pub mod WordFacts

@@ -3,7 +3,7 @@
 use Rattle.std.specs.Prelude.{◌≡◌, List, Some, codes, string_bytes, true}
 use Rattle.clap.specs.Words.{App, Row, Rule, Text, first_of, new_app, new_rule, with_rule}
 use Rattle.office_program.specs.declared.words.Task.{Task}
-use Rattle.office_program.specs.declared.words.Task.TheVariants.{Check, Export, Load, Serve}
+use Rattle.office_program.specs.declared.words.Task.TheVariants.{Check, Explain, Export, Load, Serve}
 
 -- an argument that has to be there, and has one value
 abbrev pub required_rule : Text → Rule
@@ -22,6 +22,7 @@ HasCheckValues rows (Check instance solution) =
 HasCheckValues rows (Load database instance) = ⊥
 HasCheckValues rows (Serve database terms) = ⊥
 HasCheckValues rows (Export database) = ⊥
+HasCheckValues rows (Explain words) = ⊥
 
 -- an option that has to be there, and has one value
 abbrev pub named_rule : Text → Rule
@@ -40,6 +41,7 @@ HasLoadValues rows (Load database instance) =
     × (first_of (codes "instance") rows ≡ Some (string_bytes instance))
 HasLoadValues rows (Serve database terms) = ⊥
 HasLoadValues rows (Export database) = ⊥
+HasLoadValues rows (Explain words) = ⊥
 
 -- the command `export --db FILE`
 abbrev pub export_app : App
@@ -52,3 +54,4 @@ HasExportValues rows (Load database instance) = ⊥
 HasExportValues rows (Serve database terms) = ⊥
 HasExportValues rows (Export database) =
     first_of (codes "db") rows ≡ Some (string_bytes database)
+HasExportValues rows (Explain words) = ⊥

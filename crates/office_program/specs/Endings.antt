@@ -9,7 +9,7 @@ use Rattle.office_program.specs.Tasks.{IsOfTask}
 use Rattle.office_program.specs.declared.faults.ProgramFault.{ProgramFault}
 use Rattle.office_program.specs.declared.faults.ProgramFault.TheVariants.{CannotWrite, NoMemory}
 use Rattle.office_program.specs.declared.words.Task.{Task}
-use Rattle.office_program.specs.declared.words.Task.TheVariants.{Check, Export, Load, Serve}
+use Rattle.office_program.specs.declared.words.Task.TheVariants.{Check, Explain, Export, Load, Serve}
 
 -- before its own fault a task leaves the writer of faults as it was, but a server, which tells the
 -- faults of connections there
@@ -18,6 +18,7 @@ IsSilent (Check instance solution) old new = new ≡ old
 IsSilent (Load database instance) old new = new ≡ old
 IsSilent (Serve database terms) old new = Unit {0}
 IsSilent (Export database) old new = new ≡ old
+IsSilent (Explain words) old new = new ≡ old
 
 -- what is told there of a task that is done: nothing, but of a server the faults of as many
 -- connections at most as it was to serve
@@ -27,6 +28,7 @@ TellsConnections contents (Load database instance) old new = new ≡ old
 TellsConnections contents (Serve database terms) old new =
     TellsFaults terms.connections (contents old) (contents new)
 TellsConnections contents (Export database) old new = new ≡ old
+TellsConnections contents (Explain words) old new = new ≡ old
 
 -- the writer of faults is as it was, or was told what a task of the words tells that is done
 abbrev pub IsQuiet : {W : Type 0} → (W → Option (List ℕ)) → List Text → W → W → Type 0
@@ -40,6 +42,7 @@ LeavesPrinted (Check instance solution) old new = Keeps old new
 LeavesPrinted (Load database instance) old new = Keeps old new
 LeavesPrinted (Serve database terms) old new = Keeps old new ⊎ PrintsPort terms.port old new
 LeavesPrinted (Export database) old new = Keeps old new
+LeavesPrinted (Explain words) old new = Keeps old new
 
 -- the line of a fault of the task is written, behind what the writer held when the fault came; and
 -- where it is none of writing, nothing else is printed but a server's port

@@ -20,7 +20,7 @@ fault_line (fault.Instance f) = codes "examoffice: instance line " ++ decimal f.
     ++ codes ": fault " ++ decimal (kind_number f.what)
 fault_line (fault.Solution f) = codes "examoffice: solution line " ++ decimal f.line
     ++ codes ": fault " ++ decimal (kind_number f.what)
-fault_line fault.CannotOpen = codes "examoffice: cannot open database"
+fault_line (fault.CannotOpen why) = codes "examoffice: cannot open database"
 fault_line (fault.Store f) = codes "examoffice: store fault " ++ decimal (store_number f)
 fault_line fault.NoPublication = codes "examoffice: no publication"
 fault_line fault.CannotListen = codes "examoffice: cannot listen"
@@ -36,7 +36,7 @@ input_line path input.NoMemory = fault_line fault.NoMemory
 -- the line of an error in opening a database, without its end
 abbrev pub open_line : Error → List ℕ
 open_line (SqliteFailure OutOfMemory) = fault_line fault.NoMemory
-open_line error = fault_line fault.CannotOpen
+open_line error = fault_line (fault.CannotOpen error)
 
 -- the line of a refusal of the office, without its end: a faulty file has the line of the file
 abbrev pub store_line : StoreFault → List ℕ

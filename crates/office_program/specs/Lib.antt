@@ -1,5 +1,6 @@
 pub mod CommandLine
 pub mod ServeLine
+pub mod Explaining
 pub mod Program
 pub mod Load
 pub mod Export

@@ -1,4 +1,4 @@
--- The lines that are printed before work that takes long.
+-- The lines that are printed before work that takes long, and of a new office.
 use Rattle.std.specs.Prelude.{ℕ, ◌++◌, List, codes}
 use Rattle.office_program.specs.declared.telling.LongWork.{LongWork}
 use Rattle.office_program.specs.declared.telling.LongWork.TheVariants as work
@@ -11,3 +11,5 @@ work_line (work.Opening path) =
     codes "examoffice: opening " ++ path.now ++ codes ", which takes a while"
 work_line (work.Publishing path) =
     codes "examoffice: publishing in " ++ path.now ++ codes ", which takes a while"
+work_line (work.Making path) =
+    codes "examoffice: " ++ path.now ++ codes " is new: an office without a session"

@@ -1,15 +1,17 @@
 -- The program with its commands, which task its words are, and what is answered to them.
-use Rattle.std.specs.Prelude.{◌≡◌, ◌≢◌, ◌⊎◌, [], List, Some, codes, true}
-use Rattle.clap.specs.Words.{AddsSubcommand, App, IsAmong, Row, Shape, Text, app_of}
+use Rattle.std.specs.Prelude.{◌≡◌, ◌≢◌, ◌⊎◌, [], List, Option, Some, codes, true}
+use Rattle.clap.specs.Words.{AddsSubcommand, App, IsAmong, Kinds, Row, Shape, Text, app_of}
 use Rattle.clap.specs.Words.{new_app, subcommand_of, with_subcommand}
 use Rattle.clap.specs.Faults.{fault_of}
+use Rattle.clap.specs.Kinds.{or_else}
 use Rattle.clap.specs.declared.builder.command.Command.{Command}
 use Rattle.clap.specs.declared.error.kind.ErrorKind.{ErrorKind}
 use Rattle.clap.specs.declared.error.kind.ErrorKind.TheVariants as kind
 use Rattle.office_program.specs.declared.words.Task.{Task}
-use Rattle.office_program.specs.declared.words.Task.TheVariants.{Check, Export, Load, Serve}
+use Rattle.office_program.specs.declared.words.Task.TheVariants.{Check, Explain, Export, Load, Serve}
 use Rattle.office_program.specs.CommandLine.{check_app, HasCheckValues, load_app, HasLoadValues, export_app, HasExportValues}
 use Rattle.office_program.specs.ServeLine.{serve_app, HasServeValues}
+use Rattle.office_program.specs.Explaining.{HasExplainValues, explain_app, unexplained_in}
 
 -- whoever adds the command as a subcommand adds this shape
 abbrev pub AddsShape : Command → Shape → Type 0
@@ -20,26 +22,42 @@ AddsShape command shape = (old new : Command) → AddsSubcommand old command new
 abbrev pub wants_subcommand : App → App
 wants_subcommand a = record a { top = record a.top { subcommand_required = true } }
 
+-- a command that tells its version
+abbrev pub tells_version : App → App
+tells_version a = record a { top = record a.top { has_version = true } }
+
 -- the program, with its commands
 abbrev pub program : App
-program = with_subcommand (with_subcommand (with_subcommand (with_subcommand
-    (wants_subcommand (new_app (codes "examoffice"))) check_app.top) load_app.top) serve_app.top)
-    export_app.top
+program = with_subcommand (with_subcommand (with_subcommand (with_subcommand (with_subcommand
+    (wants_subcommand (tells_version (new_app (codes "examoffice")))) check_app.top) load_app.top)
+    serve_app.top) export_app.top) explain_app.top
 
--- the task is the command that clap's matches of the words give, with its values
-abbrev pub IsTask : List Text → Task → Type 0
-IsTask words (Check instance solution) =
-    (rows : List Row) × (subcommand_of program words ≡ Some (codes "check", rows))
+-- the task is the command that clap found, with its values
+abbrev pub IsTaskOf : Option (Text × List Row) → Task → Type 0
+IsTaskOf found (Check instance solution) =
+    (rows : List Row) × (found ≡ Some (codes "check", rows))
     × HasCheckValues rows (Check instance solution)
-IsTask words (Load database instance) =
-    (rows : List Row) × (subcommand_of program words ≡ Some (codes "load", rows))
+IsTaskOf found (Load database instance) =
+    (rows : List Row) × (found ≡ Some (codes "load", rows))
     × HasLoadValues rows (Load database instance)
-IsTask words (Serve database terms) =
-    (rows : List Row) × (subcommand_of program words ≡ Some (codes "serve", rows))
+IsTaskOf found (Serve database terms) =
+    (rows : List Row) × (found ≡ Some (codes "serve", rows))
     × HasServeValues rows (Serve database terms)
-IsTask words (Export database) =
-    (rows : List Row) × (subcommand_of program words ≡ Some (codes "export", rows))
+IsTaskOf found (Export database) =
+    (rows : List Row) × (found ≡ Some (codes "export", rows))
     × HasExportValues rows (Export database)
+IsTaskOf found (Explain words) =
+    (rows : List Row) × (found ≡ Some (codes "explain", rows))
+    × HasExplainValues rows (Explain words)
+
+-- the task is the command that clap's matches of the words give
+abbrev pub IsTask : List Text → Task → Type 0
+IsTask words = IsTaskOf (subcommand_of program words)
+
+-- the kinds of error that the words may give: what clap finds, or that they name no fault
+abbrev pub fault_of_words : List Text → Kinds
+fault_of_words words =
+    or_else (fault_of program words) (unexplained_in (subcommand_of program words))
 
 -- an error of clap is a mistake in the words: neither a call for help nor out of memory
 abbrev pub IsMistake : ErrorKind → Type 0
@@ -47,6 +65,6 @@ IsMistake k = (k ≢ kind.OutOfMemory) × (k ≢ kind.DisplayHelp) × (k ≢ kin
 
 -- the words are a command, or ask for help
 abbrev pub AreAnswered : List Text → Type 0
-AreAnswered words = (fault_of program words ≡ [])
-    ⊎ (IsAmong kind.DisplayHelp (fault_of program words)
-    ⊎ IsAmong kind.DisplayVersion (fault_of program words))
+AreAnswered words = (fault_of_words words ≡ [])
+    ⊎ (IsAmong kind.DisplayHelp (fault_of_words words)
+    ⊎ IsAmong kind.DisplayVersion (fault_of_words words))

@@ -17,7 +17,9 @@ use crate::faults::{ProgramFault, fault_of_export, fault_of_open};
 use crate::telling::{LongWork, tell};
 use office_files::{FaultKind, write_solution};
 use office_http::{Alter, Connection, Office, StoreFault};
+use sqlite::{Error, ErrorCode};
 use std::alloc::Global;
+use std::fs;
 use std::io::Write;
 
 /// Why what is published is not written, or not said to be.
@@ -33,7 +35,7 @@ pub enum ExportFault {
     Write,
 }
 
-// `export`. The database holds an office: none is made.
+// `export`. The database's file is there and holds an office: none is made.
 pub(crate) fn export<'a, W: Write>(
     rt: &HostRuntime,
     database: &str,
@@ -45,6 +47,9 @@ pub(crate) fn export<'a, W: Write>(
     ensures unwritten { IfErr result (λ fault. fault ≢ ProgramFault.CannotWrite
         → Keeps (W.contents out.old) (W.contents out.new)) }
 {
+    if fs::metadata(rt, database).is_err() {
+        return Err(fault_of_open(Error::SqliteFailure(ErrorCode::CannotOpen)));
+    }
     tell(rt, LongWork::Opening(database));
     let conn = match Connection::open(rt, database) {
         Ok(conn) => conn,

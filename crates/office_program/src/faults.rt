@@ -19,7 +19,7 @@ pub enum ProgramFault<'a> {
     CannotRead(&'a str),
     Instance(FileFault),
     Solution(FileFault),
-    CannotOpen,
+    CannotOpen(Error),
     Store(StoreFault),
     NoPublication,
     CannotListen,
@@ -44,7 +44,7 @@ impl fmt::Display for ProgramFault<'_> {
                 let number = kind_number(*what);
                 write!(f, "examoffice: solution line {line}: fault {number}")
             }
-            ProgramFault::CannotOpen => write!(f, "examoffice: cannot open database"),
+            ProgramFault::CannotOpen(_) => write!(f, "examoffice: cannot open database"),
             ProgramFault::Store(fault) => {
                 let number = fault.number();
                 write!(f, "examoffice: store fault {number}")
@@ -134,6 +134,6 @@ pub(crate) fn fault_of_open<'a>(error: Error) -> ProgramFault<'a>
 {
     match error {
         Error::SqliteFailure(ErrorCode::OutOfMemory) => ProgramFault::NoMemory,
-        _ => ProgramFault::CannotOpen,
+        _ => ProgramFault::CannotOpen(error),
     }
 }

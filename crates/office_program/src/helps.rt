@@ -9,23 +9,23 @@ Example:
 Exit status:
   0  judged: no hard rule is broken
   1  not judged: a line on standard error says why
-  2  the words are no command
+  2  the command line is wrong
   3  judged: hard rules are broken, each on a line of standard output
 
 The line 'examoffice: instance line 8: fault 5' names the first fault of a file:
-   1  the file is longer than it may be (line 0)
-   2  the header of the next section is expected here
-   3  there are more or fewer lines than the header or the instance says
-   4  a field is not a whole number
-   5  a field is not a date, DD:MM:YYYY, that the calendar has
-   6  a field is not a time of day, HH:MM:SS
-   7  a field is none of the words that may stand there
-   8  a number is beyond its limit, or names nothing that is there
-   9  a word of the weightings comes a second time
-  10  something stands behind the last field, or behind the bracket of a header
-  11  of a batch: its first line is not student,exam,action
-  12  of a timetable to be written: an exam has no place
-  13  memory was refused (line 0); the file may be right";
+   1  too long: the file has more bytes than are read (line 0)
+   2  no header: the header of the next section is expected here
+   3  wrong count: more or fewer lines than the header or the instance says
+   4  no number: a field is not a whole number
+   5  no such date: a field is not a date, DD:MM:YYYY, that the calendar has
+   6  no such time: a field is not a time of day, HH:MM:SS
+   7  no such word: a field is none of the words that are allowed there
+   8  out of range: a number is beyond its limit, or names nothing that exists
+   9  repeated: a word of the weightings comes a second time
+  10  stray text: there is text after the last field, or after a header's ]
+  11  wrong columns: the first line of a batch is not student,exam,action
+  12  not placed: an exam of a timetable to be written has no place
+  13  no memory: memory was refused (line 0); the file may be right";
 
 // Below the help of `load`.
 pub(crate) const LOAD: &str = "\
@@ -35,13 +35,13 @@ Example:
 Exit status:
   0  loaded: the line on standard output says how much
   1  not loaded, or not said to be: a line on standard error says why
-  2  the words are no command
+  2  the command line is wrong
 
-The line 'examoffice: instance line 8: fault 5' names the first fault of the file;
-examoffice check --help explains the numbers. 'examoffice: store fault F' tells of the office:
-  1  a session is loaded already
-  8  a statement failed, or memory was refused
-  9  the tables in the database are not those of an office";
+The line 'examoffice: instance line 8: fault 5' names the first fault of the
+file; examoffice check --help has the numbers. Of 'examoffice: store fault F':
+  1  loaded: the office has a session already
+  8  failed: a statement failed, or memory was refused
+  9  no office: the tables in the database are not those of an office";
 
 // Below the help of `serve`.
 pub(crate) const SERVE: &str = "\
@@ -51,17 +51,17 @@ Example:
 Exit status:
   0  all connections were served
   1  not served, or not to the end: a line on standard error says why
-  2  the words are no command
+  2  the command line is wrong
 
-Standard output gets the line 'listening 127.0.0.1:8080' once connections are taken.
-'examoffice: connection fault F' on standard error tells of a connection; the next is served:
-  1  reading failed, or was not in time
-  2  writing failed, or was not in time
-  3  it was read more often than a connection may be
-  4  memory was refused
+The line 'listening 127.0.0.1:8080' on standard output says that the office
+serves. 'examoffice: connection fault F' on standard error ends a connection:
+  1  not read: reading failed, or was not in time
+  2  not written: writing failed, or was not in time
+  3  no reads left: it was read more often than a connection may be
+  4  no memory: memory was refused
 'examoffice: store fault F' ends the program:
-  8  a statement failed, or memory was refused
-  9  the tables in the database are not those of an office";
+  8  failed: a statement failed, or memory was refused
+  9  no office: the tables in the database are not those of an office";
 
 // Below the help of `export`.
 pub(crate) const EXPORT: &str = "\
@@ -71,15 +71,28 @@ Example:
 Exit status:
   0  the published solution is written
   1  not written, or not whole: a line on standard error says why
-  2  the words are no command
+  2  the command line is wrong
 
-'examoffice: store fault F' tells of the office:
-  8  a statement failed, or memory was refused
-  9  the tables in the database are not those of an office";
+Of 'examoffice: store fault F':
+  8  failed: a statement failed, or memory was refused
+  9  no office: the tables in the database are not those of an office";
+
+// Below the help of `explain`.
+pub(crate) const EXPLAIN: &str = "\
+Example:
+  examoffice explain file 5        for 'instance line 8: fault 5'
+  examoffice explain store 9       for 'store fault 9'
+  examoffice explain connection 1  for 'connection fault 1'
+
+Exit status:
+  0  explained
+  1  not written: a line on standard error says why
+  2  the command line is wrong, or there is no such fault";
 
 // Below the help of the program.
 pub(crate) const PROGRAM: &str = "\
 Example:
   examoffice check term.exam term.sol
 
-examoffice COMMAND --help has an example of each command, its exit statuses and its faults.";
+examoffice COMMAND --help has an example of each command, its exit statuses
+and its faults.";

@@ -3,7 +3,11 @@
 #![tactic(auto)]
 
 mod answering;
+mod causes;
+mod checking;
+mod commands;
 mod ending;
+mod explaining;
 mod exporting;
 mod faults;
 mod helps;

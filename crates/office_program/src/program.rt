@@ -1,11 +1,10 @@
 // The whole program, over a file system and two writers.
 ghost use Rattle.std.specs.Prelude.{◌≡◌, ◌≢◌, ◌≤◌, ◌↔◌, ◌⊎◌, ◌++◌, ◌∷◌, [], IfErr, IfOk, OnOk};
-ghost use Rattle.std.specs.Prelude.{ℕ, IsTrue, List, false, is_ok, length, map, string_bytes, true};
+ghost use Rattle.std.specs.Prelude.{ℕ, IsTrue, List, length, map, string_bytes};
 ghost use Rattle.std.specs.Io.KnownBytes.{Appends, Keeps};
 ghost use Rattle.std.specs.IoError.{error_kind};
 ghost use Rattle.std.specs.declared.io.ErrorKind.TheVariants as failure;
 ghost use Rattle.clap.specs.Words.{kind_of};
-ghost use Rattle.clap.specs.Faults.{fault_of};
 ghost use Rattle.clap.specs.declared.error.kind.ErrorKind.TheVariants as kind;
 ghost use Rattle.exam_terms.specs.declared.limits.TheConstants.{INSTANCE_BYTES};
 ghost use Rattle.office_check.specs.Check.{WritesReport};
@@ -13,21 +12,23 @@ ghost use Rattle.office_program.specs.Endings.{IsQuiet, IsSilent, LeavesPrinted}
 ghost use Rattle.office_program.specs.Endings.{TellsConnections, TellsFault, TellsNoTask};
 ghost use Rattle.office_program.specs.FaultLines.{fault_line, not_text_line};
 ghost use Rattle.office_program.specs.Load.{PrintsCounts};
-ghost use Rattle.office_program.specs.Program.{AreAnswered, IsMistake, IsTask, program};
-ghost use Rattle.office_program.specs.TaskFaults.{IsOfCheck, IsOfLoad, IsOfOffice};
+ghost use Rattle.office_program.specs.Program.{AreAnswered, IsMistake, IsTask, fault_of_words};
+ghost use Rattle.office_program.specs.TaskFaults.{IsOfLoad, IsOfOffice};
 ghost use Rattle.office_program.specs.Tasks.{IsOfTask, Prints};
 ghost use Rattle.office_program.specs.declared.words.Task.{Task};
 
+use crate::causes::tell_cause;
+use crate::checking::check;
 use crate::ending::Ending;
+use crate::explaining::explain;
 use crate::exporting::export;
-use crate::faults::{ProgramFault, fault_of_input, fault_of_load, fault_of_open, fault_on};
+use crate::faults::{ProgramFault, fault_of_input, fault_of_load, fault_of_open};
 use crate::loading::load_run;
 use crate::serving::serve;
 use crate::telling::{LongWork, tell};
 use crate::words::{Task, read_words};
 use clap::Error;
 use clap::error::ErrorKind;
-use office_check::{CheckFault, check_run};
 use office_files::{InputFault, instance_text};
 use office_http::Connection;
 use std::io::Write;
@@ -44,10 +45,11 @@ pub fn run_program<O: Write, E: Write>(
 ) -> Ending
     ensures within { result.status ≤ 3 }
 
-    // Done is a command or a call for help, and a mistake in the words is one that clap finds.
+    // Done is a command, or a call for help or the version; a mistake in the words is one that clap
+    // finds, or that they name no fault.
     ensures answered { result.status ≡ 0 → AreAnswered (map string_bytes words.now) }
-    ensures mistake { result.status ≡ 2 → fault_of program (map string_bytes words.now) ≢ [] }
-    ensures broken { result.status ≡ 3 → fault_of program (map string_bytes words.now) ≡ [] }
+    ensures mistake { result.status ≡ 2 → fault_of_words (map string_bytes words.now) ≢ [] }
+    ensures broken { result.status ≡ 3 → fault_of_words (map string_bytes words.now) ≡ [] }
 
     // A judgement is the report of two texts, written whole.
     ensures reported { result.status ≡ 3
@@ -60,7 +62,7 @@ pub fn run_program<O: Write, E: Write>(
     ensures unprinted { result.status ≡ 2 → out.new ≡ out.old }
 
     // What is done is the task of the words, and what it prints is written whole.
-    ensures done { result.status ≡ 0 → fault_of program (map string_bytes words.now) ≡ []
+    ensures done { result.status ≡ 0 → fault_of_words (map string_bytes words.now) ≡ []
         → (task : Task) × IsTask (map string_bytes words.now) task
         × Prints task (O.contents out.old) (O.contents out.new) }
 
@@ -76,7 +78,11 @@ pub fn run_program<O: Write, E: Write>(
     };
     match run_task(rt, &task, out, err) {
         Ok(ending) => ending,
-        Err(fault) => complain(&fault, err),
+        Err(fault) => {
+            let ending = complain(&fault, err);
+            tell_cause(rt, &task, &fault);
+            ending
+        }
     }
 }
 
@@ -106,53 +112,8 @@ fn run_task<'a, W: Write, E: Write>(
         Task::Load(database, instance) => load(rt, database, instance, out),
         Task::Serve(database, terms) => serve(rt, database, *terms, out, err),
         Task::Export(database) => export(rt, database, out),
+        Task::Explain(words) => explain(words, out),
     }
-}
-
-// `check`. Both files are open before either is read.
-fn check<'a, R: Files + AllocGlobal, W: Write>(
-    rt: &R,
-    instance: &'a str,
-    solution: &'a str,
-    out: &mut W,
-) -> Result<Ending, ProgramFault<'a>>
-    ensures status { IfOk result (λ ending. (ending.status ≡ 0) ⊎ (ending.status ≡ 3)) }
-    ensures reported { IfOk result (λ ending.
-        WritesReport (W.contents out.old) (W.contents out.new) ending.status) }
-
-    // A line that names a file names one of the two.
-    ensures fault { IfErr result (IsOfCheck instance.now solution.now) }
-    ensures unwritten { IfErr result (λ fault. fault ≢ ProgramFault.CannotWrite
-        → Keeps (W.contents out.old) (W.contents out.new)) }
-{
-    match both_open(fs::open(rt, instance), fs::open(rt, solution)) {
-        Ok((mut instance_file, mut solution_file)) => {
-            match check_run(rt.alloc(), &mut instance_file, &mut solution_file, out) {
-                Ok(status) => Ok(Ending::quiet(status)),
-                Err(fault) => Err(fault_on(fault, instance, solution)),
-            }
-        }
-        Err(fault) => Err(fault_on(fault, instance, solution)),
-    }
-}
-
-// Returns both files, or the fault of the first that could not be opened.
-fn both_open<F: Drop>(
-    instance: io::Result<F>,
-    solution: io::Result<F>,
-) -> Result<(F, F), CheckFault>
-    ensures { IfErr result (λ fault.
-        ((fault ≡ CheckFault.ReadInstance) × (is_ok instance ≡ false))
-        ⊎ ((fault ≡ CheckFault.ReadSolution) × (is_ok instance ≡ true)
-        × (is_ok solution ≡ false))) }
-{
-    let Ok(instance_file) = instance else {
-        return Err(CheckFault::ReadInstance);
-    };
-    let Ok(solution_file) = solution else {
-        return Err(CheckFault::ReadSolution);
-    };
-    Ok((instance_file, solution_file))
 }
 
 // `load`. The instance's file is read before the database is opened.

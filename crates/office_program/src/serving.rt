@@ -14,10 +14,11 @@ ghost use Rattle.office_program.specs.TaskFaults.{IsOfServe};
 use crate::answering::ServingDesk;
 use crate::ending::Ending;
 use crate::faults::{ProgramFault, fault_of_open, fault_of_run};
-use crate::telling::{LongWork, tell};
+use crate::telling::{LongWork, tell, tell_new};
 use crate::words::Terms;
 use office_connections::{Plan, Timed, listen, serve_run};
 use office_http::{Alter, Connection, Desk, Office, Routes};
+use std::fs;
 use std::io::{Read, Write};
 use std::time::Duration;
 
@@ -35,11 +36,15 @@ pub(crate) fn serve<'a, O: Write, E: Write>(
     ensures port { IfErr result
         (LeavesPort terms (O.contents out.old) (O.contents out.new)) }
 {
+    let is_new = fs::metadata(rt, database).is_err();
     tell(rt, LongWork::Opening(database));
     let conn = match Connection::open(rt, database) {
         Ok(conn) => conn,
         Err(error) => return Err(fault_of_open(error)),
     };
+    if is_new {
+        tell_new(rt, database);
+    }
     let (conn, done) = serve_stored(rt, database, conn, terms, out, err);
     // A log that can't be copied into the file stays beside it, and is read there.
     let _ = conn.close();

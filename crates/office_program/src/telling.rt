@@ -1,4 +1,4 @@
-// What is said on a terminal before work that takes long.
+// What is said on a terminal before work that takes long, and of a new office.
 ghost use Rattle.std.specs.Prelude.{◌++◌, ◌∷◌, [], OnOk};
 ghost use Rattle.std.specs.Io.KnownBytes.{Appends};
 ghost use Rattle.office_program.specs.LongWork.{work_line};
@@ -15,6 +15,8 @@ pub(crate) enum LongWork<'a> {
     Opening(&'a str),
     /// A draft is published in the office of a database.
     Publishing(&'a str),
+    /// An office is made in a new file.
+    Making(&'a str),
 }
 
 // It shows as its line.
@@ -35,6 +37,9 @@ impl fmt::Display for LongWork<'_> {
             LongWork::Publishing(path) => {
                 write!(f, "examoffice: publishing in {path}, which takes a while")
             }
+            LongWork::Making(path) => {
+                write!(f, "examoffice: {path} is new: an office without a session")
+            }
         }
     }
 }
@@ -54,7 +59,10 @@ pub(crate) fn tell(rt: &HostRuntime, work: LongWork<'_>) {
 // The path of the file that the work is on.
 fn path_of(work: LongWork<'_>) -> &str {
     match work {
-        LongWork::Loading(path) | LongWork::Opening(path) | LongWork::Publishing(path) => path,
+        LongWork::Loading(path)
+        | LongWork::Opening(path)
+        | LongWork::Publishing(path)
+        | LongWork::Making(path) => path,
     }
 }
 
@@ -72,4 +80,13 @@ fn print_work<W: Write>(work: LongWork<'_>, out: &mut W) -> io::Result<()>
         (Appends (W.contents out.old) (W.contents out.new) (work_line work.entry ++ 10 ∷ [])) }
 {
     writeln!(out, "{work}")
+}
+
+// Says on standard error that the office of a file is new, where that is a terminal.
+pub(crate) fn tell_new(rt: &HostRuntime, path: &str) {
+    let mut terminal = rt.stderr();
+    if terminal.is_terminal() {
+        // An office that can't be told to be new is served all the same.
+        let _ = print_work(LongWork::Making(path), &mut terminal);
+    }
 }

@@ -1,25 +1,26 @@
 // The words of a command line.
 ghost use Rattle.std.specs.IoError.{error_kind};
 ghost use Rattle.std.specs.Iterator.{Drains};
-ghost use Rattle.std.specs.Prelude.{◌≡◌, ◌≤◌, IfErr, IfOk, Some, false, map, string_bytes};
+ghost use Rattle.std.specs.Prelude.{◌≡◌, ◌≤◌, IfErr, IfOk, Some, map, string_bytes};
 ghost use Rattle.std.specs.Vec.Iter.{into_iter_steps};
 ghost use Rattle.std.specs.declared.io.ErrorKind.TheVariants as failure;
-ghost use Rattle.clap.specs.Words.{FailsBy, found_of, kind_of, rows_of, rule_of};
+ghost use Rattle.clap.specs.Words.{FailsBy, HasKind, found_of, kind_of, rows_of};
 ghost use Rattle.clap.specs.Words.{subcommand_of, subcommand_rows_of};
 ghost use Rattle.clap.specs.Faults.{fault_of};
-ghost use Rattle.clap.specs.declared.builder.texts.Texts.TheVariants.{One};
-ghost use Rattle.clap.specs.declared.error.kind.ErrorKind.TheVariants.{OutOfMemory};
+ghost use Rattle.clap.specs.declared.error.kind.ErrorKind.TheVariants.{InvalidValue, OutOfMemory};
 ghost use Rattle.clap.specs.Words.{first_of};
 ghost use Rattle.office_program.specs.CommandLine.{HasCheckValues, HasExportValues, HasLoadValues};
-ghost use Rattle.office_program.specs.CommandLine.{check_app, export_app, load_app, named_rule};
-ghost use Rattle.office_program.specs.CommandLine.{required_rule};
-ghost use Rattle.office_program.specs.Program.{AddsShape, IsTask, program};
+ghost use Rattle.office_program.specs.Explaining.{HasExplainValues, unexplained, unexplained_in};
+ghost use Rattle.office_program.specs.Program.{IsTask, IsTaskOf, fault_of_words, program};
 ghost use Rattle.office_program.specs.ServeLine.{HasNumber, HasServeValues, HasTerms};
-ghost use Rattle.office_program.specs.ServeLine.{connections_rule, patience_rule, port_rule};
-ghost use Rattle.office_program.specs.ServeLine.{serve_app};
 
+use crate::commands::{
+    check_command, explain_command, export_command, load_command, serve_command,
+};
+use crate::explaining::{MAX_FAULT, fault_words};
 use crate::helps;
-use clap::{Arg, ArgMatches, Command, Error, value_parser};
+use clap::error::ErrorKind;
+use clap::{ArgMatches, Command, Error};
 use office_connections::MAX_PORT;
 use std::alloc::{AllocError, Global};
 use std::env::Args;
@@ -36,6 +37,8 @@ pub enum Task {
     Serve(String, Terms),
     /// Prints what an office has published: its database's file.
     Export(String),
+    /// Explains a fault: its words.
+    Explain(&'static str),
 }
 
 /// On which terms an office is served.
@@ -49,11 +52,14 @@ pub struct Terms {
     pub patience: u32,
 }
 
+// Which release of the program this is.
+const VERSION: &str = "1.0.0";
+
 // How many connections `serve` takes at most.
-const MAX_CONNECTIONS: u32 = 1_000_000;
+pub(crate) const MAX_CONNECTIONS: u32 = 1_000_000;
 
 // The longest patience, a day in seconds.
-const MAX_PATIENCE: u32 = 86_400;
+pub(crate) const MAX_PATIENCE: u32 = 86_400;
 
 /// The words of the command line, in their order.
 pub fn words_of(alloc: Global, args: Args) -> io::Result<Vec<String>>
@@ -64,12 +70,20 @@ pub fn words_of(alloc: Global, args: Args) -> io::Result<Vec<String>>
 }
 
 /// The command that the words give, of which the first is the program's name. An error shows as
-/// the text for the user: a mistake in the words, a call for help, or out of memory.
+/// the text for the user: a mistake in the words, a call for help or the version, or out of memory.
 pub fn read_words(alloc: Global, words: &[String]) -> Result<Task, Error>
     ensures task { IfOk result (IsTask (map string_bytes words.now)) }
-    ensures kinds { FailsBy (fault_of program (map string_bytes words.now)) result }
+    ensures kinds { FailsBy (fault_of_words (map string_bytes words.now)) result }
 {
     let found = matches(alloc, words)?;
+    task_of(alloc, &found)
+}
+
+// The task of what clap found.
+fn task_of(alloc: Global, found: &ArgMatches<'_>) -> Result<Task, Error>
+    ensures task { IfOk result (IsTaskOf (subcommand_rows_of found.now)) }
+    ensures err { IfErr result (HasKind (unexplained_in (subcommand_rows_of found.now))) }
+{
     if let Some(values) = found.subcommand_matches("check") {
         return check_task(alloc, values);
     }
@@ -79,8 +93,11 @@ pub fn read_words(alloc: Global, words: &[String]) -> Result<Task, Error>
     if let Some(values) = found.subcommand_matches("serve") {
         return serve_task(alloc, values);
     }
-    match found.subcommand_matches("export") {
-        Some(values) => export_task(alloc, values),
+    if let Some(values) = found.subcommand_matches("export") {
+        return export_task(alloc, values);
+    }
+    match found.subcommand_matches("explain") {
+        Some(values) => explain_task(alloc, values),
         None => Err(Error::from(AllocError)),
     }
 }
@@ -95,128 +112,18 @@ fn matches(alloc: Global, words: &[String]) -> Result<ArgMatches<'_>, Error>
     let load = load_command(alloc)?;
     let serve = serve_command(alloc)?;
     let export = export_command(alloc)?;
+    let explain = explain_command(alloc)?;
     let whole = Command::new(alloc, "examoffice")
-        .about("The office of an examination session, by the rules of ITC 2007")
+        .version(VERSION)
+        .about("An office for exam timetables, and their checker, by the rules of ITC 2007")
         .after_help(helps::PROGRAM)
         .subcommand_required(true)
         .subcommand(check)?
         .subcommand(load)?
         .subcommand(serve)?
-        .subcommand(export)?;
+        .subcommand(export)?
+        .subcommand(explain)?;
     whole.try_get_matches_from(words)
-}
-
-// The command `check`.
-fn check_command<'a>(alloc: Global) -> Result<Command<'a>, AllocError>
-    ensures { IfOk result (λ c. AddsShape c check_app.top) }
-{
-    let instance = required(alloc, "instance", "INSTANCE", "The file of the instance");
-    let solution = required(alloc, "solution", "SOLUTION", "The file of the solution");
-    Command::new(alloc, "check")
-        .about("Judges a solution by the rules of ITC 2007, examination track")
-        .after_help(helps::CHECK)
-        .arg(instance)?
-        .arg(solution)
-}
-
-// An argument that has to be there.
-fn required<'a>(alloc: Global, id: &'a str, name: &'a str, help: &'a str) -> Arg<'a>
-    ensures rule { rule_of result ≡ required_rule id.now }
-    ensures local { result.global ≡ false }
-    ensures name { result.val_names ≡ One name.entry }
-    ensures help { result.help ≡ Some help.entry }
-{
-    Arg::new(alloc, id)
-        .value_name(name)
-        .help(help)
-        .required(true)
-}
-
-// The command `load`.
-fn load_command<'a>(alloc: Global) -> Result<Command<'a>, AllocError>
-    ensures { IfOk result (λ c. AddsShape c load_app.top) }
-{
-    let database = named(alloc, "db", "FILE", "The file of the office's database");
-    let instance = required(alloc, "instance", "INSTANCE", "The file of the instance");
-    Command::new(alloc, "load")
-        .about("Loads an instance with its enrolments into an office, once")
-        .after_help(helps::LOAD)
-        .arg(database)?
-        .arg(instance)
-}
-
-// An option that has to be there, with a value.
-fn named<'a>(alloc: Global, id: &'a str, name: &'a str, help: &'a str) -> Arg<'a>
-    ensures rule { rule_of result ≡ named_rule id.now }
-    ensures local { result.global ≡ false }
-    ensures name { result.val_names ≡ One name.entry }
-    ensures help { result.help ≡ Some help.entry }
-{
-    required(alloc, id, name, help).long(id)
-}
-
-// The command `serve`.
-fn serve_command<'a>(alloc: Global) -> Result<Command<'a>, AllocError>
-    ensures { IfOk result (λ c. AddsShape c serve_app.top) }
-{
-    let database = named(alloc, "db", "FILE", "The file of the office's database");
-    Command::new(alloc, "serve")
-        .about("Serves an office over HTTP, one connection after another")
-        .after_help(helps::SERVE)
-        .arg(database)?
-        .arg(port_option(alloc))?
-        .arg(connections_option(alloc))?
-        .arg(patience_option(alloc))
-}
-
-// The option that says on which port the office listens.
-fn port_option<'a>(alloc: Global) -> Arg<'a>
-    ensures rule { rule_of result ≡ port_rule }
-    ensures local { result.global ≡ false }
-{
-    Arg::new(alloc, "port")
-        .long("port")
-        .value_name("N")
-        .help("The port of 127.0.0.1; 0 takes any")
-        .required(true)
-        .value_parser(value_parser!(u16).range(0..=i64::from(MAX_PORT)))
-}
-
-// The option that says how many connections are served.
-fn connections_option<'a>(alloc: Global) -> Arg<'a>
-    ensures rule { rule_of result ≡ connections_rule }
-    ensures local { result.global ≡ false }
-{
-    Arg::new(alloc, "connections")
-        .long("connections")
-        .value_name("K")
-        .help("How many connections are served")
-        .required(true)
-        .value_parser(value_parser!(u32).range(1..=i64::from(MAX_CONNECTIONS)))
-}
-
-// The option that says how patient the office is.
-fn patience_option<'a>(alloc: Global) -> Arg<'a>
-    ensures rule { rule_of result ≡ patience_rule }
-    ensures local { result.global ≡ false }
-{
-    Arg::new(alloc, "patience")
-        .long("patience")
-        .value_name("SECONDS")
-        .help("How long a client may take for a message, and for a reply")
-        .default_value("30")
-        .value_parser(value_parser!(u32).range(1..=i64::from(MAX_PATIENCE)))
-}
-
-// The command `export`.
-fn export_command<'a>(alloc: Global) -> Result<Command<'a>, AllocError>
-    ensures { IfOk result (λ c. AddsShape c export_app.top) }
-{
-    let database = named(alloc, "db", "FILE", "The file of the office's database");
-    Command::new(alloc, "export")
-        .about("Prints the solution that an office has published")
-        .after_help(helps::EXPORT)
-        .arg(database)
 }
 
 // The task of `check` with these values.
@@ -296,4 +203,29 @@ fn export_task(alloc: Global, values: &ArgMatches<'_>) -> Result<Task, Error>
 {
     let database = value_of(alloc, values, "db")?;
     Ok(Task::Export(database))
+}
+
+// The task of `explain` with these values, which name a fault or not.
+fn explain_task(alloc: Global, values: &ArgMatches<'_>) -> Result<Task, Error>
+    ensures ok { IfOk result (HasExplainValues (rows_of (found_of values.now))) }
+    ensures err { IfErr result (HasKind (unexplained (rows_of (found_of values.now)))) }
+{
+    let kind = value_of(alloc, values, "kind")?;
+    let number = number_of(values, "number", 1, MAX_FAULT)?;
+    match fault_words(&kind, number) {
+        Some(words) => Ok(Task::Explain(words)),
+        None => Err(no_such_fault(alloc)?),
+    }
+}
+
+// The mistake of words that name no fault.
+fn no_such_fault(alloc: Global) -> Result<Error, AllocError>
+    ensures { IfOk result (λ e. kind_of e ≡ InvalidValue) }
+{
+    explain_command(alloc)?
+        .bin_name("examoffice explain")?
+        .error(
+            ErrorKind::InvalidValue,
+            "there is no such fault: file has 1 to 13, store 1 to 9, connection 1 to 4",
+        )
 }

@@ -21,7 +21,7 @@ returns-clause-told g c = λ one told. inl (
     fault = c.in-Err-run_task.ensures.fault;
     before = c.run_task.new.err;
     silent = c.run_task.ensures.silent;
-    line = c.complain.ensures.told told;
+    line = c.complain-ending.ensures.told told;
     printed = c.in-Err-run_task.ensures.unwritten;
   },
 )

@@ -4,33 +4,41 @@ use Rattle.clap.specs.Words.{FailsBy, app_of, is_simple, new_app, subcommand_of,
 use Rattle.clap.specs.Faults.{fault_of, is_simple_and_free}
 use Rattle.clap.specs.Simple.{app_of_fields}
 use Rattle.office_program.specs.CommandLine.{check_app, export_app, load_app}
-use Rattle.office_program.specs.Program.{program, wants_subcommand}
+use Rattle.office_program.specs.Explaining.{explain_app}
+use Rattle.office_program.specs.Program.{program, tells_version, wants_subcommand}
 use Rattle.office_program.specs.ServeLine.{serve_app}
 use Rattle.office_program.proofs.words.matches.Goals as goal
 
 -- the command that is built is the program
 abbrev whole_is : (c : goal.After-try_get_matches_from) → app_of c.in_ok-whole.whole ≡ program
 whole_is c =
-    let named : app_of c.after_help.result ≡ new_app (codes "examoffice") =
-    ap app_of_fields c.after_help.ensures ∙ ap app_of_fields c.about.ensures ∙ c.new.ensures.app in
+    let named : app_of c.after_help.result ≡ tells_version (new_app (codes "examoffice")) =
+    ap app_of_fields c.after_help.ensures ∙ ap app_of_fields c.about.ensures
+    ∙ ap app_of_fields c.version.ensures ∙ ap tells_version c.new.ensures.app in
     let wants : app_of c.subcommand_required.result
-    ≡ wants_subcommand (new_app (codes "examoffice")) =
+    ≡ wants_subcommand (tells_version (new_app (codes "examoffice"))) =
     ap app_of_fields c.subcommand_required.ensures ∙ ap wants_subcommand named in
     let judges : app_of c.in_ok-subcommand.field-0 ≡ with_subcommand
-    (wants_subcommand (new_app (codes "examoffice"))) check_app.top =
+    (wants_subcommand (tells_version (new_app (codes "examoffice")))) check_app.top =
     c.in_ok-check.ensures _ _ c.in_ok-subcommand.ensures
     ∙ ap (λ a. with_subcommand a check_app.top) wants in
     let loads : app_of c.in_ok-subcommand-2.field-0 ≡ with_subcommand (with_subcommand
-    (wants_subcommand (new_app (codes "examoffice"))) check_app.top) load_app.top =
+    (wants_subcommand (tells_version (new_app (codes "examoffice")))) check_app.top)
+    load_app.top =
     c.in_ok-load.ensures _ _ c.in_ok-subcommand-2.ensures
     ∙ ap (λ a. with_subcommand a load_app.top) judges in
     let serves : app_of c.in_ok-subcommand-3.field-0 ≡ with_subcommand (with_subcommand
-    (with_subcommand (wants_subcommand (new_app (codes "examoffice"))) check_app.top) load_app.top)
-    serve_app.top =
+    (with_subcommand (wants_subcommand (tells_version (new_app (codes "examoffice"))))
+    check_app.top) load_app.top) serve_app.top =
     c.in_ok-serve.ensures _ _ c.in_ok-subcommand-3.ensures
     ∙ ap (λ a. with_subcommand a serve_app.top) loads in
-    c.in_ok-export.ensures _ _ c.in_ok-whole.ensures
-    ∙ ap (λ a. with_subcommand a export_app.top) serves
+    let exports : app_of c.in_ok-subcommand-4.field-0 ≡ with_subcommand (with_subcommand
+    (with_subcommand (with_subcommand (wants_subcommand (tells_version
+    (new_app (codes "examoffice")))) check_app.top) load_app.top) serve_app.top) export_app.top =
+    c.in_ok-export.ensures _ _ c.in_ok-subcommand-4.ensures
+    ∙ ap (λ a. with_subcommand a export_app.top) serves in
+    c.in_ok-explain.ensures _ _ c.in_ok-whole.ensures
+    ∙ ap (λ a. with_subcommand a explain_app.top) exports
 
 pub returns-clause-found : goal.returns-clause-found
 returns-clause-found c =

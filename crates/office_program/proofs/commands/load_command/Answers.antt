@@ -3,7 +3,7 @@ use Rattle.std.proofs.lemmas.Result.{IfOk-weaker}
 use Rattle.clap.specs.Words.{App, app_of, new_app, with_rule, with_subcommand}
 use Rattle.clap.specs.Simple.{app_of_fields}
 use Rattle.office_program.specs.CommandLine.{load_app, named_rule}
-use Rattle.office_program.proofs.words.load_command.Goals as goal
+use Rattle.office_program.proofs.commands.load_command.Goals as goal
 
 pub returns : goal.returns
 returns c =

@@ -4,7 +4,7 @@ use Rattle.clap.specs.Words.{App, app_of, new_app, with_rule, with_subcommand}
 use Rattle.clap.specs.Simple.{app_of_fields}
 use Rattle.office_program.specs.CommandLine.{named_rule}
 use Rattle.office_program.specs.ServeLine.{connections_rule, port_rule, serve_app}
-use Rattle.office_program.proofs.words.serve_command.Goals as goal
+use Rattle.office_program.proofs.commands.serve_command.Goals as goal
 
 pub returns : goal.returns
 returns c =

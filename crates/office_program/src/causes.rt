@@ -1,0 +1,201 @@
+// What is said of a fault after its line, on a terminal or to a journal: what it is about.
+use crate::explaining::fault_words;
+use crate::faults::ProgramFault;
+use crate::words::Task;
+use office_files::{FaultKind, FileFault, instance_text};
+use office_http::StoreFault;
+use office_model::kind_number;
+use sqlite::Error;
+use std::io::{IsTerminal, Read, Write};
+use std::{env, fmt, fs, io};
+
+// Says what a fault of the task is about, if standard error is a terminal or goes to a journal.
+pub(crate) fn tell_cause(rt: &HostRuntime, task: &Task, fault: &ProgramFault<'_>) {
+    let mut terminal = rt.stderr();
+    if terminal.is_terminal() || env::var(rt, "JOURNAL_STREAM").is_ok() {
+        // The fault has its line, whether or not this one can be printed.
+        let _ = print_cause(rt, task, fault, &mut terminal);
+    }
+}
+
+// Prints the line of what a fault is about, if there is more to say of it.
+fn print_cause<W: Write>(
+    rt: &HostRuntime,
+    task: &Task,
+    fault: &ProgramFault<'_>,
+    out: &mut W,
+) -> io::Result<()> {
+    match fault {
+        ProgramFault::CannotRead(path) => print_unread(rt, path, out),
+        ProgramFault::Instance(fault) => print_faulty(rt, instance_of(task), *fault, out),
+        ProgramFault::Solution(fault) => print_faulty(rt, solution_of(task), *fault, out),
+        ProgramFault::CannotOpen(error) => print_unopened(rt, database_of(task), *error, out),
+        ProgramFault::Store(fault) => print_refused(database_of(task), *fault, out),
+        ProgramFault::CannotWrite => writeln!(out, "standard output: closed, or its disk is full"),
+        ProgramFault::NoPublication | ProgramFault::CannotListen | ProgramFault::NoMemory => Ok(()),
+    }
+}
+
+// Prints why a file can't be read.
+fn print_unread<W: Write>(rt: &HostRuntime, path: &str, out: &mut W) -> io::Result<()> {
+    match try_reading(rt, path) {
+        Ok(()) => writeln!(out, "{path}: reading failed, or didn't end"),
+        Err(reason) => writeln!(out, "{path}: {reason}"),
+    }
+}
+
+// Reads a byte of a file or a folder. Others, such as pipes, may not be opened twice.
+fn try_reading(rt: &HostRuntime, path: &str) -> io::Result<()> {
+    let found = fs::metadata(rt, path)?;
+    if found.is_file() || found.is_dir() {
+        let mut byte = [0u8; 1];
+        let _ = fs::open(rt, path)?.read(&mut byte)?;
+    }
+    Ok(())
+}
+
+// The path of the instance's file.
+fn instance_of(task: &Task) -> &str {
+    match task {
+        Task::Check(instance, _) | Task::Load(_, instance) => instance,
+        _ => "",
+    }
+}
+
+// The path of the solution's file.
+fn solution_of(task: &Task) -> &str {
+    match task {
+        Task::Check(_, solution) => solution,
+        _ => "",
+    }
+}
+
+// The path of the database's file.
+fn database_of(task: &Task) -> &str {
+    match task {
+        Task::Load(database, _) | Task::Serve(database, _) | Task::Export(database) => database,
+        _ => "",
+    }
+}
+
+// Prints a fault of a file in words, with the text of its line if the file can be read again.
+fn print_faulty<W: Write>(
+    rt: &HostRuntime,
+    path: &str,
+    fault: FileFault,
+    out: &mut W,
+) -> io::Result<()> {
+    let FileFault { line, what } = fault;
+    if line == 0 {
+        let words = words_in_short(what);
+        return writeln!(out, "{path}: {words}");
+    }
+    let text = text_again(rt, path);
+    match line_of(&text, line) {
+        Some(found) => {
+            let words = words_beside(what, found);
+            let shown = Shown { line: found };
+            writeln!(out, "{path} line {line}: {words}: {shown}")
+        }
+        None => {
+            let words = words_in_short(what);
+            writeln!(out, "{path} line {line}: {words}")
+        }
+    }
+}
+
+// A fault of a file in short.
+fn words_in_short(what: FaultKind) -> &'static str {
+    match fault_words("file", u32::from(kind_number(what))) {
+        Some(words) => match words.split_once(": ") {
+            Some((short, _)) => short,
+            None => words,
+        },
+        None => "",
+    }
+}
+
+// The text of a file, which is empty if it can't be read again.
+fn text_again(rt: &HostRuntime, path: &str) -> Vec<u8> {
+    read_again(rt, path).unwrap_or(Vec::new(rt.alloc()))
+}
+
+// The text of a file, if it can be read again.
+fn read_again(rt: &HostRuntime, path: &str) -> Option<Vec<u8>> {
+    if !fs::metadata(rt, path).ok()?.is_file() {
+        return None;
+    }
+    let mut file = fs::open(rt, path).ok()?;
+    instance_text(rt.alloc(), &mut file).ok()
+}
+
+// The line of this number, from 1, if it is there and has more than blanks.
+fn line_of(text: &[u8], number: u32) -> Option<&[u8]> {
+    let before = number.checked_sub(1)?;
+    let found = text.split(|byte| *byte == b'\n').nth(before as usize)?;
+    if found.trim_ascii_end().is_empty() {
+        None
+    } else {
+        Some(found)
+    }
+}
+
+// A fault of a file in short, or that the file is the other one of a session and its solution.
+fn words_beside(what: FaultKind, line: &[u8]) -> &'static str {
+    if what == FaultKind::MissingSection && is_place(line) {
+        return "a solution, not a session";
+    }
+    if what == FaultKind::BadNumber && line.starts_with(b"[Exams") {
+        return "a session, not a solution";
+    }
+    words_in_short(what)
+}
+
+// Whether a line is a period and a room, as those of solutions are.
+fn is_place(line: &[u8]) -> bool {
+    let commas = line.iter().filter(|byte| **byte == b',').count();
+    commas == 1
+        && line
+            .iter()
+            .all(|byte| byte.is_ascii_digit() || b", \t\r".contains(byte))
+}
+
+// The beginning of a line, with a blank for each byte that isn't printable.
+#[derive(Clone, Copy)]
+struct Shown<'a> {
+    line: &'a [u8],
+}
+
+impl fmt::Display for Shown<'_> {
+    fn fmt<W: fmt::Write>(&self, f: &mut fmt::Formatter<W>) -> fmt::Result {
+        for byte in self.line.trim_ascii_end().iter().take(SHOWN_BYTES) {
+            let printable = *byte == b' ' || byte.is_ascii_graphic();
+            f.write_char(if printable { char::from(*byte) } else { ' ' })?;
+        }
+        Ok(())
+    }
+}
+
+// How much of a line is shown.
+const SHOWN_BYTES: usize = 200;
+
+// Prints why a database can't be opened.
+fn print_unopened<W: Write>(
+    rt: &HostRuntime,
+    path: &str,
+    error: Error,
+    out: &mut W,
+) -> io::Result<()> {
+    match try_reading(rt, path) {
+        Ok(()) => writeln!(out, "{path}: {error}"),
+        Err(reason) => writeln!(out, "{path}: {reason}"),
+    }
+}
+
+// Prints why an office refuses.
+fn print_refused<W: Write>(path: &str, fault: StoreFault, out: &mut W) -> io::Result<()> {
+    match fault_words("store", u32::from(fault.number())) {
+        Some(words) => writeln!(out, "{path}: {words}"),
+        None => Ok(()),
+    }
+}

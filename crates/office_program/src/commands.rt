@@ -1,0 +1,159 @@
+// The commands of the command line, as clap takes them.
+ghost use Rattle.std.specs.Prelude.{◌≡◌, IfOk, Some, false};
+ghost use Rattle.clap.specs.Words.{rule_of};
+ghost use Rattle.clap.specs.declared.builder.texts.Texts.TheVariants.{One};
+ghost use Rattle.office_program.specs.CommandLine.{check_app, export_app, load_app, named_rule};
+ghost use Rattle.office_program.specs.CommandLine.{required_rule};
+ghost use Rattle.office_program.specs.Explaining.{explain_app, fault_rule};
+ghost use Rattle.office_program.specs.Program.{AddsShape};
+ghost use Rattle.office_program.specs.ServeLine.{connections_rule, patience_rule, port_rule};
+ghost use Rattle.office_program.specs.ServeLine.{serve_app};
+
+use crate::explaining::MAX_FAULT;
+use crate::helps;
+use crate::words::{MAX_CONNECTIONS, MAX_PATIENCE};
+use clap::{Arg, Command, value_parser};
+use office_connections::MAX_PORT;
+use std::alloc::{AllocError, Global};
+
+// The command `check`.
+pub(crate) fn check_command<'a>(alloc: Global) -> Result<Command<'a>, AllocError>
+    ensures { IfOk result (λ c. AddsShape c check_app.top) }
+{
+    let instance = required(alloc, "instance", "INSTANCE", "The file of the instance");
+    let solution = required(alloc, "solution", "SOLUTION", "The file of the solution");
+    Command::new(alloc, "check")
+        .about("Judge a solution by the rules of ITC 2007, examination track")
+        .after_help(helps::CHECK)
+        .arg(instance)?
+        .arg(solution)
+}
+
+// An argument that has to be there.
+fn required<'a>(alloc: Global, id: &'a str, name: &'a str, help: &'a str) -> Arg<'a>
+    ensures rule { rule_of result ≡ required_rule id.now }
+    ensures local { result.global ≡ false }
+    ensures name { result.val_names ≡ One name.entry }
+    ensures help { result.help ≡ Some help.entry }
+{
+    Arg::new(alloc, id)
+        .value_name(name)
+        .help(help)
+        .required(true)
+}
+
+// The command `load`.
+pub(crate) fn load_command<'a>(alloc: Global) -> Result<Command<'a>, AllocError>
+    ensures { IfOk result (λ c. AddsShape c load_app.top) }
+{
+    let database = named(alloc, "db", "FILE", "The file of the office's database");
+    let instance = required(alloc, "instance", "INSTANCE", "The file of the instance");
+    Command::new(alloc, "load")
+        .about("Load an instance with its enrolments into an office, once")
+        .after_help(helps::LOAD)
+        .arg(database)?
+        .arg(instance)
+}
+
+// An option that has to be there, with a value.
+fn named<'a>(alloc: Global, id: &'a str, name: &'a str, help: &'a str) -> Arg<'a>
+    ensures rule { rule_of result ≡ named_rule id.now }
+    ensures local { result.global ≡ false }
+    ensures name { result.val_names ≡ One name.entry }
+    ensures help { result.help ≡ Some help.entry }
+{
+    required(alloc, id, name, help).long(id)
+}
+
+// The command `serve`.
+pub(crate) fn serve_command<'a>(alloc: Global) -> Result<Command<'a>, AllocError>
+    ensures { IfOk result (λ c. AddsShape c serve_app.top) }
+{
+    let database = named(alloc, "db", "FILE", "The file of the office's database");
+    Command::new(alloc, "serve")
+        .about("Serve an office over HTTP, one connection after another")
+        .after_help(helps::SERVE)
+        .arg(database)?
+        .arg(port_option(alloc))?
+        .arg(connections_option(alloc))?
+        .arg(patience_option(alloc))
+}
+
+// The option that says on which port the office listens.
+fn port_option<'a>(alloc: Global) -> Arg<'a>
+    ensures rule { rule_of result ≡ port_rule }
+    ensures local { result.global ≡ false }
+{
+    Arg::new(alloc, "port")
+        .long("port")
+        .value_name("N")
+        .help("The port of 127.0.0.1; 0 takes any")
+        .required(true)
+        .value_parser(value_parser!(u16).range(0..=i64::from(MAX_PORT)))
+}
+
+// The option that says how many connections are served.
+fn connections_option<'a>(alloc: Global) -> Arg<'a>
+    ensures rule { rule_of result ≡ connections_rule }
+    ensures local { result.global ≡ false }
+{
+    Arg::new(alloc, "connections")
+        .long("connections")
+        .value_name("K")
+        .help("How many connections are served")
+        .required(true)
+        .value_parser(value_parser!(u32).range(1..=i64::from(MAX_CONNECTIONS)))
+}
+
+// The option that says how patient the office is.
+fn patience_option<'a>(alloc: Global) -> Arg<'a>
+    ensures rule { rule_of result ≡ patience_rule }
+    ensures local { result.global ≡ false }
+{
+    Arg::new(alloc, "patience")
+        .long("patience")
+        .value_name("SECONDS")
+        .help("Timeout of a message, and of a reply")
+        .default_value("30")
+        .value_parser(value_parser!(u32).range(1..=i64::from(MAX_PATIENCE)))
+}
+
+// The command `export`.
+pub(crate) fn export_command<'a>(alloc: Global) -> Result<Command<'a>, AllocError>
+    ensures { IfOk result (λ c. AddsShape c export_app.top) }
+{
+    let database = named(alloc, "db", "FILE", "The file of the office's database");
+    Command::new(alloc, "export")
+        .about("Print the solution that an office has published")
+        .after_help(helps::EXPORT)
+        .arg(database)
+}
+
+// The command `explain`.
+pub(crate) fn explain_command<'a>(alloc: Global) -> Result<Command<'a>, AllocError>
+    ensures { IfOk result (λ c. AddsShape c explain_app.top) }
+{
+    let kind = required(
+        alloc,
+        "kind",
+        "KIND",
+        "The kind of fault: file, store or connection",
+    );
+    Command::new(alloc, "explain")
+        .about("Explain the number of a fault in words")
+        .after_help(helps::EXPLAIN)
+        .arg(kind)?
+        .arg(fault_argument(alloc))
+}
+
+// The argument that is the number of a fault.
+fn fault_argument<'a>(alloc: Global) -> Arg<'a>
+    ensures rule { rule_of result ≡ fault_rule }
+    ensures local { result.global ≡ false }
+{
+    Arg::new(alloc, "number")
+        .value_name("NUMBER")
+        .help("The number of the fault")
+        .required(true)
+        .value_parser(value_parser!(u32).range(1..=i64::from(MAX_FAULT)))
+}
