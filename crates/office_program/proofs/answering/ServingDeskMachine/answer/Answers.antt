@@ -5,7 +5,7 @@ use Rattle.office_program.proofs.answering.ServingDeskMachine.answer.Goals as go
 pub returns : goal.returns
 returns g c = (
   refl,
-  answered_on g.S.Store _ _ _ _ _ c.reply-answered.ensures.answered c.is_shut_after.ensures.done
-      c.is_shut_after.ensures.still c.is_shut_after.ensures.clean,
-  c.is_shut_after.ensures.shut,
+  answered_on g.S.Store _ _ _ _ _ c.reply-answered.ensures.answered c.is_shut_after-self.ensures.done
+      c.is_shut_after-self.ensures.still c.is_shut_after-self.ensures.clean,
+  c.is_shut_after-self.ensures.shut,
 )
