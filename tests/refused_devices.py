@@ -4,7 +4,7 @@ import itertools
 
 import run_serve
 from refusing import (
-    COMMANDS, DISK, RECEIVE, SEND, STORE_FAULT, UNAVAILABLE, Office,
+    ALL_UNAVAILABLE, COMMANDS, DISK, RECEIVE, SEND, STORE_FAULT, UNAVAILABLE, Office,
     connection_fault, copy_database, filled_log, is_change)
 from serve_cases import EXAMPLES, PUBLISHED, SMALL, message, reply
 
@@ -110,7 +110,8 @@ def call_in_turn(run, name, path, question, first=()):
     """A message, while each of its calls of the disk is refused in turn. If it is answered, all
     that was written is synced, and the next process finds it done. Otherwise the reply is 503, or
     none comes, and the next process finds the office before the message or after it. Until then the
-    office shows what it did before, or it has ended, with store fault 8 and status 1."""
+    office shows what it did before, or it has ended, with store fault 8 and status 1. As long as the
+    disk refuses all calls, each question may be answered 503, but no longer."""
     office = Office(run, path, first=first)
     before, answer, after = office.shown(), office.reply(question), office.shown()
     office.ending()
@@ -122,6 +123,8 @@ def call_in_turn(run, name, path, question, first=()):
             run.refuse(DISK, 1 if refused and how[0] else 0, *how)
             shown = office.shown()
             run.stop_refusing(DISK)
+            if how[0] and shown == ALL_UNAVAILABLE:
+                shown = office.shown()
             ending = office.ending(is_over=not shown)
             then, next_ending = found(run, office.database)
             if came == answer:

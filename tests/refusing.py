@@ -67,6 +67,7 @@ def questions():
 
 
 QUESTIONS = b"".join(questions())
+ALL_UNAVAILABLE = UNAVAILABLE * sum(1 for _ in questions())
 
 
 # ---- States and commands
