@@ -30,6 +30,27 @@ pub(crate) fn new_desk(alloc: Global) -> Result<Desk<MemStore>, Fail> {
     }
 }
 
+// Has the messages of a connection carried out at the desk.
+pub(crate) fn carry_out(
+    alloc: Global,
+    desk: &mut Desk<MemStore>,
+    asked: &[u8],
+    messages: u32,
+) -> Result<(), Fail> {
+    let mut rest = asked;
+    let mut replies = Vec::new(alloc);
+    let mut turns = 100;
+    let closed = Served {
+        answered: messages,
+        end: End::Closed,
+    };
+    if serve(alloc, &mut rest, &mut replies, desk, &mut turns) == Ok(closed) {
+        Ok(())
+    } else {
+        Err("not carried out")?
+    }
+}
+
 #[test]
 fn a_connection_is_served(rt: HostRuntime) -> Result<(), Fail> {
     let alloc = rt.alloc();

@@ -2,7 +2,11 @@
 #![tactic(auto)]
 
 #[cfg(test)]
+mod clients;
+#[cfg(test)]
 mod connections;
+#[cfg(test)]
+mod sides;
 #[cfg(test)]
 mod sockets;
 #[cfg(test)]

@@ -1,8 +1,6 @@
 // A published office that a candidate asks over a socket of this machine.
-use crate::connections::new_desk;
-use office_http::{Desk, End, Served, serve};
-use sqlite::MemStore;
-use std::alloc::Global;
+use crate::connections::{carry_out, new_desk};
+use office_http::{End, Served, serve};
 use std::io::{Read, Write};
 use std::net::{Ipv4Addr, SocketAddr, TcpListener, TcpStream};
 use std::test::Fail;
@@ -31,27 +29,11 @@ Content-Length: 229\r\n\r\n\
 {\"date\":\"2005-04-15\",\"exam\":1,\"period\":1,\"room\":0,\"seat\":1,\"start\":\"14:00:00\",\"state\":\"seated\"}\
 ],\"penalty\":8}";
 
-// Has the small session published at the desk.
-fn publish(alloc: Global, desk: &mut Desk<MemStore>) -> Result<(), Fail> {
-    let mut asked = PUBLISHED;
-    let mut replies = Vec::new(alloc);
-    let mut turns = 100;
-    let closed = Served {
-        answered: 3,
-        end: End::Closed,
-    };
-    if serve(alloc, &mut asked, &mut replies, desk, &mut turns) == Ok(closed) {
-        Ok(())
-    } else {
-        Err("not published")?
-    }
-}
-
 #[test]
 fn a_candidate_asks_over_a_socket(rt: HostRuntime) -> Result<(), Fail> {
     let alloc = rt.alloc();
     let mut desk = new_desk(alloc)?;
-    publish(alloc, &mut desk)?;
+    carry_out(alloc, &mut desk, PUBLISHED, 3)?;
     let listener = TcpListener::bind(&rt, SocketAddr::from((Ipv4Addr::LOCALHOST, 0)))?;
     let mut asking = TcpStream::connect(&rt, listener.local_addr()?)?;
     asking.write_all(REQUEST)?;

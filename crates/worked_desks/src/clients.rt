@@ -1,0 +1,293 @@
+// Clients of an office, one after another: what each is replied, and what a fault leaves.
+use crate::connections::{carry_out, new_desk};
+use crate::sides::{Calls, HandClock, Side};
+use office_connections::{MayShut, Plan, serve_clients};
+use office_http::{AnsweringDesk, Reply, Request, Routes};
+use office_messages::Machine;
+use sqlite::MemStore;
+use std::alloc::{AllocError, Global};
+use std::process::Abort;
+use std::test::Fail;
+use std::time::Duration;
+
+// The smallest session is loaded, and a draft made in which nothing is placed.
+const DRAFTED: &[u8] = b"PUT /instance HTTP/1.1\r\nHost: office\r\nX-Caller: office\r\n\
+Content-Length: 134\r\n\r\n\
+[Exams:1]\n0\n[Periods:1]\n01:01:2000,00:00:00,0,0\n[Rooms:1]\n0,0\n\
+[PeriodHardConstraints]\n[RoomHardConstraints]\n[InstitutionalWeightings]\n\
+PUT /drafts/1 HTTP/1.1\r\nHost: office\r\nX-Caller: office\r\n\r\n";
+
+// The messages of a client, of 54 and 45 bytes, and their replies, of 82 and 109.
+const DROP: &[u8] = b"DELETE /drafts/1 HTTP/1.1\r\nHost:o\r\nX-Caller:office\r\n\r\n";
+
+const PAGE: &[u8] = b"GET /me HTTP/1.1\r\nHost:o\r\nX-Caller:cand:1\r\n\r\n";
+
+const DROPPED: &[u8] = b"HTTP/1.1 200 OK\r\nContent-Type: application/json\r\n\
+Content-Length: 11\r\n\r\n{\"draft\":1}";
+
+const SHOWN: &[u8] = b"HTTP/1.1 200 OK\r\nContent-Type: application/json\r\n\
+Content-Length: 38\r\n\r\n{\"candidate\":1,\"exams\":[],\"penalty\":0}";
+
+// What the next client asks, and what it is replied if the draft is there, and if it isn't.
+const DRAFT: &[u8] = b"GET /drafts/1 HTTP/1.1\r\nHost:o\r\nX-Caller:office\r\n\r\n";
+
+const THERE: &[u8] = b"HTTP/1.1 200 OK\r\nContent-Type: application/json\r\n\
+Content-Length: 70\r\n\r\n\
+{\"draft\":1,\"exams\":[{\"exam\":0,\"period\":null,\"room\":null}],\"penalty\":0}";
+
+const NOT_THERE: &[u8] = b"HTTP/1.1 404 Not Found\r\nContent-Type: application/json\r\n\
+Content-Length: 17\r\n\r\n{\"error\":\"draft\"}";
+
+const READ_FAULT: &[u8] = b"examoffice: connection fault 1\n";
+
+const WRITE_FAULT: &[u8] = b"examoffice: connection fault 2\n";
+
+// A client, and what is expected of it.
+#[derive(Clone, Copy)]
+struct Case<'a> {
+    asked: &'a [u8],
+    reads: Calls,
+    writes: Calls,
+    patience: u64,
+    replied: &'a [u8],
+    line: &'a [u8],
+    // Whether the draft is there afterwards.
+    is_there: bool,
+}
+
+// What came of three clients, and the lines of their faults.
+#[derive(Drop)]
+struct Outcome {
+    first: Vec<u8>,
+    second: Vec<u8>,
+    third: Vec<u8>,
+    lines: Vec<u8>,
+    accepted: u32,
+}
+
+// A desk that is never shut.
+#[derive(Drop)]
+struct OpenDesk<'a> {
+    answering: AnsweringDesk<'a, MemStore>,
+}
+
+impl Machine for OpenDesk<'_> {
+    ghost use Rattle.std.specs.Prelude.{⊤};
+
+    ghost Answers = { λ old request reply new. ⊤ };
+
+    fn answer(&mut self, alloc: Global, request: &Request<'_>) -> Reply {
+        self.answering.answer(alloc, request)
+    }
+}
+
+impl MayShut for OpenDesk<'_> {
+    ghost use Rattle.std.specs.Prelude.{false};
+
+    ghost is_shut = { λ m. false };
+
+    fn is_shut(&self) -> bool {
+        false
+    }
+}
+
+// Calls that move this many bytes, and take this many seconds.
+fn calls(piece: usize, seconds: u64) -> Calls {
+    Calls {
+        piece,
+        seconds,
+        failing: 0,
+    }
+}
+
+// Calls that move this many bytes, and one of which fails.
+fn failing(piece: usize, failing: u32) -> Calls {
+    Calls {
+        piece,
+        seconds: 0,
+        failing,
+    }
+}
+
+const AT_ONCE: Calls = Calls {
+    piece: 4_096,
+    seconds: 0,
+    failing: 0,
+};
+
+// Neither pieces nor pauses change what a client is replied, until their time is over.
+#[test]
+fn clients_in_pieces_and_at_a_pace(rt: HostRuntime) -> Result<(), Fail> {
+    let alloc = rt.alloc();
+    let (asked, turned) = (joined(alloc, DROP, PAGE)?, joined(alloc, PAGE, DROP)?);
+    let (all, all_turned) = (
+        joined(alloc, DROPPED, SHOWN)?,
+        joined(alloc, SHOWN, DROPPED)?,
+    );
+    let (asked, turned) = (asked.as_slice(), turned.as_slice());
+    let (all, all_turned) = (all.as_slice(), all_turned.as_slice());
+    // what is asked, reads, writes, the timeout, replies, the line, and whether the draft is there
+    let cases = [
+        (asked, AT_ONCE, AT_ONCE, 30, all, b"".as_slice(), false),
+        (asked, calls(1, 0), calls(1, 0), 30, all, b"", false),
+        // The first message takes 53 seconds from its first byte to its last.
+        (asked, calls(1, 1), AT_ONCE, 53, all, b"", false),
+        (asked, calls(1, 1), AT_ONCE, 52, b"", READ_FAULT, true),
+        (turned, calls(1, 1), AT_ONCE, 53, all_turned, b"", false),
+        (turned, calls(1, 1), AT_ONCE, 52, SHOWN, READ_FAULT, true),
+        // A message has to begin within five seconds, or within a shorter timeout.
+        (asked, calls(4_096, 5), AT_ONCE, 30, all, b"", false),
+        (asked, calls(4_096, 6), AT_ONCE, 30, b"", READ_FAULT, true),
+        (asked, calls(4_096, 3), AT_ONCE, 2, b"", READ_FAULT, true),
+        // The first reply takes twelve writes, the second sixteen.
+        (asked, AT_ONCE, calls(7, 1), 16, all, b"", false),
+        (
+            asked,
+            AT_ONCE,
+            calls(7, 1),
+            11,
+            &DROPPED[..77],
+            WRITE_FAULT,
+            false,
+        ),
+    ];
+    for (asked, reads, writes, patience, replied, line, is_there) in cases {
+        let case = Case {
+            asked,
+            reads,
+            writes,
+            patience,
+            replied,
+            line,
+            is_there,
+        };
+        assert_case(&rt, alloc, &case)?;
+    }
+    Ok(())
+}
+
+// Only the messages before a read that fails are carried out and answered. The last read is the
+// one that would find the end.
+#[test]
+fn each_read_of_a_byte_fails(rt: HostRuntime) -> Result<(), Fail> {
+    let alloc = rt.alloc();
+    let (asked, all) = (joined(alloc, DROP, PAGE)?, joined(alloc, DROPPED, SHOWN)?);
+    // the first k and the last, replies, and whether the draft is there
+    let ranges = [
+        (1u32, 54u32, b"".as_slice(), true),
+        (55, 99, DROPPED, false),
+        (100, 100, all.as_slice(), false),
+    ];
+    for (first, last, replied, is_there) in ranges {
+        for k in first..=last {
+            let case = Case {
+                asked: asked.as_slice(),
+                reads: failing(1, k),
+                writes: AT_ONCE,
+                patience: 30,
+                replied,
+                line: READ_FAULT,
+                is_there,
+            };
+            assert_case(&rt, alloc, &case)?;
+        }
+    }
+    Ok(())
+}
+
+// What was written before a write that fails has arrived, and the message is carried out.
+#[test]
+fn each_write_of_seven_bytes_fails(rt: HostRuntime) -> Result<(), Fail> {
+    let alloc = rt.alloc();
+    let asked = joined(alloc, DROP, PAGE)?;
+    let (mut written, mut k) = (Vec::new(alloc), 0u32);
+    for reply in [DROPPED, SHOWN] {
+        for piece in reply.chunks(7) {
+            k = k.saturating_add(1);
+            let case = Case {
+                asked: asked.as_slice(),
+                reads: AT_ONCE,
+                writes: failing(7, k),
+                patience: 30,
+                replied: written.as_slice(),
+                line: WRITE_FAULT,
+                is_there: false,
+            };
+            assert_case(&rt, alloc, &case)?;
+            written.extend_from_slice(piece)?;
+        }
+    }
+    assert_eq!(rt; k, 28);
+    Ok(())
+}
+
+// Serves a client between two others, and ends the test if one of them gets other bytes.
+fn assert_case<R: Abort>(rt: &R, alloc: Global, case: &Case<'_>) -> Result<(), Fail> {
+    let found = serve_three(alloc, case)?;
+    let third = if case.is_there { THERE } else { NOT_THERE };
+    let (reads, writes) = (case.reads, case.writes);
+    assert_eq!(rt;
+        found.second.as_slice(),
+        case.replied,
+        "{reads:?}, {writes:?}"
+    );
+    assert_eq!(rt; found.lines.as_slice(), case.line, "{reads:?}, {writes:?}");
+    assert_eq!(rt; found.first.as_slice(), SHOWN, "{reads:?}, {writes:?}");
+    assert_eq!(rt; found.third.as_slice(), third, "{reads:?}, {writes:?}");
+    assert_eq!(rt; found.accepted, 3, "{reads:?}, {writes:?}");
+    Ok(())
+}
+
+fn joined(alloc: Global, first: &[u8], second: &[u8]) -> Result<Vec<u8>, AllocError> {
+    let mut both = first.to_vec(alloc)?;
+    both.extend_from_slice(second)?;
+    Ok(both)
+}
+
+// Serves a candidate, the client of a case, and the office, which asks for the draft.
+fn serve_three(alloc: Global, case: &Case<'_>) -> Result<Outcome, Fail> {
+    let mut desk = new_desk(alloc)?;
+    carry_out(alloc, &mut desk, DRAFTED, 2)?;
+    let routes = Routes::new(alloc)?;
+    let mut machine = OpenDesk {
+        answering: AnsweringDesk {
+            desk: &mut desk,
+            routes: &routes,
+        },
+    };
+    let clock = HandClock::new();
+    let (mut first, mut second) = (Vec::new(alloc), Vec::new(alloc));
+    let (mut third, mut lines) = (Vec::new(alloc), Vec::new(alloc));
+    let mut clients = Vec::new(alloc);
+    clients.push((
+        Side::new(PAGE, AT_ONCE, &clock),
+        Side::new(&mut first, AT_ONCE, &clock),
+    ))?;
+    clients.push((
+        Side::new(case.asked, case.reads, &clock),
+        Side::new(&mut second, case.writes, &clock),
+    ))?;
+    clients.push((
+        Side::new(DRAFT, AT_ONCE, &clock),
+        Side::new(&mut third, AT_ONCE, &clock),
+    ))?;
+    let plan = Plan {
+        connections: 3,
+        patience: Duration::from_secs(case.patience),
+    };
+    let service = serve_clients(
+        alloc,
+        &clock,
+        &mut clients.into_iter(),
+        plan,
+        &mut machine,
+        &mut lines,
+    );
+    Ok(Outcome {
+        first,
+        second,
+        third,
+        lines,
+        accepted: service.accepted,
+    })
+}

@@ -1,0 +1,119 @@
+// The two sides of a connection in memory, and the clock by which they go.
+use office_connections::Timed;
+use std::cell::Cell;
+use std::io;
+use std::io::{ErrorKind, Read, Write};
+use std::time::{Clock, Duration};
+
+// A clock that is moved by hand.
+#[derive(Drop)]
+pub(crate) struct HandClock {
+    time: Cell<Duration>,
+}
+
+impl HandClock {
+    pub(crate) fn new() -> HandClock {
+        HandClock {
+            time: Cell::new(Duration::ZERO),
+        }
+    }
+
+    fn move_on(&self, time: Duration) {
+        self.time.set(self.time.get().saturating_add(time));
+    }
+}
+
+impl Clock for HandClock {
+    fn monotonic(&self) -> io::Result<Duration> {
+        Ok(self.time.get())
+    }
+
+    fn since_1970(&self) -> io::Result<Duration> {
+        Ok(self.time.get())
+    }
+}
+
+// What the calls of one side do.
+#[derive(Clone, Copy, Debug)]
+pub(crate) struct Calls {
+    // The most bytes that a call moves.
+    pub(crate) piece: usize,
+    // How long a call takes.
+    pub(crate) seconds: u64,
+    // Which call fails: 1 is the first, 0 is none.
+    pub(crate) failing: u32,
+}
+
+// One side of a connection: the bytes that are read, or the place to which they are written.
+#[derive(Drop)]
+pub(crate) struct Side<'a, T: Drop> {
+    inner: T,
+    calls: Calls,
+    // How many calls there were.
+    count: u32,
+    // The timeout of a call.
+    limit: Cell<Duration>,
+    clock: &'a HandClock,
+}
+
+impl<'a, T: Drop> Side<'a, T> {
+    pub(crate) fn new(inner: T, calls: Calls, clock: &'a HandClock) -> Side<'a, T> {
+        Side {
+            inner,
+            calls,
+            count: 0,
+            limit: Cell::new(Duration::ZERO),
+            clock,
+        }
+    }
+
+    // Begins a call; returns whether it goes on, within its timeout.
+    fn begin(&mut self) -> io::Result<()> {
+        let (time, limit) = (Duration::from_secs(self.calls.seconds), self.limit.get());
+        self.clock.move_on(time.min(limit));
+        self.count = self.count.saturating_add(1);
+        if limit < time {
+            return Err(io::Error::from(ErrorKind::WouldBlock));
+        }
+        if self.count == self.calls.failing {
+            return Err(io::Error::from(ErrorKind::ConnectionReset));
+        }
+        Ok(())
+    }
+}
+
+impl<T: Read + Drop> Read for Side<'_, T> {
+    fn read(&mut self, buf: &mut [u8]) -> io::Result<usize> {
+        self.begin()?;
+        let count = buf.len().min(self.calls.piece);
+        self.inner.read(&mut buf[..count])
+    }
+}
+
+impl<T: Write + Drop> Write for Side<'_, T> {
+    fn write(&mut self, buf: &[u8]) -> io::Result<usize> {
+        self.begin()?;
+        let count = buf.len().min(self.calls.piece);
+        self.inner.write(&buf[..count])
+    }
+
+    fn flush(&mut self) -> io::Result<()> {
+        Ok(())
+    }
+}
+
+impl<T: Drop> Timed for Side<'_, T> {
+    fn set_read_limit(&self, limit: Duration) -> io::Result<()> {
+        self.limit.set(limit);
+        Ok(())
+    }
+
+    fn set_write_limit(&self, limit: Duration) -> io::Result<()> {
+        self.limit.set(limit);
+        Ok(())
+    }
+
+    fn end_sending(&self) -> io::Result<()> {
+        Ok(())
+    }
+}
