@@ -29,6 +29,10 @@ struct Steering {
     uint64_t refused;
     // Of the disk: a bit for each descriptor that was written to and not synced since.
     uint64_t unsynced;
+    // How many calls there were since a test set this to 0.
+    uint64_t calls;
+    // How many calls of the disk come before the first call that counts.
+    uint64_t after;
 };
 
 volatile Steering *steering;
@@ -49,6 +53,9 @@ bool is_refused(Kind kind) {
     if (!steering)
         return false;
     volatile Steering &words = steering[kind];
+    words.calls = words.calls + 1;
+    if (steering[DISK].calls < words.after)
+        return false;
     if (words.countdown != 1) {
         if (words.countdown > 1)
             words.countdown = words.countdown - 1;

@@ -55,6 +55,8 @@ def message_in_turn(run, office, name, question, answer):
             if not refused:
                 run.record("not refused", name, (answer, []),
                            (came, [other for other in after if other != shown]))
+                if shown != before:
+                    change_without_later_memory(run, office, name, question, (answer, shown))
                 return unanswered
             this = f"{name}, allocation {k}{' and on' if is_for_good else ''}"
             if came in (b"", UNAVAILABLE):
@@ -65,6 +67,20 @@ def message_in_turn(run, office, name, question, answer):
                 after.append(shown)
             if office.first or shown != before or is_change(question, came):
                 office.reset()
+
+
+def change_without_later_memory(run, office, name, question, ample):
+    """Sends a message that changes the office while all allocations after its last call of the disk
+    are refused. It is answered as with ample memory, because its change is stored by then. A sweep
+    may miss these allocations: a server keeps memory that an attempt got, so the next one needs
+    less."""
+    office.reset()
+    calls = office.calls_of_disk(question)
+    office.reset()
+    came, _ = office.reply_under(question, MEMORY, 1, True, None, calls)
+    run.record("answered without later memory",
+               f"{name}, each allocation after call {calls} of the disk", ample,
+               (came, office.shown()))
 
 
 def judge_lines(run, office, name, unanswered):

@@ -20,8 +20,8 @@ SECONDS = 60
 SOURCE = pathlib.Path(__file__).with_name("refuse.cpp")
 # The kinds of calls, and the words of each, in the order of refuse.cpp.
 MEMORY, RECEIVE, SEND, DISK = range(4)
-COUNTDOWN, IS_FOR_GOOD, ERROR, PIECE, REFUSED, UNSYNCED = range(6)
-WORDS = 6
+COUNTDOWN, IS_FOR_GOOD, ERROR, PIECE, REFUSED, UNSYNCED, CALLS, AFTER = range(8)
+WORDS = 8
 ERRORS = {MEMORY: errno.ENOMEM, RECEIVE: errno.ECONNRESET, SEND: errno.EPIPE, DISK: errno.EIO}
 UNAVAILABLE = error(503, "unavailable")
 NO_MEMORY, STORE_FAULT = b"examoffice: no memory\n", b"examoffice: store fault 8\n"
@@ -162,13 +162,16 @@ class Run(run_serve.Run):
             file.truncate(len(ERRORS) * WORDS * 8)
             self.words = memoryview(mmap.mmap(file.fileno(), 0)).cast("Q")
 
-    def refuse(self, kind, k, is_for_good=False, number=None):
-        """Refuses the k-th call from here on, or none if k is 0; for good, all after it too."""
+    def refuse(self, kind, k, is_for_good=False, number=None, after=0):
+        """Refuses the k-th call from here on, or none if k is 0; for good, all after it too. It
+        counts the calls after this many calls of the disk."""
         first = kind * WORDS
         self.words[first + COUNTDOWN] = 0
         self.words[first + IS_FOR_GOOD] = is_for_good
         self.words[first + ERROR] = number or ERRORS[kind]
         self.words[first + REFUSED] = 0
+        self.words[first + AFTER] = after
+        self.words[DISK * WORDS + CALLS] = 0
         self.words[first + COUNTDOWN] = k
 
     def stop_refusing(self, kind):
@@ -237,6 +240,11 @@ class Office:
         self.run.refuse(kind, k, *how)
         came = self.reply(question)
         return came, self.run.stop_refusing(kind)
+
+    def calls_of_disk(self, question):
+        """Returns how many calls of the disk a message takes."""
+        self.reply_under(question, DISK, 0)
+        return self.run.words[DISK * WORDS + CALLS]
 
     def shown(self):
         return self.reply(QUESTIONS)
