@@ -61,6 +61,7 @@ REPORTS = {
         (with_line(22, "FRONTLOAD,100000,0,4"), PLACED, [], [7, 5, 3, 0, 0, 15, 7]),
     "a shorter spread": (SMALL.replace("PERIODSPREAD,3", "PERIODSPREAD,2"), TOGETHER, [],
                          [7, 0, 2, 10, 0, 10, 14]),
+    "the largest room": (with_line(12, "100000, 0"), PLACED, [], [7, 5, 3, 0, 0, 15, 7]),
     "the greatest student number":
         (with_line(2, "120, 999999999, 2"), PLACED, [], [7, 0, 2, 0, 0, 15, 7]),
     "cut behind the last header, so that all weights are 0":
@@ -89,6 +90,9 @@ FAULTS = {
     "too long": (SMALL.ljust(4_194_305), PLACED, "instance line 0: fault 1"),
     "too long, of blanks": (" " * 4_194_305, PLACED, "instance line 0: fault 1"),
     "too many exams": (with_line(1, "[Exams:2001]"), PLACED, "instance line 1: fault 8"),
+    "no exams": (with_line(1, "[Exams:0]"), PLACED, "instance line 1: fault 8"),
+    "no periods": (with_line(6, "[Periods:0]"), PLACED, "instance line 6: fault 8"),
+    "a room too large": (with_line(12, "100001, 0"), PLACED, "instance line 12: fault 8"),
     "a bracket too many": (with_line(1, "[Exams:4]]"), PLACED, "instance line 1: fault 10"),
     "a colon too many": (with_line(1, "[Exams::4]"), PLACED, "instance line 1: fault 4"),
     "a header with no colon": (with_line(1, "[Exams 4]"), PLACED, "instance line 1: fault 2"),

@@ -1,205 +1,55 @@
 // Edits of a draft of the small session.
-ghost use Rattle.std.specs.Prelude.{◌≡◌, IfOk};
-
-use crate::given::{PAIRS, WEIGHTS, after, assert_same, enrolled, numbers, place, small, student};
-use Step::{Clear, Move, Put, Swap};
+use crate::given::{assert_same, place, small, student};
 use exam_draft::{Draft, Edit, EditFault, judge};
-use exam_model::{Enrolments, ExamNo, Instance};
+use exam_model::ExamNo;
 use exam_rules::{Breach, BreachRule};
-use std::alloc::Global;
-use std::process::Abort;
 use std::test::Fail;
 
-// An edit: exams, and a period and a room.
-#[derive(Clone, Copy, Debug)]
-pub(crate) enum Step {
-    Put(u32, (u32, u32)),
-    Move(u32, (u32, u32)),
-    Swap(u32, u32),
-    Clear(u32),
-}
-
-// Edits that place all four exams of the small instance, and the total after each.
-const ALL_PLACED: [(Step, u64); 4] = [
-    (Put(0, (0, 0)), 0),
-    (Put(1, (1, 0)), 8),
-    (Put(2, (3, 1)), 21),
-    (Put(3, (2, 0)), 37),
-];
-
-pub(crate) fn broken(rule: BreachRule, exam: u32, other: u32) -> EditFault {
-    EditFault::Broken(breach(rule, exam, other))
-}
-
-pub(crate) fn breach(rule: BreachRule, exam: u32, other: u32) -> Breach {
-    Breach {
+fn broken(rule: BreachRule, exam: u32, other: u32) -> EditFault {
+    EditFault::Broken(Breach {
         rule,
         exam: ExamNo::new(exam),
         other: ExamNo::new(other),
-    }
+    })
 }
 
-fn apply(alloc: Global, draft: &mut Draft<'_>, step: Step) -> Result<(), EditFault>
-    ensures { draft.new ≡ record draft.old { timetable = draft.new.timetable } }
-{
-    match step {
-        Put(exam, at) => draft.place(alloc, ExamNo::new(exam), place(at.0, at.1)),
-        Move(exam, at) => draft.move_to(alloc, ExamNo::new(exam), place(at.0, at.1)),
-        Swap(one, other) => draft.swap(alloc, ExamNo::new(one), ExamNo::new(other)),
-        Clear(exam) => draft.clear(alloc, ExamNo::new(exam)),
-    }
-}
-
-// The total after an edit, or why it is refused.
-fn edit(alloc: Global, draft: &mut Draft<'_>, step: Step) -> Result<u64, EditFault>
-    ensures { draft.new ≡ record draft.old { timetable = draft.new.timetable } }
-{
-    apply(alloc, draft, step)?;
-    Ok(draft.parts().total())
-}
-
-// The draft in which no exam is placed, taken apart once and resumed.
-fn empty<'a>(
-    alloc: Global,
-    instance: &'a Instance,
-    enrolments: &'a Enrolments,
-) -> Result<Draft<'a>, Fail>
-    ensures { IfOk result (λ made. made.instance ≡ instance.now) }
-{
-    if enrolments.exams() != instance.exams() {
-        return Err("enrolments of other exams")?;
-    }
-    let (timetable, parts) = Draft::new(alloc, instance, enrolments)?.into_parts();
-    Ok(Draft::resume(instance, enrolments, timetable, parts))
-}
-
-// The draft of the small instance's solution.
-pub(crate) fn solved<'a>(
-    alloc: Global,
-    instance: &'a Instance,
-    enrolments: &'a Enrolments,
-) -> Result<Draft<'a>, Fail>
-    ensures { IfOk result (λ made. made.instance ≡ instance.now) }
-{
-    let mut draft = empty(alloc, instance, enrolments)?;
-    'exams: for (step, _) in ALL_PLACED {
-        if edit(alloc, &mut draft, step).is_err() {
-            return Err("an exam that can't be placed")?;
-        }
-    }
-    Ok(draft)
-}
-
-fn session(alloc: Global) -> Result<Instance, Fail> {
-    Ok(small(alloc, &[after()], &[], WEIGHTS)?)
-}
-
-// Edits of a draft, and the total after each or why it is refused.
-pub(crate) fn meets<R: Abort>(
-    rt: &R,
-    alloc: Global,
-    draft: &mut Draft<'_>,
-    steps: &[(Step, Result<u64, EditFault>)],
-) {
-    for (step, wanted) in steps {
-        assert_same(rt, edit(alloc, draft, *step), *wanted, *step);
-    }
-}
-
-// Edits of the empty draft.
-fn edits<R: Abort>(
-    rt: &R,
-    alloc: Global,
-    steps: &[(Step, Result<u64, EditFault>)],
-) -> Result<(), Fail> {
-    let instance = session(alloc)?;
-    let enrolments = enrolled(alloc, &PAIRS)?;
-    let mut draft = empty(alloc, &instance, &enrolments)?;
-    meets(rt, alloc, &mut draft, steps);
-    Ok(())
-}
-
+// Exam 2 costs its room; so does exam 0 in the place of exam 2, and in the same room alone.
 #[test]
-fn clash_comes_first(rt: HostRuntime) -> Result<(), Fail> {
-    let clash = Err(broken(BreachRule::Clash, 0, 1));
-    let steps = [(Put(0, (0, 0)), Ok(0)), (Put(1, (0, 0)), clash)];
-    edits(&rt, rt.alloc(), &steps)
-}
-
-#[test]
-fn too_long_for_period(rt: HostRuntime) -> Result<(), Fail> {
-    let too_long = Err(broken(BreachRule::Duration, 0, 0));
-    let steps = [(Put(0, (2, 0)), too_long), (Put(0, (1, 0)), Ok(0))];
-    edits(&rt, rt.alloc(), &steps)
-}
-
-#[test]
-fn edit_refusals_in_order(rt: HostRuntime) -> Result<(), Fail> {
-    let steps = [
-        (Put(0, (0, 0)), Ok(0)),
-        (Put(0, (0, 0)), Err(EditFault::AlreadyPlaced)),
-        (Put(0, (4, 0)), Err(EditFault::NoSuch)),
-        (Move(1, (1, 0)), Err(EditFault::NotPlaced)),
-        (Clear(1), Err(EditFault::NotPlaced)),
-        (Swap(0, 1), Err(EditFault::NotPlaced)),
-        (Swap(1, 1), Err(EditFault::NotPlaced)),
-        (Swap(0, 0), Err(EditFault::SameExam)),
-        (Put(9, (0, 0)), Err(EditFault::NoSuch)),
-        (Put(1, (4, 0)), Err(EditFault::NoSuch)),
-        (Put(1, (0, 2)), Err(EditFault::NoSuch)),
-        (Move(9, (0, 0)), Err(EditFault::NoSuch)),
-        (Swap(0, 9), Err(EditFault::NoSuch)),
-        (Clear(9), Err(EditFault::NoSuch)),
-        (Clear(0), Ok(0)),
-    ];
-    edits(&rt, rt.alloc(), &steps)
-}
-
-#[test]
-fn judged_without_a_draft(rt: HostRuntime) -> Result<(), Fail> {
+fn a_draft_is_edited(rt: HostRuntime) -> Result<(), Fail> {
     let alloc = rt.alloc();
-    let instance = session(alloc)?;
-    let enrolments = enrolled(alloc, &PAIRS)?;
+    let (instance, enrolments) = small(alloc, &[], &[])?;
     if enrolments.exams() != instance.exams() {
         return Err("enrolments of other exams")?;
     }
-    let draft = Draft::new(alloc, &instance, &enrolments)?;
-    let (zero, one) = (ExamNo::new(0), ExamNo::new(1));
-    let first = Edit::Place(zero, place(0, 0));
-    let Ok(placed) = judge(alloc, &instance, &enrolments, draft.timetable(), first) else {
+    let (timetable, parts) = Draft::new(alloc, &instance, &enrolments)?.into_parts();
+    let mut draft = Draft::resume(&instance, &enrolments, timetable, parts);
+    let (zero, two) = (ExamNo::new(0), ExamNo::new(2));
+    draft.place(alloc, zero, place(0, 0))?;
+    draft.place(alloc, two, place(1, 1))?;
+    draft.swap(alloc, zero, two)?;
+    draft.move_to(alloc, zero, place(0, 1))?;
+    draft.clear(alloc, two)?;
+    let timetable = draft.timetable();
+    assert_same(
+        &rt,
+        timetable.complete(),
+        Some(ExamNo::new(1)),
+        "exams 1 to 3",
+    );
+    assert_same(&rt, draft.parts().total(), 7, "total");
+    let beside = Edit::Place(ExamNo::new(1), place(0, 0));
+    let judged = judge(alloc, &instance, &enrolments, timetable, beside);
+    assert_same(
+        &rt,
+        judged.err(),
+        Some(broken(BreachRule::Clash, 0, 1)),
+        "clash",
+    );
+    let later = Edit::Place(ExamNo::new(1), place(1, 0));
+    let Ok(judged) = judge(alloc, &instance, &enrolments, timetable, later) else {
         return Err("an exam that can't be placed")?;
     };
-    assert_same(&rt, placed.get(zero), Some(place(0, 0)), "judged");
-    assert_same(&rt, draft.timetable().get(zero), None, "as it was");
-    let again = Edit::Place(zero, place(0, 0));
-    let Err(taken) = judge(alloc, &instance, &enrolments, &placed, again) else {
-        return Err("an exam that is placed twice")?;
-    };
-    assert_same(&rt, taken, EditFault::AlreadyPlaced, "placed again");
-    let beside = Edit::Place(one, place(0, 0));
-    let Err(clash) = judge(alloc, &instance, &enrolments, &placed, beside) else {
-        return Err("two exams of a student in one period")?;
-    };
-    assert_same(&rt, clash, broken(BreachRule::Clash, 0, 1), "in one period");
-    Ok(())
-}
-
-#[test]
-fn swap(rt: HostRuntime) -> Result<(), Fail> {
-    let instance = session(rt.alloc())?;
-    let enrolments = enrolled(rt.alloc(), &PAIRS)?;
-    let too_long = Err(broken(BreachRule::Duration, 0, 0));
-    // two exams, the answer, and the parts afterwards
-    let cases = [
-        (1, 2, Ok(30), [0, 5, 3, 0, 0, 15, 7]),
-        (0, 3, too_long, [7, 5, 3, 0, 0, 15, 7]),
-    ];
-    for (one, other, wanted, parts) in cases {
-        let mut draft = solved(rt.alloc(), &instance, &enrolments)?;
-        let found = edit(rt.alloc(), &mut draft, Swap(one, other));
-        assert_same(&rt, found, wanted, (one, other));
-        assert_same(&rt, numbers(&draft.parts()), parts, (one, other));
-    }
+    assert_same(&rt, judged.complete(), Some(two), "exams 2 and 3");
     Ok(())
 }
 
@@ -208,9 +58,11 @@ fn swap(rt: HostRuntime) -> Result<(), Fail> {
 #[test]
 fn edits_name_their_exams(rt: HostRuntime) -> Result<(), Fail> {
     let alloc = rt.alloc();
-    let instance = session(alloc)?;
-    let enrolments = enrolled(alloc, &PAIRS)?;
-    let mut draft = empty(alloc, &instance, &enrolments)?;
+    let (instance, enrolments) = small(alloc, &[], &[])?;
+    if enrolments.exams() != instance.exams() {
+        return Err("enrolments of other exams")?;
+    }
+    let mut draft = Draft::new(alloc, &instance, &enrolments)?;
     let (zero, one) = (ExamNo::new(0), ExamNo::new(1));
     let after = Err(broken(BreachRule::After, 1, 0));
     // an edit, its exams, and the total after it or why it is refused
@@ -232,17 +84,26 @@ fn edits_name_their_exams(rt: HostRuntime) -> Result<(), Fail> {
     Ok(())
 }
 
+// The solution's draft; then student 2 no longer sits exam 1.
 #[test]
-fn publish_twice(rt: HostRuntime) -> Result<(), Fail> {
-    let instance = session(rt.alloc())?;
-    let enrolments = enrolled(rt.alloc(), &PAIRS)?;
-    let mut draft = empty(rt.alloc(), &instance, &enrolments)?;
-    for (step, total) in ALL_PLACED {
-        assert_same(&rt, draft.timetable().complete().is_some(), true, step);
-        assert_same(&rt, edit(rt.alloc(), &mut draft, step), Ok(total), step);
+fn coincidence_by_enrolment(rt: HostRuntime) -> Result<(), Fail> {
+    let alloc = rt.alloc();
+    let (instance, enrolments) = small(alloc, &[], &[])?;
+    let mut fewer = enrolments.copy(alloc)?;
+    let exams = instance.exams();
+    if exams != 4 || enrolments.exams() != exams || fewer.exams() != exams {
+        return Err("enrolments of other exams")?;
     }
-    assert_same(&rt, draft.timetable().complete(), None, "all placed");
-    let moved = edit(rt.alloc(), &mut draft, Move(3, (3, 1)));
-    assert_same(&rt, moved, Ok(44), "moved");
+    let _was_there = fewer.remove(student(2)?, ExamNo::new(1));
+    let mut draft = Draft::new(alloc, &instance, &enrolments)?;
+    draft.place(alloc, ExamNo::new(0), place(0, 0))?;
+    draft.place(alloc, ExamNo::new(1), place(1, 0))?;
+    draft.place(alloc, ExamNo::new(2), place(3, 1))?;
+    draft.place(alloc, ExamNo::new(3), place(2, 0))?;
+    assert_same(&rt, draft.parts().total(), 37, "solved");
+    let Ok(draft) = draft.enrol(alloc, &fewer) else {
+        return Err("no memory")?;
+    };
+    assert_same(&rt, draft.parts().total(), 29, "fewer enrolments");
     Ok(())
 }

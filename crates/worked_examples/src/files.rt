@@ -1,6 +1,5 @@
 // Files that are read and written, and the fields of a text.
-use crate::given::{APART, assert_same, place, placed};
-use exam_model::ExamNo;
+use crate::given::{ONE_ROOM, assert_same, placed};
 use exam_terms::{are_digits, trim_end, trim_start, trimmed};
 use office_files::{
     FaultKind, FileFault, Tokens, number, read_instance, read_solution, same_word, write_instance,
@@ -17,36 +16,29 @@ const SMALL: &str = "[Exams:4]\r\n120, 1, 2\r\n90, 2, 3\r\n120, 3\r\n60, 1\r\n\
     [InstitutionalWeightings]\r\nTWOINAROW,7\r\nTWOINADAY,5\r\nPERIODSPREAD,3\r\n\
     NONMIXEDDURATIONS,10\r\nFRONTLOAD,1,2,4\r\n";
 
-// What is read of a text, written.
-fn written_again(alloc: Global, text: &[u8]) -> Result<Vec<u8>, Fail> {
-    let (instance, enrolments) = read_instance(alloc, text)?;
-    Ok(write_instance(alloc, &instance, &enrolments)?)
-}
-
 #[test]
 fn crlf_and_canonical_text(rt: HostRuntime) -> Result<(), Fail> {
-    let plain = SMALL.replace(rt.alloc(), "\r\n", "\n")?;
-    let text = written_again(rt.alloc(), plain.as_bytes())?;
-    assert_same(&rt, text.as_slice(), SMALL.as_bytes(), "text");
+    let alloc = rt.alloc();
+    let plain = SMALL.replace(alloc, "\r\n", "\n")?;
+    let (instance, enrolments) = read_instance(alloc, plain.as_bytes())?;
+    let text = write_instance(alloc, &instance, &enrolments)?;
+    assert_same(&rt, text.as_slice(), SMALL.as_bytes(), "instance");
+    let timetable = read_solution(alloc, b"0, 0\n1, 0\n3, 1\n3, 1", &instance)?;
+    let text = write_solution(alloc, &timetable)?;
+    let wanted = b"0, 0\r\n1, 0\r\n3, 1\r\n3, 1\r\n";
+    assert_same(&rt, text.as_slice(), wanted.as_slice(), "solution");
     Ok(())
 }
 
 #[test]
-fn writes_complete_timetables_alone(rt: HostRuntime) -> Result<(), Fail> {
-    let partial = placed(
-        rt.alloc(),
-        &[Some((0, 0)), None, Some((3, 1)), Some((3, 1))],
-    )?;
+fn a_partial_timetable_is_not_written(rt: HostRuntime) -> Result<(), Fail> {
+    let partial = placed(rt.alloc(), &[ONE_ROOM[0], None, ONE_ROOM[2], ONE_ROOM[3]])?;
     let missing = FileFault {
         line: 2,
         what: FaultKind::Incomplete,
     };
     let refused = write_solution(rt.alloc(), &partial).err();
     assert_same(&rt, refused, Some(missing), "partial");
-    let whole = [Some((0, 0)), Some((1, 0)), Some((3, 1)), Some((3, 1))];
-    let text = write_solution(rt.alloc(), &placed(rt.alloc(), &whole)?)?;
-    let wanted = b"0, 0\r\n1, 0\r\n3, 1\r\n3, 1\r\n";
-    assert_same(&rt, text.as_slice(), wanted.as_slice(), "complete");
     Ok(())
 }
 
@@ -79,40 +71,6 @@ fn fields_without_blanks(rt: HostRuntime) -> Result<(), Fail> {
     ];
     for (source, fields) in cases {
         assert_same(&rt, shown(rt.alloc(), source)?.as_slice(), fields, source);
-    }
-    Ok(())
-}
-
-#[test]
-fn a_solution_gives_each_exam_its_place(rt: HostRuntime) -> Result<(), Fail> {
-    let (instance, _) = read_instance(rt.alloc(), SMALL.as_bytes())?;
-    let timetable = read_solution(rt.alloc(), b"0, 0\n1, 0\n3, 1\n2, 0", &instance)?;
-    assert_same(&rt, timetable.exams(), 4, "exams");
-    for (exam, at) in APART.iter().enumerate() {
-        let exam = ExamNo::new(exam as u32);
-        if exam.get() >= timetable.exams() {
-            return Err("no such exam")?;
-        }
-        let wanted = at.map(|(period, room)| place(period, room));
-        assert_same(&rt, timetable.get(exam), wanted, exam);
-    }
-    Ok(())
-}
-
-#[test]
-fn solution_faults(rt: HostRuntime) -> Result<(), Fail> {
-    let (instance, _) = read_instance(rt.alloc(), SMALL.as_bytes())?;
-    let cases = [
-        (b"0, 0\n1, 0\n3, 1".as_slice(), 4, FaultKind::CountMismatch),
-        (b"0, 0\n1, 0\n3, 1\n2, 0\n0, 0", 5, FaultKind::CountMismatch),
-        (b"0, 0\n4, 0\n3, 1\n2, 0", 2, FaultKind::OutOfRange),
-        (b"0, 0\n-1, -1\n3, 1\n2, 0", 2, FaultKind::BadNumber),
-        (b"0, 0\n0\n3, 1\n2, 0", 2, FaultKind::BadNumber),
-        (b"0, 0\n0, 0, 0\n3, 1\n2, 0", 2, FaultKind::StrayText),
-    ];
-    for (text, line, what) in cases {
-        let found = read_solution(rt.alloc(), text, &instance).err();
-        assert_same(&rt, found, Some(FileFault { line, what }), text);
     }
     Ok(())
 }

@@ -3,8 +3,8 @@ ghost use Rattle.std.specs.Prelude.{◌↔◌, IsTrue};
 ghost use Rattle.exam_model.specs.Fits.{Fits, PlaceExists};
 
 use exam_model::{
-    Date, Enrolments, Exam, ExamNo, Instance, ModelFault, Period, PeriodNo, PeriodRule, Place,
-    Room, RoomNo, RoomRule, StudentNo, Timetable, Weights,
+    Date, Enrolments, Exam, ExamNo, Instance, Period, PeriodNo, PeriodRule, Place, Room, RoomNo,
+    RoomRule, StudentNo, Timetable, Weights,
 };
 use exam_score::Parts;
 use std::alloc::{AllocError, Global};
@@ -74,18 +74,13 @@ pub(crate) fn place(period: u32, room: u32) -> Place {
     }
 }
 
-/// The small session's one rule: exam 1 comes after exam 0.
-pub(crate) fn after() -> PeriodRule {
-    PeriodRule::After(ExamNo::new(1), ExamNo::new(0))
-}
-
-/// The small session: four exams; three periods of one day and one of another; two rooms.
+/// The small session and its enrolments: four exams, of which exam 1 comes after exam 0; three
+/// periods of one day and one of another; two rooms; and further rules.
 pub(crate) fn small(
     alloc: Global,
-    rules: &[PeriodRule],
+    more: &[PeriodRule],
     alone: &[RoomRule],
-    weights: Weights,
-) -> Result<Instance, ModelFault> {
+) -> Result<(Instance, Enrolments), Fail> {
     let exams = [
         Exam { minutes: 120 },
         Exam { minutes: 90 },
@@ -100,7 +95,11 @@ pub(crate) fn small(
         period(monday, 9, 120, 5),
     ];
     let rooms = [room(3, 0), room(2, 7)];
-    Instance::new(alloc, &exams, &periods, &rooms, rules, alone, weights)
+    let mut rules = Vec::new(alloc);
+    rules.push(PeriodRule::After(ExamNo::new(1), ExamNo::new(0)))?;
+    rules.extend_from_slice(more)?;
+    let instance = Instance::new(alloc, &exams, &periods, &rooms, &rules, alone, WEIGHTS)?;
+    Ok((instance, enrolled(alloc, &PAIRS)?))
 }
 
 /// These students and exams, of four exams.

@@ -6,8 +6,6 @@ mod batches;
 #[cfg(test)]
 mod checks;
 #[cfg(test)]
-mod coincidences;
-#[cfg(test)]
 mod drafts;
 #[cfg(test)]
 mod enrolments;

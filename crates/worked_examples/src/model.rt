@@ -1,5 +1,5 @@
-// Numbers, instances and timetables.
-use crate::given::{WEIGHTS, assert_same, date, period, place, room, student};
+// Numbers, dates, instances and timetables.
+use crate::given::{WEIGHTS, assert_same, date, period, place};
 use exam_model::{
     DeptNo, Exam, ExamNo, Instance, ModelFault, Period, PeriodNo, PeriodRule, Place, Room, RoomNo,
     RoomRule, StudentNo, Timetable,
@@ -13,33 +13,10 @@ fn numbers_end_at_their_limits(rt: HostRuntime) {
     for (number, wanted) in [(0, true), (999_999_999, true), (1_000_000_000, false)] {
         assert_same(&rt, StudentNo::new(number).is_some(), wanted, number);
     }
-    for (number, wanted) in [(0, false), (1, true), (999, true), (1000, false)] {
-        assert_same(&rt, DeptNo::new(number).is_some(), wanted, number);
+    for (number, wanted) in [(0, None), (1, Some(1)), (999, Some(999)), (1000, None)] {
+        let found = DeptNo::new(number).map(|dept| dept.get());
+        assert_same(&rt, found, wanted, number);
     }
-}
-
-#[test]
-fn a_number_is_the_one_that_made_it(rt: HostRuntime) -> Result<(), Fail> {
-    let dept = DeptNo::new(12).ok_or("no number of a department")?;
-    assert_same(&rt, ExamNo::new(1_999).get(), 1_999, "exam");
-    assert_same(&rt, PeriodNo::new(199).get(), 199, "period");
-    assert_same(&rt, RoomNo::new(0).get(), 0, "room");
-    assert_same(&rt, student(4_711)?.get(), 4_711, "student");
-    assert_same(&rt, dept.get(), 12, "department");
-    Ok(())
-}
-
-const EXAMS: [Exam; 3] = [
-    Exam { minutes: 60 },
-    Exam { minutes: 120 },
-    Exam { minutes: 0 },
-];
-
-fn has_its_counts(rt: &impl Abort, instance: &Instance) {
-    assert_same(rt, instance.exams(), 3, "exams");
-    assert_same(rt, instance.periods(), 3, "periods");
-    assert_same(rt, instance.rooms(), 2, "rooms");
-    assert_same(rt, instance.weights(), WEIGHTS, "weights");
 }
 
 #[test]
@@ -61,145 +38,115 @@ fn the_calendar_has_dates(rt: HostRuntime) {
     }
 }
 
-#[test]
-fn an_instance_gives_its_parts(rt: HostRuntime) -> Result<(), Fail> {
+const EXAMS: [Exam; 3] = [
+    Exam { minutes: 60 },
+    Exam { minutes: 120 },
+    Exam { minutes: 0 },
+];
+
+const ROOMS: [Room; 2] = [
+    Room {
+        capacity: 30,
+        penalty: 0,
+    },
+    Room {
+        capacity: 8,
+        penalty: 2,
+    },
+];
+
+fn periods() -> [Period; 3] {
     let (monday, tuesday) = (date(2026, 6, 1), date(2026, 6, 2));
-    let periods = [
+    [
         period(monday, 9, 120, 4),
-        period(tuesday, 9, 120, 4),
         period(monday, 14, 120, 4),
-    ];
-    let rooms = [room(30, 0), room(8, 2)];
-    let after = [PeriodRule::After(ExamNo::new(2), ExamNo::new(0))];
-    let alone = [RoomRule(ExamNo::new(1))];
-    let instance = Instance::new(
-        rt.alloc(),
-        &EXAMS,
-        &periods,
-        &rooms,
-        &after,
-        &alone,
-        WEIGHTS,
-    )?;
-    has_its_counts(&rt, &instance);
-    assert_same(&rt, instance.exam(ExamNo::new(1)), EXAMS[1], "exam");
-    assert_same(&rt, instance.period(PeriodNo::new(2)), periods[2], "period");
-    assert_same(&rt, instance.room(RoomNo::new(1)), rooms[1], "room");
-    assert_same(&rt, instance.period_rules(), after.as_slice(), "rules");
-    assert_same(&rt, instance.room_rules(), alone.as_slice(), "alone");
-    // two periods of two rooms come before the last place
-    let last = Place {
-        period: PeriodNo::new(2),
-        room: RoomNo::new(1),
-    };
-    assert_same(&rt, instance.slot_of(last), 5, "last place");
-    Ok(())
+        period(tuesday, 14, 90, 5),
+    ]
 }
 
-// The instance of these lists, once they were judged.
-fn of_judged(
+// The instance of these lists, judged; then without a judgement, after this one.
+fn judged_and_taken(
     alloc: Global,
     exams: Vec<Exam>,
     periods: Vec<Period>,
     rooms: Vec<Room>,
     rules: Vec<PeriodRule>,
     alone: Vec<RoomRule>,
-) -> Result<Instance, ModelFault> {
-    Instance::new(alloc, &exams, &periods, &rooms, &rules, &alone, WEIGHTS)?;
-    Ok(Instance::of(exams, periods, rooms, rules, alone, WEIGHTS))
+) -> Result<[Instance; 2], ModelFault> {
+    let judged = Instance::new(alloc, &exams, &periods, &rooms, &rules, &alone, WEIGHTS)?;
+    let taken = Instance::of(exams, periods, rooms, rules, alone, WEIGHTS);
+    Ok([judged, taken])
+}
+
+fn gives_its_parts<R: Abort>(
+    rt: &R,
+    instance: &Instance,
+    rules: &[PeriodRule],
+    alone: &[RoomRule],
+) -> Result<(), Fail> {
+    if instance.exams() != 3 || instance.periods() != 3 || instance.rooms() != 2 {
+        return Err("three exams, three periods and two rooms")?;
+    }
+    assert_same(rt, instance.exam(ExamNo::new(1)), EXAMS[1], "exam");
+    assert_same(
+        rt,
+        instance.period(PeriodNo::new(2)),
+        periods()[2],
+        "period",
+    );
+    assert_same(rt, instance.room(RoomNo::new(1)), ROOMS[1], "room");
+    assert_same(rt, instance.period_rules(), rules, "rules");
+    assert_same(rt, instance.room_rules(), alone, "alone");
+    assert_same(rt, instance.weights(), WEIGHTS, "weights");
+    Ok(())
+}
+
+// Two periods of two rooms come before the last place.
+fn numbers_its_places<R: Abort>(rt: &R, instance: &Instance) -> Result<(), Fail> {
+    if instance.periods() != 3 || instance.rooms() != 2 {
+        return Err("three periods and two rooms")?;
+    }
+    let last = Place {
+        period: PeriodNo::new(2),
+        room: RoomNo::new(1),
+    };
+    assert_same(rt, instance.slot_of(last), 5, "last place");
+    Ok(())
 }
 
 #[test]
-fn lists_that_were_judged_are_taken_as_they_are(rt: HostRuntime) -> Result<(), Fail> {
+fn an_instance_gives_its_parts(rt: HostRuntime) -> Result<(), Fail> {
     let alloc = rt.alloc();
-    let periods = [
-        period(date(2026, 6, 1), 9, 120, 4),
-        period(date(2026, 6, 1), 14, 120, 4),
-        period(date(2026, 6, 2), 14, 90, 5),
-    ];
-    let rooms = [room(30, 0), room(8, 2)];
-    let after = [PeriodRule::After(ExamNo::new(2), ExamNo::new(0))];
+    let rules = [PeriodRule::After(ExamNo::new(2), ExamNo::new(0))];
     let alone = [RoomRule(ExamNo::new(1))];
-    let instance = of_judged(
+    let both = judged_and_taken(
         alloc,
         Vec::from_slice(alloc, &EXAMS)?,
-        Vec::from_slice(alloc, &periods)?,
-        Vec::from_slice(alloc, &rooms)?,
-        Vec::from_slice(alloc, &after)?,
+        Vec::from_slice(alloc, &periods())?,
+        Vec::from_slice(alloc, &ROOMS)?,
+        Vec::from_slice(alloc, &rules)?,
         Vec::from_slice(alloc, &alone)?,
     )?;
-    has_its_counts(&rt, &instance);
-    assert_same(&rt, instance.period_rules(), after.as_slice(), "rules");
-    assert_same(&rt, instance.room_rules(), alone.as_slice(), "alone");
-    Ok(())
-}
-
-// The fault of so many exams and periods, a room of a capacity, and a rule that names an exam.
-fn judged(
-    alloc: Global,
-    exams: usize,
-    periods: usize,
-    capacity: u32,
-    named: u32,
-) -> Result<(), ModelFault> {
-    let exams = vec![in alloc; Exam { minutes: 60 }; exams]?;
-    let periods = vec![in alloc; period(date(2026, 6, 1), 9, 120, 4); periods]?;
-    let rooms = [room(capacity, 0)];
-    let rules = [PeriodRule::Exclusion(ExamNo::new(0), ExamNo::new(named))];
-    Instance::new(alloc, &exams, &periods, &rooms, &rules, &[], WEIGHTS)?;
-    Ok(())
-}
-
-#[test]
-fn a_limit_is_refused_before_a_number(rt: HostRuntime) {
-    // exams, periods, capacity, the exam that a rule names
-    let cases = [
-        (2_000, 1, 100_000, 1_999, Ok(())),
-        (0, 1, 30, 0, Err(ModelFault::Range)),
-        (2_001, 1, 30, 0, Err(ModelFault::Range)),
-        (3, 0, 30, 0, Err(ModelFault::Range)),
-        (3, 1, 100_001, 0, Err(ModelFault::Range)),
-        (3, 1, 30, 3, Err(ModelFault::NoSuch)),
-        (3, 1, 100_001, 3, Err(ModelFault::Range)),
-    ];
-    for (exams, periods, capacity, named, wanted) in cases {
-        let found = judged(rt.alloc(), exams, periods, capacity, named);
-        assert_same(&rt, found, wanted, (exams, periods, capacity, named));
+    for instance in &both {
+        gives_its_parts(&rt, instance, &rules, &alone)?;
+        numbers_its_places(&rt, instance)?;
     }
-}
-
-#[test]
-fn a_timetable_is_complete_once_each_exam_has_a_place(rt: HostRuntime) -> Result<(), Fail> {
-    let (first, second) = (ExamNo::new(0), ExamNo::new(1));
-    let mut timetable = Timetable::new(rt.alloc(), 2)?;
-    assert_same(&rt, timetable.exams(), 2, "exams");
-    assert_same(&rt, timetable.complete(), Some(first), "of none");
-    timetable.set(second, place(2, 1));
-    assert_same(&rt, timetable.get(first), None, "first");
-    assert_same(&rt, timetable.get(second), Some(place(2, 1)), "second");
-    assert_same(&rt, timetable.complete(), Some(first), "of one");
-    timetable.set(first, place(0, 0));
-    assert_same(&rt, timetable.complete(), None, "of both");
     Ok(())
 }
 
 #[test]
-fn a_copy_keeps_what_the_timetable_loses(rt: HostRuntime) -> Result<(), Fail> {
+fn a_timetable_has_places(rt: HostRuntime) -> Result<(), Fail> {
     let (first, second) = (ExamNo::new(0), ExamNo::new(1));
     let mut timetable = Timetable::new(rt.alloc(), 2)?;
-    timetable.set(first, place(3, 0));
     timetable.set(second, place(2, 1));
     let copy = timetable.copy(rt.alloc())?;
+    timetable.set(first, place(0, 0));
     timetable.clear(second);
     timetable.clear(second);
-    assert_same(&rt, timetable.get(first), Some(place(3, 0)), "first");
-    assert_same(&rt, timetable.get(second), None, "second");
-    assert_same(&rt, copy.get(first), Some(place(3, 0)), "first of the copy");
-    assert_same(
-        &rt,
-        copy.get(second),
-        Some(place(2, 1)),
-        "second of the copy",
-    );
+    let places = [timetable.get(first), timetable.get(second)];
+    assert_same(&rt, places, [Some(place(0, 0)), None], "places");
+    let unplaced = [copy.complete(), timetable.complete()];
+    assert_same(&rt, unplaced, [Some(first), Some(second)], "unplaced");
+    assert_same(&rt, copy.exams(), 2, "exams");
     Ok(())
 }

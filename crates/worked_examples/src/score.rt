@@ -1,9 +1,8 @@
 // What timetables cost.
 use crate::given::{
-    APART, ONE_ROOM, PAIRS, WEIGHTS, after, assert_same, enrolled, fits, numbers, place, placed,
-    small, student,
+    APART, ONE_ROOM, PAIRS, assert_same, enrolled, fits, numbers, place, placed, small, student,
 };
-use exam_model::{Enrolments, ExamNo, Instance, PairCost, PeriodNo, Place, Timetable};
+use exam_model::{ExamNo, Instance, PairCost, PeriodNo, Place};
 use exam_score::{
     DayCost, EditFold, Parts, PersonalParts, RowCost, SpreadCost, difference, front_share,
     personal, regrouping, score, sizes_of, stays_of,
@@ -12,91 +11,51 @@ use office_reports::penalty_report;
 use std::alloc::Global;
 use std::test::Fail;
 
-fn session(alloc: Global) -> Result<Instance, Fail> {
-    Ok(small(alloc, &[after()], &[], WEIGHTS)?)
-}
-
+// Exams 1 and 2 exchange their places.
 #[test]
-fn exams_that_are_not_placed_cost_nothing(rt: HostRuntime) -> Result<(), Fail> {
-    let instance = session(rt.alloc())?;
-    let enrolments = enrolled(rt.alloc(), &PAIRS)?;
-    let timetable = placed(rt.alloc(), &[None; 4])?;
-    if !fits(&instance, &enrolments, &timetable) {
-        return Err("other exams")?;
-    }
-    let parts = score(rt.alloc(), &instance, &enrolments, &timetable)?;
-    assert_same(&rt, (numbers(&parts), parts.total()), ([0; 7], 0), "parts");
-    Ok(())
-}
-
-// The parts of a timetable of the small session before and after exams 1 and 2 change places.
-fn swapped(
-    alloc: Global,
-    instance: &Instance,
-    enrolments: &Enrolments,
-    old: &Timetable,
-) -> Result<(Parts, Parts), Fail> {
-    if instance.exams() != 4 || !fits(instance, enrolments, old) {
+fn swap(rt: HostRuntime) -> Result<(), Fail> {
+    let alloc = rt.alloc();
+    let (instance, enrolments) = small(alloc, &[], &[])?;
+    let old = placed(alloc, &APART)?;
+    if instance.exams() != 4 || !fits(&instance, &enrolments, &old) {
         return Err("a place that doesn't exist")?;
     }
     let (one, two) = (ExamNo::new(1), ExamNo::new(2));
-    let (Some(first), Some(second)) = (old.get(one), old.get(two)) else {
-        return Err("an exam that stands nowhere")?;
-    };
     let mut new = old.copy(alloc)?;
-    new.set(one, second);
-    new.set(two, first);
-    if !fits(instance, enrolments, &new) {
+    new.set(one, place(3, 1));
+    new.set(two, place(1, 0));
+    if !fits(&instance, &enrolments, &new) {
         return Err("a place that doesn't exist")?;
     }
-    let before = score(alloc, instance, enrolments, old)?;
-    let edited = [one, two];
-    let parts = difference(alloc, instance, enrolments, old, &new, &edited, before)?;
-    Ok((before, parts))
-}
-
-#[test]
-fn swap(rt: HostRuntime) -> Result<(), Fail> {
-    let instance = session(rt.alloc())?;
-    let enrolments = enrolled(rt.alloc(), &PAIRS)?;
-    let old = placed(rt.alloc(), &APART)?;
-    let (before, parts) = swapped(rt.alloc(), &instance, &enrolments, &old)?;
+    let before = score(alloc, &instance, &enrolments, &old)?;
     assert_same(&rt, before.total(), 37, "before");
+    let edited = [one, two];
+    let parts = difference(alloc, &instance, &enrolments, &old, &new, &edited, before)?;
     assert_same(&rt, numbers(&parts), [0, 5, 3, 0, 0, 15, 7], "parts");
     assert_same(&rt, parts.total(), 30, "after");
     Ok(())
 }
 
-// The small session's pairs, but that student 1 sits exam 3 alone.
+// The small session's pairs, but that student 1 sits only exam 3.
 const ONE_EXAM: [(u32, u32); 5] = [(2, 0), (2, 1), (3, 1), (3, 2), (1, 3)];
 
-// What the move of exam 3 makes of a penalty, by the one pair of its one student.
-fn folded(
-    alloc: Global,
-    instance: &Instance,
-    old: &Timetable,
-    new: &Timetable,
-    before: Parts,
-) -> Result<Parts, Fail> {
+// The solution costs the students row 7 and spread 2, because student 1 has no two exams. In one
+// room with exam 2, exam 3 costs a mixed duration, and 5 and 7 in the place of 10 and 0.
+#[test]
+fn edit_by_pairs(rt: HostRuntime) -> Result<(), Fail> {
+    let alloc = rt.alloc();
+    let (instance, _) = small(alloc, &[], &[])?;
+    let (old, new) = (placed(alloc, &APART)?, placed(alloc, &ONE_ROOM)?);
     let sizes = sizes_of(alloc, &enrolled(alloc, &ONE_EXAM)?)?;
     if sizes.len() != instance.exams() as usize {
         return Err("other exams")?;
     }
     let (one, three) = (student(1)?, ExamNo::new(3));
     let edited = [three];
-    let mut fold = EditFold::new(alloc, instance, old, new, &edited)?;
+    let mut fold = EditFold::new(alloc, &instance, &old, &new, &edited)?;
     fold.row(one, three)?;
-    Ok(fold.finish(&sizes, before).ok_or("a penalty of 2^62")?)
-}
-
-// The solution costs the students row 7 and spread 2, since student 1 has no two exams. In one room
-// with exam 2, exam 3 costs a mixed duration, and 5 and 7 in the place of 10 and 0.
-#[test]
-fn edit_by_pairs(rt: HostRuntime) -> Result<(), Fail> {
-    let instance = session(rt.alloc())?;
-    let (old, new) = (placed(rt.alloc(), &APART)?, placed(rt.alloc(), &ONE_ROOM)?);
     let before = Parts::new(7, 0, 2, 0, 0, 15, 7).ok_or("a penalty of 2^62")?;
-    let parts = folded(rt.alloc(), &instance, &old, &new, before)?;
+    let parts = fold.finish(&sizes, before).ok_or("a penalty of 2^62")?;
     assert_same(&rt, numbers(&parts), [7, 0, 2, 10, 0, 10, 14], "parts");
     Ok(())
 }
@@ -112,7 +71,7 @@ fn front_at(instance: &Instance, sizes: &[u32], exam: u32, at: Option<Place>) ->
 // Of two exams of one size the smaller number is the largest, and the last periods are 2 and 3.
 #[test]
 fn front_load_by_exams(rt: HostRuntime) -> Result<(), Fail> {
-    let instance = session(rt.alloc())?;
+    let (instance, _) = small(rt.alloc(), &[], &[])?;
     let sizes = sizes_of(rt.alloc(), &enrolled(rt.alloc(), &PAIRS)?)?;
     assert_same(&rt, sizes.as_slice(), [2, 2, 1, 1].as_slice(), "sizes");
     let cases = [
@@ -132,8 +91,7 @@ fn front_load_by_exams(rt: HostRuntime) -> Result<(), Fail> {
 
 #[test]
 fn stays_of_placed_exams(rt: HostRuntime) -> Result<(), Fail> {
-    let instance = session(rt.alloc())?;
-    let enrolments = enrolled(rt.alloc(), &PAIRS)?;
+    let (instance, enrolments) = small(rt.alloc(), &[], &[])?;
     let timetable = placed(rt.alloc(), &[APART[0], None, APART[2], APART[3]])?;
     if !fits(&instance, &enrolments, &timetable) {
         return Err("a place that doesn't exist")?;
@@ -162,10 +120,15 @@ fn personal_of(alloc: Global, instance: &Instance, numbers: &[u32]) -> Result<[u
     Ok([parts.row(), parts.day(), parts.spread(), parts.total()])
 }
 
+// A cost through its bound.
+fn cost_at<C: PairCost>(cost: &C, one: u32, other: u32) -> u64 {
+    cost.cost(PeriodNo::new(one), PeriodNo::new(other))
+}
+
 #[test]
 fn personal_penalties(rt: HostRuntime) -> Result<(), Fail> {
-    let instance = session(rt.alloc())?;
-    // the periods of her exams, and row, day, spread and total
+    let (instance, _) = small(rt.alloc(), &[], &[])?;
+    // the periods of a candidate's exams, and row, day, spread and total
     let cases: [(&[u32], [u64; 4]); 5] = [
         (&[0, 2], [0, 5, 1, 6]),
         (&[0, 1], [7, 0, 1, 8]),
@@ -177,17 +140,6 @@ fn personal_penalties(rt: HostRuntime) -> Result<(), Fail> {
         let found = personal_of(rt.alloc(), &instance, numbers)?;
         assert_same(&rt, found, wanted, numbers);
     }
-    Ok(())
-}
-
-// A cost through its bound.
-fn cost_at<C: PairCost>(cost: &C, one: u32, other: u32) -> u64 {
-    cost.cost(PeriodNo::new(one), PeriodNo::new(other))
-}
-
-#[test]
-fn costs_of_two_periods(rt: HostRuntime) -> Result<(), Fail> {
-    let instance = session(rt.alloc())?;
     // two periods, and what they cost for row, day and spread
     let cases = [
         (0, 1, [7, 0, 1]),
