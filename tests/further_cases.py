@@ -2,8 +2,8 @@
 no plain requests, edits and owners, and the texts of batches."""
 from serve_cases import (
     COINCIDING, EMPTY, FROM_SOLUTION, SMALL, SMALLEST, VIOLATIONS, asked_by, at, bad_file, batch,
-    broken, case, clear, drafted, enrolled, error, forbidden, me, message, move, place, reply, swap,
-    text)
+    broken, case, clear, drafted, enrolled, error, forbidden, me, message, move, place, publish,
+    published, reply, swap, text)
 
 ASKED = asked_by(99), me(99, 0)
 REQUEST, LENGTH = error(400, "request"), error(413, "length")
@@ -142,6 +142,13 @@ EDITS = [
          (draft(8), reply(201, '{"draft":8,"penalty":0}')),
          (message("DELETE", "/drafts/8"), reply(200, '{"draft":8}')),
          (draft(8, b"0,0"), reply(201, '{"draft":8,"penalty":0}'))),
+    case("a publication of an exam that nobody sits", None,
+         (message("PUT", "/instance", SMALLEST),
+          reply(201, '{"exams":1,"pairs":0,"periods":1,"rooms":1}')),
+         (draft(1, b"0,0"), drafted(201, 0)),
+         (publish(), published(0, 0)),
+         (message("GET", "/publication/rooms"),
+          text("per room    used     cap  exams\n  0    0       0       0  0\n"))),
     case("owners come and go", None,
          (owner(0, 3), error(409, "not-loaded")),
          (place(0, 0, 0, "dept:3"), forbidden("P3")),

@@ -26,12 +26,12 @@ import tty
 from collections import namedtuple
 
 from cases import Cases
-from further_cases import ASKED, FURTHER
+from further_cases import ASKED, FURTHER, shown
 from serve_cases import (
-    CASES, EMPTY, EXAMPLES, FIRST_MOVED, MANY, MOVED_ROOMS, MOVED_TEXT, PENALTY, PENDING, PUBLISHED,
-    SECOND_PAGE, SHOWN, SMALL, SOLUTION, STORED, THIRD, UNPLACED, asked_by, at, batch, batch_text,
-    clear, drafted, enrolled, error, forbidden, me, message, move, pending, place, publish, published,
-    reply, report, text)
+    CASES, EMPTY, EXAMPLES, FIRST_MOVED, FROM_SOLUTION, INSTANCE, MANY, MOVED_ROOMS, MOVED_TEXT,
+    PENALTY, PENDING, PUBLISHED, SECOND_PAGE, SHOWN, SMALL, SOLUTION, STORED, THIRD, UNPLACED,
+    asked_by, at, batch, batch_text, clear, drafted, enrolled, error, forbidden, me, message, move,
+    pending, place, publish, published, reply, report, swap, text)
 
 SECONDS = 60
 
@@ -230,6 +230,18 @@ def adopt_after_republication(run):
                           check=False)
     run.judge("adopt_after_republication, other tables", no_office,
               (done.returncode, done.stdout, done.stderr))
+
+
+def draft_survives_adopt(run):
+    """An owner and an edited draft are there when the file is served again."""
+    owner, places = message("PUT", "/exams/0/owner", b'{"dept":3}'), ((0, 0), (3, 1), (1, 0), (2, 0))
+    served_again(run, "draft_survives_adopt",
+                 [(owner, reply(200, '{"dept":3,"exam":0}')), (FROM_SOLUTION, drafted(201, 37)),
+                  (swap(1, 2), drafted(200, 30))],
+                 [INSTANCE, (message("GET", "/drafts/1"), shown(30, *places)),
+                  (PENALTY, text(report(0, 5, 3, 0, 0, 15, 7, 30))),
+                  (place(0, 0, 0, "dept:3"), error(409, "already-placed")),
+                  (place(1, 0, 0, "dept:3"), forbidden("P3"))])
 
 
 def batches_are_kept(run):
@@ -749,9 +761,9 @@ def main():
         tests = [worked_examples, stock_curl, many_connections, failing_reader_and_writer,
                  port_is_taken, locked_database, closed_streams]
         if not given.plain:
-            tests += [stored_by_hand, adopt_after_republication, last_message, long_message,
-                      longest_body, cut_messages, hostile_messages, batches_are_kept, publication_is_told, slow_clients, patient_client,
-                      default_patience]
+            tests += [stored_by_hand, adopt_after_republication, draft_survives_adopt, last_message,
+                      long_message, longest_body, cut_messages, hostile_messages, batches_are_kept,
+                      publication_is_told, slow_clients, patient_client, default_patience]
         for test in [*tests, longest_batch, most_batches, most_pairs]:
             test(run)
         kills(run, given.kills)

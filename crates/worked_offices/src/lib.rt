@@ -4,18 +4,8 @@
 #[cfg(test)]
 mod adopting;
 #[cfg(test)]
-mod calls;
-#[cfg(test)]
-mod drafting;
-#[cfg(test)]
-mod editing;
-#[cfg(test)]
 mod given;
 #[cfg(test)]
-mod offices;
-#[cfg(test)]
-mod published_tables;
-#[cfg(test)]
-mod reading;
+mod showing;
 #[cfg(test)]
 mod tables;

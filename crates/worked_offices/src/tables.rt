@@ -1,13 +1,19 @@
 // The tables of an office's file, over a database in memory.
+ghost use Rattle.office_tables.specs.SharePart.{ArePartAmounts};
+ghost use Rattle.office_tables.specs.ShareStudent.{AreStudentAmounts};
+
 use crate::given::assert_same;
 use office_tables::{
-    Alteration, Both, DeleteDraft, DeleteMeta, DeleteOwner, DeleteSlot, DeleteSlots, DraftRow,
-    Each, EnrolRow, InsertDraft, InsertEnrol, InsertMeta, InsertOwner, InsertSlot, OwnerRow,
-    SlotRow, adopt_tables, create_tables, drafts_of, is_bare, look, owners_of, slots_of,
+    Alteration, Both, DeleteDraft, DeleteMeta, DeleteOwner, DeletePartShares, DeletePlacements,
+    DeleteSlot, DeleteSlots, DeleteStudentSeats, DeleteStudentShare, DraftRow, Each, EnrolRow,
+    InsertDraft, InsertEnrol, InsertMeta, InsertOwner, InsertPartShare, InsertPlacement,
+    InsertSeat, InsertSlot, InsertStudentShare, OwnerRow, PartShareRow, PlacedRow, SeatRow,
+    SlotRow, StudentShareRow, adopt_tables, create_tables, drafts_of, enrols_of, find_enrols_of,
+    is_bare, look, owners_of, part_shares, placements, placements_of, seats, seats_of, slots_of,
+    student_shares, student_shares_of, transact,
 };
 use sqlite::{Connection, Error, MemStore, Transaction};
 use std::alloc::Global;
-use std::process::Abort;
 use std::test::Fail;
 
 const DRAFT: DraftRow = DraftRow {
@@ -32,194 +38,212 @@ fn slot(draft: u32, exam: u32, period: u32, room: u32) -> SlotRow {
     }
 }
 
-fn three_slots() -> [SlotRow; 3] {
-    [slot(1, 0, 0, 0), slot(1, 2, 3, 1), slot(2, 0, 1, 1)]
+fn place(exam: u32, period: u32, room: u32) -> PlacedRow {
+    PlacedRow { exam, period, room }
 }
 
-// Those of draft 1.
-fn slots_of_the_first() -> [SlotRow; 2] {
-    [slot(1, 0, 0, 0), slot(1, 2, 3, 1)]
+fn seated(student: u32, exam: u32, seat: u32) -> SeatRow {
+    SeatRow {
+        student,
+        exam,
+        period: exam,
+        room: 0,
+        seat,
+    }
 }
 
-// A database with the tables, and nothing in them.
-pub(crate) fn created(alloc: Global) -> Result<Connection<MemStore>, Fail> {
+fn cost(student: u32, in_row: u32) -> StudentShareRow
+    ensures { AreStudentAmounts result }
+{
+    StudentShareRow {
+        student,
+        in_row: u64::from(in_row),
+        in_day: 5,
+        spread: 1,
+    }
+}
+
+fn part(kind: u32, no: u32) -> PartShareRow
+    ensures { ArePartAmounts result }
+{
+    PartShareRow {
+        kind,
+        no,
+        penalty: 10,
+        mixed: 2,
+    }
+}
+
+// A session, its owner, and the places of two drafts, of which one has its row.
+fn put_session(tx: &mut Transaction<'_, MemStore>) -> Result<(), Error> {
+    let meta = Both {
+        first: DeleteMeta,
+        second: InsertMeta {
+            published: true,
+            instance: b"[Exams:3]",
+        },
+    };
+    meta.apply(tx)?;
+    for (student, exam) in [(2, 2), (1, 0), (2, 0)] {
+        let row = EnrolRow { student, exam };
+        InsertEnrol { row }.apply(tx)?;
+    }
+    InsertOwner { row: OWNER }.apply(tx)?;
+    InsertDraft { row: DRAFT }.apply(tx)?;
+    let slots = [slot(1, 0, 0, 0), slot(1, 2, 3, 1), slot(2, 0, 1, 1)];
+    let alterations = &slots.map(|row| InsertSlot { row });
+    Each { alterations }.apply(tx)
+}
+
+// Three places, three seats and four shares, in no order.
+fn put_publication(tx: &mut Transaction<'_, MemStore>) -> Result<(), Error> {
+    for row in [place(2, 2, 0), place(0, 0, 0), place(1, 1, 1)] {
+        InsertPlacement { row }.apply(tx)?;
+    }
+    for row in [seated(2, 0, 2), seated(2, 2, 1), seated(1, 0, 1)] {
+        InsertSeat { row }.apply(tx)?;
+    }
+    InsertStudentShare { row: cost(2, 7) }.apply(tx)?;
+    InsertStudentShare { row: cost(1, 0) }.apply(tx)?;
+    InsertPartShare { row: part(2, 0) }.apply(tx)?;
+    InsertPartShare { row: part(0, 4) }.apply(tx)
+}
+
+// A database with the tables and these rows.
+fn filled(alloc: Global) -> Result<Connection<MemStore>, Fail> {
     let mut conn = Connection::open_in_memory(alloc)?;
     if !is_bare(&conn) || !conn.is_autocommit() {
         return Err("a new database isn't bare")?;
     }
     let mut tx = conn.transaction();
     create_tables(&mut tx)?;
+    put_session(&mut tx)?;
+    put_publication(&mut tx)?;
     tx.commit()?;
     Ok(conn)
 }
 
 #[test]
-fn tables_are_made_once(rt: HostRuntime) -> Result<(), Fail> {
-    let mut conn = created(rt.alloc())?;
-    assert_same(&rt, is_bare(&conn), false, "bare");
-    if !conn.is_autocommit() {
-        return Err("a transaction is open")?;
-    }
-    let mut tx = conn.transaction();
-    assert_same(&rt, create_tables(&mut tx).is_err(), true, "refused");
-    Ok(())
-}
-
-fn put_some(tx: &mut Transaction<'_, MemStore>) -> Result<(), Error> {
-    let meta = Both {
-        first: DeleteMeta,
-        second: InsertMeta {
-            published: false,
-            instance: b"[Exams:1]",
-        },
-    };
-    meta.apply(tx)?;
-    InsertOwner { row: OWNER }.apply(tx)?;
-    InsertDraft { row: DRAFT }.apply(tx)?;
-    let slots = three_slots().map(|row| InsertSlot { row });
-    Each {
-        alterations: &slots,
-    }
-    .apply(tx)
-}
-
-// Has one owner, one draft and three slots, and these enrolments.
-fn filled(alloc: Global, pairs: &[EnrolRow]) -> Result<Connection<MemStore>, Fail> {
-    let mut conn = created(alloc)?;
-    if !conn.is_autocommit() {
-        return Err("a transaction is open")?;
-    }
-    let mut tx = conn.transaction();
-    put_some(&mut tx)?;
-    for pair in pairs {
-        InsertEnrol { row: *pair }.apply(&mut tx)?;
-    }
-    tx.commit()?;
-    Ok(conn)
-}
-
-// Whether exam 0 has these owners, and draft 1 these rows and slots.
-fn holds<R: Abort>(
-    rt: &R,
-    alloc: Global,
-    conn: &mut Connection<MemStore>,
-    owners: &[OwnerRow],
-    drafts: &[DraftRow],
-    slots: &[SlotRow],
-) -> Result<(), Fail> {
-    assert_same(rt, owners_of(alloc, conn, 0)?.as_slice(), owners, "owners");
-    assert_same(rt, drafts_of(alloc, conn, 1)?.as_slice(), drafts, "drafts");
-    assert_same(rt, slots_of(alloc, conn, 1)?.as_slice(), slots, "slots");
-    Ok(())
-}
-
-#[test]
-fn rows_come_back(rt: HostRuntime) -> Result<(), Fail> {
-    let pairs = [(2, 0), (1, 0), (2, 1)].map(|(student, exam)| EnrolRow { student, exam });
-    let mut conn = filled(rt.alloc(), &pairs)?;
-    holds(
-        &rt,
-        rt.alloc(),
-        &mut conn,
-        &[OWNER],
-        &[DRAFT],
-        &slots_of_the_first(),
-    )?;
-    let others = owners_of(rt.alloc(), &mut conn, 1)?;
-    assert_same(&rt, others.len(), 0, "owners of exam 1");
-    let Some(found) = adopt_tables(rt.alloc(), &mut conn)? else {
+fn rows_come_back_in_order(rt: HostRuntime) -> Result<(), Fail> {
+    let (alloc, mut conn) = (rt.alloc(), filled(rt.alloc())?);
+    look(&mut conn)?;
+    let Some(found) = adopt_tables(alloc, &mut conn)? else {
         return Err("no tables")?;
     };
-    assert_same(&rt, found.enrols.as_slice(), pairs.as_slice(), "enrolments");
+    assert_same(&rt, found.meta.published, true, "published");
+    let instance = found.meta.instance.as_slice();
+    assert_same(&rt, instance, b"[Exams:3]".as_slice(), "instance");
+    let counts = [
+        found.enrols.len(),
+        found.slots.len(),
+        found.placements.len(),
+    ];
+    assert_same(&rt, counts, [3, 3, 3], "counts");
+    let owners = owners_of(alloc, &mut conn, 0)?;
+    assert_same(&rt, owners.as_slice(), [OWNER].as_slice(), "owners");
+    let drafts = drafts_of(alloc, &mut conn, 1)?;
+    assert_same(&rt, drafts.as_slice(), [DRAFT].as_slice(), "drafts");
+    let slots = slots_of(alloc, &mut conn, 1)?;
+    let wanted = [slot(1, 0, 0, 0), slot(1, 2, 3, 1)];
+    assert_same(&rt, slots.as_slice(), wanted.as_slice(), "slots");
+    let places = placements(alloc, &mut conn)?;
+    let wanted = [place(0, 0, 0), place(1, 1, 1), place(2, 2, 0)];
+    assert_same(&rt, places.as_slice(), wanted.as_slice(), "places");
+    let all = seats(alloc, &mut conn)?;
+    let wanted = [seated(1, 0, 1), seated(2, 0, 2), seated(2, 2, 1)];
+    assert_same(&rt, all.as_slice(), wanted.as_slice(), "seats");
+    let students = student_shares(alloc, &mut conn)?;
+    let wanted = [cost(1, 0), cost(2, 7)];
+    assert_same(&rt, students.as_slice(), wanted.as_slice(), "students");
+    let parts = part_shares(alloc, &mut conn)?;
+    let wanted = [part(0, 4), part(2, 0)];
+    assert_same(&rt, parts.as_slice(), wanted.as_slice(), "parts");
     Ok(())
 }
 
-fn put_one_by_one(tx: &mut Transaction<'_, MemStore>) -> Result<(), Error> {
-    InsertOwner { row: OWNER }.apply(tx)?;
-    let row = EnrolRow {
-        student: 1,
-        exam: 0,
-    };
-    InsertEnrol { row }.apply(tx)?;
-    InsertDraft { row: DRAFT }.apply(tx)?;
-    for row in three_slots() {
-        InsertSlot { row }.apply(tx)?;
+// A number of 33 bits is no student's exam.
+#[test]
+fn a_student_has_rows(rt: HostRuntime) -> Result<(), Fail> {
+    let (alloc, mut conn) = (rt.alloc(), filled(rt.alloc())?);
+    let _count = conn.execute("INSERT INTO enrol VALUES (1, 4294967296)", &[])?;
+    let found = find_enrols_of(alloc, &mut conn, 1)?;
+    assert_same(&rt, found.is_none(), true, "a row that has no reading");
+    let enrolled = enrols_of(alloc, &mut conn, 2)?;
+    let wanted = [(2, 0), (2, 2)].map(|(student, exam)| EnrolRow { student, exam });
+    assert_same(&rt, enrolled.as_slice(), wanted.as_slice(), "enrolments");
+    let places = placements_of(alloc, &mut conn, 2)?;
+    let wanted = [place(0, 0, 0), place(2, 2, 0)];
+    assert_same(&rt, places.as_slice(), wanted.as_slice(), "places");
+    let own_seats = seats_of(alloc, &mut conn, 2)?;
+    let wanted = [seated(2, 0, 2), seated(2, 2, 1)];
+    assert_same(&rt, own_seats.as_slice(), wanted.as_slice(), "seats");
+    let shares = student_shares_of(alloc, &mut conn, 2)?;
+    assert_same(&rt, shares.as_slice(), [cost(2, 7)].as_slice(), "shares");
+    Ok(())
+}
+
+// Deletes the owner, the draft, all slots but one, and what is published but for student 1.
+fn delete_most(conn: &mut Connection<MemStore>) -> Result<(), Fail> {
+    if !conn.is_autocommit() {
+        return Err("a transaction is open")?;
     }
-    Ok(())
-}
-
-fn delete_most(tx: &mut Transaction<'_, MemStore>) -> Result<(), Error> {
-    DeleteOwner { exam: 0 }.apply(tx)?;
-    DeleteDraft { no: 1 }.apply(tx)?;
-    DeleteSlot { draft: 1, exam: 2 }.apply(tx)?;
-    DeleteSlots { draft: 2 }.apply(tx)
+    let drafts = Both {
+        first: DeleteDraft { no: 1 },
+        second: Both {
+            first: DeleteSlot { draft: 1, exam: 2 },
+            second: DeleteSlots { draft: 2 },
+        },
+    };
+    let session = Both {
+        first: DeleteOwner { exam: 0 },
+        second: drafts,
+    };
+    let seats = Both {
+        first: DeletePlacements,
+        second: DeleteStudentSeats { student: 2 },
+    };
+    let shares = Both {
+        first: DeleteStudentShare { student: 2 },
+        second: DeletePartShares,
+    };
+    let publication = Both {
+        first: seats,
+        second: shares,
+    };
+    let all = Both {
+        first: session,
+        second: publication,
+    };
+    Ok(transact(conn, &all)?)
 }
 
 #[test]
 fn rows_go(rt: HostRuntime) -> Result<(), Fail> {
-    let mut conn = created(rt.alloc())?;
-    if !conn.is_autocommit() {
-        return Err("a transaction is open")?;
-    }
-    let mut tx = conn.transaction();
-    put_one_by_one(&mut tx)?;
-    delete_most(&mut tx)?;
-    tx.commit()?;
-    holds(&rt, rt.alloc(), &mut conn, &[], &[], &three_slots()[..1])?;
-    let of_the_second = slots_of(rt.alloc(), &mut conn, 2)?;
-    assert_same(&rt, of_the_second.len(), 0, "slots of draft 2");
-    Ok(())
-}
-
-// Whether the tables are found to be an office's, after a statement.
-fn is_found(conn: &mut Connection<MemStore>, alloc: Global, text: &str) -> Result<bool, Error> {
-    let _count = conn.execute(text, &[])?;
-    Ok(adopt_tables(alloc, conn)?.is_some())
-}
-
-#[test]
-fn an_office_is_found(rt: HostRuntime) -> Result<(), Fail> {
-    let pairs = [EnrolRow {
-        student: 1,
-        exam: 0,
-    }];
-    let mut conn = filled(rt.alloc(), &pairs)?;
-    for (text, wanted) in [
-        (
-            "INSERT INTO slot (rowid, draft, exam, period, room) VALUES (-5, 3, 1, 1, 1)",
-            true,
-        ),
-        ("INSERT INTO seat VALUES (1, 0, 0, 0, -1)", false),
-        ("DELETE FROM seat", true),
-        ("INSERT INTO share_student VALUES (-1, 0, 0, 0)", false),
-        ("DELETE FROM share_student", true),
-        ("INSERT INTO batch VALUES (1, x'', 0, 0, 0)", true),
-        ("INSERT INTO batch VALUES (2, x'', 0, 0, -1)", false),
-        ("DELETE FROM batch", true),
-        ("UPDATE meta SET published = 2", false),
-        ("UPDATE meta SET published = 1", true),
-        ("INSERT INTO enrol (student, exam) VALUES (-1, 0)", false),
-        ("DELETE FROM enrol", true),
-        ("CREATE TABLE more (x INTEGER)", false),
-    ] {
-        assert_same(&rt, is_found(&mut conn, rt.alloc(), text)?, wanted, text);
-    }
-    Ok(())
-}
-
-#[test]
-fn the_office_has_a_row(rt: HostRuntime) -> Result<(), Fail> {
-    let mut conn = filled(rt.alloc(), &[])?;
-    look(&mut conn)?;
-    let Some(found) = adopt_tables(rt.alloc(), &mut conn)? else {
-        return Err("no tables")?;
-    };
-    assert_same(&rt, found.meta.published, false, "published");
+    let (alloc, mut conn) = (rt.alloc(), filled(rt.alloc())?);
+    delete_most(&mut conn)?;
+    let left = [
+        owners_of(alloc, &mut conn, 0)?.len(),
+        drafts_of(alloc, &mut conn, 1)?.len(),
+        slots_of(alloc, &mut conn, 2)?.len(),
+        placements(alloc, &mut conn)?.len(),
+        part_shares(alloc, &mut conn)?.len(),
+    ];
+    assert_same(&rt, left, [0; 5], "rows");
+    let slots = slots_of(alloc, &mut conn, 1)?;
     assert_same(
         &rt,
-        found.meta.instance.as_slice(),
-        b"[Exams:1]".as_slice(),
-        "instance",
+        slots.as_slice(),
+        [slot(1, 0, 0, 0)].as_slice(),
+        "slots",
+    );
+    let all = seats(alloc, &mut conn)?;
+    assert_same(&rt, all.as_slice(), [seated(1, 0, 1)].as_slice(), "seats");
+    let students = student_shares(alloc, &mut conn)?;
+    assert_same(
+        &rt,
+        students.as_slice(),
+        [cost(1, 0)].as_slice(),
+        "students",
     );
     Ok(())
 }
