@@ -238,8 +238,12 @@ class Run(run_serve.Run):
     accepted = again = 0
 
     def command(self, *words):
-        return subprocess.run([*map(str, words)], stdin=subprocess.DEVNULL, capture_output=True,
-                              timeout=SECONDS, check=False).stdout
+        """What it prints; status 3 says that a timetable has a breach. Any other ends the test."""
+        ended = subprocess.run([*map(str, words)], stdin=subprocess.DEVNULL, capture_output=True,
+                               timeout=SECONDS, check=False)
+        if ended.returncode not in (0, 3):
+            raise OSError(f"{words}: status {ended.returncode}, {ended.stderr!r}")
+        return ended.stdout
 
     def prepared(self, name, office):
         """A database of its own, with the office loaded."""
