@@ -13,7 +13,9 @@ use Rattle.office_files.specs.Inputs.{RefusesFile}
 use Rattle.office_check.specs.Check.{IsRead, IsJudgement, Reports, report}
 use Rattle.office_check.specs.Refusing.{Refuses, of_solution}
 use Rattle.office_check.specs.Check.{IsSomeJudgement, WritesReport, exit_status, status_of}
+use Rattle.office_check.specs.Verdicts.{IsVerdict, IsVerdictOn}
 use Rattle.office_check.specs.declared.checking.CheckFault.{CheckFault}
+use Rattle.office_check.specs.declared.judging.Verdict.{Verdict}
 use Rattle.office_files.specs.declared.inputs.InputFault.{InputFault}
 use Rattle.office_files.specs.declared.inputs.InputFault.TheVariants.{Read, File, NoMemory}
 
@@ -119,3 +121,11 @@ solution_refused (Some instance) (Some solution) I enrolled input fault one bad 
     refuses Read bad = first
     refuses (File f) bad = record { first = first; fault = bad }
     refuses NoMemory bad = tt
+
+-- a reading of the input has a verdict
+pub verdict_on : (a : Option (List ℕ)) (I : Session) (E : Enrolled) (placing : Placing)
+    (verdict : Verdict) → IfSome a (λ solution. SolutionText solution I placing)
+    → IsVerdict I E placing verdict → IfSome a (λ solution. IsVerdictOn I E solution verdict)
+verdict_on None I E placing verdict spells judged = tt
+verdict_on (Some solution) I E placing verdict spells judged =
+    record { placing = placing; spells = spells; judged = judged }

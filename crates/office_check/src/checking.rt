@@ -117,7 +117,10 @@ fn judgement_of<R: Read, Q: Read>(
 }
 
 // The instance that the reader's text spells.
-fn instance_of<R: Read>(alloc: Global, reader: &mut R) -> Result<(Instance, Enrolments), InputFault>
+pub(crate) fn instance_of<R: Read>(
+    alloc: Global,
+    reader: &mut R,
+) -> Result<(Instance, Enrolments), InputFault>
     ensures reading { IfOk result (λ read. IfSome (R.remaining reader.old)
         (λ input. InstanceText input read.0 read.1)) }
     ensures spelled { IfOk result (λ read. (input : List ℕ) × InstanceText input read.0 read.1) }
@@ -142,7 +145,7 @@ fn of_instance(fault: InputFault) -> CheckFault
 }
 
 // The timetable that the reader's text spells.
-fn solution_of<R: Read>(
+pub(crate) fn solution_of<R: Read>(
     alloc: Global,
     reader: &mut R,
     instance: &Instance,

@@ -3,5 +3,7 @@
 #![tactic(auto)]
 
 mod checking;
+mod judging;
 
 pub use checking::{CheckFault, check_run};
+pub use judging::{Judge, LineForm, Verdict};

@@ -1,0 +1,67 @@
+-- What is found of a solution, and the line in which it is printed.
+use Rattle.std.specs.Prelude.{◌≡◌, ℕ, ◌++◌, ◌∷◌, [], List, codes, decimal, length}
+use Rattle.std.specs.List.{flat_map}
+use Rattle.serde_json.specs.Data.{Data, member, no_members, number, object, string, unsigned}
+use Rattle.serde_json.specs.Written.{compact_text}
+use Rattle.exam_model.specs.Enrolments.{Enrolled}
+use Rattle.exam_model.specs.Instance.{Session}
+use Rattle.exam_model.specs.Timetable.{Placing}
+use Rattle.exam_rules.specs.Breaches.{breaches_of}
+use Rattle.exam_score.specs.Penalty.{total_of}
+use Rattle.exam_score.specs.Track.{track}
+use Rattle.office_files.specs.SolutionText.{SolutionText}
+use Rattle.office_check.specs.declared.judging.LineForm.{LineForm}
+use Rattle.office_check.specs.declared.judging.LineForm.TheVariants.{Json, Plain}
+use Rattle.office_check.specs.declared.judging.Verdict.{Verdict}
+
+-- the number of a timetable's breaches, and its penalty, both as `check` reports them
+pub record IsVerdict (I : Session) (E : Enrolled) (T : Placing) (verdict : Verdict) : Type 0 where
+  pub breaches : verdict.breaches ≡ length (breaches_of I E T)
+  pub parts : verdict.parts ≡ track I E T
+
+-- the text has a reading, and this is the verdict on it
+pub record IsVerdictOn (I : Session) (E : Enrolled) (solution : List ℕ) (verdict : Verdict)
+    : Type 0 where
+  pub placing : Placing
+  pub spells : SolutionText solution I placing
+  pub judged : IsVerdict I E placing verdict
+
+-- the breaches, the total, and the parts of the penalty in the order of the report
+abbrev pub numbers_of : Verdict → List ℕ
+numbers_of v = v.breaches ∷ total_of v.parts ∷ v.parts.row ∷ v.parts.day ∷ v.parts.spread
+    ∷ v.parts.mixed ∷ v.parts.front ∷ v.parts.period ∷ v.parts.room ∷ []
+
+-- a number and the space after it
+abbrev pub column : ℕ → List ℕ
+column n = decimal n ++ 32 ∷ []
+
+-- these numbers, and the path to the end of the line
+abbrev pub plain_line : List ℕ → Verdict → List ℕ
+plain_line path v = flat_map column (numbers_of v) ++ path ++ 10 ∷ []
+
+-- a member whose value is a number
+abbrev pub counted : ℕ → Data
+counted n = number (unsigned n)
+
+-- the same with names
+abbrev pub verdict_data : List ℕ → Verdict → Data
+verdict_data path v = object
+    (member (codes "breaches") (counted v.breaches)
+    (member (codes "day") (counted v.parts.day)
+    (member (codes "front") (counted v.parts.front)
+    (member (codes "mixed") (counted v.parts.mixed)
+    (member (codes "path") (string path)
+    (member (codes "period") (counted v.parts.period)
+    (member (codes "room") (counted v.parts.room)
+    (member (codes "row") (counted v.parts.row)
+    (member (codes "spread") (counted v.parts.spread)
+    (member (codes "total") (counted (total_of v.parts)) no_members))))))))))
+
+-- the same as a line of JSON
+abbrev pub json_line : List ℕ → Verdict → List ℕ
+json_line path v = compact_text (verdict_data path v) ++ 10 ∷ []
+
+-- the line in one form or the other
+abbrev pub verdict_line : LineForm → List ℕ → Verdict → List ℕ
+verdict_line Plain path v = plain_line path v
+verdict_line Json path v = json_line path v

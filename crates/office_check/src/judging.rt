@@ -1,0 +1,225 @@
+// Many solutions of one session, each judged in a line of its own.
+ghost use Rattle.std.specs.Prelude.{◌≡◌, ◌≢◌, ◌↔◌, ◌+◌, ◌++◌, ℕ, List, IfErr, IfOk, IfSome};
+ghost use Rattle.std.specs.Prelude.{IsTrue, OnOk, length, string_bytes};
+ghost use Rattle.std.specs.List.{flat_map};
+ghost use Rattle.serde_json.specs.View.{view};
+ghost use Rattle.exam_terms.specs.declared.limits.TheConstants.{INSTANCE_BYTES, TEXT_BYTES};
+ghost use Rattle.exam_model.specs.Fits.{Fits};
+ghost use Rattle.office_files.specs.FirstFault.{first_fault, first_solution_fault};
+ghost use Rattle.office_files.specs.InstanceText.{InstanceText};
+ghost use Rattle.office_files.specs.Inputs.{RefusesFile, TakesAtMost};
+ghost use Rattle.office_check.specs.Verdicts.{IsVerdict, IsVerdictOn, column, json_line, plain_line};
+ghost use Rattle.office_check.specs.Verdicts.{numbers_of, verdict_data, verdict_line};
+
+use crate::checking::{instance_of, solution_of};
+use exam_model::{Enrolments, Instance, Timetable};
+use exam_rules::breaches;
+use exam_score::{Parts, score};
+use office_files::InputFault;
+use serde_json::{Value, json};
+use std::alloc::{AllocError, Global};
+use std::io::Read;
+use std::marker::Model;
+
+/// A session by which solutions are judged.
+#[derive(Drop)]
+pub struct Judge {
+    instance: Instance,
+    enrolments: Enrolments,
+}
+
+impl Model for Judge {
+    ghost use Rattle.std.specs.Prelude.{◌≡◌, length};
+    ghost use Rattle.exam_model.specs.Enrolments.{Enrolled};
+    ghost use Rattle.exam_model.specs.Instance.{Session};
+
+    ghost Value = { Session × Enrolled };
+
+    ghost view = { λ judge. (judge.instance, judge.enrolments) };
+
+    ghost invariant = { λ judge. length judge.enrolments ≡ length judge.instance.exams };
+}
+
+/// What was found of a solution.
+#[derive(Clone, Copy)]
+pub struct Verdict {
+    /// How many breaches of hard rules it has.
+    pub breaches: usize,
+    /// Its penalty.
+    pub parts: Parts,
+}
+
+/// How a verdict is printed: numbers and the path with a space between them, or an object of JSON.
+#[derive(Clone, Copy, Debug, PartialEq, Eq)]
+pub enum LineForm {
+    Plain,
+    Json,
+}
+
+impl Judge {
+    /// Reads the session, in at most 5,000,000 reads; one that was interrupted counts, and is tried
+    /// again.
+    pub fn new<R: Read>(alloc: Global, reader: &mut R) -> Result<Judge, InputFault>
+        ensures reading { IfOk result (λ judge. IfSome (R.remaining reader.old)
+            (λ input. InstanceText input judge.0 judge.1)) }
+        ensures spelled { IfOk result (λ judge.
+            (input : List ℕ) × InstanceText input judge.0 judge.1) }
+        ensures refused { IfErr result (λ fault. IfSome (R.remaining reader.old)
+            (λ input. RefusesFile (first_fault input) fault)) }
+        // The reader is read no further than one byte past the limit.
+        ensures taken { TakesAtMost (INSTANCE_BYTES + 1)
+            (R.remaining reader.old) (R.remaining reader.new) }
+    {
+        let (instance, enrolments) = instance_of(alloc, reader)?;
+        Ok(Judge {
+            instance,
+            enrolments,
+        })
+    }
+
+    /// Judges the solution of a reader, in at most as many reads.
+    pub fn judge<R: Read>(&self, alloc: Global, reader: &mut R) -> Result<Verdict, InputFault>
+        ensures judged { IfOk result (λ verdict. IfSome (R.remaining reader.old)
+            (λ input. IsVerdictOn self.now.0 self.now.1 input verdict)) }
+        // Also if the reader's bytes are not known, it is the verdict on some text.
+        ensures some_judged { IfOk result (λ verdict.
+            (input : List ℕ) × IsVerdictOn self.now.0 self.now.1 input verdict) }
+        ensures refused { IfErr result (λ fault. IfSome (R.remaining reader.old)
+            (λ input. RefusesFile (first_solution_fault self.now.0 input) fault)) }
+        ensures taken { TakesAtMost (TEXT_BYTES + 1)
+            (R.remaining reader.old) (R.remaining reader.new) }
+    {
+        judge_by(alloc, &self.instance, &self.enrolments, reader)
+    }
+}
+
+// The verdict by a session's parts.
+fn judge_by<R: Read>(
+    alloc: Global,
+    instance: &Instance,
+    enrolments: &Enrolments,
+    reader: &mut R,
+) -> Result<Verdict, InputFault>
+    requires together { length enrolments.now ≡ length instance.now.exams }
+    ensures judged { IfOk result (λ verdict. IfSome (R.remaining reader.old)
+        (λ input. IsVerdictOn instance.now enrolments.now input verdict)) }
+    ensures some_judged { IfOk result (λ verdict.
+        (input : List ℕ) × IsVerdictOn instance.now enrolments.now input verdict) }
+    ensures refused { IfErr result (λ fault. IfSome (R.remaining reader.old)
+        (λ input. RefusesFile (first_solution_fault instance.now input) fault)) }
+    ensures taken { TakesAtMost (TEXT_BYTES + 1) (R.remaining reader.old) (R.remaining reader.new) }
+{
+    let timetable = solution_of(alloc, reader, instance)?;
+    let verdict = verdict_on(alloc, instance, enrolments, &timetable)?;
+    Ok(verdict)
+}
+
+// The breaches and the penalty of a timetable.
+fn verdict_on(
+    alloc: Global,
+    instance: &Instance,
+    enrolments: &Enrolments,
+    timetable: &Timetable,
+) -> Result<Verdict, AllocError>
+    requires { Fits instance.now enrolments.now timetable.now }
+    ensures { IfOk result (IsVerdict instance.now enrolments.now timetable.now) }
+{
+    let found = breaches(alloc, instance, enrolments, timetable)?;
+    let parts = score(alloc, instance, enrolments, timetable)?;
+    Ok(Verdict {
+        breaches: found.len(),
+        parts,
+    })
+}
+
+impl Verdict {
+    /// Whether the solution breaks a hard rule.
+    pub fn has_breach(&self) -> bool
+        ensures { IsTrue result ↔ (self.now.breaches ≢ 0) }
+    {
+        self.breaches != 0
+    }
+
+    /// The line of a verdict on the solution of this path.
+    pub fn line(&self, alloc: Global, path: &str, form: LineForm) -> Result<String, AllocError>
+        ensures { IfOk result (λ text.
+            string_bytes text ≡ verdict_line form path.now self.now) }
+    {
+        match form {
+            LineForm::Plain => self.plain_line(alloc, path),
+            LineForm::Json => self.json_line(alloc, path),
+        }
+    }
+
+    // Each number and the path, with a space between them.
+    fn plain_line(&self, alloc: Global, path: &str) -> Result<String, AllocError>
+        ensures { IfOk result (λ text. string_bytes text ≡ plain_line path.now self.now) }
+    {
+        let mut text = String::new(alloc);
+        add_columns(&mut text, &self.numbers())?;
+        write!(text, "{path}\n")?;
+        Ok(text)
+    }
+
+    // The breaches, the total, and each part of the penalty in the report's order.
+    fn numbers(&self) -> [u64; 9]
+        ensures { result ≡ numbers_of self.now }
+    {
+        let parts = self.parts;
+        [
+            self.breaches as u64,
+            parts.total(),
+            parts.row(),
+            parts.day(),
+            parts.spread(),
+            parts.mixed(),
+            parts.front(),
+            parts.period(),
+            parts.room(),
+        ]
+    }
+
+    // The same as an object.
+    fn json_line(&self, alloc: Global, path: &str) -> Result<String, AllocError>
+        ensures { IfOk result (λ text. string_bytes text ≡ json_line path.now self.now) }
+    {
+        let mut text = self.json_value(alloc, path)?.to_string(alloc)?;
+        text.push_str("\n")?;
+        Ok(text)
+    }
+
+    fn json_value(&self, alloc: Global, path: &str) -> Result<Value, AllocError>
+        ensures { IfOk result (λ value. view value ≡ verdict_data path.now self.now) }
+    {
+        json!(in alloc; {
+            "breaches": self.breaches as u64,
+            "day": self.parts.day(),
+            "front": self.parts.front(),
+            "mixed": self.parts.mixed(),
+            "path": path,
+            "period": self.parts.period(),
+            "room": self.parts.room(),
+            "row": self.parts.row(),
+            "spread": self.parts.spread(),
+            "total": self.parts.total()
+        })
+    }
+}
+
+// Adds numbers, with a space after each.
+fn add_columns(text: &mut String, numbers: &[u64]) -> Result<(), AllocError>
+    ensures { OnOk result (string_bytes text.new
+        ≡ string_bytes text.old ++ flat_map column numbers.now) }
+{
+    for number in numbers {
+        add_column(text, *number)?;
+    }
+    Ok(())
+}
+
+// Adds a number and a space.
+fn add_column(text: &mut String, number: u64) -> Result<(), AllocError>
+    ensures { OnOk result (string_bytes text.new ≡ string_bytes text.old ++ column number) }
+{
+    write!(text, "{number} ")
+}
