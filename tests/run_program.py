@@ -6,6 +6,7 @@ terminal as standard error. What docs/FORMATS.md says of the numbers of faults i
 words of the help, its lines of the small instance. A failing case is printed with what was
 expected and what came, and the last line counts the cases.
 """
+import json
 import os
 import pathlib
 import re
@@ -31,6 +32,12 @@ PENALTIES = ["two in a row", "two in a day", "period spread", "mixed durations",
              "period penalty", "room penalty"]
 GOOD = [7, 5, 3, 0, 0, 15, 7]
 TOGETHER = [7, 0, 3, 10, 0, 10, 14]
+EARLY = [0, 0, 3, 0, 4, 20, 7]
+CROWDED = [0, 5, 2, 10, 0, 15, 7]
+# Solutions of the small instance: how many breaches each has, and its penalties.
+JUDGED = {"small.sol": (0, GOOD), "together.sol": (0, TOGETHER), "crlf.sol": (0, GOOD),
+          "./a folder/the solution": (0, GOOD), "early.sol": (1, EARLY),
+          "crowded.sol": (4, CROWDED)}
 
 # `device`: where standard output goes; `terminal`: whether standard error is one; `journal`:
 # whether the environment says that it goes to a journal.
@@ -125,6 +132,20 @@ def check(name, instance, solution, penalties, *breaches):
                 report(breaches, penalties))
 
 
+def check_all(name, solutions, status, faults=b""):
+    """The lines of those solutions that have no fault, plain and as JSON."""
+    plain = [(path, *JUDGED[path]) for path in solutions if path in JUDGED]
+    lines = [" ".join(map(str, [breaches, sum(parts), *parts, path]))
+             for path, breaches, parts in plain]
+    names = ["row", "day", "spread", "mixed", "front", "period", "room"]
+    objects = [json.dumps({**dict(zip(names, parts, strict=True)), "breaches": breaches,
+                           "path": path, "total": sum(parts)}, sort_keys=True,
+                          separators=(",", ":")) for path, breaches, parts in plain]
+    return [Case(f"{name}{form}", ("check-all", *flag, "small.exam", *solutions), status,
+                 "".join(f"{line}\n" for line in shown).encode(), faults)
+            for form, flag, shown in (("", (), lines), (", as JSON", ("--json",), objects))]
+
+
 def fault(name, instance, solution, text):
     return Case(name, ("check", instance, solution), 1, b"", b"examoffice: %s\n" % text)
 
@@ -179,8 +200,8 @@ KINDS = {
 CASES = [
     check("the small example", "small.exam", "small.sol", GOOD),
     check("two exams in one room", "small.exam", "together.sol", TOGETHER),
-    check("an exam too early", "small.exam", "early.sol", [0, 0, 3, 0, 4, 20, 7], "After 1 0"),
-    check("a room too small", "small.exam", "crowded.sol", [0, 5, 2, 10, 0, 15, 7],
+    check("an exam too early", "small.exam", "early.sol", EARLY, "After 1 0"),
+    check("a room too small", "small.exam", "crowded.sol", CROWDED,
           "Clash 0 1", "Capacity 0 0", "Capacity 1 1", "After 1 0"),
     check("an exam not alone", "alone.exam", "together.sol", TOGETHER,
           "Exclusion 2 3", "RoomExclusive 2 3"),
@@ -213,6 +234,27 @@ CASES = [
     fault("a solution that is too long", "small.exam", "long.sol", b"solution line 0: fault 1"),
     Case("a full device", ("check", "small.exam", "small.sol"), 1, b"",
          b"examoffice: cannot write\n", "/dev/full"),
+    *check_all("one solution", ["small.sol"], 0),
+    *check_all("solutions without a breach, one of them twice",
+               ["together.sol", "small.sol", "./a folder/the solution", "together.sol"], 0),
+    *check_all("solutions of which two have breaches",
+               ["crowded.sol", "small.sol", "crlf.sol", "early.sol"], 3),
+    *check_all("solutions of which four have faults",
+               ["three.sol", "early.sol", "none.sol", "small.sol", "long.sol", "a folder"], 1,
+               b"three.sol: examoffice: solution line 4: fault 3\n"
+               b"none.sol: examoffice: cannot read none.sol\n"
+               b"long.sol: examoffice: solution line 0: fault 1\n"
+               b"a folder: examoffice: cannot read a folder\n"),
+    *check_all("no solution that can be judged", ["odd.sol"], 1,
+               b"odd.sol: examoffice: solution line 2: fault 4\n"),
+    Case("solutions of a faulty session", ("check-all", "five.exam", "small.sol", "none.sol"), 1,
+         b"", b"examoffice: instance line 1: fault 3\n"),
+    Case("solutions of a session that isn't there", ("check-all", "none.exam", "small.sol"), 1,
+         b"", b"examoffice: cannot read none.exam\n"),
+    Case("solutions told to a full device",
+         ("check-all", "small.exam", "three.sol", "small.sol", "none.sol"), 1, b"",
+         b"three.sol: examoffice: solution line 4: fault 3\nexamoffice: cannot write\n",
+         "/dev/full"),
     load("a new database", "term.db", "small.exam", 4, 6, 4, 2),
     unloaded("a second load", "term.db", "small.exam", b"store fault 1"),
     unloaded("a second load, of a faulty instance", "term.db", "april.exam",
@@ -280,17 +322,18 @@ CASES = [
       for number, _, line, _ in FAULTS if line),
     *(Case(f"help with an example and statuses: {name}", (name, "--help"), 0,
            Holding(f"\nExample:\n  examoffice {name} ".encode()), b"")
-      for name in ("check", "load", "serve", "export", "explain")),
+      for name in ("check", "check-all", "load", "serve", "export", "explain")),
     *(Case(f"help with statuses: {name}", (name, "--help"), 0,
            Holding(b"\nExit status:\n  0  "), b"")
-      for name in ("check", "load", "serve", "export", "explain")),
+      for name in ("check", "check-all", "load", "serve", "export", "explain")),
     *(Case(f"help for {kind} fault {number}: {name}", (name, "--help"), 0,
            Holding(f"\n  {number}  {words}\n".encode()), b"")
       for name, kind, numbers in (("load", "store", "189"), ("export", "store", "89"),
                                   ("serve", "store", "89"), ("serve", "connection", "1234"))
       for number, words in KINDS[kind] if number in numbers),
     *(Case(f"help within 80 columns: {name}", (*name, "--help"), 0, Within(80), b"")
-      for name in ((), ("check",), ("load",), ("serve",), ("export",), ("explain",))),
+      for name in ((), ("check",), ("check-all",), ("load",), ("serve",), ("export",),
+                   ("explain",))),
     on_terminal(load("a small instance", "small.db", "small.exam", 4, 6, 4, 2)),
     on_terminal(load("a large instance", "padded.db", "at_limit.exam", 4, 6, 4, 2),
                 b"loading at_limit.exam"),
@@ -355,6 +398,7 @@ CASES = [
     usage("no words"),
     usage("an unknown command", "frobnicate"),
     usage("an unknown option", "--frobnicate"),
+    usage("no solution of a session", "check-all", "small.exam"),
     usage("no kind of a fault", "explain"),
     usage("no number of a fault", "explain", "file"),
     usage("a fault without its kind", "explain", "5"),

@@ -1,6 +1,6 @@
 // Many solutions of one session, each judged in a line of its own.
-ghost use Rattle.std.specs.Prelude.{◌≡◌, ◌≢◌, ◌↔◌, ◌+◌, ◌++◌, ℕ, List, IfErr, IfOk, IfSome};
-ghost use Rattle.std.specs.Prelude.{IsTrue, OnOk, length, string_bytes};
+ghost use Rattle.std.specs.Prelude.{◌≡◌, ◌==◌, ◌+◌, ◌++◌, ℕ, List, IfErr, IfOk, IfSome};
+ghost use Rattle.std.specs.Prelude.{OnOk, length, not, string_bytes};
 ghost use Rattle.std.specs.List.{flat_map};
 ghost use Rattle.serde_json.specs.View.{view};
 ghost use Rattle.exam_terms.specs.declared.limits.TheConstants.{INSTANCE_BYTES, TEXT_BYTES};
@@ -135,7 +135,7 @@ fn verdict_on(
 impl Verdict {
     /// Whether the solution breaks a hard rule.
     pub fn has_breach(&self) -> bool
-        ensures { IsTrue result ↔ (self.now.breaches ≢ 0) }
+        ensures { result ≡ not (self.now.breaches == 0) }
     {
         self.breaches != 0
     }

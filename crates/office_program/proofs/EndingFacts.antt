@@ -1,5 +1,5 @@
 -- What is known of an ending from its parts.
-use Rattle.std.proofs.Common.{◌≡◌, ◌∙◌, Bool, true, false, Result, Ok, Err, sym}
+use Rattle.std.proofs.Common.{◌≡◌, ◌≢◌, ◌∙◌, ◌⊎◌, ℕ, Bool, true, false, Result, Ok, Err, arith, inl, inr, sym}
 use Rattle.std.specs.Prelude.{IfOk, IsTrue, OnOk, is_ok}
 
 -- what an Ok brings, where it is told that there is one
@@ -13,3 +13,8 @@ pub if_ok : {A E : Type 0} (result : Result A E) (P T : A → Type 0) → ((a : 
     → IfOk result P → IfOk result T
 if_ok (Ok a) P T follows p = follows a p
 if_ok (Err e) P T follows p = tt
+
+-- statuses that are not 1
+pub not_one : (n : ℕ) → (n ≡ 0) ⊎ (n ≡ 3) → n ≢ 1
+not_one n (inl is) one = let never : 0 ≡ 1 = sym is ∙ one in absurd (omega (arith, never))
+not_one n (inr is) one = let never : 3 ≡ 1 = sym is ∙ one in absurd (omega (arith, never))

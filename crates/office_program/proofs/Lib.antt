@@ -3,3 +3,4 @@ pub mod NumberLemmas
 mod ServeFacts
 mod EndingFacts
 pub mod WordFacts
+mod CheckAllFacts

@@ -7,7 +7,7 @@ use Rattle.clap.specs.declared.error.Error.{Error}
 use Rattle.office_program.specs.Explaining.{unexplained_in}
 use Rattle.office_program.specs.Program.{IsTaskOf}
 use Rattle.office_program.specs.declared.words.Task.{Task}
-use Rattle.office_program.specs.declared.words.Task.TheVariants.{Check, Explain, Export, Load, Serve}
+use Rattle.office_program.specs.declared.words.Task.TheVariants.{Check, CheckAll, Explain, Export, Load, Serve}
 
 -- an error of the first that fails is one of all
 pub comes_first : (first next : Kinds) (e : Error) → HasKind first e
@@ -20,6 +20,7 @@ comes_first (k ∷ ks) next e has = has
 pub task_explained : (found : Option (Text × List Row)) (task : Task) → IsTaskOf found task
     → unexplained_in found ≡ []
 task_explained found (Check instance solution) (rows, is, values) = rw is refl
+task_explained found (CheckAll session solutions form) (rows, is, values) = rw is refl
 task_explained found (Load database instance) (rows, is, values) = rw is refl
 task_explained found (Serve database terms) (rows, is, values) = rw is refl
 task_explained found (Export database) (rows, is, values) = rw is refl

@@ -1,20 +1,23 @@
 -- What is said on the writer of faults, and what else is then printed.
-use Rattle.std.specs.Prelude.{◌≡◌, ◌≢◌, ◌⊎◌, ℕ, ◌++◌, ◌∷◌, [], List, Option}
+use Rattle.std.specs.Prelude.{◌≡◌, ◌≢◌, ◌⊎◌, ℕ, ◌++◌, ◌∷◌, [], Bool, true, List, Option}
+use Rattle.std.specs.Prelude.{map, string_bytes}
 use Rattle.std.specs.Io.KnownBytes.{Appends, Keeps}
 use Rattle.clap.specs.Words.{Text}
 use Rattle.office_connections.specs.Lines.{PrintsPort, TellsFaults}
+use Rattle.office_program.specs.CheckAll.{JudgesAll}
 use Rattle.office_program.specs.FaultLines.{fault_line}
 use Rattle.office_program.specs.Program.{IsTask}
 use Rattle.office_program.specs.Tasks.{IsOfTask}
 use Rattle.office_program.specs.declared.faults.ProgramFault.{ProgramFault}
 use Rattle.office_program.specs.declared.faults.ProgramFault.TheVariants.{CannotWrite, NoMemory}
 use Rattle.office_program.specs.declared.words.Task.{Task}
-use Rattle.office_program.specs.declared.words.Task.TheVariants.{Check, Explain, Export, Load, Serve}
+use Rattle.office_program.specs.declared.words.Task.TheVariants.{Check, CheckAll, Explain, Export, Load, Serve}
 
--- before its own fault a task leaves the writer of faults as it was, but a server, which tells the
--- faults of connections there
+-- before its own fault a task leaves the writer of faults as it was, except a server, which prints
+-- the faults of connections there, and `check-all`, which prints those of solutions
 abbrev pub IsSilent : {W : Type 0} → Task → W → W → Type 0
 IsSilent (Check instance solution) old new = new ≡ old
+IsSilent (CheckAll session solutions form) old new = Unit {0}
 IsSilent (Load database instance) old new = new ≡ old
 IsSilent (Serve database terms) old new = Unit {0}
 IsSilent (Export database) old new = new ≡ old
@@ -24,6 +27,7 @@ IsSilent (Explain words) old new = new ≡ old
 -- connections at most as it was to serve
 abbrev pub TellsConnections : {W : Type 0} → (W → Option (List ℕ)) → Task → W → W → Type 0
 TellsConnections contents (Check instance solution) old new = new ≡ old
+TellsConnections contents (CheckAll session solutions form) old new = new ≡ old
 TellsConnections contents (Load database instance) old new = new ≡ old
 TellsConnections contents (Serve database terms) old new =
     TellsFaults terms.connections (contents old) (contents new)
@@ -39,6 +43,7 @@ IsQuiet contents words old new =
 -- what a task leaves printed whose fault is none of writing: what was, and of a server its port
 abbrev pub LeavesPrinted : Task → Option (List ℕ) → Option (List ℕ) → Type 0
 LeavesPrinted (Check instance solution) old new = Keeps old new
+LeavesPrinted (CheckAll session solutions form) old new = Keeps old new
 LeavesPrinted (Load database instance) old new = Keeps old new
 LeavesPrinted (Serve database terms) old new = Keeps old new ⊎ PrintsPort terms.port old new
 LeavesPrinted (Export database) old new = Keeps old new
@@ -62,10 +67,25 @@ TellsNoTask old new printed_old printed_new =
     (Appends old new (fault_line NoMemory ++ 10 ∷ []) × Keeps printed_old printed_new)
     ⊎ Appends old new (fault_line CannotWrite ++ 10 ∷ [])
 
--- the line of a fault is written, of the task of the words or of words that give none
+-- what `check-all` prints and says if a solution has a fault
+abbrev pub TellsSolutions : {W : Type 0} → (W → Option (List ℕ)) → Task → (old new : W)
+    → (printed_old printed_new : Option (List ℕ)) → Bool → Type 0
+TellsSolutions contents (Check instance solution) old new printed_old printed_new is_told = ⊥
+TellsSolutions contents (CheckAll session solutions form) old new printed_old printed_new is_told =
+    JudgesAll form (map string_bytes solutions.items) printed_old printed_new
+    (contents old) (contents new) is_told 1
+TellsSolutions contents (Load database instance) old new printed_old printed_new is_told = ⊥
+TellsSolutions contents (Serve database terms) old new printed_old printed_new is_told = ⊥
+TellsSolutions contents (Export database) old new printed_old printed_new is_told = ⊥
+TellsSolutions contents (Explain words) old new printed_old printed_new is_told = ⊥
+
+-- the line of a fault is written, of the task of the words or of words that give none; or those of
+-- solutions
 abbrev pub TellsFault : {W : Type 0} → (W → Option (List ℕ)) → List Text → (old new : W)
     → (printed_old printed_new : Option (List ℕ)) → Type 0
 TellsFault contents words old new printed_old printed_new =
     ((task : Task) × IsTask words task
     × TellsTask contents task old new printed_old printed_new)
-    ⊎ TellsNoTask (contents old) (contents new) printed_old printed_new
+    ⊎ (TellsNoTask (contents old) (contents new) printed_old printed_new
+    ⊎ ((task : Task) × IsTask words task
+    × TellsSolutions contents task old new printed_old printed_new true))

@@ -33,6 +33,12 @@ input_line path input.Read = codes "examoffice: cannot read " ++ path
 input_line path (input.File f) = fault_line (fault.Instance f)
 input_line path input.NoMemory = fault_line fault.NoMemory
 
+-- the line of a fault in reading a solution of this path, without its end
+abbrev pub solution_line : List ℕ → InputFault → List ℕ
+solution_line path input.Read = codes "examoffice: cannot read " ++ path
+solution_line path (input.File f) = fault_line (fault.Solution f)
+solution_line path input.NoMemory = fault_line fault.NoMemory
+
 -- the line of an error in opening a database, without its end
 abbrev pub open_line : Error → List ℕ
 open_line (SqliteFailure OutOfMemory) = fault_line fault.NoMemory

@@ -10,3 +10,5 @@ pub mod Serve
 pub mod LongWork
 pub mod Tasks
 pub mod Endings
+pub mod CheckAllLine
+pub mod CheckAll

@@ -31,6 +31,11 @@ pub record IsOfCheck (instance solution : List ℕ) (shown : ProgramFault) : Typ
   pub of : CheckFault
   pub line : fault_line shown ≡ check_line instance solution of
 
+-- the fault shows as one of the session of this path, or of writing
+abbrev pub IsOfCheckAll : List ℕ → ProgramFault → Type 0
+IsOfCheckAll session shown =
+    ((of : InputFault) × (fault_line shown ≡ input_line session of)) ⊎ (shown ≡ fault.CannotWrite)
+
 -- the line of a fault of `load`, without its end
 abbrev pub load_line : LoadFault → List ℕ
 load_line (load.Store f) = store_line f

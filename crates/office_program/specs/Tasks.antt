@@ -1,20 +1,24 @@
 -- What a task that is done prints.
-use Rattle.std.specs.Prelude.{◌≡◌, ◌++◌, ◌∷◌, [], ℕ, List, Option, string_bytes}
+use Rattle.std.specs.Prelude.{◌≡◌, ◌++◌, ◌∷◌, [], ℕ, List, Option, map, string_bytes}
 use Rattle.std.specs.Io.KnownBytes.{Appends}
 use Rattle.office_check.specs.Check.{WritesReport}
+use Rattle.office_program.specs.CheckAll.{PrintsVerdicts}
 use Rattle.office_program.specs.Export.{PrintsSolution}
 use Rattle.office_program.specs.Load.{PrintsCounts}
 use Rattle.office_connections.specs.Lines.{PrintsPort}
-use Rattle.office_program.specs.TaskFaults.{IsOfCheck, IsOfExport, IsOfLoad, IsOfServe}
+use Rattle.office_program.specs.TaskFaults.{IsOfCheck, IsOfCheckAll, IsOfExport, IsOfLoad, IsOfServe}
 use Rattle.office_program.specs.declared.faults.ProgramFault.{ProgramFault}
 use Rattle.office_program.specs.declared.faults.ProgramFault.TheVariants.{CannotWrite}
 use Rattle.office_program.specs.declared.words.Task.{Task}
-use Rattle.office_program.specs.declared.words.Task.TheVariants.{Check, Explain, Export, Load, Serve}
+use Rattle.office_program.specs.declared.words.Task.TheVariants.{Check, CheckAll, Explain, Export, Load, Serve}
 
--- a report on a solution that breaks no hard rule, the line of what some text spells, the line of
+-- a report on a solution that breaks no hard rule, the lines of solutions of which none has a fault
+-- or a breach, the line of what some text spells, the line of
 -- the port, some whole timetable's solution, or the words of a fault
 abbrev pub Prints : Task → Option (List ℕ) → Option (List ℕ) → Type 0
 Prints (Check instance solution) old new = WritesReport old new 0
+Prints (CheckAll session solutions form) old new =
+    PrintsVerdicts form (map string_bytes solutions.items) old new 0
 Prints (Load database instance) old new = (text : List ℕ) × PrintsCounts text old new
 Prints (Serve database terms) old new = PrintsPort terms.port old new
 Prints (Export database) old new = PrintsSolution old new
@@ -24,7 +28,19 @@ Prints (Explain words) old new = Appends old new (words.now ++ 10 ∷ [])
 abbrev pub IsOfTask : Task → ProgramFault → Type 0
 IsOfTask (Check instance solution) shown =
     IsOfCheck (string_bytes instance) (string_bytes solution) shown
+IsOfTask (CheckAll session solutions form) shown = IsOfCheckAll (string_bytes session) shown
 IsOfTask (Load database instance) shown = IsOfLoad (string_bytes instance) shown
 IsOfTask (Serve database terms) shown = IsOfServe shown
 IsOfTask (Export database) shown = IsOfExport shown
 IsOfTask (Explain words) shown = shown ≡ CannotWrite
+
+-- what a task prints that ends with status 3: a report on a solution that breaks a hard rule, or the
+-- lines of solutions of which none has a fault and one has a breach
+abbrev pub PrintsBroken : Task → Option (List ℕ) → Option (List ℕ) → Type 0
+PrintsBroken (Check instance solution) old new = WritesReport old new 3
+PrintsBroken (CheckAll session solutions form) old new =
+    PrintsVerdicts form (map string_bytes solutions.items) old new 3
+PrintsBroken (Load database instance) old new = ⊥
+PrintsBroken (Serve database terms) old new = ⊥
+PrintsBroken (Export database) old new = ⊥
+PrintsBroken (Explain words) old new = ⊥

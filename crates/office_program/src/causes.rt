@@ -57,7 +57,9 @@ fn try_reading(rt: &HostRuntime, path: &str) -> io::Result<()> {
 // The path of the instance's file.
 fn instance_of(task: &Task) -> &str {
     match task {
-        Task::Check(instance, _) | Task::Load(_, instance) => instance,
+        Task::Check(instance, _) | Task::CheckAll(instance, _, _) | Task::Load(_, instance) => {
+            instance
+        }
         _ => "",
     }
 }

@@ -2,6 +2,7 @@
 ghost use Rattle.std.specs.Prelude.{◌≡◌, IfOk, Some, false};
 ghost use Rattle.clap.specs.Words.{rule_of};
 ghost use Rattle.clap.specs.declared.builder.texts.Texts.TheVariants.{One};
+ghost use Rattle.office_program.specs.CheckAllLine.{check_all_app, json_rule, solutions_rule};
 ghost use Rattle.office_program.specs.CommandLine.{check_app, export_app, load_app, named_rule};
 ghost use Rattle.office_program.specs.CommandLine.{required_rule};
 ghost use Rattle.office_program.specs.Explaining.{explain_app, fault_rule};
@@ -12,7 +13,7 @@ ghost use Rattle.office_program.specs.ServeLine.{serve_app};
 use crate::explaining::MAX_FAULT;
 use crate::helps;
 use crate::words::{MAX_CONNECTIONS, MAX_PATIENCE};
-use clap::{Arg, Command, value_parser};
+use clap::{Arg, ArgAction, Command, value_parser};
 use office_connections::MAX_PORT;
 use std::alloc::{AllocError, Global};
 
@@ -40,6 +41,38 @@ fn required<'a>(alloc: Global, id: &'a str, name: &'a str, help: &'a str) -> Arg
         .value_name(name)
         .help(help)
         .required(true)
+}
+
+// The command `check-all`.
+pub(crate) fn check_all_command<'a>(alloc: Global) -> Result<Command<'a>, AllocError>
+    ensures { IfOk result (λ c. AddsShape c check_all_app.top) }
+{
+    let session = required(alloc, "session", "SESSION", "The file of the session");
+    Command::new(alloc, "check-all")
+        .about("Judge many solutions of one session, each in a line")
+        .after_help(helps::CHECK_ALL)
+        .arg(json_flag(alloc))?
+        .arg(session)?
+        .arg(solutions_argument(alloc))
+}
+
+// The flag that asks for lines of JSON.
+fn json_flag<'a>(alloc: Global) -> Arg<'a>
+    ensures rule { rule_of result ≡ json_rule }
+    ensures local { result.global ≡ false }
+{
+    Arg::new(alloc, "json")
+        .long("json")
+        .help("Print an object of JSON in each line")
+        .action(ArgAction::SetTrue)
+}
+
+// The solutions, one or more.
+fn solutions_argument<'a>(alloc: Global) -> Arg<'a>
+    ensures rule { rule_of result ≡ solutions_rule }
+    ensures local { result.global ≡ false }
+{
+    required(alloc, "solutions", "SOLUTION", "The files of the solutions").num_args(1..)
 }
 
 // The command `load`.

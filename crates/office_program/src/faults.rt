@@ -1,6 +1,6 @@
 // What ends the program with status 1, and the line that it is printed as.
 ghost use Rattle.std.specs.Prelude.{◌≡◌};
-ghost use Rattle.office_program.specs.FaultLines.{fault_line, input_line, open_line};
+ghost use Rattle.office_program.specs.FaultLines.{fault_line, input_line, open_line, solution_line};
 ghost use Rattle.office_program.specs.TaskFaults.{check_line, export_line, load_line, run_line};
 
 use crate::exporting::ExportFault;
@@ -83,6 +83,17 @@ pub(crate) fn fault_of_input<'a>(fault: InputFault, path: &'a str) -> ProgramFau
     match fault {
         InputFault::Read => ProgramFault::CannotRead(path),
         InputFault::File(fault) => ProgramFault::Instance(fault),
+        InputFault::NoMemory => ProgramFault::NoMemory,
+    }
+}
+
+// What a fault of a solution's input is to the program.
+pub(crate) fn fault_of_solution<'a>(fault: InputFault, path: &'a str) -> ProgramFault<'a>
+    ensures { fault_line result ≡ solution_line path.now fault }
+{
+    match fault {
+        InputFault::Read => ProgramFault::CannotRead(path),
+        InputFault::File(fault) => ProgramFault::Solution(fault),
         InputFault::NoMemory => ProgramFault::NoMemory,
     }
 }

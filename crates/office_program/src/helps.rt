@@ -27,6 +27,21 @@ The line 'examoffice: instance line 8: fault 5' names the first fault of a file:
   12  not placed: an exam of a timetable to be written has no place
   13  no memory: memory was refused (line 0); the file may be right";
 
+// Below the help of `check-all`.
+pub(crate) const CHECK_ALL: &str = "\
+Example:
+  examoffice check-all term.exam one.sol two.sol
+
+A line for each solution: its breaches, its penalty, the seven parts in the
+order in which check prints them, and its path. With --json the same numbers
+have names. A solution with a fault has a line on standard error instead.
+
+Exit status:
+  0  all judged: no solution breaks a hard rule
+  1  a file has a fault: a line on standard error says which
+  2  the command line is wrong
+  3  all judged: a solution breaks hard rules";
+
 // Below the help of `load`.
 pub(crate) const LOAD: &str = "\
 Example:

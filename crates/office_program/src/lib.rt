@@ -4,6 +4,7 @@
 
 mod answering;
 mod causes;
+mod check_all_words;
 mod checking;
 mod commands;
 mod ending;
@@ -11,6 +12,7 @@ mod explaining;
 mod exporting;
 mod faults;
 mod helps;
+mod judging;
 mod loading;
 mod program;
 mod serving;

@@ -7,14 +7,14 @@ ghost use Rattle.std.specs.declared.io.ErrorKind.TheVariants as failure;
 ghost use Rattle.clap.specs.Words.{kind_of};
 ghost use Rattle.clap.specs.declared.error.kind.ErrorKind.TheVariants as kind;
 ghost use Rattle.exam_terms.specs.declared.limits.TheConstants.{INSTANCE_BYTES};
-ghost use Rattle.office_check.specs.Check.{WritesReport};
 ghost use Rattle.office_program.specs.Endings.{IsQuiet, IsSilent, LeavesPrinted};
 ghost use Rattle.office_program.specs.Endings.{TellsConnections, TellsFault, TellsNoTask};
+ghost use Rattle.office_program.specs.Endings.{TellsSolutions};
 ghost use Rattle.office_program.specs.FaultLines.{fault_line, not_text_line};
 ghost use Rattle.office_program.specs.Load.{PrintsCounts};
 ghost use Rattle.office_program.specs.Program.{AreAnswered, IsMistake, IsTask, fault_of_words};
 ghost use Rattle.office_program.specs.TaskFaults.{IsOfLoad, IsOfOffice};
-ghost use Rattle.office_program.specs.Tasks.{IsOfTask, Prints};
+ghost use Rattle.office_program.specs.Tasks.{IsOfTask, Prints, PrintsBroken};
 ghost use Rattle.office_program.specs.declared.words.Task.{Task};
 
 use crate::causes::tell_cause;
@@ -23,6 +23,7 @@ use crate::ending::Ending;
 use crate::explaining::explain;
 use crate::exporting::export;
 use crate::faults::{ProgramFault, fault_of_input, fault_of_load, fault_of_open};
+use crate::judging::check_all;
 use crate::loading::load_run;
 use crate::serving::serve;
 use crate::telling::{LongWork, tell};
@@ -51,9 +52,10 @@ pub fn run_program<O: Write, E: Write>(
     ensures mistake { result.status ≡ 2 → fault_of_words (map string_bytes words.now) ≢ [] }
     ensures broken { result.status ≡ 3 → fault_of_words (map string_bytes words.now) ≡ [] }
 
-    // A judgement is the report of two texts, written whole.
+    // A judgement is the report of two texts, written whole, or a line for each of some solutions.
     ensures reported { result.status ≡ 3
-        → WritesReport (O.contents out.old) (O.contents out.new) 3 }
+        → (task : Task) × IsTask (map string_bytes words.now) task
+        × PrintsBroken task (O.contents out.old) (O.contents out.new) }
 
     // Help, and what a task prints that is done, are written on `out` alone; but a server tells on
     // `err` the faults of connections. A mistake leaves `out` as it was.
@@ -93,13 +95,18 @@ fn run_task<'a, W: Write, E: Write>(
     out: &mut W,
     err: &mut E,
 ) -> Result<Ending, ProgramFault<'a>>
-    ensures status { IfOk result (λ ending. (ending.status ≡ 0) ⊎ (ending.status ≡ 3)) }
+    ensures status { IfOk result (λ ending. (ending.status ≤ 3) × (ending.status ≢ 2)) }
     ensures broken { IfOk result (λ ending. ending.status ≡ 3
-        → WritesReport (W.contents out.old) (W.contents out.new) 3) }
+        → PrintsBroken task.now (W.contents out.old) (W.contents out.new)) }
     ensures done { IfOk result (λ ending. ending.status ≡ 0
         → Prints task.now (W.contents out.old) (W.contents out.new)) }
-    ensures quiet { IfOk result (λ ending. IsTrue ending.is_told
+    ensures quiet { IfOk result (λ ending. ending.status ≢ 1 → IsTrue ending.is_told
         → TellsConnections E.contents task.now err.old err.new) }
+
+    // Status 1 comes as an Ok only if solutions have faults.
+    ensures faulty { IfOk result (λ ending. ending.status ≡ 1
+        → TellsSolutions E.contents task.now err.old err.new
+        (W.contents out.old) (W.contents out.new) ending.is_told) }
 
     // A line that names a file names one of the task's.
     ensures fault { IfErr result (IsOfTask task.now) }
@@ -109,6 +116,9 @@ fn run_task<'a, W: Write, E: Write>(
 {
     match task {
         Task::Check(instance, solution) => check(rt, instance, solution, out),
+        Task::CheckAll(session, solutions, form) => {
+            check_all(rt, session, solutions, *form, out, err)
+        }
         Task::Load(database, instance) => load(rt, database, instance, out),
         Task::Serve(database, terms) => serve(rt, database, *terms, out, err),
         Task::Export(database) => export(rt, database, out),

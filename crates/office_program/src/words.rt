@@ -14,13 +14,15 @@ ghost use Rattle.office_program.specs.Explaining.{HasExplainValues, unexplained,
 ghost use Rattle.office_program.specs.Program.{IsTask, IsTaskOf, fault_of_words, program};
 ghost use Rattle.office_program.specs.ServeLine.{HasNumber, HasServeValues, HasTerms};
 
+use crate::check_all_words::check_all_task;
 use crate::commands::{
-    check_command, explain_command, export_command, load_command, serve_command,
+    check_all_command, check_command, explain_command, export_command, load_command, serve_command,
 };
 use crate::explaining::{MAX_FAULT, fault_words};
 use crate::helps;
 use clap::error::ErrorKind;
 use clap::{ArgMatches, Command, Error};
+use office_check::LineForm;
 use office_connections::MAX_PORT;
 use std::alloc::{AllocError, Global};
 use std::env::Args;
@@ -31,6 +33,8 @@ use std::io;
 pub enum Task {
     /// Judges a solution: the instance's file, then the solution's.
     Check(String, String),
+    /// Judges solutions of one session: the session's file, the solutions', and how lines look.
+    CheckAll(String, Vec<String>, LineForm),
     /// Loads an office: its database's file, then the instance's.
     Load(String, String),
     /// Serves an office: its database's file, and on which terms.
@@ -87,6 +91,9 @@ fn task_of(alloc: Global, found: &ArgMatches<'_>) -> Result<Task, Error>
     if let Some(values) = found.subcommand_matches("check") {
         return check_task(alloc, values);
     }
+    if let Some(values) = found.subcommand_matches("check-all") {
+        return check_all_task(alloc, values);
+    }
     if let Some(values) = found.subcommand_matches("load") {
         return load_task(alloc, values);
     }
@@ -109,6 +116,7 @@ fn matches(alloc: Global, words: &[String]) -> Result<ArgMatches<'_>, Error>
     ensures kinds { FailsBy (fault_of program (map string_bytes words.now)) result }
 {
     let check = check_command(alloc)?;
+    let check_all = check_all_command(alloc)?;
     let load = load_command(alloc)?;
     let serve = serve_command(alloc)?;
     let export = export_command(alloc)?;
@@ -119,6 +127,7 @@ fn matches(alloc: Global, words: &[String]) -> Result<ArgMatches<'_>, Error>
         .after_help(helps::PROGRAM)
         .subcommand_required(true)
         .subcommand(check)?
+        .subcommand(check_all)?
         .subcommand(load)?
         .subcommand(serve)?
         .subcommand(export)?
@@ -138,7 +147,7 @@ fn check_task(alloc: Global, values: &ArgMatches<'_>) -> Result<Task, Error>
 
 // The value that was found. Clap has seen to it that it is there, but its contract says so of no
 // subcommand: a value that is missing would be answered as out of memory.
-fn value_of(alloc: Global, values: &ArgMatches<'_>, id: &str) -> Result<String, Error>
+pub(crate) fn value_of(alloc: Global, values: &ArgMatches<'_>, id: &str) -> Result<String, Error>
     ensures ok { IfOk result (λ value.
         first_of id.now (rows_of (found_of values.now)) ≡ Some (string_bytes value)) }
     ensures err { IfErr result (λ e. kind_of e ≡ OutOfMemory) }

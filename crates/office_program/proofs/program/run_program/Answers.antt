@@ -1,4 +1,5 @@
 use Rattle.std.proofs.Common.{inl, inr}
+use Rattle.office_program.proofs.EndingFacts.{not_one}
 use Rattle.office_program.proofs.program.run_program.Goals as goal
 
 -- the task of the words prints what it has to
@@ -8,8 +9,11 @@ returns-in-Ok-run_task-clause-done g c = λ zero valid.
 
 -- and tells of connections alone
 pub returns-in-Ok-run_task-clause-quiet : goal.returns-in-Ok-run_task-clause-quiet
-returns-in-Ok-run_task-clause-quiet g c = λ ended told. inr
-    (c.in-Ok.task, c.in-Ok.ensures.task, c.in-Ok-run_task.ensures.quiet told)
+returns-in-Ok-run_task-clause-quiet g c = λ ended told. inr (
+  c.in-Ok.task,
+  c.in-Ok.ensures.task,
+  c.in-Ok-run_task.ensures.quiet (not_one _ ended) told,
+)
 
 -- or its fault is told
 pub returns-clause-told : goal.returns-clause-told

@@ -1,0 +1,154 @@
+-- Outcomes of solutions, one after another.
+use Rattle.std.proofs.Common.{◌≡◌, ◌∙◌, List, [], ◌∷◌, ◌++◌, ℕ, Bool, true, false, Option}
+use Rattle.std.proofs.Common.{Result, ap, ap₂, append-nil, codes, inl, inr, refl, string_bytes, subst, sym}
+use Rattle.std.specs.Prelude.{◌||◌, ◌&&◌, IsTrue, OnOk, is_ok}
+use Rattle.std.specs.List.{flat_map, list_any}
+use Rattle.std.specs.Io.KnownBytes.{Appends}
+use Rattle.std.proofs.KnownBytes.{Appends-nil, Appends-trans}
+use Rattle.std.proofs.lemmas.Grind.{flat_map-append}
+use Rattle.std.proofs.lemmas.List.{map-append}
+use Rattle.std.proofs.lemmas.List.Elements.{All-nil, All-push}
+use Rattle.std.proofs.lemmas.List.Folds.{list_any-append}
+use Rattle.exam_model.specs.Enrolments.{Enrolled}
+use Rattle.exam_model.specs.Instance.{Session}
+use Rattle.office_check.specs.declared.judging.LineForm.{LineForm}
+use Rattle.office_files.specs.declared.inputs.InputFault.{InputFault}
+use Rattle.office_program.specs.CheckAll.{AddsOutcome, HasOutcomes, IsLineOf, IsOutcome, Outcome}
+use Rattle.office_program.specs.FaultLines.{solution_line}
+use Rattle.office_program.specs.declared.judging.Found.{Found}
+use Rattle.office_program.specs.declared.judging.VerdictLine.{VerdictLine}
+use Rattle.office_program.proofs.EndingFacts.{if_told}
+
+or_false : (b : Bool) → (b || false) ≡ b
+or_false true = refl
+or_false false = refl
+
+or_true : (b : Bool) → (b || true) ≡ true
+or_true true = refl
+or_true false = refl
+
+-- both are so if both together are
+both : (a b : Bool) → IsTrue (a && b) → IsTrue a × IsTrue b
+both true b is = (refl, is)
+both false b is = let never : false ≡ true = is in cc
+
+-- what all outcomes have, and then one more
+flat_more : (f : Outcome → List ℕ) (os : List Outcome) (o : Outcome)
+    → flat_map f (os ++ o ∷ []) ≡ flat_map f os ++ f o
+flat_more f os o =
+    flat_map-append f os (o ∷ []) ∙ ap (λ l. flat_map f os ++ l) (append-nil (f o))
+
+any_more : (p : Outcome → Bool) (os : List Outcome) (o : Outcome)
+    → (list_any p os || p o) ≡ list_any p (os ++ o ∷ [])
+any_more p os o =
+    ap (λ b. list_any p os || b) (sym (or_false (p o))) ∙ sym (list_any-append p os (o ∷ []))
+
+module _ (I : Session) (E : Enrolled) (form : LineForm) where
+  -- no outcome
+  pub no_outcome : (printed said : Option (List ℕ))
+      → HasOutcomes I E form [] printed printed said said
+      (record { has_fault = false; has_breach = false; is_told = true })
+  no_outcome printed said = record {
+    outcomes = [];
+    judged = record { are = refl; each = All-nil _ };
+    printed = Appends-nil printed;
+    said = λ told. Appends-nil said;
+    fault = refl;
+    breach = refl;
+  }
+
+  -- one outcome more
+  pub outcome_more : (paths : List (List ℕ)) (path : List ℕ) (old mid new : Option (List ℕ))
+      (errors_old errors_mid errors_new : Option (List ℕ)) (before after : Found)
+      → HasOutcomes I E form paths old mid errors_old errors_mid before
+      → AddsOutcome I E form path before mid new errors_mid errors_new after
+      → HasOutcomes I E form (paths ++ path ∷ []) old new errors_old errors_new after
+  outcome_more paths path old mid new errors_old errors_mid errors_new before after so_far next =
+      let os = so_far.outcomes in
+      let o = next.outcome in
+      record {
+        outcomes = os ++ o ∷ [];
+        judged = record {
+          are = map-append (λ o. o.path) os (o ∷ [])
+              ∙ ap₂ (λ (a : List (List ℕ)) (b : List ℕ). a ++ b ∷ []) so_far.judged.are next.is;
+          each = All-push (IsOutcome I E form) os o so_far.judged.each next.of;
+        };
+        printed = subst (Appends old new) (sym (flat_more (λ o. o.printed) os o))
+            (Appends-trans old mid new _ _ so_far.printed next.printed);
+        said = λ told.
+            let both = next.said told in
+            subst (Appends errors_old errors_new) (sym (flat_more (λ o. o.said) os o))
+            (Appends-trans errors_old errors_mid errors_new _ _ (so_far.said both.0) both.1);
+        fault = next.fault ∙ ap (λ b. b || o.is_faulty) so_far.fault
+            ∙ any_more (λ o. o.is_faulty) os o;
+        breach = next.breach ∙ ap (λ b. b || o.has_breach) so_far.breach
+            ∙ any_more (λ o. o.has_breach) os o;
+      }
+
+  -- a line that is printed is an outcome
+  pub line_added : (path : List ℕ) (line : VerdictLine) (found : Found)
+      (old new errors : Option (List ℕ)) → IsLineOf I E form path line
+      → Appends old new (string_bytes line.text)
+      → AddsOutcome I E form path found old new errors errors (record {
+        has_fault = found.has_fault;
+        has_breach = found.has_breach || line.has_breach;
+        is_told = found.is_told;
+      })
+  line_added path line found old new errors is printed = record {
+    outcome = record {
+      path = path;
+      printed = string_bytes line.text;
+      said = [];
+      is_faulty = false;
+      has_breach = line.has_breach;
+    };
+    is = refl;
+    of = inl (record {
+      solution = is.solution;
+      verdict = is.verdict;
+      judged = is.judged;
+      printed = is.text;
+      said = refl;
+      sound = refl;
+      breach = is.breach;
+    });
+    printed = printed;
+    said = λ told. (told, Appends-nil errors);
+    fault = sym (or_false found.has_fault);
+    breach = refl;
+  }
+
+  -- so is a fault
+  pub fault_added : {T X : Type 0} (r : Result T X) (is_told : Bool) (path : List ℕ)
+      (fault : InputFault) (found : Found) (old errors_old errors_new : Option (List ℕ))
+      → is_told ≡ is_ok r
+      → OnOk r (Appends errors_old errors_new
+      (path ++ codes ": " ++ solution_line path fault ++ 10 ∷ []))
+      → AddsOutcome I E form path found old old errors_old errors_new (record {
+        has_fault = true;
+        has_breach = found.has_breach;
+        is_told = found.is_told && is_told;
+      })
+  fault_added r is_told path fault found old errors_old errors_new is said = record {
+    outcome = record {
+      path = path;
+      printed = [];
+      said = path ++ codes ": " ++ solution_line path fault ++ 10 ∷ [];
+      is_faulty = true;
+      has_breach = false;
+    };
+    is = refl;
+    of = inr (record {
+      fault = fault;
+      printed = refl;
+      said = refl;
+      faulty = refl;
+      breach = refl;
+    });
+    printed = Appends-nil old;
+    said = λ told.
+        let yes = both found.is_told is_told told in
+        (yes.0, if_told r _ said is_told is yes.1);
+    fault = sym (or_true found.has_fault);
+    breach = sym (or_false found.has_breach);
+  }

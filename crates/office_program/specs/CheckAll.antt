@@ -1,0 +1,117 @@
+-- What `check-all` prints: a line for each solution that is judged, and one for each fault.
+use Rattle.std.specs.Prelude.{◌≡◌, ◌⊎◌, ◌++◌, ◌∷◌, [], ℕ, ◌==◌, Bool, true, false, not, All, IsTrue, List}
+use Rattle.std.specs.Prelude.{Option, codes, if◌then◌else◌, map, string_bytes, ◌||◌}
+use Rattle.std.specs.List.{flat_map, list_any}
+use Rattle.std.specs.Io.KnownBytes.{Appends}
+use Rattle.exam_model.specs.Enrolments.{Enrolled}
+use Rattle.exam_model.specs.Instance.{Session}
+use Rattle.office_files.specs.InstanceText.{InstanceText}
+use Rattle.office_files.specs.declared.inputs.InputFault.{InputFault}
+use Rattle.office_check.specs.Verdicts.{IsVerdictOn, verdict_line}
+use Rattle.office_check.specs.declared.judging.LineForm.{LineForm}
+use Rattle.office_check.specs.declared.judging.Verdict.{Verdict}
+use Rattle.office_program.specs.FaultLines.{solution_line}
+use Rattle.office_program.specs.declared.judging.Found.{Found}
+use Rattle.office_program.specs.declared.judging.VerdictLine.{VerdictLine}
+
+-- what came of one solution: what is printed of it, and what is said of its fault
+pub record Outcome : Type 0 where
+  pub path : List ℕ
+  pub printed : List ℕ
+  pub said : List ℕ
+  pub is_faulty : Bool
+  pub has_breach : Bool
+
+-- it was judged by the session: the line of the verdict on some text is printed
+pub record IsJudged (I : Session) (E : Enrolled) (form : LineForm) (o : Outcome) : Type 0 where
+  pub solution : List ℕ
+  pub verdict : Verdict
+  pub judged : IsVerdictOn I E solution verdict
+  pub printed : o.printed ≡ verdict_line form o.path verdict
+  pub said : o.said ≡ []
+  pub sound : o.is_faulty ≡ false
+  pub breach : o.has_breach ≡ not (verdict.breaches == 0)
+
+-- it has a fault: the fault's line is said, with the path in front of it
+pub record IsFaulty (o : Outcome) : Type 0 where
+  pub fault : InputFault
+  pub printed : o.printed ≡ []
+  pub said : o.said ≡ o.path ++ codes ": " ++ solution_line o.path fault ++ 10 ∷ []
+  pub faulty : o.is_faulty ≡ true
+  pub breach : o.has_breach ≡ false
+
+-- the one or the other
+abbrev pub IsOutcome : Session → Enrolled → LineForm → Outcome → Type 0
+IsOutcome I E form o = IsJudged I E form o ⊎ IsFaulty o
+
+-- 1 if a solution has a fault, else 3 if one has a breach, else 0
+abbrev pub status_of_all : Bool → Bool → ℕ
+status_of_all has_fault has_breach =
+    if has_fault then 1 else (if has_breach then 3 else 0)
+
+-- each solution has its outcome, in their order
+pub record AreJudged (I : Session) (E : Enrolled) (form : LineForm) (paths : List (List ℕ))
+    (outcomes : List Outcome) : Type 0 where
+  pub are : map (λ o. o.path) outcomes ≡ paths
+  pub each : All (IsOutcome I E form) outcomes
+
+-- some text has a reading, by which the solutions of these paths have these outcomes
+pub record AreBySession (form : LineForm) (paths : List (List ℕ)) (outcomes : List Outcome)
+    : Type 0 where
+  pub text : List ℕ
+  pub session : Session
+  pub enrolled : Enrolled
+  pub read : InstanceText text session enrolled
+  pub judged : AreJudged session enrolled form paths outcomes
+
+-- a line is printed for each solution that has no fault, and this is the status
+pub record PrintsVerdicts (form : LineForm) (paths : List (List ℕ)) (old new : Option (List ℕ))
+    (status : ℕ) : Type 0 where
+  pub outcomes : List Outcome
+  pub judged : AreBySession form paths outcomes
+  pub printed : Appends old new (flat_map (λ o. o.printed) outcomes)
+  pub ended : status ≡ status_of_all (list_any (λ o. o.is_faulty) outcomes)
+      (list_any (λ o. o.has_breach) outcomes)
+
+-- and the line of each fault is said, unless one can't be written
+pub record JudgesAll (form : LineForm) (paths : List (List ℕ))
+    (old new errors_old errors_new : Option (List ℕ)) (is_told : Bool) (status : ℕ)
+    : Type 0 where
+  pub prints : PrintsVerdicts form paths old new status
+  pub said : IsTrue is_told
+      → Appends errors_old errors_new (flat_map (λ o. o.said) prints.outcomes)
+
+-- ---- one solution after another
+
+-- the line of the verdict on some text
+pub record IsLineOf (I : Session) (E : Enrolled) (form : LineForm) (path : List ℕ)
+    (line : VerdictLine) : Type 0 where
+  pub solution : List ℕ
+  pub verdict : Verdict
+  pub judged : IsVerdictOn I E solution verdict
+  pub text : string_bytes line.text ≡ verdict_line form path verdict
+  pub breach : line.has_breach ≡ not (verdict.breaches == 0)
+
+-- the solution of this path has an outcome, which is counted
+pub record AddsOutcome (I : Session) (E : Enrolled) (form : LineForm) (path : List ℕ)
+    (before : Found) (old new errors_old errors_new : Option (List ℕ)) (after : Found)
+    : Type 0 where
+  pub outcome : Outcome
+  pub is : outcome.path ≡ path
+  pub of : IsOutcome I E form outcome
+  pub printed : Appends old new outcome.printed
+  pub said : IsTrue after.is_told
+      → IsTrue before.is_told × Appends errors_old errors_new outcome.said
+  pub fault : after.has_fault ≡ (before.has_fault || outcome.is_faulty)
+  pub breach : after.has_breach ≡ (before.has_breach || outcome.has_breach)
+
+-- the solutions of these paths have outcomes, which are counted
+pub record HasOutcomes (I : Session) (E : Enrolled) (form : LineForm) (paths : List (List ℕ))
+    (old new errors_old errors_new : Option (List ℕ)) (found : Found) : Type 0 where
+  pub outcomes : List Outcome
+  pub judged : AreJudged I E form paths outcomes
+  pub printed : Appends old new (flat_map (λ o. o.printed) outcomes)
+  pub said : IsTrue found.is_told
+      → Appends errors_old errors_new (flat_map (λ o. o.said) outcomes)
+  pub fault : found.has_fault ≡ list_any (λ o. o.is_faulty) outcomes
+  pub breach : found.has_breach ≡ list_any (λ o. o.has_breach) outcomes

@@ -1,0 +1,44 @@
+-- The command line of `check-all`, and which values are those of its task.
+use Rattle.std.specs.Prelude.{◌≡◌, List, Option, Some, None, codes, map, string_bytes}
+use Rattle.clap.specs.Lexer.{usize_max}
+use Rattle.clap.specs.Words.{App, Row, Rule, Text, all_of, first_of, new_app, new_rule, one_of}
+use Rattle.clap.specs.Words.{with_rule}
+use Rattle.clap.specs.declared.builder.action.ArgAction.TheVariants.{SetTrue}
+use Rattle.office_check.specs.declared.judging.LineForm.{LineForm}
+use Rattle.office_check.specs.declared.judging.LineForm.TheVariants.{Json, Plain}
+use Rattle.office_program.specs.CommandLine.{required_rule}
+use Rattle.office_program.specs.declared.words.Task.{Task}
+use Rattle.office_program.specs.declared.words.Task.TheVariants.{Check, CheckAll, Explain, Export, Load, Serve}
+
+-- the flag that asks for lines of JSON
+abbrev pub json_rule : Rule
+json_rule = record (new_rule (codes "json")) { long = Some (codes "json"); action = Some SetTrue }
+
+-- the solutions: one or more, the last of the words
+abbrev pub solutions_rule : Rule
+solutions_rule = record (required_rule (codes "solutions")) {
+  range = Some (record { start_inclusive = 1; end_inclusive = usize_max });
+}
+
+-- the command `check-all [--json] SESSION SOLUTION..`
+abbrev pub check_all_app : App
+check_all_app = with_rule (with_rule (with_rule (new_app (codes "check-all")) json_rule)
+    (required_rule (codes "session"))) solutions_rule
+
+-- the value of the flag asks for this form
+pub record AsksFor (value : Option Text) (form : LineForm) : Type 0 where
+  pub json : value ≡ Some (codes "true") → form ≡ Json
+  pub plain : value ≡ Some (codes "false") → form ≡ Plain
+  pub none : value ≡ None → form ≡ Plain
+
+-- the values found for `check-all` are those of the task
+abbrev pub HasCheckAllValues : List Row → Task → Type 0
+HasCheckAllValues rows (Check instance solution) = ⊥
+HasCheckAllValues rows (CheckAll session solutions form) =
+    (first_of (codes "session") rows ≡ Some (string_bytes session))
+    × (all_of (codes "solutions") rows ≡ Some (map string_bytes solutions.items))
+    × AsksFor (one_of (codes "json") rows) form
+HasCheckAllValues rows (Load database instance) = ⊥
+HasCheckAllValues rows (Serve database terms) = ⊥
+HasCheckAllValues rows (Export database) = ⊥
+HasCheckAllValues rows (Explain words) = ⊥

@@ -1,0 +1,54 @@
+// The words of `check-all`.
+ghost use Rattle.std.specs.Prelude.{◌≡◌, IfErr, IfOk, Some, codes, map, string_bytes};
+ghost use Rattle.clap.specs.Words.{all_of, found_of, kind_of, one_of, rows_of};
+ghost use Rattle.clap.specs.declared.error.kind.ErrorKind.TheVariants.{OutOfMemory};
+ghost use Rattle.office_program.specs.CheckAllLine.{AsksFor, HasCheckAllValues};
+
+use crate::words::{Task, value_of};
+use clap::{ArgMatches, Error};
+use office_check::LineForm;
+use std::alloc::{AllocError, Global};
+
+// The task of `check-all` with these values.
+pub(crate) fn check_all_task(alloc: Global, values: &ArgMatches<'_>) -> Result<Task, Error>
+    ensures ok { IfOk result (HasCheckAllValues (rows_of (found_of values.now))) }
+    ensures err { IfErr result (λ e. kind_of e ≡ OutOfMemory) }
+{
+    let session = value_of(alloc, values, "session")?;
+    let solutions = values_of(alloc, values, "solutions")?;
+    Ok(Task::CheckAll(session, solutions, form_of(values)))
+}
+
+// All values that were found. Clap has seen to it that there is one, as for `value_of`.
+fn values_of(alloc: Global, values: &ArgMatches<'_>, id: &str) -> Result<Vec<String>, Error>
+    ensures ok { IfOk result (λ texts. all_of id.now (rows_of (found_of values.now))
+        ≡ Some (map string_bytes texts.items)) }
+    ensures err { IfErr result (λ e. kind_of e ≡ OutOfMemory) }
+{
+    match values.get_strs(id) {
+        Some(found) => Ok(copies(alloc, found)?),
+        None => Err(Error::from(AllocError)),
+    }
+}
+
+fn copies(alloc: Global, texts: &[&str]) -> Result<Vec<String>, AllocError>
+    ensures { IfOk result (λ copied.
+        map string_bytes copied.items ≡ map (λ text. text.now) texts.now) }
+{
+    let mut copied = Vec::with_capacity(alloc, texts.len())?;
+    for text in texts {
+        copied.push(String::from_str(alloc, text)?)?;
+    }
+    Ok(copied)
+}
+
+// The form that the flag asks for.
+fn form_of(values: &ArgMatches<'_>) -> LineForm
+    ensures { AsksFor (one_of (codes "json") (rows_of (found_of values.now))) result }
+{
+    if values.get_flag("json") {
+        LineForm::Json
+    } else {
+        LineForm::Plain
+    }
+}

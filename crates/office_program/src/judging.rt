@@ -1,0 +1,198 @@
+// `check-all`: many solutions of one session, judged by the files of their paths.
+ghost use Rattle.std.specs.Prelude.{◌≡◌, ◌≢◌, ◌==◌, ◌++◌, ◌∷◌, [], ℕ, IfErr, IfOk, List, OnOk};
+ghost use Rattle.std.specs.Prelude.{◌&&◌, ◌||◌, codes, false, map, string_bytes, true};
+ghost use Rattle.std.specs.Io.KnownBytes.{Appends, Keeps};
+ghost use Rattle.office_files.specs.InstanceText.{InstanceText};
+ghost use Rattle.office_program.specs.CheckAll.{AddsOutcome, HasOutcomes, IsLineOf, JudgesAll};
+ghost use Rattle.office_program.specs.CheckAll.{status_of_all};
+ghost use Rattle.office_program.specs.FaultLines.{solution_line};
+ghost use Rattle.office_program.specs.TaskFaults.{IsOfCheckAll};
+
+use crate::ending::Ending;
+use crate::faults::{ProgramFault, fault_of_input, fault_of_solution};
+use office_check::{Judge, LineForm};
+use office_files::InputFault;
+use std::io::Write;
+use std::rt::Files;
+use std::{fs, io};
+
+// What came of the solutions so far.
+#[derive(Clone, Copy)]
+pub(crate) struct Found {
+    pub(crate) has_fault: bool,
+    pub(crate) has_breach: bool,
+    // Whether the line of each fault was written.
+    pub(crate) is_told: bool,
+}
+
+// The line of a solution that was judged.
+#[derive(Drop)]
+pub(crate) struct VerdictLine {
+    pub(crate) text: String,
+    pub(crate) has_breach: bool,
+}
+
+// `check-all`. One solution after another is opened, and one that has a fault leaves the others as
+// they are.
+pub(crate) fn check_all<'a, R: Files + AllocGlobal, W: Write, E: Write>(
+    rt: &R,
+    session: &'a str,
+    solutions: &[String],
+    form: LineForm,
+    out: &mut W,
+    err: &mut E,
+) -> Result<Ending, ProgramFault<'a>>
+    ensures judged { IfOk result (λ ending. JudgesAll form (map string_bytes solutions.now)
+        (W.contents out.old) (W.contents out.new) (E.contents err.old) (E.contents err.new)
+        ending.is_told ending.status) }
+    ensures quiet { IfOk result (λ ending. ending.status ≢ 1 → err.new ≡ err.old) }
+
+    // A line that names a file names the session's.
+    ensures fault { IfErr result (IsOfCheckAll session.now) }
+    ensures unwritten { IfErr result (λ fault. fault ≢ ProgramFault.CannotWrite
+        → Keeps (W.contents out.old) (W.contents out.new)) }
+{
+    let judge = match judge_at(rt, session) {
+        Ok(judge) => judge,
+        Err(fault) => return Err(fault_of_input(fault, session)),
+    };
+    match judge_each(rt, &judge, solutions, form, out, err) {
+        Ok(found) => Ok(Ending {
+            status: status_of(found),
+            is_told: found.is_told,
+        }),
+        Err(_) => Err(ProgramFault::CannotWrite),
+    }
+}
+
+// Reads the session of this path.
+fn judge_at<R: Files + AllocGlobal>(rt: &R, path: &str) -> Result<Judge, InputFault>
+    ensures { IfOk result (λ judge. (text : List ℕ) × InstanceText text judge.0 judge.1) }
+{
+    let Ok(mut file) = fs::open(rt, path) else {
+        return Err(InputFault::Read);
+    };
+    Judge::new(rt.alloc(), &mut file)
+}
+
+// The exit status.
+fn status_of(found: Found) -> u8
+    ensures { result ≡ status_of_all found.has_fault found.has_breach }
+{
+    if found.has_fault {
+        1
+    } else if found.has_breach {
+        3
+    } else {
+        0
+    }
+}
+
+// Judges solutions, one after another. It fails if a line can't be printed.
+fn judge_each<R: Files + AllocGlobal, W: Write, E: Write>(
+    rt: &R,
+    judge: &Judge,
+    solutions: &[String],
+    form: LineForm,
+    out: &mut W,
+    err: &mut E,
+) -> io::Result<Found>
+    ensures ok { IfOk result (HasOutcomes judge.now.0 judge.now.1 form
+        (map string_bytes solutions.now) (W.contents out.old) (W.contents out.new)
+        (E.contents err.old) (E.contents err.new)) }
+    ensures quiet { IfOk result (λ found. found.has_fault ≡ false → err.new ≡ err.old) }
+{
+    let mut found = Found {
+        has_fault: false,
+        has_breach: false,
+        is_told: true,
+    };
+    for path in solutions {
+        found = judge_one(rt, judge, path, form, found, out, err)?;
+    }
+    Ok(found)
+}
+
+// Judges one more solution.
+fn judge_one<R: Files + AllocGlobal, W: Write, E: Write>(
+    rt: &R,
+    judge: &Judge,
+    path: &str,
+    form: LineForm,
+    found: Found,
+    out: &mut W,
+    err: &mut E,
+) -> io::Result<Found>
+    ensures ok { IfOk result (AddsOutcome judge.now.0 judge.now.1 form path.now found
+        (W.contents out.old) (W.contents out.new) (E.contents err.old) (E.contents err.new)) }
+    ensures quiet { IfOk result (λ now. now.has_fault ≡ false
+        → (found.has_fault ≡ false) × (err.new ≡ err.old)) }
+{
+    match line_at(rt, judge, path, form) {
+        Ok(line) => {
+            out.write_all(line.text.as_bytes())?;
+            Ok(with_verdict(found, line.has_breach))
+        }
+        Err(fault) => {
+            let is_told = print_fault(path, fault, err).is_ok();
+            Ok(with_fault(found, is_told))
+        }
+    }
+}
+
+// One more solution was judged.
+fn with_verdict(found: Found, has_breach: bool) -> Found
+    ensures { result ≡ record {
+      has_fault = found.has_fault;
+      has_breach = found.has_breach || has_breach;
+      is_told = found.is_told;
+    } }
+{
+    Found {
+        has_breach: found.has_breach || has_breach,
+        ..found
+    }
+}
+
+// One more has a fault.
+fn with_fault(found: Found, is_told: bool) -> Found
+    ensures { result ≡ record {
+      has_fault = true;
+      has_breach = found.has_breach;
+      is_told = found.is_told && is_told;
+    } }
+{
+    Found {
+        has_fault: true,
+        is_told: found.is_told && is_told,
+        ..found
+    }
+}
+
+// The line of the solution of this path.
+fn line_at<R: Files + AllocGlobal>(
+    rt: &R,
+    judge: &Judge,
+    path: &str,
+    form: LineForm,
+) -> Result<VerdictLine, InputFault>
+    ensures { IfOk result (IsLineOf judge.now.0 judge.now.1 form path.now) }
+{
+    let Ok(mut file) = fs::open(rt, path) else {
+        return Err(InputFault::Read);
+    };
+    let verdict = judge.judge(rt.alloc(), &mut file)?;
+    Ok(VerdictLine {
+        text: verdict.line(rt.alloc(), path, form)?,
+        has_breach: verdict.has_breach(),
+    })
+}
+
+// Prints the line of a solution's fault, with the path in front of it.
+fn print_fault<E: Write>(path: &str, fault: InputFault, err: &mut E) -> io::Result<()>
+    ensures { OnOk result (Appends (E.contents err.old) (E.contents err.new)
+        (path.now ++ codes ": " ++ solution_line path.now fault ++ 10 ∷ [])) }
+{
+    let shown = fault_of_solution(fault, path);
+    writeln!(err, "{path}: {shown}")
+}
