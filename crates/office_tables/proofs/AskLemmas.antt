@@ -19,22 +19,23 @@ use Rattle.sqlite.specs.State.{State, Survives, IsUnchanged, Shown, CommitsShowi
 use Rattle.sqlite.specs.Store.{Ghosts}
 use Rattle.sqlite.specs.Term.{Term, Env, eval_all}
 use Rattle.sqlite.proofs.StateLemmas.{survives_weaker}
-use Rattle.sqlite.proofs.Callers.{IsPlain, never_commits, command_of, reads_as}
+use Rattle.sqlite.proofs.Callers.{IsPlain, command_of, reads_as}
 use Rattle.office_schema.specs.Schema.{office_schema}
 use Rattle.office_tables.specs.Asking.{asks, Means, Selects}
-use Rattle.office_tables.specs.Readers.{Nothing}
 use Rattle.office_tables.specs.Tables.{Tables}
 use Rattle.office_tables.specs.Standing.{Stands}
 use Rattle.office_tables.proofs.LookLemmas.{was_open}
 use Rattle.office_tables.proofs.Queries.{both_alike}
+use Rattle.office_tables.proofs.SilentLemmas.{commits_never}
 
 -- ---- what a reader leaves
 
 pub silent : (sql : List ℕ) (params : Row) (old new : State)
     → Survives old new (CommitsShowing sql params old)
-    → Survives old new (λ _. IsPlain (understood old.now.schema sql) → ⊥)
+    → Survives old new (λ _. IsPlain (understood office_schema sql) → ⊥)
 silent sql params old new =
-    survives_weaker old new _ _ (λ _ db h plain. never_commits sql params old db plain h)
+    survives_weaker old new _ _
+    (λ _ db h plain. commits_never office_schema sql params old db plain h)
 
 -- a query begins at an open store
 pub begun_open : {S : Type 0} (g : Ghosts S) (sql : List ℕ) (params : Row) (old new : Held S)
@@ -50,10 +51,9 @@ module _ (q : Query) (sql : List ℕ) (means : Means office_schema q sql) (old n
   pub means_in : (t : Tables) → Stands old.now t → Means old.now.schema q sql
   means_in t stands = subst (λ s. Means s q sql) (sym stands.schema) means
 
-  pub silent_in : Survives old new (λ _. IsPlain (understood old.now.schema sql) → ⊥)
-      → Survives old new (Nothing old)
-  silent_in =
-      survives_weaker old new _ _ (λ _ db h t stands. h (plain_in t stands))
+  pub silent_in : Survives old new (λ _. IsPlain (understood office_schema sql) → ⊥)
+      → Survives old new (λ _. ⊥)
+  silent_in = survives_weaker old new _ _ (λ _ db h. h means.plain)
 
 -- what permutes a list's images is the images of a list that permutes it
 pub unmapped : {X Y : Type 0} (f : X → Y) (xs : List X) (ys : List Y) → IsPermutation (map f xs) ys

@@ -1,6 +1,6 @@
 pub mod AdoptLemmas
 pub mod AlterationLemmas
-pub mod AskLemmas
+mod AskLemmas
 pub mod BatchFound
 pub mod BatchLemmas
 pub mod BatchTexts
@@ -31,6 +31,7 @@ pub mod RecordsBack
 pub mod Rising
 pub mod ShareLemmas
 pub mod ShareTexts
+pub mod SilentLemmas
 pub mod SlotLemmas
 pub mod SlotTexts
 pub mod Statements

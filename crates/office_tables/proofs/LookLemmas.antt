@@ -25,7 +25,7 @@ was_open sql params old new rows h = open_rows old new sql h.0 _ rows h.0.return
 abbrev pub look_text : List ℕ
 look_text = codes "SELECT id FROM meta"
 
-look_plain : IsPlain (understood office_schema look_text)
+pub look_plain : IsPlain (understood office_schema look_text)
 unfolding understood everything
 look_plain = (refl, refl)
 

@@ -7,10 +7,10 @@ use Rattle.sqlite_resolve.specs.declared.compiled.Compiled.{Compiled}
 use Rattle.sqlite.specs.Listing.{understood}
 use Rattle.sqlite.specs.State.{State, Survives, IsUnchanged, IsRolledBack, IsNotRun, FailsToShow, FailsToQuery, Shown, ShowsRows, CommitsShowing}
 use Rattle.sqlite.proofs.StateLemmas.{survives_weaker}
-use Rattle.sqlite.proofs.Callers.{IsPlain, never_commits}
-use Rattle.office_tables.specs.Tables.{Tables}
-use Rattle.office_tables.specs.Standing.{Stands}
-use Rattle.office_tables.specs.Readers.{Nothing, Keeps}
+use Rattle.sqlite.proofs.Callers.{IsPlain}
+use Rattle.office_schema.specs.Schema.{office_schema}
+use Rattle.office_tables.specs.Readers.{Keeps}
+use Rattle.office_tables.proofs.SilentLemmas.{commits_never}
 
 pub kept_unchanged : (old new : State) → IsUnchanged old new → Keeps old new
 kept_unchanged old new h =
@@ -46,12 +46,11 @@ shown_same sql params old new rows plain h =
     (subst (ShowsRows old new sql h.0 _ rows) (subst IsPlain h.1.is plain).0 h.2).3
 
 pub commits_nothing : (sql : List ℕ) (params : Row) (old new : State)
-    → ((t : Tables) → Stands old.now t → IsPlain (understood old.now.schema sql))
-    → Survives old new (CommitsShowing sql params old)
-    → Survives old new (Nothing old)
+    → IsPlain (understood office_schema sql) → Survives old new (CommitsShowing sql params old)
+    → Survives old new (λ _. ⊥)
 commits_nothing sql params old new plain =
     survives_weaker old new _ _
-    (λ _ db h t stands. never_commits sql params old db (plain t stands) h)
+    (λ _ db h. commits_never office_schema sql params old db plain h)
 
 pub keeps_after : (a b c : State) → IsUnchanged a b → Keeps b c → Keeps a c
 keeps_after a b c same h = record {

@@ -1,16 +1,11 @@
 -- What a reader leaves of a connection where the tables stand.
 use Rattle.std.specs.Prelude.{◌≡◌, ◌⊎◌, false, IsTrue, IfOk, OnOk, Result}
-use Rattle.sqlite_trees.specs.Tree.{Trees}
 use Rattle.sqlite.specs.declared.error.Error.{Error}
 use Rattle.sqlite.specs.Held.{Held, state}
 use Rattle.sqlite.specs.State.{State, HasCleanDisk, IsUnchanged}
 use Rattle.sqlite.specs.Store.{Ghosts}
 use Rattle.office_tables.specs.Tables.{Tables}
 use Rattle.office_tables.specs.Standing.{Stands}
-
--- it commits nothing where the tables stand
-abbrev pub Nothing : State → Trees → Type 0
-Nothing old trees = (t : Tables) → Stands old.now t → ⊥
 
 -- it leaves the database as it is, or where it failed as the last commit left it
 pub record Keeps (old new : State) : Type 0 where

@@ -1,14 +1,13 @@
 // Batches of changes of enrolments that were accepted.
-ghost use Rattle.std.specs.Prelude.{◌≡◌, ◌==◌, false, filter, map, option_to_list, IsPermutation};
+ghost use Rattle.std.specs.Prelude.{◌≡◌, ◌==◌, false, filter, map, option_to_list};
 ghost use Rattle.sqlite.specs.Held.{state};
 ghost use Rattle.sqlite.specs.State.{Survives};
 ghost use Rattle.office_schema.specs.Schema.{office_schema};
 ghost use Rattle.office_tables.specs.Batch.{batch_columns, batch_from, counts_columns, with_batch, FitsBatch, FitsCounts, IsFoundBatches};
 ghost use Rattle.office_tables.specs.Finders.{Finds, Leaves, Looks};
 ghost use Rattle.office_tables.specs.Schema.{schema_9, IsBlank};
-ghost use Rattle.office_tables.specs.Selections.{NumbersRise};
 ghost use Rattle.office_tables.specs.Steps.{Grows, Within};
-ghost use Rattle.office_tables.specs.Readers.{AnswersOpen, LeavesAll, LeavesCommitted, Nothing, OpensNone, Reads};
+ghost use Rattle.office_tables.specs.Readers.{AnswersOpen, LeavesAll, LeavesCommitted, OpensNone, Reads};
 
 use crate::altering::Alteration;
 use crate::listing::read_table;
@@ -141,8 +140,7 @@ pub fn batch_of<S: Alter>(
     ensures same { LeavesAll S.Store conn.old conn.new result }
     ensures kept { LeavesCommitted S.Store conn.old conn.new }
     ensures mode { conn.old.in_transaction ≡ false → conn.new.in_transaction ≡ false }
-    ensures survives { Survives (state S.Store conn.old) (state S.Store conn.new)
-        (Nothing (state S.Store conn.old)) }
+    ensures survives { Survives (state S.Store conn.old) (state S.Store conn.new) (λ _. ⊥) }
 {
     let mut found: Vec<BatchRow> = stream(
         alloc,
@@ -151,22 +149,6 @@ pub fn batch_of<S: Alter>(
         params![no],
     )?;
     Ok(found.pop())
-}
-
-/// The numbers of all kept batches, each above the one before.
-pub fn batch_numbers<S: Alter>(alloc: Global, conn: &mut Connection<S>) -> Result<Vec<u32>, Error>
-    ensures numbers { Reads S.Store (λ t found. IsPermutation (map (λ r. r.no) t.batch) found.items)
-        conn.old conn.new result }
-    ensures in_order { Reads S.Store (λ t found. NumbersRise found.items) conn.old conn.new result }
-    ensures open { AnswersOpen S.Store conn.old conn.new result }
-    ensures was_open { OpensNone S.Store conn.old conn.new }
-    ensures same { LeavesAll S.Store conn.old conn.new result }
-    ensures kept { LeavesCommitted S.Store conn.old conn.new }
-    ensures mode { conn.old.in_transaction ≡ false → conn.new.in_transaction ≡ false }
-    ensures survives { Survives (state S.Store conn.old) (state S.Store conn.new)
-        (Nothing (state S.Store conn.old)) }
-{
-    stream(alloc, conn, "SELECT no FROM batch ORDER BY no", &[])
 }
 
 // All batches but their bytes, or that a row is of none.

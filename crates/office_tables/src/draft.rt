@@ -7,7 +7,7 @@ ghost use Rattle.office_tables.specs.Draft.{draft_columns, no_drafts, with_draft
 ghost use Rattle.office_tables.specs.Finders.{Finds, IsFound, Leaves, Looks};
 ghost use Rattle.office_tables.specs.Schema.{schema_3, schema_4, IsBlank};
 ghost use Rattle.office_tables.specs.Steps.{Grows, Within};
-ghost use Rattle.office_tables.specs.Readers.{AnswersOpen, LeavesAll, LeavesCommitted, Nothing, OpensNone, Reads};
+ghost use Rattle.office_tables.specs.Readers.{AnswersOpen, LeavesAll, LeavesCommitted, OpensNone, Reads};
 ghost use Rattle.office_tables.specs.Stored.{keyed};
 
 use crate::altering::Alteration;
@@ -154,8 +154,7 @@ pub fn drafts_of<S: Alter>(
     ensures same { LeavesAll S.Store conn.old conn.new result }
     ensures kept { LeavesCommitted S.Store conn.old conn.new }
     ensures mode { conn.old.in_transaction ≡ false → conn.new.in_transaction ≡ false }
-    ensures survives { Survives (state S.Store conn.old) (state S.Store conn.new)
-        (Nothing (state S.Store conn.old)) }
+    ensures survives { Survives (state S.Store conn.old) (state S.Store conn.new) (λ _. ⊥) }
 {
     stream(
         alloc,

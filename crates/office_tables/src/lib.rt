@@ -25,7 +25,7 @@ mod streaming;
 
 pub use adopting::adopt_tables;
 pub use altering::{Alteration, Both, Each, transact};
-pub use batch::{BatchCountsRow, BatchRow, InsertBatch, batch_numbers, batch_of};
+pub use batch::{BatchCountsRow, BatchRow, InsertBatch, batch_of};
 pub use creation::{create_tables, is_bare};
 pub use draft::{DeleteDraft, DeleteDrafts, DraftRow, InsertDraft, drafts_of};
 pub use enrol::{DeleteEnrol, EnrolRow, InsertEnrol, enrols_of, find_enrols_of};

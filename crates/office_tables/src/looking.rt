@@ -2,7 +2,7 @@
 ghost use Rattle.std.specs.Prelude.{◌≡◌, false, IsTrue, OnErr, OnOk};
 ghost use Rattle.sqlite.specs.Held.{state};
 ghost use Rattle.sqlite.specs.State.{HasCleanDisk, Survives};
-ghost use Rattle.office_tables.specs.Readers.{Keeps, LeavesAll, Nothing};
+ghost use Rattle.office_tables.specs.Readers.{Keeps, LeavesAll};
 
 use sqlite::{Alter, Connection, Error};
 
@@ -14,8 +14,7 @@ pub fn look<S: Alter>(conn: &mut Connection<S>) -> Result<(), Error>
     ensures failed { HasCleanDisk (state S.Store conn.new)
         → OnErr result (Keeps (state S.Store conn.old) (state S.Store conn.new)) }
     ensures mode { conn.old.in_transaction ≡ false → conn.new.in_transaction ≡ false }
-    ensures survives { Survives (state S.Store conn.old) (state S.Store conn.new)
-        (Nothing (state S.Store conn.old)) }
+    ensures survives { Survives (state S.Store conn.old) (state S.Store conn.new) (λ _. ⊥) }
 {
     let _rows = conn.query_all("SELECT id FROM meta", &[])?;
     Ok(())

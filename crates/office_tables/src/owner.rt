@@ -6,7 +6,7 @@ ghost use Rattle.office_tables.specs.Owner.{owner_columns, with_owner, without_o
 ghost use Rattle.office_tables.specs.Finders.{Finds, IsFound, Leaves, Looks};
 ghost use Rattle.office_tables.specs.Schema.{schema_1, schema_2, IsBlank};
 ghost use Rattle.office_tables.specs.Steps.{Grows, Within};
-ghost use Rattle.office_tables.specs.Readers.{AnswersOpen, LeavesAll, LeavesCommitted, Nothing, OpensNone, Reads};
+ghost use Rattle.office_tables.specs.Readers.{AnswersOpen, LeavesAll, LeavesCommitted, OpensNone, Reads};
 ghost use Rattle.office_tables.specs.Stored.{keyed};
 
 use crate::altering::Alteration;
@@ -105,8 +105,7 @@ pub fn owners_of<S: Alter>(
     ensures same { LeavesAll S.Store conn.old conn.new result }
     ensures kept { LeavesCommitted S.Store conn.old conn.new }
     ensures mode { conn.old.in_transaction ≡ false → conn.new.in_transaction ≡ false }
-    ensures survives { Survives (state S.Store conn.old) (state S.Store conn.new)
-        (Nothing (state S.Store conn.old)) }
+    ensures survives { Survives (state S.Store conn.old) (state S.Store conn.new) (λ _. ⊥) }
 {
     stream(
         alloc,

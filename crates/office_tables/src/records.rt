@@ -1,7 +1,7 @@
 // Rows read as records.
 ghost use Rattle.std.specs.Prelude.{◌≡◌, ◌≢◌, ◌≤◌, ℕ, length, IfErr, IfOk};
 ghost use Rattle.sqlite_value.specs.Order.{Row as Columns};
-ghost use Rattle.office_tables.specs.Records.{columns_from, number_columns, IsNarrow};
+ghost use Rattle.office_tables.specs.Records.{columns_from};
 
 use sqlite::{Error, ErrorCode, Row};
 
@@ -22,19 +22,4 @@ pub(crate) trait Record: Sized {
         ensures refused { IfErr result (λ e. e ≢ Error.SqliteFailure ErrorCode.OutOfMemory
             → WIDTH ≤ length row.now → (made : Self) → fits made
             → columns_of made ≢ columns_from 0 WIDTH row.now) };
-}
-
-// A number alone.
-impl Record for u32 {
-    ghost WIDTH = { 1 };
-
-    ghost columns_of = { number_columns };
-
-    ghost fits = { IsNarrow };
-
-    const WIDTH: usize = 1;
-
-    fn read(row: &Row) -> Result<u32, Error> {
-        row.get(0)
-    }
 }

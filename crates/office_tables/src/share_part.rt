@@ -8,7 +8,7 @@ ghost use Rattle.office_tables.specs.Schema.{schema_8, schema_9, IsBlank};
 ghost use Rattle.office_tables.specs.Selections.{IsInOrder};
 ghost use Rattle.office_tables.specs.SharePart.{no_part_shares, share_part_columns, with_part_share, ArePartAmounts, FitsPartShare, PartSharesRise};
 ghost use Rattle.office_tables.specs.Steps.{Grows, Within};
-ghost use Rattle.office_tables.specs.Readers.{AnswersOpen, LeavesAll, LeavesCommitted, Nothing, OpensNone, Reads};
+ghost use Rattle.office_tables.specs.Readers.{AnswersOpen, LeavesAll, LeavesCommitted, OpensNone, Reads};
 ghost use Rattle.office_tables.specs.Stored.{keyless};
 
 use crate::altering::Alteration;
@@ -125,8 +125,7 @@ pub fn part_shares<S: Alter>(
     ensures same { LeavesAll S.Store conn.old conn.new result }
     ensures kept { LeavesCommitted S.Store conn.old conn.new }
     ensures mode { conn.old.in_transaction ≡ false → conn.new.in_transaction ≡ false }
-    ensures survives { Survives (state S.Store conn.old) (state S.Store conn.new)
-        (Nothing (state S.Store conn.old)) }
+    ensures survives { Survives (state S.Store conn.old) (state S.Store conn.new) (λ _. ⊥) }
 {
     stream(
         alloc,

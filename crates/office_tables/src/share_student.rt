@@ -8,7 +8,7 @@ ghost use Rattle.office_tables.specs.Schema.{schema_7, schema_8, IsBlank};
 ghost use Rattle.office_tables.specs.Selections.{IsInOrder};
 ghost use Rattle.office_tables.specs.ShareStudent.{share_student_columns, with_student_share, without_student_share, AreStudentAmounts, FitsStudentShare, StudentSharesRise};
 ghost use Rattle.office_tables.specs.Steps.{Grows, Within};
-ghost use Rattle.office_tables.specs.Readers.{AnswersOpen, LeavesAll, LeavesCommitted, Nothing, OpensNone, Reads};
+ghost use Rattle.office_tables.specs.Readers.{AnswersOpen, LeavesAll, LeavesCommitted, OpensNone, Reads};
 ghost use Rattle.office_tables.specs.Stored.{keyed};
 
 use crate::altering::Alteration;
@@ -132,8 +132,7 @@ pub fn student_shares<S: Alter>(
     ensures same { LeavesAll S.Store conn.old conn.new result }
     ensures kept { LeavesCommitted S.Store conn.old conn.new }
     ensures mode { conn.old.in_transaction ≡ false → conn.new.in_transaction ≡ false }
-    ensures survives { Survives (state S.Store conn.old) (state S.Store conn.new)
-        (Nothing (state S.Store conn.old)) }
+    ensures survives { Survives (state S.Store conn.old) (state S.Store conn.new) (λ _. ⊥) }
 {
     stream(
         alloc,
@@ -157,8 +156,7 @@ pub fn student_shares_of<S: Alter>(
     ensures same { LeavesAll S.Store conn.old conn.new result }
     ensures kept { LeavesCommitted S.Store conn.old conn.new }
     ensures mode { conn.old.in_transaction ≡ false → conn.new.in_transaction ≡ false }
-    ensures survives { Survives (state S.Store conn.old) (state S.Store conn.new)
-        (Nothing (state S.Store conn.old)) }
+    ensures survives { Survives (state S.Store conn.old) (state S.Store conn.new) (λ _. ⊥) }
 {
     stream(
         alloc,

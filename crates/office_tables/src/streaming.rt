@@ -7,6 +7,7 @@ ghost use Rattle.sqlite.specs.Query.{Query};
 ghost use Rattle.sqlite.specs.State.{HasCleanDisk, IsUnchanged, Survives};
 ghost use Rattle.sqlite.specs.Values.{bound};
 ghost use Rattle.sqlite_value.specs.Order.{Row as Columns};
+ghost use Rattle.office_schema.specs.Schema.{office_schema};
 ghost use Rattle.office_tables.specs.Asking.{IsReadOf, Means};
 ghost use Rattle.office_tables.specs.Readings.{IsGathered, IsReadAnswer};
 ghost use Rattle.office_tables.specs.Readers.{AnswersOpen, Keeps, OpensNone};
@@ -38,7 +39,7 @@ pub(crate) fn stream<S: Alter, R: Record + Drop>(
         → Keeps (state S.Store conn.old) (state S.Store conn.new) }
     ensures mode { conn.old.in_transaction ≡ false → conn.new.in_transaction ≡ false }
     ensures survives { Survives (state S.Store conn.old) (state S.Store conn.new)
-        (λ _. IsPlain (understood (state S.Store conn.old).now.schema sql.now) → ⊥) }
+        (λ _. IsPlain (understood office_schema sql.now) → ⊥) }
 {
     match stream_found(alloc, conn, sql, params)? {
         Some(records) => Ok(records),
@@ -68,7 +69,7 @@ pub(crate) fn stream_found<S: Alter, R: Record + Drop>(
         → Keeps (state S.Store conn.old) (state S.Store conn.new) }
     ensures mode { conn.old.in_transaction ≡ false → conn.new.in_transaction ≡ false }
     ensures survives { Survives (state S.Store conn.old) (state S.Store conn.new)
-        (λ _. IsPlain (understood (state S.Store conn.old).now.schema sql.now) → ⊥) }
+        (λ _. IsPlain (understood office_schema sql.now) → ⊥) }
 {
     let mut found = Some(Vec::new(alloc));
     let mut rows = conn.query(sql, params)?;

@@ -1,5 +1,5 @@
 use Rattle.sqlite.specs.Held.{state}
-use Rattle.office_tables.proofs.LookLemmas.{look_text, look_plain_in, was_open, on_err}
+use Rattle.office_tables.proofs.LookLemmas.{look_text, look_plain, look_plain_in, was_open, on_err}
 use Rattle.office_tables.proofs.Reading.{kept_failed, shown_same, commits_nothing}
 use Rattle.office_tables.proofs.looking.look.Goals as goal
 
@@ -13,13 +13,11 @@ returns-clause-same g c clean t stands =
 
 pub returns-clause-survives : goal.returns-clause-survives
 returns-clause-survives g c =
-    let old = state g.S.Store c.args.conn.now in
-    commits_nothing look_text _ old _ (look_plain_in old) c.query_all.ensures.survives
+    commits_nothing look_text _ _ _ look_plain c.query_all.ensures.survives
 
 pub returns-in_err-_rows-clause-survives : goal.returns-in_err-_rows-clause-survives
 returns-in_err-_rows-clause-survives g c =
-    let old = state g.S.Store c.args.conn.now in
-    commits_nothing look_text _ old _ (look_plain_in old) c.query_all.ensures.survives
+    commits_nothing look_text _ _ _ look_plain c.query_all.ensures.survives
 
 pub returns-in_err-_rows-clause-failed : goal.returns-in_err-_rows-clause-failed
 returns-in_err-_rows-clause-failed g c clean =

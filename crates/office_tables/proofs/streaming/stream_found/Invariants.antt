@@ -5,6 +5,7 @@ use Rattle.sqlite.specs.Held.{state}
 use Rattle.sqlite.specs.Given.{HasGiven, IsPlain}
 use Rattle.sqlite.specs.Listing.{understood}
 use Rattle.sqlite.specs.Values.{bound}
+use Rattle.office_schema.specs.Schema.{office_schema}
 use Rattle.office_tables.specs.Readings.{IsGathered}
 use Rattle.office_tables.proofs.streaming.stream_found.Given as goal
 
@@ -16,7 +17,7 @@ invariant-rows g l =
     record {
       same : l.rows.conn.ghost_name ≡ l.initial.rows.conn.ghost_name;
       mode : old.in_transaction ≡ false → now.in_transaction ≡ false;
-      survives : Survives old now (λ _. plain → ⊥);
+      survives : Survives old now (λ _. IsPlain (understood office_schema l.sql) → ⊥);
       opened : HasCleanDisk now → IsTrue old.is_open;
       given : HasCleanDisk now → plain
           → (given : List Row) × HasGiven g.S.Store l.sql (bound l.params) l.rows.conn.now given

@@ -1,0 +1,179 @@
+-- A text that has no RETURNING under one schema has none under any.
+use Rattle.std.proofs.Common.{◌≡◌, ◌⊎◌, ◌+◌, inl, inr, ℕ, Bool, true, false, List, length, Option, None, Some, Ok, Err, refl, sym, ap, subst, ◌∙◌}
+use Rattle.std.specs.Prelude.{◌==◌, if◌then◌else◌, IsSome, Result}
+use Rattle.sqlite_ast.specs.declared.Shown.{Shown}
+use Rattle.sqlite_ast.specs.declared.Statement.{Statement}
+use Rattle.sqlite_ast.specs.declared.Statement.TheVariants as written
+use Rattle.sqlite_schema.specs.declared.command.Command.{Command}
+use Rattle.sqlite_schema.specs.declared.command.Returning.{Returning}
+use Rattle.sqlite_schema.specs.declared.schema.Schema.{Schema}
+use Rattle.sqlite_syntax.specs.declared.statement.Parsed.{Parsed}
+use Rattle.sqlite_trees.specs.Tree.{Trees}
+use Rattle.sqlite_value.specs.Order.{Row}
+use Rattle.sqlite_resolve.specs.Compile.{command, compiled, first, meaning, planned, returning, returning_by, shows, small, source_of, target, timed, with_command}
+use Rattle.sqlite_resolve.specs.Body.{table_at}
+use Rattle.sqlite_resolve.specs.Given.{returned}
+use Rattle.sqlite_resolve.specs.Lowering.{Checked, and_then}
+use Rattle.sqlite_resolve.specs.Scope.{Name}
+use Rattle.sqlite_resolve.specs.declared.compiled.Compiled.{Compiled}
+use Rattle.sqlite_resolve.specs.declared.error.CompileError.{CompileError}
+use Rattle.sqlite.specs.Listing.{if_select, is_select, listing_schema, reads_listing, understood}
+use Rattle.sqlite.specs.State.{State, CommitsShowing}
+use Rattle.sqlite.proofs.Callers.{IsPlain}
+
+ok_is : {X : Type 0} {x y : X} → ◌≡◌ {A = Result X CompileError} (Ok x) (Ok y) → x ≡ y
+ok_is e = cc
+
+and_then_ok : {A B : Type 0} (r : Checked A) (f : A → Checked B) (b : B) → and_then r f ≡ Ok b
+    → (a : A) × (r ≡ Ok a) × (f a ≡ Ok b)
+and_then_ok (Ok a) f b h = (a, refl, h)
+and_then_ok (Err e) f b h = absurd cc
+
+-- ---- RETURNING
+
+and_then_never : {A : Type 0} (r : Checked A) (f : A → Checked (Option Returning))
+    → ((a : A) → f a ≡ Ok None → ⊥) → and_then r f ≡ Ok None → ⊥
+and_then_never (Ok a) f never none = never a none
+and_then_never (Err e) f never none = absurd cc
+
+some_none : (r : Returning) → ◌≡◌ {A = Checked (Option Returning)} (Ok (Some r)) (Ok None) → ⊥
+some_none r e = absurd cc
+
+-- terms of RETURNING show something, whatever the schema
+never_none : (s : Schema) (a : ℕ) (name : Name) (shown : List Shown)
+    → ◌≡◌ {A = Checked (Option Returning)}
+    (and_then (target s name) (λ at. and_then (table_at s at) (λ table.
+    and_then (returned s table a shown) (λ r. and_then (source_of s (length r.0) r.1) (λ row.
+    Ok (Some (record { names = r.0; row = row }))))))) (Ok None)
+    → ⊥
+never_none s a name shown =
+    and_then_never (target s name) _ (λ at.
+    and_then_never (table_at s at) _ (λ table.
+    and_then_never (returned s table a shown) _ (λ r.
+    and_then_never (source_of s (length r.0) r.1) _ (λ row. some_none _))))
+
+by_test : (empty : Bool) (x y : Checked (Option Returning)) → (x ≡ Ok None → ⊥)
+    → (if empty then Ok None else x) ≡ Ok None → (r : Option Returning)
+    → (if empty then Ok None else y) ≡ Ok r → r ≡ None
+by_test true x y some none r is = sym (ok_is is)
+by_test false x y some none r is = absurd (some none)
+
+shows_none : (s t : Schema) (a b : ℕ) (name : Name) (shown : List Shown)
+    → shows s a name shown ≡ Ok None → (r : Option Returning) → shows t b name shown ≡ Ok r
+    → r ≡ None
+unfolding shows
+shows_none s t a b name shown =
+    by_test (length shown == 0) _ _ (never_none s a name shown)
+
+returning_none : (s t : Schema) (a b : ℕ) (it : Statement) → returning_by s a it ≡ Ok None
+    → (r : Option Returning) → returning_by t b it ≡ Ok r → r ≡ None
+returning_none s t a b (written.Insert how name columns rows clauses shown) =
+    shows_none s t a b name shown
+returning_none s t a b (written.Update name sets test shown) = shows_none s t a b name shown
+returning_none s t a b (written.Delete name test shown) = shows_none s t a b name shown
+returning_none s t a b written.Empty = λ _ r is. sym (ok_is is)
+returning_none s t a b (written.Select query) = λ _ r is. sym (ok_is is)
+returning_none s t a b (written.Pragma name value) = λ _ r is. sym (ok_is is)
+returning_none s t a b (written.CreateTable table) = λ _ r is. sym (ok_is is)
+returning_none s t a b (written.CreateIndex index) = λ _ r is. sym (ok_is is)
+returning_none s t a b (written.CreateView if_missing name columns query) =
+    λ _ r is. sym (ok_is is)
+returning_none s t a b (written.DropTable if_exists name) = λ _ r is. sym (ok_is is)
+returning_none s t a b (written.DropIndex if_exists name) = λ _ r is. sym (ok_is is)
+returning_none s t a b (written.DropView if_exists name) = λ _ r is. sym (ok_is is)
+returning_none s t a b written.Begin = λ _ r is. sym (ok_is is)
+returning_none s t a b written.Commit = λ _ r is. sym (ok_is is)
+returning_none s t a b written.Rollback = λ _ r is. sym (ok_is is)
+returning_none s t a b (written.Savepoint name) = λ _ r is. sym (ok_is is)
+returning_none s t a b (written.Release name) = λ _ r is. sym (ok_is is)
+returning_none s t a b (written.RollbackTo name) = λ _ r is. sym (ok_is is)
+
+-- ---- a text
+
+meaning_returns : (s : Schema) (p : Parsed) (a : ℕ) (found : Command × Option Returning)
+    → meaning s p a ≡ Ok found → returning_by s a p.statement ≡ Ok found.1
+unfolding meaning returning
+meaning_returns s p a found is =
+    let shown = and_then_ok (returning_by s a p.statement)
+    (λ r. and_then (command s p.formats a p.statement) (λ c. Ok (c, r))) found is in
+    let last = and_then_ok (command s p.formats a p.statement) (λ c. Ok (c, shown.0)) found
+    shown.2 in
+    shown.1 ∙ ap (λ (r : Option Returning). Ok r)
+    (ap (λ (it : Command × Option Returning). it.1) (ok_is last.2))
+
+planned_returns : (s : Schema) (p : Parsed) (plan : List Name × (Command × Option Returning))
+    → planned s p ≡ Ok plan → (a : ℕ) × (returning_by s a p.statement ≡ Ok plan.1.1)
+unfolding planned
+planned_returns s p plan is =
+    let formats = timed s p.formats p.statement in
+    let a = small p.names + small formats in
+    let means = and_then_ok (meaning s p a) (λ found. Ok (formats, found)) plan is in (
+      a,
+      meaning_returns s p a means.0 means.1
+          ∙ ap (λ (it : List Name × (Command × Option Returning)). Ok it.1.1) (ok_is means.2),
+    )
+
+-- what a text is compiled to returns what its statement does
+compiled_returns : (s : Schema) (sql : List ℕ) (c : Compiled) → compiled s sql ≡ Ok c
+    → (p : Parsed) × (first sql ≡ Ok p) × (a : ℕ)
+    × (returning_by s a p.statement ≡ Ok c.returning)
+unfolding compiled
+compiled_returns s sql c is =
+    let read = and_then_ok (first sql)
+    (λ p. and_then (planned s p) (λ plan. Ok (with_command p plan))) c is in
+    let plan = and_then_ok (planned s read.0) (λ plan. Ok (with_command read.0 plan)) c read.2 in
+    let told = planned_returns s read.0 plan.0 plan.1 in (
+      read.0,
+      read.1,
+      told.0,
+      told.1 ∙ ap (λ (it : Compiled). Ok it.returning) (ok_is plan.2),
+    )
+
+chosen : (select : Bool) (c d : Compiled) (e : CompileError)
+    → (if select then Ok c else Err e) ≡ Ok d → ◌≡◌ {A = Checked Compiled} (Ok c) (Ok d)
+chosen true c d e is = is
+chosen false c d e is = absurd cc
+
+selected : (r : Checked Compiled) (c : Compiled) → if_select r ≡ Ok c → r ≡ Ok c
+selected (Ok d) c is = chosen (is_select d.command) d c _ is
+selected (Err e) c is = absurd cc
+
+either : (listing : Bool) (x y : Checked Compiled) (c : Compiled)
+    → (if listing then if_select x else y) ≡ Ok c → (x ≡ Ok c) ⊎ (y ≡ Ok c)
+either true x y c is = inl (selected x c is)
+either false x y c is = inr is
+
+-- what is understood of a text was compiled under some schema
+understood_compiled : (s : Schema) (sql : List ℕ) (c : Compiled) → understood s sql ≡ Ok c
+    → (t : Schema) × (compiled t sql ≡ Ok c)
+unfolding understood
+understood_compiled s sql c is =
+    elim (either (reads_listing s sql) (compiled listing_schema sql) (compiled s sql) c is)
+    [ inl listing ↦ (listing_schema, listing) | inr own ↦ (s, own) ]
+
+returns_none : (s t : Schema) (sql : List ℕ) (c d : Compiled) → understood s sql ≡ Ok c
+    → c.returning ≡ None → understood t sql ≡ Ok d → d.returning ≡ None
+returns_none s t sql c d one none two =
+    let first_under = understood_compiled s sql c one in
+    let next_under = understood_compiled t sql d two in
+    let a = compiled_returns first_under.0 sql c first_under.1 in
+    let b = compiled_returns next_under.0 sql d next_under.1 in
+    let same : b.0 ≡ a.0 = ok_is (sym b.1 ∙ a.1) in
+    returning_none first_under.0 next_under.0 a.2 b.2 a.0.statement (a.3 ∙ ap Ok none) d.returning
+    (subst (λ (p : Parsed). returning_by next_under.0 b.2 p.statement ≡ Ok d.returning) same b.3)
+
+plain_returns : (s t : Schema) (sql : List ℕ) (d : Compiled) → (r : Result Compiled CompileError)
+    → understood s sql ≡ r → IsPlain r → understood t sql ≡ Ok d → d.returning ≡ None
+plain_returns s t sql d (Ok c) is plain two = returns_none s t sql c d is plain.0 two
+plain_returns s t sql d (Err e) is plain two = absurd plain
+
+none_returns : (r : Option Returning) → r ≡ None → IsSome r → ⊥
+none_returns r none some = absurd (let no = rw none at some in cc)
+
+-- a text that is plain under one schema commits nothing under any
+pub commits_never : (schema : Schema) (sql : List ℕ) (params : Row) (s : State) (db : Trees)
+    → IsPlain (understood schema sql) → CommitsShowing sql params s db → ⊥
+unfolding CommitsShowing
+commits_never schema sql params s db plain h =
+    none_returns h.0.returning
+    (plain_returns schema s.now.schema sql h.0 (understood schema sql) refl plain h.1.is) h.2
