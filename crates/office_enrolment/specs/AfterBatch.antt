@@ -1,5 +1,5 @@
 -- What a batch makes of enrolments: one line, all lines, and those that act.
-use Rattle.std.specs.Prelude.{◌≡◌, ℕ, ◌+◌, ◌⊎◌, Bool, nat_lt, nat_le, if◌then◌else◌, List, [], ◌∷◌, length, Result, Ok, Err}
+use Rattle.std.specs.Prelude.{◌≡◌, ℕ, ◌+◌, ◌⊎◌, Bool, nat_lt, nat_le, if◌then◌else◌, List, [], ◌∷◌, length, Option, Some, None, Result, Ok, Err}
 use Rattle.std.specs.List.{list_all}
 use Rattle.exam_terms.specs.Refusing.{◌>>=◌, unless}
 use Rattle.exam_terms.specs.declared.limits.TheConstants.{MAX_PAIRS}
@@ -35,6 +35,19 @@ acting [] E = []
 acting (change ∷ changes) E =
     if acts change E then change ∷ acting changes (after_change change E)
     else acting changes (after_change change E)
+
+-- whether a line changes these enrolments
+abbrev pub acts_on : Enrolled → Change → Bool
+acts_on E change = acts change E
+
+-- the enrolments that were made, or if none were, those of before
+abbrev pub latest : Option Enrolled → Enrolled → Enrolled
+latest (Some E) before = E
+latest None before = before
+
+-- what lines count of which none acts
+abbrev pub idle_counts : List Change → Counts
+idle_counts changes = record { added = 0; dropped = 0; unchanged = length changes }
 
 -- how many lines are counted
 abbrev pub lines_in : Counts → ℕ

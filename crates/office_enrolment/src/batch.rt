@@ -1,10 +1,12 @@
 // A batch of changes, carried out on enrolments.
-ghost use Rattle.std.specs.Prelude.{◌≡◌, ◌<◌, ◌≤◌, ◌++◌, [], ◌∷◌, length, IfErr, IfOk, OnOk, Ok};
-ghost use Rattle.std.specs.List.{list_all};
+ghost use Rattle.std.specs.Prelude.{◌≡◌, ◌≢◌, ◌<◌, ◌≤◌, ◌↔◌, ◌++◌, [], ◌∷◌, length, true, None};
+ghost use Rattle.std.specs.Prelude.{IfErr, IfOk, IfSome, OnOk, Ok};
+ghost use Rattle.std.specs.List.{list_all, list_any};
 ghost use Rattle.exam_terms.specs.declared.limits.TheConstants.{TEXT_BYTES};
 ghost use Rattle.exam_model.specs.Enrolments.{AreEnrolments, Enrolled};
 ghost use Rattle.office_model.specs.BatchLines.{acts, counted, no_counts};
-ghost use Rattle.office_enrolment.specs.AfterBatch.{Refuses, acting, after_batch, after_line, lines_in, names_exam};
+ghost use Rattle.office_enrolment.specs.AfterBatch.{Refuses, acting, acts_on, after_batch, after_line, idle_counts, latest};
+ghost use Rattle.office_enrolment.specs.AfterBatch.{lines_in, names_exam};
 
 use exam_draft::EditFault;
 use exam_model::{Change, Enrolments, ModelFault};
@@ -14,17 +16,17 @@ use std::alloc::{AllocError, Global};
 /// What a batch made of enrolments.
 #[derive(Debug, Drop)]
 pub struct AfterBatch {
-    /// The enrolments after all lines.
-    pub enrolments: Enrolments,
+    /// The enrolments after all lines. `None`: no line acted, and they are as they were.
+    pub enrolments: Option<Enrolments>,
     /// What the lines did.
     pub counts: Counts,
     /// The lines that added a pair or dropped one, in file order.
     pub acting: Vec<Change>,
 }
 
-/// Carries out a batch on a copy of the enrolments, its lines in file order. `Refused`: a line
-/// names an exam that isn't there; then `TooMany`: at some line there would be more than 200,000
-/// pairs. `Store` comes where memory is refused.
+/// Carries out a batch on a copy of the enrolments, its lines in file order; if no line acts, there
+/// is no copy. `Refused`: a line names an exam that isn't there; then `TooMany`: at some line there
+/// would be more than 200,000 pairs. `Store` comes where memory is refused.
 pub fn after_batch(
     alloc: Global,
     enrolments: &Enrolments,
@@ -32,14 +34,85 @@ pub fn after_batch(
 ) -> Result<AfterBatch, StoreFault>
     requires lines { length changes.now ≤ TEXT_BYTES }
     ensures ok { IfOk result (λ made. after_batch changes.now enrolments.now
-        ≡ Ok (made.counts, made.enrolments)) }
+        ≡ Ok (made.counts, latest made.enrolments enrolments.now)) }
+    ensures copied { IfOk result (λ made. made.enrolments ≡ None ↔ made.acting.items ≡ []) }
     ensures acting { IfOk result (λ made. made.acting.items ≡ acting changes.now enrolments.now) }
-    ensures kept { IfOk result (λ made. AreEnrolments made.enrolments) }
+    ensures kept { IfOk result (λ made. IfSome made.enrolments AreEnrolments) }
     ensures refused { IfErr result (Refuses (after_batch changes.now enrolments.now)) }
 {
     if !name_exams(enrolments, changes) {
         return Err(StoreFault::Refused(Refusal::Edit(EditFault::NoSuch)));
     }
+    if !any_acts(enrolments, changes) {
+        return Ok(unchanged(alloc, changes));
+    }
+    carry_out_all(alloc, enrolments, changes)
+}
+
+// Whether each line names an exam that is there.
+fn name_exams(enrolments: &Enrolments, changes: &[Change]) -> bool
+    ensures all { result ≡ list_all (names_exam enrolments.now) changes.now }
+    ensures kept { AreEnrolments enrolments.now }
+{
+    let exams = enrolments.exams();
+    changes.iter().all(|change| change.exam.get() < exams)
+}
+
+// Whether any line acts on these enrolments.
+fn any_acts(enrolments: &Enrolments, changes: &[Change]) -> bool
+    requires exams { list_all (names_exam enrolments.now) changes.now ≡ true }
+    ensures { result ≡ list_any (acts_on enrolments.now) changes.now }
+{
+    'lines: for change in changes {
+        if has_effect(enrolments, change) {
+            return true;
+        }
+    }
+    false
+}
+
+// Whether a line acts on these enrolments.
+fn has_effect(enrolments: &Enrolments, change: &Change) -> bool
+    requires exam { change.now.exam < length enrolments.now }
+    ensures { result ≡ acts_on enrolments.now change.now }
+{
+    let is_there = enrolments.has(change.student, change.exam);
+    if change.add { !is_there } else { is_there }
+}
+
+// What a batch makes of which no line acts.
+fn unchanged(alloc: Global, changes: &[Change]) -> AfterBatch
+    requires lines { length changes.now ≤ TEXT_BYTES }
+    ensures enrolments { result.enrolments ≡ None }
+    ensures counts { result.counts ≡ idle_counts changes.now }
+    ensures acting { result.acting.items ≡ [] }
+{
+    AfterBatch {
+        enrolments: None,
+        counts: Counts {
+            added: 0,
+            dropped: 0,
+            unchanged: changes.len() as u32,
+        },
+        acting: Vec::new(alloc),
+    }
+}
+
+// Carries out lines on a copy of the enrolments, one after the other.
+fn carry_out_all(
+    alloc: Global,
+    enrolments: &Enrolments,
+    changes: &[Change],
+) -> Result<AfterBatch, StoreFault>
+    requires lines { length changes.now ≤ TEXT_BYTES }
+    requires exams { list_all (names_exam enrolments.now) changes.now ≡ true }
+    ensures ok { IfOk result (λ made. after_batch changes.now enrolments.now
+        ≡ Ok (made.counts, latest made.enrolments enrolments.now)) }
+    ensures acting { IfOk result (λ made. made.acting.items ≡ acting changes.now enrolments.now) }
+    ensures copied { IfOk result (λ made. made.enrolments ≢ None) }
+    ensures kept { IfOk result (λ made. IfSome made.enrolments AreEnrolments) }
+    ensures refused { IfErr result (Refuses (after_batch changes.now enrolments.now)) }
+{
     let mut after = enrolments.copy(alloc)?;
     let mut counts = Counts {
         added: 0,
@@ -55,18 +128,10 @@ pub fn after_batch(
         }
     }
     Ok(AfterBatch {
-        enrolments: after,
+        enrolments: Some(after),
         counts,
         acting,
     })
-}
-
-// Whether each line names an exam that is there.
-fn name_exams(enrolments: &Enrolments, changes: &[Change]) -> bool
-    ensures { result ≡ list_all (names_exam enrolments.now) changes.now }
-{
-    let exams = enrolments.exams();
-    changes.iter().all(|change| change.exam.get() < exams)
 }
 
 // Carries out one line, and answers whether it acts.

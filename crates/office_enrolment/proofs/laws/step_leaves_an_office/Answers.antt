@@ -1,4 +1,4 @@
-use Rattle.std.proofs.Common.{◌≡◌, ◌≤◌, inl, inr, ap, sym, subst, Ok, Err, refl}
+use Rattle.std.proofs.Common.{◌≡◌, inl, inr, ap, sym, subst, Ok, Err, refl}
 use Rattle.office_model.specs.Batches.{batch_enrolled}
 use Rattle.office_model.specs.Commands.{Gives}
 use Rattle.office_model.specs.Office.{IsOffice, OfficeState}

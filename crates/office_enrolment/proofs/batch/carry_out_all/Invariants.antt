@@ -2,7 +2,7 @@ use Rattle.std.specs.Prelude.{◌≡◌, ◌++◌, drop, length}
 use Rattle.exam_model.specs.Enrolments.{AreEnrolments}
 use Rattle.office_model.specs.BatchLines.{enrolled, no_counts}
 use Rattle.office_enrolment.specs.AfterBatch.{acting, lines_in}
-use Rattle.office_enrolment.proofs.batch.after_batch.Given as goal
+use Rattle.office_enrolment.proofs.batch.carry_out_all.Given as goal
 
 abbrev pub invariant-lines : goal.invariant-lines
 invariant-lines l = record {
