@@ -1,5 +1,5 @@
 -- A batch that is accepted.
-use Rattle.std.proofs.Common.{◌≡◌, ◌≢◌, ◌≤◌, ◌<◌, ℕ, true, false, List, [], ◌∷◌, map, reverse, length}
+use Rattle.std.proofs.Common.{◌≡◌, ◌≢◌, ◌≤◌, ◌+◌, ◌<◌, ℕ, suc, true, false, List, [], ◌∷◌, map, reverse, length}
 use Rattle.std.proofs.Common.{filter, not, if◌then◌else◌, Some, None, Result, Ok, Err, refl, sym, ◌∙◌, ap, subst, arith}
 use Rattle.std.specs.Prelude.{◌==◌, ◌&&◌, nat_lt}
 use Rattle.std.proofs.lemmas.Bool.Decides.{nat_tests}
@@ -21,7 +21,7 @@ use Rattle.office_tables.specs.declared.draft.InsertDraft.{InsertDraft}
 use Rattle.office_tables.specs.declared.draft.DraftRow.{DraftRow}
 use Rattle.office_tables.specs.declared.enrol.EnrolRow.{EnrolRow}
 use Rattle.office_tables.proofs.AlterationLemmas.{drafts_put}
-use Rattle.office_enrolment.specs.AfterBatch.{acting, after_batch, lines_in}
+use Rattle.office_enrolment.specs.AfterBatch.{latest, acting, after_batch, lines_in}
 use Rattle.office_enrolment.specs.Keeping as keeping
 use Rattle.office_enrolment.specs.Rows.{after_row, after_rows, pair_of}
 use Rattle.office_enrolment.proofs.KeptLemmas.{Ascend, they_ascend}
@@ -40,7 +40,7 @@ use Rattle.office_records.specs.Stands.{IsKept, IsSound, StandsLoaded}
 use Rattle.office_records.specs.TableRows.{enrol_row, stored_batch}
 use Rattle.office_records.proofs.BatchPutLemmas.{batch_sound, batch_stands, drafts_moved}
 use Rattle.office_store.specs.NewBatches.{AreAnew, Enrols, IsNewFor, drafts_after, line_put, new_batch_put}
-use Rattle.office_store.specs.Running.{IsFault}
+use Rattle.office_store.specs.Running.{batch_count, IsFault}
 use Rattle.office_store.specs.declared.new_batch.NewBatch.{NewBatch}
 use Rattle.office_store.specs.declared.new_batch.PutLine.{PutLine}
 use Rattle.office_store.proofs.AllDraftLemmas.{drafts_stored}
@@ -227,15 +227,15 @@ module _ (number : ℕ) (bytes : List ℕ) (changes : List Change)
         abbrev pub row : Batch
         row = stored_batch (record { no = number; bytes = bytes; counts = new.counts })
 
-        abbrev done : Counts × Enrolled
-        done = (new.counts, new.enrolments)
+        abbrev done : Records → Counts × Enrolled
+        done r = (new.counts, latest new.enrolments r.enrolments)
 
         module _ (r : Records) (here : IsKept a (Some r)) (made : IsNewFor changes r new) where
           gives : batch_enrolled number bytes (Some r)
-              ≡ Ok (new.counts, Some (keeping.records_with_batch number bytes r done))
+              ≡ Ok (new.counts, Some (keeping.records_with_batch number bytes r (done r)))
           gives =
               gives_new r (is_new (Some r) here)
-              ∙ new_gives r done here.office.enrolled.exams made.after made.room
+              ∙ new_gives r (done r) here.office.enrolled.exams made.after made.room
 
           abbrev rows : List DraftRow
           rows = map (λ (it : InsertDraft). it.row) new.drafts.items
@@ -243,43 +243,47 @@ module _ (number : ℕ) (bytes : List ℕ) (changes : List Change)
           abbrev left : List DraftRow
           left = drafts_after new.lines.items rows here.held.draft
 
-          again : AreAnew r new.enrolments left
-          again = left_drafts r here.held changes done here.office here.stands here.sound made.after
-              new.lines.items rows made.lines made.drafts
+          again : AreAnew r (done r).1 left
+          again = left_drafts r here.held changes (done r) here.office here.stands here.sound
+              made.after new.lines.items rows made.lines made.drafts
 
           enrolled_kept : ((t : Tables) → Stands a t
               → Stands b (new_batch_put number bytes new t))
-              → IsKept b (Some (keeping.records_with_batch number bytes r done))
+              → IsKept b (Some (keeping.records_with_batch number bytes r (done r)))
           enrolled_kept makes = record {
             held = new_batch_put number bytes new here.held;
             tables = makes here.held here.tables;
             stands = subst (λ (l : List Change). StandsLoaded
                 (batch_put l left row here.held)
-                (keeping.records_with_batch number bytes r done))
+                (keeping.records_with_batch number bytes r (done r)))
                 (sym made.lines)
-                (batch_stands number bytes changes r done here.office made.after here.held
-                left again.slots again.are small (counted r.enrolments done made.after)
+                (batch_stands number bytes changes r (done r) here.office made.after here.held
+                left again.slots again.are small (counted r.enrolments (done r) made.after)
                 here.stands);
             sound = subst (λ (l : List Change). IsSound (batch_put l left row here.held)
-                (Some (keeping.records_with_batch number bytes r done))) (sym made.lines)
-                (batch_sound number bytes changes r done here.office made.after here.held
+                (Some (keeping.records_with_batch number bytes r (done r)))) (sym made.lines)
+                (batch_sound number bytes changes r (done r) here.office made.after here.held
                 left again.slots again.are here.sound);
             office = leaves (Some r)
-                (Some (keeping.records_with_batch number bytes r done)) new.counts
+                (Some (keeping.records_with_batch number bytes r (done r))) new.counts
                 here.office gives;
           }
 
         pub enrol_moves : Comes (Ok new)
             → ((t : Tables) → Stands a t → Stands b (new_batch_put number bytes new t))
-            → Moves (batch_enrolled number bytes) new.counts a b m (Some (I, new.enrolments))
+            → Moves (batch_enrolled number bytes) new.counts a b m
+            (Some (I, latest new.enrolments E)) (λ k. k + 1)
         enrol_moves comes makes o kept is =
             let of = kept_of o I E (is ∙ at_hand) in
             let r = of.records in
             let here = subst (IsKept a) of.is kept in
             let made = comes r here
-            (subst (λ o. memory_of o ≡ Some (I, E)) of.is (is ∙ at_hand)) in (
-              Some (keeping.records_with_batch number bytes r done),
+            (subst (λ o. memory_of o ≡ Some (I, E)) of.is (is ∙ at_hand)) in
+            let more : suc (length r.batches) ≡ length r.batches + 1 = omega arith in (
+              Some (keeping.records_with_batch number bytes r (done r)),
               ap (batch_enrolled number bytes) of.is ∙ gives r here made,
               enrolled_kept r here made makes,
-              ap (λ (J : Session). Some (J, new.enrolments)) of.session,
+              ap (λ (J : Session). Some (J, latest new.enrolments r.enrolments)) of.session
+                  ∙ ap (λ (F : Enrolled). Some (I, latest new.enrolments F)) of.enrolments,
+              more ∙ ap (λ o. batch_count o + 1) (sym of.is),
             )

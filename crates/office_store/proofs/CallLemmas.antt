@@ -27,7 +27,7 @@ use Rattle.office_store.specs.NewDraft.{Begins}
 use Rattle.office_store.specs.Changes.{draft_put, draft_removed}
 use Rattle.office_model.specs.Commands.{Gives, named}
 use Rattle.office_model.specs.DraftCommands.{draft_dropped, draft_in, draft_made, first_timetable, is_draft_number, penalty_now}
-use Rattle.office_store.specs.Running.{IsFault}
+use Rattle.office_store.specs.Running.{batch_count, IsFault}
 use Rattle.office_model.specs.declared.fault.Refusal.TheVariants.{File}
 use Rattle.office_model.specs.declared.fault.StoreFault.{StoreFault}
 use Rattle.office_model.specs.declared.fault.StoreFault.TheVariants.{NoDraft, DraftTaken, Refused, Store}
@@ -198,7 +198,7 @@ module _ (d : ℕ) (rows : List DraftRow) (n : ℕ) (long : n ≡ length rows) (
 
   pub drop_moves : (b : Database) → is_some m ≡ true → false ≡ eqb n 0
       → ((t : Tables) → Stands a t → Stands b (draft_removed d t))
-      → Moves (draft_dropped d) tt a b m m
+      → Moves (draft_dropped d) tt a b m m (λ k. k)
   drop_moves b loaded some makes o kept is =
       let of = has_records o m is loaded in (
         _,
@@ -206,6 +206,7 @@ module _ (d : ℕ) (rows : List DraftRow) (n : ℕ) (long : n ≡ length rows) (
             ∙ dropped_one of.records d (one_there some o kept of.records of.is),
         left_kept a b of.records d (subst (IsKept a) of.is kept) makes,
         ap memory_of (sym of.is) ∙ is,
+        ap batch_count (sym of.is),
       )
 
   module _ (text : List ℕ) (I : Session) (E : Enrolled) (at_hand : m ≡ Some (I, E)) where
@@ -237,7 +238,7 @@ module _ (d : ℕ) (rows : List DraftRow) (n : ℕ) (long : n ≡ length rows) (
           → parts_of row ≡ penalty → total ≡ total_of penalty
           → ((t : Tables) → Stands a t
           → Stands b (after_all (λ (it : InsertSlot). with_slot it.row) placed (with_draft row t)))
-          → Moves (draft_made d text) total a b m m
+          → Moves (draft_made d text) total a b m m (λ k. k)
       made_moves b penalty row slots put total same begins number parts is_total comes o kept is =
           let rows : List InsertSlot → List SlotRow = map (λ (it : InsertSlot). it.row) in
           let placed : List SlotRow = rows put in
@@ -252,4 +253,5 @@ module _ (d : ℕ) (rows : List DraftRow) (n : ℕ) (long : n ≡ length rows) (
             begun_kept a b of.records d text penalty row placed begun number parts numbered free
                 (subst (IsKept a) of.is kept) makes,
             ap memory_of (sym of.is) ∙ is,
+            ap batch_count (sym of.is),
           )

@@ -1,5 +1,5 @@
 -- A command of an office, by what it makes of whatever office stands there.
-use Rattle.std.proofs.Common.{◌≡◌, Ok, Err, Result, None, ap, sym, subst, ◌∙◌, IsTrue}
+use Rattle.std.proofs.Common.{◌≡◌, ℕ, Ok, Err, Result, None, ap, sym, subst, ◌∙◌, IsTrue}
 use Rattle.sqlite.specs.Effect.{Database}
 use Rattle.sqlite.specs.Held.{Held, state}
 use Rattle.sqlite.specs.State.{State, HasCleanDisk}
@@ -9,7 +9,7 @@ use Rattle.office_model.specs.Office.{OfficeState}
 use Rattle.office_records.specs.Memory.{Memory, memory_of}
 use Rattle.office_records.specs.Stands.{IsKept}
 use Rattle.office_model.specs.Commands.{Gives}
-use Rattle.office_store.specs.Running.{Does, IsAtRest, IsAwake, IsFault, IsStill, Now, ReadsOffice, Runs, Shows}
+use Rattle.office_store.specs.Running.{batch_count, Does, IsAtRest, IsAwake, IsFault, IsStill, Now, ReadsOffice, Runs, Shows}
 use Rattle.office_store.specs.Running.{StaysOnErr, Tells}
 use Rattle.office_model.specs.declared.fault.StoreFault.{StoreFault}
 use Rattle.office_model.specs.declared.fault.StoreFault.TheVariants.{NotLoaded}
@@ -17,12 +17,14 @@ use Rattle.office_store.proofs.ReadLemmas.{does_now}
 use Rattle.office_store.proofs.RunLemmas.{at_hand, nothing_kept, now_still}
 use Rattle.office_store.proofs.RunLemmas.{still_then, still_undone}
 
--- where an office stands and this is in memory of it, the command gives this, and leads to another
+-- where an office stands and this is in memory of it, the command gives this, and leads to another,
+-- which keeps a number of batches that comes from its own
 abbrev pub Moves : {A : Type 0} → (OfficeState → Gives A) → A → Database → Database
-    → Memory → Memory
+    → Memory → Memory → (ℕ → ℕ)
     → Type 0
-Moves command x a b m n = (o : OfficeState) → IsKept a o → memory_of o ≡ m
+Moves command x a b m n count = (o : OfficeState) → IsKept a o → memory_of o ≡ m
     → (new : OfficeState) × (command o ≡ Ok (x, new)) × IsKept b new × (memory_of new ≡ n)
+    × (batch_count new ≡ count (batch_count o))
 
 -- there it is refused so
 abbrev pub Denies : {A : Type 0} → (OfficeState → Gives A) → StoreFault → Database → Memory → Type 0
@@ -38,7 +40,7 @@ shown says o Stays (Err fault) is here = (is, here)
 -- from the connection before a look at the file, by which nothing changes, to the one behind it,
 -- which is at hand
 module _ {S : Type 0} (g : Ghosts S) (before mid inside : Held S)
-    (m : Memory) (view : inside ≡ mid) (rest : IsAtRest (state g inside) m)
+    (m : Memory) {k : ℕ} (view : inside ≡ mid) (rest : IsAtRest (state g inside) m k)
     (awake : HasCleanDisk (state g mid) → IsAwake (state g mid))
     (still : HasCleanDisk (state g mid) → IsStill (state g before) (state g mid)) where
   -- the office that stood there does, and its session is in memory
@@ -47,7 +49,7 @@ module _ {S : Type 0} (g : Ghosts S) (before mid inside : Held S)
   there clean o now =
       let here = now_still (state g before) (state g mid) o (still clean) now (awake clean).0 in (
         here,
-        at_hand (state g mid) m o (subst (λ h. IsAtRest (state g h) m) view rest) clean
+        at_hand (state g mid) m o (subst (λ h. IsAtRest (state g h) m k) view rest) clean
             (awake clean).0 here,
       )
 
@@ -62,7 +64,7 @@ module _ {S : Type 0} (g : Ghosts S) (before mid inside : Held S)
 
 module _ {S A : Type 0} (g : Ghosts S) (command : OfficeState → Gives A)
     (before mid inside : Held S)
-    (m : Memory) (view : inside ≡ mid) (rest : IsAtRest (state g inside) m)
+    (m : Memory) {k : ℕ} (view : inside ≡ mid) (rest : IsAtRest (state g inside) m k)
     (awake : HasCleanDisk (state g mid) → IsAwake (state g mid))
     (still : HasCleanDisk (state g mid) → IsStill (state g before) (state g mid)) where
   found : HasCleanDisk (state g mid) → (o : OfficeState) → Now (state g before) o
@@ -87,12 +89,12 @@ module _ {S A : Type 0} (g : Ghosts S) (command : OfficeState → Gives A)
       does_now (command o) o (Now (state g mid)) result
       (does clean o there.0 there.1) (λ _. there.0)
 
-  pub runs : (after : Held S) (n : Memory) (x : A)
+  pub runs : (after : Held S) (n : Memory) (count : ℕ → ℕ) (x : A)
       → (HasCleanDisk (state g after) → HasCleanDisk (state g inside))
       → (HasCleanDisk (state g after)
-      → Moves command x (state g inside).now (state g after).now m n)
+      → Moves command x (state g inside).now (state g after).now m n count)
       → Runs g command before after (Ok x)
-  runs after n x clean moves is_clean o now =
+  runs after n count x clean moves is_clean o now =
       let there = found (subst (λ h. HasCleanDisk (state g h)) view (clean is_clean)) o now in
       let moved = moves is_clean o (subst (λ h. IsKept (state g h).now o) (sym view) there.0)
       there.1 in
@@ -108,7 +110,8 @@ awake_inside g start inside view awake clean =
 
 -- a command that is refused by what is read on from there
 pub refuses_on : {S A : Type 0} (g : Ghosts S) (command : OfficeState → Gives A)
-    (start inside after : Held S) (m : Memory) → inside ≡ start → IsAtRest (state g inside) m
+    (start inside after : Held S) (m : Memory) {k : ℕ} → inside ≡ start
+    → IsAtRest (state g inside) m k
     → (HasCleanDisk (state g start) → IsAwake (state g start))
     → (HasCleanDisk (state g after) → HasCleanDisk (state g inside))
     → (HasCleanDisk (state g after) → IsStill (state g inside) (state g after))
@@ -161,13 +164,14 @@ seen g mid inside view P tells clean o kept =
     (subst (λ h. IsKept (state g h).now o) view kept)
 
 -- what is in memory afterwards is of the new office
-pub rests : {A : Type 0} (command : OfficeState → Gives A) (a b : State) (m n : Memory) (x : A)
-    → IsAtRest a m → (HasCleanDisk b → HasCleanDisk a) → (HasCleanDisk b → IsTrue a.is_open)
-    → (HasCleanDisk b → Moves command x a.now b.now m n) → IsAtRest b n
-rests command a b m n x rest clean opened moves is_clean _ =
+pub rests : {A : Type 0} (command : OfficeState → Gives A) (a b : State) (m n : Memory)
+    (count : ℕ → ℕ) (x : A) {k : ℕ}
+    → IsAtRest a m k → (HasCleanDisk b → HasCleanDisk a) → (HasCleanDisk b → IsTrue a.is_open)
+    → (HasCleanDisk b → Moves command x a.now b.now m n count) → IsAtRest b n (count k)
+rests command a b m n count x rest clean opened moves is_clean _ =
     let here = rest (clean is_clean) (opened is_clean) in
     let moved = moves is_clean here.0 here.1 here.2 in
-    (moved.0, moved.2, moved.3)
+    (moved.0, moved.2, moved.3, moved.4 ∙ ap count here.3)
 
 -- ---- where there is no session
 

@@ -44,7 +44,7 @@ use Rattle.office_store.specs.Editing.{Edits, IsEdited, IsJudged, Judges}
 use Rattle.office_store.specs.Folding.{IsEditOf}
 use Rattle.office_store.specs.Pricing.{draft_priced}
 use Rattle.office_store.specs.OfficeRows.{AreRowsOf, AreScored}
-use Rattle.office_store.specs.Running.{Does, IsAtRest, IsAwake, IsFault, IsStill}
+use Rattle.office_store.specs.Running.{batch_count, Does, IsAtRest, IsAwake, IsFault, IsStill}
 use Rattle.office_store.specs.declared.editing.Judged.{Judged}
 use Rattle.office_store.proofs.CommandLemmas.{Moves}
 use Rattle.office_store.proofs.DraftLemmas.{some_is}
@@ -234,6 +234,7 @@ pub record IsStored (b : Database) (o : OfficeState) (d : ℕ) (change : Edit) (
   pub gives : draft_edited d change o ≡ Ok (total, office)
   pub kept : IsKept b office
   pub memory : memory_of office ≡ memory_of o
+  pub count : batch_count office ≡ batch_count o
 
 pub edit_stored : (a b : Database) (o : OfficeState) (d : ℕ) (change : Edit)
     (new : Placing × Penalty) (row : DraftRow) (total : ℕ) (exams : List ℕ)
@@ -254,6 +255,7 @@ edit_stored a b o d change new row total exams of number parts is_total are kept
       of.edits (parts ∙ of.scored) of.fits (subst (IsKept a) of.is kept)
       (subst (λ l. (t : Tables) → Stands a t → Stands b (edit_put row new.0 l t)) are makes));
   memory = ap memory_of (sym of.is);
+  count = ap batch_count (sym of.is);
 }
 
 -- ---- the calls that edit
@@ -261,8 +263,8 @@ edit_stored a b o d change new row total exams of number parts is_total are kept
 module _ {S : Type 0} (g : Ghosts S) (first mid inside : Conn S) (view : inside ≡ mid)
     (d : ℕ) (change : Edit) where
   -- what is at hand tells of whatever office stands there
-  pub edits_at_hand : (m : Memory) → IsAtRest (state g inside) m → (I : Session) (E : Enrolled)
-      → m ≡ Some (I, E) → (rows : List DraftRow) (slots : List SlotRow)
+  pub edits_at_hand : (m : Memory) {k : ℕ} → IsAtRest (state g inside) m k
+      → (I : Session) (E : Enrolled) → m ≡ Some (I, E) → (rows : List DraftRow) (slots : List SlotRow)
       (result : Result (Placing × Penalty) StoreFault) → HasCleanDisk (state g mid)
       → IsAwake (state g mid) → (o : OfficeState) → IsKept (state g mid).now o
       → AreRowsOf o d rows slots
@@ -270,9 +272,10 @@ module _ {S : Type 0} (g : Ghosts S) (first mid inside : Conn S) (view : inside 
       → memory_of (Some r) ≡ Some (I, E) → AreRowsOf (Some r) d rows slots
       → Edits d change (Some r) result)
       → Edits d change o result
-  edits_at_hand m rest I E is rows slots result clean awake o kept are edits =
+  edits_at_hand m {k} rest I E is rows slots result clean awake o kept are edits =
       go o kept are
-      (at_hand (state g mid) m o (subst (λ h. IsAtRest (state g h) m) view rest) clean awake.0 kept
+      (at_hand (state g mid) m o (subst (λ h. IsAtRest (state g h) m k) view rest) clean awake.0
+      kept
       ∙ is)
     where
       go : (o : OfficeState) → IsKept (state g mid).now o → AreRowsOf o d rows slots
@@ -282,16 +285,17 @@ module _ {S : Type 0} (g : Ghosts S) (first mid inside : Conn S) (view : inside 
           edits (subst (λ h. IsAwake (state g h)) (sym view) awake) r
           (subst (λ h. IsKept (state g h).now (Some r)) (sym view) kept) memory are
 
-  pub none_at_hand : (m : Memory) → IsAtRest (state g inside) m → m ≡ None
+  pub none_at_hand : (m : Memory) {k : ℕ} → IsAtRest (state g inside) m k → m ≡ None
       → HasCleanDisk (state g mid) → IsAwake (state g mid) → (o : OfficeState)
       → IsKept (state g mid).now o → draft_edited d change o ≡ Err NotLoaded
-  none_at_hand m rest none clean awake o kept =
+  none_at_hand m {k} rest none clean awake o kept =
       ap (draft_edited d change) (nothing_kept o
-      (at_hand (state g mid) m o (subst (λ h. IsAtRest (state g h) m) view rest) clean awake.0 kept
+      (at_hand (state g mid) m o (subst (λ h. IsAtRest (state g h) m k) view rest) clean awake.0
+      kept
       ∙ none))
 
   -- the transaction makes of the office what the command does
-  pub edit_moves : (after : Conn S) (m : Memory) (new : Placing × Penalty) (row : DraftRow)
+  pub edit_moves : (b : Database) (m : Memory) (new : Placing × Penalty) (row : DraftRow)
       (total : ℕ) (exams : List ℕ) (places : List (Both DeleteSlot (Option InsertSlot)))
       → (HasCleanDisk (state g mid) → IsAwake (state g first))
       → (HasCleanDisk (state g mid) → IsStill (state g first) (state g mid))
@@ -301,23 +305,25 @@ module _ {S : Type 0} (g : Ghosts S) (first mid inside : Conn S) (view : inside 
       → row.no ≡ d → parts_of row ≡ new.1 → total ≡ total_of new.1 → exams ≡ edited_exams change
       → places ≡ map (new_place row.no new.0) exams → HasCleanDisk (state g inside)
       → ((t : Tables) → Stands (state g inside).now t
-      → Stands (state g after).now
+      → Stands b
       (after_all move_made places (with_draft row (without_draft row.no t))))
-      → Moves (draft_edited d change) total (state g inside).now (state g after).now m m
-  edit_moves after m new row total exams places awake still opened edits number parts is_total are put clean comes o kept is =
+      → Moves (draft_edited d change) total (state g inside).now b m m (λ k. k)
+  edit_moves b m new row total exams places awake still opened edits number parts is_total are put
+      clean comes o kept is =
       let makes : (t : Tables) → Stands (state g inside).now t
-      → Stands (state g after).now (edit_put row new.0 exams t)
+      → Stands b (edit_put row new.0 exams t)
       = λ t h. let u = with_draft row (without_draft row.no t) in
-      subst (Stands (state g after).now)
+      subst (Stands b)
       (ap (λ l. after_all move_made l u) put ∙ all_moved row.no new.0 exams u) (comes t h) in
       let here = subst (λ h. HasCleanDisk (state g h)) view clean in
       let there = subst (λ h. IsKept (state g h).now o) view kept in
       let was = subst (λ db. IsKept db o) (still here (opened here).0).1 there in
       let stored =
-      edit_stored (state g inside).now (state g after).now o d change new row total exams
+      edit_stored (state g inside).now b o d change new row total exams
       (edits here o was) number parts is_total are kept makes in (
         stored.office,
         stored.gives,
         stored.kept,
         stored.memory ∙ is,
+        stored.count,
       )

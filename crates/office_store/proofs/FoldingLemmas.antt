@@ -7,7 +7,7 @@ use Rattle.std.proofs.lemmas.Bool.Decides.{nat_tests}
 use Rattle.std.proofs.lemmas.List.{append-nil, length-map}
 use Rattle.std.proofs.lemmas.List.Elements.{All-from_recursion, recursion_from_All}
 use Rattle.sqlite.specs.Held.{Held, state}
-use Rattle.sqlite.specs.State.{HasCleanDisk, IsUnchanged}
+use Rattle.sqlite.specs.State.{HasCleanDisk, IsUnchanged, Survives}
 use Rattle.sqlite.specs.Store.{Ghosts}
 use Rattle.exam_model.specs.Changes.{exams_sat}
 use Rattle.exam_model.specs.Enrolments.{AreEnrolments, Enrolled, IsAscending, students}
@@ -39,6 +39,7 @@ use Rattle.office_store.specs.Running.{Tells}
 use Rattle.office_store.specs.declared.editing.Judged.{Judged}
 use Rattle.office_store.specs.Viewing.{her_row}
 use Rattle.office_store.proofs.ConcernedLemmas.{concerned, each_append, students_few}
+use Rattle.office_store.proofs.LeavingLemmas.{survives_on, survives_same}
 use Rattle.office_store.proofs.ViewLemmas.{exams_back, own_pairs, rows_read, sat_rise}
 
 -- ---- a connection that reads on
@@ -47,6 +48,7 @@ module _ {S : Type 0} (store : Ghosts S) where
   pub read_nothing : (a : Held S) → HasRead store a a
   read_nothing a = record {
     clean = λ k. k;
+    survives = survives_same (state store a);
     was_open = λ _ o. o;
     kept = λ _ t stands. record {
       was_open = λ o. o;
@@ -59,10 +61,12 @@ module _ {S : Type 0} (store : Ghosts S) where
 
   -- what a reader of one table leaves
   pub read_one : (a b : Held S) → (HasCleanDisk (state store b) → HasCleanDisk (state store a))
-      → OpensNone store a b → LeavesCommitted store a b
+      → Survives (state store a) (state store b) (λ _. ⊥) → OpensNone store a b
+      → LeavesCommitted store a b
       → (a.in_transaction ≡ false → b.in_transaction ≡ false) → HasRead store a b
-  read_one a b clean was_open kept mode = record {
+  read_one a b clean survives was_open kept mode = record {
     clean = clean;
+    survives = survives;
     was_open = was_open;
     kept = kept;
     mode = mode;
@@ -98,6 +102,8 @@ module _ {S : Type 0} (store : Ghosts S) where
     pub read_on : HasRead store a c
     read_on = record {
       clean = λ k. first.clean (next.clean k);
+      survives = survives_on (state store a) (state store b) (state store c) first.survives
+          next.survives;
       was_open = opened;
       kept = λ clean t stands. record {
         was_open = opened clean;

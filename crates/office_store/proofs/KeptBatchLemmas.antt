@@ -5,8 +5,7 @@ use Rattle.std.specs.Cmp.Lexicographic.{pointwise}
 use Rattle.std.specs.List.{AllByRecursion}
 use Rattle.std.specs.Prelude.{IsPermutation, ◌&&◌, nat_eq, not, option_to_list}
 use Rattle.std.proofs.lemmas.Bool.Decides.{nat_tests}
-use Rattle.std.proofs.lemmas.List.{length-map}
-use Rattle.std.proofs.lemmas.List.Sorted.{IsPermutation-sym, length_permutation}
+use Rattle.std.proofs.lemmas.List.Sorted.{IsPermutation-sym}
 use Rattle.sqlite_trees.proofs.ListLemmas.{IsPermutation-filter, filter-map}
 use Rattle.exam_model.proofs.SumLemmas.{IsChain, chain_from_index}
 use Rattle.office_tables.specs.Batch.{batch_from}
@@ -79,17 +78,6 @@ pub batch_read : (t : Tables) (o : OfficeState) (number : ℕ) (found : Option B
 batch_read t None number found stands is row =
     sym row ∙ ap (λ (u : Tables). filter (λ (b : Batch). eqb b.no number) u.batch) stands
 batch_read t (Some r) number found stands is row = sym row ∙ stored_under t r stands is number
-
--- there are as many numbers as batches
-pub as_many : (t : Tables) (r : Records) (numbers : List ℕ) → StandsLoaded t r
-    → IsPermutation (map (λ (b : Batch). b.no) t.batch) numbers
-    → length numbers ≡ length r.batches
-as_many t r numbers stands same =
-    let long = length_permutation _ _ same in
-    let stored = length_permutation _ _ stands.batches.same in
-    let counted = length-map t.batch (λ (b : Batch). b.no) in
-    let kept = length-map r.batches stored_batch in
-    omega (arith, long, stored, counted, kept)
 
 -- no row is of no batch
 pub no_row_of : (o : OfficeState) (number : ℕ) → IsRowOf (kept_in o number) None

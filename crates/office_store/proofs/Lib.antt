@@ -1,6 +1,8 @@
 pub mod AdoptLemmas
 pub mod OwnerLemmas
 pub mod RunLemmas
+pub mod LeavingLemmas
+pub mod CountLemmas
 pub mod LoadLemmas
 pub mod DraftLemmas
 pub mod ReadLemmas

@@ -26,6 +26,7 @@ use Rattle.office_records.specs.Memory.{Memory, memory_of}
 use Rattle.office_model.specs.declared.fault.StoreFault.TheVariants.{Loaded}
 use Rattle.office_model.specs.declared.counts.Loaded as loading
 use Rattle.office_model.proofs.RecordLemmas.{fresh_records}
+use Rattle.office_store.specs.Running.{batch_count}
 use Rattle.office_store.proofs.CommandLemmas.{Denies, Moves}
 use Rattle.office_records.specs.Stands.{StandsLoaded, IsKept}
 use Rattle.office_records.specs.TableRows.{enrol_row}
@@ -147,7 +148,7 @@ pub load_moves : (text : List ℕ) (I : Session) (E : Enrolled) (counts : loadin
     → AreEnrolled I E → is_some m ≡ false
     → ((t : Tables) → Stands a t → Stands b (after_all (λ (it : InsertEnrol). with_enrol it.row) its
     (with_meta false stored (no_meta t))))
-    → Moves (loaded text) counts a b m (Some (I, E))
+    → Moves (loaded text) counts a b m (Some (I, E)) (λ k. k)
 load_moves text I E counts stored its a b m read counted is_text are_rows is are empty comes o kept held =
     let none = none_kept m o held empty in
     let rows = map (λ (it : InsertEnrol). it.row) its in
@@ -158,4 +159,5 @@ load_moves text I E counts stored its a b m read counted is_text are_rows is are
           ∙ ap (λ k. Ok (k, Some (fresh (I, E)))) (sym counted),
       session_kept I E stored rows is_text are_rows a b (subst (IsKept a) none kept) makes is are,
       refl,
+      ap batch_count (sym none),
     )

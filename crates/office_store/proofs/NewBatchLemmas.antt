@@ -1,6 +1,6 @@
 -- What refuses a new batch.
-use Rattle.std.proofs.Common.{◌≡◌, ◌⊎◌, inl, inr, ◌≤◌, ℕ, true, false, List, [], ◌∷◌, length, Option, Some, Result, Ok, Err, refl, sym, ◌∙◌, ap, subst, arith}
-use Rattle.std.specs.Prelude.{All, map, nat_le, nat_lt}
+use Rattle.std.proofs.Common.{◌≡◌, ◌≢◌, ◌⊎◌, inl, inr, ◌≤◌, ℕ, true, false, List, [], ◌∷◌, length, Option, Some, None, Result, Ok, Err, refl, sym, ◌∙◌, ap, subst, arith}
+use Rattle.std.specs.Prelude.{All, IfSome, map, nat_le, nat_lt}
 use Rattle.std.specs.List.{list_all}
 use Rattle.std.proofs.lemmas.Bool.Decides.{nat_tests}
 use Rattle.std.proofs.lemmas.List.Elements.{All-from_recursion, recursion_from_All}
@@ -13,7 +13,7 @@ use Rattle.exam_draft.specs.declared.fault.EditFault.TheVariants.{NoSuch}
 use Rattle.office_tables.specs.Draft.{AreAmounts}
 use Rattle.office_tables.specs.declared.draft.InsertDraft.{InsertDraft}
 use Rattle.office_tables.specs.declared.draft.DraftRow.{DraftRow}
-use Rattle.office_enrolment.specs.AfterBatch.{Refuses, after_batch, names_exam}
+use Rattle.office_enrolment.specs.AfterBatch.{Refuses, after_batch, latest, names_exam}
 use Rattle.office_enrolment.specs.Keeping.{batch_kept}
 use Rattle.office_enrolment.proofs.OfficeLemmas.{as_office}
 use Rattle.office_model.specs.BatchLines.{after_change, counted, enrolled, no_counts}
@@ -27,7 +27,7 @@ use Rattle.office_model.specs.declared.fault.StoreFault.TheVariants.{Refused, St
 use Rattle.office_records.specs.Faults.{store_fault}
 use Rattle.office_records.specs.declared.fault.RecordFault.{RecordFault}
 use Rattle.office_records.specs.declared.fault.RecordFault.TheVariants.{BadRows, NoMemory}
-use Rattle.office_store.specs.NewBatches.{put_draft}
+use Rattle.office_store.specs.NewBatches.{AreAnew, put_draft}
 use Rattle.office_store.specs.Running.{IsFault}
 
 -- lines are refused for too many pairs alone
@@ -100,6 +100,26 @@ same_enrolled r I E is = (
   where
     some_is : {X : Type 0} {x y : X} → Some x ≡ Some y → x ≡ y
     some_is e = cc
+
+-- ---- enrolments that a batch made, or left
+
+-- they are of as many exams
+pub latest_exams : (made : Option Enrolled) (E : Enrolled) (n : ℕ)
+    → IfSome made (λ F. length F ≡ n) → length E ≡ n → length (latest made E) ≡ n
+latest_exams (Some F) E n new old = new
+latest_exams None E n new old = old
+
+pub made_exams : (made : Option Enrolled) (E : Enrolled) (n : ℕ) → length (latest made E) ≡ n
+    → IfSome made (λ F. length F ≡ n)
+made_exams (Some F) E n is = is
+made_exams None E n is = tt
+
+-- the drafts with those that were made
+pub latest_drafts : (r : Records) (made : Option Enrolled) (E : Enrolled) (rows : List DraftRow)
+    → ((F : Enrolled) → made ≡ Some F → AreAnew r F rows) → made ≢ None
+    → AreAnew r (latest made E) rows
+latest_drafts r (Some F) E rows anew some = anew F refl
+latest_drafts r None E rows anew some = absurd (some refl)
 
 -- ---- lists that are put in
 

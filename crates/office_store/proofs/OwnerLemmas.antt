@@ -16,6 +16,7 @@ use Rattle.exam_model.specs.Instance.{Session}
 use Rattle.office_model.specs.Office.{OfficeState, Records, set_at}
 use Rattle.office_model.proofs.RecordLemmas.{owner_records}
 use Rattle.office_records.specs.Memory.{Memory, memory_of}
+use Rattle.office_store.specs.Running.{batch_count}
 use Rattle.office_store.proofs.CommandLemmas.{Denies, Moves}
 use Rattle.office_store.proofs.RunLemmas.{kept_of}
 use Rattle.exam_draft.specs.Edits.{exam_exists}
@@ -143,7 +144,7 @@ module _ (a : Database) (m : Memory) (I : Session) (E : Enrolled)
   pub owner_moves : (b : Database) → e < length I.exams → d ≤ 999 → (n : ℕ) → n ≡ e
       → (new : Option InsertOwner) → new ≡ new_owner n d
       → ((t : Tables) → Stands a t → Stands b (comes new (without_owner n t)))
-      → Moves (owned e d) tt a b m m
+      → Moves (owned e d) tt a b m m (λ k. k)
   owner_moves b exists few n same new is_new comes_in o kept is =
       let makes : (t : Tables) → Stands a t → Stands b (owner_put n d t)
       = λ t h. subst (Stands b)
@@ -156,6 +157,7 @@ module _ (a : Database) (m : Memory) (I : Session) (E : Enrolled)
             (subst (λ n. (t : Tables) → Stands a t → Stands b (owner_put n d t)) same makes) there
             few,
         ap memory_of (sym of.is) ∙ is,
+        ap batch_count (sym of.is),
       )
 
   pub no_exam_denied : length I.exams ≤ e → Denies (owned e d) (Refused (Edit NoSuch)) a m

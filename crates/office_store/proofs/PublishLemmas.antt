@@ -54,7 +54,7 @@ use Rattle.office_records.proofs.RepublicationLemmas as republication
 use Rattle.office_store.specs.PublicationChanges.{places_put, publication_put, shares_put}
 use Rattle.office_store.specs.NewPublications.{ArePutIn, IsPutIn, Publishes, PutsIn}
 use Rattle.office_store.specs.OfficeRows.{AreRowsOf}
-use Rattle.office_store.specs.Running.{IsAtRest, IsAwake, IsStill}
+use Rattle.office_store.specs.Running.{batch_count, IsAtRest, IsAwake, IsStill}
 use Rattle.office_store.specs.declared.new_publication.NewPublication.{NewPublication}
 use Rattle.office_store.proofs.CommandLemmas.{Moves}
 use Rattle.office_store.proofs.NewBatchLemmas.{taken_back}
@@ -316,8 +316,8 @@ in_office d r (Err fault) refused = refused
 module _ {S : Type 0} (g : Ghosts S) (first mid inside : Held S) (view : inside ≡ mid)
     (d : ℕ) where
   -- what is at hand tells of whatever office stands there
-  pub puts_at_hand : (m : Memory) → IsAtRest (state g inside) m → (I : Session) (E : Enrolled)
-      → m ≡ Some (I, E) → (rows : List DraftRow) (slots : List SlotRow)
+  pub puts_at_hand : (m : Memory) {k : ℕ} → IsAtRest (state g inside) m k
+      → (I : Session) (E : Enrolled) → m ≡ Some (I, E) → (rows : List DraftRow) (slots : List SlotRow)
       (result : Result NewPublication StoreFault) → HasCleanDisk (state g mid)
       → IsAwake (state g mid) → (o : OfficeState) → IsKept (state g mid).now o
       → AreRowsOf o d rows slots
@@ -325,9 +325,10 @@ module _ {S : Type 0} (g : Ghosts S) (first mid inside : Held S) (view : inside 
       → memory_of (Some r) ≡ Some (I, E) → AreRowsOf (Some r) d rows slots
       → Publishes d r result)
       → PutsIn d o result
-  puts_at_hand m rest I E is rows slots result clean awake o kept are publishes =
+  puts_at_hand m {k} rest I E is rows slots result clean awake o kept are publishes =
       go o kept are
-      (at_hand (state g mid) m o (subst (λ h. IsAtRest (state g h) m) view rest) clean awake.0 kept
+      (at_hand (state g mid) m o (subst (λ h. IsAtRest (state g h) m k) view rest) clean awake.0
+      kept
       ∙ is)
     where
       go : (o : OfficeState) → IsKept (state g mid).now o → AreRowsOf o d rows slots
@@ -338,25 +339,26 @@ module _ {S : Type 0} (g : Ghosts S) (first mid inside : Held S) (view : inside 
           (publishes (subst (λ h. IsAwake (state g h)) (sym view) awake) r
           (subst (λ h. IsKept (state g h).now (Some r)) (sym view) kept) memory are)
 
-  pub none_at_hand : (m : Memory) → IsAtRest (state g inside) m → m ≡ None
+  pub none_at_hand : (m : Memory) {k : ℕ} → IsAtRest (state g inside) m k → m ≡ None
       → HasCleanDisk (state g mid) → IsAwake (state g mid) → (o : OfficeState)
       → IsKept (state g mid).now o → draft_published d o ≡ Err NotLoaded
-  none_at_hand m rest none clean awake o kept =
+  none_at_hand m {k} rest none clean awake o kept =
       ap (draft_published d) (nothing_kept o
-      (at_hand (state g mid) m o (subst (λ h. IsAtRest (state g h) m) view rest) clean awake.0 kept
+      (at_hand (state g mid) m o (subst (λ h. IsAtRest (state g h) m k) view rest) clean awake.0
+      kept
       ∙ none))
 
   -- the transaction makes of the office what the command does
-  pub publication_moves : (after : Held S) (m : Memory) (new : NewPublication)
+  pub publication_moves : (b : Database) (m : Memory) (new : NewPublication)
       → (HasCleanDisk (state g mid) → IsStill (state g first) (state g mid))
       → (HasCleanDisk (state g mid) → IsAwake (state g mid))
       → (HasCleanDisk (state g mid) → (o : OfficeState) → IsKept (state g first).now o
       → IsPutIn d o new)
       → HasCleanDisk (state g inside)
       → ((t : Tables) → Stands (state g inside).now t
-      → Stands (state g after).now (publication_put new t))
-      → Moves (draft_published d) new.counts (state g inside).now (state g after).now m m
-  publication_moves after m new still opened puts clean makes o kept is =
+      → Stands b (publication_put new t))
+      → Moves (draft_published d) new.counts (state g inside).now b m m (λ k. k)
+  publication_moves b m new still opened puts clean makes o kept is =
       let here = subst (λ h. HasCleanDisk (state g h)) view clean in
       let there = subst (λ h. IsKept (state g h).now o) view kept in
       let was = subst (λ db. IsKept db o) (still here (opened here).0).1 there in
@@ -371,6 +373,7 @@ module _ {S : Type 0} (g : Ghosts S) (first mid inside : Held S) (view : inside 
             ∙ ap (λ n. Ok (n, Some (record r { published = Some (published_as r T) })))
             (sym put.put.counts),
         published_kept r T held.office fits put.permitted (state g inside).now
-            (state g after).now _ new put.put held makes,
+            b _ new put.put held makes,
         ap memory_of (sym of.is) ∙ is,
+        ap batch_count (sym of.is),
       )

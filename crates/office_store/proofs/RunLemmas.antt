@@ -1,7 +1,8 @@
 -- What a call leaves of the office.
-use Rattle.std.proofs.Common.{◌≡◌, Some, None, refl, sym, ◌∙◌, ap, subst, IsTrue, inl, inr}
+use Rattle.std.proofs.Common.{◌≡◌, ℕ, Some, None, refl, sym, ◌∙◌, ap, subst, IsTrue, inl, inr}
 use Rattle.exam_model.specs.Enrolments.{Enrolled}
 use Rattle.exam_model.specs.Instance.{Session}
+use Rattle.sqlite.specs.Effect.{Database}
 use Rattle.sqlite.specs.Held.{Held, state}
 use Rattle.sqlite.specs.State.{State, HasCleanDisk, IsUnchanged}
 use Rattle.sqlite.specs.Store.{Ghosts}
@@ -30,12 +31,12 @@ still_then a b c first next opened =
     let early = first late.0 in
     (early.0, late.1 ∙ early.1)
 
-pub rest_still : (a b : State) (m : Memory) → (HasCleanDisk b → HasCleanDisk a)
-    → (HasCleanDisk b → IsStill a b) → IsAtRest a m → IsAtRest b m
+pub rest_still : (a b : State) (m : Memory) {k : ℕ} → (HasCleanDisk b → HasCleanDisk a)
+    → (HasCleanDisk b → IsStill a b) → IsAtRest a m k → IsAtRest b m k
 rest_still a b m clean still rest is_clean opened =
     let is = still is_clean opened in
     let here = rest (clean is_clean) is.0 in
-    (here.0, subst (λ db. IsKept db here.0) (sym is.1) here.1, here.2)
+    (here.0, subst (λ db. IsKept db here.0) (sym is.1) here.1, here.2, here.3)
 
 -- a reader that failed, where all that was written was committed
 pub still_kept : (a b : State) → (IsTrue a.is_open → a.now ≡ a.committed) → Keeps a b → IsStill a b
@@ -52,7 +53,7 @@ still_undone a b settled undone opened =
 
 -- ---- what is in memory
 
-pub at_hand : (s : State) (m : Memory) (o : OfficeState) → IsAtRest s m → HasCleanDisk s
+pub at_hand : (s : State) (m : Memory) {k : ℕ} (o : OfficeState) → IsAtRest s m k → HasCleanDisk s
     → IsTrue s.is_open
     → IsKept s.now o → memory_of o ≡ m
 at_hand s m o rest clean opened kept =
@@ -86,7 +87,8 @@ kept_of (Some r) I E h = record {
 -- ---- a reader of one table, which opens no store
 
 -- all that was written had been committed
-module _ (a b : State) (m : Memory) (rest : IsAtRest a m) (clean : HasCleanDisk b → HasCleanDisk a)
+module _ (a b : State) (m : Memory) {k : ℕ} (rest : IsAtRest a m k)
+    (clean : HasCleanDisk b → HasCleanDisk a)
     (settled : IsTrue a.is_open → a.now ≡ a.committed) where
   -- it leaves the tables, or what was committed
   module _ (was_open : HasCleanDisk b → IsTrue b.is_open → IsTrue a.is_open)
@@ -96,7 +98,7 @@ module _ (a b : State) (m : Memory) (rest : IsAtRest a m) (clean : HasCleanDisk 
         let here = rest (clean is_clean) (was_open is_clean opened) in
         still_kept a b settled (reads is_clean here.1.held here.1.tables) opened
 
-    pub rest_read : IsAtRest b m
+    pub rest_read : IsAtRest b m k
     rest_read = rest_still a b m clean still_read rest
 
   -- it has answered: what stands now stood before
@@ -109,7 +111,8 @@ module _ (a b : State) (m : Memory) (rest : IsAtRest a m) (clean : HasCleanDisk 
 
 -- ---- readers that had answered, and then a transaction that failed
 
-module _ {S : Type 0} (g : Ghosts S) (a b c : Held S) (m : Memory) (rest : IsAtRest (state g a) m)
+module _ {S : Type 0} (g : Ghosts S) (a b c : Held S) (m : Memory) {k : ℕ}
+    (rest : IsAtRest (state g a) m k)
     (settled : IsTrue (state g a).is_open → (state g a).now ≡ (state g a).committed)
     (read : HasRead g a b) (same : IsSame g a b)
     (clean : HasCleanDisk (state g c) → HasCleanDisk (state g b))
@@ -124,14 +127,14 @@ module _ {S : Type 0} (g : Ghosts S) (a b c : Held S) (m : Memory) (rest : IsAtR
       (was, back.now opened ∙ kept.0.committed_is ∙ sym (settled was))
 
   -- what is in memory is still the office's
-  pub rest_failed : IsAtRest (state g c) m
+  pub rest_failed : IsAtRest (state g c) m k
   rest_failed =
       rest_still (state g a) (state g c) m (λ k. read.clean (clean k)) still_failed rest
 
 -- what a transaction makes of what was read, it makes of what stood there before
-pub made_on : {S : Type 0} (g : Ghosts S) (a b c : Held S) → IsSame g a b
+pub made_on : {S : Type 0} (g : Ghosts S) (a b : Held S) (c : Database) → IsSame g a b
     → HasCleanDisk (state g b) → IsTrue (state g a).is_open → (make : Tables → Tables)
-    → ((t : Tables) → Stands (state g b).now t → Stands (state g c).now (make t))
-    → (t : Tables) → Stands (state g a).now t → Stands (state g c).now (make t)
+    → ((t : Tables) → Stands (state g b).now t → Stands c (make t))
+    → (t : Tables) → Stands (state g a).now t → Stands c (make t)
 made_on g a b c same clean opened make makes t held =
     makes t (subst (λ db. Stands db t) (sym (same clean t held opened).0.now_is) held)

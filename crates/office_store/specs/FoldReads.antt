@@ -1,7 +1,7 @@
 -- What a connection that reads rows, some after others, leaves as it was.
 use Rattle.std.specs.Prelude.{◌≡◌, IsTrue, false, Some}
 use Rattle.sqlite.specs.Held.{Held, state}
-use Rattle.sqlite.specs.State.{HasCleanDisk, IsUnchanged}
+use Rattle.sqlite.specs.State.{HasCleanDisk, IsUnchanged, Survives}
 use Rattle.sqlite.specs.Store.{Ghosts}
 use Rattle.exam_model.specs.Enrolments.{Enrolled}
 use Rattle.office_model.specs.Office.{Records}
@@ -13,6 +13,7 @@ use Rattle.office_tables.specs.Standing.{Stands}
 -- whatever is answered: nothing is changed, but for what was not committed
 pub record HasRead {S : Type 0} (store : Ghosts S) (old new : Held S) : Type 0 where
   pub clean : HasCleanDisk (state store new) → HasCleanDisk (state store old)
+  pub survives : Survives (state store old) (state store new) (λ _. ⊥)
   pub was_open : OpensNone store old new
   pub kept : LeavesCommitted store old new
   pub mode : old.in_transaction ≡ false → new.in_transaction ≡ false

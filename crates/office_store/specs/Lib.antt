@@ -17,3 +17,4 @@ pub mod Folding
 pub mod Pricing
 pub mod NewBatches
 pub mod Shut
+pub mod Leaving

@@ -11,7 +11,7 @@ use Rattle.office_tables.specs.declared.draft.InsertDraft.{InsertDraft}
 use Rattle.office_tables.specs.declared.batch.BatchRow.{BatchRow}
 use Rattle.office_tables.specs.declared.draft.DraftRow.{DraftRow}
 use Rattle.office_tables.specs.declared.slot.SlotRow.{SlotRow}
-use Rattle.office_enrolment.specs.AfterBatch.{acting, after_batch}
+use Rattle.office_enrolment.specs.AfterBatch.{acting, after_batch, latest}
 use Rattle.office_enrolment.specs.Rows.{pair_of}
 use Rattle.office_model.specs.Batches.{newly_enrolled, same_bytes}
 use Rattle.office_model.specs.Office.{KeptBatch, Records}
@@ -47,11 +47,12 @@ pub record AreAnew (r : Records) (E : Enrolled) (drafts : List DraftRow) : Type 
 -- what these lines make of an office's enrolments, with the lines that act and, where there are any,
 -- the rows of all drafts with the enrolments after them; there is room for one batch more
 pub record IsNewFor (changes : List Change) (r : Records) (new : NewBatch) : Type 0 where
-  pub after : after_batch changes r.enrolments ≡ Ok (new.counts, new.enrolments)
+  pub after : after_batch changes r.enrolments
+      ≡ Ok (new.counts, latest new.enrolments r.enrolments)
   pub room : length r.batches < MAX_BATCHES
   pub lines : map (λ it. it.change) new.lines.items ≡ acting changes r.enrolments
   pub drafts : new.lines.items ≢ []
-      → AreAnew r new.enrolments (map (λ it. it.row) new.drafts.items)
+      → AreAnew r (latest new.enrolments r.enrolments) (map (λ it. it.row) new.drafts.items)
 
 -- that, or the refusal of such a batch, whatever its number and its bytes
 abbrev pub Enrols : List Change → Records → Result NewBatch StoreFault → Type 0

@@ -1,5 +1,5 @@
 -- What a call of the office makes of the office that its file stands for.
-use Rattle.std.specs.Prelude.{◌≡◌, IsTrue, OnErr, Result, Ok, Err}
+use Rattle.std.specs.Prelude.{◌≡◌, ℕ, IsTrue, OnErr, length, None, Some, Result, Ok, Err}
 use Rattle.sqlite.specs.Held.{Held, state}
 use Rattle.sqlite.specs.State.{State, HasCleanDisk}
 use Rattle.sqlite.specs.Store.{Ghosts}
@@ -53,11 +53,18 @@ ReadsOffice store says old new result =
 
 -- ---- what is kept in memory
 
--- over a clean disk, while it is open, the file stands for an office, of which this is in memory
-abbrev pub IsAtRest : State → Memory → Type 0
-IsAtRest s memory =
+-- how many batches an office keeps
+abbrev pub batch_count : OfficeState → ℕ
+batch_count None = 0
+batch_count (Some r) = length r.batches
+
+-- over a clean disk, while it is open, the file stands for an office, of which this is in memory,
+-- and which keeps this number of batches
+abbrev pub IsAtRest : State → Memory → ℕ → Type 0
+IsAtRest s memory batches =
     HasCleanDisk s → IsTrue s.is_open
     → (office : OfficeState) × IsKept s.now office × (memory_of office ≡ memory)
+    × (batch_count office ≡ batches)
 
 -- ---- a look at the file
 

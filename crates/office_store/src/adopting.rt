@@ -1,13 +1,14 @@
 // A database that holds an office, taken over.
 ghost use Rattle.std.specs.Prelude.{◌≡◌, ◌⊎◌, false, IfErr, IfOk, IsTrue, OnOk};
 ghost use Rattle.sqlite.specs.Held.{state};
-ghost use Rattle.sqlite.specs.State.{HasCleanDisk, IsUnchanged};
+ghost use Rattle.sqlite.specs.State.{HasCleanDisk, IsUnchanged, Survives};
 ghost use Rattle.office_tables.specs.Readers.{Keeps};
 ghost use Rattle.office_model.specs.Office.{OfficeState};
 ghost use Rattle.office_records.specs.Memory.{AreTogether, memory_of};
 ghost use Rattle.office_records.specs.Stands.{IsKept};
 ghost use Rattle.office_store.specs.Faults.{IsOfDatabase};
-ghost use Rattle.office_store.specs.Running.{IsAwake};
+ghost use Rattle.office_store.specs.Leaving.{connection_of};
+ghost use Rattle.office_store.specs.Running.{IsAwake, batch_count};
 ghost use Rattle.office_tables.specs.Alterations.{Undone};
 
 use crate::kept_bytes::check_bytes;
@@ -43,26 +44,34 @@ impl<S: Alter> Office<S> {
         // Whatever the refusal, the tables are as they were.
         ensures undone { IfErr result (λ e. (e.1 ≡ conn) ⊎ (HasCleanDisk (state S.Store e.1)
             → Undone (state S.Store conn) (state S.Store e.1))) }
+        ensures survives { Survives (state S.Store conn) (state S.Store (connection_of result))
+            (λ _. ⊥) }
     {
         if !conn.is_autocommit() {
             return Err((StoreFault::Store, conn));
         }
         let mut conn = conn;
         match kept_in(alloc, &mut conn) {
-            Ok(kept) => Ok(Office { conn, kept }),
+            Ok((kept, batches)) => Ok(Office {
+                conn,
+                kept,
+                batches,
+            }),
             Err(fault) => Err((fault, conn)),
         }
     }
 }
 
-// What is kept in memory of the office that the tables stand for. `BadSchema`: they stand for none.
+// What is kept in memory of the office that the tables stand for, and how many batches it keeps.
+// `BadSchema`: they stand for none.
 fn kept_in<S: Alter>(
     alloc: Global,
     conn: &mut Connection<S>,
-) -> Result<Option<(Instance, Enrolments)>, StoreFault>
-    ensures kept { HasCleanDisk (state S.Store conn.new) → IfOk result (λ kept. (o : OfficeState)
-        × IsKept (state S.Store conn.old).now o × (memory_of o ≡ kept)) }
-    ensures together { IfOk result AreTogether }
+) -> Result<(Option<(Instance, Enrolments)>, usize), StoreFault>
+    ensures kept { HasCleanDisk (state S.Store conn.new) → IfOk result (λ found. (o : OfficeState)
+        × IsKept (state S.Store conn.old).now o × (memory_of o ≡ found.0)
+        × (batch_count o ≡ found.1)) }
+    ensures together { IfOk result (λ found. AreTogether found.0) }
     ensures open { HasCleanDisk (state S.Store conn.new)
         → OnOk result (IsTrue (state S.Store conn.new).is_open) }
     ensures same { HasCleanDisk (state S.Store conn.new) → OnOk result ((conn.new ≡ conn.old)
@@ -74,6 +83,7 @@ fn kept_in<S: Alter>(
     ensures keeps { HasCleanDisk (state S.Store conn.new)
         → Keeps (state S.Store conn.old) (state S.Store conn.new) }
     ensures rests { conn.old.in_transaction ≡ false → conn.new.in_transaction ≡ false }
+    ensures survives { Survives (state S.Store conn.old) (state S.Store conn.new) (λ _. ⊥) }
 {
     let found = match adopt_tables(alloc, conn) {
         Ok(Some(found)) => found,
@@ -82,5 +92,5 @@ fn kept_in<S: Alter>(
     };
     let kept = kept_of(alloc, &found)?;
     check_bytes(alloc, conn, &found.batches)?;
-    Ok(kept)
+    Ok((kept, found.batches.len()))
 }

@@ -1,7 +1,7 @@
-// The rows that a batch is judged by, and those that it rewrites.
-ghost use Rattle.std.specs.Prelude.{◌≡◌, ◌++◌, IfOk, IsPermutation, IsTrue, OnOk, Some, false, length, map};
+// The rows that a batch rewrites.
+ghost use Rattle.std.specs.Prelude.{◌≡◌, ◌++◌, IfOk, IsPermutation, IsTrue, OnOk, Some, false, length};
 ghost use Rattle.sqlite.specs.Held.{state};
-ghost use Rattle.sqlite.specs.State.{HasCleanDisk, IsUnchanged};
+ghost use Rattle.sqlite.specs.State.{HasCleanDisk, IsUnchanged, Survives};
 ghost use Rattle.office_model.specs.Office.{AreRecords, Records};
 ghost use Rattle.office_records.specs.Found.{AreDrafts};
 ghost use Rattle.office_records.specs.Stands.{IsSound, StandsLoaded};
@@ -13,7 +13,7 @@ ghost use Rattle.office_tables.specs.Tables.{Tables};
 
 use crate::fault::Failed;
 use exam_terms::limits::MAX_DRAFTS;
-use office_tables::{DraftRow, SlotRow, batch_numbers, drafts_of, slots_of};
+use office_tables::{DraftRow, SlotRow, drafts_of, slots_of};
 use sqlite::{Alter, Connection};
 use std::alloc::Global;
 
@@ -22,21 +22,6 @@ use std::alloc::Global;
 pub(crate) struct BatchRows {
     pub(crate) drafts: Vec<DraftRow>,
     pub(crate) slots: Vec<SlotRow>,
-}
-
-// Reads the numbers of the kept batches.
-pub(crate) fn read_numbers<S: Alter>(
-    alloc: Global,
-    conn: &mut Connection<S>,
-) -> Result<Vec<u32>, Failed>
-    ensures numbers { HasCleanDisk (state S.Store conn.new) → (t : Tables)
-        → Stands (state S.Store conn.old).now t → IfOk result
-        (λ numbers. IsPermutation (map (λ b. b.no) t.batch) numbers.items) }
-    ensures read { HasRead S.Store conn.old conn.new }
-    ensures same { OnOk result (IsSame S.Store conn.old conn.new) }
-{
-    let numbers = batch_numbers(alloc, conn)?;
-    Ok(numbers)
 }
 
 // Reads the rows of all drafts, draft by draft.
@@ -105,6 +90,7 @@ fn add_draft<S: Alter>(
     ensures kept { LeavesCommitted S.Store conn.old conn.new }
     ensures mode { conn.old.in_transaction ≡ false → conn.new.in_transaction ≡ false }
     ensures clean { HasCleanDisk (state S.Store conn.new) → HasCleanDisk (state S.Store conn.old) }
+    ensures survives { Survives (state S.Store conn.old) (state S.Store conn.new) (λ _. ⊥) }
 {
     let rows = drafts_of(alloc, conn, number)?;
     drafts.extend_from_slice(&rows).map_err(|_| Failed)?;
@@ -128,6 +114,7 @@ fn add_slots<S: Alter>(
     ensures kept { LeavesCommitted S.Store conn.old conn.new }
     ensures mode { conn.old.in_transaction ≡ false → conn.new.in_transaction ≡ false }
     ensures clean { HasCleanDisk (state S.Store conn.new) → HasCleanDisk (state S.Store conn.old) }
+    ensures survives { Survives (state S.Store conn.old) (state S.Store conn.new) (λ _. ⊥) }
 {
     let rows = slots_of(alloc, conn, number)?;
     slots.extend_from_slice(&rows).map_err(|_| Failed)?;

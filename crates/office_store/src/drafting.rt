@@ -1,12 +1,13 @@
 // Drafts: timetables in the making, with their penalties.
 ghost use Rattle.std.specs.Prelude.{◌≡◌, ◌⊎◌, ◌<◌, All, Err, IfErr, IfOk, Ok, OnOk, is_some, length, map};
 ghost use Rattle.sqlite.specs.Held.{state};
-ghost use Rattle.sqlite.specs.State.{HasCleanDisk};
+ghost use Rattle.sqlite.specs.State.{HasCleanDisk, Survives};
 ghost use Rattle.exam_model.specs.Fits.{PlaceExists};
 ghost use Rattle.office_store.specs.NewDraft.{Begins};
 ghost use Rattle.office_model.specs.DraftCommands.{draft_dropped, draft_in, draft_made, first_timetable, is_draft_number};
 ghost use Rattle.office_model.specs.Office.{OfficeState};
 ghost use Rattle.office_store.specs.OfficeRows.{AreScored};
+ghost use Rattle.office_store.specs.Leaving.{Leaves};
 ghost use Rattle.office_store.specs.Running.{IsAwake, IsStill, Runs, StaysOnErr};
 ghost use Rattle.office_records.specs.Stands.{IsKept};
 ghost use Rattle.office_records.specs.TableRows.{once, slots_from};
@@ -39,6 +40,7 @@ impl<S: Alter> Office<S> {
         ensures stays { StaysOnErr S.Store self.old self.new result }
         ensures clean { HasCleanDisk (state S.Store self.new)
             → HasCleanDisk (state S.Store self.old) }
+        ensures survives { Leaves S.Store (draft_made number text.now) self.old self.new result }
     {
         let rows = self.drafts(alloc, number)?;
         let Some((instance, enrolments)) = &self.kept else {
@@ -73,6 +75,7 @@ impl<S: Alter> Office<S> {
         ensures stays { StaysOnErr S.Store self.old self.new result }
         ensures clean { HasCleanDisk (state S.Store self.new)
             → HasCleanDisk (state S.Store self.old) }
+        ensures survives { Leaves S.Store (draft_dropped number) self.old self.new result }
     {
         let rows = self.drafts(alloc, number)?;
         if self.kept.is_none() {
@@ -104,6 +107,7 @@ impl<S: Alter> Office<S> {
             → OnOk result (IsAwake (state S.Store self.new)) }
         ensures clean { HasCleanDisk (state S.Store self.new)
             → HasCleanDisk (state S.Store self.old) }
+        ensures survives { Survives (state S.Store self.old) (state S.Store self.new) (λ _. ⊥) }
     {
         let _at_rest = self.conn.is_autocommit(); // read for what it says of the last commit
         let rows = drafts_of(alloc, &mut self.conn, number)?;

@@ -1,7 +1,7 @@
 // Drafts are edited.
 ghost use Rattle.std.specs.Prelude.{◌≡◌, ◌⊎◌, ◌<◌, length, map, All, Err, IfErr, IfOk, Ok, OnOk, Some};
 ghost use Rattle.sqlite.specs.Held.{state};
-ghost use Rattle.sqlite.specs.State.{HasCleanDisk};
+ghost use Rattle.sqlite.specs.State.{HasCleanDisk, Survives};
 ghost use Rattle.exam_model.specs.Fits.{Fits};
 ghost use Rattle.exam_draft.specs.Edits.{edited};
 ghost use Rattle.exam_draft.specs.Judged.{IsEditedAt, edited_exams};
@@ -14,6 +14,7 @@ ghost use Rattle.office_store.specs.Changes.{moved, new_place};
 ghost use Rattle.office_store.specs.Editing.{Edits, Judges};
 ghost use Rattle.office_store.specs.FoldReads.{HasRead, IsSame};
 ghost use Rattle.office_store.specs.OfficeRows.{AreRowsOf};
+ghost use Rattle.office_store.specs.Leaving.{Leaves};
 ghost use Rattle.office_store.specs.Running.{IsAwake, IsStill, Runs, StaysOnErr};
 
 use crate::folding::penalty_after;
@@ -51,6 +52,7 @@ impl<S: Alter> Office<S> {
         ensures stays { StaysOnErr S.Store self.old self.new result }
         ensures clean { HasCleanDisk (state S.Store self.new)
             → HasCleanDisk (state S.Store self.old) }
+        ensures survives { Leaves S.Store (draft_edited number edit) self.old self.new result }
     {
         let found = self.draft_rows(alloc, number)?;
         let (timetable, parts) = self.edited_draft(alloc, number, &found, edit)?;
@@ -92,6 +94,7 @@ impl<S: Alter> Office<S> {
             → OnOk result (IsAwake (state S.Store self.new)) }
         ensures clean { HasCleanDisk (state S.Store self.new)
             → HasCleanDisk (state S.Store self.old) }
+        ensures survives { Survives (state S.Store self.old) (state S.Store self.new) (λ _. ⊥) }
     {
         let _at_rest = self.conn.is_autocommit(); // read for what it says of the last commit
         let Some((instance, enrolments)) = &self.kept else {

@@ -1,15 +1,17 @@
 // Batches of changes of enrolments are carried out.
 ghost use Rattle.std.specs.Prelude.{◌≡◌, ◌≤◌, IfOk, None, Ok, OnOk, Some};
 ghost use Rattle.sqlite.specs.Held.{state};
-ghost use Rattle.sqlite.specs.State.{HasCleanDisk};
+ghost use Rattle.sqlite.specs.State.{HasCleanDisk, Survives};
 ghost use Rattle.exam_terms.specs.declared.limits.TheConstants.{MAX_BATCH};
 ghost use Rattle.exam_model.specs.Enrolments.{Enrolled};
 ghost use Rattle.exam_model.specs.Instance.{Session};
+ghost use Rattle.office_enrolment.specs.AfterBatch.{latest};
 ghost use Rattle.office_batches.specs.BatchText.{batch_in};
 ghost use Rattle.office_model.specs.Batches.{batch_enrolled, kept_in};
 ghost use Rattle.office_model.specs.Office.{OfficeState};
 ghost use Rattle.office_records.specs.Stands.{IsKept};
 ghost use Rattle.office_store.specs.NewBatches.{IsRowOf, answered_again};
+ghost use Rattle.office_store.specs.Leaving.{Leaves};
 ghost use Rattle.office_store.specs.Running.{IsAwake, IsStill, Runs, StaysOnErr};
 ghost use Rattle.office_tables.specs.Batch.{batch_from};
 
@@ -46,6 +48,8 @@ impl<S: Alter> Office<S> {
         ensures stays { StaysOnErr S.Store self.old self.new result }
         ensures clean { HasCleanDisk (state S.Store self.new)
             → HasCleanDisk (state S.Store self.old) }
+        ensures survives { Leaves S.Store (batch_enrolled number text.now)
+            self.old self.new result }
     {
         let changes = match read_batch(alloc, text) {
             Ok(changes) => changes,
@@ -78,6 +82,8 @@ impl<S: Alter> Office<S> {
         ensures stays { StaysOnErr S.Store self.old self.new result }
         ensures clean { HasCleanDisk (state S.Store self.new)
             → HasCleanDisk (state S.Store self.old) }
+        ensures survives { Leaves S.Store (batch_enrolled number text.now)
+            self.old self.new result }
     {
         lines_are_counted();
         batch_leaves_an_office();
@@ -85,10 +91,18 @@ impl<S: Alter> Office<S> {
         let Some((instance, enrolments)) = &self.kept else {
             return Err(StoreFault::NotLoaded);
         };
-        let new = new_batch(alloc, &mut self.conn, instance, enrolments, changes)?;
+        let new = new_batch(
+            alloc,
+            &mut self.conn,
+            instance,
+            enrolments,
+            self.batches,
+            changes,
+        )?;
         let counts = new.counts;
         put_batch(&mut self.conn, &new, number, text)?;
         renew(&mut self.kept, new.enrolments);
+        self.batches += 1;
         Ok(counts)
     }
 
@@ -103,6 +117,7 @@ impl<S: Alter> Office<S> {
             → OnOk result (IsAwake (state S.Store self.new)) }
         ensures clean { HasCleanDisk (state S.Store self.new)
             → HasCleanDisk (state S.Store self.old) }
+        ensures survives { Survives (state S.Store self.old) (state S.Store self.new) (λ _. ⊥) }
     {
         let _at_rest = self.conn.is_autocommit(); // read for what it says of the last commit
         let row = batch_of(alloc, &mut self.conn, number)?;
@@ -110,11 +125,14 @@ impl<S: Alter> Office<S> {
     }
 }
 
-// Other enrolments of the session at hand.
-fn renew(kept: &mut Option<(Instance, Enrolments)>, enrolments: Enrolments)
+// Other enrolments of the session at hand, if there are any.
+fn renew(kept: &mut Option<(Instance, Enrolments)>, enrolments: Option<Enrolments>)
     ensures { (I : Session) (E : Enrolled) → kept.old ≡ Some (I, E)
-        → kept.new ≡ Some (I, enrolments) }
+        → kept.new ≡ Some (I, latest enrolments E) }
 {
+    let Some(enrolments) = enrolments else {
+        return;
+    };
     if let Some((instance, _)) = kept.take() {
         *kept = Some((instance, enrolments));
     }

@@ -3,7 +3,7 @@ ghost use Rattle.std.specs.Prelude.{◌≡◌, ◌⊎◌, ◌==◌, All, IfErr, 
 ghost use Rattle.std.specs.List.{AllByRecursion};
 ghost use Rattle.std.specs.Prelude.{option_to_list};
 ghost use Rattle.sqlite.specs.Held.{state};
-ghost use Rattle.sqlite.specs.State.{HasCleanDisk, IsUnchanged};
+ghost use Rattle.sqlite.specs.State.{HasCleanDisk, IsUnchanged, Survives};
 ghost use Rattle.office_tables.specs.Batch.{batch_from, counts_of};
 ghost use Rattle.office_tables.specs.Readers.{LeavesCommitted};
 ghost use Rattle.office_tables.specs.Standing.{Stands};
@@ -37,6 +37,7 @@ pub(crate) fn check_bytes<S: Alter>(
     ensures kept { LeavesCommitted S.Store conn.old conn.new }
     ensures mode { conn.old.in_transaction ≡ false → conn.new.in_transaction ≡ false }
     ensures clean { HasCleanDisk (state S.Store conn.new) → HasCleanDisk (state S.Store conn.old) }
+    ensures survives { Survives (state S.Store conn.old) (state S.Store conn.new) (λ _. ⊥) }
 {
     'batches: for row in batches {
         check_batch(alloc, conn, row.no)?;
@@ -60,6 +61,7 @@ fn check_batch<S: Alter>(alloc: Global, conn: &mut Connection<S>, no: u32) -> Re
     ensures kept { LeavesCommitted S.Store conn.old conn.new }
     ensures mode { conn.old.in_transaction ≡ false → conn.new.in_transaction ≡ false }
     ensures clean { HasCleanDisk (state S.Store conn.new) → HasCleanDisk (state S.Store conn.old) }
+    ensures survives { Survives (state S.Store conn.old) (state S.Store conn.new) (λ _. ⊥) }
 {
     let found = match batch_of(alloc, conn, no) {
         Ok(found) => found,

@@ -3,6 +3,7 @@
 
 mod adopting;
 mod batch_rows;
+mod candidate_share;
 mod drafting;
 mod editing;
 mod enrolling;
@@ -27,6 +28,6 @@ mod transactions;
 mod viewing;
 
 pub use exam_draft::Edit;
-pub use laws::stored_shares_add_up;
+pub use laws::{awake_store_leaves_its_tables, stored_shares_add_up};
 pub use office::Office;
 pub use office_model::{CandidateView, Counts, Loaded, Published, Refusal, StoreFault};

@@ -1,10 +1,11 @@
 // What is put in where a batch is accepted.
-ghost use Rattle.std.specs.Prelude.{◌≡◌, ◌≢◌, ◌≤◌, [], All, IfErr, IfOk, IsTrue, OnErr, OnOk, Some};
+ghost use Rattle.std.specs.Prelude.{◌≡◌, ◌<◌, ◌≤◌, All, IfErr, IfOk, IfSome, IsTrue, OnErr, OnOk, Some};
 ghost use Rattle.std.specs.Prelude.{false, length, map};
 ghost use Rattle.sqlite.specs.Held.{state};
-ghost use Rattle.sqlite.specs.State.{HasCleanDisk};
-ghost use Rattle.exam_terms.specs.declared.limits.TheConstants.{TEXT_BYTES};
-ghost use Rattle.office_tables.specs.Alterations.{Changed, Undone};
+ghost use Rattle.sqlite.specs.State.{HasCleanDisk, Survives};
+ghost use Rattle.exam_model.specs.Enrolments.{Enrolled};
+ghost use Rattle.exam_terms.specs.declared.limits.TheConstants.{MAX_BATCHES, TEXT_BYTES};
+ghost use Rattle.office_tables.specs.Alterations.{Changed, HoldsChanged, Undone};
 ghost use Rattle.office_tables.specs.Draft.{AreAmounts};
 ghost use Rattle.office_tables.specs.Standing.{Stands};
 ghost use Rattle.office_tables.specs.Tables.{Tables};
@@ -15,7 +16,7 @@ ghost use Rattle.office_store.specs.FoldReads.{HasRead, IsSame};
 ghost use Rattle.office_store.specs.NewBatches.{AreAnew, Enrols, new_batch_put, put_draft, put_line};
 ghost use Rattle.office_store.specs.Running.{IsAwake};
 
-use crate::batch_rows::{batch_rows, read_numbers};
+use crate::batch_rows::batch_rows;
 use crate::fault::Failed;
 use exam_model::{Change, Enrolments, Instance};
 use exam_terms::limits::MAX_BATCHES;
@@ -30,39 +31,42 @@ use sqlite::{Alter, Connection, Error, Transaction};
 use std::alloc::{AllocError, Global};
 
 // What a batch makes: the enrolments after it, what its lines did, those that act, and all drafts
-// scored anew. Where no line acts, the drafts stand as they are, and none is here.
+// scored anew. Where no line acts, the enrolments and the drafts stand as they are, and none are
+// here.
 #[derive(Drop)]
 pub(crate) struct NewBatch {
-    pub(crate) enrolments: Enrolments,
+    pub(crate) enrolments: Option<Enrolments>,
     pub(crate) counts: Counts,
     pub(crate) lines: Vec<PutLine>,
     pub(crate) drafts: Vec<InsertDraft>,
 }
 
-// What a batch of the session at hand puts in, whose number isn't kept. Its lines are judged by
-// what is at hand, then it is seen whether there is room, and then the drafts are read, if a line
-// acts.
+// What a batch of the session at hand puts in, whose number isn't kept, beside so many batches that
+// are. Its lines are judged by what is at hand, then it is seen whether there is room, and then the
+// drafts are read, if a line acts.
 pub(crate) fn new_batch<S: Alter>(
     alloc: Global,
     conn: &mut Connection<S>,
     instance: &Instance,
     enrolments: &Enrolments,
+    batches: usize,
     changes: &[Change],
 ) -> Result<NewBatch, StoreFault>
     requires exams { length enrolments.now ≡ length instance.now.exams }
     requires lines { length changes.now ≤ TEXT_BYTES }
     ensures enrols { HasCleanDisk (state S.Store conn.new) → IsAwake (state S.Store conn.old)
         → (r : Records) → IsKept (state S.Store conn.old).now (Some r)
-        → memory_of (Some r) ≡ Some (instance.now, enrolments.now)
+        → memory_of (Some r) ≡ Some (instance.now, enrolments.now) → length r.batches ≡ batches
         → Enrols changes.now r result }
-    ensures exams { IfOk result (λ new. length new.enrolments ≡ length instance.now.exams) }
+    ensures room { OnOk result (batches < MAX_BATCHES) }
+    ensures exams { IfOk result (λ new.
+        IfSome new.enrolments (λ E. length E ≡ length instance.now.exams)) }
     ensures small { IfOk result (λ new. All (λ it. AreAmounts it.row) new.drafts.items) }
     ensures read { HasRead S.Store conn.old conn.new }
     ensures same { OnOk result (IsSame S.Store conn.old conn.new) }
 {
     let made = after_batch(alloc, enrolments, changes)?;
-    let numbers = read_numbers(alloc, conn)?;
-    if numbers.len() >= MAX_BATCHES as usize {
+    if batches >= MAX_BATCHES as usize {
         return Err(StoreFault::TooMany);
     }
     let drafts = drafts_anew(alloc, conn, instance, &made)?;
@@ -82,12 +86,12 @@ fn drafts_anew<S: Alter>(
     instance: &Instance,
     made: &AfterBatch,
 ) -> Result<Vec<InsertDraft>, StoreFault>
-    requires exams { length made.now.enrolments ≡ length instance.now.exams }
+    requires exams { IfSome made.now.enrolments (λ E. length E ≡ length instance.now.exams) }
     ensures drafts { HasCleanDisk (state S.Store conn.new) → (t : Tables)
         → Stands (state S.Store conn.old).now t → IsTrue (state S.Store conn.old).is_open
         → (r : Records) → StandsLoaded t r → IsSound t (Some r) → AreRecords r
-        → r.session ≡ instance.now → made.now.acting.items ≢ [] → IfOk result (λ drafts.
-        AreAnew r made.now.enrolments (map (λ it. it.row) drafts.items)) }
+        → r.session ≡ instance.now → (E : Enrolled) → made.now.enrolments ≡ Some E
+        → IfOk result (λ drafts. AreAnew r E (map (λ it. it.row) drafts.items)) }
     ensures fault { HasCleanDisk (state S.Store conn.new) → (t : Tables)
         → Stands (state S.Store conn.old).now t → IsTrue (state S.Store conn.old).is_open
         → (r : Records) → StandsLoaded t r → IsSound t (Some r) → AreRecords r
@@ -96,17 +100,11 @@ fn drafts_anew<S: Alter>(
     ensures read { HasRead S.Store conn.old conn.new }
     ensures same { OnOk result (IsSame S.Store conn.old conn.new) }
 {
-    if made.acting.is_empty() {
+    let Some(enrolments) = &made.enrolments else {
         return Ok(Vec::new(alloc));
-    }
+    };
     let found = batch_rows(alloc, conn)?;
-    let rows = rescored(
-        alloc,
-        instance,
-        &made.enrolments,
-        &found.drafts,
-        &found.slots,
-    )?;
+    let rows = rescored(alloc, instance, enrolments, &found.drafts, &found.slots)?;
     let drafts = drafts_put(alloc, &rows)?;
     Ok(drafts)
 }
@@ -127,6 +125,8 @@ pub(crate) fn put_batch<S: Alter>(
         → OnErr result (Undone (state S.Store conn.old) (state S.Store conn.new)) }
     ensures rests { conn.new.in_transaction ≡ false }
     ensures clean { HasCleanDisk (state S.Store conn.new) → HasCleanDisk (state S.Store conn.old) }
+    ensures survives { Survives (state S.Store conn.old) (state S.Store conn.new)
+        (HoldsChanged (new_batch_put number text.now new.now) (state S.Store conn.old)) }
 {
     let batch = InsertBatch {
         no: number,

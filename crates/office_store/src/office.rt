@@ -1,9 +1,10 @@
 // The office, and how it comes to its file.
 ghost use Rattle.std.specs.Prelude.{◌≡◌, ◌≢◌, ◌⊎◌, IfErr, IfOk, None, OnOk};
 ghost use Rattle.sqlite.specs.Held.{state};
-ghost use Rattle.sqlite.specs.State.{HasCleanDisk};
+ghost use Rattle.sqlite.specs.State.{HasCleanDisk, Survives};
 ghost use Rattle.office_tables.specs.Schema.{no_schema};
 ghost use Rattle.office_store.specs.Faults.{IsOfDatabase};
+ghost use Rattle.office_store.specs.Leaving.{MayMake, connection_of};
 ghost use Rattle.office_store.specs.Running.{IsAwake, IsStill};
 ghost use Rattle.office_tables.specs.Alterations.{Undone};
 ghost use Rattle.office_records.specs.Stands.{IsKept};
@@ -22,6 +23,8 @@ pub struct Office<S: Alter> {
     pub(crate) conn: Connection<S>,
     // The session and its live enrolments, once there is one: what the tables say, at hand.
     pub(crate) kept: Option<(Instance, Enrolments)>,
+    // How many batches it keeps.
+    pub(crate) batches: usize,
 }
 
 impl<S: Alter> Model for Office<S> {
@@ -37,7 +40,7 @@ impl<S: Alter> Model for Office<S> {
     ghost view = { λ o. o.conn };
 
     ghost invariant = { λ o. (o.conn.in_transaction ≡ false)
-        × IsAtRest (state S.Store o.conn) o.kept × AreTogether o.kept };
+        × IsAtRest (state S.Store o.conn) o.kept o.batches × AreTogether o.kept };
 }
 
 impl<S: Alter> Office<S> {
@@ -59,6 +62,8 @@ impl<S: Alter> Office<S> {
         // Whatever the refusal, the tables are as they were.
         ensures undone { IfErr result (λ e. (e.1 ≡ conn) ⊎ (HasCleanDisk (state S.Store e.1)
             → Undone (state S.Store conn) (state S.Store e.1))) }
+        ensures survives { Survives (state S.Store conn) (state S.Store (connection_of result))
+            (MayMake (state S.Store conn) result) }
     {
         if !conn.is_autocommit() {
             return Err((StoreFault::Store, conn));
@@ -68,7 +73,11 @@ impl<S: Alter> Office<S> {
         }
         let mut conn = conn;
         match make_tables(&mut conn) {
-            Ok(()) => Ok(Office { conn, kept: None }),
+            Ok(()) => Ok(Office {
+                conn,
+                kept: None,
+                batches: 0,
+            }),
             Err(_) => Err((StoreFault::Store, conn)),
         }
     }
@@ -82,6 +91,7 @@ impl<S: Alter> Office<S> {
         ensures fault { IfErr result (λ e. e ≡ StoreFault.Store) }
         ensures clean { HasCleanDisk (state S.Store self.new)
             → HasCleanDisk (state S.Store self.old) }
+        ensures survives { Survives (state S.Store self.old) (state S.Store self.new) (λ _. ⊥) }
     {
         let _at_rest = self.conn.is_autocommit(); // read for what it says of the last commit
         match look(&mut self.conn) {
@@ -94,7 +104,7 @@ impl<S: Alter> Office<S> {
     pub fn release(self) -> Connection<S>
         ensures { result ≡ self }
     {
-        let Office { conn, kept: _ } = self;
+        let Office { conn, .. } = self;
         conn
     }
 }

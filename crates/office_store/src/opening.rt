@@ -1,9 +1,10 @@
 // A database that holds an office or nothing, opened.
 ghost use Rattle.std.specs.Prelude.{◌≡◌, ◌⊎◌, IfErr, IfOk};
 ghost use Rattle.sqlite.specs.Held.{state};
-ghost use Rattle.sqlite.specs.State.{HasCleanDisk};
+ghost use Rattle.sqlite.specs.State.{HasCleanDisk, Survives};
 ghost use Rattle.office_model.specs.Office.{OfficeState};
 ghost use Rattle.office_store.specs.Faults.{IsOfDatabase};
+ghost use Rattle.office_store.specs.Leaving.{MayMake, connection_of};
 ghost use Rattle.office_store.specs.Opening.{IsOfficeOf};
 ghost use Rattle.office_store.specs.Running.{IsAwake, Now};
 ghost use Rattle.office_tables.specs.Alterations.{Undone};
@@ -40,6 +41,8 @@ impl<S: Alter> Office<S> {
         // Whatever the refusal, the tables are as they were.
         ensures undone { IfErr result (λ e. (e.1 ≡ conn) ⊎ (HasCleanDisk (state S.Store e.1)
             → Undone (state S.Store conn) (state S.Store e.1))) }
+        ensures survives { Survives (state S.Store conn) (state S.Store (connection_of result))
+            (MayMake (state S.Store conn) result) }
     {
         if is_bare(&conn) {
             Office::create(conn)

@@ -1,11 +1,12 @@
 // Who owns an exam.
 ghost use Rattle.std.specs.Prelude.{◌≡◌, ◌≤◌, IfOk, OnOk, map};
 ghost use Rattle.sqlite.specs.Held.{state};
-ghost use Rattle.sqlite.specs.State.{HasCleanDisk};
+ghost use Rattle.sqlite.specs.State.{HasCleanDisk, Survives};
 ghost use Rattle.exam_terms.specs.declared.limits.TheConstants.{MAX_DEPARTMENT};
 ghost use Rattle.office_model.specs.Commands.{owned, owner_in};
 ghost use Rattle.office_model.specs.Office.{OfficeState};
 ghost use Rattle.office_store.specs.Changes.{new_owner};
+ghost use Rattle.office_store.specs.Leaving.{Leaves};
 ghost use Rattle.office_store.specs.Running.{IsAwake, IsStill, Now, ReadsOffice, Runs, StaysOnErr};
 ghost use Rattle.office_records.specs.TableRows.{some_dept};
 
@@ -32,6 +33,7 @@ impl<S: Alter> Office<S> {
         ensures stays { StaysOnErr S.Store self.old self.new result }
         ensures clean { HasCleanDisk (state S.Store self.new)
             → HasCleanDisk (state S.Store self.old) }
+        ensures survives { Leaves S.Store (owned exam dept) self.old self.new result }
     {
         self.look()?;
         let Some((instance, _)) = &self.kept else {
@@ -60,6 +62,7 @@ impl<S: Alter> Office<S> {
             → OnOk result (IsAwake (state S.Store self.new)) }
         ensures clean { HasCleanDisk (state S.Store self.new)
             → HasCleanDisk (state S.Store self.old) }
+        ensures survives { Survives (state S.Store self.old) (state S.Store self.new) (λ _. ⊥) }
     {
         let rows = self.owners(alloc, exam)?;
         match rows.as_slice() {
@@ -83,6 +86,7 @@ impl<S: Alter> Office<S> {
             → OnOk result (IsAwake (state S.Store self.new)) }
         ensures clean { HasCleanDisk (state S.Store self.new)
             → HasCleanDisk (state S.Store self.old) }
+        ensures survives { Survives (state S.Store self.old) (state S.Store self.new) (λ _. ⊥) }
     {
         let _at_rest = self.conn.is_autocommit(); // read for what it says of the last commit
         let rows = owners_of(alloc, &mut self.conn, exam.get())?;

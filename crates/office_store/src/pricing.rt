@@ -1,7 +1,7 @@
 // What drafts cost, by their rows alone.
 ghost use Rattle.std.specs.Prelude.{◌≡◌, ◌≤◌, ◌^◌, ℕ, IfNone, IfSome, None, OnOk, is_some, map};
 ghost use Rattle.sqlite.specs.Held.{state};
-ghost use Rattle.sqlite.specs.State.{HasCleanDisk};
+ghost use Rattle.sqlite.specs.State.{HasCleanDisk, Survives};
 ghost use Rattle.exam_score.specs.Penalty.{total_of};
 ghost use Rattle.office_model.specs.DraftCommands.{draft_in};
 ghost use Rattle.office_model.specs.Office.{IsOffice, OfficeState};
@@ -32,6 +32,7 @@ impl<S: Alter> Office<S> {
             → OnOk result (IsAwake (state S.Store self.new)) }
         ensures clean { HasCleanDisk (state S.Store self.new)
             → HasCleanDisk (state S.Store self.old) }
+        ensures survives { Survives (state S.Store self.old) (state S.Store self.new) (λ _. ⊥) }
     {
         let rows = self.drafts(alloc, number)?;
         let Some(_) = &self.kept else {

@@ -1,7 +1,7 @@
 // The rows of what is published, and of its shares.
 ghost use Rattle.std.specs.Prelude.{IfOk, IsPermutation, IsTrue, OnOk};
 ghost use Rattle.sqlite.specs.Held.{state};
-ghost use Rattle.sqlite.specs.State.{HasCleanDisk};
+ghost use Rattle.sqlite.specs.State.{HasCleanDisk, Survives};
 ghost use Rattle.office_model.specs.Office.{OfficeState};
 ghost use Rattle.office_records.specs.Publications.{StandsPublished, placed_rows};
 ghost use Rattle.office_records.specs.Stands.{IsKept};
@@ -46,6 +46,7 @@ impl<S: Alter> Office<S> {
             → OnOk result (IsAwake (state S.Store self.new)) }
         ensures clean { HasCleanDisk (state S.Store self.new)
             → HasCleanDisk (state S.Store self.old) }
+        ensures survives { Survives (state S.Store self.old) (state S.Store self.new) (λ _. ⊥) }
     {
         let _at_rest = self.conn.is_autocommit(); // read for what it says of the last commit
         let rows = read_published(alloc, &mut self.conn)?;
@@ -63,6 +64,7 @@ impl<S: Alter> Office<S> {
             → OnOk result (IsAwake (state S.Store self.new)) }
         ensures clean { HasCleanDisk (state S.Store self.new)
             → HasCleanDisk (state S.Store self.old) }
+        ensures survives { Survives (state S.Store self.old) (state S.Store self.new) (λ _. ⊥) }
     {
         let _at_rest = self.conn.is_autocommit(); // read for what it says of the last commit
         let rows = placements(alloc, &mut self.conn)?;
@@ -80,6 +82,7 @@ impl<S: Alter> Office<S> {
             → OnOk result (IsAwake (state S.Store self.new)) }
         ensures clean { HasCleanDisk (state S.Store self.new)
             → HasCleanDisk (state S.Store self.old) }
+        ensures survives { Survives (state S.Store self.old) (state S.Store self.new) (λ _. ⊥) }
     {
         let students = self.student_shares(alloc)?;
         let parts = self.part_shares(alloc)?;
@@ -96,6 +99,7 @@ impl<S: Alter> Office<S> {
             → OnOk result (IsAwake (state S.Store self.new)) }
         ensures clean { HasCleanDisk (state S.Store self.new)
             → HasCleanDisk (state S.Store self.old) }
+        ensures survives { Survives (state S.Store self.old) (state S.Store self.new) (λ _. ⊥) }
     {
         let _at_rest = self.conn.is_autocommit(); // read for what it says of the last commit
         let rows = student_shares(alloc, &mut self.conn)?;
@@ -112,6 +116,7 @@ impl<S: Alter> Office<S> {
             → OnOk result (IsAwake (state S.Store self.new)) }
         ensures clean { HasCleanDisk (state S.Store self.new)
             → HasCleanDisk (state S.Store self.old) }
+        ensures survives { Survives (state S.Store self.old) (state S.Store self.new) (λ _. ⊥) }
     {
         let _at_rest = self.conn.is_autocommit(); // read for what it says of the last commit
         let rows = part_shares(alloc, &mut self.conn)?;

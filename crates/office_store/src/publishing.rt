@@ -1,12 +1,13 @@
 // A draft is published.
 ghost use Rattle.std.specs.Prelude.{IfOk, OnOk};
 ghost use Rattle.sqlite.specs.Held.{state};
-ghost use Rattle.sqlite.specs.State.{HasCleanDisk};
+ghost use Rattle.sqlite.specs.State.{HasCleanDisk, Survives};
 ghost use Rattle.office_model.specs.Office.{OfficeState};
 ghost use Rattle.office_model.specs.Publishing.{draft_published};
 ghost use Rattle.office_records.specs.Stands.{IsKept};
 ghost use Rattle.office_store.specs.NewPublications.{AreSmallShares, PutsIn};
 ghost use Rattle.office_store.specs.OfficeRows.{AreRowsOf};
+ghost use Rattle.office_store.specs.Leaving.{Leaves};
 ghost use Rattle.office_store.specs.Running.{IsAwake, IsStill, Runs, StaysOnErr};
 
 use crate::new_publication::{NewPublication, new_publication};
@@ -31,6 +32,7 @@ impl<S: Alter> Office<S> {
         ensures stays { StaysOnErr S.Store self.old self.new result }
         ensures clean { HasCleanDisk (state S.Store self.new)
             → HasCleanDisk (state S.Store self.old) }
+        ensures survives { Leaves S.Store (draft_published number) self.old self.new result }
     {
         let found = self.draft_rows(alloc, number)?;
         let new = self.judged_publication(alloc, number, &found)?;
@@ -56,6 +58,7 @@ impl<S: Alter> Office<S> {
             → OnOk result (IsAwake (state S.Store self.new)) }
         ensures clean { HasCleanDisk (state S.Store self.new)
             → HasCleanDisk (state S.Store self.old) }
+        ensures survives { Survives (state S.Store self.old) (state S.Store self.new) (λ _. ⊥) }
     {
         let _at_rest = self.conn.is_autocommit(); // read for what it says of the last commit
         let Some((instance, enrolments)) = &self.kept else {

@@ -1,8 +1,8 @@
 // A publication is put in, all of it or nothing.
 ghost use Rattle.std.specs.Prelude.{◌≡◌, false, OnErr, OnOk};
 ghost use Rattle.sqlite.specs.Held.{state};
-ghost use Rattle.sqlite.specs.State.{HasCleanDisk};
-ghost use Rattle.office_tables.specs.Alterations.{Changed, Undone};
+ghost use Rattle.sqlite.specs.State.{HasCleanDisk, Survives};
+ghost use Rattle.office_tables.specs.Alterations.{Changed, HoldsChanged, Undone};
 ghost use Rattle.office_tables.specs.Steps.{Changes, Within};
 ghost use Rattle.office_store.specs.PublicationChanges.{places_put, publication_put, shares_put};
 ghost use Rattle.office_store.specs.NewPublications.{AreSmallShares};
@@ -27,6 +27,8 @@ pub(crate) fn put_publication<S: Alter>(
         → OnErr result (Undone (state S.Store conn.old) (state S.Store conn.new)) }
     ensures rests { conn.new.in_transaction ≡ false }
     ensures clean { HasCleanDisk (state S.Store conn.new) → HasCleanDisk (state S.Store conn.old) }
+    ensures survives { Survives (state S.Store conn.old) (state S.Store conn.new)
+        (HoldsChanged (publication_put new.now) (state S.Store conn.old)) }
 {
     transact(conn, new)?;
     Ok(())

@@ -1,7 +1,7 @@
 // What is shown of the office: its session, and its drafts.
 ghost use Rattle.std.specs.Prelude.{◌≡◌, IfErr, IfOk, IsPermutation, IsTrue, OnOk, Some, length};
 ghost use Rattle.sqlite.specs.Held.{state};
-ghost use Rattle.sqlite.specs.State.{HasCleanDisk};
+ghost use Rattle.sqlite.specs.State.{HasCleanDisk, Survives};
 ghost use Rattle.exam_model.specs.Enrolments.{Enrolled};
 ghost use Rattle.exam_model.specs.Fits.{Fits};
 ghost use Rattle.exam_score.specs.Track.{track};
@@ -65,6 +65,7 @@ impl<S: Alter> Office<S> {
             → OnOk result (IsAwake (state S.Store self.new)) }
         ensures clean { HasCleanDisk (state S.Store self.new)
             → HasCleanDisk (state S.Store self.old) }
+        ensures survives { Survives (state S.Store self.old) (state S.Store self.new) (λ _. ⊥) }
     {
         let found = self.draft_rows(alloc, number)?;
         let Some((instance, _)) = &self.kept else {
@@ -85,6 +86,7 @@ impl<S: Alter> Office<S> {
             → OnOk result (IsAwake (state S.Store self.new)) }
         ensures clean { HasCleanDisk (state S.Store self.new)
             → HasCleanDisk (state S.Store self.old) }
+        ensures survives { Survives (state S.Store self.old) (state S.Store self.new) (λ _. ⊥) }
     {
         let rows = self.draft_rows(alloc, number)?;
         let Some((instance, enrolments)) = &self.kept else {
@@ -104,6 +106,7 @@ impl<S: Alter> Office<S> {
             → OnOk result (IsAwake (state S.Store self.new)) }
         ensures clean { HasCleanDisk (state S.Store self.new)
             → HasCleanDisk (state S.Store self.old) }
+        ensures survives { Survives (state S.Store self.old) (state S.Store self.new) (λ _. ⊥) }
     {
         let rows = self.drafts(alloc, number)?;
         if rows.is_empty() {
@@ -126,6 +129,7 @@ impl<S: Alter> Office<S> {
             → OnOk result (IsAwake (state S.Store self.new)) }
         ensures clean { HasCleanDisk (state S.Store self.new)
             → HasCleanDisk (state S.Store self.old) }
+        ensures survives { Survives (state S.Store self.old) (state S.Store self.new) (λ _. ⊥) }
     {
         let _at_rest = self.conn.is_autocommit(); // read for what it says of the last commit
         let rows = slots_of(alloc, &mut self.conn, number)?;

@@ -1,7 +1,7 @@
 // Whether a failure of the disk has shut the store.
 ghost use Rattle.std.specs.Prelude.{◌≡◌, IfErr, IfOk, MatchBool, None, Some};
 ghost use Rattle.sqlite.specs.Held.{state};
-ghost use Rattle.sqlite.specs.State.{HasCleanDisk};
+ghost use Rattle.sqlite.specs.State.{HasCleanDisk, Survives};
 ghost use Rattle.office_store.specs.Running.{IsAwake, IsStill};
 ghost use Rattle.office_store.specs.Shut.{IsShut};
 
@@ -21,6 +21,7 @@ impl<S: Alter> Office<S> {
         ensures fault { IfErr result (λ e. e ≡ StoreFault.Store) }
         ensures clean { HasCleanDisk (state S.Store self.new)
             → HasCleanDisk (state S.Store self.old) }
+        ensures survives { Survives (state S.Store self.old) (state S.Store self.new) (λ _. ⊥) }
     {
         let _at_rest = self.conn.is_autocommit(); // read for what it says of the last commit
         // The empty statement does nothing, and a store that is shut refuses it too.

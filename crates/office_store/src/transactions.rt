@@ -1,11 +1,12 @@
 // Whole transactions: all of it is done, or nothing.
 ghost use Rattle.std.specs.Prelude.{◌≡◌, false, OnOk, OnErr};
 ghost use Rattle.sqlite.specs.Held.{state};
-ghost use Rattle.sqlite.specs.State.{HasCleanDisk};
-ghost use Rattle.office_tables.specs.Alterations.{Changed, Undone};
+ghost use Rattle.sqlite.specs.State.{HasCleanDisk, Survives};
+ghost use Rattle.office_tables.specs.Alterations.{Changed, HoldsChanged, Undone};
 ghost use Rattle.office_tables.specs.Schema.{no_schema, IsBlank};
 ghost use Rattle.office_tables.specs.Standing.{Stands};
 ghost use Rattle.office_tables.specs.Tables.{empty_tables};
+ghost use Rattle.office_store.specs.Leaving.{found_in};
 ghost use Rattle.office_store.specs.Transactions.{Turned};
 
 use crate::fault::Failed;
@@ -21,6 +22,9 @@ pub(crate) fn make_tables<S: Alter>(conn: &mut Connection<S>) -> Result<(), Fail
         → OnErr result (Undone (state S.Store conn.old) (state S.Store conn.new)) }
     ensures rests { conn.new.in_transaction ≡ false }
     ensures clean { HasCleanDisk (state S.Store conn.new) → HasCleanDisk (state S.Store conn.old) }
+    ensures survives { Survives (state S.Store conn.old) (state S.Store conn.new)
+        (λ found. IsBlank no_schema (state S.Store conn.old).now
+        → Stands (found_in found) empty_tables) }
 {
     let mut tx = conn.transaction();
     create_tables(&mut tx)?;
@@ -41,6 +45,8 @@ pub(crate) fn put<S: Alter, A: Alteration>(
         → OnErr result (Undone (state S.Store conn.old) (state S.Store conn.new)) }
     ensures rests { conn.new.in_transaction ≡ false }
     ensures clean { HasCleanDisk (state S.Store conn.new) → HasCleanDisk (state S.Store conn.old) }
+    ensures survives { Survives (state S.Store conn.old) (state S.Store conn.new)
+        (HoldsChanged (A.alteration alteration.now) (state S.Store conn.old)) }
 {
     transact(conn, alteration)?;
     Ok(())

@@ -1,10 +1,8 @@
 // A candidate's view of the office.
-ghost use Rattle.std.specs.Prelude.{◌≡◌, ◌==◌, ◌<◌, ◌^◌, ℕ, [], ◌∷◌, IfOk, IsPermutation, Ok, OnOk};
-ghost use Rattle.std.specs.Prelude.{Some, filter, find, map};
+ghost use Rattle.std.specs.Prelude.{◌≡◌, ◌==◌, ℕ, IfOk, IsPermutation, OnOk, Some, filter, find, map};
 ghost use Rattle.sqlite.specs.Held.{state};
-ghost use Rattle.sqlite.specs.State.{HasCleanDisk};
+ghost use Rattle.sqlite.specs.State.{HasCleanDisk, Survives};
 ghost use Rattle.exam_publish.specs.Changed.{rows_of};
-ghost use Rattle.exam_score.specs.Penalty.{personal_total};
 ghost use Rattle.office_model.specs.Office.{AreRecords, OfficeState, Records};
 ghost use Rattle.office_model.specs.Publishing.{rows_now};
 ghost use Rattle.office_model.specs.ViewRows.{places_in};
@@ -15,10 +13,9 @@ ghost use Rattle.office_records.specs.Stands.{IsKept};
 ghost use Rattle.office_store.specs.Judging.{listed};
 ghost use Rattle.office_store.specs.OfficeRows.{published_in, student_rows_in};
 ghost use Rattle.office_store.specs.Running.{IsAwake, IsStill, ReadsOffice, Tells};
-ghost use Rattle.office_store.specs.Viewing.{AreHerRows, exams_in, no_share, place_in_row};
-ghost use Rattle.office_store.specs.Viewing.{share_in_row};
-ghost use Rattle.office_tables.specs.declared.share_student.StudentShareRow.{StudentShareRow as ShareRow};
+ghost use Rattle.office_store.specs.Viewing.{AreHerRows, exams_in, place_in_row};
 
+use crate::candidate_share::personal_in;
 use crate::fault::Failed;
 use crate::office::Office;
 use exam_model::{ExamNo, Instance, PeriodNo, Place, RoomNo, StudentNo};
@@ -58,6 +55,7 @@ impl<S: Alter> Office<S> {
             → OnOk result (IsAwake (state S.Store self.new)) }
         ensures clean { HasCleanDisk (state S.Store self.new)
             → HasCleanDisk (state S.Store self.old) }
+        ensures survives { Survives (state S.Store self.old) (state S.Store self.new) (λ _. ⊥) }
     {
         let exams = self.her_exams(alloc, student)?;
         let personal = self.candidate_penalty(alloc, student)?;
@@ -83,6 +81,7 @@ impl<S: Alter> Office<S> {
             → OnOk result (IsAwake (state S.Store self.new)) }
         ensures clean { HasCleanDisk (state S.Store self.new)
             → HasCleanDisk (state S.Store self.old) }
+        ensures survives { Survives (state S.Store self.old) (state S.Store self.new) (λ _. ⊥) }
     {
         let rows = self.her_exams(alloc, student)?;
         Ok(row_of(&rows, exam))
@@ -104,6 +103,7 @@ impl<S: Alter> Office<S> {
             → OnOk result (IsAwake (state S.Store self.new)) }
         ensures clean { HasCleanDisk (state S.Store self.new)
             → HasCleanDisk (state S.Store self.old) }
+        ensures survives { Survives (state S.Store self.old) (state S.Store self.new) (λ _. ⊥) }
     {
         let rows = self.her_shares(alloc, student)?;
         personal_in(&rows)
@@ -119,6 +119,7 @@ impl<S: Alter> Office<S> {
             → OnOk result (IsAwake (state S.Store self.new)) }
         ensures clean { HasCleanDisk (state S.Store self.new)
             → HasCleanDisk (state S.Store self.old) }
+        ensures survives { Survives (state S.Store self.old) (state S.Store self.new) (λ _. ⊥) }
     {
         let found = self.her_rows(alloc, student)?;
         let Some((instance, _)) = &self.kept else {
@@ -139,6 +140,7 @@ impl<S: Alter> Office<S> {
             → OnOk result (IsAwake (state S.Store self.new)) }
         ensures clean { HasCleanDisk (state S.Store self.new)
             → HasCleanDisk (state S.Store self.old) }
+        ensures survives { Survives (state S.Store self.old) (state S.Store self.new) (λ _. ⊥) }
     {
         let enrols = self.her_enrols(alloc, student)?;
         let places = self.her_places(alloc, student)?;
@@ -160,6 +162,7 @@ impl<S: Alter> Office<S> {
             → OnOk result (IsAwake (state S.Store self.new)) }
         ensures clean { HasCleanDisk (state S.Store self.new)
             → HasCleanDisk (state S.Store self.old) }
+        ensures survives { Survives (state S.Store self.old) (state S.Store self.new) (λ _. ⊥) }
     {
         let _at_rest = self.conn.is_autocommit(); // read for what it says of the last commit
         let rows = enrols_of(alloc, &mut self.conn, student.get())?;
@@ -177,6 +180,7 @@ impl<S: Alter> Office<S> {
             → OnOk result (IsAwake (state S.Store self.new)) }
         ensures clean { HasCleanDisk (state S.Store self.new)
             → HasCleanDisk (state S.Store self.old) }
+        ensures survives { Survives (state S.Store self.old) (state S.Store self.new) (λ _. ⊥) }
     {
         let _at_rest = self.conn.is_autocommit(); // read for what it says of the last commit
         let rows = placements_of(alloc, &mut self.conn, student.get())?;
@@ -194,6 +198,7 @@ impl<S: Alter> Office<S> {
             → OnOk result (IsAwake (state S.Store self.new)) }
         ensures clean { HasCleanDisk (state S.Store self.new)
             → HasCleanDisk (state S.Store self.old) }
+        ensures survives { Survives (state S.Store self.old) (state S.Store self.new) (λ _. ⊥) }
     {
         let _at_rest = self.conn.is_autocommit(); // read for what it says of the last commit
         let rows = seats_of(alloc, &mut self.conn, student.get())?;
@@ -215,6 +220,7 @@ impl<S: Alter> Office<S> {
             → OnOk result (IsAwake (state S.Store self.new)) }
         ensures clean { HasCleanDisk (state S.Store self.new)
             → HasCleanDisk (state S.Store self.old) }
+        ensures survives { Survives (state S.Store self.old) (state S.Store self.new) (λ _. ⊥) }
     {
         let _at_rest = self.conn.is_autocommit(); // read for what it says of the last commit
         let rows = student_shares_of(alloc, &mut self.conn, student.get())?;
@@ -273,29 +279,4 @@ fn place_in(row: &PlacedRow) -> (ExamNo, Place)
         room: RoomNo::new(row.room),
     };
     (ExamNo::new(row.exam), place)
-}
-
-// Her share by her row; nothing where she has none. `BadSchema`: there are two rows, or one that
-// no share has.
-fn personal_in(rows: &[StudentShareRow]) -> Result<PersonalParts, StoreFault>
-    ensures none { rows.now ≡ [] → result ≡ Ok no_share }
-    ensures one { (row : ShareRow) → rows.now ≡ row ∷ []
-        → personal_total (share_in_row row) < 2 ^ 62 → result ≡ Ok (share_in_row row) }
-{
-    match share_in(rows) {
-        Some(share) => Ok(share),
-        None => Err(StoreFault::BadSchema),
-    }
-}
-
-fn share_in(rows: &[StudentShareRow]) -> Option<PersonalParts>
-    ensures none { rows.now ≡ [] → result ≡ Some no_share }
-    ensures one { (row : ShareRow) → rows.now ≡ row ∷ []
-        → personal_total (share_in_row row) < 2 ^ 62 → result ≡ Some (share_in_row row) }
-{
-    match rows {
-        [] => PersonalParts::new(0, 0, 0),
-        [row] => PersonalParts::new(row.in_row, row.in_day, row.spread),
-        _ => None,
-    }
 }

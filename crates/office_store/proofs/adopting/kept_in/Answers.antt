@@ -1,8 +1,10 @@
-use Rattle.std.proofs.Common.{rules, ◌≡◌, Some, None, Result, Ok, Err, refl, sym, ◌∙◌, inl, inr, subst}
+use Rattle.std.proofs.Common.{rules, ◌≡◌, Some, None, Result, Ok, Err, length, refl, sym, ◌∙◌, ap, inl, inr, subst}
 use Rattle.std.specs.Prelude.{IfErr, IsSome}
 use Rattle.std.specs.Result.{IsErrAnd}
+use Rattle.std.proofs.lemmas.List.{length-map}
 use Rattle.sqlite.specs.Held.{state}
 use Rattle.office_tables.specs.Adopting.{IsAdopted, tables_of}
+use Rattle.office_tables.specs.Batch.{counts_of}
 use Rattle.office_records.specs.declared.fault.RecordFault.{RecordFault}
 use Rattle.office_records.specs.declared.fault.RecordFault.TheVariants.{NoMemory, BadRows}
 use Rattle.office_records.proofs.ReadableLemmas.{not_foreign}
@@ -13,6 +15,8 @@ use Rattle.office_model.specs.declared.fault.StoreFault.TheVariants.{BadSchema}
 use Rattle.office_store.proofs.AdoptLemmas.{both_same, found_batches, held_still, keeps_still}
 use Rattle.office_store.proofs.AdoptLemmas.{open_still}
 use Rattle.office_store.proofs.AdoptLemmas.{none_long, none_refused}
+use Rattle.office_store.proofs.LeavingLemmas.{survives_on}
+use Rattle.office_store.proofs.CountLemmas.{counted}
 use Rattle.office_store.proofs.adopting.kept_in.Goals as goal
 
 -- the tables are foreign
@@ -132,6 +136,7 @@ returns-clause-kept g c clean =
     let held = held_still g.S.Store old mid t (c.in-Ok-Some.ensures.same clean_mid) adopted.2 in
     let short = c.in_ok-check_bytes.ensures.short clean t held
     (adopted.1 ∙ sym c.deref.ensures.value) in
+    let long : c.len.result ≡ length found.batches.items = search rules in
     let are = c.in_ok-kept.ensures.are adopted.0
     (found_batches db found adopted.0 adopted.1 adopted.2 short) in (
       are.0,
@@ -143,6 +148,8 @@ returns-clause-kept g c clean =
         office = are.3;
       },
       are.4,
+      sym (counted t are.0 are.1) ∙ sym (length-map adopted.0 counts_of) ∙ ap length adopted.1
+          ∙ sym long,
     )
 
 pub returns-clause-together : goal.returns-clause-together
@@ -158,3 +165,15 @@ pub returns-in_err-kept-clause-fault : goal.returns-in_err-kept-clause-fault
 returns-in_err-kept-clause-fault g c =
     of_database c.from_residual.result c.in_err-kept.field-0.0
     c.from_residual.ensures.1
+
+pub returns-in_err-check_bytes-clause-survives : goal.returns-in_err-check_bytes-clause-survives
+returns-in_err-check_bytes-clause-survives g c =
+    survives_on (state g.S.Store c.args.conn.now) (state g.S.Store c.adopt_tables.new.conn)
+    (state g.S.Store c.check_bytes.new.conn) c.adopt_tables.ensures.survives
+    c.check_bytes.ensures.survives
+
+pub returns-clause-survives : goal.returns-clause-survives
+returns-clause-survives g c =
+    survives_on (state g.S.Store c.args.conn.now) (state g.S.Store c.adopt_tables.new.conn)
+    (state g.S.Store c.check_bytes.new.conn) c.adopt_tables.ensures.survives
+    c.check_bytes.ensures.survives

@@ -18,14 +18,16 @@ use Rattle.office_store.proofs.batch_rows.add_rows.Goals as goal
 pub returns-in_err-count-clause-read : goal.returns-in_err-count-clause-read
 returns-in_err-count-clause-read g c =
     let one = c.add_draft.ensures in
-    read_one g.S.Store c.args.conn.now c.add_draft.new.conn one.clean one.was_open one.kept one.mode
+    read_one g.S.Store c.args.conn.now c.add_draft.new.conn one.clean one.survives one.was_open
+    one.kept one.mode
 
 -- there is no such draft
 
 pub returns-then-count-eq0-clause-read : goal.returns-then-count-eq0-clause-read
 returns-then-count-eq0-clause-read g c =
     let one = c.add_draft.ensures in
-    read_one g.S.Store c.args.conn.now c.add_draft.new.conn one.clean one.was_open one.kept one.mode
+    read_one g.S.Store c.args.conn.now c.add_draft.new.conn one.clean one.survives one.was_open
+    one.kept one.mode
 
 pub returns-then-count-eq0-clause-same : goal.returns-then-count-eq0-clause-same
 returns-then-count-eq0-clause-same g c =
@@ -69,9 +71,9 @@ returns-clause-read g c =
     let one = c.add_draft.ensures in
     let two = c.add_slots.ensures in
     read_on g.S.Store start mid end
-    (read_one g.S.Store start mid one.clean one.was_open one.kept one.mode)
+    (read_one g.S.Store start mid one.clean one.survives one.was_open one.kept one.mode)
     (λ clean t stands _. c.in_ok-count.ensures.same clean t stands)
-    (read_one g.S.Store mid end two.clean two.was_open two.kept two.mode)
+    (read_one g.S.Store mid end two.clean two.survives two.was_open two.kept two.mode)
 
 pub returns-clause-same : goal.returns-clause-same
 returns-clause-same g c =
@@ -81,9 +83,10 @@ returns-clause-same g c =
     let one = c.add_draft.ensures in
     let two = c.add_slots.ensures in
     same_then g.S.Store start mid end
-    (read_one g.S.Store start mid one.clean one.was_open one.kept one.mode)
+    (read_one g.S.Store start mid one.clean one.survives one.was_open one.kept one.mode)
     (λ clean t stands _. c.in_ok-count.ensures.same clean t stands)
-    (read_one g.S.Store mid end two.clean two.was_open two.kept two.mode) c.add_slots.result
+    (read_one g.S.Store mid end two.clean two.survives two.was_open two.kept two.mode)
+    c.add_slots.result
     two.same
 
 pub returns-clause-rows : goal.returns-clause-rows

@@ -7,11 +7,14 @@ use Rattle.office_records.specs.FoundBatches.{IsShort}
 use Rattle.office_records.proofs.BatchRowLemmas.{no_row, short_by_rows}
 use Rattle.office_records.proofs.PlacedSeatLemmas.{pushed}
 use Rattle.office_store.proofs.AdoptLemmas.{held_still, keeps_still, kept_by, same_then}
+use Rattle.office_store.proofs.LeavingLemmas.{survives_on, survives_same}
+use Rattle.sqlite.specs.Held.{state}
 use Rattle.office_store.proofs.kept_bytes.check_bytes.Goals as goal
 
 pub batches-init : goal.batches-init
 batches-init g c = record {
   clean = λ clean. clean;
+  survives = survives_same (state g.S.Store c.args.conn.now);
   mode = λ rests. rests;
   same = λ clean t held. inl refl;
   short = λ clean t held k d none. absurd (omega (arith, none));
@@ -25,6 +28,8 @@ batches-preserved g c =
     let new = c.check_batch.new.conn in
     record {
       clean = λ clean. before.clean (c.check_batch.ensures.clean clean);
+      survives = survives_on (state g.S.Store old) (state g.S.Store mid) (state g.S.Store new)
+          before.survives c.check_batch.ensures.survives;
       mode = λ rests. c.check_batch.ensures.mode (before.mode rests);
       same = λ clean t held.
           let same = before.same (c.check_batch.ensures.clean clean) t held in
@@ -67,3 +72,9 @@ pub returns-clause-kept : goal.returns-clause-kept
 returns-clause-kept g c clean t held =
     kept_by g.S.Store c.args.conn.now c.batches.conn (c.batches.invariant.same clean t held)
     c.batches.invariant.mode
+
+pub returns-in_err-check_batch-clause-survives : goal.returns-in_err-check_batch-clause-survives
+returns-in_err-check_batch-clause-survives g c =
+    survives_on (state g.S.Store c.args.conn.now) (state g.S.Store c.batches.conn)
+    (state g.S.Store c.check_batch.new.conn) c.batches.invariant.survives
+    c.check_batch.ensures.survives

@@ -1,7 +1,7 @@
 use Rattle.std.specs.Prelude.{◌≡◌, ◌⊎◌, ◌==◌, All, false, filter, take}
 use Rattle.std.specs.List.{AllByRecursion}
 use Rattle.sqlite.specs.Held.{state}
-use Rattle.sqlite.specs.State.{HasCleanDisk, IsUnchanged}
+use Rattle.sqlite.specs.State.{HasCleanDisk, IsUnchanged, Survives}
 use Rattle.office_tables.specs.Tables.{Tables}
 use Rattle.office_tables.specs.Standing.{Stands}
 use Rattle.office_tables.specs.declared.batch.BatchCountsRow.{BatchCountsRow}
@@ -14,6 +14,7 @@ invariant-batches g l =
     let now = state g.S.Store l.conn in
     record {
       clean : HasCleanDisk now → HasCleanDisk old;
+      survives : Survives old now (λ _. ⊥);
       mode : l.fn.conn.in_transaction ≡ false → l.conn.in_transaction ≡ false;
       same : HasCleanDisk now → (t : Tables) → Stands old.now t
           → (l.conn ≡ l.fn.conn) ⊎ IsUnchanged old now;

@@ -1,4 +1,5 @@
-use Rattle.std.proofs.Common.{◌≡◌, ◌∙◌, All, Err, IfErr, List, map, refl, rules, sym, ap, subst}
+use Rattle.std.proofs.Common.{◌≡◌, ◌∙◌, All, Err, IfErr, List, Some, map, refl, rules, sym, ap, subst}
+use Rattle.exam_model.specs.Enrolments.{Enrolled}
 use Rattle.exam_model.specs.Instance.{Session}
 use Rattle.office_tables.specs.Draft.{AreAmounts}
 use Rattle.office_tables.specs.declared.draft.InsertDraft.{InsertDraft}
@@ -28,10 +29,12 @@ returns-in_err-rows-clause-fault g c clean t held opened r stands sound office s
     (subst (λ (l : List SlotRow). AreDrafts I r.enrolments c.deref.result.now l r.draft)
     (sym c.deref-2.ensures.value) read)))
 
+some_is : {X : Type 0} {x y : X} → Some x ≡ Some y → x ≡ y
+some_is e = cc
+
 pub returns-clause-drafts : goal.returns-clause-drafts
-returns-clause-drafts g c clean t held opened r stands sound office session some =
+returns-clause-drafts g c clean t held opened r stands sound office session E is =
     let I = c.args.instance.now in
-    let E = c.args.made.now.enrolments in
     let found = c.in_ok-found.found in
     let here = subst (λ (J : Session). AreDrafts J r.enrolments found.drafts.items
     found.slots.items r.draft) session
@@ -41,8 +44,11 @@ returns-clause-drafts g c clean t held opened r stands sound office session some
     let again = c.in_ok-rows.ensures.are r.enrolments r.draft
     (subst (λ (l : List SlotRow). AreDrafts I r.enrolments c.deref.result.now l r.draft)
     (sym c.deref-2.ensures.value) read) in
-    let placed = subst (λ (l : List SlotRow). AreDrafts I E c.in_ok-rows.rows.items l r.draft)
-    c.deref-2.ensures.value again in
+    let same : c.in-Some.enrolments ≡ E = some_is (sym c.in-Some.is ∙ is) in
+    let placed = subst (λ (F : Enrolled). AreDrafts I F c.in_ok-rows.rows.items found.slots.items
+    r.draft) same
+    (subst (λ (l : List SlotRow). AreDrafts I c.in-Some.enrolments c.in_ok-rows.rows.items l
+    r.draft) c.deref-2.ensures.value again) in
     let back : map (λ (it : InsertDraft). it.row) c.in_ok-drafts.drafts.items
     ≡ c.in_ok-rows.rows.items
     = ap (map (λ (it : InsertDraft). it.row)) c.in_ok-drafts.ensures

@@ -10,7 +10,8 @@ pub returns-in_err-placements-clause-read : goal.returns-in_err-placements-claus
 returns-in_err-placements-clause-read g c =
     let first = c.placements.ensures in
     read_one g.S.Store c.args.conn.now c.placements.new.conn
-    (λ k. omega (arith, c.placements.ensures.survives.clean, k)) first.was_open first.kept
+    (λ k. omega (arith, c.placements.ensures.survives.clean, k)) first.survives first.was_open
+    first.kept
     first.mode
 
 pub returns-in_err-seats-clause-read : goal.returns-in_err-seats-clause-read
@@ -22,10 +23,10 @@ returns-in_err-seats-clause-read g c =
     let last = c.seats.ensures in
     read_on g.S.Store start mid end
     (read_one g.S.Store start mid (λ k. omega (arith, c.placements.ensures.survives.clean, k))
-    first.was_open first.kept first.mode)
+    first.survives first.was_open first.kept first.mode)
     (λ clean t stands _. c.in_ok-placements.ensures.same clean t stands)
     (read_one g.S.Store mid end (λ k. omega (arith, c.seats.ensures.survives.clean, k))
-    last.was_open last.kept last.mode)
+    last.survives last.was_open last.kept last.mode)
 
 pub returns-clause-read : goal.returns-clause-read
 returns-clause-read g c =
@@ -36,10 +37,10 @@ returns-clause-read g c =
     let last = c.seats.ensures in
     read_on g.S.Store start mid end
     (read_one g.S.Store start mid (λ k. omega (arith, c.placements.ensures.survives.clean, k))
-    first.was_open first.kept first.mode)
+    first.survives first.was_open first.kept first.mode)
     (λ clean t stands _. c.in_ok-placements.ensures.same clean t stands)
     (read_one g.S.Store mid end (λ k. omega (arith, c.seats.ensures.survives.clean, k))
-    last.was_open last.kept last.mode)
+    last.survives last.was_open last.kept last.mode)
 
 pub returns-clause-same : goal.returns-clause-same
 returns-clause-same g c =
@@ -50,10 +51,10 @@ returns-clause-same g c =
     let last = c.seats.ensures in
     same_on g.S.Store start mid end
     (read_one g.S.Store start mid (λ k. omega (arith, c.placements.ensures.survives.clean, k))
-    first.was_open first.kept first.mode)
+    first.survives first.was_open first.kept first.mode)
     (λ clean t stands _. c.in_ok-placements.ensures.same clean t stands)
     (read_one g.S.Store mid end (λ k. omega (arith, c.seats.ensures.survives.clean, k))
-    last.was_open last.kept last.mode)
+    last.survives last.was_open last.kept last.mode)
     (λ clean t stands _. c.in_ok-seats.ensures.same clean t stands)
 
 pub returns-clause-open : goal.returns-clause-open

@@ -1,6 +1,7 @@
 use Rattle.std.proofs.Common.{◌≡◌, inr, refl, Bool, true, false, not}
 use Rattle.sqlite.specs.Held.{state}
 use Rattle.office_store.proofs.AdoptLemmas.{awake_still, kept_still, undone_reading}
+use Rattle.office_store.proofs.LeavingLemmas.{survives_same}
 use Rattle.office_store.proofs.office.Office.adopt.Goals as goal
 
 at_rest : (answer within : Bool) → answer ≡ not within → answer ≡ true → within ≡ false
@@ -17,6 +18,7 @@ invariant_of-result g c =
             kept_still g.S.Store c.args.conn c.kept_in.new.conn here.0 (c.in-Ok.ensures.same clean)
                 here.1,
             here.2,
+            here.3,
           )),
       c.in-Ok.ensures.together,
     )
@@ -41,3 +43,8 @@ pub returns-in-Err-clause-undone : goal.returns-in-Err-clause-undone
 returns-in-Err-clause-undone g c =
     inr (λ clean. undone_reading (state g.S.Store c.args.conn) (state g.S.Store c.kept_in.new.conn)
     (c.is_autocommit.ensures.settled c.if-not-is_autocommit.false) (c.in-Err.ensures.keeps clean))
+
+pub returns-then-not-is_autocommit-clause-survives
+    : goal.returns-then-not-is_autocommit-clause-survives
+returns-then-not-is_autocommit-clause-survives g c =
+    survives_same (state g.S.Store c.args.conn)

@@ -9,6 +9,8 @@ use Rattle.office_model.specs.Office.{OfficeState}
 use Rattle.office_records.specs.TableRows.{once, slot_rows}
 use Rattle.office_store.specs.OfficeRows.{AreRowsOf, AreScored}
 use Rattle.office_store.proofs.CallLemmas.{no_row}
+use Rattle.sqlite.specs.Held.{state}
+use Rattle.office_store.proofs.LeavingLemmas.{survives_on}
 use Rattle.office_store.proofs.office.Office.draft_rows.Goals as goal
 
 -- a draft that has no row has no place
@@ -32,3 +34,15 @@ returns-then-is_empty-clause-rows g c clean office kept =
     no_draft office c.args.number _ c.in_ok-rows.rows.items c.new-slots.result.items
     c.in_ok-rows.rows.ok.0 c.if-is_empty.ensures none (c.in_ok-rows.ensures.rows clean office kept)
     (c.in_ok-rows.ensures.scored clean office kept)
+
+pub returns-in_err-slots-clause-survives : goal.returns-in_err-slots-clause-survives
+returns-in_err-slots-clause-survives g c =
+    survives_on (state g.S.Store c.args.self.now) (state g.S.Store c.drafts.new.self)
+    (state g.S.Store c.slots.new.self) c.drafts.ensures.survives
+    c.slots.ensures.survives
+
+pub returns-clause-survives : goal.returns-clause-survives
+returns-clause-survives g c =
+    survives_on (state g.S.Store c.args.self.now) (state g.S.Store c.drafts.new.self)
+    (state g.S.Store c.slots.new.self) c.drafts.ensures.survives
+    c.slots.ensures.survives

@@ -3,6 +3,7 @@ use Rattle.sqlite.specs.Held.{state}
 use Rattle.office_store.proofs.DraftLemmas.{draft_read}
 use Rattle.office_store.proofs.ReadLemmas.{scored_read}
 use Rattle.office_store.proofs.RunLemmas.{kept_read, rest_read}
+use Rattle.office_store.proofs.LeavingLemmas.{survives_at}
 use Rattle.office_store.proofs.office.Office.drafts.Goals as goal
 
 pub invariant_of-self : goal.invariant_of-self
@@ -38,3 +39,13 @@ returns-clause-scored g c clean office here =
     c.in_ok-rows.ensures.open c.in_ok-rows.ensures.same clean office here in
     scored_read kept.held office c.args.number c.in_ok-rows.rows.items kept.sound
     (c.in_ok-rows.ensures.rows clean kept.held kept.tables)
+
+pub returns-in_err-rows-clause-survives : goal.returns-in_err-rows-clause-survives
+returns-in_err-rows-clause-survives g c =
+    survives_at g.S.Store c.args.self.now c.self.inside.conn c.drafts_of.new.conn _ c.self.view_is
+    c.drafts_of.ensures.survives
+
+pub returns-clause-survives : goal.returns-clause-survives
+returns-clause-survives g c =
+    survives_at g.S.Store c.args.self.now c.self.inside.conn c.drafts_of.new.conn _ c.self.view_is
+    c.drafts_of.ensures.survives

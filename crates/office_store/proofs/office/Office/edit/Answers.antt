@@ -1,4 +1,4 @@
-use Rattle.std.proofs.Common.{rules, ◌≡◌, ◌∙◌, Err, subst, sym}
+use Rattle.std.proofs.Common.{rules, ◌≡◌, ◌∙◌, Err, subst, sym, Ok, refl}
 use Rattle.sqlite.specs.Held.{state}
 use Rattle.exam_draft.specs.Judged.{edited_exams}
 use Rattle.office_model.specs.DraftCommands.{draft_edited}
@@ -6,6 +6,8 @@ use Rattle.office_store.specs.Running.{Runs}
 use Rattle.office_store.proofs.CommandLemmas.{rests, runs, stays_by, stays_undone}
 use Rattle.office_store.proofs.EditCallLemmas.{edit_moves}
 use Rattle.office_store.proofs.RunLemmas.{now_still, still_then}
+use Rattle.office_store.proofs.LeavingLemmas.{survives_more, survives_on, is_failed, leaves_by}
+use Rattle.exam_score.specs.Penalty.{total_of}
 use Rattle.office_store.proofs.office.Office.edit.Goals as goal
 
 pub returns-in_err-timetable-clause-runs : goal.returns-in_err-timetable-clause-runs
@@ -47,9 +49,10 @@ returns-clause-runs g c =
     (λ k. still_then (state g.S.Store c.args.self.now) (state g.S.Store c.draft_rows.new.self)
     (state g.S.Store c.edited_draft.new.self)
     (c.in_ok-found.ensures.still (c.edited_draft.ensures.clean k)) (c.edited_draft.ensures.still k))
-    c.put.new.conn c.self.inside.kept c.total.result c.put.ensures.clean
+    c.put.new.conn c.self.inside.kept (λ k. k) c.total.result c.put.ensures.clean
     (λ k. edit_moves g.S.Store c.draft_rows.new.self c.edited_draft.new.self c.self.inside.conn
-    c.self.view_is c.args.number c.args.edit c.put.new.conn c.self.inside.kept
+    c.self.view_is c.args.number c.args.edit (state g.S.Store c.put.new.conn).now
+    c.self.inside.kept
     (c.in_ok-timetable.timetable, c.in_ok-timetable.parts) c.draft_row-row.result c.total.result
     c.deref.result.now c.deref-2.result.now
     (λ k. c.in_ok-found.ensures.awake (c.edited_draft.ensures.clean k))
@@ -69,11 +72,12 @@ invariant_of-self-2 g c =
       c.in_ok-put.ensures.rests,
       rests (draft_edited c.args.number c.args.edit) (state g.S.Store c.self.inside.conn)
           (state g.S.Store c.put.new.conn) c.self.inside.kept c.self.inside.kept
-          c.total.result c.self.invariant.1 c.put.ensures.clean
+          (λ k. k) c.total.result c.self.invariant.1 c.put.ensures.clean
           (λ k. (c.in_ok-put.ensures.done k).was_open)
           (λ k. edit_moves g.S.Store c.draft_rows.new.self c.edited_draft.new.self
           c.self.inside.conn
-          c.self.view_is c.args.number c.args.edit c.put.new.conn c.self.inside.kept
+          c.self.view_is c.args.number c.args.edit (state g.S.Store c.put.new.conn).now
+          c.self.inside.kept
           (c.in_ok-timetable.timetable, c.in_ok-timetable.parts)
           c.draft_row-row.result c.total.result
           c.deref.result.now c.deref-2.result.now
@@ -89,3 +93,91 @@ invariant_of-self-2 g c =
           (c.put.ensures.clean k) (c.in_ok-put.ensures.done k).makes),
       c.self.invariant.2,
     )
+
+pub returns-in_err-found-clause-survives : goal.returns-in_err-found-clause-survives
+returns-in_err-found-clause-survives g c =
+    survives_more (state g.S.Store c.args.self.now) (state g.S.Store c.draft_rows.new.self) _
+    c.draft_rows.ensures.survives
+
+pub returns-in_err-timetable-clause-survives : goal.returns-in_err-timetable-clause-survives
+returns-in_err-timetable-clause-survives g c =
+    survives_more (state g.S.Store c.args.self.now) (state g.S.Store c.edited_draft.new.self) _
+    (survives_on (state g.S.Store c.args.self.now) (state g.S.Store c.draft_rows.new.self)
+    (state g.S.Store c.edited_draft.new.self) c.draft_rows.ensures.survives
+    c.edited_draft.ensures.survives)
+
+pub returns-in_err-exams-clause-survives : goal.returns-in_err-exams-clause-survives
+returns-in_err-exams-clause-survives g c =
+    survives_more (state g.S.Store c.args.self.now) (state g.S.Store c.edited_draft.new.self) _
+    (survives_on (state g.S.Store c.args.self.now) (state g.S.Store c.draft_rows.new.self)
+    (state g.S.Store c.edited_draft.new.self) c.draft_rows.ensures.survives
+    c.edited_draft.ensures.survives)
+
+pub returns-in_err-places-clause-survives : goal.returns-in_err-places-clause-survives
+returns-in_err-places-clause-survives g c =
+    survives_more (state g.S.Store c.args.self.now) (state g.S.Store c.edited_draft.new.self) _
+    (survives_on (state g.S.Store c.args.self.now) (state g.S.Store c.draft_rows.new.self)
+    (state g.S.Store c.edited_draft.new.self) c.draft_rows.ensures.survives
+    c.edited_draft.ensures.survives)
+
+pub returns-in_err-put-clause-survives : goal.returns-in_err-put-clause-survives
+returns-in_err-put-clause-survives g c =
+    let exams : c.deref.result.now ≡ edited_exams c.args.edit = search rules in
+    let first = c.draft_rows.new.self in
+    let mid = c.edited_draft.new.self in
+    leaves_by g.S.Store (draft_edited c.args.number c.args.edit) c.args.self.now mid
+    c.self.inside.conn c.put.new.conn c.self.inside.kept c.self.inside.kept (λ k. k) c.self.view_is
+    c.self.invariant.1
+    (λ k. c.in_ok-timetable.ensures.awake k
+    (c.in_ok-found.ensures.awake (c.edited_draft.ensures.clean k)))
+    (λ k. still_then (state g.S.Store c.args.self.now) (state g.S.Store first)
+    (state g.S.Store mid) (c.in_ok-found.ensures.still (c.edited_draft.ensures.clean k))
+    (c.edited_draft.ensures.still k))
+    (survives_on (state g.S.Store c.args.self.now) (state g.S.Store first) (state g.S.Store mid)
+    c.draft_rows.ensures.survives c.edited_draft.ensures.survives)
+    _ (total_of c.in_ok-timetable.parts) c.put.ensures.survives
+    (λ k found changed. edit_moves g.S.Store first mid c.self.inside.conn c.self.view_is
+    c.args.number c.args.edit _ c.self.inside.kept
+    (c.in_ok-timetable.timetable, c.in_ok-timetable.parts) c.draft_row-row.result
+    (total_of c.in_ok-timetable.parts) c.deref.result.now c.deref-2.result.now
+    (λ k. c.in_ok-found.ensures.awake (c.edited_draft.ensures.clean k))
+    c.edited_draft.ensures.still
+    (λ k. c.in_ok-timetable.ensures.awake k
+    (c.in_ok-found.ensures.awake (c.edited_draft.ensures.clean k)))
+    (λ k o kept. c.in_ok-timetable.ensures.edits k
+    (c.in_ok-found.ensures.awake (c.edited_draft.ensures.clean k)) o kept
+    (c.in_ok-found.ensures.rows (c.edited_draft.ensures.clean k) o kept))
+    c.draft_row-row.ensures.number c.draft_row-row.ensures.parts refl exams
+    (c.deref-2.ensures.value ∙ c.in_ok-places.ensures) (c.put.ensures.clean k) changed)
+    c.from_residual-in_err-put.result (is_failed _ c.from_residual-in_err-put.ensures.1)
+
+pub returns-clause-survives : goal.returns-clause-survives
+returns-clause-survives g c =
+    let exams : c.deref.result.now ≡ edited_exams c.args.edit = search rules in
+    let first = c.draft_rows.new.self in
+    let mid = c.edited_draft.new.self in
+    leaves_by g.S.Store (draft_edited c.args.number c.args.edit) c.args.self.now mid
+    c.self.inside.conn c.put.new.conn c.self.inside.kept c.self.inside.kept (λ k. k) c.self.view_is
+    c.self.invariant.1
+    (λ k. c.in_ok-timetable.ensures.awake k
+    (c.in_ok-found.ensures.awake (c.edited_draft.ensures.clean k)))
+    (λ k. still_then (state g.S.Store c.args.self.now) (state g.S.Store first)
+    (state g.S.Store mid) (c.in_ok-found.ensures.still (c.edited_draft.ensures.clean k))
+    (c.edited_draft.ensures.still k))
+    (survives_on (state g.S.Store c.args.self.now) (state g.S.Store first) (state g.S.Store mid)
+    c.draft_rows.ensures.survives c.edited_draft.ensures.survives)
+    _ (total_of c.in_ok-timetable.parts) c.put.ensures.survives
+    (λ k found changed. edit_moves g.S.Store first mid c.self.inside.conn c.self.view_is
+    c.args.number c.args.edit _ c.self.inside.kept
+    (c.in_ok-timetable.timetable, c.in_ok-timetable.parts) c.draft_row-row.result
+    (total_of c.in_ok-timetable.parts) c.deref.result.now c.deref-2.result.now
+    (λ k. c.in_ok-found.ensures.awake (c.edited_draft.ensures.clean k))
+    c.edited_draft.ensures.still
+    (λ k. c.in_ok-timetable.ensures.awake k
+    (c.in_ok-found.ensures.awake (c.edited_draft.ensures.clean k)))
+    (λ k o kept. c.in_ok-timetable.ensures.edits k
+    (c.in_ok-found.ensures.awake (c.edited_draft.ensures.clean k)) o kept
+    (c.in_ok-found.ensures.rows (c.edited_draft.ensures.clean k) o kept))
+    c.draft_row-row.ensures.number c.draft_row-row.ensures.parts refl exams
+    (c.deref-2.ensures.value ∙ c.in_ok-places.ensures) (c.put.ensures.clean k) changed)
+    (Ok c.total.result) tt

@@ -2,6 +2,7 @@ use Rattle.std.proofs.Common.{subst}
 use Rattle.sqlite.specs.Held.{state}
 use Rattle.sqlite.specs.State.{HasCleanDisk}
 use Rattle.office_store.proofs.EditCallLemmas.{edits_at_hand, none_at_hand}
+use Rattle.office_store.proofs.LeavingLemmas.{survives_same, survives_at}
 use Rattle.office_store.proofs.office.Office.edited_draft.Goals as goal
 
 pub returns-in_default-clause-edits : goal.returns-in_default-clause-edits
@@ -18,3 +19,12 @@ returns-clause-edits g c clean awake office kept are =
     c.in-Some.enrolments c.in-Some.is c.args.found.now.rows.items c.args.found.now.slots.items
     c.edited_in.result (subst (λ h. HasCleanDisk (state g.S.Store h)) c.self.view_is before) awake
     office kept are (c.edited_in.ensures.edits clean)
+
+pub returns-in_default-clause-survives : goal.returns-in_default-clause-survives
+returns-in_default-clause-survives g c =
+    survives_same (state g.S.Store c.args.self.now)
+
+pub returns-clause-survives : goal.returns-clause-survives
+returns-clause-survives g c =
+    survives_at g.S.Store c.args.self.now c.self.inside.conn c.edited_in.new.conn _ c.self.view_is
+    c.edited_in.ensures.read.survives

@@ -1,15 +1,21 @@
-use Rattle.std.proofs.Common.{rules, ◌≡◌, ◌∙◌, Err, None, Some, ap, arith, not, refl, sym, subst}
+use Rattle.std.proofs.Common.{rules, ◌≡◌, ◌+◌, ◌∙◌, Err, None, Some, ap, arith, not, refl, sym, subst}
 use Rattle.std.proofs.lemmas.Result.{err_from_is_err_and}
 use Rattle.sqlite.specs.Held.{state}
 use Rattle.office_model.specs.Batches.{batch_enrolled, kept_in}
 use Rattle.office_model.specs.declared.fault.StoreFault.TheVariants.{NotLoaded, Store}
+use Rattle.office_enrolment.specs.AfterBatch.{latest}
 use Rattle.office_store.specs.NewBatches.{new_batch_put}
 use Rattle.office_store.specs.Running.{IsAtRest, Runs}
 use Rattle.office_records.specs.Memory.{AreTogether}
 use Rattle.office_store.proofs.BatchPuttingLemmas.{enrol_denied, enrol_moves}
 use Rattle.office_store.proofs.CommandLemmas.{awake_inside, not_loaded, refuses, refuses_on, rests}
 use Rattle.office_store.proofs.CommandLemmas.{runs, seen, stays_on}
+use Rattle.office_store.proofs.CountLemmas.{count_at_hand}
+use Rattle.office_store.proofs.NewBatchLemmas.{latest_exams}
 use Rattle.office_store.proofs.RunLemmas.{made_on, rest_failed, rest_read, still_failed, still_read}
+use Rattle.office_store.proofs.LeavingLemmas.{survives_more, survives_same, survives_at, changed_on}
+use Rattle.office_store.proofs.LeavingLemmas.{is_failed, leaves_by}
+use Rattle.std.proofs.Common.{Ok}
 use Rattle.office_store.proofs.office.Office.enrol_new.Goals as goal
 
 pub returns-in_default-clause-runs : goal.returns-in_default-clause-runs
@@ -56,8 +62,11 @@ returns-in_err-new-clause-runs g c =
     (seen g.S.Store start inside c.self.view_is (λ o. kept_in o number ≡ None)
     c.requires.is_new (read.clean k))
     fault
-    (c.in_err-new.ensures.enrols k
-    (awake_inside g.S.Store start inside c.self.view_is c.requires.awake (read.clean k)))))
+    (let awake = awake_inside g.S.Store start inside c.self.view_is c.requires.awake
+    (read.clean k) in
+    λ r here is. c.in_err-new.ensures.enrols k awake r here is
+    (count_at_hand (state g.S.Store inside) _ _ (Some r) c.self.invariant.1 (read.clean k) awake.0
+    here))))
 
 pub returns-in_err-new-clause-stays : goal.returns-in_err-new-clause-stays
 returns-in_err-new-clause-stays g c =
@@ -132,10 +141,11 @@ returns-clause-runs g c =
     let read = c.new_batch.ensures.read in
     let put = c.put_batch.ensures in
     let I = c.in-Some.instance in
+    let E = c.in-Some.enrolments in
     let new = c.in_ok-new.new in
     runs g.S.Store (batch_enrolled number text) start start inside c.self.inside.kept
     c.self.view_is c.self.invariant.1 c.requires.awake (λ _ opened. (opened, refl)) after
-    (Some (I, new.enrolments)) new.counts (λ k. read.clean (put.clean k))
+    (Some (I, latest new.enrolments E)) (λ k. k + 1) new.counts (λ k. read.clean (put.clean k))
     (λ k. let clean = read.clean (put.clean k) in
     let awake = awake_inside g.S.Store start inside c.self.view_is c.requires.awake clean in
     enrol_moves number text changes c.requires.spelled I c.in-Some.enrolments
@@ -150,8 +160,10 @@ returns-clause-runs g c =
     (λ old after counts is gives.
     c.batch_leaves_an_office.ensures number text old after counts c.requires.number is gives)
     (state g.S.Store after).now new
-    (c.in_ok-new.ensures.enrols (put.clean k) awake)
-    (made_on g.S.Store inside mid after c.in_ok-new.ensures.same (put.clean k) awake.0
+    (λ r here is. c.in_ok-new.ensures.enrols (put.clean k) awake r here is
+    (count_at_hand (state g.S.Store inside) _ _ (Some r) c.self.invariant.1 clean awake.0 here))
+    (made_on g.S.Store inside mid (state g.S.Store after).now c.in_ok-new.ensures.same (put.clean
+    k) awake.0
     (new_batch_put number text new) (c.in_ok-put_batch.ensures.done k).makes))
 
 pub invariant_of-self-2 : goal.invariant_of-self-2
@@ -166,13 +178,15 @@ invariant_of-self-2 g c =
     let read = c.new_batch.ensures.read in
     let put = c.put_batch.ensures in
     let I = c.in-Some.instance in
+    let E = c.in-Some.enrolments in
     let new = c.in_ok-new.new in
-    let renewed : c.renew.new.kept ≡ Some (I, new.enrolments)
+    let renewed : c.renew.new.kept ≡ Some (I, latest new.enrolments E)
     = c.renew.ensures I c.in-Some.enrolments c.in-Some.is in (
       c.in_ok-put_batch.ensures.rests,
-      subst (IsAtRest (state g.S.Store after)) (sym renewed)
+      subst (λ m. IsAtRest (state g.S.Store after) m (c.self.inside.batches + 1)) (sym renewed)
           (rests (batch_enrolled number text) (state g.S.Store inside) (state g.S.Store after)
-          c.self.inside.kept (Some (I, new.enrolments)) new.counts c.self.invariant.1
+          c.self.inside.kept (Some (I, latest new.enrolments E)) (λ k. k + 1) new.counts
+          c.self.invariant.1
           (λ k. read.clean (put.clean k))
           (λ k. (awake_inside g.S.Store start inside c.self.view_is c.requires.awake
           (read.clean (put.clean k))).0)
@@ -190,10 +204,13 @@ invariant_of-self-2 g c =
           (λ old after counts is gives.
           c.batch_leaves_an_office.ensures number text old after counts c.requires.number is gives)
           (state g.S.Store after).now new
-          (c.in_ok-new.ensures.enrols (put.clean k) awake)
-          (made_on g.S.Store inside mid after c.in_ok-new.ensures.same (put.clean k) awake.0
+          (λ r here is. c.in_ok-new.ensures.enrols (put.clean k) awake r here is
+          (count_at_hand (state g.S.Store inside) _ _ (Some r) c.self.invariant.1 clean awake.0 here))
+          (made_on g.S.Store inside mid (state g.S.Store after).now c.in_ok-new.ensures.same
+          (put.clean k) awake.0
           (new_batch_put number text new) (c.in_ok-put_batch.ensures.done k).makes))),
-      subst AreTogether (sym renewed) c.in_ok-new.ensures.exams,
+      subst AreTogether (sym renewed) (latest_exams new.enrolments E _
+          c.in_ok-new.ensures.exams (subst AreTogether c.in-Some.is c.self.invariant.2)),
     )
 
 pub new_batch-requires : goal.new_batch-requires
@@ -207,3 +224,90 @@ put_batch-requires g c = record {
   rests = c.new_batch.ensures.read.mode c.self.invariant.0;
   small = c.in_ok-new.ensures.small;
 }
+
+pub returns-in_default-clause-survives : goal.returns-in_default-clause-survives
+returns-in_default-clause-survives g c =
+    survives_more (state g.S.Store c.args.self.now) (state g.S.Store c.args.self.now) _
+    (survives_same (state g.S.Store c.args.self.now))
+
+pub returns-in_err-new-clause-survives : goal.returns-in_err-new-clause-survives
+returns-in_err-new-clause-survives g c =
+    survives_more (state g.S.Store c.args.self.now) (state g.S.Store c.new_batch.new.conn) _
+    (survives_at g.S.Store c.args.self.now c.self.inside.conn c.new_batch.new.conn _ c.self.view_is
+    c.new_batch.ensures.read.survives)
+
+pub returns-in_err-put_batch-clause-survives : goal.returns-in_err-put_batch-clause-survives
+returns-in_err-put_batch-clause-survives g c =
+    let number = c.args.number in
+    let text = c.args.text.now in
+    let start = c.args.self.now in
+    let inside = c.self.inside.conn in
+    let mid = c.new_batch.new.conn in
+    let after = c.put_batch.new.conn in
+    let read = c.new_batch.ensures.read in
+    let put = c.put_batch.ensures in
+    let I = c.in-Some.instance in
+    let new = c.in_ok-new.new in
+    let make = new_batch_put number text new in
+    leaves_by g.S.Store (batch_enrolled number text) start start inside after c.self.inside.kept
+    (Some (I, latest new.enrolments c.in-Some.enrolments)) (λ k. k + 1) c.self.view_is c.self.invariant.1 c.requires.awake
+    (λ _ opened. (opened, refl)) (survives_same (state g.S.Store start)) make new.counts
+    (changed_on g.S.Store inside mid after read.survives c.in_ok-new.ensures.same
+    (λ k. (awake_inside g.S.Store start inside c.self.view_is c.requires.awake k).0)
+    make put.survives)
+    (λ k found changed. let clean = read.clean (put.clean k) in
+    let awake = awake_inside g.S.Store start inside c.self.view_is c.requires.awake clean in
+    enrol_moves number text c.args.changes.now c.requires.spelled I c.in-Some.enrolments
+    (state g.S.Store inside).now c.self.inside.kept c.in-Some.is
+    (seen g.S.Store start inside c.self.view_is (λ o. kept_in o number ≡ None)
+    c.requires.is_new clean)
+    c.requires.number
+    (λ E done is.
+    let each = c.lines_are_counted.ensures.counted c.args.changes.now E done is in
+    let few = c.lines_are_counted.ensures.few text c.args.changes.now c.requires.spelled in
+    omega (arith, each, few))
+    (λ old after counts is gives.
+    c.batch_leaves_an_office.ensures number text old after counts c.requires.number is gives)
+    _ new
+    (λ r here is. c.in_ok-new.ensures.enrols (put.clean k) awake r here is
+    (count_at_hand (state g.S.Store inside) _ _ (Some r) c.self.invariant.1 clean awake.0 here))
+    changed)
+    c.from_residual-in_err-put_batch.result (is_failed _ c.from_residual-in_err-put_batch.ensures.1)
+
+pub returns-clause-survives : goal.returns-clause-survives
+returns-clause-survives g c =
+    let number = c.args.number in
+    let text = c.args.text.now in
+    let start = c.args.self.now in
+    let inside = c.self.inside.conn in
+    let mid = c.new_batch.new.conn in
+    let after = c.put_batch.new.conn in
+    let read = c.new_batch.ensures.read in
+    let put = c.put_batch.ensures in
+    let I = c.in-Some.instance in
+    let new = c.in_ok-new.new in
+    let make = new_batch_put number text new in
+    leaves_by g.S.Store (batch_enrolled number text) start start inside after c.self.inside.kept
+    (Some (I, latest new.enrolments c.in-Some.enrolments)) (λ k. k + 1) c.self.view_is c.self.invariant.1 c.requires.awake
+    (λ _ opened. (opened, refl)) (survives_same (state g.S.Store start)) make new.counts
+    (changed_on g.S.Store inside mid after read.survives c.in_ok-new.ensures.same
+    (λ k. (awake_inside g.S.Store start inside c.self.view_is c.requires.awake k).0)
+    make put.survives)
+    (λ k found changed. let clean = read.clean (put.clean k) in
+    let awake = awake_inside g.S.Store start inside c.self.view_is c.requires.awake clean in
+    enrol_moves number text c.args.changes.now c.requires.spelled I c.in-Some.enrolments
+    (state g.S.Store inside).now c.self.inside.kept c.in-Some.is
+    (seen g.S.Store start inside c.self.view_is (λ o. kept_in o number ≡ None)
+    c.requires.is_new clean)
+    c.requires.number
+    (λ E done is.
+    let each = c.lines_are_counted.ensures.counted c.args.changes.now E done is in
+    let few = c.lines_are_counted.ensures.few text c.args.changes.now c.requires.spelled in
+    omega (arith, each, few))
+    (λ old after counts is gives.
+    c.batch_leaves_an_office.ensures number text old after counts c.requires.number is gives)
+    _ new
+    (λ r here is. c.in_ok-new.ensures.enrols (put.clean k) awake r here is
+    (count_at_hand (state g.S.Store inside) _ _ (Some r) c.self.invariant.1 clean awake.0 here))
+    changed)
+    (Ok new.counts) tt

@@ -4,6 +4,7 @@ use Rattle.office_tables.specs.declared.enrol.EnrolRow.{EnrolRow}
 use Rattle.office_store.specs.Viewing.{exams_in}
 use Rattle.office_store.proofs.RunLemmas.{kept_read, rest_read}
 use Rattle.office_store.proofs.ViewLemmas.{enrols_read}
+use Rattle.office_store.proofs.LeavingLemmas.{survives_at}
 use Rattle.office_store.proofs.office.Office.her_enrols.Goals as goal
 
 pub invariant_of-self : goal.invariant_of-self
@@ -30,3 +31,13 @@ returns-clause-rows g c clean office here =
     c.get.ensures.number
     (enrols_read kept.held office c.get.result c.in_ok-rows.rows.items kept.stands kept.office
     (c.in_ok-rows.ensures.in_order clean kept.held kept.tables))
+
+pub returns-in_err-rows-clause-survives : goal.returns-in_err-rows-clause-survives
+returns-in_err-rows-clause-survives g c =
+    survives_at g.S.Store c.args.self.now c.self.inside.conn c.enrols_of.new.conn _ c.self.view_is
+    c.enrols_of.ensures.survives
+
+pub returns-clause-survives : goal.returns-clause-survives
+returns-clause-survives g c =
+    survives_at g.S.Store c.args.self.now c.self.inside.conn c.enrols_of.new.conn _ c.self.view_is
+    c.enrols_of.ensures.survives

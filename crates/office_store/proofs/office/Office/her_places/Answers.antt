@@ -5,6 +5,7 @@ use Rattle.office_store.specs.OfficeRows.{published_in}
 use Rattle.office_store.specs.Viewing.{exams_in, place_in_row}
 use Rattle.office_store.proofs.RunLemmas.{kept_read, rest_read}
 use Rattle.office_store.proofs.ViewLemmas.{places_read}
+use Rattle.office_store.proofs.LeavingLemmas.{survives_at}
 use Rattle.office_store.proofs.office.Office.her_places.Goals as goal
 
 pub invariant_of-self : goal.invariant_of-self
@@ -32,3 +33,15 @@ returns-clause-rows g c clean office here =
     ≡ places_in (published_in office) (exams_in n office)) c.get.ensures.number
     (places_read kept.held office c.get.result c.in_ok-rows.rows.items kept.stands kept.office
     (c.in_ok-rows.ensures.in_order clean kept.held kept.tables))
+
+pub returns-in_err-rows-clause-survives : goal.returns-in_err-rows-clause-survives
+returns-in_err-rows-clause-survives g c =
+    survives_at g.S.Store c.args.self.now c.self.inside.conn c.placements_of.new.conn _
+    c.self.view_is
+    c.placements_of.ensures.survives
+
+pub returns-clause-survives : goal.returns-clause-survives
+returns-clause-survives g c =
+    survives_at g.S.Store c.args.self.now c.self.inside.conn c.placements_of.new.conn _
+    c.self.view_is
+    c.placements_of.ensures.survives

@@ -6,6 +6,7 @@ use Rattle.office_records.specs.Publications.{stored_seat}
 use Rattle.office_store.specs.OfficeRows.{published_in}
 use Rattle.office_store.proofs.RunLemmas.{kept_read, rest_read}
 use Rattle.office_store.proofs.ViewLemmas.{her_seats_read}
+use Rattle.office_store.proofs.LeavingLemmas.{survives_at}
 use Rattle.office_store.proofs.office.Office.her_seats.Goals as goal
 
 pub invariant_of-self : goal.invariant_of-self
@@ -32,3 +33,13 @@ returns-clause-rows g c clean office here =
     ≡ map stored_seat (rows_of n (rows_now (published_in office)))) c.get.ensures.number
     (her_seats_read kept.held office c.get.result c.in_ok-rows.rows.items kept.stands kept.office
     (c.in_ok-rows.ensures.in_order clean kept.held kept.tables))
+
+pub returns-in_err-rows-clause-survives : goal.returns-in_err-rows-clause-survives
+returns-in_err-rows-clause-survives g c =
+    survives_at g.S.Store c.args.self.now c.self.inside.conn c.seats_of.new.conn _ c.self.view_is
+    c.seats_of.ensures.survives
+
+pub returns-clause-survives : goal.returns-clause-survives
+returns-clause-survives g c =
+    survives_at g.S.Store c.args.self.now c.self.inside.conn c.seats_of.new.conn _ c.self.view_is
+    c.seats_of.ensures.survives

@@ -4,6 +4,7 @@ use Rattle.office_tables.specs.declared.share_student.StudentShareRow.{StudentSh
 use Rattle.office_store.specs.OfficeRows.{student_rows_in}
 use Rattle.office_store.proofs.RunLemmas.{kept_read, rest_read}
 use Rattle.office_store.proofs.ViewLemmas.{her_shares_read}
+use Rattle.office_store.proofs.LeavingLemmas.{survives_at}
 use Rattle.office_store.proofs.office.Office.her_shares.Goals as goal
 
 pub invariant_of-self : goal.invariant_of-self
@@ -32,3 +33,15 @@ returns-clause-rows g c clean office here =
     c.in_ok-rows.rows.items) c.get.ensures.number
     (her_shares_read kept.held office c.get.result c.in_ok-rows.rows.items kept.stands kept.sound
     (c.in_ok-rows.ensures.rows clean kept.held kept.tables))
+
+pub returns-in_err-rows-clause-survives : goal.returns-in_err-rows-clause-survives
+returns-in_err-rows-clause-survives g c =
+    survives_at g.S.Store c.args.self.now c.self.inside.conn c.student_shares_of.new.conn _
+    c.self.view_is
+    c.student_shares_of.ensures.survives
+
+pub returns-clause-survives : goal.returns-clause-survives
+returns-clause-survives g c =
+    survives_at g.S.Store c.args.self.now c.self.inside.conn c.student_shares_of.new.conn _
+    c.self.view_is
+    c.student_shares_of.ensures.survives

@@ -4,6 +4,7 @@ use Rattle.sqlite.specs.State.{HasCleanDisk}
 use Rattle.office_store.specs.Running.{IsStill}
 use Rattle.office_store.proofs.RunLemmas.{rest_still}
 use Rattle.office_store.proofs.ShutLemmas.{still_asked, told_shut}
+use Rattle.office_store.proofs.LeavingLemmas.{survives_at}
 use Rattle.office_store.proofs.office.Office.is_shut.Goals as goal
 
 pub invariant_of-self : goal.invariant_of-self
@@ -35,3 +36,8 @@ returns-clause-still g c =
     (c.is_autocommit-at_rest.ensures.settled
     (c.is_autocommit-at_rest.ensures.value ∙ ap not c.self.invariant.0))
     _ c.prepare.result c.prepare.ensures.ok c.prepare.ensures.err)
+
+pub returns-clause-survives : goal.returns-clause-survives
+returns-clause-survives g c =
+    survives_at g.S.Store c.args.self.now c.self.inside.conn c.prepare.new.self _ c.self.view_is
+    c.prepare.ensures.survives

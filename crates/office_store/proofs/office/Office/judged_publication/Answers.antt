@@ -2,6 +2,7 @@ use Rattle.std.proofs.Common.{subst}
 use Rattle.sqlite.specs.Held.{state}
 use Rattle.sqlite.specs.State.{HasCleanDisk}
 use Rattle.office_store.proofs.PublishLemmas.{none_at_hand, puts_at_hand}
+use Rattle.office_store.proofs.LeavingLemmas.{survives_same, survives_at}
 use Rattle.office_store.proofs.office.Office.judged_publication.Goals as goal
 
 pub returns-in_default-clause-publishes : goal.returns-in_default-clause-publishes
@@ -17,3 +18,13 @@ returns-clause-publishes g c clean awake office kept are =
     c.in-Some.is c.args.found.now.rows.items c.args.found.now.slots.items c.new_publication.result
     (subst (λ h. HasCleanDisk (state g.S.Store h)) c.self.view_is before) awake office kept are
     (c.new_publication.ensures.publishes clean)
+
+pub returns-in_default-clause-survives : goal.returns-in_default-clause-survives
+returns-in_default-clause-survives g c =
+    survives_same (state g.S.Store c.args.self.now)
+
+pub returns-clause-survives : goal.returns-clause-survives
+returns-clause-survives g c =
+    survives_at g.S.Store c.args.self.now c.self.inside.conn c.new_publication.new.conn _
+    c.self.view_is
+    c.new_publication.ensures.read.survives

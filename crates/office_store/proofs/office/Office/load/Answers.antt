@@ -1,4 +1,4 @@
-use Rattle.std.proofs.Common.{rules, ◌≡◌, Some, ◌∙◌, ap, map, true, false}
+use Rattle.std.proofs.Common.{rules, ◌≡◌, Some, ◌∙◌, ap, map, true, false, Ok}
 use Rattle.office_tables.specs.declared.enrol.InsertEnrol.{InsertEnrol}
 use Rattle.std.specs.Prelude.{is_some}
 use Rattle.sqlite.specs.Held.{state}
@@ -7,8 +7,9 @@ use Rattle.exam_model.specs.Instance.{Session}
 use Rattle.office_model.specs.Loading.{loaded}
 use Rattle.office_model.specs.declared.fault.StoreFault.TheVariants.{Loaded}
 use Rattle.office_model.proofs.RecordLemmas.{are_enrolled}
-use Rattle.office_store.proofs.CommandLemmas.{refuses, rests, runs}
+use Rattle.office_store.proofs.CommandLemmas.{refuses, rests, runs, stays_undone}
 use Rattle.office_store.proofs.LoadLemmas.{as_many, load_denied, load_moves}
+use Rattle.office_store.proofs.LeavingLemmas.{survives_more, is_failed, leaves_by, survives_same}
 use Rattle.office_store.proofs.office.Office.load.Goals as goal
 
 pub returns-then-is_some-clause-runs : goal.returns-then-is_some-clause-runs
@@ -28,7 +29,7 @@ returns-clause-runs g c =
     (as_many c.args.text.now I E c.in-Ok.ensures.reading) in
     runs g.S.Store (loaded c.args.text.now) c.args.self.now c.look.new.self c.self.inside.conn
     c.self.inside.kept c.self.view_is c.self.invariant.1 c.in_ok-look.ensures.awake
-    c.in_ok-look.ensures.still c.put.new.conn (Some (I, E)) c.counts_of-loaded.result
+    c.in_ok-look.ensures.still c.put.new.conn (Some (I, E)) (λ k. k) c.counts_of-loaded.result
     c.put.ensures.clean
     (λ k. load_moves c.args.text.now I E c.counts_of-loaded.result c.deref.result.now
     c.deref-2.result.now _ _ c.self.inside.kept c.in-Ok.ensures.exact
@@ -46,7 +47,7 @@ invariant_of-self-2 g c =
     (as_many c.args.text.now I E c.in-Ok.ensures.reading) in (
       c.in_ok-put.ensures.rests,
       rests (loaded c.args.text.now) (state g.S.Store c.self.inside.conn)
-          (state g.S.Store c.put.new.conn) c.self.inside.kept (Some (I, E))
+          (state g.S.Store c.put.new.conn) c.self.inside.kept (Some (I, E)) (λ k. k)
           c.counts_of-loaded.result c.self.invariant.1 c.put.ensures.clean
           (λ k. (c.in_ok-put.ensures.done k).was_open)
           (λ k. load_moves c.args.text.now I E c.counts_of-loaded.result c.deref.result.now
@@ -64,3 +65,71 @@ returns-clause-counts g c = (
   c.in-Ok.ensures.exact,
   c.counts_of-loaded.ensures.counts,
 )
+
+pub returns-in_err-look-clause-survives : goal.returns-in_err-look-clause-survives
+returns-in_err-look-clause-survives g c =
+    survives_more (state g.S.Store c.args.self.now) (state g.S.Store c.look.new.self) _
+    c.look.ensures.survives
+
+pub returns-then-is_some-clause-survives : goal.returns-then-is_some-clause-survives
+returns-then-is_some-clause-survives g c =
+    survives_more (state g.S.Store c.args.self.now) (state g.S.Store c.look.new.self) _
+    c.look.ensures.survives
+
+pub returns-in_err-stored-clause-survives : goal.returns-in_err-stored-clause-survives
+returns-in_err-stored-clause-survives g c =
+    survives_more (state g.S.Store c.args.self.now) (state g.S.Store c.look.new.self) _
+    c.look.ensures.survives
+
+pub returns-in_err-rows-clause-survives : goal.returns-in_err-rows-clause-survives
+returns-in_err-rows-clause-survives g c =
+    survives_more (state g.S.Store c.args.self.now) (state g.S.Store c.look.new.self) _
+    c.look.ensures.survives
+
+pub returns-in_err-put-clause-survives : goal.returns-in_err-put-clause-survives
+returns-in_err-put-clause-survives g c =
+    let I : Session = c.in-Ok.read.0 in
+    let E : Enrolled = c.in-Ok.read.1 in
+    let no : is_some c.self.inside.kept ≡ false = search rules in
+    let are = are_enrolled I E c.counts_of-loaded.ensures.enrolments
+    (as_many c.args.text.now I E c.in-Ok.ensures.reading) in
+    leaves_by g.S.Store (loaded c.args.text.now) c.args.self.now c.look.new.self
+    c.self.inside.conn c.put.new.conn c.self.inside.kept (Some (I, E)) (λ k. k) c.self.view_is
+    c.self.invariant.1 c.in_ok-look.ensures.awake c.in_ok-look.ensures.still
+    c.look.ensures.survives _ c.counts_of-loaded.result c.put.ensures.survives
+    (λ k found changed. load_moves c.args.text.now I E c.counts_of-loaded.result
+    c.deref.result.now c.deref-2.result.now _ _ c.self.inside.kept c.in-Ok.ensures.exact
+    c.counts_of-loaded.ensures.counts (c.deref.ensures.value ∙ c.in_ok-stored.ensures.text)
+    (ap (map (λ (it : InsertEnrol). it.row)) c.deref-2.ensures.value ∙ c.in_ok-rows.ensures)
+    c.counts_of-loaded.ensures.instance are no changed)
+    c.from_residual-in_err-put.result (is_failed _ c.from_residual-in_err-put.ensures.1)
+
+pub returns-clause-survives : goal.returns-clause-survives
+returns-clause-survives g c =
+    let I : Session = c.in-Ok.read.0 in
+    let E : Enrolled = c.in-Ok.read.1 in
+    let no : is_some c.self.inside.kept ≡ false = search rules in
+    let are = are_enrolled I E c.counts_of-loaded.ensures.enrolments
+    (as_many c.args.text.now I E c.in-Ok.ensures.reading) in
+    leaves_by g.S.Store (loaded c.args.text.now) c.args.self.now c.look.new.self
+    c.self.inside.conn c.put.new.conn c.self.inside.kept (Some (I, E)) (λ k. k) c.self.view_is
+    c.self.invariant.1 c.in_ok-look.ensures.awake c.in_ok-look.ensures.still
+    c.look.ensures.survives _ c.counts_of-loaded.result c.put.ensures.survives
+    (λ k found changed. load_moves c.args.text.now I E c.counts_of-loaded.result
+    c.deref.result.now c.deref-2.result.now _ _ c.self.inside.kept c.in-Ok.ensures.exact
+    c.counts_of-loaded.ensures.counts (c.deref.ensures.value ∙ c.in_ok-stored.ensures.text)
+    (ap (map (λ (it : InsertEnrol). it.row)) c.deref-2.ensures.value ∙ c.in_ok-rows.ensures)
+    c.counts_of-loaded.ensures.instance are no changed)
+    (Ok c.counts_of-loaded.result) tt
+
+pub returns-in-Err-clause-survives : goal.returns-in-Err-clause-survives
+returns-in-Err-clause-survives g c =
+    survives_more (state g.S.Store c.args.self.now) (state g.S.Store c.args.self.now) _
+    (survives_same (state g.S.Store c.args.self.now))
+
+-- the transaction failed
+pub returns-in_err-put-clause-stays : goal.returns-in_err-put-clause-stays
+returns-in_err-put-clause-stays g c =
+    stays_undone g.S.Store c.args.self.now c.look.new.self c.self.inside.conn c.put.new.conn
+    c.self.view_is c.in_ok-look.ensures.still c.in_ok-look.ensures.awake c.put.ensures.clean
+    c.in_err-put.ensures.undone c.from_residual-in_err-put.result

@@ -2,6 +2,9 @@ use Rattle.std.proofs.Common.{inl, inr, None, refl, sym, subst}
 use Rattle.office_records.specs.Stands.{IsKept}
 use Rattle.office_store.proofs.AdoptLemmas.{kept_before, kept_still}
 use Rattle.office_store.proofs.OpenLemmas.{before_load, fails, if_err, if_ok, is_kept, or_none}
+use Rattle.sqlite.specs.Held.{state}
+use Rattle.office_store.proofs.LeavingLemmas.{survives_more}
+use Rattle.office_store.specs.Leaving.{connection_of}
 use Rattle.office_store.proofs.office.Office.open.Goals as goal
 
 -- a new office has no session
@@ -39,3 +42,8 @@ returns-else-is_bare-clause-refused g c = if_err c.adopt.result _ _ _
     (λ e fault no_office clean. or_none fault (λ wrong there is. no_office wrong clean there
     (is_kept _ there (fails _ _ c.is_bare.ensures.1 c.if-is_bare.false) is)))
     c.adopt.ensures.fault c.adopt.ensures.no_office
+
+pub returns-else-is_bare-clause-survives : goal.returns-else-is_bare-clause-survives
+returns-else-is_bare-clause-survives g c =
+    survives_more (state g.S.Store c.args.conn)
+    (state g.S.Store (connection_of c.adopt.result)) _ c.adopt.ensures.survives

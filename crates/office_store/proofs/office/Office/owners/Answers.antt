@@ -5,6 +5,7 @@ use Rattle.office_tables.specs.declared.owner.OwnerRow.{OwnerRow}
 use Rattle.office_records.specs.Stands.{IsKept}
 use Rattle.office_store.proofs.OwnerLemmas.{owner_read}
 use Rattle.office_store.proofs.RunLemmas.{rest_read}
+use Rattle.office_store.proofs.LeavingLemmas.{survives_at}
 use Rattle.office_store.proofs.office.Office.owners.Goals as goal
 
 pub invariant_of-self : goal.invariant_of-self
@@ -28,3 +29,13 @@ returns-clause-rows g c clean office now =
     c.in_ok-rows.rows.items) c.get.ensures
     (c.in_ok-rows.ensures.rows clean kept.held kept.tables) in
     owner_read kept.held office c.args.exam c.in_ok-rows.rows.items kept.stands read
+
+pub returns-in_err-rows-clause-survives : goal.returns-in_err-rows-clause-survives
+returns-in_err-rows-clause-survives g c =
+    survives_at g.S.Store c.args.self.now c.self.inside.conn c.owners_of.new.conn _ c.self.view_is
+    c.owners_of.ensures.survives
+
+pub returns-clause-survives : goal.returns-clause-survives
+returns-clause-survives g c =
+    survives_at g.S.Store c.args.self.now c.self.inside.conn c.owners_of.new.conn _ c.self.view_is
+    c.owners_of.ensures.survives

@@ -1,10 +1,11 @@
-use Rattle.std.proofs.Common.{rules, ◌≡◌, Err, refl, sym, subst}
+use Rattle.std.proofs.Common.{rules, ◌≡◌, Err, refl, sym, subst, Ok}
 use Rattle.sqlite.specs.Held.{state}
 use Rattle.office_model.specs.Publishing.{draft_published}
 use Rattle.office_store.specs.Running.{Runs}
 use Rattle.office_store.proofs.CommandLemmas.{rests, runs, stays_by, stays_on, stays_undone}
 use Rattle.office_store.proofs.PublishLemmas.{publication_moves}
 use Rattle.office_store.proofs.RunLemmas.{now_still, still_then}
+use Rattle.office_store.proofs.LeavingLemmas.{survives_more, survives_on, is_failed, leaves_by}
 use Rattle.office_store.proofs.office.Office.publish.Goals as goal
 
 pub returns-in_err-new-clause-runs : goal.returns-in_err-new-clause-runs
@@ -59,10 +60,11 @@ returns-clause-runs g c =
     (state g.S.Store c.judged_publication.new.self)
     (c.in_ok-found.ensures.still (c.judged_publication.ensures.clean k))
     (c.judged_publication.ensures.still k))
-    c.put_publication.new.conn c.self.inside.kept c.in_ok-new.new.counts
+    c.put_publication.new.conn c.self.inside.kept (λ k. k) c.in_ok-new.new.counts
     c.put_publication.ensures.clean
     (λ k. publication_moves g.S.Store c.draft_rows.new.self c.judged_publication.new.self
-    c.self.inside.conn c.self.view_is c.args.number c.put_publication.new.conn
+    c.self.inside.conn c.self.view_is c.args.number
+    (state g.S.Store c.put_publication.new.conn).now
     c.self.inside.kept c.in_ok-new.new c.judged_publication.ensures.still
     (λ k. c.in_ok-new.ensures.awake k
     (c.in_ok-found.ensures.awake (c.judged_publication.ensures.clean k)))
@@ -76,10 +78,11 @@ invariant_of-self-2 g c = (
   c.in_ok-put_publication.ensures.rests,
   rests (draft_published c.args.number) (state g.S.Store c.self.inside.conn)
       (state g.S.Store c.put_publication.new.conn) c.self.inside.kept c.self.inside.kept
-      c.in_ok-new.new.counts c.self.invariant.1 c.put_publication.ensures.clean
+      (λ k. k) c.in_ok-new.new.counts c.self.invariant.1 c.put_publication.ensures.clean
       (λ k. (c.in_ok-put_publication.ensures.done k).was_open)
       (λ k. publication_moves g.S.Store c.draft_rows.new.self c.judged_publication.new.self
-      c.self.inside.conn c.self.view_is c.args.number c.put_publication.new.conn
+      c.self.inside.conn c.self.view_is c.args.number
+      (state g.S.Store c.put_publication.new.conn).now
       c.self.inside.kept c.in_ok-new.new c.judged_publication.ensures.still
       (λ k. c.in_ok-new.ensures.awake k
       (c.in_ok-found.ensures.awake (c.judged_publication.ensures.clean k)))
@@ -89,3 +92,68 @@ invariant_of-self-2 g c = (
       (c.put_publication.ensures.clean k) (c.in_ok-put_publication.ensures.done k).makes),
   c.self.invariant.2,
 )
+
+pub returns-in_err-found-clause-survives : goal.returns-in_err-found-clause-survives
+returns-in_err-found-clause-survives g c =
+    survives_more (state g.S.Store c.args.self.now) (state g.S.Store c.draft_rows.new.self) _
+    c.draft_rows.ensures.survives
+
+pub returns-in_err-new-clause-survives : goal.returns-in_err-new-clause-survives
+returns-in_err-new-clause-survives g c =
+    survives_more (state g.S.Store c.args.self.now)
+    (state g.S.Store c.judged_publication.new.self) _
+    (survives_on (state g.S.Store c.args.self.now) (state g.S.Store c.draft_rows.new.self)
+    (state g.S.Store c.judged_publication.new.self) c.draft_rows.ensures.survives
+    c.judged_publication.ensures.survives)
+
+pub returns-in_err-put_publication-clause-survives
+    : goal.returns-in_err-put_publication-clause-survives
+returns-in_err-put_publication-clause-survives g c =
+    let first = c.draft_rows.new.self in
+    let mid = c.judged_publication.new.self in
+    leaves_by g.S.Store (draft_published c.args.number) c.args.self.now mid c.self.inside.conn
+    c.put_publication.new.conn c.self.inside.kept c.self.inside.kept (λ k. k) c.self.view_is
+    c.self.invariant.1
+    (λ k. c.in_ok-new.ensures.awake k
+    (c.in_ok-found.ensures.awake (c.judged_publication.ensures.clean k)))
+    (λ k. still_then (state g.S.Store c.args.self.now) (state g.S.Store first)
+    (state g.S.Store mid) (c.in_ok-found.ensures.still (c.judged_publication.ensures.clean k))
+    (c.judged_publication.ensures.still k))
+    (survives_on (state g.S.Store c.args.self.now) (state g.S.Store first) (state g.S.Store mid)
+    c.draft_rows.ensures.survives c.judged_publication.ensures.survives)
+    _ c.in_ok-new.new.counts c.put_publication.ensures.survives
+    (λ k found changed. publication_moves g.S.Store first mid c.self.inside.conn c.self.view_is
+    c.args.number _ c.self.inside.kept c.in_ok-new.new c.judged_publication.ensures.still
+    (λ k. c.in_ok-new.ensures.awake k
+    (c.in_ok-found.ensures.awake (c.judged_publication.ensures.clean k)))
+    (λ k o kept. c.in_ok-new.ensures.publishes k
+    (c.in_ok-found.ensures.awake (c.judged_publication.ensures.clean k)) o kept
+    (c.in_ok-found.ensures.rows (c.judged_publication.ensures.clean k) o kept))
+    (c.put_publication.ensures.clean k) changed)
+    c.from_residual-in_err-put_publication.result (is_failed _
+    c.from_residual-in_err-put_publication.ensures.1)
+
+pub returns-clause-survives : goal.returns-clause-survives
+returns-clause-survives g c =
+    let first = c.draft_rows.new.self in
+    let mid = c.judged_publication.new.self in
+    leaves_by g.S.Store (draft_published c.args.number) c.args.self.now mid c.self.inside.conn
+    c.put_publication.new.conn c.self.inside.kept c.self.inside.kept (λ k. k) c.self.view_is
+    c.self.invariant.1
+    (λ k. c.in_ok-new.ensures.awake k
+    (c.in_ok-found.ensures.awake (c.judged_publication.ensures.clean k)))
+    (λ k. still_then (state g.S.Store c.args.self.now) (state g.S.Store first)
+    (state g.S.Store mid) (c.in_ok-found.ensures.still (c.judged_publication.ensures.clean k))
+    (c.judged_publication.ensures.still k))
+    (survives_on (state g.S.Store c.args.self.now) (state g.S.Store first) (state g.S.Store mid)
+    c.draft_rows.ensures.survives c.judged_publication.ensures.survives)
+    _ c.in_ok-new.new.counts c.put_publication.ensures.survives
+    (λ k found changed. publication_moves g.S.Store first mid c.self.inside.conn c.self.view_is
+    c.args.number _ c.self.inside.kept c.in_ok-new.new c.judged_publication.ensures.still
+    (λ k. c.in_ok-new.ensures.awake k
+    (c.in_ok-found.ensures.awake (c.judged_publication.ensures.clean k)))
+    (λ k o kept. c.in_ok-new.ensures.publishes k
+    (c.in_ok-found.ensures.awake (c.judged_publication.ensures.clean k)) o kept
+    (c.in_ok-found.ensures.rows (c.judged_publication.ensures.clean k) o kept))
+    (c.put_publication.ensures.clean k) changed)
+    (Ok c.in_ok-new.new.counts) tt

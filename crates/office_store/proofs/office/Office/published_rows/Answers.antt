@@ -1,6 +1,7 @@
 use Rattle.std.proofs.Common.{ap, not, ◌∙◌}
 use Rattle.sqlite.specs.Held.{state}
 use Rattle.office_store.proofs.RunLemmas.{kept_read, rest_read}
+use Rattle.office_store.proofs.LeavingLemmas.{survives_at}
 use Rattle.office_store.proofs.office.Office.published_rows.Goals as goal
 
 pub invariant_of-self : goal.invariant_of-self
@@ -24,3 +25,15 @@ returns-clause-rows g c clean office here =
     (c.is_autocommit-at_rest.ensures.value ∙ ap not c.self.invariant.0))
     opened (λ k t held. c.in_ok-rows.ensures.same k t held (opened k)) clean office here in
     c.in_ok-rows.ensures.rows clean office kept
+
+pub returns-in_err-rows-clause-survives : goal.returns-in_err-rows-clause-survives
+returns-in_err-rows-clause-survives g c =
+    survives_at g.S.Store c.args.self.now c.self.inside.conn c.read_published.new.conn _
+    c.self.view_is
+    c.read_published.ensures.read.survives
+
+pub returns-clause-survives : goal.returns-clause-survives
+returns-clause-survives g c =
+    survives_at g.S.Store c.args.self.now c.self.inside.conn c.read_published.new.conn _
+    c.self.view_is
+    c.read_published.ensures.read.survives

@@ -1,4 +1,4 @@
-use Rattle.std.proofs.Common.{◌<◌, ◌≤◌, length, arith, refl}
+use Rattle.std.proofs.Common.{◌<◌, ◌≤◌, length, arith, refl, Ok}
 use Rattle.sqlite.specs.Held.{state}
 use Rattle.exam_draft.specs.declared.fault.EditFault.TheVariants.{NoSuch}
 use Rattle.office_model.specs.Commands.{owned}
@@ -6,6 +6,7 @@ use Rattle.office_model.specs.declared.fault.Refusal.TheVariants.{Edit}
 use Rattle.office_model.specs.declared.fault.StoreFault.TheVariants.{NotLoaded, Refused}
 use Rattle.office_store.proofs.CommandLemmas.{not_loaded, refuses, rests, runs}
 use Rattle.office_store.proofs.OwnerLemmas.{no_exam_denied, owner_moves}
+use Rattle.office_store.proofs.LeavingLemmas.{survives_more, is_failed, leaves_by}
 use Rattle.office_store.proofs.office.Office.set_owner.Goals as goal
 
 pub returns-in_default-clause-runs : goal.returns-in_default-clause-runs
@@ -34,7 +35,7 @@ returns-clause-runs g c =
     runs g.S.Store (owned c.args.exam c.args.dept) c.args.self.now c.look.new.self
     c.self.inside.conn c.self.inside.kept c.self.view_is c.self.invariant.1
     c.in_ok-look.ensures.awake c.in_ok-look.ensures.still
-    c.put.new.conn c.self.inside.kept tt c.put.ensures.clean
+    c.put.new.conn c.self.inside.kept (λ k. k) tt c.put.ensures.clean
     (λ k. owner_moves _ _ c.in-Some.instance c.in-Some.field-0-1 c.in-Some.is c.args.exam
     c.args.dept _ exists c.requires.dept c.get-exam.result c.get-exam.ensures c.new_owner.result
     c.new_owner.ensures
@@ -46,7 +47,7 @@ invariant_of-self-2 g c =
     = omega (arith, c.exams.ensures.count, c.if-get-exams.false, c.get.ensures) in (
       c.in_ok-put.ensures.rests,
       rests (owned c.args.exam c.args.dept) (state g.S.Store c.self.inside.conn)
-          (state g.S.Store c.put.new.conn) c.self.inside.kept c.self.inside.kept tt
+          (state g.S.Store c.put.new.conn) c.self.inside.kept c.self.inside.kept (λ k. k) tt
           c.self.invariant.1 c.put.ensures.clean
           (λ k. (c.in_ok-put.ensures.done k).was_open)
           (λ k. owner_moves _ _ c.in-Some.instance c.in-Some.field-0-1 c.in-Some.is c.args.exam
@@ -55,3 +56,44 @@ invariant_of-self-2 g c =
           (c.in_ok-put.ensures.done k).makes),
       c.self.invariant.2,
     )
+
+pub returns-in_err-look-clause-survives : goal.returns-in_err-look-clause-survives
+returns-in_err-look-clause-survives g c =
+    survives_more (state g.S.Store c.args.self.now) (state g.S.Store c.look.new.self) _
+    c.look.ensures.survives
+
+pub returns-in_default-clause-survives : goal.returns-in_default-clause-survives
+returns-in_default-clause-survives g c =
+    survives_more (state g.S.Store c.args.self.now) (state g.S.Store c.look.new.self) _
+    c.look.ensures.survives
+
+pub returns-then-get-exams-clause-survives : goal.returns-then-get-exams-clause-survives
+returns-then-get-exams-clause-survives g c =
+    survives_more (state g.S.Store c.args.self.now) (state g.S.Store c.look.new.self) _
+    c.look.ensures.survives
+
+pub returns-in_err-put-clause-survives : goal.returns-in_err-put-clause-survives
+returns-in_err-put-clause-survives g c =
+    let exists : c.args.exam < length c.in-Some.instance.exams
+    = omega (arith, c.exams.ensures.count, c.if-get-exams.false, c.get.ensures) in
+    leaves_by g.S.Store (owned c.args.exam c.args.dept) c.args.self.now c.look.new.self
+    c.self.inside.conn c.put.new.conn c.self.inside.kept c.self.inside.kept (λ k. k) c.self.view_is
+    c.self.invariant.1 c.in_ok-look.ensures.awake c.in_ok-look.ensures.still
+    c.look.ensures.survives _ tt c.put.ensures.survives
+    (λ k found changed. owner_moves _ _ c.in-Some.instance c.in-Some.field-0-1 c.in-Some.is
+    c.args.exam c.args.dept _ exists c.requires.dept c.get-exam.result c.get-exam.ensures
+    c.new_owner.result c.new_owner.ensures changed)
+    c.from_residual-in_err-put.result (is_failed _ c.from_residual-in_err-put.ensures.1)
+
+pub returns-clause-survives : goal.returns-clause-survives
+returns-clause-survives g c =
+    let exists : c.args.exam < length c.in-Some.instance.exams
+    = omega (arith, c.exams.ensures.count, c.if-get-exams.false, c.get.ensures) in
+    leaves_by g.S.Store (owned c.args.exam c.args.dept) c.args.self.now c.look.new.self
+    c.self.inside.conn c.put.new.conn c.self.inside.kept c.self.inside.kept (λ k. k) c.self.view_is
+    c.self.invariant.1 c.in_ok-look.ensures.awake c.in_ok-look.ensures.still
+    c.look.ensures.survives _ tt c.put.ensures.survives
+    (λ k found changed. owner_moves _ _ c.in-Some.instance c.in-Some.field-0-1 c.in-Some.is
+    c.args.exam c.args.dept _ exists c.requires.dept c.get-exam.result c.get-exam.ensures
+    c.new_owner.result c.new_owner.ensures changed)
+    (Ok tt) tt

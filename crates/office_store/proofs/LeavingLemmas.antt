@@ -1,0 +1,206 @@
+-- What a later opening may find after calls, one after the other.
+use Rattle.std.proofs.Common.{◌≡◌, ℕ, Ok, Err, Result, IsTrue, arith, inl, refl, sym, subst, true}
+use Rattle.std.specs.Prelude.{IfErr}
+use Rattle.std.specs.Result.{IsErrAnd}
+use Rattle.sqlite.specs.Effect.{Database}
+use Rattle.sqlite.specs.Held.{Held, state}
+use Rattle.sqlite.specs.State.{State, HasCleanDisk, Survives}
+use Rattle.sqlite.specs.Store.{Ghosts}
+use Rattle.sqlite.proofs.StateLemmas.{survives_then, survives_weaker}
+use Rattle.sqlite_trees.specs.Tree.{Trees}
+use Rattle.office_tables.specs.Alterations.{HoldsChanged}
+use Rattle.office_tables.specs.Schema.{IsBlank, no_schema}
+use Rattle.office_tables.specs.Standing.{Stands}
+use Rattle.office_tables.specs.Steps.{Leads, Within}
+use Rattle.office_tables.specs.Tables.{Tables, empty_tables}
+use Rattle.office_model.specs.Commands.{Gives}
+use Rattle.office_model.specs.Office.{OfficeState}
+use Rattle.office_model.specs.declared.fault.StoreFault.{StoreFault}
+use Rattle.office_model.specs.declared.fault.StoreFault.TheVariants.{Store}
+use Rattle.office_records.specs.Memory.{Memory}
+use Rattle.office_records.specs.Stands.{IsKept}
+use Rattle.office_store.specs.FoldReads.{IsSame}
+use Rattle.office_store.specs.Leaving.{HoldsNext, Leaves, MayCommit, MayMake, found_in}
+use Rattle.office_store.specs.Running.{IsAtRest, IsAwake, IsStill}
+use Rattle.office_store.proofs.CommandLemmas.{Moves}
+use Rattle.office_store.proofs.RunLemmas.{made_on}
+
+-- ---- where nothing is committed
+
+pub survives_same : (a : State) → Survives a a (λ _. ⊥)
+survives_same a = record {
+  clean = omega arith;
+  shield = λ h. h;
+  counts = omega arith;
+  limit = refl;
+  closes = λ _ opened. inl opened;
+  crash = λ _ db may. inl may;
+}
+
+pub survives_on : (a b c : State) → Survives a b (λ _. ⊥) → Survives b c (λ _. ⊥)
+    → Survives a c (λ _. ⊥)
+survives_on a b c = survives_then a b c _ _ _ (λ _ db none. none) (λ _ db none. none)
+
+pub survives_more : (a b : State) (P : Trees → Type 0) → Survives a b (λ _. ⊥) → Survives a b P
+survives_more a b P = survives_weaker a b _ P (λ _ db none. absurd none)
+
+-- a call of which a connection is seen inside an office
+pub survives_at : {S : Type 0} (g : Ghosts S) (start inside after : Held S) (P : Trees → Type 0)
+    → inside ≡ start → Survives (state g inside) (state g after) P
+    → Survives (state g start) (state g after) P
+survives_at g start inside after P view =
+    subst (λ h. Survives (state g h) (state g after) P) view
+
+-- ---- a command
+
+next_before : {A : Type 0} (command : OfficeState → Gives A) (before mid : State)
+    → IsStill before mid → (found : Trees) → HoldsNext command mid found
+    → HoldsNext command before found
+next_before command before mid still found next =
+    let was = still next.was_open in
+    record {
+      was_open = was.0;
+      office = next.office;
+      stood = subst (λ db. IsKept db next.office) was.1 next.stood;
+      answer = next.answer;
+      next = next.next;
+      does = next.does;
+      holds = next.holds;
+    }
+
+-- a command that a reader precedes
+pub leaves_then : {S A : Type 0} (g : Ghosts S) (command : OfficeState → Gives A)
+    (before mid after : Held S) (result : Result A StoreFault)
+    → Survives (state g before) (state g mid) (λ _. ⊥)
+    → (HasCleanDisk (state g mid) → IsStill (state g before) (state g mid))
+    → (HasCleanDisk (state g after) → HasCleanDisk (state g mid))
+    → Leaves g command mid after result → Leaves g command before after result
+leaves_then g command before mid after result read still clean =
+    survives_then (state g before) (state g mid) (state g after) (λ _. ⊥)
+    (MayCommit command (state g mid) result) (MayCommit command (state g before) result)
+    (λ _ db none. absurd none)
+    (λ k found may. (
+      may.0,
+      next_before command (state g before) (state g mid) (still (clean k)) found may.1,
+    )) read
+
+-- a failed statement is no refusal by name
+pub is_failed : {A : Type 0} (result : Result A StoreFault) → IsErrAnd result (λ e. e ≡ Store)
+    → IfErr result (λ e. e ≡ Store)
+is_failed (Ok x) is = tt
+is_failed (Err e) is = is
+
+-- readers, and then a transaction that leads to the office after the command
+module _ {S A : Type 0} (g : Ghosts S) (command : OfficeState → Gives A)
+    (before mid inside after : Held S) (m n : Memory) {k : ℕ} (count : ℕ → ℕ) (view : inside ≡ mid)
+    (rest : IsAtRest (state g inside) m k)
+    (awake : HasCleanDisk (state g mid) → IsAwake (state g mid))
+    (still : HasCleanDisk (state g mid) → IsStill (state g before) (state g mid))
+    (read : Survives (state g before) (state g mid) (λ _. ⊥)) (f : Tables → Tables) (x : A)
+    (put : Survives (state g inside) (state g after) (HoldsChanged f (state g inside)))
+    (moves : HasCleanDisk (state g after) → (found : Trees)
+    → HoldsChanged f (state g inside) found
+    → Moves command x (state g inside).now (found_in found) m n count) where
+  next_held : HasCleanDisk (state g after) → (found : Trees)
+      → HoldsChanged f (state g inside) found → HoldsNext command (state g before) found
+  next_held after_clean found changed =
+      let clean : HasCleanDisk (state g inside) = omega (arith, put.clean, after_clean) in
+      let there = subst (λ h. HasCleanDisk (state g h)) view clean in
+      let was = still there (awake there).0 in
+      let stood = rest clean (subst (λ h. IsAwake (state g h)) (sym view) (awake there)).0 in
+      let moved = moves after_clean found changed stood.0 stood.1 stood.2 in
+      record {
+        was_open = was.0;
+        office = stood.0;
+        stood = subst (λ db. IsKept db stood.0) was.1
+            (subst (λ h. IsKept (state g h).now stood.0) view stood.1);
+        answer = x;
+        next = moved.0;
+        does = moved.1;
+        holds = moved.2;
+      }
+
+  pub leaves_by : (result : Result A StoreFault) → IfErr result (λ e. e ≡ Store)
+      → Leaves g command before after result
+  leaves_by result unrefused =
+      survives_then (state g before) (state g mid) (state g after) _ _
+      (MayCommit command (state g before) result) (λ _ db none. absurd none)
+      (λ clean db changed. (unrefused, next_held clean db changed)) read
+      (survives_at g mid inside after (HoldsChanged f (state g inside)) view put)
+
+-- a transaction on what was read is one on what stood there before
+pub changed_on : {S : Type 0} (g : Ghosts S) (a b c : Held S)
+    → Survives (state g a) (state g b) (λ _. ⊥) → IsSame g a b
+    → (HasCleanDisk (state g a) → IsTrue (state g a).is_open) → (make : Tables → Tables)
+    → Survives (state g b) (state g c) (HoldsChanged make (state g b))
+    → Survives (state g a) (state g c) (HoldsChanged make (state g a))
+changed_on g a b c read same opened make put =
+    survives_then (state g a) (state g b) (state g c) (λ _. ⊥) (HoldsChanged make (state g b))
+    (HoldsChanged make (state g a)) (λ _ db none. absurd none)
+    (λ clean found changed.
+    let mid : HasCleanDisk (state g b) = omega (arith, put.clean, clean) in
+    made_on g a b (found_in found) same mid (opened (omega (arith, read.clean, mid))) make changed)
+    read put
+
+-- ---- an office that is made
+
+trees_stand : (db : Database) (found : Trees) (t : Tables) → found ≡ db.trees → Stands db t
+    → Stands (found_in found) t
+trees_stand db found t is held =
+    subst (λ s. Stands (record { schema = s; trees = found }) t) held.schema
+    (subst (λ trees. Stands (record { schema = db.schema; trees = trees }) t) (sym is) held)
+
+module _ {S : Type 0} (g : Ghosts S) (old begun last end : Held S)
+    (begins : begun ≡ record old { in_transaction = true })
+    (within : Within (state g begun) (state g last))
+    (makes : HasCleanDisk (state g last) → IsTrue begun.in_transaction
+    → Leads (IsBlank no_schema) (λ db. Stands db empty_tables) (state g begun) (state g last))
+    (survives : Survives (state g last) (state g end) (λ db. db ≡ (state g last).now.trees)) where
+  begun_survives : Survives (state g old) (state g last) (λ _. ⊥)
+  begun_survives =
+      let inside = (subst (λ h. Within (state g h) (state g last)) begins within).survives in
+      record {
+        clean = inside.clean;
+        shield = inside.shield;
+        counts = inside.counts;
+        limit = inside.limit;
+        closes = inside.closes;
+        crash = inside.crash;
+      }
+
+  made_in : HasCleanDisk (state g end) → IsBlank no_schema (state g old).now
+      → Stands (state g last).now empty_tables
+  made_in clean =
+      (subst (λ h. IsTrue h.in_transaction
+      → Leads (IsBlank no_schema) (λ db. Stands db empty_tables) (state g h) (state g last)) begins
+      (makes (omega (arith, survives.clean, clean))) refl).1
+
+  pub tables_survive : Survives (state g old) (state g end)
+      (λ found. IsBlank no_schema (state g old).now → Stands (found_in found) empty_tables)
+  tables_survive =
+      survives_then (state g old) (state g last) (state g end) (λ _. ⊥)
+      (λ db. db ≡ (state g last).now.trees)
+      (λ found. IsBlank no_schema (state g old).now → Stands (found_in found) empty_tables)
+      (λ _ db none. absurd none)
+      (λ clean found is blank. trees_stand (state g last).now found empty_tables is
+      (made_in clean blank))
+      begun_survives survives
+
+pub may_make : {S : Type 0} (g : Ghosts S) (old new : Held S)
+    (result : Result (Held S) (StoreFault × Held S)) → (state g old).now.schema ≡ no_schema
+    → IfErr result (λ e. e.0 ≡ Store)
+    → Survives (state g old) (state g new)
+    (λ found. IsBlank no_schema (state g old).now → Stands (found_in found) empty_tables)
+    → Survives (state g old) (state g new) (MayMake (state g old) result)
+may_make g old new result bare unrefused =
+    survives_weaker (state g old) (state g new) _ (MayMake (state g old) result) (λ _ found makes. (
+      bare,
+      unrefused,
+      record {
+        held = empty_tables;
+        tables = makes (record { schema_is = bare; empty = tt });
+        stands = refl;
+        sound = tt;
+        office = tt;
+      },
+    ))

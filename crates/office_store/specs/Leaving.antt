@@ -1,0 +1,53 @@
+-- What a later opening of the file may find after a call.
+use Rattle.std.specs.Prelude.{◌≡◌, IfErr, IsTrue, None, Result, Ok, Err}
+use Rattle.sqlite.specs.Effect.{Database}
+use Rattle.sqlite.specs.Held.{Held, state}
+use Rattle.sqlite.specs.State.{State, Survives}
+use Rattle.sqlite.specs.Store.{Ghosts}
+use Rattle.sqlite_trees.specs.Tree.{Trees}
+use Rattle.office_schema.specs.Schema.{office_schema}
+use Rattle.office_tables.specs.Schema.{no_schema}
+use Rattle.office_model.specs.Commands.{Gives}
+use Rattle.office_model.specs.Office.{OfficeState}
+use Rattle.office_model.specs.declared.fault.StoreFault.{StoreFault}
+use Rattle.office_model.specs.declared.fault.StoreFault.TheVariants.{Store}
+use Rattle.office_records.specs.Stands.{IsKept}
+
+-- the database of a file in which these trees are found, under the office's schema
+abbrev pub found_in : Trees → Database
+found_in found = record { schema = office_schema; trees = found }
+
+-- the trees hold the office that the command makes of the one in the open file
+pub record HoldsNext {A : Type 0} (command : OfficeState → Gives A) (old : State) (found : Trees)
+    : Type 0 where
+  pub was_open : IsTrue old.is_open
+  pub office : OfficeState
+  pub stood : IsKept old.now office
+  pub answer : A
+  pub next : OfficeState
+  pub does : command office ≡ Ok (answer, next)
+  pub holds : IsKept (found_in found) next
+
+-- what a command may commit, unless it is refused by name: the next office
+abbrev pub MayCommit : {A : Type 0} → (OfficeState → Gives A) → State → Result A StoreFault → Trees
+    → Type 0
+MayCommit command old result found =
+    IfErr result (λ e. e ≡ Store) × HoldsNext command old found
+
+-- a later opening may find what it might have found before the command, or what that may commit
+abbrev pub Leaves : {S A : Type 0} → Ghosts S → (OfficeState → Gives A) → Held S → Held S
+    → Result A StoreFault → Type 0
+Leaves store command old new result =
+    Survives (state store old) (state store new) (MayCommit command (state store old) result)
+
+-- the connection in an opened office, or that which a refusal hands back
+abbrev pub connection_of : {S : Type 0} → Result (Held S) (StoreFault × Held S) → Held S
+connection_of (Ok office) = office
+connection_of (Err refused) = refused.1
+
+-- what making an office may commit where there was no table, unless that is refused by name: the
+-- tables without a session
+abbrev pub MayMake : {S : Type 0} → State → Result (Held S) (StoreFault × Held S) → Trees → Type 0
+MayMake old result found =
+    (old.now.schema ≡ no_schema) × IfErr result (λ refused. refused.0 ≡ Store)
+    × IsKept (found_in found) None

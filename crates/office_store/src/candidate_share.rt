@@ -1,0 +1,34 @@
+// A candidate's share, by the row that is read.
+ghost use Rattle.std.specs.Prelude.{◌≡◌, ◌<◌, ◌^◌, [], ◌∷◌, Ok, Some};
+ghost use Rattle.exam_score.specs.Penalty.{personal_total};
+ghost use Rattle.office_store.specs.Viewing.{no_share, share_in_row};
+ghost use Rattle.office_tables.specs.declared.share_student.StudentShareRow.{StudentShareRow as ShareRow};
+
+use exam_score::PersonalParts;
+use office_model::StoreFault;
+use office_tables::StudentShareRow;
+
+// The share by the candidate's row; nothing if there is none. `BadSchema`: there are two rows, or
+// one that no share has.
+pub(crate) fn personal_in(rows: &[StudentShareRow]) -> Result<PersonalParts, StoreFault>
+    ensures none { rows.now ≡ [] → result ≡ Ok no_share }
+    ensures one { (row : ShareRow) → rows.now ≡ row ∷ []
+        → personal_total (share_in_row row) < 2 ^ 62 → result ≡ Ok (share_in_row row) }
+{
+    match share_in(rows) {
+        Some(share) => Ok(share),
+        None => Err(StoreFault::BadSchema),
+    }
+}
+
+fn share_in(rows: &[StudentShareRow]) -> Option<PersonalParts>
+    ensures none { rows.now ≡ [] → result ≡ Some no_share }
+    ensures one { (row : ShareRow) → rows.now ≡ row ∷ []
+        → personal_total (share_in_row row) < 2 ^ 62 → result ≡ Some (share_in_row row) }
+{
+    match rows {
+        [] => PersonalParts::new(0, 0, 0),
+        [row] => PersonalParts::new(row.in_row, row.in_day, row.spread),
+        _ => None,
+    }
+}
