@@ -271,18 +271,24 @@ def longest_batch(run):
 
 
 def most_batches(run):
-    """Ten thousand batches are kept: the next one is refused, and each of them still known."""
+    """Ten thousand batches are kept: the next one is refused, and each of them still known. A
+    batch that was refused or sent again is not counted."""
     database = run.database(SMALL)
     rows = ("WITH RECURSIVE n(no) AS (VALUES (1) UNION ALL SELECT no + 1 FROM n LIMIT 9998)"
             " INSERT INTO batch SELECT no, CAST('student,exam,action' AS BLOB), 0, 0, 0 FROM n")
     subprocess.run(["sqlite3", str(database), rows], check=True, timeout=SECONDS)
     exchanged(run, "ten thousand batches", database,
               [(batch(9_999, "1,1,add"), enrolled(9_999, 1, 0, 0)),
+               (batch(9_999, "1,1,add"), enrolled(9_999, 1, 0, 0)),
+               (batch(10_000, "1,4,add"), error(404, "number")),
                (batch(10_000, "1,2,add"), enrolled(10_000, 1, 0, 0)),
                (batch(0, "1,1,drop"), error(409, "too-many")),
                (batch(10_001, "1,4,drop"), error(404, "number")),
                (batch(9_999, "1,1,add"), enrolled(9_999, 1, 0, 0)),
                (message("PUT", "/batches/1", b"student,exam,action"), enrolled(1, 0, 0, 0))])
+    exchanged(run, "ten thousand batches, served again", database,
+              [(batch(0, "1,1,drop"), error(409, "too-many")),
+               (batch(10_000, "1,2,add"), enrolled(10_000, 1, 0, 0))])
 
 
 # Each of 100,000 candidates sits both exams, and takes them in a row in the draft: 7 each.
