@@ -1,4 +1,7 @@
 """How the tests count their cases and report those that fail."""
+import concurrent.futures
+import contextlib
+import io
 import os
 
 LONGEST = 1_200
@@ -19,10 +22,27 @@ class Cases:
             print(f"{self.about}: {name}", f"  expected {shown(expected)}", f"  got      {shown(got)}",
                   sep="\n", flush=True)
 
+    def run_side_by_side(self, tests, begin, at_once=4):
+        """Runs each test in a process of its own, with the cases that `begin` makes there for the test's name.
+        What each of them printed, and its cases, come in the order of the list."""
+        with concurrent.futures.ProcessPoolExecutor(at_once) as pool:
+            for said, count, failed in pool.map(run_apart, tests, [begin] * len(tests)):
+                print(said, end="", flush=True)
+                self.count += count
+                self.failed += failed
+
     def end(self, what="cases"):
         """Prints the line that counts the cases, and returns the status: 1 if one failed or none was run."""
         print(f"{self.about}: {self.count} {what}, {self.failed} failed")
         return int(self.failed > 0 or self.count == 0)
+
+
+def run_apart(test, begin):
+    """Runs one test. Returns what it printed, how many cases it had, and how many of them failed."""
+    with contextlib.redirect_stdout(io.StringIO()) as said:
+        cases = begin(test.__name__)
+        test(cases)
+    return said.getvalue(), cases.count, cases.failed
 
 
 def shown(it):

@@ -2,13 +2,14 @@
 """run_serve.py PROGRAM: the office over real sockets, byte for byte.
 
 Each worked example is asked whole, in single bytes and in one piece, on one connection and an
-office of its own. Then come stock curl, many connections, slow clients, clients that vanish, and
-kills at random moments. A failing case is printed with what was expected and what came, and the
-last line counts the cases.
+office of its own. Beside them run stock curl, many connections, slow clients and clients that
+vanish, each with its own offices and files; then, by themselves, kills at random moments. A failing
+case is printed with what was expected and what came, and the last line counts the cases.
 """
 import argparse
 import concurrent.futures
 import contextlib
+import functools
 import json
 import os
 import pathlib
@@ -121,6 +122,13 @@ class Run(Cases):
     def __init__(self, program, folder, about="serve"):
         super().__init__(about)
         self.program, self.folder, self.loaded = program, pathlib.Path(folder), {}
+
+    @classmethod
+    def apart(cls, program, folder, name):
+        """The cases of one test, in a folder of its own."""
+        room = pathlib.Path(folder) / name
+        room.mkdir()
+        return cls(program, room)
 
     def database(self, start):
         """A file of its own, into which this instance is loaded."""
@@ -556,15 +564,15 @@ def wide_instance():
 
 
 def slow_clients(run):
-    waited(run, "a client that sends slowly", SMALL, send_slowly, 2, 1)
-    waited(run, "a client that asks nothing", SMALL, ask_nothing, 2, 1)
-    waited(run, "a client that reads slowly", wide_instance(), read_slowly, 2, 2)
+    waited(run, "a client that sends slowly", SMALL, send_slowly, 3, 1)
+    waited(run, "a client that asks nothing", SMALL, ask_nothing, 3, 1)
+    waited(run, "a client that reads slowly", wide_instance(), read_slowly, 3, 2)
 
 
 def patient_client(run):
     """Within its limits a client is served for longer than the patience: it waits before it asks,
     and halfway through its message, and sends its next message behind the first half of one."""
-    office, patience = run.office(connections=1, patience=2), 2
+    office, patience = run.office(connections=1, patience=3), 3
     question, answer = message("GET", "/drafts/1"), error(404, "draft")
     middle, got, began = len(question) // 2, b"", time.monotonic()
     with office.connect() as client:
@@ -734,7 +742,7 @@ def kills(run, count):
     rng, database, drafts, made = random.Random(27), run.database(SMALL), {}, 0
     for number in range(count):
         office = Office(run.program, database)
-        killer = threading.Timer(rng.uniform(0.0, 0.15), office.process.kill)
+        killer = threading.Timer(rng.uniform(0.0, 0.25), office.process.kill)
         killer.start()
         stands, asked_for, wrong = change_until_killed(office, rng, drafts)
         killer.join()
@@ -747,6 +755,18 @@ def kills(run, count):
                                                 (found, stands, asked_for), wrong))
         drafts = found
     run.judge("kills amid changes", True, made > count // 2 or made)
+
+
+def tests_of(is_plain):
+    """The tests that run side by side. Those that wait begin first, because they take longest."""
+    waiting = [default_patience, patient_client, slow_clients]
+    own = [stored_by_hand, adopt_after_republication, draft_survives_adopt, last_message,
+           long_message, longest_body, cut_messages, hostile_messages, batches_are_kept,
+           publication_is_told]
+    others = [worked_examples, stock_curl, many_connections, failing_reader_and_writer,
+              port_is_taken, locked_database, closed_streams, longest_batch, most_batches,
+              most_pairs]
+    return others if is_plain else [*waiting, *others, *own]
 
 
 def words():
@@ -764,14 +784,7 @@ def main():
     program = str(pathlib.Path(given.program).resolve())
     with tempfile.TemporaryDirectory() as folder:
         run = Run(program, folder)
-        tests = [worked_examples, stock_curl, many_connections, failing_reader_and_writer,
-                 port_is_taken, locked_database, closed_streams]
-        if not given.plain:
-            tests += [stored_by_hand, adopt_after_republication, draft_survives_adopt, last_message,
-                      long_message, longest_body, cut_messages, hostile_messages, batches_are_kept,
-                      publication_is_told, slow_clients, patient_client, default_patience]
-        for test in [*tests, longest_batch, most_batches, most_pairs]:
-            test(run)
+        run.run_side_by_side(tests_of(given.plain), functools.partial(Run.apart, program, folder))
         kills(run, given.kills)
         killed_amid_batch(run, given.kills // 2)
     sys.exit(run.end())
