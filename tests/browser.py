@@ -4,6 +4,7 @@ import concurrent.futures
 import contextlib
 import os
 import pathlib
+import random
 import shutil
 import socket
 import time
@@ -41,9 +42,11 @@ def missing():
 
 
 def free_port():
-    with socket.socket() as one:
-        one.bind(("127.0.0.1", 0))
-        return one.getsockname()[1]
+    """A port that nothing has, below those that the system gives to whatever runs beside this test."""
+    while True:
+        with socket.socket() as one, contextlib.suppress(OSError):
+            one.bind(("127.0.0.1", random.randrange(20_000, 32_768)))
+            return one.getsockname()[1]
 
 
 def until(what, is_so):
