@@ -10,6 +10,8 @@ import pathlib
 import re
 import sys
 
+from cases import Cases
+
 TOP = pathlib.Path(__file__).resolve().parent.parent
 
 # Who may know SQL: its grammar and its meaning, and the texts of statements.
@@ -198,18 +200,11 @@ def main():
         knows[crate] = {name: "crates.txt" for name in sorted(stands_on)}
         for name, where in named(crate, libraries).items():
             knows[crate].setdefault(name, where)
-    failed = 0
+    judged = Cases("architecture")
     for invariant in INVARIANTS:
-        faults = list(invariant(crates, knows))
-        failed += bool(faults)
-        for fault in faults:
-            print(f"architecture: {invariant.__name__}: {fault}")
-    faults = list(stands_above(crates)) + list(pages_out_of_order(crates))
-    for fault in faults:
-        print(f"architecture: order: {fault}")
-    failed += bool(faults)
-    print(f"architecture: {len(INVARIANTS)} invariants and the order of the crates, {failed} failed")
-    return 1 if failed else 0
+        judged.add(1, [f"{invariant.__name__}: {fault}" for fault in invariant(crates, knows)])
+    judged.add(1, [f"order: {fault}" for fault in (*stands_above(crates), *pages_out_of_order(crates))])
+    return judged.end("invariants, the order of the crates among them")
 
 
 sys.exit(main())

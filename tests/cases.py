@@ -22,6 +22,13 @@ class Cases:
             print(f"{self.about}: {name}", f"  expected {shown(expected)}", f"  got      {shown(got)}",
                   sep="\n", flush=True)
 
+    def add(self, count, faults):
+        """Counts cases that were judged elsewhere, and prints their faults; each is of another case."""
+        self.count += count
+        self.failed += len(faults)
+        for fault in faults:
+            print(f"{self.about}: {fault}", flush=True)
+
     def run_side_by_side(self, tests, begin, at_once=4):
         """Runs each test in a process of its own, with the cases that `begin` makes there for the test's name.
         What each of them printed, and its cases, come in the order of the list."""

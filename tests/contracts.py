@@ -12,6 +12,8 @@ import pathlib
 import re
 import sys
 
+from cases import Cases
+
 TOP = pathlib.Path(__file__).resolve().parent.parent
 CITED = re.compile(
     r"\bRattle\.([a-z][a-z0-9_]*)\.(specs|proofs)\.((?:[A-Za-z0-9_]+\.)*[A-Za-z0-9_]+)(?:\.\{([^}]*)\})?"
@@ -115,11 +117,10 @@ def unwritten_of(crate, named, text):
 def main():
     crates, pages = listed(), sections()
     faults = list(uncontracted(crates, pages)) + list(unwritten(crates, pages))
-    for fault in faults:
-        print(f"contracts: {fault}")
     cited = {(x[0], x[2], x[3]) for crate in crates for x in citations(crate, crates)}
-    print(f"contracts: {len(cited)} words cited across crates, {len(faults)} failed")
-    return 1 if faults else 0
+    judged = Cases("contracts")
+    judged.add(len(cited), faults)
+    return judged.end("words cited across crates")
 
 
 sys.exit(main())

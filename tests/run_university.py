@@ -145,8 +145,7 @@ def main():
         finally:
             office.killed()
     print(*(f"university: {line}" for line in times.lines), sep="\n")
-    print(f"university: {run.count} cases, {run.failed} failed")
-    return 1 if run.failed else 0
+    return run.end()
 
 
 if __name__ == "__main__":

@@ -29,6 +29,8 @@ from contextlib import contextmanager
 from pathlib import Path
 from queue import Empty, SimpleQueue
 
+from cases import Cases
+
 ROOT = Path(__file__).resolve().parent.parent
 SOURCES = ("src", "specs", "proofs")
 # what a comment begins with
@@ -60,14 +62,12 @@ def crates_with_edits():
 
 
 def say_current(crates):
-    late = {name: edits for name in crates if (edits := untried(name))}
-    for name, edits in late.items():
-        print(f"wrong bodies: {name}: to be tried: {' '.join(at.stem for at in edits)}", file=sys.stderr)
+    judged, late = Cases("wrong bodies"), [name for name in crates if untried(name)]
+    for name in crates:
+        judged.add(len(edits_of(name)), [f"{name}: {at.stem} has to be tried" for at in untried(name)])
     if late:
         print(f"wrong bodies: run ./test wrong {' '.join(late)}", file=sys.stderr)
-        return 1
-    print(f"wrong bodies: {sum(len(edits_of(name)) for name in crates)} of {len(crates)} crates tried as they are")
-    return 0
+    return judged.end("edits")
 
 
 def try_all(names):
