@@ -13,6 +13,8 @@ import subprocess
 import sys
 import tempfile
 
+from cases import Cases
+
 TOP = pathlib.Path(__file__).resolve().parent.parent
 TOOL, EXAMPLES, LABELS = TOP / "tools" / "session_from_csv", TOP / "examples", TOP / "front" / "labels"
 UNIVERSITY = EXAMPLES / "university"
@@ -61,18 +63,12 @@ FAULTS = [
 ]
 
 
-class Run:
-    """The cases that were run, and how many failed."""
+class Run(Cases):
+    """The cases, with the tool's output in a folder."""
 
     def __init__(self, folder):
-        self.folder, self.count, self.failed = pathlib.Path(folder), 0, 0
-
-    def judge(self, name, expected, came):
-        self.count += 1
-        if expected != came:
-            self.failed += 1
-            print(f"session_from_csv: {name}", f"  expected {expected!r}", f"  got      {came!r}",
-                  sep="\n", flush=True)
+        super().__init__("session_from_csv")
+        self.folder = pathlib.Path(folder)
 
     def made(self, source):
         """The status, the faults and the files that the tool makes."""
@@ -179,8 +175,7 @@ def main():
         examples(run, program)
         variants(run)
         faulty(run)
-    print(f"session_from_csv: {run.count} cases, {run.failed} failed")
-    return 1 if run.failed else 0
+    return run.end()
 
 
 if __name__ == "__main__":
