@@ -203,7 +203,8 @@ def main():
     judged = Cases("architecture")
     for invariant in INVARIANTS:
         judged.add(1, [f"{invariant.__name__}: {fault}" for fault in invariant(crates, knows)])
-    judged.add(1, [f"order: {fault}" for fault in (*stands_above(crates), *pages_out_of_order(crates))])
+    faults = (*stands_above(crates), *pages_out_of_order(crates))
+    judged.add(1, [f"order: {fault}" for fault in faults])
     return judged.end("invariants, the order of the crates among them")
 
 

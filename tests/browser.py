@@ -42,7 +42,7 @@ def missing():
 
 
 def free_port():
-    """A port that nothing has, below those that the system gives to whatever runs beside this test."""
+    """A port that nothing has, below those that the system gives to the tests that run beside."""
     while True:
         with socket.socket() as one, contextlib.suppress(OSError):
             one.bind(("127.0.0.1", random.randrange(20_000, 32_768)))

@@ -23,15 +23,15 @@ class Cases:
                   sep="\n", flush=True)
 
     def add(self, count, faults):
-        """Counts cases that were judged elsewhere, and prints their faults; each is of another case."""
+        """Counts cases that were judged elsewhere, and prints their faults, each of another case."""
         self.count += count
         self.failed += len(faults)
         for fault in faults:
             print(f"{self.about}: {fault}", flush=True)
 
     def run_side_by_side(self, tests, begin, at_once=4):
-        """Runs each test in a process of its own, with the cases that `begin` makes there for the test's name.
-        What each of them printed, and its cases, come in the order of the list."""
+        """Runs each test in a process of its own, with the cases that `begin` makes there for the
+        test's name. What each printed, and its cases, come in the order of the list."""
         with concurrent.futures.ProcessPoolExecutor(at_once) as pool:
             for said, count, failed in pool.map(run_apart, tests, [begin] * len(tests)):
                 print(said, end="", flush=True)
@@ -45,7 +45,7 @@ class Cases:
 
 
 def run_apart(test, begin):
-    """Runs one test. Returns what it printed, how many cases it had, and how many of them failed."""
+    """Runs one test. Returns what it printed, how many cases it had, and how many failed."""
     with contextlib.redirect_stdout(io.StringIO()) as said:
         cases = begin(test.__name__)
         test(cases)

@@ -64,7 +64,8 @@ def crates_with_edits():
 def say_current(crates):
     judged, late = Cases("wrong bodies"), [name for name in crates if untried(name)]
     for name in crates:
-        judged.add(len(edits_of(name)), [f"{name}: {at.stem} has to be tried" for at in untried(name)])
+        judged.add(len(edits_of(name)),
+                   [f"{name}: {at.stem} has to be tried" for at in untried(name)])
     if late:
         print(f"wrong bodies: run ./test wrong {' '.join(late)}", file=sys.stderr)
     return judged.end("edits")
