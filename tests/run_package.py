@@ -43,11 +43,15 @@ def of_the_package(judged, folder):
     root = folder / "root"
     judged.judge("it is unpacked", (0, ""), ran("dpkg-deb", "-x", package, root))
     program = root / "usr" / "bin" / "examoffice"
-    judged.judge("its program has no symbols", True, "stripped" in ran("file", program)[1]
+    judged.judge("its program has no symbols", True, ", stripped" in ran("file", program)[1]
                  if shutil.which("file") else True)
     status, said = ran(sys.executable, TOP / "tests" / "run_using.py", program,
                        TOP / "docs" / "USING.md")
     judged.judge("the day of docs/USING.md", 0, status and said)
+    commands = {it.name: ran(it, "--help")[0] for it in program.parent.iterdir()}
+    judged.judge("its commands, and the status of their help", dict.fromkeys(
+        ("examoffice", "examoffice-session-from-csv", "examoffice-status",
+         "examoffice-users-from-csv"), 0), commands)
     judged.judge("no office on a port", 1, ran(root / "usr" / "bin" / "examoffice-status", "1")[0])
     links = {it: os.readlink(root / "etc" / "examoffice" / "front" / it) for it in ("page", "run")}
     judged.judge("the front's folders", {"page": "/usr/share/examoffice/page",
