@@ -30,13 +30,17 @@ class Cases:
             print(f"{self.about}: {fault}", flush=True)
 
     def run_side_by_side(self, tests, begin, at_once=4):
-        """Runs each test in a process of its own, with the cases that `begin` makes there for the
-        test's name. What each printed, and its cases, come in the order of the list."""
+        """Runs each test, a function by its name, in a process of its own, with the cases that `begin`
+        makes there for its name. What each printed comes in their order, and so do the cases, which
+        are returned."""
         with concurrent.futures.ProcessPoolExecutor(at_once) as pool:
-            for said, count, failed in pool.map(run_apart, tests, [begin] * len(tests)):
+            made = []
+            for said, cases in pool.map(run_apart, *zip(*tests.items()), [begin] * len(tests)):
                 print(said, end="", flush=True)
-                self.count += count
-                self.failed += failed
+                self.count += cases.count
+                self.failed += cases.failed
+                made.append(cases)
+        return made
 
     def end(self, what="cases"):
         """Prints the line that counts the cases, and returns the status: 1 if one failed or none was run."""
@@ -44,12 +48,12 @@ class Cases:
         return int(self.failed > 0 or self.count == 0)
 
 
-def run_apart(test, begin):
-    """Runs one test. Returns what it printed, how many cases it had, and how many failed."""
+def run_apart(name, test, begin):
+    """Runs one test. Returns what it printed, and its cases."""
     with contextlib.redirect_stdout(io.StringIO()) as said:
-        cases = begin(test.__name__)
+        cases = begin(name)
         test(cases)
-    return said.getvalue(), cases.count, cases.failed
+    return said.getvalue(), cases
 
 
 def shown(it):

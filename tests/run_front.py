@@ -218,9 +218,9 @@ def no_office(run):
     front.told(ask("registry", "POST", "/drafts/1/publish"))
     front.told(message("POST", "/drafts/1/publish", caller=None, fields=[password("ada", "guess")]))
     front.stop()
-    run.judge("the log of changes that the front refused", [("registry", 503), ("ada", 401)],
-              [(line["user"], line["status"]) for line in front.changes()
-               if "/drafts/1/publish" in line["request"]])
+    run.judge("the log of changes that the front refused", {("ada", 401), ("registry", 503)},
+              {(line["user"], line["status"]) for line in front.changes()
+               if "/drafts/1/publish" in line["request"]})
 
 
 def statuses(front, question, count):

@@ -10,6 +10,7 @@ the program's `check` prints for the exported timetable with the published enrol
 is printed with what was expected and what came, and the last line counts the cases.
 """
 import argparse
+import functools
 import pathlib
 import random
 import subprocess
@@ -22,6 +23,8 @@ from serve_cases import (
     asked_by, at, cost, error, forbidden, me, message, publish, reply, shown_exam)
 
 SECONDS = 60
+# How many rounds run side by side.
+AT_ONCE = 4
 # Two days of four periods each, in which every exam fits.
 PERIODS = [(f"{day}:04:2005", f"{hour:02}:15:00") for day in (14, 15) for hour in (8, 11, 14, 17)]
 # What two offices share: the candidate, her exams, the places of these and of those that she may
@@ -312,18 +315,27 @@ def one_round(run, seed):
         run.adds_up(name, client)
 
 
+def rounds(run, seeds):
+    for seed in seeds:
+        one_round(run, seed)
+
+
 def main():
     parser = argparse.ArgumentParser(description=__doc__)
     parser.add_argument("program", metavar="PROGRAM")
     parser.add_argument("--rounds", type=int, default=300, help="how many rounds (300)")
     parser.add_argument("--seed", type=int, default=2007, help="the first round's seed (2007)")
     given = parser.parse_args()
+    program = str(pathlib.Path(given.program).resolve())
+    seeds = range(given.seed, given.seed + given.rounds)
     with tempfile.TemporaryDirectory() as folder:
-        run = Run(str(pathlib.Path(given.program).resolve()), folder, "isolation")
-        for seed in range(given.seed, given.seed + given.rounds):
-            one_round(run, seed)
-    print(f"isolation: {given.rounds} rounds, {run.accepted} changes of hers accepted,"
-          f" {run.again} publications again")
+        run = Run(program, folder, "isolation")
+        parts = {f"part {first}": functools.partial(rounds, seeds=seeds[first::AT_ONCE])
+                 for first in range(AT_ONCE)}
+        made = run.run_side_by_side(
+            parts, functools.partial(Run.apart, program, folder, run.about), AT_ONCE)
+    print(f"isolation: {given.rounds} rounds, {sum(part.accepted for part in made)} accepted changes"
+          f" of the candidate, {sum(part.again for part in made)} publications again")
     sys.exit(run.end())
 
 

@@ -124,11 +124,11 @@ class Run(Cases):
         self.program, self.folder, self.loaded = program, pathlib.Path(folder), {}
 
     @classmethod
-    def apart(cls, program, folder, name):
+    def apart(cls, program, folder, about, name):
         """The cases of one test, in a folder of its own."""
         room = pathlib.Path(folder) / name
         room.mkdir()
-        return cls(program, room)
+        return cls(program, room, about)
 
     def database(self, start):
         """A file of its own, into which this instance is loaded."""
@@ -766,7 +766,8 @@ def tests_of(is_plain):
     others = [worked_examples, stock_curl, many_connections, failing_reader_and_writer,
               port_is_taken, locked_database, closed_streams, longest_batch, most_batches,
               most_pairs]
-    return others if is_plain else [*waiting, *others, *own]
+    tests = others if is_plain else [*waiting, *others, *own]
+    return {test.__name__: test for test in tests}
 
 
 def words():
@@ -784,7 +785,8 @@ def main():
     program = str(pathlib.Path(given.program).resolve())
     with tempfile.TemporaryDirectory() as folder:
         run = Run(program, folder)
-        run.run_side_by_side(tests_of(given.plain), functools.partial(Run.apart, program, folder))
+        run.run_side_by_side(tests_of(given.plain),
+                             functools.partial(Run.apart, program, folder, run.about))
         kills(run, given.kills)
         killed_amid_batch(run, given.kills // 2)
     sys.exit(run.end())
