@@ -16,6 +16,7 @@ import random
 import subprocess
 import sys
 import tempfile
+import time
 from collections import namedtuple
 
 import run_serve
@@ -187,19 +188,20 @@ class Client:
     def __init__(self, run, name, office):
         self.name, self.made, self.database = name, office, run.prepared(name, office)
         self.office = run_serve.Office(run.program, self.database)
-        self.connection, self.left, self.batches = None, 0, 100_000
+        self.connection, self.left, self.batches, self.last = None, 0, 100_000, 0
         self.is_published = (
             self.asks(message("PUT", "/drafts/1", solution(office))).startswith(b"HTTP/1.1 201 ")
             and self.asks(publish()).startswith(b"HTTP/1.1 200 "))
 
     def asks(self, question):
-        """The whole reply."""
-        if not self.left:
+        """The whole reply. The office leaves a client that says nothing for 5 seconds."""
+        if not self.left or time.monotonic() - self.last > 1:
             self.ends()
             self.connection, self.left = self.office.connect(), 90
         self.left -= 1
         self.connection.sendall(question)
-        return whole_reply(self.connection)
+        answer, self.last = whole_reply(self.connection), time.monotonic()
+        return answer
 
     def hears_others(self, rng):
         for _ in range(rng.randint(0, 4)):
