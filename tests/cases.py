@@ -23,16 +23,16 @@ class Cases:
                   sep="\n", flush=True)
 
     def add(self, count, faults):
-        """Counts cases that were judged elsewhere, and prints their faults, each of another case."""
+        """Counts cases that were judged elsewhere, and prints the faults of those that failed."""
         self.count += count
         self.failed += len(faults)
         for fault in faults:
             print(f"{self.about}: {fault}", flush=True)
 
     def run_side_by_side(self, tests, begin, at_once=4):
-        """Runs each test, a function by its name, in a process of its own, with the cases that `begin`
-        makes there for its name. What each printed comes in their order, and so do the cases, which
-        are returned."""
+        """Runs each test, a function by its name, in a process of its own, with the cases that
+        `begin` makes there for its name. What each printed comes in their order, and so do the
+        cases, which are returned."""
         with concurrent.futures.ProcessPoolExecutor(at_once) as pool:
             made = []
             for said, cases in pool.map(run_apart, *zip(*tests.items()), [begin] * len(tests)):

@@ -336,8 +336,9 @@ def main():
                  for first in range(AT_ONCE)}
         made = run.run_side_by_side(
             parts, functools.partial(Run.apart, program, folder, run.about), AT_ONCE)
-    print(f"isolation: {given.rounds} rounds, {sum(part.accepted for part in made)} accepted changes"
-          f" of the candidate, {sum(part.again for part in made)} publications again")
+    accepted, again = (sum(getattr(part, what) for part in made) for what in ("accepted", "again"))
+    print(f"isolation: {given.rounds} rounds, {accepted} accepted changes of the candidate,"
+          f" {again} publications again")
     sys.exit(run.end())
 
 

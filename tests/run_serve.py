@@ -34,7 +34,8 @@ from serve_cases import (
     asked_by, at, batch, batch_text, clear, drafted, enrolled, error, forbidden, me, message, move,
     pending, place, publish, published, reply, report, swap, text)
 
-SECONDS = 60
+# Beyond this nothing is waited for. Long, because other tests run beside.
+SECONDS = 180
 
 
 class Office:
