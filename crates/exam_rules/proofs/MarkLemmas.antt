@@ -1,13 +1,14 @@
 -- Marks: none is lost.
 use Rattle.std.specs.Int.{bit_at}
 use Rattle.std.specs.Int.RustNames.{bit_or}
-use Rattle.std.proofs.Common.{◌≡◌, ℕ, ◌+◌, ◌*◌, ◌%◌, ◌^◌, ◌<◌, ◌⊎◌, inl, inr, Bool, true, false, ◌&&◌, ◌||◌, ◌==◌, w64, List, length, take, get_or, slice_set, refl, sym, ◌∙◌, ap, arith, eqb-true}
+use Rattle.std.proofs.Common.{◌≡◌, ℕ, ◌+◌, ◌-◌, ◌*◌, ◌%◌, ◌^◌, ◌<◌, ◌⊎◌, inl, inr, Bool, true, false, ◌&&◌, ◌||◌, ◌==◌, w64, List, length, take, get_or, slice_set, refl, sym, ◌∙◌, ap, arith, eqb-true}
 use Rattle.std.proofs.lemmas.Bool.{cases_eq}
 use Rattle.std.proofs.lemmas.List.{length-set, get_or-set_same, get_or-set_other}
 use Rattle.std.proofs.lemmas.List.Folds.{list_any_more}
+use Rattle.std.proofs.lemmas.Nat.{and_le_r}
 use Rattle.std.proofs.lemmas.Nat.Bits.{bit_at_or, bit_at-lt, bit_at_set_same}
 use Rattle.exam_model.specs.Enrolments.{has_number}
-use Rattle.exam_rules.specs.Marks.{marks_of, Has}
+use Rattle.exam_rules.specs.Marks.{marks_of, slot_of, Has}
 
 -- of what is one of the first students
 pub before_or_here : (students : List ℕ) (i x s : ℕ) → i < length students → x ≡ get_or students i x
@@ -34,83 +35,99 @@ more_left a b i h = bit_at_or a b i ∙ omega (arith, h, bit_at-lt b i)
 more_right : (a b i : ℕ) → bit_at b i ≡ 1 → bit_at (bit_or a b) i ≡ 1
 more_right a b i h = bit_at_or a b i ∙ omega (arith, h, bit_at-lt a i)
 
+-- a student has one of the slots
+pub slot_within : (slots s : ℕ) → 0 < slots → slot_of slots s < slots
+slot_within slots s some = omega (arith, some, and_le_r s (slots - 1))
+
 -- the first i students are marked, and no mark is lost
 pub record AreMarked (old students : List ℕ) (exam i : ℕ) (slots : List ℕ) : Type 0 where
-  pub count : length slots ≡ 65536
+  pub some : 0 < length slots
   pub marked : (s : ℕ) → has_number (take i students) s ≡ true → Has (marks_of slots s) exam
   pub kept : (s e : ℕ) → Has (marks_of old s) e → Has (marks_of slots s) e
 
 pub marked_more : {old students : List ℕ} {exam i : ℕ} {slots : List ℕ} (x : ℕ)
     → AreMarked old students exam i slots → i < length students → x ≡ get_or students i x
     → AreMarked old students exam (i + 1)
-    (slice_set slots (x % 65536)
-    (bit_or (get_or slots (x % 65536) 0) (1 * 2 ^ (exam % 64) % 2 ^ 64)))
+    (slice_set slots (slot_of (length slots) x)
+    (bit_or (get_or slots (slot_of (length slots) x) 0) (1 * 2 ^ (exam % 64) % 2 ^ 64)))
 marked_more {old} {students} {exam} {i} {slots} x so_far within here = record {
-  count = length-set slots (x % 65536) marks ∙ so_far.count;
-  marked = λ s h. marked s (before_or_here students i x s within here h);
-  kept = λ s e h. grows (s % 65536) (e % 64) (so_far.kept s e h);
+  some = rw long so_far.some;
+  marked = λ s h. rw long (marked s (before_or_here students i x s within here h));
+  kept = λ s e h. rw long (grows (slot_of (length slots) s) (e % 64) (so_far.kept s e h));
 }
   where
-    marks : ℕ
-    marks = bit_or (get_or slots (x % 65536) 0) (1 * 2 ^ (exam % 64) % 2 ^ 64)
+    at : ℕ
+    at = slot_of (length slots) x
 
-    slot : x % 65536 < length slots
-    slot = omega (arith, so_far.count)
+    marks : ℕ
+    marks = bit_or (get_or slots at 0) (1 * 2 ^ (exam % 64) % 2 ^ 64)
+
+    long : length (slice_set slots at marks) ≡ length slots
+    long = length-set slots at marks
+
+    slot : at < length slots
+    slot = slot_within (length slots) x so_far.some
 
     grows : (k b : ℕ) → bit_at (get_or slots k 0) b ≡ 1
-        → bit_at (get_or (slice_set slots (x % 65536) marks) k 0) b ≡ 1
-    grows k b h = elim (cases_eq k (x % 65536))
-        as (λ _. bit_at (get_or (slice_set slots (x % 65536) marks) k 0) b ≡ 1) [
-          | inl same ↦ ap (λ j. bit_at (get_or (slice_set slots (x % 65536) marks) j 0) b) same
-              ∙ ap (λ m. bit_at m b) (get_or-set_same slots (x % 65536) marks 0 slot)
-              ∙ more_left (get_or slots (x % 65536) 0) (1 * 2 ^ (exam % 64) % 2 ^ 64) b
+        → bit_at (get_or (slice_set slots at marks) k 0) b ≡ 1
+    grows k b h = elim (cases_eq k at)
+        as (λ _. bit_at (get_or (slice_set slots at marks) k 0) b ≡ 1) [
+          | inl same ↦ ap (λ j. bit_at (get_or (slice_set slots at marks) j 0) b) same
+              ∙ ap (λ m. bit_at m b) (get_or-set_same slots at marks 0 slot)
+              ∙ more_left (get_or slots at 0) (1 * 2 ^ (exam % 64) % 2 ^ 64) b
               (ap (λ j. bit_at (get_or slots j 0) b) (sym same) ∙ h)
-          | inr other ↦ ap (λ m. bit_at m b) (get_or-set_other slots (x % 65536) k marks 0 other)
-              ∙ h
+          | inr other ↦ ap (λ m. bit_at m b) (get_or-set_other slots at k marks 0 other) ∙ h
         ]
 
     marked : (s : ℕ) → (has_number (take i students) s ≡ true) ⊎ (x ≡ s)
-        → bit_at (get_or (slice_set slots (x % 65536) marks) (s % 65536) 0) (exam % 64) ≡ 1
-    marked s (inl before) = grows (s % 65536) (exam % 64) (so_far.marked s before)
+        → bit_at (get_or (slice_set slots at marks) (slot_of (length slots) s) 0) (exam % 64) ≡ 1
+    marked s (inl before) =
+        grows (slot_of (length slots) s) (exam % 64) (so_far.marked s before)
     marked s (inr same) =
-        ap (λ t. bit_at (get_or (slice_set slots (x % 65536) marks) (t % 65536) 0) (exam % 64))
-        (sym same)
-        ∙ ap (λ m. bit_at m (exam % 64)) (get_or-set_same slots (x % 65536) marks 0 slot)
-        ∙ bit_at_set_same w64 (get_or slots (x % 65536) 0) (exam % 64) (omega arith)
+        ap (λ t. bit_at (get_or (slice_set slots at marks) (slot_of (length slots) t) 0)
+        (exam % 64)) (sym same)
+        ∙ ap (λ m. bit_at m (exam % 64)) (get_or-set_same slots at marks 0 slot)
+        ∙ bit_at_set_same w64 (get_or slots at 0) (exam % 64) (omega arith)
 
 -- the first i students have no marks, nor has one who had none before
 pub record AreCleared (old students : List ℕ) (i : ℕ) (slots : List ℕ) : Type 0 where
-  pub count : length slots ≡ 65536
+  pub some : 0 < length slots
   pub cleared : (s : ℕ) → has_number (take i students) s ≡ true → marks_of slots s ≡ 0
   pub kept : (s : ℕ) → marks_of old s ≡ 0 → marks_of slots s ≡ 0
 
 pub cleared_more : {old students : List ℕ} {i : ℕ} {slots : List ℕ} (x : ℕ)
     → AreCleared old students i slots → i < length students → x ≡ get_or students i x
-    → AreCleared old students (i + 1) (slice_set slots (x % 65536) 0)
+    → AreCleared old students (i + 1) (slice_set slots (slot_of (length slots) x) 0)
 cleared_more {old} {students} {i} {slots} x so_far within here = record {
-  count = length-set slots (x % 65536) 0 ∙ so_far.count;
-  cleared = λ s h. cleared s (before_or_here students i x s within here h);
-  kept = λ s h. stays (s % 65536) (so_far.kept s h);
+  some = rw long so_far.some;
+  cleared = λ s h. rw long (cleared s (before_or_here students i x s within here h));
+  kept = λ s h. rw long (stays (slot_of (length slots) s) (so_far.kept s h));
 }
   where
-    slot : x % 65536 < length slots
-    slot = omega (arith, so_far.count)
+    at : ℕ
+    at = slot_of (length slots) x
 
-    stays : (k : ℕ) → get_or slots k 0 ≡ 0 → get_or (slice_set slots (x % 65536) 0) k 0 ≡ 0
-    stays k h =
-        let after = slice_set slots (x % 65536) 0 in
-        elim (cases_eq k (x % 65536)) as (λ _. get_or after k 0 ≡ 0) [
-          | inl same ↦
-              ap (λ j. get_or after j 0) same ∙ get_or-set_same slots (x % 65536) 0 0 slot
-          | inr other ↦ get_or-set_other slots (x % 65536) k 0 0 other ∙ h
-        ]
+    after : List ℕ
+    after = slice_set slots at 0
+
+    long : length after ≡ length slots
+    long = length-set slots at 0
+
+    slot : at < length slots
+    slot = slot_within (length slots) x so_far.some
+
+    stays : (k : ℕ) → get_or slots k 0 ≡ 0 → get_or after k 0 ≡ 0
+    stays k h = elim (cases_eq k at) as (λ _. get_or after k 0 ≡ 0) [
+      | inl same ↦ ap (λ j. get_or after j 0) same ∙ get_or-set_same slots at 0 0 slot
+      | inr other ↦ get_or-set_other slots at k 0 0 other ∙ h
+    ]
 
     cleared : (s : ℕ) → (has_number (take i students) s ≡ true) ⊎ (x ≡ s)
-        → get_or (slice_set slots (x % 65536) 0) (s % 65536) 0 ≡ 0
-    cleared s (inl before) = stays (s % 65536) (so_far.cleared s before)
+        → get_or after (slot_of (length slots) s) 0 ≡ 0
+    cleared s (inl before) = stays (slot_of (length slots) s) (so_far.cleared s before)
     cleared s (inr same) =
-        ap (λ t. get_or (slice_set slots (x % 65536) 0) (t % 65536) 0) (sym same)
-        ∙ get_or-set_same slots (x % 65536) 0 0 slot
+        ap (λ t. get_or after (slot_of (length slots) t) 0) (sym same)
+        ∙ get_or-set_same slots at 0 0 slot
 
 -- what is marked for one of the first i students
 pub record AreOf (slots students : List ℕ) (i all : ℕ) : Type 0 where
@@ -120,17 +137,17 @@ pub record AreOf (slots students : List ℕ) (i all : ℕ) : Type 0 where
 pub of_more : {slots students : List ℕ} {i all : ℕ} (x : ℕ) → AreOf slots students i all
     → i < length students
     → x ≡ get_or students i x
-    → AreOf slots students (i + 1) (bit_or all (get_or slots (x % 65536) 0))
+    → AreOf slots students (i + 1) (bit_or all (get_or slots (slot_of (length slots) x) 0))
 of_more {slots} {students} {i} {all} x so_far within here =
     record { each = λ s e h k. step s e k (before_or_here students i x s within here h) }
   where
     step : (s e : ℕ) → Has (marks_of slots s) e → (has_number (take i students) s ≡ true) ⊎ (x ≡ s)
-        → bit_at (bit_or all (get_or slots (x % 65536) 0)) (e % 64) ≡ 1
+        → bit_at (bit_or all (get_or slots (slot_of (length slots) x) 0)) (e % 64) ≡ 1
     step s e k (inl before) =
-        more_left all (get_or slots (x % 65536) 0) (e % 64) (so_far.each s e before k)
+        more_left all (get_or slots (slot_of (length slots) x) 0) (e % 64) (so_far.each s e before k)
     step s e k (inr same) =
-        more_right all (get_or slots (x % 65536) 0) (e % 64)
-        (ap (λ t. bit_at (get_or slots (t % 65536) 0) (e % 64)) same ∙ k)
+        more_right all (get_or slots (slot_of (length slots) x) 0) (e % 64)
+        (ap (λ t. bit_at (get_or slots (slot_of (length slots) t) 0) (e % 64)) same ∙ k)
 
 pub and_assoc : (a b c : Bool) → (a && (b && c)) ≡ ((a && b) && c)
 and_assoc true b c = refl

@@ -1,14 +1,12 @@
 // Marks for students, by which most exams of a period are told apart without a look at the lists.
-ghost use Rattle.std.specs.Prelude.{◌≡◌, ℕ, true, ◌%◌, ◌==◌, replicate, IfOk};
+ghost use Rattle.std.specs.Prelude.{◌≡◌, ℕ, true, ◌%◌, ◌<◌, ◌==◌, length, replicate, IfOk};
 ghost use Rattle.std.specs.Int.{bit_at};
 ghost use Rattle.exam_model.specs.Enrolments.{has_number};
-ghost use Rattle.exam_rules.specs.Marks.{marks_of, Has};
+ghost use Rattle.exam_rules.specs.Marks.{marks_of, slot_of, Has};
 
 use exam_model::{ExamNo, StudentNo};
 use std::alloc::{AllocError, Global};
 use std::marker::Model;
-
-const SLOTS: usize = 65_536;
 
 // An exam is one of 64 bits, and a student one of many numbers: so a mark may stand for others
 // too, but none is missing.
@@ -18,21 +16,21 @@ pub(crate) struct Marks {
 }
 
 impl Model for Marks {
-    ghost use Rattle.std.specs.Prelude.{◌≡◌, ℕ, List, length};
+    ghost use Rattle.std.specs.Prelude.{◌<◌, ℕ, List, length};
 
     ghost Value = { List ℕ };
 
     ghost view = { λ a. a.slots.items };
 
-    ghost invariant = { λ a. length a.slots.items ≡ 65536 };
+    ghost invariant = { λ a. 0 < length a.slots.items };
 }
 
 impl Marks {
-    /// No marks.
-    pub(crate) fn new(alloc: Global) -> Result<Marks, AllocError>
-        ensures { IfOk result (λ marks. marks ≡ replicate 65536 0) }
+    /// No marks, for the students of so many enrolments.
+    pub(crate) fn new(alloc: Global, pairs: u32) -> Result<Marks, AllocError>
+        ensures { IfOk result (λ marks. marks ≡ replicate (length marks) 0) }
     {
-        let slots = vec![in alloc; 0u64; SLOTS]?;
+        let slots = vec![in alloc; 0u64; slots_for(pairs)]?;
         Ok(Marks { slots })
     }
 
@@ -44,7 +42,7 @@ impl Marks {
     {
         let bit = 1u64 << (exam.get() % 64);
         'students: for student in students {
-            let slot = student.get() as usize % SLOTS;
+            let slot = slot_in(&self.slots, *student);
             let marks = self.slots[slot] | bit;
             self.slots[slot] = marks;
         }
@@ -57,7 +55,7 @@ impl Marks {
     {
         let mut all = 0u64;
         'students: for student in students {
-            let slot = student.get() as usize % SLOTS;
+            let slot = slot_in(&self.slots, *student);
             all |= self.slots[slot];
         }
         all
@@ -69,10 +67,33 @@ impl Marks {
         ensures kept { (s : ℕ) → marks_of self.old s ≡ 0 → marks_of self.new s ≡ 0 }
     {
         'students: for student in students {
-            let slot = student.get() as usize % SLOTS;
+            let slot = slot_in(&self.slots, *student);
             self.slots[slot] = 0;
         }
     }
+}
+
+// A power of two, of which there is one for some four enrolments: so a small session takes little
+// memory.
+fn slots_for(pairs: u32) -> usize
+    ensures { 0 < result }
+{
+    match pairs {
+        0..=10_000 => 2_048,
+        10_001..=40_000 => 8_192,
+        40_001..=160_000 => 32_768,
+        _ => 65_536,
+    }
+}
+
+// The slot of a student, by the last bits of their number.
+#[inline(always)]
+fn slot_in(slots: &[u64], student: StudentNo) -> usize
+    requires some { 0 < length slots.now }
+    ensures slot { result ≡ slot_of (length slots.now) student }
+    ensures exists { result < length slots.now }
+{
+    student.get() as usize & (slots.len() - 1)
 }
 
 /// Whether the exam is among the marked ones.

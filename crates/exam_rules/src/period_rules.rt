@@ -67,7 +67,7 @@ pub(crate) fn clash_pairs(
         ≡ pairs_breaking instance.now enrolments.now timetable.now Clash) }
 {
     let mut found = Vec::new(alloc);
-    let mut marks = Marks::new(alloc)?;
+    let mut marks = Marks::new(alloc, enrolments.pairs())?;
     'groups: for group in groups {
         add_group(&mut found, &mut marks, group.as_slice(), enrolments)?;
     }

@@ -11,9 +11,6 @@ use crate::sittings::Sitting;
 use exam_model::{Enrolments, PeriodNo, StudentNo};
 use std::alloc::{AllocError, Global};
 
-// How many slots students are filed in: a prime, so that numbers in steps spread over all of them.
-const SLOTS: u32 = 65_521;
-
 // How many larger slot counts to try when too many students share a slot. Student numbers have nine
 // digits, so two of them share a slot under at most two of that many counts in a row.
 const MORE: u32 = 31;
@@ -58,16 +55,31 @@ pub(crate) fn tallies_of(
         AreCounted enrolments.now sittings.now tallies.items) }
     ensures linked { IfOk result (λ tallies. AreLinked tallies.items) }
 {
-    let mut best = file_all(alloc, enrolments, sittings, SLOTS)?;
+    let slots = slots_for(enrolments.pairs());
+    let mut best = file_all(alloc, enrolments, sittings, slots)?;
     for more in 0..MORE {
         if best.steps > FEW_STEPS {
-            let other = file_all(alloc, enrolments, sittings, SLOTS + 1 + more)?;
+            let other = file_all(alloc, enrolments, sittings, slots + 1 + more)?;
             if other.steps < best.steps {
                 best = other;
             }
         }
     }
     Ok(best.tallies)
+}
+
+// How many slots students are filed in, one for some four pairs: a prime, so that numbers in steps
+// spread over all of them.
+fn slots_for(pairs: u32) -> u32
+    ensures some { 0 < result }
+    ensures few { result ≤ 65521 }
+{
+    match pairs {
+        0..=10_000 => 2_039,
+        10_001..=40_000 => 8_191,
+        40_001..=160_000 => 32_749,
+        _ => 65_521,
+    }
 }
 
 // The tallies by so many slots.

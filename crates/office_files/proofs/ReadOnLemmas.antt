@@ -1,12 +1,14 @@
 -- Digits at the front of a line, and what a field of few digits says.
-use Rattle.std.proofs.Common.{◌≡◌, ◌≢◌, ℕ, zero, suc, ◌+◌, ◌-◌, ◌*◌, ◌^◌, ◌<◌, ◌≤◌}
+use Rattle.std.proofs.Common.{◌≡◌, ◌≢◌, ℕ, zero, suc, ◌+◌, ◌-◌, ◌*◌, ◌%◌, ◌^◌, ◌<◌, ◌≤◌}
 use Rattle.std.proofs.Common.{Bool, true, false, List, [], ◌∷◌, ◌++◌, length, get_or, take, drop}
-use Rattle.std.proofs.Common.{add-one, Some, None, refl, sym, ap, subst, eqb-true, ◌∙◌, inl, inr, arith}
-use Rattle.std.specs.Prelude.{◌&&◌, ◌==◌, not, nat_le, nat_lt, if◌then◌else◌, map}
+use Rattle.std.proofs.Common.{add-one, Some, None, refl, sym, ap, subst, eqb-true, ◌∙◌, inl, inr, arith, le-ltb}
+use Rattle.std.specs.Prelude.{◌&&◌, ◌==◌, not, nat_le, nat_lt, if◌then◌else◌, map, slice_range}
 use mathlib.Core.Bool.{true≢false}
 use Rattle.std.specs.Int.Bits.{bit_xor}
 use Rattle.std.specs.List.{list_all, onto_first, range_with_len}
-use Rattle.std.specs.Char.{is_ascii_digit}
+use Rattle.std.specs.Char.{digit_value, is_ascii_digit}
+use Rattle.std.specs.Str.Parse.{digits_value, digits_value_after}
+use Rattle.core.specs.Float.Numeral.{digits_len}
 use Rattle.std.proofs.Math.Nat.{pow-le-pow_right, pow-suc}
 use Rattle.std.proofs.lemmas.Bool.{eq-eqb, ne_eqb, and_parts, lt-ltb, le-leb, lt-leb}
 use Rattle.std.proofs.lemmas.Bool.{cases_lt, cases_eq}
@@ -14,6 +16,7 @@ use Rattle.std.proofs.lemmas.List.{take-append-drop, take-take, length-take, len
 use Rattle.std.proofs.lemmas.List.{length-append, append-nil, get_or-take}
 use Rattle.std.proofs.lemmas.Grind.{common_steps}
 use Rattle.std.proofs.lemmas.List.Folds.{list_all_at, list_all_more}
+use Rattle.std.proofs.lemmas.List.Sums.{prefix_len-le-length, prefix_len_passes, prefix_len_stops}
 use Rattle.std.proofs.lemmas.List.FromFn.{get_or-range_with_len, length-range_with_len}
 use Rattle.exam_terms.specs.Texts.{is_blank, before_end, trim_end, trimmed}
 use Rattle.office_files.specs.Fields.{ended_parts, fields_of, first, rest}
@@ -32,13 +35,6 @@ read_on-more n (d ∷ ds) zero lt = refl
 read_on-more n (d ∷ ds) (suc i) lt =
     let next = read_on-more (10 * n + (d - 48)) ds i (omega arith) in
     rw (add-one (suc i)) (rw (add-one i) at next)
-
--- a number of eight digits or less has room for one more
-pub small_room : (n i : ℕ) → i < 9 → n < 10 ^ i → n < 100000000
-small_room n i lt small =
-    let most : 10 ^ i ≤ 10 ^ 8 =
-    pow-le-pow_right {n = 10} (omega arith) {i = i} {j = 8} (omega arith) in
-    omega arith
 
 pub small_more : (n i d : ℕ) → n < 10 ^ i → d ≤ 9 → 10 * n + d < 10 ^ (i + 1)
 small_more n i d small digit =
@@ -205,17 +201,96 @@ no_digit (b ∷ bs) other =
           ∙ few_digits-other (b ∷ more) (all-other [] b more (other (omega arith)))
     ]
 
--- what the first nine bytes of a line say, the line says
-pub front_window : (line : List ℕ) (value count : ℕ) → 9 < length line →
-    Says (take 9 line) value count → NoDigitAt (take 9 line) count → IsFront line value count
-front_window line value count long says whole =
-    let size = length-take-le 9 line (omega arith) in
-    let within = says.within in
+-- what digits write is what they say
+written : (n : ℕ) (ds : List ℕ) → AllDigits ds → digits_value_after 10 n ds ≡ read_on n ds
+written n [] all = refl
+written n (d ∷ ds) all =
+    let both = and_parts (is_ascii_digit d) (list_all is_ascii_digit ds) all in
+    ap (λ m. digits_value_after 10 m ds) (digit d (digit_range d both.0))
+    ∙ written (10 * n + (d - 48)) ds both.1
+  where
+    digit : (d : ℕ) → (48 ≤ d) × (d ≤ 57) → n * 10 + digit_value d ≡ 10 * n + (d - 48)
+    digit d range = rw (le-ltb d 48 range.0, lt-ltb d 58 (omega arith)) (omega arith)
+
+-- the digits at the front of a text say a number
+front_says : (text : List ℕ) (count : ℕ) → count ≤ digits_len text
+    → Says text (read_on 0 (take count text)) count
+front_says text zero le =
+    record { within = omega arith; digits = refl; same = refl; small = omega arith }
+front_says text (suc i) le =
+    let within = prefix_len-le-length is_ascii_digit text in
+    let lt : i < length text = omega arith in
+    let is = prefix_len_passes is_ascii_digit text i 0 (omega arith) in
+    let more = says-more text (read_on 0 (take i text)) i (get_or text i 0 - 48) lt is refl
+    (front_says text i (omega arith)) in
+    let all : read_on 0 (take (i + 1) text)
+    ≡ 10 * read_on 0 (take i text) + (get_or text i 0 - 48) = read_on-more 0 text i lt in
+    rw (← add-one i) (subst (λ n. Says text n (i + 1)) (sym all) more)
+
+-- what is read of eight bytes
+pub eight_say : (text : List ℕ) (end value : ℕ) → length text ≤ 8
+    → end ≡ 0 + digits_len (drop 0 text)
+    → value ≡ (0 * 10 ^ (end - 0) + digits_value 10 (slice_range text 0 end)) % 2 ^ 64
+    → Says text value end × NoDigitAt text end × (value < 100000000)
+eight_say text end value few ends is =
+    let within = prefix_len-le-length is_ascii_digit text in
+    let long : digits_len text ≡ end = omega (arith, ends) in
+    let says = front_says text end (omega (arith, long)) in
+    let room : 10 ^ end ≤ 10 ^ 8 =
+    pow-le-pow_right {n = 10} (omega arith) {i = end} {j = 8} (omega (arith, long, within)) in
+    let small = says.small in
+    let all : end - 0 ≡ end = omega arith in
+    let wrote : digits_value 10 (slice_range text 0 end) ≡ read_on 0 (take end text) =
+    ap (λ n. digits_value 10 (take n text)) all ∙ written 0 (take end text) says.digits in
+    let same : value ≡ read_on 0 (take end text) = omega (arith, wrote, is, small, room) in (
+      subst (λ n. Says text n end) (sym same) says,
+      λ lt. subst (λ k. is_ascii_digit (get_or text k 0) ≡ false) long
+          (prefix_len_stops is_ascii_digit text 0 (omega (arith, long))),
+      omega (arith, same, small, room),
+    )
+
+-- fewer than eight digits at the front of eight bytes are those of the line
+pub few_front : (line : List ℕ) (value count : ℕ) → 8 < length line → count < 8
+    → Says (take 8 line) value count → NoDigitAt (take 8 line) count → IsFront line value count
+few_front line value count long less says whole =
+    let size = length-take-le 8 line (omega arith) in
     record {
-      says = says_front 9 line value count says;
+      says = says_front 8 line value count says;
       few = omega arith;
-      whole = λ less lt.
-          ap is_ascii_digit (sym (get_or-take 9 line count 0 less)) ∙ whole (omega arith);
+      whole = λ _ lt.
+          ap is_ascii_digit (sym (get_or-take 8 line count 0 less)) ∙ whole (omega arith);
+    }
+
+-- as many digits as there are bytes
+eight_are : (line : List ℕ) (value count : ℕ) → 8 < length line → 8 ≤ count
+    → Says (take 8 line) value count → count ≡ 8
+eight_are line value count long most says =
+    let within = says.within in omega (arith, length-take-le 8 line (omega arith))
+
+-- eight digits, and no ninth
+pub eight_front : (line : List ℕ) (value count : ℕ) → 8 < length line → 8 ≤ count
+    → Says (take 8 line) value count → is_ascii_digit (get_or line 8 0) ≡ false
+    → IsFront line value count
+eight_front line value count long most says other =
+    let eight = eight_are line value count long most says in
+    record {
+      says = says_front 8 line value count says;
+      few = omega arith;
+      whole = λ _ lt. subst (λ k. is_ascii_digit (get_or line k 0) ≡ false) (sym eight) other;
+    }
+
+-- nine digits
+pub nine_front : (line : List ℕ) (value count digit : ℕ) → 8 < length line → 8 ≤ count
+    → Says (take 8 line) value count → is_ascii_digit (get_or line 8 0) ≡ true
+    → digit ≡ get_or line 8 0 - 48 → IsFront line (10 * value + digit) (count + 1)
+nine_front line value count digit long most says is same =
+    let eight = eight_are line value count long most says in
+    let here : get_or line count 0 ≡ get_or line 8 0 = ap (λ k. get_or line k 0) eight in
+    record {
+      says = says-more line value count digit (omega arith) (ap is_ascii_digit here ∙ is)
+          (same ∙ ap (λ b. b - 48) (sym here)) (says_front 8 line value count says);
+      few = omega arith;
+      whole = λ less. absurd (omega arith);
     }
 
 module _ (line : List ℕ) (value count : ℕ) (is : IsFront line value count) where

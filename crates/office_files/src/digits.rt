@@ -3,10 +3,12 @@ ghost use Rattle.std.specs.Prelude.{◌≡◌, ◌≤◌, length, option_map, If
 ghost use Rattle.office_files.specs.Fields.{ended_parts, first, rest};
 ghost use Rattle.office_files.specs.Digits.{Says, NoDigitAt, IsFront, few_digits, without_space};
 
-// Numbers of so many digits fit a u32.
-const MOST_DIGITS: usize = 9;
+use core::dec2flt::read_digits;
 
-// The digits are this byte and the nine behind it, in which it has all bits that they share.
+// So many digits are read as one word; a number of one more fits a u32.
+const AT_ONCE: usize = 8;
+
+// The digits are this byte and the nine after it, in which it has all bits that they share.
 const ZERO: u32 = 48;
 
 /// The line without the space at its start, where there is one.
@@ -49,27 +51,27 @@ pub(crate) fn first_digits(line: &[u8]) -> Option<(u32, &[u8])>
 fn front_digits(line: &[u8]) -> (u32, usize)
     ensures { IsFront line.now result.0 result.1 }
 {
-    if line.len() > MOST_DIGITS {
-        digits(&line[..MOST_DIGITS])
-    } else {
-        digits(line)
+    if line.len() <= AT_ONCE {
+        return digits(line);
     }
+    let (value, end) = digits(&line[..AT_ONCE]);
+    if end < AT_ONCE {
+        return (value, end);
+    }
+    let digit = u32::from(line[AT_ONCE]) ^ ZERO; // any other byte is above 9 then
+    if digit > 9 {
+        return (value, end);
+    }
+    (10 * value + digit, end + 1)
 }
 
-// The same of a text of nine bytes at most.
+// The same of a text of eight bytes at most.
 #[inline(always)]
 fn digits(text: &[u8]) -> (u32, usize)
-    requires { length text.now ≤ 9 }
+    requires { length text.now ≤ 8 }
     ensures front { Says text.now result.0 result.1 }
     ensures whole { NoDigitAt text.now result.1 }
 {
-    let mut value: u32 = 0;
-    for (i, byte) in text.iter().enumerate() {
-        let digit = u32::from(*byte) ^ ZERO; // any other byte is above 9 then
-        if digit > 9 {
-            return (value, i);
-        }
-        value = 10 * value + digit;
-    }
-    (value, text.len())
+    let (end, value) = read_digits(text, 0, 0);
+    (value as u32, end)
 }
