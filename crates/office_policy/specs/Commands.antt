@@ -29,6 +29,7 @@ pub data PlainCommand : Type 0 where
   publication : PlainCommand
   publication_penalty : PlainCommand
   publication_rooms : PlainCommand
+  publication_seats : PlainCommand
   batch : ℕ → Body (List ℕ) → PlainCommand
 
 -- the command that the program holds
@@ -52,6 +53,7 @@ plain_command (command.Publish d) = publish d
 plain_command command.Publication = publication
 plain_command command.PublicationPenalty = publication_penalty
 plain_command command.PublicationRooms = publication_rooms
+plain_command command.PublicationSeats = publication_seats
 plain_command (command.Batch n text) = batch n (plain_text text)
 
 -- each number of the command is in its limit
@@ -75,4 +77,5 @@ HasSmallNumbers (publish d) = IsSmall d
 HasSmallNumbers publication = Unit {0}
 HasSmallNumbers publication_penalty = Unit {0}
 HasSmallNumbers publication_rooms = Unit {0}
+HasSmallNumbers publication_seats = Unit {0}
 HasSmallNumbers (batch n text) = IsSmall n

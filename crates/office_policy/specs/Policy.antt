@@ -6,7 +6,7 @@ use Rattle.office_policy.specs.Commands.{PlainCommand, me, my_exam, my_penalty, 
 use Rattle.office_policy.specs.Commands.{set_owner, new_draft, draft, draft_penalty}
 use Rattle.office_policy.specs.Commands.{draft_violations, drop_draft, place, move, clear, swap}
 use Rattle.office_policy.specs.Commands.{publish, publication, publication_penalty}
-use Rattle.office_policy.specs.Commands.{publication_rooms, batch}
+use Rattle.office_policy.specs.Commands.{publication_rooms, publication_seats, batch}
 use Rattle.office_policy.specs.declared.policy.Denial.{Denial}
 use Rattle.office_policy.specs.declared.policy.Denial.TheVariants.{P1, P2, P3, P4}
 use Rattle.office_policy.specs.declared.policy.Kind.{Kind}
@@ -33,6 +33,7 @@ kind_of (publish d) = Official
 kind_of publication = Official
 kind_of publication_penalty = Official
 kind_of publication_rooms = Official
+kind_of publication_seats = Official
 kind_of (batch n text) = Official
 
 -- the department owns the exam that is edited, of a swap both

@@ -53,6 +53,8 @@ pub enum Command<'a> {
     PublicationPenalty,
     /// `GET /publication/rooms`
     PublicationRooms,
+    /// `GET /publication/seats`
+    PublicationSeats,
     /// `PUT /batches/{n}`
     Batch(u32, Body<&'a [u8]>),
 }
