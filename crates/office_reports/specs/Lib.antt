@@ -1,3 +1,4 @@
 pub mod Reports
 pub mod Rooms
+pub mod SeatList
 pub mod Slots

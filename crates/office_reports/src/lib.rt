@@ -1,9 +1,12 @@
-//! The reports on a timetable as texts: its penalty, its breaches, and how its rooms are used.
+//! The reports on a timetable as texts: its penalty, its breaches, how its rooms are used, and who
+//! sits where.
 #![tactic(auto)]
 
 mod reports;
 mod rooms;
+mod seat_list;
 mod slots;
 
 pub use reports::{penalty_report, rule_name, violation_report};
 pub use rooms::rooms_report;
+pub use seat_list::seats_report;
