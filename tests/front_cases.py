@@ -137,6 +137,11 @@ LOOKED_FOR = [
     ("a draft beyond 8", ask("registry", "GET", "/-/drafts/9"), 404),
     ("the publication", ask("registry", "GET", "/-/publication/penalty"),
      (200, report(7, 5, 3, 0, 0, 15, 7, 37).encode())),
+    ("its seat list", ask("registry", "GET", "/-/publication/seats"),
+     (200, b"student,exam,period,room,seat\n1,0,0,0,1\n2,0,0,0,2\n2,1,1,0,1\n3,1,1,0,2\n"
+      b"3,2,3,1,1\n1,3,2,0,1\n")),
+    ("the seat list, for a department", ask("physics", "GET", "/-/publication/seats"), P2),
+    ("the seat list, for a candidate", ask("ada", "GET", "/-/publication/seats"), P1),
     ("a draft, for a candidate", ask("ada", "GET", "/-/drafts/1"), P1),
     ("a draft, for nobody", ask("nobody", "GET", "/-/drafts/8"), CALLER),
     ("a draft, by X-Caller", ask("ada", "GET", "/-/drafts/1", b"", "X-Caller: office"), P1),

@@ -207,6 +207,107 @@ def registrys_page(run, chromium, front):
         run.judge("complaints of the browser", [], reader.complaints())
 
 
+# The seats of the small solution: number, ID, name, exam, title; date, start, room, building, seat.
+SEATS_NAMED = [
+    "1,s1,Ada Archer,MATH101,Calculus,2005-04-15,09:30,Great Hall,Main building,1",
+    "2,s2,Ben Baker,MATH101,Calculus,2005-04-15,09:30,Great Hall,Main building,2",
+    "2,s2,Ben Baker,MATH102,Linear algebra,2005-04-15,14:00,Great Hall,Main building,1",
+    "3,s3,Cleo Carter,MATH102,Linear algebra,2005-04-15,14:00,Great Hall,Main building,2",
+    "3,s3,Cleo Carter,PHYS101,Mechanics,2005-04-18,09:30,Room 2.14,Physics building,1",
+    "1,s1,Ada Archer,PHYS102,Optics,2005-04-15,17:00,Great Hall,Main building,1"]
+WHOSE, WHERE = ["student", "id", "name", "exam", "title"], ["date", "start", "room", "building", "seat"]
+
+
+def downloaded(folder, name, act):
+    """The bytes of a file that a click downloads."""
+    path = folder / name
+    act()
+    browser.until(f"{name} is there", lambda: path.exists() and path.stat().st_size)
+    return path.read_bytes()
+
+
+def csv_file(*rows):
+    return "\ufeff" + "".join(f"{row}\r\n" for row in rows)
+
+
+def sheets_printed(run, reader, kind, period=""):
+    """Chooses sheets and prints them; returns how many pages they have, and their lines of text."""
+    reader.run("window.print = () => { window.isPrinted = true; }; window.isPrinted = false;"
+               "document.querySelector('#print-kind').value = arguments[0];"
+               "document.querySelector('#print-period').value = arguments[1]", kind, period)
+    reader.click("#seat-print button")
+    reader.waits("return window.isPrinted")
+    is_read(reader)
+    path = run.folder / f"{kind}.pdf"
+    reader.pdf(path, 8.27, 11.69)
+    pages = len(re.findall(rb"/Type ?/Page\b", path.read_bytes()))
+    run.judge("sheets are taken away again", ("", False), (
+        reader.text("#sheets"), reader.run("return document.body.classList.contains('with-sheets')")))
+    if not shutil.which("pdftotext"):
+        return pages, None
+    text = subprocess.run(["pdftotext", "-layout", str(path), "-"], check=True,
+                          stdout=subprocess.PIPE).stdout.decode()
+    return pages, [" ".join(line.split()) for line in text.splitlines() if line.strip()]
+
+
+def seats_of_candidates(run, chromium, front):
+    """Where a candidate sits; the seat list as a file; sheets for rooms, with every candidate once per exam."""
+    folder = run.folder / "seats"
+    folder.mkdir()
+    with reading(chromium, front, "registry") as reader:
+        reader.downloads_to(folder)
+        friday = reader.run(SHORT_DAY, "en-GB", FRIDAY)
+        bens = [["Ben Baker\ns2", f"{exam}\n{title}", f"{friday}, {reader.run(START, 'en-GB', start)}",
+                 "Great Hall, Main building", seat] for exam, title, start, seat in (
+            ("MATH101", "Calculus", "09:30:00", "2"), ("MATH102", "Linear algebra", "14:00:00", "1"))]
+        for words in ("2", "S2", "baker", " Ben  Baker "):
+            reader.run("document.querySelector('#seat-words').value = arguments[0]", words)
+            reader.click("#seat-find button")
+            is_read(reader)
+            run.judge(f"where {words} sits", ("2 exams found.", [
+                ["Candidate", "Exam", "Period", "Room", "Seat"], *bens]), (
+                reader.text("#status"), reader.run(CELLS, "#seat-found tr")))
+        for words in ("99", "nobody", "s"):
+            reader.run("document.querySelector('#seat-words').value = arguments[0]", words)
+            reader.click("#seat-find button")
+            is_read(reader)
+            run.judge(f"where {words} sits",
+                      ("No candidate of this session has this number, ID or name.", []),
+                      (reader.text("#status"), reader.run(CELLS, "#seat-found tr")))
+        reader.click("#seatless")
+        is_read(reader)
+        run.judge("who has no seat", ("Everybody who is enrolled has a seat.", []),
+                  (reader.text("#status"), reader.run(CELLS, "#seat-found tr")))
+        run.judge("the seat list", csv_file(",".join([*WHOSE, *WHERE]), *SEATS_NAMED), downloaded(
+            folder, "seats.csv", lambda: reader.click("#seats-csv")).decode())
+        is_read(reader)
+        seats = [row.split(",") for row in SEATS_NAMED]
+        for kind, line in (
+                ("door", lambda s: f"{s[2]} {s[1]} {s[3]} {s[9]}"),
+                ("attendance", lambda s: f"{s[9]} {s[2]} {s[1]} {s[3]}")):
+            pages, lines = sheets_printed(run, reader, kind)
+            run.judge(f"pages of {kind}", 4, pages)
+            if lines is not None:
+                run.judge(f"each candidate once per exam, {kind}", [1] * 6,
+                          [lines.count(line(seat)) for seat in seats])
+                run.judge(f"whose names are on {kind}", [2, 2, 2], [
+                    sum(name in one for one in lines) for name in ("Archer", "Baker", "Carter")])
+        pages, lines = sheets_printed(run, reader, "labels")
+        run.judge("pages of labels", 4, pages)
+        if lines is not None:
+            text = " ".join(lines)
+            run.judge("a label for each seat", [2, 2, 2, 2, 2, 1, 1], [text.count(word) for word in (
+                "Archer", "Baker", "Carter", "· MATH101", "· MATH102", "· PHYS101", "· PHYS102")])
+        pages, lines = sheets_printed(run, reader, "door", "3")
+        run.judge("one period", 1, pages)
+        if lines is not None:
+            run.judge("the door list of one room", (True, True, ["Cleo Carter s3 PHYS101 1"]), (
+                any(line.startswith("Room 2.14, Physics building") for line in lines),
+                any(line.startswith("PHYS101 Mechanics, 09:30 – 11:30, 1 candidate") for line in lines),
+                lines[-1:]))
+        run.judge("complaints of the browser", [], reader.complaints())
+
+
 def departments_page(run, chromium, front):
     """A department moves, swaps and takes out its exams by keyboard, undoes it, and sees what it costs."""
     down, up, tab, enter = "\ue015", "\ue013", "\ue004", "\ue007"
@@ -316,6 +417,8 @@ def publishing(run, chromium, front):
     """Publish asks first, by keyboard too, and never publishes what the registrar has not seen."""
     enter, escape, tab = "\ue007", "\ue00c", "\ue004"
     front.told(ask("registry", "PUT", "/drafts/3"))
+    folder = run.folder / "changed"
+    folder.mkdir()
     is_open = "return document.querySelector('#confirm').open"
     publish = "#cards article:nth-child(%d) button.main"
 
@@ -375,6 +478,11 @@ def publishing(run, chromium, front):
         run.judge("what was published",
                   ("Draft 1 is published; the seats of 1 candidate have changed.", before + 1),
                   (reader.text("#status"), publications(front)))
+        reader.downloads_to(folder)
+        run.judge("whose seats changed", csv_file(
+            ",".join([*WHOSE, *(f"{name} {when}" for when in ("before", "now") for name in WHERE)]),
+            f"{SEATS_NAMED[5]},2005-04-18,09:30,Room 2.14,Physics building,2"), downloaded(
+                folder, "changed-seats.csv", lambda: reader.click("#changed-seats")).decode())
         run.judge("the publication", "Published 44 points",
                   " ".join(reader.texts("#cards h3")[0].split()))
         front.told(ask("registry", "DELETE", "/drafts/1/exams/3"))
@@ -410,6 +518,22 @@ def states_of_exams(run, chromium, front):
         run.judge("candidates of the draft", "MATH101 Calculus\n3 of 3", reader.texts(used)[0])
     run.judge("another batch", (200, b'{"added":0,"batch":6,"dropped":1,"unchanged":1}'),
               front.told(ask("registry", "PUT", "/batches/6", batch_text("3,0,add", "2,0,drop"))))
+    with reading(chromium, front, "registry") as reader:
+        reader.click("#seatless")
+        is_read(reader)
+        run.judge("who has no seat", ("1 enrolment has no seat.", [
+            ["Candidate", "Exam"], ["Cleo Carter\ns3", "MATH101\nCalculus"]]), (
+            reader.text("#status"), reader.run(CELLS, "#seat-found tr")))
+        folder = run.folder / "seatless"
+        folder.mkdir()
+        reader.downloads_to(folder)
+        run.judge("who has no seat, as a file", csv_file(",".join(WHOSE), "3,s3,Cleo Carter,MATH101,Calculus"),
+                  downloaded(folder, "without-seat.csv", lambda: reader.click("#seatless-csv")).decode())
+        for words, seats in (("baker", ["2, withdrawn", "1"]), ("s3", ["2", "1", "none yet"])):
+            reader.run("document.querySelector('#seat-words').value = arguments[0]", words)
+            reader.click("#seat-find button")
+            is_read(reader)
+            run.judge(f"the seats of {words}", seats, reader.texts("#seat-found td:last-child"))
     for user, row, note in (
             ("cleo", [MATH101[2], HALL, "none yet", "No seat yet"], "You enrolled in this exam after the "
              "timetable was published. You will get a seat when the timetable is next published."),
@@ -424,7 +548,15 @@ def states_of_exams(run, chromium, front):
 
 
 def printed(run, chromium, wide):
-    """On paper: each room in each period, and five exams on one page."""
+    """On paper: each room in each period, and five exams on one page; a sheet for each room in use."""
+    with reading(chromium, wide, "registry") as reader:
+        pages, lines = sheets_printed(run, reader, "attendance")
+        run.judge("a page for each room", WIDE_ROOMS, pages)
+        if lines is not None:
+            who = [f"1 Ada Archer s1 EX{exam}" if exam < 5 else f"1 {1_000 + exam} EX{exam}"
+                   for exam in range(WIDE_ROOMS)]
+            run.judge("each candidate once per exam, of many rooms", [1] * WIDE_ROOMS,
+                      [lines.count(line) for line in who])
     for user, paper, width, height in (("registry", "A4", 8.27, 11.69), ("ada", "A4", 8.27, 11.69),
                                        ("registry", "letter", 8.5, 11), ("ada", "letter", 8.5, 11)):
         with reading(chromium, wide, user) as reader:
@@ -610,12 +742,6 @@ def registrys_work(run, chromium, front):
         run.judge(f"{form}: {words}", words,
                   reader.text("#status") or re.sub("\n+", "\n", reader.text("#error")))
 
-    def downloaded(button, name):
-        path = folder / name
-        reader.click(f"#download-{button}")
-        browser.until(f"{name} is there", lambda: path.exists() and path.stat().st_size)
-        return path.read_bytes()
-
     solution, faulty, owners = (run.folder / name for name in ("new.sol", "faulty.sol", "owners.csv"))
     solution.write_bytes(SOLUTION)
     faulty.write_bytes(SOLUTION.replace(b"1, 0", b"1, x"))
@@ -653,12 +779,13 @@ def registrys_work(run, chromium, front):
         run.judge("the link that skips", ("main", "#main", "Draft 2"), (
             reader.run("return document.activeElement.id"), reader.run("return location.hash"),
             reader.text("#detail-title")))
-        run.judge("a solution", b"3, 0\r\n1, 0\r\n3, 1\r\n2, 0\r\n", downloaded("solution", "draft-2.sol"))
+        run.judge("a solution", b"3, 0\r\n1, 0\r\n3, 1\r\n2, 0\r\n", downloaded(
+            folder, "draft-2.sol", lambda: reader.click("#download-solution")))
         head = "exam,title,department,date,start,end,room,building"
         for order, exams in (("exam", (0, 1, 2, 3)), ("room", (1, 3, 0, 2)), ("day", (1, 3, 0, 2))):
-            run.judge(f"a timetable by {order}", "\ufeff" + "".join(
-                f"{line}\r\n" for line in [head, *(BY_EXAM[exam] for exam in exams)]),
-                downloaded(order, f"draft-2-by-{order}.csv").decode())
+            run.judge(f"a timetable by {order}", csv_file(head, *(BY_EXAM[exam] for exam in exams)),
+                      downloaded(folder, f"draft-2-by-{order}.csv",
+                                 lambda: reader.click(f"#download-{order}")).decode())
         reader.run("const list = document.querySelector('#compare'); list.value = 'Draft 3';"
                    "list.dispatchEvent(new Event('change'))")
         friday = f"{reader.run(SHORT_DAY, 'en-GB', FRIDAY)}, 09:30, Great Hall, Main building"
@@ -926,7 +1053,8 @@ def judge(run, started, front, wide, sso, many, office, program, folder):
     if not shutil.which("pdftotext"):
         print("front: texts of printed pages are left out without poppler-utils")
     chromium = started()
-    for part in (candidates_page, next_exam_first, registrys_page, departments_page, publishing,
+    for part in (candidates_page, next_exam_first, registrys_page, seats_of_candidates,
+                 departments_page, publishing,
                  states_of_exams, late_changes, registrys_work):
         part(run, chromium, front)
     new_session(run, chromium, program)

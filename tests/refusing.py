@@ -88,7 +88,7 @@ COMMANDS = {
     "clear": clear(3), "swap": swap(1, 2),
     "edit by a department": message("DELETE", "/drafts/1/exams/0", caller="dept:3"),
     "publish": publish(), "publication": SHOWN[0], "publication's penalty": SHOWN[1],
-    "rooms": SHOWN[2], "batch": batch(3, "1,1,add", "3,1,drop"),
+    "rooms": SHOWN[2], "seats": SHOWN[3], "batch": batch(3, "1,1,add", "3,1,drop"),
     "idle batch": batch(3, "9,1,drop"),
 }
 

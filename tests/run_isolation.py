@@ -150,7 +150,8 @@ class Candidate:
             (asked_by(number, f"/exam/{exam}"),
              reply(200, texts[exam]) if exam in texts else error(404, "exam")),
             (asked_by(number, "/penalty"), cost(*personal(self.shared))),
-            (message("GET", rng.choice(["/publication", "/drafts/1", "/nowhere"]),
+            (message("GET", rng.choice(["/publication", "/publication/seats", "/drafts/1",
+                                        "/nowhere"]),
                      caller=f"cand:{number}"), forbidden("P1"))])
 
 
@@ -177,7 +178,8 @@ def quiet(rng, office, number):
         message("PUT", f"/batches/{number}", f"student,exam,action\n{lines}".encode()),
         message("PUT", f"/batches/{rng.randint(1, 9)}", b"another,text\n"),
         message("GET", rng.choice(["/instance", "/publication", f"/drafts/{draft}/penalty",
-                                   "/publication/rooms", "/me", "/nowhere"]), caller=caller)])
+                                   "/publication/rooms", "/publication/seats", "/me",
+                                   "/nowhere"]), caller=caller)])
 
 
 # ---- a round

@@ -29,8 +29,8 @@ from collections import namedtuple
 from cases import Cases
 from further_cases import ASKED, FURTHER, shown
 from serve_cases import (
-    CASES, EMPTY, EXAMPLES, FIRST_MOVED, FROM_SOLUTION, INSTANCE, MANY, MOVED_ROOMS, MOVED_TEXT,
-    PENALTY, PENDING, PUBLISHED, SECOND_PAGE, SHOWN, SMALL, SOLUTION, STORED, THIRD, UNPLACED,
+    CASES, EMPTY, EXAMPLES, FIRST_MOVED, FROM_SOLUTION, INSTANCE, MANY, MOVED_ROOMS, MOVED_SEATS,
+    MOVED_TEXT, PENALTY, PENDING, PUBLISHED, SECOND_PAGE, SHOWN, SMALL, SOLUTION, STORED, THIRD, UNPLACED,
     asked_by, at, batch, batch_text, clear, drafted, enrolled, error, forbidden, me, message, move,
     pending, place, publish, published, reply, report, swap, text)
 
@@ -214,8 +214,9 @@ def adopt_after_republication(run):
          (move(3, 3, 1), drafted(200, 44)), (publish(), published(1, 44)),
          (SHOWN[0], text(MOVED_TEXT))],
         [(SHOWN[0], text(MOVED_TEXT)), (SHOWN[1], text(report(7, 0, 3, 10, 0, 10, 14, 44))),
-         (SHOWN[2], text(MOVED_ROOMS)), (asked_by(1), me(1, 1, *FIRST_MOVED)),
-         (asked_by(2), SECOND_PAGE), (asked_by(3), me(3, 1, *THIRD))])
+         (SHOWN[2], text(MOVED_ROOMS)), (SHOWN[3], text(MOVED_SEATS)),
+         (asked_by(1), me(1, 1, *FIRST_MOVED)), (asked_by(2), SECOND_PAGE),
+         (asked_by(3), me(3, 1, *THIRD))])
     run.judge("adopt_after_republication, an export", (0, MOVED_TEXT.encode(), b""),
               exported(run, database))
     with open("/dev/full", "wb") as full:

@@ -6,6 +6,7 @@ the timetable, prints it, and sends late changes by codes; a hundred candidates 
 from one address. A failing case is printed with what was expected and what came; then come the times,
 and the last line counts the cases. It isn't part of the gate, which `./test university` says.
 """
+import collections
 import concurrent.futures
 import contextlib
 import json
@@ -92,6 +93,7 @@ def registrys_week(run, times, chromium, front, labels):
             run.judge("each room in each period on paper", {len(labels["periods"])},
                       {sum(line.strip().startswith(word) for line in printed.splitlines())
                        for word in words})
+        seat_lists(run, times, reader, front, labels)
         late = "\n".join(["Student ID;Exam code;Action",
                           *(f"{user};MATH101;enrol" for user in CANDIDATES)])
         reader.run("document.querySelector('#batch-lines').value = arguments[0]", late)
@@ -105,6 +107,37 @@ def registrys_week(run, times, chromium, front, labels):
             reader.waits("return document.querySelector('#status').innerText.includes('accepted')")
         run.judge("late changes", effect.split(" to add")[0],
                   reader.text("#status").split(": ")[1].split(" added")[0])
+
+
+def seat_lists(run, times, reader, front, labels):
+    """A candidate is found by name, and a door list for each room and period has every candidate."""
+    made = front.folder / "labels" / "students.json"
+    students = {student["number"]: student for student in json.loads(made.read_text())["students"]}
+    seats = [line.split(",") for line in front.told(ask("registry", "GET", "/publication/seats"))[1]
+             .decode().splitlines()[1:]]
+    student = students[int(seats[0][0])]
+    reader.run("document.querySelector('#seat-words').value = arguments[0]", student["id"])
+    with times.of("find a candidate's seats"):
+        reader.click("#seat-find button")
+        reader.waits("return document.querySelector('#seat-found table')")
+        front_pages.is_read(reader)
+    run.judge("a candidate's seats", sum(seat[0] == seats[0][0] for seat in seats),
+              len(reader.texts("#seat-found tbody tr")))
+    reader.click("#seat-print button")
+    front_pages.is_read(reader)
+    run.judge("too many sheets", True, reader.text("#error").startswith(
+        f"These are {len(seats):,} seats, and a browser can print 10,000 at once."))
+    seats = [seat for seat in seats if seat[2] == "0"]
+    with times.of("door lists of one period, as PDF"):
+        pages, lines = front_pages.sheets_printed(run, reader, "door", "0")
+    rooms = len({room for _, _, _, room, _ in seats})
+    print(f"university: {len(seats)} seats of a period in {rooms} rooms, on {pages} pages")
+    if lines is not None:
+        printed = collections.Counter(lines)
+        run.judge("each candidate once per exam on paper", {1}, {printed[" ".join(
+            f"{students[int(number)]['name']} {students[int(number)]['id']}"
+            f" {labels['exams'][int(exam)]['code']} {seat}".split())]
+            for number, exam, _, _, seat in seats})
 
 
 def many_candidates(run, times, front):

@@ -160,11 +160,18 @@ ROOMS = ("per room    used     cap  exams\n  0    0       2       3  0\n"
          "  3    1       1       2  2\n")
 MOVED_ROOMS = ("per room    used     cap  exams\n  0    0       2       3  0\n"
                "  1    0       2       3  1\n  3    1       2       2  2 3\n")
+SEAT_HEAD = "student,exam,period,room,seat\n"
+SEAT_LIST, MOVED_SEATS = (
+    f"{SEAT_HEAD}1,0,0,0,1\n2,0,0,0,2\n2,1,1,0,1\n3,1,1,0,2\n3,2,3,1,1\n{last}\n"
+    for last in ("1,3,2,0,1", "1,3,3,1,2"))
 # Exam 2 moved out of the room and period where it stands with exam 3.
 OUT_TEXT = "0, 0\r\n1, 0\r\n0, 1\r\n3, 1\r\n"
 OUT_ROOMS = ("per room    used     cap  exams\n  0    0       2       3  0\n"
              "  0    1       1       2  2\n  1    0       2       3  1\n"
              "  3    1       1       2  3\n")
+OUT_SEATS = f"{SEAT_HEAD}1,0,0,0,1\n2,0,0,0,2\n2,1,1,0,1\n3,1,1,0,2\n3,2,0,1,1\n1,3,3,1,2\n"
+# Candidate 1 has left exam 0, and candidate 3 has come to it.
+KEPT_SEATS = f"{SEAT_HEAD}2,0,0,0,2\n3,0,0,0,1\n2,1,1,0,1\n3,1,1,0,2\n3,2,3,1,1\n1,3,2,0,1\n"
 # Another office, in which candidate 2 has the same places and seats; all else there differs.
 OTHER = b"""[Exams:5]
 60, 0, 2
@@ -197,8 +204,8 @@ OTHER_SOLUTION = b"0, 0\n1, 0\n0, 1\n3, 1\n0, 2\n"
 COINCIDING = SMALL.replace(b"1, AFTER, 0\n", b"1, AFTER, 0\n0, EXAM_COINCIDENCE, 1\n")
 # The session as the small one was loaded.
 INSTANCE = message("GET", "/instance"), text(SMALL.replace(b"\n", b"\r\n"))
-# The publication, its penalty and its rooms.
-SHOWN = [message("GET", f"/publication{page}") for page in ("", "/penalty", "/rooms")]
+# The publication, its penalty, its rooms and its seats.
+SHOWN = [message("GET", f"/publication{page}") for page in ("", "/penalty", "/rooms", "/seats")]
 
 
 # What publishing stores: the name of the case, the solution, its penalty, what sqlite3 selects.
@@ -225,9 +232,10 @@ SECOND_ASKS = ((asked_by(2), SECOND_PAGE), *SECOND_EXAMS, (asked_by(2, "/penalty
                (message("GET", "/publication", caller="cand:2"), forbidden("P1")))
 
 
-def moved_shown(places, parts, rooms, third):
+def moved_shown(places, parts, rooms, seats, third):
     """What is shown of a publication in which exam 3 has moved, to whoever sees it."""
     return ((SHOWN[0], text(places)), (SHOWN[1], text(parts)), (SHOWN[2], text(rooms)),
+            (SHOWN[3], text(seats)),
             (asked_by(1), me(1, 1, *FIRST_MOVED)), (asked_by(2), SECOND_PAGE), (asked_by(3), third))
 
 
@@ -311,7 +319,19 @@ CASES = [
          (message("GET", "/drafts/1"), error(404, "draft")),
          (SHOWN[0], text(TEXT)),
          (SHOWN[1], text(report(7, 5, 3, 0, 0, 15, 7, 37))),
-         (SHOWN[2], text(ROOMS))),
+         (SHOWN[2], text(ROOMS)),
+         (SHOWN[3], text(SEAT_LIST))),
+    case("who may read the seat list", SMALL,
+         *PUBLISHED,
+         (SHOWN[3], text(SEAT_LIST)),
+         (message("GET", "/publication/seats", caller="dept:3"), forbidden("P2")),
+         (message("GET", "/publication/seats", caller="cand:1"), forbidden("P1")),
+         (message("GET", "/publication/seats", caller=None), error(400, "caller")),
+         *((message(method, "/publication/seats", b"a body"), error(405, "method", "GET"))
+           for method in ("PUT", "POST", "DELETE")),
+         (message("GET", "/publication/seat"), error(404, "path")),
+         (message("GET", "/publication/seats/"), error(404, "path")),
+         (message("GET", "/publication/seats?exam=0"), error(404, "path"))),
     case("candidate_view", SMALL,
          *PUBLISHED,
          (asked_by(2), SECOND_PAGE),
@@ -388,13 +408,16 @@ CASES = [
          (SHOWN[0], text(TEXT)),
          (SHOWN[1], text(report(7, 5, 3, 0, 0, 15, 7, 37))),
          (SHOWN[2], text(ROOMS)),
+         (SHOWN[3], text(SEAT_LIST)),
          (move(3, 3, 1), drafted(200, 44)),
          (SHOWN[0], text(TEXT)),
+         (SHOWN[3], text(SEAT_LIST)),
          (asked_by(1), me(1, 6, *FIRST)),
          (publish(), published(1, 44)),
          (SHOWN[0], text(MOVED_TEXT)),
          (SHOWN[1], text(report(7, 0, 3, 10, 0, 10, 14, 44))),
          (SHOWN[2], text(MOVED_ROOMS)),
+         (SHOWN[3], text(MOVED_SEATS)),
          (asked_by(1), me(1, 1, *FIRST_MOVED)),
          (asked_by(2), SECOND_PAGE),
          (asked_by(3), me(3, 1, *THIRD)),
@@ -435,6 +458,7 @@ CASES = [
          (SHOWN[0], text(TEXT)),
          (SHOWN[1], text(report(7, 5, 3, 0, 0, 15, 7, 37))),
          (SHOWN[2], text(ROOMS)),
+         (SHOWN[3], text(SEAT_LIST)),
          (PENALTY, text(report(14, 5, 5, 0, 0, 15, 7, 46)))),
     case("withdrawn_keeps_seat", SMALL,
          *PUBLISHED,
@@ -442,6 +466,7 @@ CASES = [
          (asked_by(2), me(2, 8, WITHDRAWN, SECOND[1])),
          (asked_by(2, "/exam/0"), reply(200, WITHDRAWN)),
          (asked_by(2, "/penalty"), cost(7, 0, 1)),
+         (SHOWN[3], text(SEAT_LIST)),
          (batch(7, "2,0,drop"), enrolled(7, 0, 1, 0)),
          (batch(8, "2,0,add"), enrolled(8, 1, 0, 0)),
          (asked_by(2), SECOND_PAGE)),
@@ -456,6 +481,7 @@ CASES = [
          (PENALTY, text(report(14, 0, 4, 0, 0, 15, 7, 40))),
          (publish(), published(1, 40)),
          (SHOWN[1], text(report(14, 0, 4, 0, 0, 15, 7, 40))),
+         (SHOWN[3], text(KEPT_SEATS)),
          (asked_by(2), SECOND_PAGE),
          (asked_by(3), me(3, 10, NEWCOMER, *THIRD)),
          (asked_by(3, "/penalty"), cost(7, 0, 3))),
@@ -465,10 +491,12 @@ CASES = [
          (publish(), published(1, 44)),
          (move(2, 0, 1), drafted(200, 36)),
          (publish(), published(1, 36)),
-         *moved_shown(OUT_TEXT, report(14, 0, 3, 0, 0, 5, 14, 36), OUT_ROOMS, me(3, 8, *THIRD_MOVED)),
+         *moved_shown(OUT_TEXT, report(14, 0, 3, 0, 0, 5, 14, 36), OUT_ROOMS, OUT_SEATS,
+                      me(3, 8, *THIRD_MOVED)),
          (move(2, 3, 1), drafted(200, 44)),
          (publish(), published(1, 44)),
-         *moved_shown(MOVED_TEXT, report(7, 0, 3, 10, 0, 10, 14, 44), MOVED_ROOMS, me(3, 1, *THIRD))),
+         *moved_shown(MOVED_TEXT, report(7, 0, 3, 10, 0, 10, 14, 44), MOVED_ROOMS, MOVED_SEATS,
+                      me(3, 1, *THIRD))),
     case("two_offices_one_view, with a draft, an owner and a batch", SMALL,
          *PUBLISHED,
          (message("PUT", "/drafts/2"), reply(201, '{"draft":2,"penalty":0}')),

@@ -4,6 +4,7 @@ import { setUpBatches } from './batches.js';
 import { confirmFirst } from './confirm.js';
 import { changesBetween, penaltyIn, readAgain, readDrafts, verdict } from './drafts.js';
 import { applyLabels, differences, Names, readLabels } from './labels.js';
+import { offerChanges, readSeats, setUpSeats, showSeats } from './seats.js';
 import { askToDrop, setUpForms, showForms } from './setup.js';
 import { showComparison, showDownloads, showFinder } from './tables.js';
 import {
@@ -76,6 +77,7 @@ async function load() {
   if (open) showDetail(open);
   byId('detail').hidden = !open;
   byId('late').hidden = !text;
+  showSeats(office, published !== null);
   showForms(office);
   if (!text) return 'No session is loaded yet.';
   return `${published ? 'One timetable is published' : 'Nothing is published yet'}, and there ${
@@ -268,9 +270,11 @@ async function publish(confirmed) {
   if (changesBetween(confirmed, await reread(number), office.names).length) {
     return askToPublish(confirmed);
   }
+  const before = await readSeats();
   const answer = await change(`Draft ${number} was not published.`,
     `/drafts/${number}/publish`, 'POST');
   await load();
+  await offerChanges(before, office);
   byId('status').focus();
   const candidates = count(answer.changed, 'candidate');
   return `Draft ${answer.draft} is published; the seats of ${candidates} have changed.`;
@@ -278,6 +282,9 @@ async function publish(confirmed) {
 
 setUpBatches(office, load);
 setUpForms(office, load);
+setUpSeats(office, async () => {
+  office.session = sessionIn(await ask('/instance'));
+});
 window.addEventListener('popstate', openAddressed);
 
 const refresh = () => showProgress('Loading the timetables …', load);
