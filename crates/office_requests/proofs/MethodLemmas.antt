@@ -9,7 +9,7 @@ use Rattle.office_policy.specs.Commands.{PlainCommand}
 use Rattle.office_policy.specs.Commands.{me, my_exam, my_penalty, set_owner, draft_penalty}
 use Rattle.office_policy.specs.Commands.{draft_violations, place, move, clear, swap, publish}
 use Rattle.office_policy.specs.Commands.{publication, publication_penalty, publication_rooms}
-use Rattle.office_policy.specs.Commands.{batch}
+use Rattle.office_policy.specs.Commands.{publication_seats, batch}
 use Rattle.office_requests.specs.Bodies.{dept_body, place_body, text_body}
 use Rattle.office_requests.specs.ByMethod.{by_get, by_put, by_post, by_delete, of_instance}
 use Rattle.office_requests.specs.ByMethod.{of_draft}
@@ -151,6 +151,7 @@ page_lists page.Publish path body =
 page_lists page.Publication path body = get_lists publication
 page_lists page.PublicationPenalty path body = get_lists publication_penalty
 page_lists page.PublicationRooms path body = get_lists publication_rooms
+page_lists page.PublicationSeats path body = get_lists publication_seats
 page_lists page.Batch path body =
     one (codes "PUT") _ (λ n. put_lists (batch n (text_body body))) (number_in 2 path)
 

@@ -11,7 +11,7 @@ use Rattle.office_policy.specs.Commands.{me, my_exam, my_penalty, load, instance
 use Rattle.office_policy.specs.Commands.{set_owner, new_draft, draft, draft_penalty}
 use Rattle.office_policy.specs.Commands.{draft_violations, drop_draft, place, move, clear, swap}
 use Rattle.office_policy.specs.Commands.{publish, publication, publication_penalty}
-use Rattle.office_policy.specs.Commands.{publication_rooms, batch}
+use Rattle.office_policy.specs.Commands.{publication_rooms, publication_seats, batch}
 use Rattle.office_policy.specs.Numbers.{number_of}
 use Rattle.office_policy.specs.declared.callers.Caller.{Caller}
 use Rattle.office_policy.specs.declared.callers.Caller.TheVariants.{Office, Dept, Cand}
@@ -48,7 +48,7 @@ in_rows (row ∷ rows) zero inside = inl (refl, refl)
 in_rows (row ∷ rows) (suc i) inside = inr (in_rows rows i (omega arith))
 
 -- a path that the pattern of the page takes leads to it
-page_is : (i : ℕ) (path : List ℕ) → i < 17 → takes (row_at pages i).0 path ≡ true
+page_is : (i : ℕ) (path : List ℕ) → i < 18 → takes (row_at pages i).0 path ≡ true
     → page_of path ≡ Some (row_at pages i).1
 page_is i path inside takes_it =
     sym (page_some path (row_at pages i).1 record {
@@ -65,7 +65,7 @@ record Offers (path body : List ℕ) (p : Page) (asks : Asks) : Type 0 where
   page_there : page_of path ≡ Some p
   asks_there : asks_at p path body ≡ Some asks
 
-offers : (i : ℕ) (path body : List ℕ) (asks : Asks) → i < 17
+offers : (i : ℕ) (path body : List ℕ) (asks : Asks) → i < 18
     → takes (row_at pages i).0 path ≡ true → asks_at (row_at pages i).1 path body ≡ Some asks
     → Offers path body (row_at pages i).1 asks
 offers i path body asks inside takes_it there =
@@ -158,6 +158,7 @@ page_for (publish d) = page.Publish
 page_for publication = page.Publication
 page_for publication_penalty = page.PublicationPenalty
 page_for publication_rooms = page.PublicationRooms
+page_for publication_seats = page.PublicationSeats
 page_for (batch n text) = page.Batch
 
 -- what the methods of its page ask for
@@ -220,9 +221,10 @@ offered (swap d a b) body small = swap_there d a b small.0 small.1 small.2 body
 offered (publish d) body small =
     offers 5 _ body _ (omega arith) (one_takes d small (codes "/publish") refl)
     (one_is d small (λ d. by_post (publish d)) (codes "/publish") refl)
-offered publication body small = offers 16 _ body _ (omega arith) refl refl
+offered publication body small = offers 17 _ body _ (omega arith) refl refl
 offered publication_penalty body small = offers 14 _ body _ (omega arith) refl refl
 offered publication_rooms body small = offers 15 _ body _ (omega arith) refl refl
+offered publication_seats body small = offers 16 _ body _ (omega arith) refl refl
 offered (batch n text) body small =
     offers 0 _ body _ (omega arith) (one_takes n small [] tt)
     (one_is n small (λ n. by_put (batch n (text_body body))) [] tt)

@@ -10,7 +10,7 @@ use Rattle.office_policy.specs.Numbers.{IsSmall, IsSmallPlace}
 use Rattle.office_policy.specs.Commands.{PlainCommand, me, my_exam, my_penalty, HasSmallNumbers}
 use Rattle.office_policy.specs.Commands.{set_owner, draft_penalty, draft_violations, place, move}
 use Rattle.office_policy.specs.Commands.{clear, swap, publish, publication, publication_penalty}
-use Rattle.office_policy.specs.Commands.{publication_rooms, batch}
+use Rattle.office_policy.specs.Commands.{publication_rooms, publication_seats, batch}
 use Rattle.office_policy.specs.declared.callers.Caller.{Caller}
 use Rattle.office_policy.specs.declared.callers.Caller.TheVariants.{Office, Dept, Cand}
 use Rattle.office_policy.specs.declared.command.Body.{Body}
@@ -204,6 +204,7 @@ asks_small page.Publish path body = one 2 path _ (λ d draft. post_small (publis
 asks_small page.Publication path body = get_small publication tt
 asks_small page.PublicationPenalty path body = get_small publication_penalty tt
 asks_small page.PublicationRooms path body = get_small publication_rooms tt
+asks_small page.PublicationSeats path body = get_small publication_seats tt
 asks_small page.Batch path body =
     one 2 path _ (λ n number. put_small (batch n (text_body body)) number)
 

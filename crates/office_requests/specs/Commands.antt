@@ -5,7 +5,7 @@ use Rattle.office_policy.specs.Commands.{PlainCommand, me, my_exam, my_penalty}
 use Rattle.office_policy.specs.Commands.{set_owner, draft_penalty}
 use Rattle.office_policy.specs.Commands.{draft_violations, place, move, clear, swap}
 use Rattle.office_policy.specs.Commands.{publish, publication, publication_penalty}
-use Rattle.office_policy.specs.Commands.{publication_rooms, batch}
+use Rattle.office_policy.specs.Commands.{publication_rooms, publication_seats, batch}
 use Rattle.office_requests.specs.Bodies.{text_body, place_body, dept_body}
 use Rattle.office_requests.specs.ByMethod.{by_get, by_put, by_post, by_delete, of_instance}
 use Rattle.office_requests.specs.ByMethod.{of_draft, with_one, with_two, with_three}
@@ -33,6 +33,7 @@ asks_at page.Publish path body = with_one 2 (λ d. by_post (publish d)) path
 asks_at page.Publication path body = Some (by_get publication)
 asks_at page.PublicationPenalty path body = Some (by_get publication_penalty)
 asks_at page.PublicationRooms path body = Some (by_get publication_rooms)
+asks_at page.PublicationSeats path body = Some (by_get publication_seats)
 asks_at page.Batch path body = with_one 2 (λ n. by_put (batch n (text_body body))) path
 
 -- the command of a method on a page: the path is judged, then the method

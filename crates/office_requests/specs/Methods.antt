@@ -32,6 +32,7 @@ allow_of page.Publish = codes "POST"
 allow_of page.Publication = codes "GET"
 allow_of page.PublicationPenalty = codes "GET"
 allow_of page.PublicationRooms = codes "GET"
+allow_of page.PublicationSeats = codes "GET"
 allow_of page.Batch = codes "PUT"
 
 -- the names in a field's list: commas part them, and blanks are no part of them

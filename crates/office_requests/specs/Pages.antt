@@ -37,6 +37,7 @@ pages =
     ∷ (codes "/me", page.Me)
     ∷ (codes "/publication/penalty", page.PublicationPenalty)
     ∷ (codes "/publication/rooms", page.PublicationRooms)
+    ∷ (codes "/publication/seats", page.PublicationSeats)
     ∷ (codes "/publication", page.Publication)
     ∷ []
 

@@ -5,7 +5,7 @@ use Rattle.office_policy.specs.Commands.{PlainCommand, me, my_exam, my_penalty, 
 use Rattle.office_policy.specs.Commands.{set_owner, new_draft, draft, draft_penalty}
 use Rattle.office_policy.specs.Commands.{draft_violations, drop_draft, place, move, clear, swap}
 use Rattle.office_policy.specs.Commands.{publish, publication, publication_penalty}
-use Rattle.office_policy.specs.Commands.{publication_rooms, batch}
+use Rattle.office_policy.specs.Commands.{publication_rooms, publication_seats, batch}
 
 -- a path of these segments, each behind a slash
 abbrev pub path_from : List (List ℕ) → List ℕ
@@ -41,6 +41,7 @@ segments_of (publish d) = draft_segments d (codes "publish" ∷ [])
 segments_of publication = codes "publication" ∷ []
 segments_of publication_penalty = codes "publication" ∷ codes "penalty" ∷ []
 segments_of publication_rooms = codes "publication" ∷ codes "rooms" ∷ []
+segments_of publication_seats = codes "publication" ∷ codes "seats" ∷ []
 segments_of (batch n text) = codes "batches" ∷ decimal n ∷ []
 
 -- the path of a command
@@ -68,4 +69,5 @@ method_of (publish d) = codes "POST"
 method_of publication = codes "GET"
 method_of publication_penalty = codes "GET"
 method_of publication_rooms = codes "GET"
+method_of publication_seats = codes "GET"
 method_of (batch n text) = codes "PUT"

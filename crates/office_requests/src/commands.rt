@@ -6,7 +6,8 @@ ghost use Rattle.office_policy.specs.CommandBodies.{HoldsText};
 ghost use Rattle.office_policy.specs.Commands.{me, my_exam, my_penalty, set_owner};
 ghost use Rattle.office_policy.specs.Commands.{draft_penalty, draft_violations, place, move};
 ghost use Rattle.office_policy.specs.Commands.{clear, swap, publish, publication};
-ghost use Rattle.office_policy.specs.Commands.{publication_penalty, publication_rooms, batch};
+ghost use Rattle.office_policy.specs.Commands.{publication_penalty, publication_rooms};
+ghost use Rattle.office_policy.specs.Commands.{publication_seats, batch};
 ghost use Rattle.office_requests.specs.Bodies.{dept_body, place_body, text_body};
 ghost use Rattle.office_requests.specs.ByMethod.{by_get, by_put, by_post, by_delete};
 ghost use Rattle.office_requests.specs.ByMethod.{of_instance, of_draft};
@@ -58,6 +59,7 @@ pub(crate) fn command_at<'a>(
         Page::Publication => of_publication(verb),
         Page::PublicationPenalty => of_publication_penalty(verb),
         Page::PublicationRooms => of_publication_rooms(verb),
+        Page::PublicationSeats => of_publication_seats(verb),
         Page::Batch => of_batch(verb, number_in(path, 2)?, body),
     }
 }
@@ -271,6 +273,17 @@ fn of_publication_rooms<'a>(verb: Verb) -> Result<Command<'a>, Refusal>
     match verb {
         Verb::Get => Ok(Command::PublicationRooms),
         _ => Err(Refusal::Method(Page::PublicationRooms)),
+    }
+}
+
+fn of_publication_seats<'a>(verb: Verb) -> Result<Command<'a>, Refusal>
+    ensures asked { GivesCommand
+        (else_err (refusal.Method page.PublicationSeats) (by_get publication_seats verb)) result }
+    ensures lent { (text : Bor (List ℕ)) → IfOk result (HoldsText text) }
+{
+    match verb {
+        Verb::Get => Ok(Command::PublicationSeats),
+        _ => Err(Refusal::Method(Page::PublicationSeats)),
     }
 }
 

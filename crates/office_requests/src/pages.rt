@@ -35,6 +35,8 @@ pub enum Page {
     PublicationPenalty,
     /// `/publication/rooms`
     PublicationRooms,
+    /// `/publication/seats`
+    PublicationSeats,
     /// `/batches/{n}`
     Batch,
 }

@@ -10,7 +10,7 @@ use std::alloc::{AllocError, Global};
 use std::marker::Model;
 
 // Each page with its route.
-const ROUTES: [(&str, Page); 17] = [
+const ROUTES: [(&str, Page); 18] = [
     ("/me", Page::Me),
     ("/me/exam/{n}", Page::MyExam),
     ("/me/penalty", Page::MyPenalty),
@@ -27,6 +27,7 @@ const ROUTES: [(&str, Page); 17] = [
     ("/publication", Page::Publication),
     ("/publication/penalty", Page::PublicationPenalty),
     ("/publication/rooms", Page::PublicationRooms),
+    ("/publication/seats", Page::PublicationSeats),
     ("/batches/{n}", Page::Batch),
 ];
 
