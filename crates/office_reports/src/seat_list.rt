@@ -5,8 +5,8 @@ ghost use Rattle.office_reports.specs.SeatList.{seat_line, seats_text};
 use exam_publish::SeatRow;
 use std::alloc::{AllocError, Global};
 
-/// A heading, then a line for each seat, in the order given: the candidate, the exam, its period
-/// and room, and the seat.
+/// Returns the text of the seat list: a heading, then a line for each of these seats, in their
+/// order, with the candidate, the exam, its period and room, and the seat.
 pub fn seats_report(alloc: Global, seats: &[SeatRow]) -> Result<String, AllocError>
     ensures { IfOk result (λ text. string_bytes text ≡ seats_text seats.now) }
 {
