@@ -24,7 +24,7 @@ use Rattle.office_policy.specs.Commands.{HasSmallNumbers, PlainCommand, me, my_e
 use Rattle.office_policy.specs.Commands.{set_owner, new_draft, draft, draft_penalty}
 use Rattle.office_policy.specs.Commands.{draft_violations, drop_draft, place, move, clear, swap}
 use Rattle.office_policy.specs.Commands.{publish, publication, publication_penalty}
-use Rattle.office_policy.specs.Commands.{publication_rooms, batch}
+use Rattle.office_policy.specs.Commands.{publication_rooms, publication_seats, batch}
 use Rattle.office_policy.specs.declared.callers.Caller.{Caller}
 use Rattle.office_policy.specs.declared.command.Body.TheVariants.{Given, Bad, Long}
 use Rattle.office_model.specs.Answers.{PlainAnswer, now_loaded, now_owned, now_drafted, now_edited}
@@ -223,6 +223,7 @@ keeps old (draft_violations d) is small batches = tt
 keeps old publication is small batches = tt
 keeps old publication_penalty is small batches = tt
 keeps old publication_rooms is small batches = tt
+keeps old publication_seats is small batches = tt
 
 pub step_leaves : (old : OfficeState) (caller : Caller) (command : PlainCommand) → IsOffice old
     → HasSmallNumbers command

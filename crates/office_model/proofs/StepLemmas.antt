@@ -7,7 +7,7 @@ use Rattle.office_policy.specs.Commands.{PlainCommand, me, my_exam, my_penalty, 
 use Rattle.office_policy.specs.Commands.{set_owner, new_draft, draft, draft_penalty}
 use Rattle.office_policy.specs.Commands.{draft_violations, drop_draft, place, move, clear, swap}
 use Rattle.office_policy.specs.Commands.{publish, publication, publication_penalty}
-use Rattle.office_policy.specs.Commands.{publication_rooms, batch}
+use Rattle.office_policy.specs.Commands.{publication_rooms, publication_seats, batch}
 use Rattle.office_policy.specs.declared.callers.Caller.{Caller}
 use Rattle.office_policy.specs.declared.callers.Caller.TheVariants.{Office, Dept, Cand}
 use Rattle.office_policy.specs.declared.command.Body.TheVariants.{Given, Bad, Long}
@@ -121,6 +121,7 @@ module _ (P : OfficeState → Type 0) (Q : PlainAnswer → Type 0) (old : Office
     permitted_law caller publication h q = here
     permitted_law caller publication_penalty h q = here
     permitted_law caller publication_rooms h q = here
+    permitted_law caller publication_seats h q = here
     permitted_law caller (batch number (Given bytes)) h q =
         outcome_law P Q (now_enrolled number) old (batch_enrolled number bytes old) here h q
     permitted_law caller (batch number Bad) h q = here
@@ -191,6 +192,7 @@ module _ (P : OfficeState → Type 0) (Q : PlainAnswer → Type 0) (old : Office
   framed_keeps publication h = tt
   framed_keeps publication_penalty h = tt
   framed_keeps publication_rooms h = tt
+  framed_keeps publication_seats h = tt
   framed_keeps (batch number (Given bytes)) h = h
   framed_keeps (batch number Bad) h = tt
   framed_keeps (batch number Long) h = tt

@@ -15,7 +15,7 @@ use Rattle.office_policy.specs.Commands.{PlainCommand, me, my_exam, my_penalty, 
 use Rattle.office_policy.specs.Commands.{set_owner, new_draft, draft, draft_penalty}
 use Rattle.office_policy.specs.Commands.{draft_violations, drop_draft, place, move, clear, swap}
 use Rattle.office_policy.specs.Commands.{publish, publication, publication_penalty}
-use Rattle.office_policy.specs.Commands.{publication_rooms, batch}
+use Rattle.office_policy.specs.Commands.{publication_rooms, publication_seats, batch}
 use Rattle.office_policy.specs.Policy.{permits}
 use Rattle.office_policy.specs.declared.callers.Caller.{Caller}
 use Rattle.office_policy.specs.declared.callers.Caller.TheVariants.{Office, Dept, Cand}
@@ -24,6 +24,7 @@ use Rattle.office_policy.specs.declared.command.Body.TheVariants.{Given, Bad, Lo
 use Rattle.office_policy.specs.declared.policy.Denial.{Denial}
 use Rattle.office_reports.specs.Reports.{penalty_text, violation_text}
 use Rattle.office_reports.specs.Rooms.{rooms_text}
+use Rattle.office_reports.specs.SeatList.{seats_text}
 use Rattle.office_model.specs.Answers.{PlainAnswer, now_loaded, text, now_owned, now_drafted}
 use Rattle.office_model.specs.Answers.{now_edited, now_dropped, shown_draft, now_published}
 use Rattle.office_model.specs.Answers.{unpublished, now_enrolled, denied, bad_body, long_body}
@@ -127,6 +128,8 @@ permitted old caller publication_penalty =
     (old, of_published published_penalty (publication_in old))
 permitted old caller publication_rooms =
     (old, of_published (λ I p. rooms_text I p.timetable p.rows) (publication_in old))
+permitted old caller publication_seats =
+    (old, of_published (λ I p. seats_text p.rows) (publication_in old))
 permitted old caller (batch number body) =
     with_body old (λ bytes. outcome (now_enrolled number) old (batch_enrolled number bytes old))
     body
