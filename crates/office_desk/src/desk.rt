@@ -17,7 +17,7 @@ use crate::changing::{
     set_owner, swap_exams,
 };
 use crate::judging::judged;
-use crate::publications::{publication, publication_penalty, publication_rooms};
+use crate::publications::{publication, publication_penalty, publication_rooms, publication_seats};
 use crate::showing::{draft, instance, penalty, violations};
 use office_policy::{Caller, Command};
 use office_store::{Office, StoreFault};
@@ -138,6 +138,7 @@ fn perform<S: Alter>(
         Command::Publication => publication(office, alloc),
         Command::PublicationPenalty => publication_penalty(office, alloc),
         Command::PublicationRooms => publication_rooms(office, alloc),
+        Command::PublicationSeats => publication_seats(office, alloc),
         Command::Batch(number, body) => enrol_batch(office, alloc, number, body),
     }
 }

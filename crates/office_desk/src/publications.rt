@@ -1,12 +1,13 @@
 // Commands that show what is published. An `Err` says that nothing is told.
 ghost use Rattle.sqlite.specs.Held.{state};
 ghost use Rattle.sqlite.specs.State.{HasCleanDisk};
-ghost use Rattle.office_policy.specs.Commands.{publication, publication_penalty, publication_rooms};
+ghost use Rattle.office_policy.specs.Commands.{publication, publication_penalty};
+ghost use Rattle.office_policy.specs.Commands.{publication_rooms, publication_seats};
 ghost use Rattle.office_desk.specs.Performing.{AwakeUnlessRefused, Performs};
 
 use crate::answer::Answer;
 use office_files::write_solution;
-use office_reports::{penalty_report, rooms_report};
+use office_reports::{penalty_report, rooms_report, seats_report};
 use office_store::Office;
 use sqlite::Alter;
 use std::alloc::Global;
@@ -62,5 +63,22 @@ pub(crate) fn publication_rooms<S: Alter>(
     };
     let (instance, _) = office.session()?;
     let report = rooms_report(alloc, instance, &timetable, &seats)?;
+    Ok(Answer::Text(report.into_bytes()))
+}
+
+// Lists the seats of the publication.
+pub(crate) fn publication_seats<S: Alter>(
+    office: &mut Office<S>,
+    alloc: Global,
+) -> Result<Answer, Answer>
+    ensures performs { Performs S.Store publication_seats office.old office.new result }
+    ensures awake { AwakeUnlessRefused S.Store office.new result }
+    ensures clean { HasCleanDisk (state S.Store office.new)
+        → HasCleanDisk (state S.Store office.old) }
+{
+    let Some((_, seats)) = office.publication(alloc)? else {
+        return Ok(Answer::Unpublished);
+    };
+    let report = seats_report(alloc, &seats)?;
     Ok(Answer::Text(report.into_bytes()))
 }

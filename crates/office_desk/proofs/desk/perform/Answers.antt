@@ -69,6 +69,10 @@ pub returns-in-PublicationRooms-clause-performs : goal.returns-in-PublicationRoo
 returns-in-PublicationRooms-clause-performs g c =
     rw c.in-PublicationRooms.is (c.publication_rooms.ensures.performs c.args.caller)
 
+pub returns-in-PublicationSeats-clause-performs : goal.returns-in-PublicationSeats-clause-performs
+returns-in-PublicationSeats-clause-performs g c =
+    rw c.in-PublicationSeats.is (c.publication_seats.ensures.performs c.args.caller)
+
 pub returns-in-Batch-clause-performs : goal.returns-in-Batch-clause-performs
 returns-in-Batch-clause-performs g c =
     rw c.in-Batch.is (c.enrol_batch.ensures.performs c.args.caller)
