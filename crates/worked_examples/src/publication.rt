@@ -6,7 +6,7 @@ ghost use Rattle.exam_publish.specs.Seats.{AreSeated};
 use crate::given::{APART, ONE_ROOM, assert_same, fits, numbers, placed, small, student};
 use exam_model::{Enrolments, ExamNo, Instance, PeriodNo, RoomNo, StudentNo, Timetable};
 use exam_publish::{PublishFault, RoomShare, SeatRow, changed, permit, seats, shares};
-use office_reports::rooms_report;
+use office_reports::{rooms_report, seats_report};
 use std::alloc::Global;
 use std::test::Fail;
 
@@ -81,6 +81,17 @@ fn worked_seats(rt: HostRuntime) -> Result<(), Fail> {
     ];
     let seated = rows(rt.alloc(), &wanted)?;
     assert_same(&rt, first.as_slice(), seated.as_slice(), "apart");
+    let list = "\
+student,exam,period,room,seat
+1,0,0,0,1
+2,0,0,0,2
+2,1,1,0,1
+3,1,1,0,2
+3,2,3,1,1
+1,3,2,0,1
+";
+    let text = seats_report(rt.alloc(), &first)?;
+    assert_same(&rt, text.as_str(), list, "seat list");
     wanted[5] = (3, 1, 3, 1, 2);
     let seated = rows(rt.alloc(), &wanted)?;
     assert_same(&rt, second.as_slice(), seated.as_slice(), "one room");
