@@ -30,9 +30,9 @@ from cases import Cases
 from further_cases import ASKED, FURTHER, shown
 from serve_cases import (
     CASES, EMPTY, EXAMPLES, FIRST_MOVED, FROM_SOLUTION, INSTANCE, MANY, MOVED_ROOMS, MOVED_SEATS,
-    MOVED_TEXT, PENALTY, PENDING, PUBLISHED, SECOND_PAGE, SHOWN, SMALL, SOLUTION, STORED, THIRD, UNPLACED,
-    asked_by, at, batch, batch_text, clear, drafted, enrolled, error, forbidden, me, message, move,
-    pending, place, publish, published, reply, report, swap, text)
+    MOVED_TEXT, PENALTY, PENDING, PUBLISHED, SECOND_PAGE, SHOWN, SMALL, SOLUTION, STORED, THIRD,
+    UNPLACED, asked_by, at, batch, batch_text, clear, drafted, enrolled, error, forbidden, me,
+    message, move, pending, place, publish, published, reply, report, swap, text)
 
 # Beyond this nothing is waited for. Long, because other tests run beside.
 SECONDS = 180
