@@ -267,7 +267,7 @@ def seats_of_candidates(run, chromium, front):
             run.judge(f"where {words} sits", ("2 exams found.", [
                 ["Candidate", "Exam", "Period", "Room", "Seat"], *bens]), (
                 reader.text("#status"), reader.run(CELLS, "#seat-found tr")))
-        for words in ("99", "nobody", "s"):
+        for words in ("99", "nobody", "s", "  "):
             reader.run("document.querySelector('#seat-words').value = arguments[0]", words)
             reader.click("#seat-find button")
             is_read(reader)
@@ -479,6 +479,8 @@ def publishing(run, chromium, front):
                   ("Draft 1 is published; the seats of 1 candidate have changed.", before + 1),
                   (reader.text("#status"), publications(front)))
         reader.downloads_to(folder)
+        run.judge("what is offered", "Seats changed by publishing Draft 1, as CSV",
+                  reader.text("#changed-seats"))
         run.judge("whose seats changed", csv_file(
             ",".join([*WHOSE, *(f"{name} {when}" for when in ("before", "now") for name in WHERE)]),
             f"{SEATS_NAMED[5]},2005-04-18,09:30,Room 2.14,Physics building,2"), downloaded(

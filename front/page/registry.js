@@ -274,7 +274,7 @@ async function publish(confirmed) {
   const answer = await change(`Draft ${number} was not published.`,
     `/drafts/${number}/publish`, 'POST');
   await load();
-  await offerChanges(before, office);
+  await offerChanges(confirmed.name, before, office);
   byId('status').focus();
   const candidates = count(answer.changed, 'candidate');
   return `Draft ${answer.draft} is published; the seats of ${candidates} have changed.`;

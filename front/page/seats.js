@@ -42,8 +42,8 @@ export class People {
   found(text) {
     const words = text.toLowerCase().split(/\s+/).filter(Boolean);
     const number = studentFinder(this.students)(text.trim());
-    const named = this.students.filter(({ name }) => (
-      words.every((word) => name.toLowerCase().includes(word))));
+    const named = words.length ? this.students.filter(({ name }) => (
+      words.every((word) => name.toLowerCase().includes(word)))) : [];
     return new Set([...(number === null ? [] : [number]), ...named.map((student) => student.number)]);
   }
 }
@@ -186,11 +186,12 @@ export function showSeats({ names, session }, isPublished) {
   showOptions('print-room', 'All rooms', session.capacities.map((_, room) => names.roomInBuilding(room)));
 }
 
-/** Offers what a publication changed as a file; `before` has the seats of the last one. */
-export async function offerChanges(before, office) {
+/** Offers what the publication of a draft changed as a file; `before` has the seats of the last one. */
+export async function offerChanges(draft, before, office) {
   const changes = changesBetween(before ?? [], await readSeats());
   const people = await readPeople(office);
   byId('changed-seats').hidden = !changes.length;
+  byId('changed-seats').textContent = `Seats changed by publishing ${draft}, as CSV`;
   byId('changed-seats').onclick = () => downloadRows('changed-seats.csv',
     changedRows(changes, office, people));
 }
