@@ -4,8 +4,12 @@
 #[cfg(test)]
 mod adopting;
 #[cfg(test)]
+mod files;
+#[cfg(test)]
 mod given;
 #[cfg(test)]
 mod showing;
+#[cfg(test)]
+mod stopping;
 #[cfg(test)]
 mod tables;
