@@ -1,8 +1,8 @@
 #!/usr/bin/env python3
-"""The invariants of the architecture that docs/MAP.md states, held against the crates.
+"""The invariants of the architecture that docs/ARCHITECTURE.md states, held against the crates.
 
 What a crate stands on is read from crates.txt, what it names from the `use` lines of its sources,
-definitions and proofs. The pages that go crate by crate have to go in the order of crates.txt.
+definitions and proofs. The list of the crates has to go in the order of crates.txt.
 Prints a line for each failure; status 1 where there is one.
 """
 
@@ -24,9 +24,6 @@ SQLITE_NAMERS = SQL_CRATES | {
     "office_records", "office_store", "office_desk", "office_http", "office_program", "worked_offices",
     "worked_desks",
 }
-
-# Each page, and whether it has to have every crate of the libraries and the program, or of all.
-PAGES = [("MAP.md", "all"), ("PROVED.md", "libraries"), ("CONTRACTS.md", ""), ("WRONG_BODIES.md", "")]
 
 STATEMENT = re.compile(
     r'"\s*(SELECT|INSERT INTO|DELETE FROM|UPDATE|CREATE TABLE|CREATE INDEX|DROP|PRAGMA)\s'
@@ -143,25 +140,15 @@ INVARIANTS = [
 ]
 
 
-def sections(page, crates):
-    """The crates that a page's headings name, in their order."""
-    found = []
-    for line in page.read_text().splitlines():
-        if line.startswith("## "):
-            names = [name.strip() for name in line[3:].split(":")[0].split(",")]
-            found += [name for name in names if name in crates]
-    return found
-
-
 def drawn(page, crates):
-    """The crates of the list under the drawing of MAP, in their order."""
+    """The crates of the list under the drawing of ARCHITECTURE, in their order."""
     rows = re.findall(r"^\| `([a-z0-9_]+)` \| [^|]*\| (?:meaning|gate)", page.read_text(), re.M)
     return [name for name in rows if name in crates]
 
 
-def disorder(where, found, wanted, crates):
+def disorder(where, found, crates):
     """What is missing or out of the order of crates.txt in a list of crates."""
-    for name in wanted:
+    for name in crates:
         if name not in found:
             yield f"{where} has no {name}"
     order = [name for name in crates if name in found]
@@ -171,15 +158,6 @@ def disorder(where, found, wanted, crates):
             return
     if len(found) != len(order):
         yield f"{where} has a crate twice"
-
-
-def pages_out_of_order(crates):
-    for name, extent in PAGES:
-        page = TOP / "docs" / name
-        wanted = [x for x in crates if extent == "all" or extent and not is_test(x)]
-        yield from disorder(f"docs/{name}", sections(page, crates), wanted, crates)
-        if name == "MAP.md":
-            yield from disorder("the list of docs/MAP.md", drawn(page, crates), crates, crates)
 
 
 def stands_above(crates):
@@ -203,7 +181,8 @@ def main():
     judged = Cases("architecture")
     for invariant in INVARIANTS:
         judged.add(1, [f"{invariant.__name__}: {fault}" for fault in invariant(crates, knows)])
-    faults = (*stands_above(crates), *pages_out_of_order(crates))
+    page = TOP / "docs" / "ARCHITECTURE.md"
+    faults = (*stands_above(crates), *disorder("the list of docs/ARCHITECTURE.md", drawn(page, crates), crates))
     judged.add(1, [f"order: {fault}" for fault in faults])
     return judged.end("invariants, the order of the crates among them")
 

@@ -1,16 +1,16 @@
 #!/usr/bin/env python3
-"""What a crate cites of another's specs/ and proofs/, held against docs/CONTRACTS.md.
+"""What a crate cites of another's specs/ and proofs/, held against the pages that define it.
 
-Each word of specs/ that another crate cites has to stand, as code, in the section of its crate, and
-each page of proofs/ whose lemmas another crate cites. Types and constants of the code (`declared`)
-are seen as they are, and need no row. A word that a row promises has to stand on a page that the row
-names. A citation is a path of a `use`, or one in an attribute of a tactic (`using`, `unfolding`).
-Prints a line for each failure; status 1 where there is one.
+Each word that another crate cites has to be defined by the page that is named, and each word of specs/
+needs a comment: docs/generated/WORDS.md shows it. Types and constants of the code (`declared`) are left
+out. A citation is a path of a `use`, or one in an attribute of a tactic (`using`, `unfolding`).
+Prints a line for each failure; status 1 if there is one.
 """
 
 import pathlib
 import re
 import sys
+import textwrap
 
 from cases import Cases
 
@@ -19,17 +19,42 @@ CITED = re.compile(
     r"\bRattle\.([a-z][a-z0-9_]*)\.(specs|proofs)\.((?:[A-Za-z0-9_]+\.)*[A-Za-z0-9_]+)(?:\.\{([^}]*)\})?"
 )
 IN_ATTRIBUTE = re.compile(r"\b([a-z][a-z0-9_]*)::(specs|proofs)::([A-Za-z0-9_:]+)::([A-Za-z0-9_]+)")
-ROW = re.compile(r"^\| ([A-Z][A-Za-z, ]*)? ?\| (.*) \|$")
-PAGE = re.compile(r"[A-Z][A-Za-z]*")
-WORD = re.compile(r"(?<![\w-])[^\W\d][\w-]*(?![\w-])")
 # what the code declares, and what a derive writes for it
 OF_THE_CODE = ("declared", "contracts")
+# what a definition or a lemma begins with, and a field of a record or a variant
+HEAD = re.compile(r"( *)(?:(?:pub|abbrev|unfoldable|opaque|data|record) +)+([^\s:(){}]+)(?=[\s:({])")
+MEMBER = re.compile(r"  ((?:[^\s:(){}]+ )+):")
+WITH_MEMBERS = re.compile(r"(?:\w+ )*(?:data|record) ")
+ATTRIBUTES = re.compile(r"\b(?:pub|abbrev|unfoldable|opaque) +")
+MODULE = re.compile(r"^( *)module _ ([^=]*?)\s+where\n", re.M)
 
 
 def listed():
     """The crates of the repository, in their order."""
     lines = (TOP / "crates.txt").read_text().splitlines()
     return [line.split(":")[0].split()[0] for line in lines if ":" in line.split("#")[0]]
+
+
+def cited_words(crates):
+    """The names that other crates cite of each page, by crate, folder and page; of a variant, its type's."""
+    found = {}
+    for crate in crates:
+        for cited, folder, page, word in citations(crate, crates):
+            page, *of = page.split(".")
+            found.setdefault((cited, folder, page), set()).add(of[0] if of else word)
+    return found
+
+
+def citations(crate, crates):
+    """The crate, folder, page and word of each citation of another crate; without a word, the page's name."""
+    for path in sources(crate):
+        text = path.read_text()
+        for cited, folder, page, words in CITED.findall(text) + IN_ATTRIBUTE.findall(text):
+            page = page.replace("::", ".")
+            if cited in crates and cited != crate and page.split(".")[0] not in OF_THE_CODE:
+                for word in words.split(",") if words else [page]:
+                    if name := bare(word.split(" as ")[0].strip()):
+                        yield cited, folder, page, name
 
 
 def sources(crate):
@@ -39,88 +64,57 @@ def sources(crate):
                 yield path
 
 
-def citations(crate, crates):
-    """The crate, folder, page and word of each citation of another crate, with the file."""
-    for path in sources(crate):
-        text = path.read_text()
-        for cited, folder, page, words in CITED.findall(text) + IN_ATTRIBUTE.findall(text):
-            page = page.replace("::", ".")
-            if cited in crates and cited != crate and page.split(".")[0] not in OF_THE_CODE:
-                # with no words behind it, the page is cited as a whole
-                for word in words.split(",") if words else [page]:
-                    yield cited, folder, page, word.split(" as ")[0].strip(" «»◌\n"), path
+def definitions(path):
+    """Each definition of a page: the words that it defines, its comment and its type, as lines."""
+    for block in re.split(r"\n\s*\n", path.read_text()):
+        lines = MODULE.sub(parameters, block.strip("\n")).splitlines()
+        at = next((n for n, line in enumerate(lines) if HEAD.match(line)), None)
+        if at is not None and HEAD.match(lines[at])[2] not in ("mod", "use"):
+            lines = [line.removeprefix(HEAD.match(lines[at])[1]) for line in lines]
+            kept = type_of(lines[at:])
+            members = [name for line in kept[1:] if (found := MEMBER.match(line)) for name in found[1].split()]
+            comment = [line.lstrip() for line in lines[:at] if line.lstrip().startswith("--")]
+            yield {bare(HEAD.match(lines[at])[2]), *members}, comment, kept
 
 
-def sections():
-    """The lines of each crate's section."""
-    found, name = {}, None
-    for line in (TOP / "docs" / "CONTRACTS.md").read_text().splitlines():
-        if line.startswith("## "):
-            name = line[3:]
-        found.setdefault(name, []).append(line)
-    return found
+def parameters(module):
+    """The head of a module as a comment."""
+    text = f"what follows takes {' '.join(module[2].split())} first"
+    return "".join(f"{module[1]}  -- {line}\n" for line in textwrap.wrap(text, 96, break_long_words=False))
 
 
-def rows(lines):
-    """The rows of a section's tables of words: the pages of each, and its words as they stand."""
-    named, inside = [], False
-    for line in lines:
-        inside = line.startswith("|") and (inside or line.startswith("| Page of `specs/`"))
-        row = ROW.match(line) if inside else None
-        if row and not line.startswith("| Page of"):
-            named = PAGE.findall(row[1] or "") or named
-            yield named, row[2]
+def type_of(lines):
+    """The lines of a definition up to its first equation, with the fields of a record."""
+    indent = "  " if WITH_MEMBERS.match(lines[0]) else "    "
+    end = next((n for n, line in enumerate(lines) if n and not line.startswith(indent)), len(lines))
+    return [ATTRIBUTES.sub("", line) for line in lines[:end]]
 
 
-def pages_of(lines):
-    """The pages that the rows of a section name."""
-    return {page for named, _ in rows(lines) for page in named}
+def bare(name):
+    """A name without the places of its operands, and without quotes."""
+    return name.strip("◌«»")
 
 
-def code_of(text):
-    """The words of a text that stand as code."""
-    return {word for span in re.findall(r"`([^`]*)`", text) for word in re.findall(r"[^\s,.()]+", span)}
-
-
-def uncontracted(crates, pages):
-    """A word or a page of lemmas that is cited, and that the section of its crate lacks."""
-    lacking = {}
-    for crate in crates:
-        for cited, folder, page, word, path in citations(crate, crates):
-            lines = pages.get(cited, [])
-            name = word if folder == "specs" else f"proofs/{page.split('.')[0]}"
-            if name and name not in code_of("\n".join(lines)) and word not in pages_of(lines):
-                lacking.setdefault((cited, page if folder == "specs" else "", name), path)
-    for (cited, page, name), path in sorted(lacking.items()):
-        of = f" ({page})" if page else ""
-        yield f"{cited} has no {name}{of}, which {path.relative_to(TOP)} cites"
-
-
-def unwritten(crates, pages):
-    """A word that a row promises, and that no page of the row has."""
-    for crate in crates:
-        for named, text in rows(pages.get(crate, [])):
-            yield from unwritten_of(crate, named, text)
-
-
-def unwritten_of(crate, named, text):
-    files = [TOP / "crates" / crate / "specs" / f"{page}.antt" for page in named]
-    if named and not any(file.exists() for file in files):
-        yield f"{crate} has no page {', '.join(named)}"
+def faults(crate, folder, page, names):
+    """The cited words of a page that it doesn't define, and those of specs/ that have no comment."""
+    path = TOP / "crates" / crate / folder / f"{page}.antt"
+    if not path.exists():
+        yield f"{crate} has no {folder}/{page}"
         return
-    found = set().union(*(re.findall(r"[^\s,.(){}:;]+", file.read_text()) for file in files if file.exists()))
-    for word in sorted(code_of(text)):
-        if WORD.fullmatch(word) and word not in found:
-            yield f"{crate} promises {word}, which {', '.join(named)} lacks"
+    found = list(definitions(path))
+    defined = {page}.union(*(words for words, _, _ in found))
+    yield from (f"{path.relative_to(TOP)} has no {name}" for name in sorted(names - defined))
+    for words, comment, _ in found:
+        if folder == "specs" and words & names and not comment:
+            yield f"{path.relative_to(TOP)} says nothing of {', '.join(sorted(words & names))}"
 
 
 def main():
-    crates, pages = listed(), sections()
-    faults = list(uncontracted(crates, pages)) + list(unwritten(crates, pages))
-    cited = {(x[0], x[2], x[3]) for crate in crates for x in citations(crate, crates)}
-    judged = Cases("contracts")
-    judged.add(len(cited), faults)
+    judged, cited = Cases("contracts"), cited_words(listed())
+    for place, names in cited.items():
+        judged.add(len(names), list(faults(*place, names)))
     return judged.end("words cited across crates")
 
 
-sys.exit(main())
+if __name__ == "__main__":
+    sys.exit(main())

@@ -14,7 +14,7 @@ refused if a goal of any function stays open, that of a caller, say; the rest is
 `rt must-fail`. All checks of a crate, and crates, run side by side.
 
 wrong-bodies/TRIED has a line for each edit that was refused: a hash of the crate's sources and of the
-edit, and the edit's name. So an edit that is added or changed is tried by itself, and a change of the
+edit without its two head lines, and the edit's name. So an edit that is added or changed is tried by itself, and a change of the
 sources makes all edits of the crate to be tried again."""
 import hashlib
 import os
@@ -33,8 +33,10 @@ from cases import Cases
 
 ROOT = Path(__file__).resolve().parent.parent
 SOURCES = ("src", "specs", "proofs")
+# the head lines of an edit: they say what it is about, and change nothing
+HEADS = ("# idea: ", "# refused by: ")
 # what a comment begins with
-COMMENT = {".rt": b"//", ".antt": b"--"}
+COMMENT = {".rt": b"//", ".antt": b"--", ".edit": tuple(head.encode() for head in HEADS)}
 # what a check keeps for the next one
 KEPT = "out/incremental"
 # what one check may take, in bytes
@@ -290,6 +292,12 @@ def untried(name):
     """The edits of a crate that were not refused with the sources as they are."""
     now, noted = hashes(name), tried(name)
     return [at for at in edits_of(name) if noted.get(at.name) != now[at.name]]
+
+
+def heads_of(at):
+    """An edit's wrong idea, and the call and the clause that refuse it; what isn't said is empty."""
+    lines = at.read_text().splitlines()
+    return [line.removeprefix(head) if line.startswith(head) else "" for head, line in zip(HEADS, lines)]
 
 
 def size_of(name):
