@@ -3,6 +3,7 @@ pub mod MemberLemmas
 pub mod EnumerationLemmas
 pub mod FindingLemmas
 pub mod PlaceLemmas
+pub mod SharingLemmas
 pub mod GroupLemmas
 pub mod LoadLemmas
 pub mod BreachLemmas

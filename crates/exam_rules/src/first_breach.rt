@@ -29,6 +29,8 @@ pub fn first_breach_of(
     requires exist { All (λ e. e < length instance.now.exams) edited.now }
     ensures first { IfOk result (λ found. found
         ≡ least_breach_of instance.now enrolments.now timetable.now edited.now) }
+    // A breach that names one of the exams, and each other such breach comes after it; none if
+    // there is none.
     ensures least { IfOk result (IsLeastBreachOf instance.now enrolments.now timetable.now
         edited.now) }
 {

@@ -27,9 +27,12 @@ pub fn breaches(
     timetable: &Timetable,
 ) -> Result<Vec<Breach>, AllocError>
     requires { Fits instance.now enrolments.now timetable.now }
+    // Exactly the triples that the seven equations of `breaks` name.
     ensures members { IfOk result (λ found. (b : Breach) → (Contains found.items b
         ↔ IsTrue (is_breach instance.now enrolments.now timetable.now b))) }
+    // By rule, then exam, then the other exam; so each breach comes once.
     ensures in_order { IfOk result (λ found. IsStrictlySortedBy breach_cmp found.items) }
+    // The list that the layers above compute with.
     ensures listed { IfOk result (λ found. found.items
         ≡ breaches_of instance.now enrolments.now timetable.now) }
 {

@@ -61,6 +61,14 @@ impl Marks {
         all
     }
 
+    /// The exams that are marked for a student, or for another one of the same slot.
+    #[inline(always)]
+    pub(crate) fn of_student(&self, student: StudentNo) -> u64
+        ensures { result ≡ marks_of self.now student }
+    {
+        self.slots[slot_in(&self.slots, student)]
+    }
+
     /// Takes all marks of these students away, so that the next period begins with few.
     pub(crate) fn clear(&mut self, students: &[StudentNo])
         ensures cleared { (s : ℕ) → has_number students.now s ≡ true → marks_of self.new s ≡ 0 }
@@ -73,15 +81,17 @@ impl Marks {
     }
 }
 
-// A power of two, of which there is one for some four enrolments: so a small session takes little
-// memory.
+// A power of two, and one slot for at most four enrolments up to 131,072 of them: so few students of
+// one period share one, and a small session takes little memory.
 fn slots_for(pairs: u32) -> usize
     ensures { 0 < result }
 {
     match pairs {
-        0..=10_000 => 2_048,
-        10_001..=40_000 => 8_192,
-        40_001..=160_000 => 32_768,
+        0..=8_192 => 2_048,
+        8_193..=16_384 => 4_096,
+        16_385..=32_768 => 8_192,
+        32_769..=65_536 => 16_384,
+        65_537..=131_072 => 32_768,
         _ => 65_536,
     }
 }

@@ -17,7 +17,7 @@ use crate::exam_pair::{ExamPair, in_order, pair_if, push_some};
 use crate::marks::{Marks, has};
 use crate::site::Site;
 use crate::standing::{in_one_period, share_student};
-use exam_model::{Enrolments, ExamNo, Instance, Timetable};
+use exam_model::{Enrolments, ExamNo, Instance, StudentNo, Timetable};
 use std::alloc::{AllocError, Global};
 
 /// The exams that last longer than their periods, each with itself.
@@ -88,8 +88,7 @@ fn add_group(
 {
     mark(marks, group, enrolments);
     'exams: for exam in group {
-        let near = near_of(marks, enrolments, *exam);
-        add_clashes(found, *exam, near, group, enrolments)?;
+        add_clashes(found, marks, *exam, group, enrolments)?;
     }
     unmark(marks, group, enrolments);
     Ok(())
@@ -116,38 +115,89 @@ fn near_of(marks: &Marks, enrolments: &Enrolments, exam: ExamNo) -> u64
     marks.of(enrolments.students(exam))
 }
 
-// Adds an exam's clashes with greater exams of its group; what is near it has all that share a
-// student with it.
+// Adds an exam's clashes with greater exams of its group, whose exams are marked.
 fn add_clashes(
     found: &mut Vec<ExamPair>,
+    marks: &Marks,
     exam: ExamNo,
-    near: u64,
     group: &[ExamNo],
     enrolments: &Enrolments,
 ) -> Result<(), AllocError>
     requires exists { exam < length enrolments.now }
+    requires own { has_number group.now exam ≡ true }
     requires others_exist { All (λ f. f < length enrolments.now) group.now }
-    requires near { (f : ℕ) → has_number group.now f ≡ true
-        → share_student enrolments.now exam f ≡ true → Has near f }
+    requires marked { (f s : ℕ) → has_number group.now f ≡ true → has enrolments.now s f ≡ true
+        → Has (marks_of marks.now s) f }
     ensures { OnOk result ((e f : ℕ) → list_any (is_pair e f) found.new.items
         ≡ (list_any (is_pair e f) found.old.items || (has_number group.now f
         && ((exam == e) && (nat_lt e f && share_student enrolments.now e f))))) }
 {
+    let near = near_of(marks, enrolments, exam);
     'others: for other in group {
-        let clash = is_clash(near, enrolments, exam, *other);
+        let clash = is_clash(near, marks, enrolments, exam, *other);
         push_some(found, pair_if(clash, exam, *other))?;
     }
     Ok(())
 }
 
-// Whether two exams share a student, the smaller of them first; one that isn't near shares none.
-fn is_clash(near: u64, enrolments: &Enrolments, exam: ExamNo, other: ExamNo) -> bool
+// Whether two marked exams share a student, the smaller of them first; one that isn't near shares
+// none.
+fn is_clash(near: u64, marks: &Marks, enrolments: &Enrolments, exam: ExamNo, other: ExamNo) -> bool
     requires exists { exam < length enrolments.now }
     requires other_exists { other < length enrolments.now }
     requires near { share_student enrolments.now exam other ≡ true → Has near other }
+    requires marked { (s : ℕ) → has enrolments.now s exam ≡ true
+        → Has (marks_of marks.now s) exam }
+    requires other_marked { (s : ℕ) → has enrolments.now s other ≡ true
+        → Has (marks_of marks.now s) other }
     ensures { result ≡ (nat_lt exam other && share_student enrolments.now exam other) }
 {
-    exam < other && has(near, other) && share_student(enrolments, exam, other)
+    exam < other && has(near, other) && share_marked(marks, enrolments, exam, other)
+}
+
+// Whether two marked exams share a student: one of the students of the smaller sits the other.
+#[tactic(auto, using(crate::proofs::SharingLemmas::share_turned))]
+fn share_marked(marks: &Marks, enrolments: &Enrolments, exam: ExamNo, other: ExamNo) -> bool
+    requires exists { exam < length enrolments.now }
+    requires other_exists { other < length enrolments.now }
+    requires marked { (s : ℕ) → has enrolments.now s exam ≡ true
+        → Has (marks_of marks.now s) exam }
+    requires other_marked { (s : ℕ) → has enrolments.now s other ≡ true
+        → Has (marks_of marks.now s) other }
+    ensures { result ≡ share_student enrolments.now exam other }
+{
+    if enrolments.size(other) < enrolments.size(exam) {
+        return one_sits(marks, enrolments, other, exam);
+    }
+    one_sits(marks, enrolments, exam, other)
+}
+
+// Whether one of an exam's students sits another one, which is marked: only students who have its
+// mark are looked for in its list.
+fn one_sits(marks: &Marks, enrolments: &Enrolments, exam: ExamNo, other: ExamNo) -> bool
+    requires exists { exam < length enrolments.now }
+    requires other_exists { other < length enrolments.now }
+    requires marked { (s : ℕ) → has enrolments.now s other ≡ true
+        → Has (marks_of marks.now s) other }
+    ensures { result ≡ share_student enrolments.now exam other }
+{
+    'sitters: for student in enrolments.students(exam) {
+        if sits(marks, enrolments, *student, other) {
+            return true;
+        }
+    }
+    false
+}
+
+// Whether the student sits a marked exam.
+#[inline(always)]
+fn sits(marks: &Marks, enrolments: &Enrolments, student: StudentNo, exam: ExamNo) -> bool
+    requires exists { exam < length enrolments.now }
+    requires marked { has enrolments.now student exam ≡ true
+        → Has (marks_of marks.now student) exam }
+    ensures { result ≡ has enrolments.now student exam }
+{
+    has(marks.of_student(student), exam) && enrolments.has(student, exam)
 }
 
 // Takes the marks of a group away.

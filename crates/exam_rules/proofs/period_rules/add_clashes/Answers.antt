@@ -8,11 +8,26 @@ pub others-init : goal.others-init
 others-init c = found_none
 
 pub is_clash-clash-requires-clause-near : goal.is_clash-clash-requires-clause-near
-is_clash-clash-requires-clause-near c =
+is_clash-clash-requires-clause-near c share =
     let x : ℕ = c.other-item.result in
-    c.requires.near x
+    c.near_of-near.ensures x
+    (λ s sits. c.requires.marked x s
     (list_any_at (λ k. k == x) c.args.group.now c.others.other-index x c.others-test.true
     (eq-eqb _ _ (sym c.other-item.is)))
+    sits)
+    share
+
+pub is_clash-clash-requires-clause-marked : goal.is_clash-clash-requires-clause-marked
+is_clash-clash-requires-clause-marked c s sits =
+    c.requires.marked c.args.exam s c.requires.own sits
+
+pub is_clash-clash-requires-clause-other_marked : goal.is_clash-clash-requires-clause-other_marked
+is_clash-clash-requires-clause-other_marked c s sits =
+    let x : ℕ = c.other-item.result in
+    c.requires.marked x s
+    (list_any_at (λ k. k == x) c.args.group.now c.others.other-index x c.others-test.true
+    (eq-eqb _ _ (sym c.other-item.is)))
+    sits
 
 pub others-preserved : goal.others-preserved
 others-preserved c =

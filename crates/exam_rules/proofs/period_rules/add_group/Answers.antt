@@ -1,5 +1,6 @@
 use Rattle.std.specs.List.{list_any}
-use Rattle.std.proofs.Common.{ℕ, Bool, ◌&&◌, ◌||◌, ◌==◌, nat_lt, ◌∙◌, ap}
+use Rattle.std.proofs.Common.{ℕ, Bool, ◌&&◌, ◌||◌, ◌==◌, nat_lt, sym, ◌∙◌, ap, eq-eqb}
+use Rattle.std.proofs.lemmas.List.Folds.{list_any_at}
 use Rattle.exam_rules.specs.Breach.{is_pair}
 use Rattle.exam_model.specs.Enrolments.{has_number}
 use Rattle.exam_rules.specs.Places.{share_student}
@@ -11,9 +12,14 @@ use Rattle.exam_rules.proofs.period_rules.add_group.Goals as goal
 pub exams-init : goal.exams-init
 exams-init c = found_none
 
-pub add_clashes-requires-clause-near : goal.add_clashes-requires-clause-near
-add_clashes-requires-clause-near c =
-    λ f h k. c.near_of-near.ensures f (λ s sits. c.mark.ensures f s h sits) k
+pub add_clashes-requires-clause-own : goal.add_clashes-requires-clause-own
+add_clashes-requires-clause-own c =
+    let x : ℕ = c.exam-item.result in
+    list_any_at (λ k. k == x) c.args.group.now c.exams.exam-index x c.exams-test.true
+    (eq-eqb _ _ (sym c.exam-item.is))
+
+pub add_clashes-requires-clause-marked : goal.add_clashes-requires-clause-marked
+add_clashes-requires-clause-marked c = λ f s h sits. c.mark.ensures f s h sits
 
 pub exams-preserved : goal.exams-preserved
 exams-preserved c =
