@@ -1,8 +1,8 @@
 -- Digits at the front of a line, and what a field of few digits says.
-use Rattle.std.proofs.Common.{◌≡◌, ◌≢◌, ℕ, zero, suc, ◌+◌, ◌-◌, ◌*◌, ◌%◌, ◌^◌, ◌<◌, ◌≤◌}
+use Rattle.std.proofs.Common.{◌≡◌, ◌≢◌, ℕ, zero, suc, ◌+◌, ◌-◌, ◌*◌, ◌^◌, ◌<◌, ◌≤◌}
 use Rattle.std.proofs.Common.{Bool, true, false, List, [], ◌∷◌, ◌++◌, length, get_or, take, drop}
 use Rattle.std.proofs.Common.{add-one, Some, None, refl, sym, ap, subst, eqb-true, ◌∙◌, inl, inr, arith, le-ltb}
-use Rattle.std.specs.Prelude.{◌&&◌, ◌==◌, not, nat_le, nat_lt, if◌then◌else◌, map, slice_range}
+use Rattle.std.specs.Prelude.{◌&&◌, ◌==◌, not, nat_le, nat_lt, if◌then◌else◌, map}
 use mathlib.Core.Bool.{true≢false}
 use Rattle.std.specs.Int.Bits.{bit_xor}
 use Rattle.std.specs.List.{list_all, onto_first, range_with_len}
@@ -15,8 +15,8 @@ use Rattle.std.proofs.lemmas.Bool.{cases_lt, cases_eq}
 use Rattle.std.proofs.lemmas.List.{take-append-drop, take-take, length-take, length-take-le}
 use Rattle.std.proofs.lemmas.List.{length-append, append-nil, get_or-take}
 use Rattle.std.proofs.lemmas.Grind.{common_steps}
-use Rattle.std.proofs.lemmas.List.Folds.{list_all_at, list_all_more}
 use Rattle.std.proofs.lemmas.List.Sums.{prefix_len-le-length, prefix_len_passes, prefix_len_stops}
+use Rattle.std.proofs.lemmas.List.Folds.{list_all_at, list_all_more}
 use Rattle.std.proofs.lemmas.List.FromFn.{get_or-range_with_len, length-range_with_len}
 use Rattle.exam_terms.specs.Texts.{is_blank, before_end, trim_end, trimmed}
 use Rattle.office_files.specs.Fields.{ended_parts, fields_of, first, rest}
@@ -35,6 +35,13 @@ read_on-more n (d ∷ ds) zero lt = refl
 read_on-more n (d ∷ ds) (suc i) lt =
     let next = read_on-more (10 * n + (d - 48)) ds i (omega arith) in
     rw (add-one (suc i)) (rw (add-one i) at next)
+
+-- a number of eight digits or less has room for one more
+pub small_room : (n i : ℕ) → i < 9 → n < 10 ^ i → n < 100000000
+small_room n i lt small =
+    let most : 10 ^ i ≤ 10 ^ 8 =
+    pow-le-pow_right {n = 10} (omega arith) {i = i} {j = 8} (omega arith) in
+    omega arith
 
 pub small_more : (n i d : ℕ) → n < 10 ^ i → d ≤ 9 → 10 * n + d < 10 ^ (i + 1)
 small_more n i d small digit =
@@ -227,25 +234,20 @@ front_says text (suc i) le =
     ≡ 10 * read_on 0 (take i text) + (get_or text i 0 - 48) = read_on-more 0 text i lt in
     rw (← add-one i) (subst (λ n. Says text n (i + 1)) (sym all) more)
 
--- what is read of eight bytes
-pub eight_say : (text : List ℕ) (end value : ℕ) → length text ≤ 8
-    → end ≡ 0 + digits_len (drop 0 text)
-    → value ≡ (0 * 10 ^ (end - 0) + digits_value 10 (slice_range text 0 end)) % 2 ^ 64
+-- what the digits at the front of eight bytes say
+pub eight_say : (text : List ℕ) (end value : ℕ) → length text ≤ 8 → end ≡ digits_len text
+    → value ≡ digits_value 10 (take end text)
     → Says text value end × NoDigitAt text end × (value < 100000000)
 eight_say text end value few ends is =
     let within = prefix_len-le-length is_ascii_digit text in
-    let long : digits_len text ≡ end = omega (arith, ends) in
-    let says = front_says text end (omega (arith, long)) in
+    let says = front_says text end (omega (arith, ends)) in
     let room : 10 ^ end ≤ 10 ^ 8 =
-    pow-le-pow_right {n = 10} (omega arith) {i = end} {j = 8} (omega (arith, long, within)) in
+    pow-le-pow_right {n = 10} (omega arith) {i = end} {j = 8} (omega (arith, ends, within)) in
     let small = says.small in
-    let all : end - 0 ≡ end = omega arith in
-    let wrote : digits_value 10 (slice_range text 0 end) ≡ read_on 0 (take end text) =
-    ap (λ n. digits_value 10 (take n text)) all ∙ written 0 (take end text) says.digits in
-    let same : value ≡ read_on 0 (take end text) = omega (arith, wrote, is, small, room) in (
+    let same : value ≡ read_on 0 (take end text) = is ∙ written 0 (take end text) says.digits in (
       subst (λ n. Says text n end) (sym same) says,
-      λ lt. subst (λ k. is_ascii_digit (get_or text k 0) ≡ false) long
-          (prefix_len_stops is_ascii_digit text 0 (omega (arith, long))),
+      λ lt. subst (λ k. is_ascii_digit (get_or text k 0) ≡ false) (sym ends)
+          (prefix_len_stops is_ascii_digit text 0 (omega (arith, ends))),
       omega (arith, same, small, room),
     )
 

@@ -3,12 +3,12 @@ ghost use Rattle.std.specs.Prelude.{◌≡◌, ◌≤◌, length, option_map, If
 ghost use Rattle.office_files.specs.Fields.{ended_parts, first, rest};
 ghost use Rattle.office_files.specs.Digits.{Says, NoDigitAt, IsFront, few_digits, without_space};
 
-use core::dec2flt::read_digits;
+use crate::eight_digits::eight_digits;
 
-// So many digits are read as one word; a number of one more fits a u32.
+// So many bytes are read as one word; a number of one digit more fits a u32.
 const AT_ONCE: usize = 8;
 
-// The digits are this byte and the nine after it, in which it has all bits that they share.
+// The digits are this byte and the nine behind it, in which it has all bits that they share.
 const ZERO: u32 = 48;
 
 /// The line without the space at its start, where there is one.
@@ -54,7 +54,7 @@ fn front_digits(line: &[u8]) -> (u32, usize)
     if line.len() <= AT_ONCE {
         return digits(line);
     }
-    let (value, end) = digits(&line[..AT_ONCE]);
+    let (value, end) = eight_digits(line);
     if end < AT_ONCE {
         return (value, end);
     }
@@ -72,6 +72,13 @@ fn digits(text: &[u8]) -> (u32, usize)
     ensures front { Says text.now result.0 result.1 }
     ensures whole { NoDigitAt text.now result.1 }
 {
-    let (end, value) = read_digits(text, 0, 0);
-    (value as u32, end)
+    let mut value: u32 = 0;
+    for (i, byte) in text.iter().enumerate() {
+        let digit = u32::from(*byte) ^ ZERO; // any other byte is above 9 then
+        if digit > 9 {
+            return (value, i);
+        }
+        value = 10 * value + digit;
+    }
+    (value, text.len())
 }

@@ -90,9 +90,11 @@ const COPIED_AT_ONCE: usize = 2048;
 /// The whole text of an instance file's reader, at most 4,194,304 bytes. The reader has 5,000,000
 /// reads; one that was interrupted counts, and is tried again.
 pub fn instance_text<R: Read>(alloc: Global, reader: &mut R) -> Result<Vec<u8>, InputFault>
+    // If the reader tells its bytes, these are all that it has.
     ensures whole { IfOk result (λ text. IfSome (R.remaining reader.old)
         (λ input. input ≡ text.items)) }
     ensures short { IfOk result (λ text. length text.items ≤ INSTANCE_BYTES) }
+    // A fault of the text is `TooLong`: there is more.
     ensures refused { IfErr result (λ fault. IfSome (R.remaining reader.old)
         (λ input. RefusesText INSTANCE_BYTES input fault)) }
     // The reader is read no further than one byte past the limit.
@@ -104,9 +106,11 @@ pub fn instance_text<R: Read>(alloc: Global, reader: &mut R) -> Result<Vec<u8>, 
 
 /// The whole text of a solution file's reader, at most 1,048,576 bytes, in as many reads.
 pub fn solution_text<R: Read>(alloc: Global, reader: &mut R) -> Result<Vec<u8>, InputFault>
+    // If the reader tells its bytes, these are all that it has.
     ensures whole { IfOk result (λ text. IfSome (R.remaining reader.old)
         (λ input. input ≡ text.items)) }
     ensures short { IfOk result (λ text. length text.items ≤ TEXT_BYTES) }
+    // A fault of the text is `TooLong`: there is more.
     ensures refused { IfErr result (λ fault. IfSome (R.remaining reader.old)
         (λ input. RefusesText TEXT_BYTES input fault)) }
     // The reader is read no further than one byte past the limit.

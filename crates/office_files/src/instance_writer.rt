@@ -25,6 +25,7 @@ pub fn write_instance(
     enrolments: &Enrolments,
 ) -> Result<Vec<u8>, FileFault>
     requires fits { length enrolments.now ≡ length instance.now.exams }
+    // One line for each part, with CR LF at its end.
     ensures text { IfOk result (λ text.
         text.items ≡ canonical_instance instance.now enrolments.now) }
     ensures memory { IfErr result (λ fault. (fault.what ≡ FaultKind.NoMemory) × (fault.line ≡ 0)) }

@@ -4,6 +4,7 @@
 mod counts;
 mod dates;
 mod digits;
+mod eight_digits;
 mod exam_lines;
 mod fault;
 mod fields;

@@ -36,6 +36,8 @@ impl<'a> Tokens<'a> {
     #[tactic(auto, using(crate::proofs::OrderLaws::token_laws))]
     pub fn new(source: &'a [u8]) -> Tokens<'a>
         requires { length source.now ≤ INSTANCE_BYTES }
+        // Exactly the fields of every line that isn't blank, of which a header is one; each is its
+        // slice of the text.
         ensures tokens { result ≡ tokens_of source.now }
         ensures ordered { LieInRow 0 result (length source.now + 1) }
         ensures slices { AllByRecursion (IsSliceOf source.now) result }

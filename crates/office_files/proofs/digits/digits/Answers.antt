@@ -1,19 +1,32 @@
-use Rattle.std.proofs.Common.{ℕ, arith}
-use Rattle.office_files.proofs.ReadOnLemmas.{eight_say}
+use Rattle.std.proofs.Common.{◌≡◌, ◌-◌, ◌<◌, true, false, get_or, ap, subst, ◌∙◌, arith}
+use Rattle.std.specs.Char.{is_ascii_digit}
+use Rattle.std.specs.Int.Bits.{bit_xor}
+use Rattle.office_files.proofs.ReadOnLemmas.{low_is_digit, high_is_none, small_room, says-more}
 use Rattle.office_files.proofs.digits.digits.Goals as goal
 
-pub overflow_cast-result : goal.overflow_cast-result
-overflow_cast-result c =
-    let read = c.read_digits-end.ensures in
-    let said = eight_say c.args.text.now _ _ c.requires read.end read.value in
-    omega (arith, said.2)
+-- a number of eight digits or less has room for one more
+pub overflow_mul-value : goal.overflow_mul-value
+overflow_mul-value c =
+    let room = small_room c.loop-i.value c.loop-i.i (omega arith) c.loop-i.invariant.small in
+    omega arith
 
-pub returns-clause-front : goal.returns-clause-front
-returns-clause-front c =
-    let read = c.read_digits-end.ensures in
-    (eight_say c.args.text.now _ _ c.requires read.end read.value).0
+pub overflow_add-value : goal.overflow_add-value
+overflow_add-value c =
+    let room = small_room c.loop-i.value c.loop-i.i (omega arith) c.loop-i.invariant.small in
+    omega arith
 
-pub returns-clause-whole : goal.returns-clause-whole
-returns-clause-whole c =
-    let read = c.read_digits-end.ensures in
-    (eight_say c.args.text.now _ _ c.requires read.end read.value).1
+-- one digit more
+pub loop-i-preserved : goal.loop-i-preserved
+loop-i-preserved c =
+    let byte : c.from-digit.result < 256 = omega (arith, c.type_inv.text c.loop-i.i) in
+    let low = low_is_digit c.from-digit.result byte c.if-digit-gt9.false in
+    let is : is_ascii_digit (get_or c.args.text.now c.loop-i.i 0) ≡ true
+    = subst (λ b. is_ascii_digit b ≡ true) c.from-digit.ensures low.0 in
+    says-more c.args.text.now c.loop-i.value c.loop-i.i (bit_xor c.from-digit.result 48)
+    c.loop-i-test.true is (low.1 ∙ ap (λ b. b - 48) c.from-digit.ensures) c.loop-i.invariant
+
+pub returns-then-digit-gt9-clause-whole : goal.returns-then-digit-gt9-clause-whole
+returns-then-digit-gt9-clause-whole c lt =
+    let byte : c.from-digit.result < 256 = omega (arith, c.type_inv.text c.loop-i.i) in
+    subst (λ b. is_ascii_digit b ≡ false) c.from-digit.ensures
+    (high_is_none c.from-digit.result byte c.if-digit-gt9.true)
