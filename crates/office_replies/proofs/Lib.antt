@@ -1,3 +1,4 @@
 mod LengthLemmas
 mod FloatLemmas
 mod PaddingLemmas
+mod ArrayLemmas

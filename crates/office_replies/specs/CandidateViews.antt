@@ -4,9 +4,8 @@ use Rattle.serde_json.specs.Data.{Data, null, string, array, object, member, no_
 use Rattle.serde_json.specs.Written.{compact_text}
 use Rattle.exam_score.specs.Penalty.{PersonalPenalty, personal_total}
 use Rattle.office_model.specs.declared.views.ViewRow.{ViewRow}
-use Rattle.serde_json.specs.View.{items_of, view}
+use Rattle.serde_json.specs.View.{items_of}
 use Rattle.office_replies.specs.Views.{counted, or_null}
-use Rattle.office_replies.specs.declared.candidates.RowMembers.{RowMembers}
 use Rattle.office_replies.specs.DayTexts.{date_text, start_text}
 
 -- a text, or null where there is none
@@ -58,16 +57,3 @@ candidate_text s rows penalty = compact_text (candidate_data s rows penalty)
 -- what her exams cost her, as text
 abbrev pub cost_text : PersonalPenalty → List ℕ
 cost_text penalty = compact_text (cost_data penalty)
-
--- ---- as the program holds them
-
--- the object of what is said of an exam
-abbrev pub row_data : RowMembers → Data
-row_data m = object
-    (member (codes "date") (view m.date)
-    (member (codes "exam") (counted m.exam)
-    (member (codes "period") (view m.period)
-    (member (codes "room") (view m.room)
-    (member (codes "seat") (view m.seat)
-    (member (codes "start") (view m.start)
-    (member (codes "state") (string m.state.now) no_members)))))))

@@ -1,5 +1,6 @@
 pub mod Objects
 pub mod Views
+pub mod Members
 pub mod DayTexts
 pub mod CandidateViews
 pub mod Refusals

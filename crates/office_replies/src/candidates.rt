@@ -1,178 +1,182 @@
 // What a candidate is shown.
-ghost use Rattle.std.specs.Prelude.{◌≡◌, IfOk, map, option_map, string_bytes};
-ghost use Rattle.serde_json.specs.View.{view};
+ghost use Rattle.std.specs.Prelude.{◌≡◌, IfOk, OnOk, map, option_map};
+ghost use Rattle.serde_json.specs.Data.{array};
+ghost use Rattle.serde_json.specs.Events.{SendsValue};
+ghost use Rattle.serde_json.specs.View.{items_of};
 ghost use Rattle.office_messages.specs.Reply.{plain_reply, json_reply};
+ghost use Rattle.office_messages.specs.declared.statuses.Status.TheVariants.{Done};
 ghost use Rattle.office_replies.specs.CandidateViews.{candidate_data, candidate_text, cost_data};
 ghost use Rattle.office_replies.specs.CandidateViews.{cost_text, exam_data, exam_text};
-ghost use Rattle.office_replies.specs.CandidateViews.{row_data, state_text, text_or_null};
+ghost use Rattle.office_replies.specs.CandidateViews.{state_text, text_or_null};
 ghost use Rattle.office_replies.specs.DayTexts.{date_text, start_text};
-ghost use Rattle.office_replies.specs.Views.{or_null};
 
-use crate::views::{or_null, shown_reply};
-use exam_calendar::Date;
+use crate::days::{date_text, start_text};
+use crate::writing::{send_number, written_reply};
 use exam_score::PersonalParts;
-use office_messages::{Reply, Status};
+use office_messages::Reply;
 use office_model::{CandidateView, ShownPlace, ViewRow};
-use serde_json::{Map, Value, json};
+use serde::{Described, Serialize, Serializer};
 use std::alloc::{AllocError, Global};
 
-// What is said of one of a candidate's exams.
+// The body of the reply with all that a candidate is shown.
 #[derive(Drop)]
-struct RowMembers {
-    date: Value,
-    exam: u32,
-    period: Value,
-    room: Value,
-    seat: Value,
-    start: Value,
-    state: &'static str,
-}
+struct CandidateBody<'a>(&'a CandidateView);
 
-/// The reply with what a candidate is shown: her exams, and what they cost her.
+// The body of the reply with one of a candidate's exams.
+#[derive(Drop)]
+struct ExamBody(ViewRow);
+
+// The body of the reply with what a candidate's exams cost them.
+#[derive(Drop)]
+struct CostBody(PersonalParts);
+
+/// Returns the reply with what a candidate is shown: their exams, and what these cost them.
 pub fn candidate_reply(alloc: Global, shown: &CandidateView) -> Result<Reply, AllocError>
-    ensures { IfOk result (λ reply. plain_reply reply ≡ json_reply Status.Done
+    ensures { IfOk result (λ reply. plain_reply reply ≡ json_reply Done
         (candidate_text shown.now.student shown.now.exams shown.now.personal)) }
 {
-    Ok(shown_reply(candidate_text(alloc, shown)?))
+    written_reply(alloc, &CandidateBody(shown))
 }
 
-/// The reply with one of a candidate's exams.
+/// Returns the reply with one of a candidate's exams.
 pub fn exam_reply(alloc: Global, row: ViewRow) -> Result<Reply, AllocError>
     ensures { IfOk result (λ reply.
-        plain_reply reply ≡ json_reply Status.Done (exam_text row)) }
+        plain_reply reply ≡ json_reply Done (exam_text row)) }
 {
-    Ok(shown_reply(exam_text(alloc, row)?))
+    written_reply(alloc, &ExamBody(row))
 }
 
-/// The reply with what a candidate's exams cost her.
+/// Returns the reply with what a candidate's exams cost them.
 pub fn cost_reply(alloc: Global, personal: PersonalParts) -> Result<Reply, AllocError>
     ensures { IfOk result (λ reply.
-        plain_reply reply ≡ json_reply Status.Done (cost_text personal)) }
+        plain_reply reply ≡ json_reply Done (cost_text personal)) }
 {
-    Ok(shown_reply(cost_text(alloc, personal)?))
+    written_reply(alloc, &CostBody(personal))
 }
 
-fn candidate_text(alloc: Global, shown: &CandidateView) -> Result<String, AllocError>
-    ensures { IfOk result (λ text. string_bytes text
-        ≡ candidate_text shown.now.student shown.now.exams shown.now.personal) }
-{
-    candidate_value(alloc, shown)?.to_string(alloc)
+impl Described for CandidateBody<'_> {
+    ghost writes = { λ body. SendsValue
+        (candidate_data body.0.now.student body.0.now.exams body.0.now.personal) };
 }
 
-fn candidate_value(alloc: Global, shown: &CandidateView) -> Result<Value, AllocError>
-    ensures { IfOk result (λ value. view value
-        ≡ candidate_data shown.now.student shown.now.exams shown.now.personal) }
-{
-    let student = shown.student().get();
-    let exams = Value::Array(exam_values(alloc, shown.rows())?);
-    let penalty = shown.personal().total();
-    json!(in alloc; {"candidate": student, "exams": exams, "penalty": penalty})
+impl Serialize for CandidateBody<'_> {
+    fn serialize<S: Serializer>(&self, out: &mut S) -> Result<(), S::Error> {
+        out.begin_map(Some(3))?;
+        out.key("candidate")?;
+        self.0.student().get().serialize(out)?;
+        out.key("exams")?;
+        send_exams(self.0.rows(), out)?;
+        out.key("penalty")?;
+        out.u64(self.0.personal().total())?;
+        out.end_map()
+    }
 }
 
-// A candidate's exams, in their order.
-fn exam_values(alloc: Global, rows: &[ViewRow]) -> Result<Vec<Value>, AllocError>
-    ensures { IfOk result (λ values. map view values.items ≡ map exam_data rows.now) }
+impl Described for ExamBody {
+    ghost writes = { λ body. SendsValue (exam_data body.0) };
+}
+
+impl Serialize for ExamBody {
+    fn serialize<S: Serializer>(&self, out: &mut S) -> Result<(), S::Error> {
+        send_exam(self.0, out)
+    }
+}
+
+impl Described for CostBody {
+    ghost writes = { λ body. SendsValue (cost_data body.0) };
+}
+
+impl Serialize for CostBody {
+    fn serialize<S: Serializer>(&self, out: &mut S) -> Result<(), S::Error> {
+        out.begin_map(Some(4))?;
+        out.key("day")?;
+        out.u64(self.0.day())?;
+        out.key("penalty")?;
+        out.u64(self.0.total())?;
+        out.key("row")?;
+        out.u64(self.0.row())?;
+        out.key("spread")?;
+        out.u64(self.0.spread())?;
+        out.end_map()
+    }
+}
+
+// Sends a candidate's exams, in their order.
+fn send_exams<S: Serializer>(rows: &[ViewRow], out: &mut S) -> Result<(), S::Error>
+    ensures { OnOk result (SendsValue (array (items_of (map exam_data rows.now)))
+        (S.written out.old) (S.written out.new)) }
 {
-    let mut values = Vec::new(alloc);
+    out.begin_seq(Some(rows.len()))?;
     for row in rows {
-        values.push(exam_value(alloc, *row)?)?;
+        send_exam(*row, out)?;
     }
-    Ok(values)
+    out.end_seq()
 }
 
-fn exam_text(alloc: Global, row: ViewRow) -> Result<String, AllocError>
-    ensures { IfOk result (λ text. string_bytes text ≡ exam_text row) }
+// Sends one of a candidate's exams. It is inlined so that the lengths of its keys are known.
+#[inline(always)]
+fn send_exam<S: Serializer>(row: ViewRow, out: &mut S) -> Result<(), S::Error>
+    ensures { OnOk result (SendsValue (exam_data row) (S.written out.old) (S.written out.new)) }
 {
-    exam_value(alloc, row)?.to_string(alloc)
+    out.begin_map(Some(7))?;
+    out.key("date")?;
+    send_date(row.at, out)?;
+    out.key("exam")?;
+    row.exam.get().serialize(out)?;
+    send_number("period", period_of(row.at), out)?;
+    send_number("room", room_of(row.at), out)?;
+    send_number("seat", row.seat, out)?;
+    out.key("start")?;
+    send_start(row.at, out)?;
+    out.key("state")?;
+    out.str(state_text(row.enrolled, row.seat))?;
+    out.end_map()
 }
 
-// One of a candidate's exams.
-fn exam_value(alloc: Global, row: ViewRow) -> Result<Value, AllocError>
-    ensures { IfOk result (λ value. view value ≡ exam_data row) }
-{
-    let members = RowMembers {
-        date: date_value(alloc, row.at)?,
-        exam: row.exam.get(),
-        period: period_value(row.at),
-        room: room_value(row.at),
-        seat: or_null(row.seat),
-        start: start_value(alloc, row.at)?,
-        state: state_text(row.enrolled, row.seat),
-    };
-    row_object(alloc, members)
-}
-
-// The object of what is said of an exam.
-fn row_object(alloc: Global, members: RowMembers) -> Result<Value, AllocError>
-    ensures { IfOk result (λ value. view value ≡ row_data members) }
-{
-    let RowMembers {
-        date,
-        exam,
-        period,
-        room,
-        seat,
-        start,
-        state,
-    } = members;
-    json!(in alloc; {"date": date, "exam": exam, "period": period, "room": room, "seat": seat,
-        "start": start, "state": state})
-}
-
-// The date of a place, or null where there is none.
-fn date_value(alloc: Global, at: Option<ShownPlace>) -> Result<Value, AllocError>
-    ensures { IfOk result (λ value.
-        view value ≡ text_or_null (option_map (λ at. date_text at.date) at)) }
+// Sends the date of a place, or null if there is none.
+fn send_date<S: Serializer>(at: Option<ShownPlace>, out: &mut S) -> Result<(), S::Error>
+    ensures { OnOk result
+        (SendsValue (text_or_null (option_map (λ at. date_text at.date) at))
+        (S.written out.old) (S.written out.new)) }
 {
     match at {
-        Some(at) => Ok(Value::String(date_text(alloc, at.date)?)),
-        None => Ok(Value::Null),
+        Some(at) => match date_text(at.date) {
+            Ok(text) => out.str(text.as_str()),
+            Err(_) => Err(out.custom("no date")),
+        },
+        None => out.unit(),
     }
 }
 
-// The period of a place, or null where there is none.
-fn period_value(at: Option<ShownPlace>) -> Value
-    ensures { view result ≡ or_null (option_map (λ at. at.period) at) }
-{
-    or_null(at.map(|at| at.period.get()))
-}
-
-// The room of a place, or null where there is none.
-fn room_value(at: Option<ShownPlace>) -> Value
-    ensures { view result ≡ or_null (option_map (λ at. at.room) at) }
-{
-    or_null(at.map(|at| at.room.get()))
-}
-
-// When an exam at a place starts, or null where there is none.
-fn start_value(alloc: Global, at: Option<ShownPlace>) -> Result<Value, AllocError>
-    ensures { IfOk result (λ value. view value ≡ text_or_null (option_map start_text at)) }
+// Sends when an exam at a place starts, or null if there is none.
+fn send_start<S: Serializer>(at: Option<ShownPlace>, out: &mut S) -> Result<(), S::Error>
+    ensures { OnOk result (SendsValue (text_or_null (option_map start_text at))
+        (S.written out.old) (S.written out.new)) }
 {
     match at {
-        Some(at) => Ok(Value::String(start_text(alloc, at)?)),
-        None => Ok(Value::Null),
+        Some(at) => match start_text(at) {
+            Ok(text) => out.str(text.as_str()),
+            Err(_) => Err(out.custom("no time")),
+        },
+        None => out.unit(),
     }
 }
 
-fn date_text(alloc: Global, date: Date) -> Result<String, AllocError>
-    ensures { IfOk result (λ text. string_bytes text ≡ date_text date) }
+// Returns the period of a place, if there is one.
+fn period_of(at: Option<ShownPlace>) -> Option<u32>
+    ensures { result ≡ option_map (λ at. at.period) at }
 {
-    let Date { year, month, day } = date;
-    let mut text = String::new(alloc);
-    write!(text, "{year:04}-{month:02}-{day:02}")?;
-    Ok(text)
+    at.map(|at| at.period.get())
 }
 
-fn start_text(alloc: Global, at: ShownPlace) -> Result<String, AllocError>
-    ensures { IfOk result (λ text. string_bytes text ≡ start_text at) }
+// Returns the room of a place, if there is one.
+fn room_of(at: Option<ShownPlace>) -> Option<u32>
+    ensures { result ≡ option_map (λ at. at.room) at }
 {
-    let (hour, minute, second) = (at.hour, at.minute, at.second);
-    let mut text = String::new(alloc);
-    write!(text, "{hour:02}:{minute:02}:{second:02}")?;
-    Ok(text)
+    at.map(|at| at.room.get())
 }
 
-// Whether a candidate is enrolled and seated, enrolled alone, or no longer enrolled.
+// Returns whether a candidate is enrolled and seated, enrolled only, or no longer enrolled.
 fn state_text(enrolled: bool, seat: Option<u32>) -> &'static str
     ensures { result.now ≡ state_text enrolled seat }
 {
@@ -181,17 +185,4 @@ fn state_text(enrolled: bool, seat: Option<u32>) -> &'static str
         (true, None) => "pending",
         (false, _) => "withdrawn",
     }
-}
-
-fn cost_text(alloc: Global, personal: PersonalParts) -> Result<String, AllocError>
-    ensures { IfOk result (λ text. string_bytes text ≡ cost_text personal) }
-{
-    cost_value(alloc, personal)?.to_string(alloc)
-}
-
-fn cost_value(alloc: Global, personal: PersonalParts) -> Result<Value, AllocError>
-    ensures { IfOk result (λ value. view value ≡ cost_data personal) }
-{
-    let (day, row, spread) = (personal.day(), personal.row(), personal.spread());
-    json!(in alloc; {"day": day, "penalty": personal.total(), "row": row, "spread": spread})
 }

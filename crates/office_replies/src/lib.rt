@@ -3,9 +3,11 @@
 
 mod candidates;
 mod changes;
+mod days;
 mod objects;
 mod refusals;
 mod views;
+mod writing;
 
 pub use candidates::{candidate_reply, cost_reply, exam_reply};
 pub use changes::{

@@ -1,6 +1,6 @@
 // Small objects of JSON, put together in room that was made before a command ran: so a change that
 // was made is answered, however little memory is left.
-ghost use Rattle.std.specs.Prelude.{◌≡◌, ◌+◌, ◌≤◌, ◌<◌, ◌++◌, All, IfOk, length, decimal};
+ghost use Rattle.std.specs.Prelude.{◌≡◌, ◌+◌, ◌≤◌, ◌++◌, All, IfOk, length, decimal};
 ghost use Rattle.std.specs.Prelude.{map, vec_len, vec_capacity};
 ghost use Rattle.office_messages.specs.Reply.{plain_reply, json_reply};
 ghost use Rattle.office_replies.specs.Objects.{IsShort, IsShortSaid, member_text, object_text};

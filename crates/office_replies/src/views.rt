@@ -1,17 +1,28 @@
 // What is shown.
-ghost use Rattle.std.specs.Prelude.{◌≡◌, IfOk, map, string_bytes};
-ghost use Rattle.serde_json.specs.View.{view};
+ghost use Rattle.std.specs.Prelude.{◌≡◌, IfOk, OnOk, option_map};
+ghost use Rattle.serde_json.specs.Data.{array};
+ghost use Rattle.serde_json.specs.Events.{SendsValue};
+ghost use Rattle.serde_json.specs.View.{items_of};
 ghost use Rattle.office_messages.specs.Reply.{plain_reply, json_reply};
 ghost use Rattle.office_replies.specs.Replies as replies;
-ghost use Rattle.office_replies.specs.Views.{draft_data, draft_text, exam_data, exams_data, or_null};
+ghost use Rattle.office_replies.specs.Views.{draft_data, draft_text, exam_data, exams_data};
 
+use crate::writing::{send_number, written_reply};
 use exam_model::Timetable;
 use exam_terms::{ExamNo, Place};
 use office_messages::{Content, Payload, Reply, Status};
-use serde_json::{Map, Value, json};
+use serde::{Described, Serialize, Serializer};
 use std::alloc::{AllocError, Global};
 
-/// The reply with a text as it is.
+// The body of the reply with a draft.
+#[derive(Drop)]
+struct DraftBody<'a> {
+    draft: u32,
+    timetable: &'a Timetable,
+    penalty: u64,
+}
+
+/// Returns the reply with a text as it is.
 pub fn text_reply(text: Vec<u8>) -> Reply
     ensures { plain_reply result ≡ replies.text_reply text.items }
 {
@@ -23,7 +34,7 @@ pub fn text_reply(text: Vec<u8>) -> Reply
     }
 }
 
-/// The reply with a draft: its exams, where each stands, and its penalty.
+/// Returns the reply with a draft: its exams, the place of each, and its penalty.
 pub fn draft_reply(
     alloc: Global,
     draft: u32,
@@ -33,71 +44,64 @@ pub fn draft_reply(
     ensures { IfOk result (λ reply.
         plain_reply reply ≡ json_reply Status.Done (draft_text draft timetable.now penalty)) }
 {
-    Ok(shown_reply(draft_text(alloc, draft, timetable, penalty)?))
+    let body = DraftBody {
+        draft,
+        timetable,
+        penalty,
+    };
+    written_reply(alloc, &body)
 }
 
-// The reply with a text of JSON.
-pub(crate) fn shown_reply(text: String) -> Reply
-    ensures { plain_reply result ≡ json_reply Status.Done (string_bytes text) }
-{
-    Reply {
-        status: Status::Done,
-        allow: None,
-        content: Content::Json,
-        body: Payload::Made(text.into_bytes()),
+impl Described for DraftBody<'_> {
+    ghost writes = { λ body. SendsValue (draft_data body.draft body.timetable.now body.penalty) };
+}
+
+impl Serialize for DraftBody<'_> {
+    fn serialize<S: Serializer>(&self, out: &mut S) -> Result<(), S::Error> {
+        out.begin_map(Some(3))?;
+        out.key("draft")?;
+        self.draft.serialize(out)?;
+        out.key("exams")?;
+        send_exams(self.timetable, out)?;
+        out.key("penalty")?;
+        out.u64(self.penalty)?;
+        out.end_map()
     }
 }
 
-fn draft_text(
-    alloc: Global,
-    draft: u32,
-    timetable: &Timetable,
-    penalty: u64,
-) -> Result<String, AllocError>
-    ensures { IfOk result (λ text. string_bytes text ≡ draft_text draft timetable.now penalty) }
+// Sends the exams of a timetable, by their numbers.
+fn send_exams<S: Serializer>(timetable: &Timetable, out: &mut S) -> Result<(), S::Error>
+    ensures { OnOk result (SendsValue (array (items_of (exams_data timetable.now)))
+        (S.written out.old) (S.written out.new)) }
 {
-    draft_value(alloc, draft, timetable, penalty)?.to_string(alloc)
-}
-
-fn draft_value(
-    alloc: Global,
-    draft: u32,
-    timetable: &Timetable,
-    penalty: u64,
-) -> Result<Value, AllocError>
-    ensures { IfOk result (λ value. view value ≡ draft_data draft timetable.now penalty) }
-{
-    let exams = Value::Array(exam_values(alloc, timetable)?);
-    json!(in alloc; {"draft": draft, "exams": exams, "penalty": penalty})
-}
-
-// The exams of a timetable, by their numbers.
-fn exam_values(alloc: Global, timetable: &Timetable) -> Result<Vec<Value>, AllocError>
-    ensures { IfOk result (λ values. map view values.items ≡ exams_data timetable.now) }
-{
-    let mut values = Vec::new(alloc);
+    out.begin_seq(Some(timetable.exams() as usize))?;
     for number in 0..timetable.exams() {
         let exam = ExamNo::new(number);
-        values.push(exam_value(alloc, exam, timetable.get(exam))?)?;
+        send_exam(exam, timetable.get(exam), out)?;
     }
-    Ok(values)
+    out.end_seq()
 }
 
-// An exam and where it stands.
-fn exam_value(alloc: Global, exam: ExamNo, at: Option<Place>) -> Result<Value, AllocError>
-    ensures { IfOk result (λ value. view value ≡ exam_data exam at) }
+// Sends an exam and its place, if it has one.
+fn send_exam<S: Serializer>(exam: ExamNo, at: Option<Place>, out: &mut S) -> Result<(), S::Error>
+    ensures { OnOk result (SendsValue (exam_data exam at) (S.written out.old) (S.written out.new)) }
 {
-    let period = at.map(|at| at.period.get());
-    let room = at.map(|at| at.room.get());
-    json!(in alloc; {"exam": exam.get(), "period": or_null(period), "room": or_null(room)})
+    let (period, room) = place_numbers(at);
+    out.begin_map(Some(3))?;
+    out.key("exam")?;
+    exam.get().serialize(out)?;
+    send_number("period", period, out)?;
+    send_number("room", room, out)?;
+    out.end_map()
 }
 
-// A number, or null where there is none.
-pub(crate) fn or_null(number: Option<u32>) -> Value
-    ensures { view result ≡ or_null number }
+// Returns the period and the room of a place, if there is one.
+fn place_numbers(at: Option<Place>) -> (Option<u32>, Option<u32>)
+    ensures period { result.0 ≡ option_map (λ at. at.period) at }
+    ensures room { result.1 ≡ option_map (λ at. at.room) at }
 {
-    match number {
-        Some(number) => Value::from(number),
-        None => Value::Null,
+    match at {
+        Some(at) => (Some(at.period.get()), Some(at.room.get())),
+        None => (None, None),
     }
 }

@@ -1,0 +1,16 @@
+use Rattle.std.proofs.Common.{◌∙◌, ap}
+use Rattle.std.proofs.lemmas.Result.{IfOk-weaker}
+use Rattle.serde_json.proofs.FreeTexts.{text_of_value}
+use Rattle.office_messages.specs.Reply.{json_reply}
+use Rattle.office_messages.specs.declared.statuses.Status.TheVariants.{Done}
+use Rattle.office_replies.specs.Views.{draft_data}
+use Rattle.office_replies.proofs.FloatLemmas.{draft_no_float}
+use Rattle.office_replies.proofs.views.draft_reply.Goals as goal
+
+pub returns : goal.returns
+returns c =
+    let body = draft_data c.args.draft c.args.timetable.now c.args.penalty in
+    let whole = draft_no_float c.args.draft c.args.timetable.now c.args.penalty in
+    IfOk-weaker c.written_reply.result _ _
+    (λ reply h. h.4 ∙ ap (json_reply Done) (text_of_value body h.0 h.1 h.2 h.3 whole))
+    c.written_reply.ensures
