@@ -67,17 +67,13 @@ pub(crate) fn new_draft<S: Alter>(
     Ok(Answer::NewDraft(number, penalty))
 }
 
-pub(crate) fn drop_draft<S: Alter>(
-    office: &mut Office<S>,
-    alloc: Global,
-    number: u32,
-) -> Result<Answer, Answer>
+pub(crate) fn drop_draft<S: Alter>(office: &mut Office<S>, number: u32) -> Result<Answer, Answer>
     ensures performs { Performs S.Store (drop_draft number) office.old office.new result }
     ensures awake { AwakeUnlessRefused S.Store office.new result }
     ensures clean { HasCleanDisk (state S.Store office.new)
         → HasCleanDisk (state S.Store office.old) }
 {
-    office.drop_draft(alloc, number)?;
+    office.drop_draft(number)?;
     Ok(Answer::Dropped(number))
 }
 

@@ -61,6 +61,7 @@ impl<S: Alter> Desk<S> {
     pub fn run(&mut self, alloc: Global, caller: Caller, command: &Command<'_>) -> Answer
         requires { HasSmallNumbers (plain_command command.now) }
         // Over a disk that returns what was written it is one step of the office.
+        // Or the answer is `Unavailable`, and the office is as it was.
         ensures runs { HasCleanDisk (state S.Store self.new) → (office : OfficeState)
             → Now (state S.Store self.old) office
             → (new : OfficeState)
@@ -129,7 +130,7 @@ fn perform<S: Alter>(
         Command::Draft(number) => draft(office, alloc, number),
         Command::DraftPenalty(number) => penalty(office, alloc, number),
         Command::DraftViolations(number) => violations(office, alloc, number),
-        Command::DropDraft(number) => drop_draft(office, alloc, number),
+        Command::DropDraft(number) => drop_draft(office, number),
         Command::Place(number, exam, body) => place_exam(office, alloc, number, exam, body),
         Command::Move(number, exam, body) => move_exam(office, alloc, number, exam, body),
         Command::Clear(number, exam) => clear_exam(office, alloc, number, exam),

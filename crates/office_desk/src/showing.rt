@@ -50,7 +50,7 @@ pub(crate) fn penalty<S: Alter>(
     ensures clean { HasCleanDisk (state S.Store office.new)
         → HasCleanDisk (state S.Store office.old) }
 {
-    let parts = office.penalty(alloc, number)?;
+    let parts = office.penalty(number)?;
     let report = penalty_report(alloc, parts)?;
     Ok(Answer::Text(report.into_bytes()))
 }

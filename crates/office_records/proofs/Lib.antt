@@ -24,5 +24,4 @@ pub mod PublicationLemmas
 pub mod FoundLemmas
 pub mod SharesLemmas
 pub mod SameRowLemmas
-pub mod RescoredLemmas
 pub mod BatchPutLemmas

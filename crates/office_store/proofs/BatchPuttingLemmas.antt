@@ -1,7 +1,7 @@
 -- A batch that is accepted.
 use Rattle.std.proofs.Common.{◌≡◌, ◌≢◌, ◌≤◌, ◌+◌, ◌<◌, ℕ, suc, true, false, List, [], ◌∷◌, map, reverse, length}
 use Rattle.std.proofs.Common.{filter, not, if◌then◌else◌, Some, None, Result, Ok, Err, refl, sym, ◌∙◌, ap, subst, arith}
-use Rattle.std.specs.Prelude.{◌==◌, ◌&&◌, nat_lt}
+use Rattle.std.specs.Prelude.{◌==◌, ◌&&◌, IfSome, nat_lt}
 use Rattle.std.proofs.lemmas.Bool.Decides.{nat_tests}
 use Rattle.std.proofs.lemmas.List.{append-nil}
 use Rattle.std.proofs.lemmas.List.Sorted.{IsPermutation-reverse}
@@ -35,16 +35,19 @@ use Rattle.office_model.specs.declared.fault.StoreFault.{StoreFault}
 use Rattle.office_model.specs.declared.fault.StoreFault.TheVariants.{TooMany}
 use Rattle.office_records.specs.BatchRows.{batch_put, enrol_rows}
 use Rattle.office_records.specs.Found.{AreDrafts}
-use Rattle.office_records.specs.Memory.{Memory, memory_of}
+use Rattle.office_records.specs.Memory.{memory_of}
 use Rattle.office_records.specs.Stands.{IsKept, IsSound, StandsLoaded}
 use Rattle.office_records.specs.TableRows.{enrol_row, stored_batch}
 use Rattle.office_records.proofs.BatchPutLemmas.{batch_sound, batch_stands, drafts_moved}
 use Rattle.office_store.specs.NewBatches.{AreAnew, Enrols, IsNewFor, drafts_after, line_put, new_batch_put}
-use Rattle.office_store.specs.Running.{batch_count, IsFault}
+use Rattle.office_store.specs.Memory.{AreRescored, IsMemoryOf, IsRenewed}
+use Rattle.office_store.specs.Running.{IsFault}
+use Rattle.office_store.specs.declared.memory.OfficeMemory.{OfficeMemory}
 use Rattle.office_store.specs.declared.new_batch.NewBatch.{NewBatch}
 use Rattle.office_store.specs.declared.new_batch.PutLine.{PutLine}
 use Rattle.office_store.proofs.AllDraftLemmas.{drafts_stored}
-use Rattle.office_store.proofs.CommandLemmas.{Denies, Moves}
+use Rattle.office_store.proofs.CommandLemmas.{Denies, Moves, Remembers}
+use Rattle.office_store.proofs.RememberingLemmas.{after_lines, next_is}
 use Rattle.office_store.proofs.RunLemmas.{kept_of}
 
 -- ---- what the parts of the transaction make of the tables, one after the other
@@ -200,23 +203,24 @@ module _ (number : ℕ) (bytes : List ℕ) (changes : List Change)
 
   -- ---- the command, by what is in memory and the database that is read
 
-  module _ (I : Session) (E : Enrolled) (a : Database) where
+  module _ (I : Session) (E : Enrolled) (a : Database) (m : OfficeMemory) where
     -- what is put in is what the command puts in, whatever the records are that stand there
     abbrev pub Comes : Result NewBatch StoreFault → Type 0
     Comes result = (r : Records) → IsKept a (Some r) → memory_of (Some r) ≡ Some (I, E)
-        → Enrols changes r result
+        → IsMemoryOf (Some r) m → Enrols changes r result
 
-    module _ (m : Memory) (at_hand : m ≡ Some (I, E))
+    module _ (at_hand : m.kept ≡ Some (I, E))
         (is_new : (o : OfficeState) → IsKept a o → kept_in o number ≡ None) where
       pub enrol_denied : (e : StoreFault) → Comes (Err e)
           → Denies (batch_enrolled number bytes) e a m
       enrol_denied e comes o kept is =
-          let of = kept_of o I E (is ∙ at_hand) in
+          let of = kept_of o I E (is.session ∙ at_hand) in
           let r = of.records in
           let here = subst (IsKept a) of.is kept in
           subst (λ gives. IsFault gives e)
           (sym (ap (batch_enrolled number bytes) of.is ∙ gives_new r (is_new (Some r) here)))
-          (comes r here (subst (λ o. memory_of o ≡ Some (I, E)) of.is (is ∙ at_hand)) number bytes)
+          (comes r here (subst (λ o. memory_of o ≡ Some (I, E)) of.is (is.session ∙ at_hand))
+          (subst (λ o. IsMemoryOf o m) of.is is) number bytes)
 
       module _ (small : number ≤ 999999999)
           (counted : (E : Enrolled) (done : Counts × Enrolled) → after_batch changes E ≡ Ok done
@@ -272,18 +276,32 @@ module _ (number : ℕ) (bytes : List ℕ) (changes : List Change)
         pub enrol_moves : Comes (Ok new)
             → ((t : Tables) → Stands a t → Stands b (new_batch_put number bytes new t))
             → Moves (batch_enrolled number bytes) new.counts a b m
-            (Some (I, latest new.enrolments E)) (λ k. k + 1)
         enrol_moves comes makes o kept is =
-            let of = kept_of o I E (is ∙ at_hand) in
+            let of = kept_of o I E (is.session ∙ at_hand) in
             let r = of.records in
             let here = subst (IsKept a) of.is kept in
             let made = comes r here
-            (subst (λ o. memory_of o ≡ Some (I, E)) of.is (is ∙ at_hand)) in
-            let more : suc (length r.batches) ≡ length r.batches + 1 = omega arith in (
+            (subst (λ o. memory_of o ≡ Some (I, E)) of.is (is.session ∙ at_hand))
+            (subst (λ o. IsMemoryOf o m) of.is is) in (
               Some (keeping.records_with_batch number bytes r (done r)),
               ap (batch_enrolled number bytes) of.is ∙ gives r here made,
               enrolled_kept r here made makes,
-              ap (λ (J : Session). Some (J, latest new.enrolments r.enrolments)) of.session
-                  ∙ ap (λ (F : Enrolled). Some (I, latest new.enrolments F)) of.enrolments,
-              more ∙ ap (λ o. batch_count o + 1) (sym of.is),
             )
+
+        pub enrol_remembers : Comes (Ok new) → (n : OfficeMemory) → n.batches ≡ m.batches + 1
+            → IsRenewed I E new.enrolments new.rescored m n
+            → IfSome new.enrolments (λ F. AreRescored I F m.drafts new.rescored)
+            → Remembers (batch_enrolled number bytes) new.counts a m n
+        enrol_remembers comes n batches renewed rescored o kept is next is_next =
+            let of = kept_of o I E (is.session ∙ at_hand) in
+            let r = of.records in
+            let s = keeping.records_with_batch number bytes r (done r) in
+            let here = subst (IsKept a) of.is kept in
+            let memory = subst (λ o. IsMemoryOf o m) of.is is in
+            let made = comes r here
+            (subst (λ o. memory_of o ≡ Some (I, E)) of.is (is.session ∙ at_hand)) memory in
+            let more : length s.batches ≡ length r.batches + 1 = omega arith in
+            subst (λ o. IsMemoryOf o n)
+            (next_is (ap (batch_enrolled number bytes) (sym of.is) ∙ is_next) (gives r here made))
+            (after_lines r s m n I E at_hand new.rescored memory refl refl more batches
+            new.enrolments refl renewed rescored)

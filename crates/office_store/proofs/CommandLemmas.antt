@@ -1,35 +1,40 @@
 -- A command of an office, by what it makes of whatever office stands there.
-use Rattle.std.proofs.Common.{◌≡◌, ℕ, Ok, Err, Result, None, ap, sym, subst, ◌∙◌, IsTrue}
+use Rattle.std.proofs.Common.{◌≡◌, Ok, Err, Result, None, ap, sym, subst, ◌∙◌, IsTrue}
 use Rattle.sqlite.specs.Effect.{Database}
 use Rattle.sqlite.specs.Held.{Held, state}
 use Rattle.sqlite.specs.State.{State, HasCleanDisk}
 use Rattle.sqlite.specs.Store.{Ghosts}
 use Rattle.office_tables.specs.Alterations.{Undone}
 use Rattle.office_model.specs.Office.{OfficeState}
-use Rattle.office_records.specs.Memory.{Memory, memory_of}
 use Rattle.office_records.specs.Stands.{IsKept}
 use Rattle.office_model.specs.Commands.{Gives}
-use Rattle.office_store.specs.Running.{batch_count, Does, IsAtRest, IsAwake, IsFault, IsStill, Now, ReadsOffice, Runs, Shows}
+use Rattle.office_store.specs.Memory.{IsMemoryOf}
+use Rattle.office_store.specs.Running.{Does, IsAtRest, IsAwake, IsFault, IsStill, Now, ReadsOffice, Runs, Shows}
 use Rattle.office_store.specs.Running.{StaysOnErr, Tells}
 use Rattle.office_model.specs.declared.fault.StoreFault.{StoreFault}
 use Rattle.office_model.specs.declared.fault.StoreFault.TheVariants.{NotLoaded}
+use Rattle.office_store.specs.declared.memory.OfficeMemory.{OfficeMemory}
 use Rattle.office_store.proofs.ReadLemmas.{does_now}
 use Rattle.office_store.proofs.RunLemmas.{at_hand, nothing_kept, now_still}
 use Rattle.office_store.proofs.RunLemmas.{still_then, still_undone}
 
--- where an office stands and this is in memory of it, the command gives this, and leads to another,
--- which keeps a number of batches that comes from its own
+-- where an office stands and this is in memory of it, the command gives this, and leads to another
 abbrev pub Moves : {A : Type 0} → (OfficeState → Gives A) → A → Database → Database
-    → Memory → Memory → (ℕ → ℕ)
-    → Type 0
-Moves command x a b m n count = (o : OfficeState) → IsKept a o → memory_of o ≡ m
-    → (new : OfficeState) × (command o ≡ Ok (x, new)) × IsKept b new × (memory_of new ≡ n)
-    × (batch_count new ≡ count (batch_count o))
+    → OfficeMemory → Type 0
+Moves command x a b m = (o : OfficeState) → IsKept a o → IsMemoryOf o m
+    → (new : OfficeState) × (command o ≡ Ok (x, new)) × IsKept b new
 
 -- there it is refused so
-abbrev pub Denies : {A : Type 0} → (OfficeState → Gives A) → StoreFault → Database → Memory → Type 0
-Denies command fault a m = (o : OfficeState) → IsKept a o → memory_of o ≡ m
+abbrev pub Denies : {A : Type 0} → (OfficeState → Gives A) → StoreFault → Database → OfficeMemory
+    → Type 0
+Denies command fault a m = (o : OfficeState) → IsKept a o → IsMemoryOf o m
     → IsFault (command o) fault
+
+-- where this is in memory before the command, that is in memory of the office after it
+abbrev pub Remembers : {A : Type 0} → (OfficeState → Gives A) → A → Database → OfficeMemory
+    → OfficeMemory → Type 0
+Remembers command x a m n = (o : OfficeState) → IsKept a o → IsMemoryOf o m
+    → (new : OfficeState) → command o ≡ Ok (x, new) → IsMemoryOf new n
 
 -- what is told of an office that stays is shown
 pub shown : {A : Type 0} (says : A) (o : OfficeState) (Stays : OfficeState → Type 0)
@@ -40,23 +45,23 @@ shown says o Stays (Err fault) is here = (is, here)
 -- from the connection before a look at the file, by which nothing changes, to the one behind it,
 -- which is at hand
 module _ {S : Type 0} (g : Ghosts S) (before mid inside : Held S)
-    (m : Memory) {k : ℕ} (view : inside ≡ mid) (rest : IsAtRest (state g inside) m k)
+    (m : OfficeMemory) (view : inside ≡ mid) (rest : IsAtRest (state g inside) m)
     (awake : HasCleanDisk (state g mid) → IsAwake (state g mid))
     (still : HasCleanDisk (state g mid) → IsStill (state g before) (state g mid)) where
   -- the office that stood there does, and its session is in memory
   there : HasCleanDisk (state g mid) → (o : OfficeState) → Now (state g before) o
-      → IsKept (state g mid).now o × (memory_of o ≡ m)
+      → IsKept (state g mid).now o × IsMemoryOf o m
   there clean o now =
       let here = now_still (state g before) (state g mid) o (still clean) now (awake clean).0 in (
         here,
-        at_hand (state g mid) m o (subst (λ h. IsAtRest (state g h) m k) view rest) clean
+        at_hand (state g mid) m o (subst (λ h. IsAtRest (state g h) m) view rest) clean
             (awake clean).0 here,
       )
 
   -- what is answered is what the office says
   pub tells : {A : Type 0} (says : OfficeState → A) (result : Result A StoreFault)
       → (HasCleanDisk (state g mid) → (o : OfficeState) → IsKept (state g mid).now o
-      → memory_of o ≡ m → Tells (says o) result)
+      → IsMemoryOf o m → Tells (says o) result)
       → ReadsOffice g says before mid result
   tells says result told clean o now =
       let here = there clean o now in
@@ -64,11 +69,11 @@ module _ {S : Type 0} (g : Ghosts S) (before mid inside : Held S)
 
 module _ {S A : Type 0} (g : Ghosts S) (command : OfficeState → Gives A)
     (before mid inside : Held S)
-    (m : Memory) {k : ℕ} (view : inside ≡ mid) (rest : IsAtRest (state g inside) m k)
+    (m : OfficeMemory) (view : inside ≡ mid) (rest : IsAtRest (state g inside) m)
     (awake : HasCleanDisk (state g mid) → IsAwake (state g mid))
     (still : HasCleanDisk (state g mid) → IsStill (state g before) (state g mid)) where
   found : HasCleanDisk (state g mid) → (o : OfficeState) → Now (state g before) o
-      → IsKept (state g mid).now o × (memory_of o ≡ m)
+      → IsKept (state g mid).now o × IsMemoryOf o m
   found = there g before mid inside m view rest awake still
 
   pub refuses : (fault : StoreFault)
@@ -81,7 +86,7 @@ module _ {S A : Type 0} (g : Ghosts S) (command : OfficeState → Gives A)
   -- a command that only shows
   pub shows : (result : Result A StoreFault)
       → (HasCleanDisk (state g mid) → (o : OfficeState) → IsKept (state g mid).now o
-      → memory_of o ≡ m
+      → IsMemoryOf o m
       → Does (command o) o (λ new. new ≡ o) result)
       → Runs g command before mid result
   shows result does clean o now =
@@ -89,12 +94,12 @@ module _ {S A : Type 0} (g : Ghosts S) (command : OfficeState → Gives A)
       does_now (command o) o (Now (state g mid)) result
       (does clean o there.0 there.1) (λ _. there.0)
 
-  pub runs : (after : Held S) (n : Memory) (count : ℕ → ℕ) (x : A)
+  pub runs : (after : Held S) (x : A)
       → (HasCleanDisk (state g after) → HasCleanDisk (state g inside))
       → (HasCleanDisk (state g after)
-      → Moves command x (state g inside).now (state g after).now m n count)
+      → Moves command x (state g inside).now (state g after).now m)
       → Runs g command before after (Ok x)
-  runs after n count x clean moves is_clean o now =
+  runs after x clean moves is_clean o now =
       let there = found (subst (λ h. HasCleanDisk (state g h)) view (clean is_clean)) o now in
       let moved = moves is_clean o (subst (λ h. IsKept (state g h).now o) (sym view) there.0)
       there.1 in
@@ -110,8 +115,8 @@ awake_inside g start inside view awake clean =
 
 -- a command that is refused by what is read on from there
 pub refuses_on : {S A : Type 0} (g : Ghosts S) (command : OfficeState → Gives A)
-    (start inside after : Held S) (m : Memory) {k : ℕ} → inside ≡ start
-    → IsAtRest (state g inside) m k
+    (start inside after : Held S) (m : OfficeMemory) → inside ≡ start
+    → IsAtRest (state g inside) m
     → (HasCleanDisk (state g start) → IsAwake (state g start))
     → (HasCleanDisk (state g after) → HasCleanDisk (state g inside))
     → (HasCleanDisk (state g after) → IsStill (state g inside) (state g after))
@@ -154,6 +159,25 @@ stays_undone g before mid inside after view still awake clean undone (Err fault)
     (still_undone (state g mid) (state g after) (λ _. (awake was).1)
     (subst (λ h. Undone (state g h) (state g after)) view (undone is_clean)))
 
+-- a command that a look at the file precedes
+pub runs_then : {S A : Type 0} (g : Ghosts S) (command : OfficeState → Gives A)
+    (before mid after : Held S) (result : Result A StoreFault)
+    → (HasCleanDisk (state g mid) → IsStill (state g before) (state g mid))
+    → (HasCleanDisk (state g after) → HasCleanDisk (state g mid))
+    → Runs g command mid after result → Runs g command before after result
+runs_then g command before mid after result still clean run is_clean o now =
+    run is_clean o (stays_by g before mid still (clean is_clean) o now)
+
+pub stays_then : {S A : Type 0} (g : Ghosts S) (before mid after : Held S)
+    (result : Result A StoreFault)
+    → (HasCleanDisk (state g mid) → IsStill (state g before) (state g mid))
+    → (HasCleanDisk (state g after) → HasCleanDisk (state g mid))
+    → StaysOnErr g mid after result → StaysOnErr g before after result
+stays_then g before mid after (Ok x) still clean stays is_clean = tt
+stays_then g before mid after (Err fault) still clean stays is_clean =
+    still_then (state g before) (state g mid) (state g after) (still (clean is_clean))
+    (stays is_clean)
+
 -- and what is said of each office that stands there
 pub seen : {S : Type 0} (g : Ghosts S) (mid inside : Held S) → inside ≡ mid
     → (P : OfficeState → Type 0)
@@ -164,18 +188,18 @@ seen g mid inside view P tells clean o kept =
     (subst (λ h. IsKept (state g h).now o) view kept)
 
 -- what is in memory afterwards is of the new office
-pub rests : {A : Type 0} (command : OfficeState → Gives A) (a b : State) (m n : Memory)
-    (count : ℕ → ℕ) (x : A) {k : ℕ}
-    → IsAtRest a m k → (HasCleanDisk b → HasCleanDisk a) → (HasCleanDisk b → IsTrue a.is_open)
-    → (HasCleanDisk b → Moves command x a.now b.now m n count) → IsAtRest b n (count k)
-rests command a b m n count x rest clean opened moves is_clean _ =
+pub rests : {A : Type 0} (command : OfficeState → Gives A) (a b : State) (m n : OfficeMemory)
+    (x : A) → IsAtRest a m → (HasCleanDisk b → HasCleanDisk a) → (HasCleanDisk b → IsTrue a.is_open)
+    → (HasCleanDisk b → Moves command x a.now b.now m)
+    → (HasCleanDisk b → Remembers command x a.now m n) → IsAtRest b n
+rests command a b m n x rest clean opened moves remembers is_clean _ =
     let here = rest (clean is_clean) (opened is_clean) in
     let moved = moves is_clean here.0 here.1 here.2 in
-    (moved.0, moved.2, moved.3, moved.4 ∙ ap count here.3)
+    (moved.0, moved.2, remembers is_clean here.0 here.1 here.2 moved.0 moved.1)
 
 -- ---- where there is no session
 
-pub not_loaded : {A : Type 0} (command : OfficeState → Gives A) (a : Database) (m : Memory)
-    → m ≡ None → command None ≡ Err NotLoaded → Denies command NotLoaded a m
+pub not_loaded : {A : Type 0} (command : OfficeState → Gives A) (a : Database) (m : OfficeMemory)
+    → m.kept ≡ None → command None ≡ Err NotLoaded → Denies command NotLoaded a m
 not_loaded command a m none gives o kept is =
-    ap command (nothing_kept o (is ∙ none)) ∙ gives
+    ap command (nothing_kept o (is.session ∙ none)) ∙ gives

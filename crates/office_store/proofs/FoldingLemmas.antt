@@ -202,7 +202,8 @@ module _ {S : Type 0} (store : Ghosts S) (all : List ℕ) where
       → ((E : Enrolled) → HadEnrolments store a c E → HadEnrolments store a b E)
       → ((E : Enrolled) → HadEnrolments store a c E → exams ≡ exams_sat E s)
       → HasTaken store a c next more all others
-  more_taken a b c fold next count more rest s others exams taken is up counted few stands before are =
+  more_taken a b c fold next count more rest s others exams taken is up counted few stands before
+      are =
       record {
         pairs = taken.pairs ++ pairs_sat (Some s) exams;
         stands = stands taken.pairs taken.stands;
@@ -448,10 +449,11 @@ sat_up E s = ascending_from_chain (exams_sat E s) (chained (exams_sat E s) (sat_
 pub told_after : {S : Type 0} (store : Ghosts S) (a b : Held S) (fold : Folded) (I : Session)
     (E : Enrolled) (judged : Judged) (edited sizes : List ℕ) (r : Option Penalty)
     (pairs : List Pair) → HadEnrolments store a b E → IsEditOf I E judged
-    → IsFoldOf fold I judged.old judged.new edited → edited ≡ judged.exams.items
+    → IsFoldOf fold I judged.draft.now.timetable judged.new edited → edited ≡ judged.exams.items
     → AreSizes E sizes → StandsFor fold pairs
     → pairs ≡ pairs_of_students E (students_of_exams E judged.exams.items)
-    → (IsOfEdit fold E pairs sizes judged.parts → r ≡ Some (track fold.instance E fold.later))
+    → (IsOfEdit fold E pairs sizes judged.draft.now.parts → r ≡ Some (track fold.instance E
+    fold.later))
     → Tells (track I E judged.new) (ok_or r BadSchema)
 told_after store a b fold I E judged edited sizes r pairs had of is same sized stands are scored =
     let known = are_known store a b E had in
@@ -459,10 +461,11 @@ told_after store a b fold I E judged edited sizes r pairs had of is same sized s
     let moved : IsPermutation (pairs_concerned E exams) pairs
     = subst (IsPermutation (pairs_concerned E exams)) (sym are)
     (concerned E known (λ s. own_pairs E s known) exams (ascends (flat_map (students E) exams))) in
-    let on : IsFoldOf fold I judged.old judged.new exams
-    = subst (IsFoldOf fold I judged.old judged.new) same is in
-    let some = track_is fold I E judged.old judged.new exams r on
-    (scored (edit_is fold I E judged.old judged.new exams pairs sizes judged.parts on known of.fits
+    let on : IsFoldOf fold I judged.draft.now.timetable judged.new exams
+    = subst (IsFoldOf fold I judged.draft.now.timetable judged.new) same is in
+    let some = track_is fold I E judged.draft.now.timetable judged.new exams r on
+    (scored (edit_is fold I E judged.draft.now.timetable judged.new exams pairs sizes
+    judged.draft.now.parts on known of.fits
     moved sized of.others of.scored)) in
     subst (λ o. Tells (track I E judged.new) (ok_or o BadSchema)) (sym some) refl
 

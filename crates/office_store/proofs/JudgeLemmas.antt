@@ -1,6 +1,6 @@
 -- The breaches of a draft, by the draft that is shown.
 use Rattle.std.proofs.Common.{◌≡◌, ℕ, List, Option, Some, None, Ok, Err, refl, sym, ◌∙◌, ap, subst}
-use Rattle.std.specs.Prelude.{unwrap_or}
+use Rattle.std.specs.Prelude.{is_some, unwrap_or}
 use Rattle.exam_model.specs.Enrolments.{Enrolled}
 use Rattle.exam_model.specs.Instance.{Session}
 use Rattle.exam_model.specs.Timetable.{Placing}
@@ -11,8 +11,13 @@ use Rattle.office_model.specs.Commands.{Gives}
 use Rattle.office_model.specs.DraftCommands.{draft_shown}
 use Rattle.office_model.specs.Office.{OfficeState, Records}
 use Rattle.office_records.specs.Memory.{memory_of}
+use Rattle.office_model.specs.declared.fault.StoreFault.TheVariants.{NoDraft}
 use Rattle.office_store.specs.Judging.{draft_judged}
+use Rattle.office_store.specs.Memory.{IsMemoryOf, draft_at}
 use Rattle.office_store.specs.Running.{Does}
+use Rattle.office_store.specs.declared.memory.Draft.{Draft}
+use Rattle.office_store.specs.declared.memory.OfficeMemory.{OfficeMemory}
+use Rattle.office_store.proofs.StoredLemmas.{in_memory_shown, none_in_memory_shown}
 
 -- what is judged of what is shown
 abbrev judgement : Session × Enrolled → Gives (Placing × Penalty) → Gives (List Breach)
@@ -42,3 +47,22 @@ judged d o I E T P found is same shown = (
       ∙ ap (λ found. Ok (found, shown.0)) (sym same),
   shown.2,
 )
+
+-- ---- a draft in memory
+
+pub in_memory_judged : (m : OfficeMemory) (d : ℕ) (o : OfficeState) → IsMemoryOf o m
+    → (I : Session) (E : Enrolled) → m.kept ≡ Some (I, E) → (draft : Draft)
+    → draft_at m.drafts d ≡ Some draft → (found : List Breach)
+    → found ≡ breaches_of I E draft.timetable
+    → Does (draft_judged d o) o (λ new. new ≡ o) (Ok found)
+in_memory_judged m d o is I E kept draft at found same =
+    judged d o I E draft.timetable draft.parts found (is.session ∙ kept) same
+    (in_memory_shown m d o is draft at draft.timetable refl)
+
+pub none_in_memory_judged : (m : OfficeMemory) (d : ℕ) (o : OfficeState) → IsMemoryOf o m
+    → (I : Session) (E : Enrolled) → m.kept ≡ Some (I, E) → draft_at m.drafts d ≡ None
+    → draft_judged d o ≡ Err NoDraft
+none_in_memory_judged m d o is I E kept none =
+    judges d o (I, E) (is.session ∙ kept)
+    ∙ ap (judgement (I, E))
+    (none_in_memory_shown m d o is (ap is_some kept) none)

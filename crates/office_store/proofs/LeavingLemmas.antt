@@ -1,5 +1,5 @@
 -- What a later opening may find after calls, one after the other.
-use Rattle.std.proofs.Common.{◌≡◌, ℕ, Ok, Err, Result, IsTrue, arith, inl, refl, sym, subst, true}
+use Rattle.std.proofs.Common.{◌≡◌, Ok, Err, Result, IsTrue, arith, inl, refl, sym, subst, true}
 use Rattle.std.specs.Prelude.{IfErr}
 use Rattle.std.specs.Result.{IsErrAnd}
 use Rattle.sqlite.specs.Effect.{Database}
@@ -17,11 +17,11 @@ use Rattle.office_model.specs.Commands.{Gives}
 use Rattle.office_model.specs.Office.{OfficeState}
 use Rattle.office_model.specs.declared.fault.StoreFault.{StoreFault}
 use Rattle.office_model.specs.declared.fault.StoreFault.TheVariants.{Store}
-use Rattle.office_records.specs.Memory.{Memory}
 use Rattle.office_records.specs.Stands.{IsKept}
 use Rattle.office_store.specs.FoldReads.{IsSame}
-use Rattle.office_store.specs.Leaving.{HoldsNext, Leaves, MayCommit, MayMake, found_in}
+use Rattle.office_store.specs.Leaving.{HoldsNext, MayCommit, MayMake, found_in}
 use Rattle.office_store.specs.Running.{IsAtRest, IsAwake, IsStill}
+use Rattle.office_store.specs.declared.memory.OfficeMemory.{OfficeMemory}
 use Rattle.office_store.proofs.CommandLemmas.{Moves}
 use Rattle.office_store.proofs.RunLemmas.{made_on}
 
@@ -53,6 +53,12 @@ survives_at g start inside after P view =
 
 -- ---- a command
 
+-- what a later opening may find after it
+abbrev pub SurvivesNext : {S A : Type 0} → Ghosts S → (OfficeState → Gives A) → Held S → Held S
+    → Result A StoreFault → Type 0
+SurvivesNext g command old new result =
+    Survives (state g old) (state g new) (MayCommit command (state g old) result)
+
 next_before : {A : Type 0} (command : OfficeState → Gives A) (before mid : State)
     → IsStill before mid → (found : Trees) → HoldsNext command mid found
     → HoldsNext command before found
@@ -69,13 +75,13 @@ next_before command before mid still found next =
     }
 
 -- a command that a reader precedes
-pub leaves_then : {S A : Type 0} (g : Ghosts S) (command : OfficeState → Gives A)
+pub survives_next : {S A : Type 0} (g : Ghosts S) (command : OfficeState → Gives A)
     (before mid after : Held S) (result : Result A StoreFault)
     → Survives (state g before) (state g mid) (λ _. ⊥)
     → (HasCleanDisk (state g mid) → IsStill (state g before) (state g mid))
     → (HasCleanDisk (state g after) → HasCleanDisk (state g mid))
-    → Leaves g command mid after result → Leaves g command before after result
-leaves_then g command before mid after result read still clean =
+    → SurvivesNext g command mid after result → SurvivesNext g command before after result
+survives_next g command before mid after result read still clean =
     survives_then (state g before) (state g mid) (state g after) (λ _. ⊥)
     (MayCommit command (state g mid) result) (MayCommit command (state g before) result)
     (λ _ db none. absurd none)
@@ -92,15 +98,15 @@ is_failed (Err e) is = is
 
 -- readers, and then a transaction that leads to the office after the command
 module _ {S A : Type 0} (g : Ghosts S) (command : OfficeState → Gives A)
-    (before mid inside after : Held S) (m n : Memory) {k : ℕ} (count : ℕ → ℕ) (view : inside ≡ mid)
-    (rest : IsAtRest (state g inside) m k)
+    (before mid inside after : Held S) (m : OfficeMemory) (view : inside ≡ mid)
+    (rest : IsAtRest (state g inside) m)
     (awake : HasCleanDisk (state g mid) → IsAwake (state g mid))
     (still : HasCleanDisk (state g mid) → IsStill (state g before) (state g mid))
     (read : Survives (state g before) (state g mid) (λ _. ⊥)) (f : Tables → Tables) (x : A)
     (put : Survives (state g inside) (state g after) (HoldsChanged f (state g inside)))
     (moves : HasCleanDisk (state g after) → (found : Trees)
     → HoldsChanged f (state g inside) found
-    → Moves command x (state g inside).now (found_in found) m n count) where
+    → Moves command x (state g inside).now (found_in found) m) where
   next_held : HasCleanDisk (state g after) → (found : Trees)
       → HoldsChanged f (state g inside) found → HoldsNext command (state g before) found
   next_held after_clean found changed =
@@ -120,9 +126,9 @@ module _ {S A : Type 0} (g : Ghosts S) (command : OfficeState → Gives A)
         holds = moved.2;
       }
 
-  pub leaves_by : (result : Result A StoreFault) → IfErr result (λ e. e ≡ Store)
-      → Leaves g command before after result
-  leaves_by result unrefused =
+  pub survives_by : (result : Result A StoreFault) → IfErr result (λ e. e ≡ Store)
+      → SurvivesNext g command before after result
+  survives_by result unrefused =
       survives_then (state g before) (state g mid) (state g after) _ _
       (MayCommit command (state g before) result) (λ _ db none. absurd none)
       (λ clean db changed. (unrefused, next_held clean db changed)) read

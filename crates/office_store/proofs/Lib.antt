@@ -2,7 +2,11 @@ pub mod AdoptLemmas
 pub mod OwnerLemmas
 pub mod RunLemmas
 pub mod LeavingLemmas
-pub mod CountLemmas
+pub mod InMemoryLemmas
+pub mod RememberingLemmas
+pub mod TogetherLemmas
+pub mod FillingLemmas
+pub mod FoundDraftLemmas
 pub mod LoadLemmas
 pub mod DraftLemmas
 pub mod ReadLemmas
@@ -21,7 +25,6 @@ pub mod PublishLemmas
 pub mod ViewLemmas
 pub mod ConcernedLemmas
 pub mod FoldingLemmas
-pub mod PriceLemmas
 pub mod AllDraftLemmas
 pub mod KeptBatchLemmas
 pub mod NewBatchLemmas

@@ -22,12 +22,13 @@ use Rattle.office_tables.proofs.AlterationLemmas.{enrols_put}
 use Rattle.office_store.specs.Changes.{session_put}
 use Rattle.office_model.specs.Loading.{fresh, loaded_of, loaded}
 use Rattle.office_model.specs.Office.{OfficeState, AreEnrolled}
-use Rattle.office_records.specs.Memory.{Memory, memory_of}
 use Rattle.office_model.specs.declared.fault.StoreFault.TheVariants.{Loaded}
 use Rattle.office_model.specs.declared.counts.Loaded as loading
 use Rattle.office_model.proofs.RecordLemmas.{fresh_records}
-use Rattle.office_store.specs.Running.{batch_count}
-use Rattle.office_store.proofs.CommandLemmas.{Denies, Moves}
+use Rattle.office_store.specs.Memory.{IsMemoryOf, draft_at}
+use Rattle.office_store.specs.declared.memory.OfficeMemory.{OfficeMemory}
+use Rattle.office_store.proofs.CommandLemmas.{Denies, Moves, Remembers}
+use Rattle.office_store.proofs.RememberingLemmas.{next_is}
 use Rattle.office_records.specs.Stands.{StandsLoaded, IsKept}
 use Rattle.office_records.specs.TableRows.{enrol_row}
 
@@ -126,29 +127,31 @@ loaded_again : (b : List ℕ) (s : Session × Enrolled) (o : OfficeState) → in
     → is_none o ≡ false → loaded b o ≡ Err Loaded
 loaded_again b s o is some = rw (is, some) refl
 
-some_kept : (m : Memory) (o : OfficeState) → memory_of o ≡ m → is_some m ≡ true → is_none o ≡ false
-some_kept m None e is = absurd (let no = ap is_some e ∙ is in cc)
+some_kept : (m : OfficeMemory) (o : OfficeState) → IsMemoryOf o m → is_some m.kept ≡ true
+    → is_none o ≡ false
+some_kept m None e is = absurd (let no = ap is_some e.session ∙ is in cc)
 some_kept m (Some r) e is = refl
 
-none_kept : (m : Memory) (o : OfficeState) → memory_of o ≡ m → is_some m ≡ false → o ≡ None
+none_kept : (m : OfficeMemory) (o : OfficeState) → IsMemoryOf o m → is_some m.kept ≡ false
+    → o ≡ None
 none_kept m None e is = refl
-none_kept m (Some r) e is = absurd (let no = ap is_some e ∙ is in cc)
+none_kept m (Some r) e is = absurd (let no = ap is_some e.session ∙ is in cc)
 
 -- ---- the command, by what is in memory
 
-pub load_denied : (text : List ℕ) (s : Session × Enrolled) (a : Database) (m : Memory)
-    → instance_in text ≡ Ok s → is_some m ≡ true → Denies (loaded text) Loaded a m
+pub load_denied : (text : List ℕ) (s : Session × Enrolled) (a : Database) (m : OfficeMemory)
+    → instance_in text ≡ Ok s → is_some m.kept ≡ true → Denies (loaded text) Loaded a m
 load_denied text s a m read some o kept is = loaded_again text s o read (some_kept m o is some)
 
 pub load_moves : (text : List ℕ) (I : Session) (E : Enrolled) (counts : loading.Loaded)
-    (stored : List ℕ) (its : List InsertEnrol) (a b : Database) (m : Memory)
+    (stored : List ℕ) (its : List InsertEnrol) (a b : Database) (m : OfficeMemory)
     → instance_in text ≡ Ok (I, E) → counts ≡ loaded_of (I, E)
     → stored ≡ canonical_instance I (no_pairs (length I.exams))
     → map (λ (it : InsertEnrol). it.row) its ≡ map enrol_row (pairs_of E) → IsInstance I
-    → AreEnrolled I E → is_some m ≡ false
+    → AreEnrolled I E → is_some m.kept ≡ false
     → ((t : Tables) → Stands a t → Stands b (after_all (λ (it : InsertEnrol). with_enrol it.row) its
     (with_meta false stored (no_meta t))))
-    → Moves (loaded text) counts a b m (Some (I, E)) (λ k. k)
+    → Moves (loaded text) counts a b m
 load_moves text I E counts stored its a b m read counted is_text are_rows is are empty comes o kept held =
     let none = none_kept m o held empty in
     let rows = map (λ (it : InsertEnrol). it.row) its in
@@ -158,6 +161,14 @@ load_moves text I E counts stored its a b m read counted is_text are_rows is are
       ap (loaded text) none ∙ loaded_first text (I, E) read
           ∙ ap (λ k. Ok (k, Some (fresh (I, E)))) (sym counted),
       session_kept I E stored rows is_text are_rows a b (subst (IsKept a) none kept) makes is are,
-      refl,
-      ap batch_count (sym none),
     )
+
+pub load_remembers : (text : List ℕ) (I : Session) (E : Enrolled) (counts : loading.Loaded)
+    (a : Database) (m n : OfficeMemory) → instance_in text ≡ Ok (I, E)
+    → counts ≡ loaded_of (I, E) → is_some m.kept ≡ false → n.kept ≡ Some (I, E) → n.batches ≡ 0
+    → ((d : ℕ) → draft_at n.drafts d ≡ None) → Remembers (loaded text) counts a m n
+load_remembers text I E counts a m n read counted empty kept batches drafts o here is new gives =
+    subst (λ o. IsMemoryOf o n)
+    (next_is (ap (loaded text) (sym (none_kept m o is empty)) ∙ gives)
+    (loaded_first text (I, E) read))
+    (record { session = sym kept; batches = sym batches; drafts = drafts })

@@ -1,17 +1,16 @@
 -- What refuses a new batch.
-use Rattle.std.proofs.Common.{◌≡◌, ◌≢◌, ◌⊎◌, inl, inr, ◌≤◌, ℕ, true, false, List, [], ◌∷◌, length, Option, Some, None, Result, Ok, Err, refl, sym, ◌∙◌, ap, subst, arith}
-use Rattle.std.specs.Prelude.{All, IfSome, map, nat_le, nat_lt}
+use Rattle.std.proofs.Common.{◌≡◌, ◌≢◌, ◌⊎◌, inl, inr, ◌≤◌, ℕ, true, false, List, [], ◌∷◌, length, Option, Some, None, option_map, Result, Ok, Err, refl, sym, ◌∙◌, ap, subst, arith}
+use Rattle.std.specs.Prelude.{IfSome, is_some, map, nat_le, nat_lt}
 use Rattle.std.specs.List.{list_all}
 use Rattle.std.proofs.lemmas.Bool.Decides.{nat_tests}
-use Rattle.std.proofs.lemmas.List.Elements.{All-from_recursion, recursion_from_All}
-use Rattle.sqlite_trees.proofs.ListLemmas.{all-map}
+use Rattle.sqlite.specs.Effect.{Database}
+use Rattle.sqlite_trees.proofs.ListLemmas.{all_weaker}
 use Rattle.exam_terms.specs.Refusing.{◌>>=◌, unless}
 use Rattle.exam_model.specs.Enrolments.{Enrolled, pair_count}
 use Rattle.exam_model.specs.Instance.{Session}
+use Rattle.exam_model.specs.Timetable.{Placing}
 use Rattle.exam_model.specs.declared.change.Change.{Change}
 use Rattle.exam_draft.specs.declared.fault.EditFault.TheVariants.{NoSuch}
-use Rattle.office_tables.specs.Draft.{AreAmounts}
-use Rattle.office_tables.specs.declared.draft.InsertDraft.{InsertDraft}
 use Rattle.office_tables.specs.declared.draft.DraftRow.{DraftRow}
 use Rattle.office_enrolment.specs.AfterBatch.{Refuses, after_batch, latest, names_exam}
 use Rattle.office_enrolment.specs.Keeping.{batch_kept}
@@ -23,12 +22,15 @@ use Rattle.office_model.specs.Office.{Records}
 use Rattle.office_model.specs.declared.counts.Counts.{Counts}
 use Rattle.office_model.specs.declared.fault.Refusal.TheVariants as refusal
 use Rattle.office_model.specs.declared.fault.StoreFault.{StoreFault}
-use Rattle.office_model.specs.declared.fault.StoreFault.TheVariants.{Refused, Store, TooMany}
-use Rattle.office_records.specs.Faults.{store_fault}
-use Rattle.office_records.specs.declared.fault.RecordFault.{RecordFault}
-use Rattle.office_records.specs.declared.fault.RecordFault.TheVariants.{BadRows, NoMemory}
-use Rattle.office_store.specs.NewBatches.{AreAnew, put_draft}
+use Rattle.office_model.specs.declared.fault.StoreFault.TheVariants.{Refused, TooMany}
+use Rattle.office_records.specs.Stands.{IsKept}
+use Rattle.office_records.specs.TableRows.{once}
+use Rattle.office_store.specs.Memory.{AreDraftRows, AreRescored, IsMemoryOf, draft_at, rescored, scored_by}
+use Rattle.office_store.specs.NewBatches.{AreAnew}
 use Rattle.office_store.specs.Running.{IsFault}
+use Rattle.office_store.specs.declared.memory.Draft.{Draft}
+use Rattle.office_store.specs.declared.memory.OfficeMemory.{OfficeMemory}
+use Rattle.office_store.proofs.RememberingLemmas.{twice}
 
 -- lines are refused for too many pairs alone
 lines_fault : (changes : List Change) (E : Enrolled) (n : Counts) (fault : StoreFault)
@@ -84,11 +86,6 @@ module _ (number : ℕ) (bytes : List ℕ) (changes : List Change) (r : Records)
       let none : nat_lt (length r.batches) 10000 ≡ false = grind (arith, nat_tests, full) in
       judged_so (Ok done) is ∙ rw none refl
 
--- rows that are an office's are refused for memory alone
-pub for_memory : (f : RecordFault) → (f ≡ BadRows → ⊥) → store_fault f ≡ Store
-for_memory NoMemory good = refl
-for_memory BadRows good = absurd (good refl)
-
 -- what is at hand are the records' enrolments
 pub same_enrolled : (r : Records) (I : Session) (E : Enrolled)
     → ◌≡◌ {A = Option (Session × Enrolled)} (Some (r.session, r.enrolments)) (Some (I, E))
@@ -114,12 +111,55 @@ pub made_exams : (made : Option Enrolled) (E : Enrolled) (n : ℕ) → length (l
 made_exams (Some F) E n is = is
 made_exams None E n is = tt
 
+-- ---- drafts with other enrolments
+
+-- rows of rescored drafts are an office's drafts with these enrolments
+rows_anew : (db : Database) (r : Records) (m : OfficeMemory) (F : Enrolled)
+    (made : List (Option Draft)) (rows : List DraftRow) → IsKept db (Some r) → IsMemoryOf (Some r) m
+    → length F ≡ length r.session.exams → AreRescored r.session F m.drafts made
+    → AreDraftRows made rows → AreAnew r F rows
+rows_anew db r m F made rows kept is exams scored are = record {
+  slots = kept.held.slot;
+  are = record {
+    numbered = kept.office.numbered;
+    fits = λ d T there.
+        let fits = kept.office.drafts d T there in
+        record { enrolments = exams; timetable = fits.timetable; places = fits.places };
+    rows = λ d. are.numbers d ∙ ap (λ b. once b d) (there_too d);
+    slots = kept.stands.slot;
+    scored = all_weaker _ _
+        (λ row priced T there. priced (scored_by r.session F T) (at row.no T there))
+        rows are.scored;
+  };
+}
+  where
+    made_at : (d : ℕ) → draft_at made d ≡ option_map (scored_by r.session F) (r.draft d)
+    made_at d = scored d ∙ ap (option_map (rescored r.session F)) (is.drafts d)
+        ∙ twice r.session r.session r.enrolments F (r.draft d)
+
+    there_too : (d : ℕ) → is_some (draft_at made d) ≡ is_some (r.draft d)
+    there_too d = ap is_some (made_at d) ∙ go (r.draft d)
+      where
+        go : (x : Option Placing) → is_some (option_map (scored_by r.session F) x) ≡ is_some x
+        go None = refl
+        go (Some T) = refl
+
+    at : (d : ℕ) (T : Placing) → r.draft d ≡ Some T
+        → draft_at made d ≡ Some (scored_by r.session F T)
+    at d T there = made_at d ∙ ap (option_map (scored_by r.session F)) there
+
 -- the drafts with those that were made
-pub latest_drafts : (r : Records) (made : Option Enrolled) (E : Enrolled) (rows : List DraftRow)
-    → ((F : Enrolled) → made ≡ Some F → AreAnew r F rows) → made ≢ None
-    → AreAnew r (latest made E) rows
-latest_drafts r (Some F) E rows anew some = anew F refl
-latest_drafts r None E rows anew some = absurd (some refl)
+pub latest_drafts : (db : Database) (r : Records) (m : OfficeMemory) (I : Session)
+    (made : Option Enrolled) (drafts : List (Option Draft)) (rows : List DraftRow)
+    → IsKept db (Some r) → IsMemoryOf (Some r) m → r.session ≡ I
+    → IfSome made (λ F. length F ≡ length I.exams)
+    → IfSome made (λ F. AreRescored I F m.drafts drafts) → AreDraftRows drafts rows
+    → made ≢ None → AreAnew r (latest made r.enrolments) rows
+latest_drafts db r m I (Some F) drafts rows kept is same exams scored are some =
+    rows_anew db r m F drafts rows kept is
+    (subst (λ (J : Session). length F ≡ length J.exams) (sym same) exams)
+    (subst (λ J. AreRescored J F m.drafts drafts) (sym same) scored) are
+latest_drafts db r m I None drafts rows kept is same exams scored are some = absurd (some refl)
 
 -- ---- lists that are put in
 
@@ -129,10 +169,3 @@ taken_back put row is [] = refl
 taken_back {X} put row is (x ∷ xs) =
     ap (λ y. y ∷ map row (map put xs)) (is x)
     ∙ ap (λ (l : List X). x ∷ l) (taken_back put row is xs)
-
-pub small_drafts : (rows : List DraftRow) → All AreAmounts rows
-    → All (λ (it : InsertDraft). AreAmounts it.row) (map put_draft rows)
-small_drafts rows small =
-    All-from_recursion (λ (it : InsertDraft). AreAmounts it.row) (map put_draft rows)
-    (all-map (λ (it : InsertDraft). AreAmounts it.row) put_draft rows
-    (recursion_from_All AreAmounts rows small))

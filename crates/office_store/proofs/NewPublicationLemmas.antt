@@ -79,21 +79,6 @@ same_session r I E memory = ap (λ (p : Session × Enrolled). p.0) both
 
 -- ---- refusals
 
--- a draft that isn't there is not published either
-not_there : (d : ℕ) (r : Records) (e : StoreFault) → draft_shown d (Some r) ≡ Err e
-    → draft_published d (Some r) ≡ Err e
-not_there d r e h = go (r.draft d) refl
-  where
-    go : (o : Option Placing) → r.draft d ≡ o → draft_published d (Some r) ≡ Err e
-    go None is = rw is (let none = rw is at h in cc)
-    go (Some S) is = absurd (let shown = rw is at h in cc)
-
-pub not_shown : (d : ℕ) (r : Records) (e : StoreFault) → IsFault (draft_shown d (Some r)) e
-    → IsFault (draft_published d (Some r)) e
-not_shown d r Store h = tt
-not_shown d r BadSchema h = h
-not_shown d r e h = not_there d r e h
-
 -- a failed statement, or memory that was refused, is no word on the draft
 pub only_failed : (d : ℕ) (r : Records) (e : StoreFault) → e ≡ Store → Publishes d r (Err e)
 only_failed d r e is = subst (IsFault (draft_published d (Some r))) (sym is) tt

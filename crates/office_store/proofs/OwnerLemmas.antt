@@ -15,9 +15,10 @@ use Rattle.exam_model.specs.Enrolments.{Enrolled}
 use Rattle.exam_model.specs.Instance.{Session}
 use Rattle.office_model.specs.Office.{OfficeState, Records, set_at}
 use Rattle.office_model.proofs.RecordLemmas.{owner_records}
-use Rattle.office_records.specs.Memory.{Memory, memory_of}
-use Rattle.office_store.specs.Running.{batch_count}
-use Rattle.office_store.proofs.CommandLemmas.{Denies, Moves}
+use Rattle.office_store.specs.Memory.{IsMemoryOf}
+use Rattle.office_store.specs.declared.memory.OfficeMemory.{OfficeMemory}
+use Rattle.office_store.proofs.CommandLemmas.{Denies, Moves, Remembers}
+use Rattle.office_store.proofs.RememberingLemmas.{all_stays, next_is}
 use Rattle.office_store.proofs.RunLemmas.{kept_of}
 use Rattle.exam_draft.specs.Edits.{exam_exists}
 use Rattle.exam_draft.specs.declared.fault.EditFault.TheVariants.{NoSuch}
@@ -139,30 +140,38 @@ owned_nowhere r e d none =
 
 -- ---- the command, by what is in memory
 
-module _ (a : Database) (m : Memory) (I : Session) (E : Enrolled)
-    (at_hand : m ≡ Some (I, E)) (e d : ℕ) where
+module _ (a : Database) (m : OfficeMemory) (I : Session) (E : Enrolled)
+    (at_hand : m.kept ≡ Some (I, E)) (e d : ℕ) where
   pub owner_moves : (b : Database) → e < length I.exams → d ≤ 999 → (n : ℕ) → n ≡ e
       → (new : Option InsertOwner) → new ≡ new_owner n d
       → ((t : Tables) → Stands a t → Stands b (comes new (without_owner n t)))
-      → Moves (owned e d) tt a b m m (λ k. k)
+      → Moves (owned e d) tt a b m
   owner_moves b exists few n same new is_new comes_in o kept is =
       let makes : (t : Tables) → Stands a t → Stands b (owner_put n d t)
       = λ t h. subst (Stands b)
       (ap (λ x. comes x (without_owner n t)) is_new ∙ owner_made n d t) (comes_in t h) in
-      let of = kept_of o I E (is ∙ at_hand) in
+      let of = kept_of o I E (is.session ∙ at_hand) in
       let there = subst (λ I. e < length I.exams) (sym of.session) exists in (
         _,
         ap (owned e d) of.is ∙ owned_there of.records e d there,
         owner_kept a b of.records e d (subst (IsKept a) of.is kept)
             (subst (λ n. (t : Tables) → Stands a t → Stands b (owner_put n d t)) same makes) there
             few,
-        ap memory_of (sym of.is) ∙ is,
-        ap batch_count (sym of.is),
       )
+
+  pub owner_remembers : e < length I.exams → Remembers (owned e d) tt a m m
+  owner_remembers exists o kept is new gives =
+      let of = kept_of o I E (is.session ∙ at_hand) in
+      let r = of.records in
+      let there = subst (λ I. e < length I.exams) (sym of.session) exists in
+      subst (λ o. IsMemoryOf o m)
+      (next_is (ap (owned e d) (sym of.is) ∙ gives) (owned_there r e d there))
+      (all_stays r (record r { owner_of = set_at e d r.owner_of }) m
+      (subst (λ o. IsMemoryOf o m) of.is is) refl refl refl refl)
 
   pub no_exam_denied : length I.exams ≤ e → Denies (owned e d) (Refused (Edit NoSuch)) a m
   no_exam_denied none o kept is =
-      let of = kept_of o I E (is ∙ at_hand) in
+      let of = kept_of o I E (is.session ∙ at_hand) in
       ap (owned e d) of.is
       ∙ owned_nowhere of.records e d (subst (λ I. length I.exams ≤ e) (sym of.session) none)
 

@@ -1,6 +1,6 @@
 -- A publication that is put in.
 use Rattle.std.proofs.Common.{◌≡◌, ℕ, true, not, eqb, List, [], ◌∷◌, ◌++◌}
-use Rattle.std.proofs.Common.{map, filter, reverse, Some, None, Result, Ok, Err, refl}
+use Rattle.std.proofs.Common.{map, filter, reverse, Option, Some, None, Result, Ok, Err, refl}
 use Rattle.std.proofs.Common.{sym, ◌∙◌, ap, ap₂, subst, arith}
 use Rattle.std.specs.Prelude.{◌||◌, IsPermutation}
 use Rattle.std.specs.List.{list_any}
@@ -30,8 +30,6 @@ use Rattle.office_tables.proofs.AlterationLemmas.{part_shares_put, placements_pu
 use Rattle.office_tables.proofs.AlterationLemmas.{student_seats_gone, student_shares_gone}
 use Rattle.office_tables.proofs.AlterationLemmas.{student_shares_put}
 use Rattle.office_tables.specs.declared.placed.InsertPlacement.{InsertPlacement}
-use Rattle.office_tables.specs.declared.draft.DraftRow.{DraftRow}
-use Rattle.office_tables.specs.declared.slot.SlotRow.{SlotRow}
 use Rattle.office_tables.specs.declared.seat.DeleteStudentSeats.{DeleteStudentSeats}
 use Rattle.office_tables.specs.declared.seat.InsertSeat.{InsertSeat}
 use Rattle.office_tables.specs.declared.share_student.DeleteStudentShare.{DeleteStudentShare}
@@ -41,9 +39,9 @@ use Rattle.office_model.specs.Office.{AreRecords, OfficeState}
 use Rattle.office_model.specs.Office.{Publication, Records}
 use Rattle.office_model.specs.Publishing.{draft_published, publication_counts, published_as, rows_now}
 use Rattle.office_model.specs.declared.fault.StoreFault.{StoreFault}
-use Rattle.office_model.specs.declared.fault.StoreFault.TheVariants.{NotLoaded}
+use Rattle.office_model.specs.declared.fault.StoreFault.TheVariants.{NoDraft, NotLoaded}
 use Rattle.office_model.proofs.RecordLemmas.{published_records}
-use Rattle.office_records.specs.Memory.{Memory, memory_of}
+use Rattle.office_records.specs.Memory.{memory_of}
 use Rattle.office_records.specs.Publications.{placed_from, stored_seat}
 use Rattle.office_records.specs.SeatsStored.{seat_rows_of, seat_rows_without}
 use Rattle.office_records.specs.SharesStored.{share_rows_of, share_rows_without}
@@ -53,10 +51,12 @@ use Rattle.office_records.specs.Stands.{IsKept, IsSound, StandsLoaded}
 use Rattle.office_records.proofs.RepublicationLemmas as republication
 use Rattle.office_store.specs.PublicationChanges.{places_put, publication_put, shares_put}
 use Rattle.office_store.specs.NewPublications.{ArePutIn, IsPutIn, Publishes, PutsIn}
-use Rattle.office_store.specs.OfficeRows.{AreRowsOf}
-use Rattle.office_store.specs.Running.{batch_count, IsAtRest, IsAwake, IsStill}
+use Rattle.office_store.specs.Memory.{IsMemoryOf, scored_draft}
+use Rattle.office_store.specs.Running.{IsAwake, IsStill}
+use Rattle.office_store.specs.declared.memory.OfficeMemory.{OfficeMemory}
 use Rattle.office_store.specs.declared.new_publication.NewPublication.{NewPublication}
-use Rattle.office_store.proofs.CommandLemmas.{Moves}
+use Rattle.office_store.proofs.CommandLemmas.{Moves, Remembers}
+use Rattle.office_store.proofs.RememberingLemmas.{all_stays, next_is}
 use Rattle.office_store.proofs.NewBatchLemmas.{taken_back}
 use Rattle.office_store.proofs.RunLemmas.{at_hand, nothing_kept}
 
@@ -302,7 +302,13 @@ module _ (r : Records) (T : Placing) (is : AreRecords r) (fits : Fits r.session 
 publish_gives : (d : ℕ) (r : Records) (T : Placing) → r.draft d ≡ Some T
     → publish_refusal r.session r.enrolments T ≡ None
     → draft_published d (Some r)
-    ≡ Ok (publication_counts r (published_as r T), Some (record r { published = Some (published_as r T) }))
+    ≡ Ok (
+      publication_counts r (published_as r T),
+      Some (record r {
+        published = Some (published_as
+            r T);
+      }),
+    )
 publish_gives d r T there permitted = rw (there, permitted) refl
 
 -- ---- the calls that publish
@@ -313,43 +319,34 @@ in_office : (d : ℕ) (r : Records) (result : Result NewPublication StoreFault)
 in_office d r (Ok new) puts = record { records = r; is = refl; put = puts }
 in_office d r (Err fault) refused = refused
 
+-- what is in memory tells of whatever office stands there
+pub puts_in_memory : (m : OfficeMemory) (I : Session) (E : Enrolled) → m.kept ≡ Some (I, E)
+    → (d : ℕ) (result : Result NewPublication StoreFault) (o : OfficeState) → IsMemoryOf o m
+    → ((r : Records) → o ≡ Some r → memory_of (Some r) ≡ Some (I, E) → IsMemoryOf (Some r) m
+    → Publishes d r result)
+    → PutsIn d o result
+puts_in_memory m I E kept d result None is publishes =
+    absurd (let none = is.session ∙ kept in cc)
+puts_in_memory m I E kept d result (Some r) is publishes =
+    in_office d r result (publishes r refl (is.session ∙ kept) is)
+
+pub none_published : (m : OfficeMemory) → m.kept ≡ None → (d : ℕ) (o : OfficeState)
+    → IsMemoryOf o m → draft_published d o ≡ Err NotLoaded
+none_published m none d o is = ap (draft_published d) (nothing_kept o (is.session ∙ none))
+
+-- there is no such draft
+pub no_such_draft : (d : ℕ) (r : Records) → scored_draft d (Some r) ≡ None
+    → draft_published d (Some r) ≡ Err NoDraft
+no_such_draft d r none = go (r.draft d) refl
+  where
+    go : (t : Option Placing) → r.draft d ≡ t → draft_published d (Some r) ≡ Err NoDraft
+    go None is = rw is refl
+    go (Some T) is = absurd (let some = rw is at none in cc)
+
 module _ {S : Type 0} (g : Ghosts S) (first mid inside : Held S) (view : inside ≡ mid)
     (d : ℕ) where
-  -- what is at hand tells of whatever office stands there
-  pub puts_at_hand : (m : Memory) {k : ℕ} → IsAtRest (state g inside) m k
-      → (I : Session) (E : Enrolled) → m ≡ Some (I, E) → (rows : List DraftRow) (slots : List SlotRow)
-      (result : Result NewPublication StoreFault) → HasCleanDisk (state g mid)
-      → IsAwake (state g mid) → (o : OfficeState) → IsKept (state g mid).now o
-      → AreRowsOf o d rows slots
-      → (IsAwake (state g inside) → (r : Records) → IsKept (state g inside).now (Some r)
-      → memory_of (Some r) ≡ Some (I, E) → AreRowsOf (Some r) d rows slots
-      → Publishes d r result)
-      → PutsIn d o result
-  puts_at_hand m {k} rest I E is rows slots result clean awake o kept are publishes =
-      go o kept are
-      (at_hand (state g mid) m o (subst (λ h. IsAtRest (state g h) m k) view rest) clean awake.0
-      kept
-      ∙ is)
-    where
-      go : (o : OfficeState) → IsKept (state g mid).now o → AreRowsOf o d rows slots
-          → memory_of o ≡ Some (I, E) → PutsIn d o result
-      go None kept are memory = absurd cc
-      go (Some r) kept are memory =
-          in_office d r result
-          (publishes (subst (λ h. IsAwake (state g h)) (sym view) awake) r
-          (subst (λ h. IsKept (state g h).now (Some r)) (sym view) kept) memory are)
-
-  pub none_at_hand : (m : Memory) {k : ℕ} → IsAtRest (state g inside) m k → m ≡ None
-      → HasCleanDisk (state g mid) → IsAwake (state g mid) → (o : OfficeState)
-      → IsKept (state g mid).now o → draft_published d o ≡ Err NotLoaded
-  none_at_hand m {k} rest none clean awake o kept =
-      ap (draft_published d) (nothing_kept o
-      (at_hand (state g mid) m o (subst (λ h. IsAtRest (state g h) m k) view rest) clean awake.0
-      kept
-      ∙ none))
-
   -- the transaction makes of the office what the command does
-  pub publication_moves : (b : Database) (m : Memory) (new : NewPublication)
+  pub publication_moves : (b : Database) (m : OfficeMemory) (new : NewPublication)
       → (HasCleanDisk (state g mid) → IsStill (state g first) (state g mid))
       → (HasCleanDisk (state g mid) → IsAwake (state g mid))
       → (HasCleanDisk (state g mid) → (o : OfficeState) → IsKept (state g first).now o
@@ -357,7 +354,7 @@ module _ {S : Type 0} (g : Ghosts S) (first mid inside : Held S) (view : inside 
       → HasCleanDisk (state g inside)
       → ((t : Tables) → Stands (state g inside).now t
       → Stands b (publication_put new t))
-      → Moves (draft_published d) new.counts (state g inside).now b m m (λ k. k)
+      → Moves (draft_published d) new.counts (state g inside).now b m
   publication_moves b m new still opened puts clean makes o kept is =
       let here = subst (λ h. HasCleanDisk (state g h)) view clean in
       let there = subst (λ h. IsKept (state g h).now o) view kept in
@@ -374,6 +371,24 @@ module _ {S : Type 0} (g : Ghosts S) (first mid inside : Held S) (view : inside 
             (sym put.put.counts),
         published_kept r T held.office fits put.permitted (state g inside).now
             b _ new put.put held makes,
-        ap memory_of (sym of.is) ∙ is,
-        ap batch_count (sym of.is),
       )
+
+  pub publication_remembers : (m : OfficeMemory) (new : NewPublication)
+      → (HasCleanDisk (state g mid) → IsStill (state g first) (state g mid))
+      → (HasCleanDisk (state g mid) → IsAwake (state g mid))
+      → (HasCleanDisk (state g mid) → (o : OfficeState) → IsKept (state g first).now o
+      → IsPutIn d o new)
+      → HasCleanDisk (state g inside)
+      → Remembers (draft_published d) new.counts (state g inside).now m m
+  publication_remembers m new still opened puts clean o kept is next gives =
+      let here = subst (λ h. HasCleanDisk (state g h)) view clean in
+      let there = subst (λ h. IsKept (state g h).now o) view kept in
+      let was = subst (λ db. IsKept db o) (still here (opened here).0).1 there in
+      let of = puts here o was in
+      let r = of.records in
+      let put = of.put in
+      subst (λ o. IsMemoryOf o m)
+      (next_is (ap (draft_published d) (sym of.is) ∙ gives)
+      (publish_gives d r put.timetable put.draft put.permitted))
+      (all_stays r (record r { published = Some (published_as r put.timetable) }) m
+      (subst (λ o. IsMemoryOf o m) of.is is) refl refl refl refl)

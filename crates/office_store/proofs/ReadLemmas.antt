@@ -1,20 +1,15 @@
 -- What the rows that are read say of an office.
-use Rattle.std.proofs.Common.{◌≡◌, ℕ, true, eqb, List, [], ◌∷◌, Some, None, Ok, Err, Result, refl, sym, ap, subst, arith}
+use Rattle.std.proofs.Common.{◌≡◌, ℕ, List, [], ◌∷◌, Some, None, Ok, Err, Result, refl, sym, ap, subst}
 use Rattle.std.specs.Prelude.{IsErrAnd, IsPermutation}
-use Rattle.std.proofs.lemmas.Bool.Decides.{nat_tests}
 use Rattle.std.proofs.lemmas.List.Sorted.{IsPermutation-sym, IsPermutation-trans}
-use Rattle.sqlite_trees.proofs.ListLemmas.{all-permutation, all-filter, IsPermutation-filter}
 use Rattle.exam_model.specs.Enrolments.{Enrolled}
 use Rattle.exam_model.specs.Instance.{Session}
-use Rattle.exam_model.specs.Timetable.{Placing}
 use Rattle.office_tables.specs.Tables.{Tables}
-use Rattle.office_tables.specs.declared.draft.DraftRow.{DraftRow}
 use Rattle.office_tables.specs.declared.slot.SlotRow.{SlotRow}
-use Rattle.office_records.specs.Found.{AreSlots}
-use Rattle.office_model.specs.Office.{OfficeState, Records, AreRecords}
+use Rattle.office_model.specs.Office.{OfficeState}
 use Rattle.office_records.specs.Memory.{memory_of}
-use Rattle.office_records.specs.Stands.{StandsForOffice, IsSound, IsScoredRow}
-use Rattle.office_records.specs.TableRows.{drafts_at, slots_at, slots_from, slot_rows}
+use Rattle.office_records.specs.Stands.{StandsForOffice}
+use Rattle.office_records.specs.TableRows.{slots_at, slot_rows}
 use Rattle.office_records.specs.declared.fault.RecordFault.{RecordFault}
 use Rattle.office_records.specs.declared.fault.RecordFault.TheVariants.{NoMemory, BadRows}
 use Rattle.office_model.specs.declared.fault.StoreFault.{StoreFault}
@@ -22,16 +17,7 @@ use Rattle.office_model.specs.Commands.{Gives, session_shown}
 use Rattle.office_model.specs.DraftCommands.{draft_in}
 use Rattle.office_records.specs.Faults.{store_fault}
 use Rattle.office_store.specs.Running.{Does, IsFault}
-use Rattle.office_store.specs.OfficeRows.{AreRowsOf, AreScored}
-use Rattle.office_store.proofs.DraftLemmas.{slots_are, some_is}
-
--- the rows of a draft that are read have its penalty
-pub scored_read : (t : Tables) (o : OfficeState) (d : ℕ) (rows : List DraftRow) → IsSound t o
-    → IsPermutation (drafts_at d t.draft) rows → AreScored rows o
-scored_read t None d rows sound p = tt
-scored_read t (Some r) d rows sound p =
-    all-permutation (IsScoredRow r) _ _ p
-    (all-filter (IsScoredRow r) (λ (x : DraftRow). eqb x.no d) t.draft sound.scored)
+use Rattle.office_store.proofs.DraftLemmas.{some_is}
 
 -- the rows of its places that are read are those of its timetable
 pub places_read : (t : Tables) (o : OfficeState) (d : ℕ) (rows : List SlotRow) → StandsForOffice t o
@@ -40,27 +26,6 @@ places_read t None d rows stands p =
     IsPermutation-sym _ _ (subst (λ (t : Tables). IsPermutation (slots_at d t.slot) rows) stands p)
 places_read t (Some r) d rows stands p =
     IsPermutation-trans _ _ _ (IsPermutation-sym _ _ p) (stands.slot d)
-
--- ---- the draft that rows tell
-
--- the places of a draft are its own
-own_slots : (d : ℕ) (T : Placing) → slots_at d (slots_from d 0 T) ≡ slots_from d 0 T
-own_slots d T = slots_are d d 0 true (let is : eqb d d ≡ true = grind (arith, nat_tests) in is) T
-
--- the rows of its places are those of a timetable of the session
-pub places_told : (r : Records) (d : ℕ) (rows : List DraftRow) (slots : List SlotRow) (T : Placing)
-    → r.draft d ≡ Some T → AreRecords r → AreRowsOf (Some r) d rows slots
-    → AreSlots r.session d slots T
-places_told r d rows slots T is records are =
-    let fits = records.drafts d T is in
-    let places : IsPermutation slots (slots_from d 0 T)
-    = subst (λ o. IsPermutation slots (slot_rows d o)) is are.places in
-    record {
-      exams = fits.timetable;
-      places = fits.places;
-      rows = subst (λ l. IsPermutation (slots_at d slots) l) (own_slots d T)
-          (IsPermutation-filter (λ (s : SlotRow). eqb s.draft d) _ _ places);
-    }
 
 pub no_row : {X : Type 0} (x : X) (xs : List X) → x ∷ xs ≡ [] → ⊥
 no_row x xs e = absurd cc

@@ -1,5 +1,5 @@
 -- What a call leaves of the office.
-use Rattle.std.proofs.Common.{◌≡◌, ℕ, Some, None, refl, sym, ◌∙◌, ap, subst, IsTrue, inl, inr}
+use Rattle.std.proofs.Common.{◌≡◌, Some, None, refl, sym, ◌∙◌, ap, subst, IsTrue, inl, inr}
 use Rattle.exam_model.specs.Enrolments.{Enrolled}
 use Rattle.exam_model.specs.Instance.{Session}
 use Rattle.sqlite.specs.Effect.{Database}
@@ -10,12 +10,14 @@ use Rattle.office_tables.specs.Readers.{Keeps}
 use Rattle.office_tables.specs.Tables.{Tables}
 use Rattle.office_tables.specs.Standing.{Stands}
 use Rattle.office_model.specs.Office.{OfficeState, Records}
-use Rattle.office_records.specs.Memory.{Memory, memory_of}
+use Rattle.office_records.specs.Memory.{memory_of}
 use Rattle.office_store.specs.FoldReads.{HasRead, IsSame}
 use Rattle.office_store.specs.Running.{Now, IsAtRest, IsStill}
 use Rattle.office_records.specs.Stands.{IsKept}
 use Rattle.office_tables.specs.Alterations.{Undone}
-use Rattle.office_records.proofs.MemoryLemmas.{same_memory}
+use Rattle.office_store.specs.Memory.{IsMemoryOf}
+use Rattle.office_store.specs.declared.memory.OfficeMemory.{OfficeMemory}
+use Rattle.office_store.proofs.InMemoryLemmas.{same_in_memory}
 
 -- ---- nothing has changed
 
@@ -31,12 +33,12 @@ still_then a b c first next opened =
     let early = first late.0 in
     (early.0, late.1 ∙ early.1)
 
-pub rest_still : (a b : State) (m : Memory) {k : ℕ} → (HasCleanDisk b → HasCleanDisk a)
-    → (HasCleanDisk b → IsStill a b) → IsAtRest a m k → IsAtRest b m k
+pub rest_still : (a b : State) (m : OfficeMemory) → (HasCleanDisk b → HasCleanDisk a)
+    → (HasCleanDisk b → IsStill a b) → IsAtRest a m → IsAtRest b m
 rest_still a b m clean still rest is_clean opened =
     let is = still is_clean opened in
     let here = rest (clean is_clean) is.0 in
-    (here.0, subst (λ db. IsKept db here.0) (sym is.1) here.1, here.2, here.3)
+    (here.0, subst (λ db. IsKept db here.0) (sym is.1) here.1, here.2)
 
 -- a reader that failed, where all that was written was committed
 pub still_kept : (a b : State) → (IsTrue a.is_open → a.now ≡ a.committed) → Keeps a b → IsStill a b
@@ -53,12 +55,11 @@ still_undone a b settled undone opened =
 
 -- ---- what is in memory
 
-pub at_hand : (s : State) (m : Memory) {k : ℕ} (o : OfficeState) → IsAtRest s m k → HasCleanDisk s
-    → IsTrue s.is_open
-    → IsKept s.now o → memory_of o ≡ m
+pub at_hand : (s : State) (m : OfficeMemory) (o : OfficeState) → IsAtRest s m → HasCleanDisk s
+    → IsTrue s.is_open → IsKept s.now o → IsMemoryOf o m
 at_hand s m o rest clean opened kept =
     let here = rest clean opened in
-    same_memory s.now o here.0 kept here.1 ∙ here.2
+    same_in_memory s.now here.0 o here.1 kept m here.2
 
 pub nothing_kept : (o : OfficeState) → memory_of o ≡ None → o ≡ None
 nothing_kept None h = refl
@@ -87,7 +88,7 @@ kept_of (Some r) I E h = record {
 -- ---- a reader of one table, which opens no store
 
 -- all that was written had been committed
-module _ (a b : State) (m : Memory) {k : ℕ} (rest : IsAtRest a m k)
+module _ (a b : State) (m : OfficeMemory) (rest : IsAtRest a m)
     (clean : HasCleanDisk b → HasCleanDisk a)
     (settled : IsTrue a.is_open → a.now ≡ a.committed) where
   -- it leaves the tables, or what was committed
@@ -98,7 +99,7 @@ module _ (a b : State) (m : Memory) {k : ℕ} (rest : IsAtRest a m k)
         let here = rest (clean is_clean) (was_open is_clean opened) in
         still_kept a b settled (reads is_clean here.1.held here.1.tables) opened
 
-    pub rest_read : IsAtRest b m k
+    pub rest_read : IsAtRest b m
     rest_read = rest_still a b m clean still_read rest
 
   -- it has answered: what stands now stood before
@@ -111,8 +112,8 @@ module _ (a b : State) (m : Memory) {k : ℕ} (rest : IsAtRest a m k)
 
 -- ---- readers that had answered, and then a transaction that failed
 
-module _ {S : Type 0} (g : Ghosts S) (a b c : Held S) (m : Memory) {k : ℕ}
-    (rest : IsAtRest (state g a) m k)
+module _ {S : Type 0} (g : Ghosts S) (a b c : Held S) (m : OfficeMemory)
+    (rest : IsAtRest (state g a) m)
     (settled : IsTrue (state g a).is_open → (state g a).now ≡ (state g a).committed)
     (read : HasRead g a b) (same : IsSame g a b)
     (clean : HasCleanDisk (state g c) → HasCleanDisk (state g b))
@@ -127,7 +128,7 @@ module _ {S : Type 0} (g : Ghosts S) (a b c : Held S) (m : Memory) {k : ℕ}
       (was, back.now opened ∙ kept.0.committed_is ∙ sym (settled was))
 
   -- what is in memory is still the office's
-  pub rest_failed : IsAtRest (state g c) m k
+  pub rest_failed : IsAtRest (state g c) m
   rest_failed =
       rest_still (state g a) (state g c) m (λ k. read.clean (clean k)) still_failed rest
 

@@ -4,37 +4,37 @@ use Rattle.exam_draft.specs.Edits.{edited}
 use Rattle.exam_draft.specs.declared.edit.Edit.{Edit}
 use Rattle.exam_model.specs.Fits.{Fits}
 use Rattle.exam_model.specs.Timetable.{Placing}
-use Rattle.exam_score.specs.Penalty.{Penalty}
 use Rattle.exam_score.specs.Track.{track}
 use Rattle.office_model.specs.DraftCommands.{draft_edited}
 use Rattle.office_model.specs.Office.{OfficeState, Records}
 use Rattle.office_model.specs.declared.fault.StoreFault.{StoreFault}
 use Rattle.office_store.specs.Running.{IsFault}
+use Rattle.office_store.specs.declared.editing.EditedDraft.{EditedDraft}
 use Rattle.office_store.specs.declared.editing.Judged.{Judged}
+use Rattle.office_store.specs.declared.memory.Draft.{Draft}
 
 -- the draft of these records, judged
 pub record IsJudged (d : ℕ) (change : Edit) (r : Records) (judged : Judged) : Type 0 where
-  pub draft : r.draft d ≡ Some judged.old
-  pub edits : edited r.session r.enrolments judged.old change ≡ Ok judged.new
-  pub scored : judged.parts ≡ track r.session r.enrolments judged.old
+  pub draft : r.draft d ≡ Some judged.draft.now.timetable
+  pub edits : edited r.session r.enrolments judged.draft.now.timetable change ≡ Ok judged.new
+  pub scored : judged.draft.now.parts ≡ track r.session r.enrolments judged.draft.now.timetable
 
 -- it was judged, or it is the command's own refusal
 abbrev pub Judges : ℕ → Edit → Records → Result Judged StoreFault → Type 0
 Judges d change r (Ok judged) = IsJudged d change r judged
 Judges d change r (Err fault) = IsFault (draft_edited d change (Some r)) fault
 
--- what the edit makes of a draft of this office, with its penalty
-pub record IsEdited (d : ℕ) (change : Edit) (office : OfficeState) (new : Placing × Penalty)
-    : Type 0 where
+-- what the edit makes of a draft of this office
+pub record IsEdited (d : ℕ) (change : Edit) (office : OfficeState) (new : Draft) : Type 0 where
   pub records : Records
   pub is : office ≡ Some records
   pub old : Placing
   pub draft : records.draft d ≡ Some old
-  pub edits : edited records.session records.enrolments old change ≡ Ok new.0
-  pub fits : Fits records.session records.enrolments new.0
-  pub scored : new.1 ≡ track records.session records.enrolments new.0
+  pub edits : edited records.session records.enrolments old change ≡ Ok new.timetable
+  pub fits : Fits records.session records.enrolments new.timetable
+  pub scored : new.parts ≡ track records.session records.enrolments new.timetable
 
 -- that, or the command's own refusal
-abbrev pub Edits : ℕ → Edit → OfficeState → Result (Placing × Penalty) StoreFault → Type 0
-Edits d change office (Ok new) = IsEdited d change office new
+abbrev pub Edits : ℕ → Edit → OfficeState → Result EditedDraft StoreFault → Type 0
+Edits d change office (Ok new) = IsEdited d change office new.draft
 Edits d change office (Err fault) = IsFault (draft_edited d change office) fault

@@ -50,5 +50,5 @@ pub record HasTaken {S : Type 0} (store : Ghosts S) (old new : Held S) (fold : F
 -- what is told of it holds for these enrolments
 pub record IsEditOf (I : Session) (E : Enrolled) (judged : Judged) : Type 0 where
   pub fits : Fits I E judged.new
-  pub others : DiffersAtMost judged.exams.items judged.old judged.new
-  pub scored : judged.parts ≡ track I E judged.old
+  pub others : DiffersAtMost judged.exams.items judged.draft.now.timetable judged.new
+  pub scored : judged.draft.now.parts ≡ track I E judged.draft.now.timetable

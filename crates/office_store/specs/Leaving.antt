@@ -1,8 +1,8 @@
 -- What a later opening of the file may find after a call.
-use Rattle.std.specs.Prelude.{◌≡◌, IfErr, IsTrue, None, Result, Ok, Err}
+use Rattle.std.specs.Prelude.{◌≡◌, IfErr, IsTrue, None, OnOk, Result, Ok, Err}
 use Rattle.sqlite.specs.Effect.{Database}
 use Rattle.sqlite.specs.Held.{Held, state}
-use Rattle.sqlite.specs.State.{State, Survives}
+use Rattle.sqlite.specs.State.{HasCleanDisk, State, Survives}
 use Rattle.sqlite.specs.Store.{Ghosts}
 use Rattle.sqlite_trees.specs.Tree.{Trees}
 use Rattle.office_schema.specs.Schema.{office_schema}
@@ -12,6 +12,7 @@ use Rattle.office_model.specs.Office.{OfficeState}
 use Rattle.office_model.specs.declared.fault.StoreFault.{StoreFault}
 use Rattle.office_model.specs.declared.fault.StoreFault.TheVariants.{Store}
 use Rattle.office_records.specs.Stands.{IsKept}
+use Rattle.office_store.specs.Running.{IsAwake}
 
 -- the database of a file in which these trees are found, under the office's schema
 abbrev pub found_in : Trees → Database
@@ -34,11 +35,18 @@ abbrev pub MayCommit : {A : Type 0} → (OfficeState → Gives A) → State → 
 MayCommit command old result found =
     IfErr result (λ e. e ≡ Store) × HoldsNext command old found
 
--- a later opening may find what it might have found before the command, or what that may commit
-abbrev pub Leaves : {S A : Type 0} → Ghosts S → (OfficeState → Gives A) → Held S → Held S
+-- what a call leaves behind that may commit such trees: an Ok says that the database is open and
+-- that all is committed, and a later opening may find what it might have found before, or them
+pub record Leaves {A E : Type 0} (may : Trees → Type 0) (old new : State) (result : Result A E)
+    : Type 0 where
+  pub awake : HasCleanDisk new → OnOk result (IsAwake new)
+  pub survives : Survives old new may
+
+-- what a command leaves behind
+abbrev pub LeavesNext : {S A : Type 0} → Ghosts S → (OfficeState → Gives A) → Held S → Held S
     → Result A StoreFault → Type 0
-Leaves store command old new result =
-    Survives (state store old) (state store new) (MayCommit command (state store old) result)
+LeavesNext store command old new result =
+    Leaves (MayCommit command (state store old) result) (state store old) (state store new) result
 
 -- the connection in an opened office, or that which a refusal hands back
 abbrev pub connection_of : {S : Type 0} → Result (Held S) (StoreFault × Held S) → Held S

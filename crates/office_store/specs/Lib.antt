@@ -2,6 +2,7 @@ pub mod PublicationChanges
 pub mod Changes
 pub mod Faults
 pub mod Transactions
+pub mod Memory
 pub mod Running
 pub mod OfficeRows
 pub mod Judging

@@ -7,7 +7,6 @@ use Rattle.exam_model.specs.declared.change.Change.{Change}
 use Rattle.office_tables.specs.Enrol.{with_enrol, without_enrol}
 use Rattle.office_tables.specs.Batch.{batch_from}
 use Rattle.office_tables.specs.Tables.{Batch, Tables}
-use Rattle.office_tables.specs.declared.draft.InsertDraft.{InsertDraft}
 use Rattle.office_tables.specs.declared.batch.BatchRow.{BatchRow}
 use Rattle.office_tables.specs.declared.draft.DraftRow.{DraftRow}
 use Rattle.office_tables.specs.declared.slot.SlotRow.{SlotRow}
@@ -31,13 +30,9 @@ line_put change t =
     if change.add then with_enrol (enrol_row (pair_of change)) t
     else without_enrol change.student change.exam t
 
--- a line, and the row of a draft, as parts of a transaction
+-- a line as a part of a transaction
 abbrev pub put_line : Change → PutLine
 put_line change = record { change = change }
-
--- a draft's row is put in
-abbrev pub put_draft : DraftRow → InsertDraft
-put_draft row = record { row = row }
 
 -- these rows are an office's drafts with other enrolments
 pub record AreAnew (r : Records) (E : Enrolled) (drafts : List DraftRow) : Type 0 where

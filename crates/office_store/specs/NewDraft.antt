@@ -3,18 +3,16 @@ use Rattle.std.specs.Prelude.{◌≡◌, ℕ, List, Ok}
 use Rattle.exam_model.specs.Enrolments.{Enrolled}
 use Rattle.exam_model.specs.Fits.{Fits}
 use Rattle.exam_model.specs.Instance.{Session}
-use Rattle.exam_model.specs.Timetable.{Placing}
-use Rattle.exam_score.specs.Penalty.{Penalty}
 use Rattle.exam_score.specs.Track.{track}
 use Rattle.office_tables.specs.declared.slot.SlotRow.{SlotRow}
 use Rattle.office_records.specs.TableRows.{slots_from}
 use Rattle.office_model.specs.DraftCommands.{first_timetable}
+use Rattle.office_store.specs.declared.memory.Draft.{Draft}
 
--- the first timetable of the draft d has this penalty, and its places these rows
-pub record Begins (d : ℕ) (bytes : List ℕ) (I : Session) (E : Enrolled) (penalty : Penalty)
+-- the draft d begins so, and its places have these rows
+pub record Begins (d : ℕ) (bytes : List ℕ) (I : Session) (E : Enrolled) (begun : Draft)
     (slots : List SlotRow) : Type 0 where
-  pub timetable : Placing
-  pub first : first_timetable bytes I ≡ Ok timetable
-  pub fits : Fits I E timetable
-  pub scored : penalty ≡ track I E timetable
-  pub rows : slots ≡ slots_from d 0 timetable
+  pub first : first_timetable bytes I ≡ Ok begun.timetable
+  pub fits : Fits I E begun.timetable
+  pub scored : begun.parts ≡ track I E begun.timetable
+  pub rows : slots ≡ slots_from d 0 begun.timetable

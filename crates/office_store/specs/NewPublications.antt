@@ -47,11 +47,6 @@ pub record AreSmallShares (new : NewPublication) : Type 0 where
 
 -- ---- by an office's records
 
--- this is the draft; or the command's own refusal
-abbrev pub Permits : ℕ → Records → Result (Placing × Penalty) StoreFault → Type 0
-Permits d r (Ok draft) = r.draft d ≡ Some draft.0
-Permits d r (Err fault) = IsFault (draft_published d (Some r)) fault
-
 -- what the command puts in, of a draft that fits and may be published
 pub record IsPutInFor (d : ℕ) (r : Records) (new : NewPublication) : Type 0 where
   pub timetable : Placing

@@ -1,29 +1,11 @@
 -- What the rows that are read say of an office.
-use Rattle.std.specs.Prelude.{◌≡◌, ℕ, List, [], map, Option, Some, None, is_some, Result, Ok, Err, IsPermutation}
+use Rattle.std.specs.Prelude.{List, [], Option, Some, None, Result, Ok, Err, IsPermutation}
 use Rattle.std.specs.Borrow.{Bor}
-use Rattle.std.specs.List.{AllByRecursion}
-use Rattle.office_tables.specs.declared.draft.DraftRow.{DraftRow}
-use Rattle.office_tables.specs.declared.slot.SlotRow.{SlotRow}
 use Rattle.office_tables.specs.declared.share_part.PartShareRow.{PartShareRow}
 use Rattle.office_tables.specs.declared.share_student.StudentShareRow.{StudentShareRow}
 use Rattle.office_model.specs.Office.{OfficeState, Publication}
 use Rattle.office_records.specs.SharesStored.{student_share_rows}
 use Rattle.office_records.specs.PartShares.{part_share_rows}
-use Rattle.office_records.specs.Stands.{IsScoredRow}
-use Rattle.office_records.specs.TableRows.{once, slot_rows}
-use Rattle.office_model.specs.DraftCommands.{draft_in}
-
--- each row of a draft has the penalty of its timetable
-abbrev pub AreScored : List DraftRow → OfficeState → Type 0
-AreScored rows None = Unit {0}
-AreScored rows (Some r) = AllByRecursion (IsScoredRow r) rows
-
--- the rows that an office has of a draft, and of its places
-pub record AreRowsOf (office : OfficeState) (d : ℕ) (rows : List DraftRow) (slots : List SlotRow)
-    : Type 0 where
-  pub numbers : map (λ row. row.no) rows ≡ once (is_some (draft_in d office)) d
-  pub scored : AreScored rows office
-  pub places : IsPermutation slots (slot_rows d (draft_in d office))
 
 -- ---- what is published
 

@@ -1,14 +1,15 @@
 -- What a call of the office makes of the office that its file stands for.
-use Rattle.std.specs.Prelude.{◌≡◌, ℕ, IsTrue, OnErr, length, None, Some, Result, Ok, Err}
+use Rattle.std.specs.Prelude.{◌≡◌, IsTrue, OnErr, Result, Ok, Err}
 use Rattle.sqlite.specs.Held.{Held, state}
 use Rattle.sqlite.specs.State.{State, HasCleanDisk}
 use Rattle.sqlite.specs.Store.{Ghosts}
 use Rattle.office_model.specs.Commands.{Gives}
 use Rattle.office_model.specs.Office.{OfficeState}
-use Rattle.office_records.specs.Memory.{Memory, memory_of}
 use Rattle.office_records.specs.Stands.{IsKept}
 use Rattle.office_model.specs.declared.fault.StoreFault.{StoreFault}
 use Rattle.office_model.specs.declared.fault.StoreFault.TheVariants.{Store, BadSchema}
+use Rattle.office_store.specs.Memory.{IsMemoryOf}
+use Rattle.office_store.specs.declared.memory.OfficeMemory.{OfficeMemory}
 
 -- while the store is open, its tables stand for this office
 abbrev pub Now : State → OfficeState → Type 0
@@ -53,18 +54,11 @@ ReadsOffice store says old new result =
 
 -- ---- what is kept in memory
 
--- how many batches an office keeps
-abbrev pub batch_count : OfficeState → ℕ
-batch_count None = 0
-batch_count (Some r) = length r.batches
-
--- over a clean disk, while it is open, the file stands for an office, of which this is in memory,
--- and which keeps this number of batches
-abbrev pub IsAtRest : State → Memory → ℕ → Type 0
-IsAtRest s memory batches =
+-- over a clean disk, while it is open, the file represents an office of which this is in memory
+abbrev pub IsAtRest : State → OfficeMemory → Type 0
+IsAtRest s memory =
     HasCleanDisk s → IsTrue s.is_open
-    → (office : OfficeState) × IsKept s.now office × (memory_of office ≡ memory)
-    × (batch_count office ≡ batches)
+    → (office : OfficeState) × IsKept s.now office × IsMemoryOf office memory
 
 -- ---- a look at the file
 

@@ -4,16 +4,16 @@ ghost use Rattle.sqlite.specs.Held.{state};
 ghost use Rattle.sqlite.specs.State.{HasCleanDisk, IsUnchanged, Survives};
 ghost use Rattle.office_tables.specs.Readers.{Keeps};
 ghost use Rattle.office_model.specs.Office.{OfficeState};
-ghost use Rattle.office_records.specs.Memory.{AreTogether, memory_of};
 ghost use Rattle.office_records.specs.Stands.{IsKept};
 ghost use Rattle.office_store.specs.Faults.{IsOfDatabase};
-ghost use Rattle.office_store.specs.Leaving.{connection_of};
-ghost use Rattle.office_store.specs.Running.{IsAwake, batch_count};
+ghost use Rattle.office_store.specs.Leaving.{Leaves, connection_of};
+ghost use Rattle.office_store.specs.Memory.{IsMemoryOf, IsTogether};
 ghost use Rattle.office_tables.specs.Alterations.{Undone};
 
+use crate::found_drafts::drafts_found;
 use crate::kept_bytes::check_bytes;
+use crate::memory::OfficeMemory;
 use crate::office::Office;
-use exam_model::{Enrolments, Instance};
 use office_model::StoreFault;
 use office_records::kept_of;
 use office_tables::adopt_tables;
@@ -31,47 +31,41 @@ impl<S: Alter> Office<S> {
         // The tables stand for an office.
         ensures adopted { IfOk result (λ office. HasCleanDisk (state S.Store office)
             → (o : OfficeState) × IsKept (state S.Store office).now o) }
-        // The database is open.
-        ensures awake { IfOk result (λ office. HasCleanDisk (state S.Store office)
-            → IsAwake (state S.Store office)) }
+        // Nothing has changed.
         ensures same { IfOk result (λ office. HasCleanDisk (state S.Store office)
             → (office ≡ conn) ⊎ IsUnchanged (state S.Store conn) (state S.Store office)) }
         // They stand for none.
+        // `Store` says nothing of them.
         ensures no_office { IfErr result (λ e. e.0 ≡ StoreFault.BadSchema
             → HasCleanDisk (state S.Store e.1)
             → (o : OfficeState) → IsKept (state S.Store conn).now o → ⊥) }
+        // Only `Store` or `BadSchema`.
         ensures fault { IfErr result (λ e. IsOfDatabase e.0) }
         // Whatever the refusal, the tables are as they were.
         ensures undone { IfErr result (λ e. (e.1 ≡ conn) ⊎ (HasCleanDisk (state S.Store e.1)
             → Undone (state S.Store conn) (state S.Store e.1))) }
-        ensures survives { Survives (state S.Store conn) (state S.Store (connection_of result))
-            (λ _. ⊥) }
+        // On `Ok` the database is open, and all is committed.
+        // A later opening may find only what it might have found before.
+        ensures leaves { Leaves (λ _. ⊥) (state S.Store conn)
+            (state S.Store (connection_of result)) result }
     {
         if !conn.is_autocommit() {
             return Err((StoreFault::Store, conn));
         }
         let mut conn = conn;
         match kept_in(alloc, &mut conn) {
-            Ok((kept, batches)) => Ok(Office {
-                conn,
-                kept,
-                batches,
-            }),
+            Ok(memory) => Ok(Office { conn, memory }),
             Err(fault) => Err((fault, conn)),
         }
     }
 }
 
-// What is kept in memory of the office that the tables stand for, and how many batches it keeps.
-// `BadSchema`: they stand for none.
-fn kept_in<S: Alter>(
-    alloc: Global,
-    conn: &mut Connection<S>,
-) -> Result<(Option<(Instance, Enrolments)>, usize), StoreFault>
-    ensures kept { HasCleanDisk (state S.Store conn.new) → IfOk result (λ found. (o : OfficeState)
-        × IsKept (state S.Store conn.old).now o × (memory_of o ≡ found.0)
-        × (batch_count o ≡ found.1)) }
-    ensures together { IfOk result (λ found. AreTogether found.0) }
+// Returns what is kept in memory of the office that the tables represent. `BadSchema`: they
+// represent none.
+fn kept_in<S: Alter>(alloc: Global, conn: &mut Connection<S>) -> Result<OfficeMemory, StoreFault>
+    ensures kept { HasCleanDisk (state S.Store conn.new) → IfOk result (λ memory. (o : OfficeState)
+        × IsKept (state S.Store conn.old).now o × IsMemoryOf o memory) }
+    ensures together { IfOk result IsTogether }
     ensures open { HasCleanDisk (state S.Store conn.new)
         → OnOk result (IsTrue (state S.Store conn.new).is_open) }
     ensures same { HasCleanDisk (state S.Store conn.new) → OnOk result ((conn.new ≡ conn.old)
@@ -92,5 +86,10 @@ fn kept_in<S: Alter>(
     };
     let kept = kept_of(alloc, &found)?;
     check_bytes(alloc, conn, &found.batches)?;
-    Ok((kept, found.batches.len()))
+    let drafts = drafts_found(alloc, &kept, &found)?;
+    Ok(OfficeMemory {
+        kept,
+        batches: found.batches.len(),
+        drafts,
+    })
 }

@@ -1,11 +1,13 @@
 // Drafts are edited.
-ghost use Rattle.std.specs.Prelude.{◌≡◌, ◌⊎◌, ◌<◌, length, map, All, Err, IfErr, IfOk, Ok, OnOk, Some};
+ghost use Rattle.std.specs.Prelude.{◌≡◌, ◌⊎◌, ◌<◌, ℕ, length, map, All, Err, IfErr, IfOk, Ok, OnOk, Some};
 ghost use Rattle.sqlite.specs.Held.{state};
-ghost use Rattle.sqlite.specs.State.{HasCleanDisk, Survives};
-ghost use Rattle.exam_model.specs.Fits.{Fits};
+ghost use Rattle.sqlite.specs.State.{HasCleanDisk};
+ghost use Rattle.exam_model.specs.Enrolments.{Enrolled};
+ghost use Rattle.exam_model.specs.Fits.{Fits, Suits};
+ghost use Rattle.exam_model.specs.Instance.{Session};
 ghost use Rattle.exam_draft.specs.Edits.{edited};
 ghost use Rattle.exam_draft.specs.Judged.{IsEditedAt, edited_exams};
-ghost use Rattle.office_model.specs.Office.{AreRecords, OfficeState, Records};
+ghost use Rattle.office_model.specs.Office.{OfficeState, Records};
 ghost use Rattle.office_records.specs.Memory.{memory_of};
 ghost use Rattle.office_records.specs.Stands.{IsKept};
 ghost use Rattle.office_model.specs.Commands.{named};
@@ -13,31 +15,35 @@ ghost use Rattle.office_model.specs.DraftCommands.{draft_edited};
 ghost use Rattle.office_store.specs.Changes.{moved, new_place};
 ghost use Rattle.office_store.specs.Editing.{Edits, Judges};
 ghost use Rattle.office_store.specs.FoldReads.{HasRead, IsSame};
-ghost use Rattle.office_store.specs.OfficeRows.{AreRowsOf};
-ghost use Rattle.office_store.specs.Leaving.{Leaves};
-ghost use Rattle.office_store.specs.Running.{IsAwake, IsStill, Runs, StaysOnErr};
+ghost use Rattle.office_store.specs.Leaving.{LeavesNext};
+ghost use Rattle.office_store.specs.Memory.{IsMemoryOf, IsTogether, scored_draft};
+ghost use Rattle.office_store.specs.Running.{IsAwake, Runs, StaysOnErr};
 
 use crate::folding::penalty_after;
+use crate::memory::{Draft, OfficeMemory};
 use crate::office::Office;
-use crate::pricing::stored_penalty;
-use crate::reading::DraftRows;
 use crate::transactions::put;
 use exam_draft::{Edit, judge};
 use exam_model::{Enrolments, ExamNo, Instance, Place, Timetable};
-use exam_score::Parts;
 use office_model::{Refusal, StoreFault};
-use office_records::{draft_row, timetable_of};
+use office_records::draft_row;
 use office_tables::{Both, DeleteDraft, DeleteSlot, Each, InsertDraft, InsertSlot, SlotRow};
 use sqlite::{Alter, Connection};
 use std::alloc::{AllocError, Global};
 
-// The timetable of a draft before an edit, with its penalty, and after it.
+// A draft before an edit, and its timetable after it.
 #[derive(Drop)]
-pub(crate) struct Judged {
-    pub(crate) old: Timetable,
-    pub(crate) parts: Parts,
+pub(crate) struct Judged<'a> {
+    pub(crate) draft: &'a Draft,
     pub(crate) new: Timetable,
     pub(crate) exams: Vec<ExamNo>,
+}
+
+// A draft after an edit, and the places that the edited exams lose and get.
+#[derive(Drop)]
+pub(crate) struct EditedDraft {
+    pub(crate) draft: Draft,
+    pub(crate) places: Vec<Moved>,
 }
 
 impl<S: Alter> Office<S> {
@@ -45,126 +51,92 @@ impl<S: Alter> Office<S> {
     /// number, then `Refused` with the edit's own fault.
     pub fn edit(&mut self, alloc: Global, number: u32, edit: Edit) -> Result<u64, StoreFault>
         ensures runs { Runs S.Store (draft_edited number edit) self.old self.new result }
-        // On `Ok` the database is open, and the change is committed.
-        ensures awake { HasCleanDisk (state S.Store self.new)
-            → OnOk result (IsAwake (state S.Store self.new)) }
         // Whatever the refusal, the tables are as they were.
         ensures stays { StaysOnErr S.Store self.old self.new result }
         ensures clean { HasCleanDisk (state S.Store self.new)
             → HasCleanDisk (state S.Store self.old) }
-        ensures survives { Leaves S.Store (draft_edited number edit) self.old self.new result }
+        // On `Ok` the database is open, and the change is committed.
+        ensures leaves { LeavesNext S.Store (draft_edited number edit) self.old self.new result }
     {
-        let found = self.draft_rows(alloc, number)?;
-        let (timetable, parts) = self.edited_draft(alloc, number, &found, edit)?;
-        let exams = edit.exams(alloc)?;
-        let row = draft_row(number, parts);
-        let places = new_places(alloc, row.no, &timetable, &exams)?;
-        let draft = Both {
-            first: DeleteDraft { no: row.no },
-            second: InsertDraft { row },
+        self.look()?;
+        let _at_rest = self.conn.is_autocommit(); // read for what it says of the last commit
+        let new = edited_draft(alloc, &mut self.conn, &self.memory, number, edit)?;
+        let EditedDraft { draft, places } = new;
+        let parts = draft.parts;
+        let row = Both {
+            first: DeleteDraft { no: number },
+            second: InsertDraft {
+                row: draft_row(number, parts),
+            },
         };
         put(
             &mut self.conn,
             &Both {
-                first: draft,
+                first: row,
                 second: Each {
                     alterations: &places,
                 },
             },
         )?;
+        self.memory.put(number, Some(draft));
         Ok(parts.total())
-    }
-
-    // The draft that these rows tell after an edit, with its penalty.
-    fn edited_draft(
-        &mut self,
-        alloc: Global,
-        number: u32,
-        found: &DraftRows,
-        edit: Edit,
-    ) -> Result<(Timetable, Parts), StoreFault>
-        ensures edits { HasCleanDisk (state S.Store self.new) → IsAwake (state S.Store self.old)
-            → (office : OfficeState) → IsKept (state S.Store self.old).now office
-            → AreRowsOf office number found.now.rows.items found.now.slots.items
-            → Edits number edit office result }
-        ensures exist { IfOk result (λ new. All (λ e. e < length new.0) (edited_exams edit)) }
-        ensures still { HasCleanDisk (state S.Store self.new)
-            → IsStill (state S.Store self.old) (state S.Store self.new) }
-        ensures awake { HasCleanDisk (state S.Store self.new) → IsAwake (state S.Store self.old)
-            → OnOk result (IsAwake (state S.Store self.new)) }
-        ensures clean { HasCleanDisk (state S.Store self.new)
-            → HasCleanDisk (state S.Store self.old) }
-        ensures survives { Survives (state S.Store self.old) (state S.Store self.new) (λ _. ⊥) }
-    {
-        let _at_rest = self.conn.is_autocommit(); // read for what it says of the last commit
-        let Some((instance, enrolments)) = &self.kept else {
-            return Err(StoreFault::NotLoaded);
-        };
-        edited_in(
-            alloc,
-            &mut self.conn,
-            instance,
-            enrolments,
-            number,
-            found,
-            edit,
-        )
     }
 }
 
-// The draft of the session at hand that these rows tell, after an edit, with its penalty.
-fn edited_in<S: Alter>(
+// Returns a draft in memory after an edit.
+fn edited_draft<S: Alter>(
     alloc: Global,
     conn: &mut Connection<S>,
-    instance: &Instance,
-    enrolments: &Enrolments,
+    memory: &OfficeMemory,
     number: u32,
-    found: &DraftRows,
     edit: Edit,
-) -> Result<(Timetable, Parts), StoreFault>
-    requires exams { length enrolments.now ≡ length instance.now.exams }
+) -> Result<EditedDraft, StoreFault>
+    requires together { IsTogether memory.now }
     ensures edits { HasCleanDisk (state S.Store conn.new) → IsAwake (state S.Store conn.old)
-        → (r : Records) → IsKept (state S.Store conn.old).now (Some r)
-        → memory_of (Some r) ≡ Some (instance.now, enrolments.now)
-        → AreRowsOf (Some r) number found.now.rows.items found.now.slots.items
-        → Edits number edit (Some r) result }
-    ensures exist { IfOk result (λ new. All (λ e. e < length new.0) (edited_exams edit)) }
+        → (office : OfficeState) → IsKept (state S.Store conn.old).now office
+        → IsMemoryOf office memory.now → Edits number edit office result }
+    ensures places { IfOk result (λ new. new.places.items
+        ≡ map (new_place number new.draft.timetable) (edited_exams edit)) }
+    ensures suits { IfOk result (λ new. (I : Session) (E : Enrolled)
+        → memory.now.kept ≡ Some (I, E) → Suits I new.draft.timetable) }
     ensures read { HasRead S.Store conn.old conn.new }
     ensures same { OnOk result (IsSame S.Store conn.old conn.new) }
 {
-    let judged = judged_draft(alloc, instance, enrolments, number, found, edit)?;
+    let Some((instance, enrolments)) = &memory.kept else {
+        return Err(StoreFault::NotLoaded);
+    };
+    let Some(draft) = memory.draft(number) else {
+        return Err(StoreFault::NoDraft);
+    };
+    let judged = judged_draft(alloc, instance, enrolments, draft, edit)?;
+    let places = new_places(alloc, number, &judged.new, &judged.exams)?;
     let parts = penalty_after(alloc, conn, instance, enrolments, &judged)?;
-    Ok((judged.new, parts))
+    let draft = Draft {
+        timetable: judged.new,
+        parts,
+    };
+    Ok(EditedDraft { draft, places })
 }
 
-// The draft that these rows tell before an edit and after it, with the stored penalty.
-fn judged_draft(
+// Returns a draft of the session in memory before an edit and after it.
+fn judged_draft<'a>(
     alloc: Global,
     instance: &Instance,
     enrolments: &Enrolments,
-    number: u32,
-    found: &DraftRows,
+    draft: &'a Draft,
     edit: Edit,
-) -> Result<Judged, StoreFault>
-    requires exams { length enrolments.now ≡ length instance.now.exams }
-    ensures told { (r : Records) → AreRecords r
+) -> Result<Judged<'a>, StoreFault>
+    requires fits { Fits instance.now enrolments.now draft.now.timetable }
+    ensures told { (d : ℕ) (r : Records)
         → memory_of (Some r) ≡ Some (instance.now, enrolments.now)
-        → AreRowsOf (Some r) number found.now.rows.items found.now.slots.items
-        → Judges number edit r result }
+        → scored_draft d (Some r) ≡ Some draft.now → Judges d edit r result }
     ensures of { IfOk result (λ judged. judged.exams.items ≡ edited_exams edit) }
-    ensures kept { IfOk result (λ judged. IsEditedAt instance.now enrolments.now judged.old
-        (edited_exams edit) judged.new) }
+    ensures kept { IfOk result (λ judged. IsEditedAt instance.now enrolments.now
+        judged.draft.now.timetable (edited_exams edit) judged.new) }
 {
-    let parts = stored_penalty(&found.rows)?;
-    let old = timetable_of(alloc, instance, number, &found.slots)?;
-    let new = new_timetable(alloc, instance, enrolments, &old, edit)?;
+    let new = new_timetable(alloc, instance, enrolments, &draft.timetable, edit)?;
     let exams = edit.exams(alloc)?;
-    Ok(Judged {
-        old,
-        parts,
-        new,
-        exams,
-    })
+    Ok(Judged { draft, new, exams })
 }
 
 // The timetable after an edit, or the edit's own refusal.
@@ -207,7 +179,7 @@ fn new_places(
 }
 
 // An exam's place in a draft goes, and another comes, if there is one.
-type Moved = Both<DeleteSlot, Option<InsertSlot>>;
+pub(crate) type Moved = Both<DeleteSlot, Option<InsertSlot>>;
 
 fn moved(draft: u32, exam: ExamNo, place: Option<Place>) -> Moved
     ensures { result ≡ moved draft exam place }

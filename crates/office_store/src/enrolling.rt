@@ -1,24 +1,21 @@
 // Batches of changes of enrolments are carried out.
-ghost use Rattle.std.specs.Prelude.{◌≡◌, ◌≤◌, IfOk, None, Ok, OnOk, Some};
+ghost use Rattle.std.specs.Prelude.{◌≡◌, ◌≤◌, IfOk, None, Ok, OnOk};
 ghost use Rattle.sqlite.specs.Held.{state};
 ghost use Rattle.sqlite.specs.State.{HasCleanDisk, Survives};
 ghost use Rattle.exam_terms.specs.declared.limits.TheConstants.{MAX_BATCH};
-ghost use Rattle.exam_model.specs.Enrolments.{Enrolled};
-ghost use Rattle.exam_model.specs.Instance.{Session};
-ghost use Rattle.office_enrolment.specs.AfterBatch.{latest};
 ghost use Rattle.office_batches.specs.BatchText.{batch_in};
 ghost use Rattle.office_model.specs.Batches.{batch_enrolled, kept_in};
 ghost use Rattle.office_model.specs.Office.{OfficeState};
 ghost use Rattle.office_records.specs.Stands.{IsKept};
 ghost use Rattle.office_store.specs.NewBatches.{IsRowOf, answered_again};
-ghost use Rattle.office_store.specs.Leaving.{Leaves};
+ghost use Rattle.office_store.specs.Leaving.{LeavesNext};
 ghost use Rattle.office_store.specs.Running.{IsAwake, IsStill, Runs, StaysOnErr};
 ghost use Rattle.office_tables.specs.Batch.{batch_from};
 
 use crate::fault::Failed;
 use crate::new_batch::{new_batch, put_batch};
 use crate::office::Office;
-use exam_model::{Change, Enrolments, Instance};
+use exam_model::Change;
 use office_batches::read_batch;
 use office_enrolment::{batch_leaves_an_office, lines_are_counted};
 use office_model::{Counts, StoreFault};
@@ -41,14 +38,12 @@ impl<S: Alter> Office<S> {
     ) -> Result<Counts, StoreFault>
         requires number { number ≤ MAX_BATCH }
         ensures runs { Runs S.Store (batch_enrolled number text.now) self.old self.new result }
-        // On `Ok` the database is open, and what it did is committed.
-        ensures awake { HasCleanDisk (state S.Store self.new)
-            → OnOk result (IsAwake (state S.Store self.new)) }
         // Whatever the refusal, the tables are as they were.
         ensures stays { StaysOnErr S.Store self.old self.new result }
         ensures clean { HasCleanDisk (state S.Store self.new)
             → HasCleanDisk (state S.Store self.old) }
-        ensures survives { Leaves S.Store (batch_enrolled number text.now)
+        // On `Ok` the database is open, and what it did is committed.
+        ensures leaves { LeavesNext S.Store (batch_enrolled number text.now)
             self.old self.new result }
     {
         let changes = match read_batch(alloc, text) {
@@ -62,8 +57,7 @@ impl<S: Alter> Office<S> {
         }
     }
 
-    // Carries out a batch whose number isn't kept, and keeps it. The drafts are read once nothing
-    // refuses it.
+    // Carries out a batch whose number isn't kept, and keeps it.
     fn enrol_new(
         &mut self,
         alloc: Global,
@@ -77,32 +71,23 @@ impl<S: Alter> Office<S> {
             → IsKept (state S.Store self.old).now office → kept_in office number ≡ None }
         requires awake { HasCleanDisk (state S.Store self.old) → IsAwake (state S.Store self.old) }
         ensures runs { Runs S.Store (batch_enrolled number text.now) self.old self.new result }
-        ensures awake { HasCleanDisk (state S.Store self.new)
-            → OnOk result (IsAwake (state S.Store self.new)) }
         ensures stays { StaysOnErr S.Store self.old self.new result }
         ensures clean { HasCleanDisk (state S.Store self.new)
             → HasCleanDisk (state S.Store self.old) }
-        ensures survives { Leaves S.Store (batch_enrolled number text.now)
+        ensures leaves { LeavesNext S.Store (batch_enrolled number text.now)
             self.old self.new result }
     {
         lines_are_counted();
         batch_leaves_an_office();
         let _at_rest = self.conn.is_autocommit(); // read for what it says of the last commit
-        let Some((instance, enrolments)) = &self.kept else {
+        let memory = &self.memory;
+        let Some((instance, enrolments)) = &memory.kept else {
             return Err(StoreFault::NotLoaded);
         };
-        let new = new_batch(
-            alloc,
-            &mut self.conn,
-            instance,
-            enrolments,
-            self.batches,
-            changes,
-        )?;
+        let new = new_batch(alloc, instance, enrolments, memory, changes)?;
         let counts = new.counts;
         put_batch(&mut self.conn, &new, number, text)?;
-        renew(&mut self.kept, new.enrolments);
-        self.batches += 1;
+        self.memory.renew(new.enrolments, new.rescored);
         Ok(counts)
     }
 
@@ -122,19 +107,6 @@ impl<S: Alter> Office<S> {
         let _at_rest = self.conn.is_autocommit(); // read for what it says of the last commit
         let row = batch_of(alloc, &mut self.conn, number)?;
         Ok(row)
-    }
-}
-
-// Other enrolments of the session at hand, if there are any.
-fn renew(kept: &mut Option<(Instance, Enrolments)>, enrolments: Option<Enrolments>)
-    ensures { (I : Session) (E : Enrolled) → kept.old ≡ Some (I, E)
-        → kept.new ≡ Some (I, latest enrolments E) }
-{
-    let Some(enrolments) = enrolments else {
-        return;
-    };
-    if let Some((instance, _)) = kept.take() {
-        *kept = Some((instance, enrolments));
     }
 }
 

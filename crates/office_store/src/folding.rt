@@ -29,7 +29,7 @@ pub(crate) fn penalty_after<S: Alter>(
     conn: &mut Connection<S>,
     instance: &Instance,
     enrolments: &Enrolments,
-    judged: &Judged,
+    judged: &Judged<'_>,
 ) -> Result<Parts, StoreFault>
     requires exams { length enrolments.now ≡ length instance.now.exams }
     requires exist { All (λ e. e < length enrolments.now) judged.now.exams.items }
@@ -41,9 +41,15 @@ pub(crate) fn penalty_after<S: Alter>(
 {
     let sizes = sizes_of(alloc, enrolments)?;
     let students = students_of_exams(alloc, enrolments, &judged.exams)?;
-    let empty = EditFold::new(alloc, instance, &judged.old, &judged.new, &judged.exams)?;
+    let empty = EditFold::new(
+        alloc,
+        instance,
+        &judged.draft.timetable,
+        &judged.new,
+        &judged.exams,
+    )?;
     let fold = fold_students(alloc, conn, empty, &students)?;
-    fold.finish(&sizes, judged.parts)
+    fold.finish(&sizes, judged.draft.parts)
         .ok_or(StoreFault::BadSchema)
 }
 

@@ -2,27 +2,28 @@
 #![tactic(auto)]
 
 mod adopting;
-mod batch_rows;
 mod candidate_share;
 mod drafting;
 mod editing;
 mod enrolling;
 mod fault;
 mod folding;
+mod found_drafts;
 mod kept_bytes;
 mod laws;
 mod loading;
+mod memory;
 mod new_batch;
 mod new_publication;
 mod office;
 mod opening;
 mod owning;
-mod pricing;
 mod publications;
 mod published_rows;
 mod publishing;
 mod putting;
 mod reading;
+mod rescoring;
 mod shutting;
 mod transactions;
 mod viewing;

@@ -6,10 +6,11 @@ ghost use Rattle.exam_model.specs.Enrolments.{AreEnrolments};
 ghost use Rattle.exam_model.specs.Instance.{IsInstance};
 ghost use Rattle.exam_model.specs.Pairs.{pairs_at, pairs_of};
 ghost use Rattle.office_model.specs.Loading.{NamesFirstFault, SpellsSession, loaded_of, loaded};
-ghost use Rattle.office_store.specs.Leaving.{Leaves};
-ghost use Rattle.office_store.specs.Running.{IsAwake, Runs, StaysOnErr};
+ghost use Rattle.office_store.specs.Leaving.{LeavesNext};
+ghost use Rattle.office_store.specs.Running.{Runs, StaysOnErr};
 ghost use Rattle.office_records.specs.TableRows.{enrol_row};
 
+use crate::memory::OfficeMemory;
 use crate::office::Office;
 use crate::transactions::put;
 use exam_model::{Enrolments, ExamNo, Instance, StudentNo};
@@ -25,9 +26,6 @@ impl<S: Alter> Office<S> {
     /// faulty; then `Loaded`: there is a session already.
     pub fn load(&mut self, alloc: Global, text: &[u8]) -> Result<Loaded, StoreFault>
         ensures runs { Runs S.Store (loaded text.now) self.old self.new result }
-        // On `Ok` the database is open, and the change is committed.
-        ensures awake { HasCleanDisk (state S.Store self.new)
-            → OnOk result (IsAwake (state S.Store self.new)) }
         // Over any disk it is how much the text spells.
         ensures counts { IfOk result (SpellsSession text.now) }
         // Over any disk a text that is refused has the fault first that is named.
@@ -36,14 +34,15 @@ impl<S: Alter> Office<S> {
         ensures stays { StaysOnErr S.Store self.old self.new result }
         ensures clean { HasCleanDisk (state S.Store self.new)
             → HasCleanDisk (state S.Store self.old) }
-        ensures survives { Leaves S.Store (loaded text.now) self.old self.new result }
+        // On `Ok` the database is open, and the change is committed.
+        ensures leaves { LeavesNext S.Store (loaded text.now) self.old self.new result }
     {
         let (instance, enrolments) = match read_instance(alloc, text) {
             Ok(read) => read,
             Err(fault) => return Err(StoreFault::of_file(fault)),
         };
         self.look()?;
-        if self.kept.is_some() {
+        if self.memory.kept.is_some() {
             return Err(StoreFault::Loaded);
         }
         let loaded = counts_of(&instance, &enrolments);
@@ -64,7 +63,7 @@ impl<S: Alter> Office<S> {
                 second: pairs,
             },
         )?;
-        self.kept = Some((instance, enrolments));
+        self.memory = OfficeMemory::of_session(instance, enrolments);
         Ok(loaded)
     }
 }

@@ -1,5 +1,5 @@
 // What is put in where a draft is published.
-ghost use Rattle.std.specs.Prelude.{◌≡◌, All, IfErr, IfOk, None, OnOk, Some, length, map};
+ghost use Rattle.std.specs.Prelude.{◌≡◌, ℕ, All, IfErr, IfOk, None, OnOk, Some, length, map};
 ghost use Rattle.sqlite.specs.Held.{state};
 ghost use Rattle.sqlite.specs.State.{HasCleanDisk};
 ghost use Rattle.exam_model.specs.Enrolments.{IsAscending};
@@ -9,9 +9,8 @@ ghost use Rattle.exam_publish.specs.Changed.{changed_students};
 ghost use Rattle.exam_publish.specs.Permit.{publish_refusal};
 ghost use Rattle.exam_publish.specs.Rows.{ArePublishedRows, RowsInOrder};
 ghost use Rattle.exam_publish.specs.Seats.{AreSeated};
-ghost use Rattle.exam_score.specs.Track.{track};
-ghost use Rattle.office_model.specs.Office.{AreRecords, IsOffice, Records};
-ghost use Rattle.office_model.specs.Publishing.{rows_now};
+ghost use Rattle.office_model.specs.Office.{AreRecords, OfficeState, Records};
+ghost use Rattle.office_model.specs.Publishing.{draft_published, rows_now};
 ghost use Rattle.office_records.specs.Memory.{memory_of};
 ghost use Rattle.office_records.specs.Publications.{StandsPublished, placed_from, stored_seat};
 ghost use Rattle.office_records.specs.SeatsStored.{seat_rows_of};
@@ -21,20 +20,19 @@ ghost use Rattle.office_records.specs.SharesStored.{student_share_row};
 ghost use Rattle.office_records.specs.Stands.{IsKept};
 ghost use Rattle.office_store.specs.FoldReads.{HasRead, IsSame};
 ghost use Rattle.office_store.specs.Judging.{listed};
-ghost use Rattle.office_store.specs.NewPublications.{ArePutIn, AreSmallShares, Permits, Publishes};
-ghost use Rattle.office_store.specs.OfficeRows.{AreRowsOf};
+ghost use Rattle.office_store.specs.Memory.{IsMemoryOf, IsTogether};
+ghost use Rattle.office_store.specs.NewPublications.{ArePutIn, AreSmallShares, PutsIn};
 ghost use Rattle.office_store.specs.RowPuts.{her_seats_gone, part_share_put, placement_put};
 ghost use Rattle.office_store.specs.RowPuts.{seat_put, share_gone, student_share_put};
-ghost use Rattle.office_store.specs.Running.{IsAwake, Tells};
+ghost use Rattle.office_store.specs.Running.{IsAwake, IsFault, Tells};
 ghost use Rattle.office_tables.specs.SharePart.{ArePartAmounts};
 ghost use Rattle.office_tables.specs.ShareStudent.{AreStudentAmounts};
 
+use crate::memory::{Draft, OfficeMemory};
 use crate::publications::published_of;
 use crate::published_rows::{PublishedRows, read_published};
-use crate::reading::{DraftRows, draft_of};
 use exam_model::{Enrolments, Instance, StudentNo, Timetable};
 use exam_publish::{SeatRow, Shares, changed, permit, seats, shares};
-use exam_score::Parts;
 use office_model::{Published, StoreFault};
 use office_records::{
     changed_seat_rows, changed_share_rows, part_share_rows, placement_rows, text_of,
@@ -61,54 +59,52 @@ pub(crate) struct NewPublication {
     pub(crate) counts: Published,
 }
 
-// What publishing a draft of the session at hand puts in, by the rows of the draft. What is
-// published is read once the draft may be.
+// Returns the writes of a publication of a draft in memory. What is published is read once the
+// draft may be.
 pub(crate) fn new_publication<S: Alter>(
     alloc: Global,
     conn: &mut Connection<S>,
-    instance: &Instance,
-    enrolments: &Enrolments,
+    memory: &OfficeMemory,
     number: u32,
-    draft: &DraftRows,
 ) -> Result<NewPublication, StoreFault>
-    requires exams { length enrolments.now ≡ length instance.now.exams }
+    requires together { IsTogether memory.now }
     ensures publishes { HasCleanDisk (state S.Store conn.new) → IsAwake (state S.Store conn.old)
-        → (r : Records) → IsKept (state S.Store conn.old).now (Some r)
-        → memory_of (Some r) ≡ Some (instance.now, enrolments.now)
-        → AreRowsOf (Some r) number draft.now.rows.items draft.now.slots.items
-        → Publishes number r result }
+        → (office : OfficeState) → IsKept (state S.Store conn.old).now office
+        → IsMemoryOf office memory.now → PutsIn number office result }
     ensures small { IfOk result AreSmallShares }
     ensures read { HasRead S.Store conn.old conn.new }
     ensures same { OnOk result (IsSame S.Store conn.old conn.new) }
 {
-    let (timetable, parts) = permitted_draft(alloc, instance, enrolments, number, draft)?;
+    let Some((instance, enrolments)) = &memory.kept else {
+        return Err(StoreFault::NotLoaded);
+    };
+    let Some(draft) = memory.draft(number) else {
+        return Err(StoreFault::NoDraft);
+    };
+    check_permit(alloc, instance, enrolments, draft)?;
     let published = read_published(alloc, conn)?;
     let old = old_seats(alloc, instance, &published)?;
-    let rows = seats(alloc, instance, enrolments, &timetable, &old)?;
-    put_together(alloc, instance, &timetable, parts.total(), &old, &rows)
+    let timetable = &draft.timetable;
+    let rows = seats(alloc, instance, enrolments, timetable, &old)?;
+    put_together(alloc, instance, timetable, draft.parts.total(), &old, &rows)
 }
 
-// The draft of the session at hand that these rows tell, with its penalty, if it may be published.
-fn permitted_draft(
+// Whether a draft of the session in memory may be published.
+fn check_permit(
     alloc: Global,
     instance: &Instance,
     enrolments: &Enrolments,
-    number: u32,
-    found: &DraftRows,
-) -> Result<(Timetable, Parts), StoreFault>
-    requires exams { length enrolments.now ≡ length instance.now.exams }
-    ensures permits { (r : Records) → IsOffice (Some r)
+    draft: &Draft,
+) -> Result<(), StoreFault>
+    requires fits { Fits instance.now enrolments.now draft.now.timetable }
+    ensures refused { IfErr result (λ e. (d : ℕ) (r : Records)
         → memory_of (Some r) ≡ Some (instance.now, enrolments.now)
-        → AreRowsOf (Some r) number found.now.rows.items found.now.slots.items
-        → Permits number r result }
-    ensures permitted { IfOk result
-        (λ draft. publish_refusal instance.now enrolments.now draft.0 ≡ None) }
-    ensures fits { IfOk result (λ draft. Fits instance.now enrolments.now draft.0) }
-    ensures scored { IfOk result (λ draft. draft.1 ≡ track instance.now enrolments.now draft.0) }
+        → r.draft d ≡ Some draft.now.timetable → IsFault (draft_published d (Some r)) e) }
+    ensures permitted { OnOk result
+        (publish_refusal instance.now enrolments.now draft.now.timetable ≡ None) }
 {
-    let (timetable, parts) = draft_of(alloc, instance, enrolments, number, found)?;
-    match permit(alloc, instance, enrolments, &timetable) {
-        Ok(()) => Ok((timetable, parts)),
+    match permit(alloc, instance, enrolments, &draft.timetable) {
+        Ok(()) => Ok(()),
         Err(fault) => Err(StoreFault::of_publication(fault)),
     }
 }

@@ -4,13 +4,13 @@ ghost use Rattle.sqlite.specs.Held.{state};
 ghost use Rattle.sqlite.specs.State.{HasCleanDisk, Survives};
 ghost use Rattle.office_tables.specs.Schema.{no_schema};
 ghost use Rattle.office_store.specs.Faults.{IsOfDatabase};
-ghost use Rattle.office_store.specs.Leaving.{MayMake, connection_of};
+ghost use Rattle.office_store.specs.Leaving.{Leaves, MayMake, connection_of};
 ghost use Rattle.office_store.specs.Running.{IsAwake, IsStill};
 ghost use Rattle.office_tables.specs.Alterations.{Undone};
 ghost use Rattle.office_records.specs.Stands.{IsKept};
 
+use crate::memory::OfficeMemory;
 use crate::transactions::make_tables;
-use exam_model::{Enrolments, Instance};
 use office_model::StoreFault;
 use office_tables::{is_bare, look};
 use sqlite::{Alter, Connection};
@@ -21,16 +21,13 @@ use std::marker::Model;
 #[derive(Drop)]
 pub struct Office<S: Alter> {
     pub(crate) conn: Connection<S>,
-    // The session and its live enrolments, once there is one: what the tables say, at hand.
-    pub(crate) kept: Option<(Instance, Enrolments)>,
-    // How many batches it keeps.
-    pub(crate) batches: usize,
+    pub(crate) memory: OfficeMemory,
 }
 
 impl<S: Alter> Model for Office<S> {
     ghost use Rattle.std.specs.Prelude.{◌≡◌, false};
     ghost use Rattle.sqlite.specs.Held.{Held, held_code, state};
-    ghost use Rattle.office_records.specs.Memory.{AreTogether};
+    ghost use Rattle.office_store.specs.Memory.{IsTogether};
     ghost use Rattle.office_store.specs.Running.{IsAtRest};
 
     ghost Value = { Held S };
@@ -39,8 +36,11 @@ impl<S: Alter> Model for Office<S> {
 
     ghost view = { λ o. o.conn };
 
+    // While the store is open, its tables represent an office, and in memory are that office's
+    // session, enrolments and drafts, each with its penalty, and the number of its kept batches.
+    // Over any disk the drafts in memory are timetables of the session in memory.
     ghost invariant = { λ o. (o.conn.in_transaction ≡ false)
-        × IsAtRest (state S.Store o.conn) o.kept o.batches × AreTogether o.kept };
+        × IsAtRest (state S.Store o.conn) o.memory × IsTogether o.memory };
 }
 
 impl<S: Alter> Office<S> {
@@ -51,19 +51,21 @@ impl<S: Alter> Office<S> {
         // The tables stand for the office without a session.
         ensures made { IfOk result (λ office. HasCleanDisk (state S.Store office)
             → IsKept (state S.Store office).now None) }
-        // The database is open, and the tables are committed.
-        ensures awake { IfOk result (λ office. HasCleanDisk (state S.Store office)
-            → IsAwake (state S.Store office)) }
         // There were none.
         ensures bare { IfOk result (λ _. (state S.Store conn).now.schema ≡ no_schema) }
+        // There was one, and the connection comes back as it was.
         ensures not_bare { IfErr result (λ e. e.0 ≡ StoreFault.BadSchema
             → ((state S.Store conn).now.schema ≢ no_schema) × (e.1 ≡ conn)) }
+        // Only `Store` or `BadSchema`.
         ensures fault { IfErr result (λ e. IsOfDatabase e.0) }
         // Whatever the refusal, the tables are as they were.
         ensures undone { IfErr result (λ e. (e.1 ≡ conn) ⊎ (HasCleanDisk (state S.Store e.1)
             → Undone (state S.Store conn) (state S.Store e.1))) }
-        ensures survives { Survives (state S.Store conn) (state S.Store (connection_of result))
-            (MayMake (state S.Store conn) result) }
+        // On `Ok` the database is open, and all is committed.
+        // A later opening may find what it might have found before, or, unless there were tables,
+        // those of the office without a session.
+        ensures leaves { Leaves (MayMake (state S.Store conn) result) (state S.Store conn)
+            (state S.Store (connection_of result)) result }
     {
         if !conn.is_autocommit() {
             return Err((StoreFault::Store, conn));
@@ -75,8 +77,7 @@ impl<S: Alter> Office<S> {
         match make_tables(&mut conn) {
             Ok(()) => Ok(Office {
                 conn,
-                kept: None,
-                batches: 0,
+                memory: OfficeMemory::new(),
             }),
             Err(_) => Err((StoreFault::Store, conn)),
         }

@@ -1,12 +1,12 @@
 // A database that holds an office or nothing, opened.
 ghost use Rattle.std.specs.Prelude.{◌≡◌, ◌⊎◌, IfErr, IfOk};
 ghost use Rattle.sqlite.specs.Held.{state};
-ghost use Rattle.sqlite.specs.State.{HasCleanDisk, Survives};
+ghost use Rattle.sqlite.specs.State.{HasCleanDisk};
 ghost use Rattle.office_model.specs.Office.{OfficeState};
 ghost use Rattle.office_store.specs.Faults.{IsOfDatabase};
-ghost use Rattle.office_store.specs.Leaving.{MayMake, connection_of};
+ghost use Rattle.office_store.specs.Leaving.{Leaves, MayMake, connection_of};
 ghost use Rattle.office_store.specs.Opening.{IsOfficeOf};
-ghost use Rattle.office_store.specs.Running.{IsAwake, Now};
+ghost use Rattle.office_store.specs.Running.{Now};
 ghost use Rattle.office_tables.specs.Alterations.{Undone};
 
 use crate::office::Office;
@@ -27,12 +27,10 @@ impl<S: Alter> Office<S> {
         ensures found { IfOk result (λ office. HasCleanDisk (state S.Store office)
             → (there : OfficeState) → IsOfficeOf (state S.Store conn).now there
             → Now (state S.Store office) there) }
-        // The database is open.
-        ensures awake { IfOk result (λ office. HasCleanDisk (state S.Store office)
-            → IsAwake (state S.Store office)) }
         // It stood for one.
         ensures stood { IfOk result (λ office. HasCleanDisk (state S.Store office)
             → (there : OfficeState) × IsOfficeOf (state S.Store conn).now there) }
+        // Only `Store` or `BadSchema`.
         ensures fault { IfErr result (λ e. IsOfDatabase e.0) }
         // But for Store, it stands for none.
         ensures refused { IfErr result (λ e. HasCleanDisk (state S.Store e.1)
@@ -41,8 +39,10 @@ impl<S: Alter> Office<S> {
         // Whatever the refusal, the tables are as they were.
         ensures undone { IfErr result (λ e. (e.1 ≡ conn) ⊎ (HasCleanDisk (state S.Store e.1)
             → Undone (state S.Store conn) (state S.Store e.1))) }
-        ensures survives { Survives (state S.Store conn) (state S.Store (connection_of result))
-            (MayMake (state S.Store conn) result) }
+        // On `Ok` the database is open, and all is committed.
+        // A later opening may find what it might have found before, or what `create` makes.
+        ensures leaves { Leaves (MayMake (state S.Store conn) result) (state S.Store conn)
+            (state S.Store (connection_of result)) result }
     {
         if is_bare(&conn) {
             Office::create(conn)

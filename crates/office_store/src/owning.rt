@@ -6,7 +6,7 @@ ghost use Rattle.exam_terms.specs.declared.limits.TheConstants.{MAX_DEPARTMENT};
 ghost use Rattle.office_model.specs.Commands.{owned, owner_in};
 ghost use Rattle.office_model.specs.Office.{OfficeState};
 ghost use Rattle.office_store.specs.Changes.{new_owner};
-ghost use Rattle.office_store.specs.Leaving.{Leaves};
+ghost use Rattle.office_store.specs.Leaving.{LeavesNext};
 ghost use Rattle.office_store.specs.Running.{IsAwake, IsStill, Now, ReadsOffice, Runs, StaysOnErr};
 ghost use Rattle.office_records.specs.TableRows.{some_dept};
 
@@ -26,17 +26,15 @@ impl<S: Alter> Office<S> {
     pub fn set_owner(&mut self, exam: ExamNo, dept: u32) -> Result<(), StoreFault>
         requires dept { dept ≤ MAX_DEPARTMENT }
         ensures runs { Runs S.Store (owned exam dept) self.old self.new result }
-        // On `Ok` the database is open, and the change is committed.
-        ensures awake { HasCleanDisk (state S.Store self.new)
-            → OnOk result (IsAwake (state S.Store self.new)) }
         // Whatever the refusal, the tables are as they were.
         ensures stays { StaysOnErr S.Store self.old self.new result }
         ensures clean { HasCleanDisk (state S.Store self.new)
             → HasCleanDisk (state S.Store self.old) }
-        ensures survives { Leaves S.Store (owned exam dept) self.old self.new result }
+        // On `Ok` the database is open, and the change is committed.
+        ensures leaves { LeavesNext S.Store (owned exam dept) self.old self.new result }
     {
         self.look()?;
-        let Some((instance, _)) = &self.kept else {
+        let Some((instance, _)) = &self.memory.kept else {
             return Err(StoreFault::NotLoaded);
         };
         if exam.get() >= instance.exams() {

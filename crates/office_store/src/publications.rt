@@ -39,7 +39,7 @@ impl<S: Alter> Office<S> {
         ensures survives { Survives (state S.Store self.old) (state S.Store self.new) (λ _. ⊥) }
     {
         let found = self.published_rows(alloc)?;
-        let Some((instance, _)) = &self.kept else {
+        let Some((instance, _)) = &self.memory.kept else {
             return Ok(None);
         };
         published_of(alloc, instance, &found)
@@ -59,7 +59,7 @@ impl<S: Alter> Office<S> {
         ensures survives { Survives (state S.Store self.old) (state S.Store self.new) (λ _. ⊥) }
     {
         let rows = self.placements(alloc)?;
-        let Some((instance, _)) = &self.kept else {
+        let Some((instance, _)) = &self.memory.kept else {
             return Ok(None);
         };
         placed_in(alloc, instance, &rows)
@@ -81,7 +81,7 @@ impl<S: Alter> Office<S> {
         ensures survives { Survives (state S.Store self.old) (state S.Store self.new) (λ _. ⊥) }
     {
         let found = self.share_rows(alloc)?;
-        let Some((instance, _)) = &self.kept else {
+        let Some((instance, _)) = &self.memory.kept else {
             return Ok(None);
         };
         shared_of(alloc, instance, &found)

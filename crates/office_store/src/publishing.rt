@@ -6,14 +6,12 @@ ghost use Rattle.office_model.specs.Office.{OfficeState};
 ghost use Rattle.office_model.specs.Publishing.{draft_published};
 ghost use Rattle.office_records.specs.Stands.{IsKept};
 ghost use Rattle.office_store.specs.NewPublications.{AreSmallShares, PutsIn};
-ghost use Rattle.office_store.specs.OfficeRows.{AreRowsOf};
-ghost use Rattle.office_store.specs.Leaving.{Leaves};
+ghost use Rattle.office_store.specs.Leaving.{LeavesNext};
 ghost use Rattle.office_store.specs.Running.{IsAwake, IsStill, Runs, StaysOnErr};
 
 use crate::new_publication::{NewPublication, new_publication};
 use crate::office::Office;
 use crate::putting::put_publication;
-use crate::reading::DraftRows;
 use office_model::{Published, StoreFault};
 use sqlite::Alter;
 use std::alloc::Global;
@@ -25,31 +23,27 @@ impl<S: Alter> Office<S> {
     /// number; then `Refused`: an exam has no place, or a hard rule is broken.
     pub fn publish(&mut self, alloc: Global, number: u32) -> Result<Published, StoreFault>
         ensures runs { Runs S.Store (draft_published number) self.old self.new result }
-        // On `Ok` the database is open, and the change is committed.
-        ensures awake { HasCleanDisk (state S.Store self.new)
-            → OnOk result (IsAwake (state S.Store self.new)) }
         // Whatever the refusal, the tables are as they were.
         ensures stays { StaysOnErr S.Store self.old self.new result }
         ensures clean { HasCleanDisk (state S.Store self.new)
             → HasCleanDisk (state S.Store self.old) }
-        ensures survives { Leaves S.Store (draft_published number) self.old self.new result }
+        // On `Ok` the database is open, and the change is committed.
+        ensures leaves { LeavesNext S.Store (draft_published number) self.old self.new result }
     {
-        let found = self.draft_rows(alloc, number)?;
-        let new = self.judged_publication(alloc, number, &found)?;
+        self.look()?;
+        let new = self.judged_publication(alloc, number)?;
         put_publication(&mut self.conn, &new)?;
         Ok(new.counts)
     }
 
-    // What publishing the draft that these rows tell puts in.
+    // Returns the writes of a publication of a draft.
     fn judged_publication(
         &mut self,
         alloc: Global,
         number: u32,
-        found: &DraftRows,
     ) -> Result<NewPublication, StoreFault>
         ensures publishes { HasCleanDisk (state S.Store self.new) → IsAwake (state S.Store self.old)
             → (office : OfficeState) → IsKept (state S.Store self.old).now office
-            → AreRowsOf office number found.now.rows.items found.now.slots.items
             → PutsIn number office result }
         ensures small { IfOk result AreSmallShares }
         ensures still { HasCleanDisk (state S.Store self.new)
@@ -61,9 +55,6 @@ impl<S: Alter> Office<S> {
         ensures survives { Survives (state S.Store self.old) (state S.Store self.new) (λ _. ⊥) }
     {
         let _at_rest = self.conn.is_autocommit(); // read for what it says of the last commit
-        let Some((instance, enrolments)) = &self.kept else {
-            return Err(StoreFault::NotLoaded);
-        };
-        new_publication(alloc, &mut self.conn, instance, enrolments, number, found)
+        new_publication(alloc, &mut self.conn, &self.memory, number)
     }
 }

@@ -122,7 +122,7 @@ impl<S: Alter> Office<S> {
         ensures survives { Survives (state S.Store self.old) (state S.Store self.new) (λ _. ⊥) }
     {
         let found = self.her_rows(alloc, student)?;
-        let Some((instance, _)) = &self.kept else {
+        let Some((instance, _)) = &self.memory.kept else {
             return Ok(Vec::new(alloc));
         };
         exams_from(alloc, instance, &found)

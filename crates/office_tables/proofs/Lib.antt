@@ -7,7 +7,6 @@ pub mod BatchTexts
 pub mod Casts
 pub mod Creates
 pub mod DraftLemmas
-pub mod DraftTexts
 pub mod EnrolLemmas
 pub mod EnrolTexts
 pub mod Frames
@@ -33,7 +32,6 @@ pub mod ShareLemmas
 pub mod ShareTexts
 pub mod SilentLemmas
 pub mod SlotLemmas
-pub mod SlotTexts
 pub mod Statements
 pub mod TableLemmas
 pub mod TurnLemmas

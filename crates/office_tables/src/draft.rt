@@ -1,13 +1,11 @@
 // Drafts and their penalties.
-ghost use Rattle.std.specs.Prelude.{◌≡◌, ◌==◌, false, filter, IsPermutation};
+ghost use Rattle.std.specs.Prelude.{◌≡◌, false};
 ghost use Rattle.sqlite.specs.Held.{state};
-ghost use Rattle.sqlite.specs.State.{Survives};
 ghost use Rattle.sqlite.specs.Values.{bound};
 ghost use Rattle.office_tables.specs.Draft.{draft_columns, no_drafts, with_draft, without_draft, AreAmounts, FitsDraft};
 ghost use Rattle.office_tables.specs.Finders.{Finds, IsFound, Leaves, Looks};
 ghost use Rattle.office_tables.specs.Schema.{schema_3, schema_4, IsBlank};
 ghost use Rattle.office_tables.specs.Steps.{Grows, Within};
-ghost use Rattle.office_tables.specs.Readers.{AnswersOpen, LeavesAll, LeavesCommitted, OpensNone, Reads};
 ghost use Rattle.office_tables.specs.Stored.{keyed};
 
 use crate::altering::Alteration;
@@ -15,7 +13,6 @@ use crate::amounts::signed;
 use crate::listing::read_table;
 use crate::records::Record;
 use crate::running::run;
-use crate::streaming::stream;
 use sqlite::types::ValueRef;
 use sqlite::{Alter, Connection, Error, Row, Transaction, params};
 use std::alloc::Global;
@@ -138,31 +135,6 @@ impl Alteration for DeleteDrafts {
     fn apply<S: Alter>(&self, tx: &mut Transaction<'_, S>) -> Result<(), Error> {
         run(tx, "DELETE FROM draft", &[])
     }
-}
-
-/// A draft: one row, or none.
-pub fn drafts_of<S: Alter>(
-    alloc: Global,
-    conn: &mut Connection<S>,
-    no: u32,
-) -> Result<Vec<DraftRow>, Error>
-    ensures rows { Reads S.Store
-        (λ t rows. IsPermutation (filter (λ r. r.no == no) t.draft) rows.items)
-        conn.old conn.new result }
-    ensures open { AnswersOpen S.Store conn.old conn.new result }
-    ensures was_open { OpensNone S.Store conn.old conn.new }
-    ensures same { LeavesAll S.Store conn.old conn.new result }
-    ensures kept { LeavesCommitted S.Store conn.old conn.new }
-    ensures mode { conn.old.in_transaction ≡ false → conn.new.in_transaction ≡ false }
-    ensures survives { Survives (state S.Store conn.old) (state S.Store conn.new) (λ _. ⊥) }
-{
-    stream(
-        alloc,
-        conn,
-        "SELECT no, in_row, in_day, spread, mixed, front, period, room FROM draft WHERE no = ?1 \
-         ORDER BY no",
-        params![no],
-    )
 }
 
 // All drafts, or that a row is of none.

@@ -27,7 +27,7 @@ pub use adopting::adopt_tables;
 pub use altering::{Alteration, Both, Each, transact};
 pub use batch::{BatchCountsRow, BatchRow, InsertBatch, batch_of};
 pub use creation::{create_tables, is_bare};
-pub use draft::{DeleteDraft, DeleteDrafts, DraftRow, InsertDraft, drafts_of};
+pub use draft::{DeleteDraft, DeleteDrafts, DraftRow, InsertDraft};
 pub use enrol::{DeleteEnrol, EnrolRow, InsertEnrol, enrols_of, find_enrols_of};
 pub use found::Found;
 pub use looking::look;
@@ -39,4 +39,4 @@ pub use share_part::{DeletePartShares, InsertPartShare, PartShareRow, part_share
 pub use share_student::{
     DeleteStudentShare, InsertStudentShare, StudentShareRow, student_shares, student_shares_of,
 };
-pub use slot::{DeleteSlot, DeleteSlots, InsertSlot, SlotRow, slots_of};
+pub use slot::{DeleteSlot, DeleteSlots, InsertSlot, SlotRow};

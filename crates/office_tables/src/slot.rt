@@ -1,19 +1,16 @@
 // Where exams stand in drafts.
-ghost use Rattle.std.specs.Prelude.{◌≡◌, ◌==◌, false, filter, IsPermutation};
+ghost use Rattle.std.specs.Prelude.{◌≡◌, false};
 ghost use Rattle.sqlite.specs.Held.{state};
-ghost use Rattle.sqlite.specs.State.{Survives};
 ghost use Rattle.office_tables.specs.Finders.{Finds, IsFound, Leaves, Looks};
 ghost use Rattle.office_tables.specs.Schema.{schema_4, schema_5, IsBlank};
 ghost use Rattle.office_tables.specs.Slot.{slot_columns, with_slot, without_slot, without_slots, FitsSlot};
 ghost use Rattle.office_tables.specs.Steps.{Grows, Within};
-ghost use Rattle.office_tables.specs.Readers.{AnswersOpen, LeavesAll, LeavesCommitted, OpensNone, Reads};
 ghost use Rattle.office_tables.specs.Stored.{keyless};
 
 use crate::altering::Alteration;
 use crate::listing::read_table;
 use crate::records::Record;
 use crate::running::run;
-use crate::streaming::stream;
 use sqlite::{Alter, Connection, Error, Row, Transaction, params};
 use std::alloc::Global;
 
@@ -120,30 +117,6 @@ impl Alteration for DeleteSlot {
             params![self.draft, self.exam],
         )
     }
-}
-
-/// A draft's placements, by exam.
-pub fn slots_of<S: Alter>(
-    alloc: Global,
-    conn: &mut Connection<S>,
-    draft: u32,
-) -> Result<Vec<SlotRow>, Error>
-    ensures rows { Reads S.Store
-        (λ t rows. IsPermutation (filter (λ r. r.draft == draft) t.slot) rows.items)
-        conn.old conn.new result }
-    ensures open { AnswersOpen S.Store conn.old conn.new result }
-    ensures was_open { OpensNone S.Store conn.old conn.new }
-    ensures same { LeavesAll S.Store conn.old conn.new result }
-    ensures kept { LeavesCommitted S.Store conn.old conn.new }
-    ensures mode { conn.old.in_transaction ≡ false → conn.new.in_transaction ≡ false }
-    ensures survives { Survives (state S.Store conn.old) (state S.Store conn.new) (λ _. ⊥) }
-{
-    stream(
-        alloc,
-        conn,
-        "SELECT draft, exam, period, room FROM slot WHERE draft = ?1 ORDER BY exam",
-        params![draft],
-    )
 }
 
 // All placements in drafts, or that a row is of none.

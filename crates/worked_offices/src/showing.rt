@@ -39,7 +39,7 @@ pub(crate) fn run<S: Alter>(
         }
         Command::NewDraft => office.new_draft(alloc, 1, SOLUTION),
         Command::DropDraft => {
-            office.drop_draft(alloc, 1)?;
+            office.drop_draft(1)?;
             Ok(0)
         }
         Command::Move => {
@@ -95,7 +95,7 @@ fn show_draft<S: Alter>(
     text: &mut String,
 ) -> Result<(), AllocError> {
     let draft = office.draft(alloc, 1);
-    let penalty = office.penalty(alloc, 1);
+    let penalty = office.penalty(1);
     let breaches = office.breaches(alloc, 1);
     write!(text, "{draft:?}{penalty:?}{breaches:?}")
 }

@@ -8,9 +8,9 @@ use office_tables::{
     DeleteSlot, DeleteSlots, DeleteStudentSeats, DeleteStudentShare, DraftRow, Each, EnrolRow,
     InsertDraft, InsertEnrol, InsertMeta, InsertOwner, InsertPartShare, InsertPlacement,
     InsertSeat, InsertSlot, InsertStudentShare, OwnerRow, PartShareRow, PlacedRow, SeatRow,
-    SlotRow, StudentShareRow, adopt_tables, create_tables, drafts_of, enrols_of, find_enrols_of,
-    is_bare, look, owners_of, part_shares, placements, placements_of, seats, seats_of, slots_of,
-    student_shares, student_shares_of, transact,
+    SlotRow, StudentShareRow, adopt_tables, create_tables, enrols_of, find_enrols_of, is_bare,
+    look, owners_of, part_shares, placements, placements_of, seats, seats_of, student_shares,
+    student_shares_of, transact,
 };
 use sqlite::{Connection, Error, MemStore, Transaction};
 use std::alloc::Global;
@@ -133,19 +133,13 @@ fn rows_come_back_in_order(rt: HostRuntime) -> Result<(), Fail> {
     assert_same(&rt, found.meta.published, true, "published");
     let instance = found.meta.instance.as_slice();
     assert_same(&rt, instance, b"[Exams:3]".as_slice(), "instance");
-    let counts = [
-        found.enrols.len(),
-        found.slots.len(),
-        found.placements.len(),
-    ];
-    assert_same(&rt, counts, [3, 3, 3], "counts");
+    let counts = [found.enrols.len(), found.placements.len()];
+    assert_same(&rt, counts, [3, 3], "counts");
     let owners = owners_of(alloc, &mut conn, 0)?;
     assert_same(&rt, owners.as_slice(), [OWNER].as_slice(), "owners");
-    let drafts = drafts_of(alloc, &mut conn, 1)?;
-    assert_same(&rt, drafts.as_slice(), [DRAFT].as_slice(), "drafts");
-    let slots = slots_of(alloc, &mut conn, 1)?;
-    let wanted = [slot(1, 0, 0, 0), slot(1, 2, 3, 1)];
-    assert_same(&rt, slots.as_slice(), wanted.as_slice(), "slots");
+    assert_same(&rt, found.drafts.as_slice(), [DRAFT].as_slice(), "drafts");
+    let wanted = [slot(1, 0, 0, 0), slot(1, 2, 3, 1), slot(2, 0, 1, 1)];
+    assert_same(&rt, found.slots.as_slice(), wanted.as_slice(), "slots");
     let places = placements(alloc, &mut conn)?;
     let wanted = [place(0, 0, 0), place(1, 1, 1), place(2, 2, 0)];
     assert_same(&rt, places.as_slice(), wanted.as_slice(), "places");
@@ -221,21 +215,18 @@ fn delete_most(conn: &mut Connection<MemStore>) -> Result<(), Fail> {
 fn rows_go(rt: HostRuntime) -> Result<(), Fail> {
     let (alloc, mut conn) = (rt.alloc(), filled(rt.alloc())?);
     delete_most(&mut conn)?;
+    let Some(found) = adopt_tables(alloc, &mut conn)? else {
+        return Err("no tables")?;
+    };
     let left = [
         owners_of(alloc, &mut conn, 0)?.len(),
-        drafts_of(alloc, &mut conn, 1)?.len(),
-        slots_of(alloc, &mut conn, 2)?.len(),
+        found.drafts.len(),
         placements(alloc, &mut conn)?.len(),
         part_shares(alloc, &mut conn)?.len(),
     ];
-    assert_same(&rt, left, [0; 5], "rows");
-    let slots = slots_of(alloc, &mut conn, 1)?;
-    assert_same(
-        &rt,
-        slots.as_slice(),
-        [slot(1, 0, 0, 0)].as_slice(),
-        "slots",
-    );
+    assert_same(&rt, left, [0; 4], "rows");
+    let slots = found.slots.as_slice();
+    assert_same(&rt, slots, [slot(1, 0, 0, 0)].as_slice(), "slots");
     let all = seats(alloc, &mut conn)?;
     assert_same(&rt, all.as_slice(), [seated(1, 0, 1)].as_slice(), "seats");
     let students = student_shares(alloc, &mut conn)?;

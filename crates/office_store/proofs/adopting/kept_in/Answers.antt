@@ -15,8 +15,10 @@ use Rattle.office_model.specs.declared.fault.StoreFault.TheVariants.{BadSchema}
 use Rattle.office_store.proofs.AdoptLemmas.{both_same, found_batches, held_still, keeps_still}
 use Rattle.office_store.proofs.AdoptLemmas.{open_still}
 use Rattle.office_store.proofs.AdoptLemmas.{none_long, none_refused}
+use Rattle.office_store.proofs.FoundDraftLemmas.{told}
 use Rattle.office_store.proofs.LeavingLemmas.{survives_on}
-use Rattle.office_store.proofs.CountLemmas.{counted}
+use Rattle.office_store.proofs.AllDraftLemmas.{drafts_stand, found_drafts, found_together}
+use Rattle.office_store.proofs.InMemoryLemmas.{counted}
 use Rattle.office_store.proofs.adopting.kept_in.Goals as goal
 
 -- the tables are foreign
@@ -25,17 +27,6 @@ returns-in-Ok-None-clause-none g c clean bad o kept =
     let db = (state g.S.Store c.args.conn.now).now in
     let none : c.in-Ok-None.field-0 ≡ None = search rules in
     not_foreign db o kept (subst (IsAdopted db) none (c.in-Ok-None.ensures.found clean))
-
-named : (fault : RecordFault) → store_fault fault ≡ BadSchema → fault ≡ BadRows
-named NoMemory e = absurd cc
-named BadRows e = refl
-
--- only rows that are wrong are a wrong schema
-told : {X Q : Type 0} (r : Result X StoreFault) (fault : RecordFault)
-    → IsErrAnd r (λ e. e ≡ store_fault fault) → (fault ≡ BadRows → Q)
-    → IfErr r (λ e. e ≡ BadSchema → Q)
-told (Ok x) fault is h = tt
-told (Err e) fault is h = λ bad. h (named fault (sym is ∙ bad))
 
 pub returns-in_err-kept-clause-none : goal.returns-in_err-kept-clause-none
 returns-in_err-kept-clause-none g c clean =
@@ -147,13 +138,59 @@ returns-clause-kept g c clean =
         sound = are.2;
         office = are.3;
       },
-      are.4,
-      sym (counted t are.0 are.1) ∙ sym (length-map adopted.0 counts_of) ∙ ap length adopted.1
-          ∙ sym long,
+      record {
+        session = are.4;
+        batches = sym (counted t are.0 are.1) ∙ sym (length-map adopted.0 counts_of)
+            ∙ ap length adopted.1 ∙ sym long;
+        drafts = found_drafts t are.0 are.1 are.2 are.3 c.in_ok-kept.kept are.4
+            c.in_ok-drafts.drafts c.in_ok-drafts.ensures.are c.in_ok-drafts.ensures.none;
+      },
     )
 
+-- rows of drafts are not refused after all
+pub returns-in_err-drafts-clause-none : goal.returns-in_err-drafts-clause-none
+returns-in_err-drafts-clause-none g c clean =
+    let old = c.args.conn.now in
+    let mid = c.adopt_tables.new.conn in
+    let db = (state g.S.Store old).now in
+    let found = c.in-Ok-Some.found in
+    let some : c.in-Ok-Some.field-0 ≡ Some found = search rules in
+    let clean_mid = c.check_bytes.ensures.clean clean in
+    let adopted = subst (IsAdopted db) some (c.in-Ok-Some.ensures.found clean_mid) in
+    let t = tables_of found adopted.0 in
+    let held = held_still g.S.Store old mid t (c.in-Ok-Some.ensures.same clean_mid) adopted.2 in
+    let short = c.in_ok-check_bytes.ensures.short clean t held
+    (adopted.1 ∙ sym c.deref.ensures.value) in
+    let are = c.in_ok-kept.ensures.are adopted.0
+    (found_batches db found adopted.0 adopted.1 adopted.2 short) in
+    let is : c.from_residual-in_err-drafts.result ≡ Err c.in_err-drafts.field-0.0
+    = search rules in
+    rw is (λ bad o kept. drafts_stand t are.0 are.1 are.2 are.3 c.in_ok-kept.kept are.4
+    (c.in_err-drafts.ensures.bad bad) c.in_err-drafts.ensures.loaded)
+
+pub returns-in_err-drafts-clause-keeps : goal.returns-in_err-drafts-clause-keeps
+returns-in_err-drafts-clause-keeps g c clean =
+    let old = c.args.conn.now in
+    let mid = c.adopt_tables.new.conn in
+    let found = c.in-Ok-Some.found in
+    let some : c.in-Ok-Some.field-0 ≡ Some found = search rules in
+    let clean_mid = c.check_bytes.ensures.clean clean in
+    let adopted = subst (IsAdopted (state g.S.Store old).now) some
+    (c.in-Ok-Some.ensures.found clean_mid) in
+    let same = c.in-Ok-Some.ensures.same clean_mid in
+    let held = held_still g.S.Store old mid (tables_of found adopted.0) same adopted.2 in
+    keeps_still g.S.Store old mid c.check_bytes.new.conn same
+    (c.check_bytes.ensures.kept clean (tables_of found adopted.0) held)
+
+pub returns-in_err-drafts-clause-survives : goal.returns-in_err-drafts-clause-survives
+returns-in_err-drafts-clause-survives g c =
+    survives_on (state g.S.Store c.args.conn.now) (state g.S.Store c.adopt_tables.new.conn)
+    (state g.S.Store c.check_bytes.new.conn) c.adopt_tables.ensures.survives
+    c.check_bytes.ensures.survives
+
 pub returns-clause-together : goal.returns-clause-together
-returns-clause-together g c = c.in_ok-kept.ensures.together
+returns-clause-together g c =
+    found_together _ c.in_ok-kept.ensures.together c.in_ok-drafts.ensures.suited
 
 of_database : {X : Type 0} (r : Result X StoreFault) (fault : RecordFault)
     → IsErrAnd r (λ e. e ≡ store_fault fault) → IfErr r IsOfDatabase

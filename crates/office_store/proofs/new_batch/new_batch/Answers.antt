@@ -2,16 +2,14 @@ use Rattle.std.proofs.Common.{◌≡◌, ◌<◌, ◌≤◌, Err, Ok, length, ma
 use Rattle.exam_model.specs.Enrolments.{Enrolled}
 use Rattle.office_enrolment.specs.AfterBatch.{Refuses, acting, after_batch, latest}
 use Rattle.office_enrolment.proofs.OfficeLemmas.{exams_after}
-use Rattle.office_model.specs.Batches.{newly_enrolled}
 use Rattle.office_store.specs.NewBatches.{Enrols, put_line}
-use Rattle.office_store.specs.Running.{IsFault}
 use Rattle.office_store.specs.declared.new_batch.PutLine.{PutLine}
 use Rattle.office_store.proofs.NewBatchLemmas.{latest_drafts, lines_refuse, made_exams, no_room}
 use Rattle.office_store.proofs.NewBatchLemmas.{same_enrolled, taken_back}
 use Rattle.office_store.proofs.new_batch.new_batch.Goals as goal
 
 pub returns-in_err-made-clause-enrols : goal.returns-in_err-made-clause-enrols
-returns-in_err-made-clause-enrols g c clean awake r kept memory count =
+returns-in_err-made-clause-enrols c db r kept memory is_memory =
     let fault = c.in_err-made.field-0.0 in
     let is : c.from_residual.result ≡ Err fault = search rules in
     let same = same_enrolled r c.args.instance.now c.args.enrolments.now memory in
@@ -21,38 +19,30 @@ returns-in_err-made-clause-enrols g c clean awake r kept memory count =
     (λ number bytes. lines_refuse number bytes c.args.changes.now r kept.office.enrolled.exams
     fault refuses)
 
-pub returns-then-batches-clause-enrols : goal.returns-then-batches-clause-enrols
-returns-then-batches-clause-enrols g c clean awake r kept memory count number bytes =
+pub returns-then-memory-clause-enrols : goal.returns-then-memory-clause-enrols
+returns-then-memory-clause-enrols c db r kept memory is_memory number bytes =
     let same = same_enrolled r c.args.instance.now c.args.enrolments.now memory in
     let after = ap (after_batch c.args.changes.now) same.1 ∙ c.in_ok-made.ensures.ok in
-    let many : 10000 ≤ c.args.batches = search rules in
+    let many : 10000 ≤ c.args.memory.now.batches = search rules in
+    let count : length r.batches ≡ c.args.memory.now.batches = is_memory.batches in
     no_room number bytes c.args.changes.now r kept.office.enrolled.exams _ after
     (omega (arith, many, count))
 
-pub drafts_anew-requires : goal.drafts_anew-requires
-drafts_anew-requires g c = record {
+pub drafts_after-requires : goal.drafts_after-requires
+drafts_after-requires c = record {
   exams = made_exams c.in_ok-made.made.enrolments c.args.enrolments.now _
       (exams_after c.args.changes.now c.args.enrolments.now _ c.in_ok-made.ensures.ok
       ∙ c.requires.exams);
+  suited = c.requires.suited;
 }
 
-pub returns-in_err-drafts-clause-enrols : goal.returns-in_err-drafts-clause-enrols
-returns-in_err-drafts-clause-enrols g c clean awake r kept memory count =
-    let fault = c.in_err-drafts.field-0.0 in
-    let is : c.from_residual-in_err-drafts.result ≡ Err fault = search rules in
-    let same = same_enrolled r c.args.instance.now c.args.enrolments.now memory in
-    let failed = c.in_err-drafts.ensures.fault clean kept.held kept.tables awake.0 r kept.stands
-    kept.sound kept.office same.0 in
-    subst (Enrols c.args.changes.now r) (sym is)
-    (λ number bytes. subst (IsFault (newly_enrolled number bytes c.args.changes.now r)) (sym failed)
-    tt)
-
 pub returns-clause-enrols : goal.returns-clause-enrols
-returns-clause-enrols g c clean awake r kept memory count =
+returns-clause-enrols c db r kept memory is_memory =
     let same = same_enrolled r c.args.instance.now c.args.enrolments.now memory in
     let changes = c.args.changes.now in
     let made = c.in_ok-made.made in
-    let few : c.args.batches < 10000 = search rules in
+    let few : c.args.memory.now.batches < 10000 = search rules in
+    let count : length r.batches ≡ c.args.memory.now.batches = is_memory.batches in
     let room : length r.batches < 10000 = omega (arith, few, count) in
     record {
       after = ap (after_batch changes) same.1 ∙ c.in_ok-made.ensures.ok
@@ -62,15 +52,18 @@ returns-clause-enrols g c clean awake r kept memory count =
           ∙ taken_back put_line (λ (it : PutLine). it.change) (λ x. refl) c.deref.result.now
           ∙ c.deref.ensures.value ∙ c.in_ok-made.ensures.acting
           ∙ ap (acting changes) (sym same.1);
-      drafts = λ some. latest_drafts r made.enrolments r.enrolments _
-          (c.in_ok-drafts.ensures.drafts clean kept.held kept.tables awake.0 r kept.stands
-          kept.sound kept.office same.0)
+      drafts = λ some. latest_drafts db r c.args.memory.now c.args.instance.now made.enrolments
+          c.in_ok-rescored.rescored _ kept is_memory same.0
+          (made_exams made.enrolments c.args.enrolments.now _
+          (exams_after changes c.args.enrolments.now _ c.in_ok-made.ensures.ok
+          ∙ c.requires.exams))
+          c.in_ok-rescored.ensures c.in_ok-drafts.ensures.rows
           (λ none. some (c.in_ok-lines.ensures
           ∙ ap (map put_line) (c.deref.ensures.value ∙ c.in_ok-made.ensures.copied.0 none)));
     }
 
 pub returns-clause-exams : goal.returns-clause-exams
-returns-clause-exams g c =
+returns-clause-exams c =
     made_exams c.in_ok-made.made.enrolments c.args.enrolments.now _
     (exams_after c.args.changes.now c.args.enrolments.now _ c.in_ok-made.ensures.ok
     ∙ c.requires.exams)

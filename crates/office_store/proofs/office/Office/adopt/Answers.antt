@@ -1,4 +1,4 @@
-use Rattle.std.proofs.Common.{◌≡◌, inr, refl, Bool, true, false, not}
+use Rattle.std.proofs.Common.{◌≡◌, inr, refl, Bool, true, false, not, rules}
 use Rattle.sqlite.specs.Held.{state}
 use Rattle.office_store.proofs.AdoptLemmas.{awake_still, kept_still, undone_reading}
 use Rattle.office_store.proofs.LeavingLemmas.{survives_same}
@@ -18,7 +18,6 @@ invariant_of-result g c =
             kept_still g.S.Store c.args.conn c.kept_in.new.conn here.0 (c.in-Ok.ensures.same clean)
                 here.1,
             here.2,
-            here.3,
           )),
       c.in-Ok.ensures.together,
     )
@@ -31,10 +30,19 @@ returns-in-Ok-clause-adopted g c clean =
           here.1,
     )
 
-pub returns-in-Ok-clause-awake : goal.returns-in-Ok-clause-awake
-returns-in-Ok-clause-awake g c clean =
-    awake_still g.S.Store c.args.conn c.kept_in.new.conn (c.in-Ok.ensures.same clean)
-    (c.is_autocommit.ensures.settled c.if-not-is_autocommit.false) (c.in-Ok.ensures.open clean)
+pub returns-in-Ok-clause-leaves : goal.returns-in-Ok-clause-leaves
+returns-in-Ok-clause-leaves g c = record {
+  awake = λ clean. awake_still g.S.Store c.args.conn c.kept_in.new.conn
+      (c.in-Ok.ensures.same clean) (c.is_autocommit.ensures.settled c.if-not-is_autocommit.false)
+      (c.in-Ok.ensures.open clean);
+  survives = c.kept_in.ensures.survives;
+}
+
+pub returns-in-Err-clause-leaves : goal.returns-in-Err-clause-leaves
+returns-in-Err-clause-leaves g c = record {
+  awake = search rules;
+  survives = c.kept_in.ensures.survives;
+}
 
 pub returns-in-Err-clause-no_office : goal.returns-in-Err-clause-no_office
 returns-in-Err-clause-no_office g c bad clean o kept = c.in-Err.ensures.none clean bad o kept
@@ -44,7 +52,9 @@ returns-in-Err-clause-undone g c =
     inr (λ clean. undone_reading (state g.S.Store c.args.conn) (state g.S.Store c.kept_in.new.conn)
     (c.is_autocommit.ensures.settled c.if-not-is_autocommit.false) (c.in-Err.ensures.keeps clean))
 
-pub returns-then-not-is_autocommit-clause-survives
-    : goal.returns-then-not-is_autocommit-clause-survives
-returns-then-not-is_autocommit-clause-survives g c =
-    survives_same (state g.S.Store c.args.conn)
+pub returns-then-not-is_autocommit-clause-leaves
+    : goal.returns-then-not-is_autocommit-clause-leaves
+returns-then-not-is_autocommit-clause-leaves g c = record {
+  awake = search rules;
+  survives = survives_same (state g.S.Store c.args.conn);
+}

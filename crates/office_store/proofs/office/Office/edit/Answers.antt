@@ -1,183 +1,275 @@
-use Rattle.std.proofs.Common.{rules, ◌≡◌, ◌∙◌, Err, subst, sym, Ok, refl}
+use Rattle.std.proofs.Common.{rules, ◌≡◌, ◌∙◌, Err, Ok, ap, arith, not, refl, subst, sym}
+use Rattle.std.proofs.lemmas.Result.{err_from_is_err_and}
 use Rattle.sqlite.specs.Held.{state}
-use Rattle.exam_draft.specs.Judged.{edited_exams}
-use Rattle.office_model.specs.DraftCommands.{draft_edited}
-use Rattle.office_store.specs.Running.{Runs}
-use Rattle.office_store.proofs.CommandLemmas.{rests, runs, stays_by, stays_undone}
-use Rattle.office_store.proofs.EditCallLemmas.{edit_moves}
-use Rattle.office_store.proofs.RunLemmas.{now_still, still_then}
-use Rattle.office_store.proofs.LeavingLemmas.{survives_more, survives_on, is_failed, leaves_by}
+use Rattle.sqlite.specs.State.{HasCleanDisk}
 use Rattle.exam_score.specs.Penalty.{total_of}
+use Rattle.office_tables.specs.Alterations.{after_all}
+use Rattle.office_tables.specs.Draft.{with_draft, without_draft}
+use Rattle.office_tables.specs.Tables.{Tables}
+use Rattle.office_model.specs.DraftCommands.{draft_edited}
+use Rattle.office_model.specs.declared.fault.StoreFault.TheVariants.{Store}
+use Rattle.office_store.specs.Running.{Runs}
+use Rattle.office_store.proofs.CommandLemmas.{awake_inside, refuses_on, rests, runs, runs_then}
+use Rattle.office_store.proofs.CommandLemmas.{stays_on, stays_then}
+use Rattle.office_store.proofs.EditCallLemmas.{edit_moves, edit_remembers}
+use Rattle.office_store.proofs.RunLemmas.{made_on, rest_failed, rest_read, still_failed, still_read}
+use Rattle.office_store.proofs.SlotLemmas.{move_made}
+use Rattle.office_store.proofs.TogetherLemmas.{draft_together}
+use Rattle.office_store.proofs.LeavingLemmas.{changed_on, is_failed, survives_by, survives_at}
+use Rattle.office_store.proofs.LeavingLemmas.{survives_more, survives_on}
 use Rattle.office_store.proofs.office.Office.edit.Goals as goal
 
-pub returns-in_err-timetable-clause-runs : goal.returns-in_err-timetable-clause-runs
-returns-in_err-timetable-clause-runs g c =
-    let fault = c.in_err-timetable.field-0.0 in
-    let is : c.from_residual-in_err-timetable.result ≡ Err fault = search rules in
-    subst (Runs g.S.Store (draft_edited c.args.number c.args.edit) c.args.self.now
-    c.edited_draft.new.self) (sym is)
-    (λ clean o now.
-    let before = c.edited_draft.ensures.clean clean in
-    let awake = c.in_ok-found.ensures.awake before in
-    let here = stays_by g.S.Store c.args.self.now c.draft_rows.new.self
-    c.in_ok-found.ensures.still before o now in (
-      c.in_err-timetable.ensures.edits clean awake o (here awake.0)
-          (c.in_ok-found.ensures.rows before o (here awake.0)),
-      now_still (state g.S.Store c.draft_rows.new.self) (state g.S.Store c.edited_draft.new.self) o
-          (c.edited_draft.ensures.still clean) here,
-    ))
+pub returns-in_err-look-clause-leaves : goal.returns-in_err-look-clause-leaves
+returns-in_err-look-clause-leaves g c = record {
+  awake = search rules;
+  survives = survives_more (state g.S.Store c.args.self.now) (state g.S.Store c.look.new.self) _
+      c.look.ensures.survives;
+}
 
--- the transaction failed
+-- the edit is refused
+pub invariant_of-self : goal.invariant_of-self
+invariant_of-self g c = (
+  c.edited_draft.ensures.read.mode c.self.invariant.0,
+  rest_read (state g.S.Store c.self.inside.conn) (state g.S.Store c.edited_draft.new.conn)
+      c.self.inside.memory c.self.invariant.1 c.edited_draft.ensures.read.clean
+      (c.is_autocommit-at_rest.ensures.settled
+      (c.is_autocommit-at_rest.ensures.value ∙ ap not c.self.invariant.0))
+      c.edited_draft.ensures.read.was_open c.edited_draft.ensures.read.kept,
+  c.self.invariant.2,
+)
+
+pub returns-in_err-new-clause-runs : goal.returns-in_err-new-clause-runs
+returns-in_err-new-clause-runs g c =
+    let start = c.look.new.self in
+    let inside = c.self.inside.conn in
+    let after = c.edited_draft.new.conn in
+    let read = c.edited_draft.ensures.read in
+    let fault = c.in_err-new.field-0.0 in
+    let command = draft_edited c.args.number c.args.edit in
+    let is : c.from_residual-in_err-new.result ≡ Err fault = search rules in
+    subst (Runs g.S.Store command c.args.self.now after) (sym is)
+    (runs_then g.S.Store command c.args.self.now start after (Err fault)
+    c.in_ok-look.ensures.still
+    (λ k. subst (λ h. HasCleanDisk (state g.S.Store h)) c.self.view_is (read.clean k))
+    (refuses_on g.S.Store command start inside after c.self.inside.memory
+    c.self.view_is c.self.invariant.1 c.in_ok-look.ensures.awake read.clean
+    (still_read (state g.S.Store inside) (state g.S.Store after) c.self.inside.memory
+    c.self.invariant.1 read.clean
+    (c.is_autocommit-at_rest.ensures.settled
+    (c.is_autocommit-at_rest.ensures.value ∙ ap not c.self.invariant.0))
+    read.was_open read.kept)
+    fault
+    (λ k o here is. c.in_err-new.ensures.edits k
+    (awake_inside g.S.Store start inside c.self.view_is c.in_ok-look.ensures.awake (read.clean k))
+    o here is)))
+
+pub returns-in_err-new-clause-stays : goal.returns-in_err-new-clause-stays
+returns-in_err-new-clause-stays g c =
+    let start = c.look.new.self in
+    let inside = c.self.inside.conn in
+    let after = c.edited_draft.new.conn in
+    let read = c.edited_draft.ensures.read in
+    stays_then g.S.Store c.args.self.now start after c.from_residual-in_err-new.result
+    c.in_ok-look.ensures.still
+    (λ k. subst (λ h. HasCleanDisk (state g.S.Store h)) c.self.view_is (read.clean k))
+    (stays_on g.S.Store start inside after c.self.view_is
+    (still_read (state g.S.Store inside) (state g.S.Store after) c.self.inside.memory
+    c.self.invariant.1 read.clean
+    (c.is_autocommit-at_rest.ensures.settled
+    (c.is_autocommit-at_rest.ensures.value ∙ ap not c.self.invariant.0))
+    read.was_open read.kept)
+    c.from_residual-in_err-new.result)
+
+-- the transaction fails
+pub invariant_of-self-in_err-put : goal.invariant_of-self-in_err-put
+invariant_of-self-in_err-put g c = (
+  c.put.ensures.rests,
+  rest_failed g.S.Store c.self.inside.conn c.edited_draft.new.conn c.put.new.conn
+      c.self.inside.memory c.self.invariant.1
+      (c.is_autocommit-at_rest.ensures.settled
+      (c.is_autocommit-at_rest.ensures.value ∙ ap not c.self.invariant.0))
+      c.edited_draft.ensures.read c.in_ok-new.ensures.same c.put.ensures.clean
+      c.in_err-put.ensures.undone,
+  c.self.invariant.2,
+)
+
+pub returns-in_err-put-clause-runs : goal.returns-in_err-put-clause-runs
+returns-in_err-put-clause-runs g c =
+    let start = c.look.new.self in
+    let inside = c.self.inside.conn in
+    let mid = c.edited_draft.new.conn in
+    let after = c.put.new.conn in
+    let read = c.edited_draft.ensures.read in
+    let command = draft_edited c.args.number c.args.edit in
+    let given = err_from_is_err_and c.from_residual-in_err-put.result
+    c.from_residual-in_err-put.ensures.1 in
+    subst (Runs g.S.Store command c.args.self.now after)
+    (sym (given.1 ∙ ap Err given.2))
+    (runs_then g.S.Store command c.args.self.now start after (Err Store)
+    c.in_ok-look.ensures.still
+    (λ k. subst (λ h. HasCleanDisk (state g.S.Store h)) c.self.view_is
+    (read.clean (c.put.ensures.clean k)))
+    (refuses_on g.S.Store command start inside after c.self.inside.memory
+    c.self.view_is c.self.invariant.1 c.in_ok-look.ensures.awake
+    (λ k. read.clean (c.put.ensures.clean k))
+    (still_failed g.S.Store inside mid after c.self.inside.memory c.self.invariant.1
+    (c.is_autocommit-at_rest.ensures.settled
+    (c.is_autocommit-at_rest.ensures.value ∙ ap not c.self.invariant.0))
+    read c.in_ok-new.ensures.same c.put.ensures.clean c.in_err-put.ensures.undone)
+    Store (λ k o kept is. tt)))
+
 pub returns-in_err-put-clause-stays : goal.returns-in_err-put-clause-stays
 returns-in_err-put-clause-stays g c =
-    stays_undone g.S.Store c.args.self.now c.edited_draft.new.self c.self.inside.conn
-    c.put.new.conn c.self.view_is
-    (λ k. still_then (state g.S.Store c.args.self.now) (state g.S.Store c.draft_rows.new.self)
-    (state g.S.Store c.edited_draft.new.self)
-    (c.in_ok-found.ensures.still (c.edited_draft.ensures.clean k)) (c.edited_draft.ensures.still k))
-    (λ k. c.in_ok-timetable.ensures.awake k
-    (c.in_ok-found.ensures.awake (c.edited_draft.ensures.clean k)))
-    c.put.ensures.clean c.in_err-put.ensures.undone c.from_residual-in_err-put.result
+    let start = c.look.new.self in
+    let inside = c.self.inside.conn in
+    let after = c.put.new.conn in
+    let read = c.edited_draft.ensures.read in
+    stays_then g.S.Store c.args.self.now start after c.from_residual-in_err-put.result
+    c.in_ok-look.ensures.still
+    (λ k. subst (λ h. HasCleanDisk (state g.S.Store h)) c.self.view_is
+    (read.clean (c.put.ensures.clean k)))
+    (stays_on g.S.Store start inside after c.self.view_is
+    (still_failed g.S.Store inside c.edited_draft.new.conn after c.self.inside.memory
+    c.self.invariant.1
+    (c.is_autocommit-at_rest.ensures.settled
+    (c.is_autocommit-at_rest.ensures.value ∙ ap not c.self.invariant.0))
+    read c.in_ok-new.ensures.same c.put.ensures.clean c.in_err-put.ensures.undone)
+    c.from_residual-in_err-put.result)
 
 pub returns-clause-runs : goal.returns-clause-runs
 returns-clause-runs g c =
-    let exams : c.deref.result.now ≡ edited_exams c.args.edit = search rules in
-    runs g.S.Store (draft_edited c.args.number c.args.edit) c.args.self.now
-    c.edited_draft.new.self c.self.inside.conn c.self.inside.kept c.self.view_is c.self.invariant.1
-    (λ k. c.in_ok-timetable.ensures.awake k
-    (c.in_ok-found.ensures.awake (c.edited_draft.ensures.clean k)))
-    (λ k. still_then (state g.S.Store c.args.self.now) (state g.S.Store c.draft_rows.new.self)
-    (state g.S.Store c.edited_draft.new.self)
-    (c.in_ok-found.ensures.still (c.edited_draft.ensures.clean k)) (c.edited_draft.ensures.still k))
-    c.put.new.conn c.self.inside.kept (λ k. k) c.total.result c.put.ensures.clean
-    (λ k. edit_moves g.S.Store c.draft_rows.new.self c.edited_draft.new.self c.self.inside.conn
-    c.self.view_is c.args.number c.args.edit (state g.S.Store c.put.new.conn).now
-    c.self.inside.kept
-    (c.in_ok-timetable.timetable, c.in_ok-timetable.parts) c.draft_row-row.result c.total.result
-    c.deref.result.now c.deref-2.result.now
-    (λ k. c.in_ok-found.ensures.awake (c.edited_draft.ensures.clean k))
-    c.edited_draft.ensures.still
-    (λ k. c.in_ok-timetable.ensures.awake k
-    (c.in_ok-found.ensures.awake (c.edited_draft.ensures.clean k)))
-    (λ k o kept. c.in_ok-timetable.ensures.edits k
-    (c.in_ok-found.ensures.awake (c.edited_draft.ensures.clean k)) o kept
-    (c.in_ok-found.ensures.rows (c.edited_draft.ensures.clean k) o kept))
-    c.draft_row-row.ensures.number c.draft_row-row.ensures.parts c.total.ensures.total exams
-    (c.deref-2.ensures.value ∙ c.in_ok-places.ensures)
-    (c.put.ensures.clean k) (c.in_ok-put.ensures.done k).makes)
+    let start = c.look.new.self in
+    let inside = c.self.inside.conn in
+    let mid = c.edited_draft.new.conn in
+    let after = c.put.new.conn in
+    let read = c.edited_draft.ensures.read in
+    let d = c.args.number in
+    let draft = c.in_ok-new.new.draft in
+    let row = c.draft_row.result in
+    let places = c.deref.result.now in
+    let make : Tables → Tables
+    = λ t. after_all move_made places (with_draft row (without_draft d t)) in
+    runs g.S.Store (draft_edited d c.args.edit) c.args.self.now start inside
+    c.self.inside.memory c.self.view_is c.self.invariant.1 c.in_ok-look.ensures.awake
+    c.in_ok-look.ensures.still after c.total.result (λ k. read.clean (c.put.ensures.clean k))
+    (λ k. let awake = awake_inside g.S.Store start inside c.self.view_is c.in_ok-look.ensures.awake
+    (read.clean (c.put.ensures.clean k)) in
+    edit_moves (state g.S.Store inside).now (state g.S.Store after).now c.self.inside.memory d
+    c.args.edit draft row c.total.result places
+    (λ o here is. c.in_ok-new.ensures.edits (c.put.ensures.clean k) awake o here is)
+    c.draft_row.ensures.number c.draft_row.ensures.parts c.total.ensures.total
+    (c.deref.ensures.value ∙ c.in_ok-new.ensures.places)
+    (made_on g.S.Store inside mid (state g.S.Store after).now c.in_ok-new.ensures.same
+    (c.put.ensures.clean k) awake.0 make (c.in_ok-put.ensures.done k).makes))
 
 pub invariant_of-self-2 : goal.invariant_of-self-2
 invariant_of-self-2 g c =
-    let exams : c.deref.result.now ≡ edited_exams c.args.edit = search rules in (
+    let start = c.look.new.self in
+    let inside = c.self.inside.conn in
+    let mid = c.edited_draft.new.conn in
+    let after = c.put.new.conn in
+    let read = c.edited_draft.ensures.read in
+    let d = c.args.number in
+    let draft = c.in_ok-new.new.draft in
+    let row = c.draft_row.result in
+    let places = c.deref.result.now in
+    let make : Tables → Tables
+    = λ t. after_all move_made places (with_draft row (without_draft d t)) in (
       c.in_ok-put.ensures.rests,
-      rests (draft_edited c.args.number c.args.edit) (state g.S.Store c.self.inside.conn)
-          (state g.S.Store c.put.new.conn) c.self.inside.kept c.self.inside.kept
-          (λ k. k) c.total.result c.self.invariant.1 c.put.ensures.clean
-          (λ k. (c.in_ok-put.ensures.done k).was_open)
-          (λ k. edit_moves g.S.Store c.draft_rows.new.self c.edited_draft.new.self
-          c.self.inside.conn
-          c.self.view_is c.args.number c.args.edit (state g.S.Store c.put.new.conn).now
-          c.self.inside.kept
-          (c.in_ok-timetable.timetable, c.in_ok-timetable.parts)
-          c.draft_row-row.result c.total.result
-          c.deref.result.now c.deref-2.result.now
-          (λ k. c.in_ok-found.ensures.awake (c.edited_draft.ensures.clean k))
-          c.edited_draft.ensures.still
-          (λ k. c.in_ok-timetable.ensures.awake k
-          (c.in_ok-found.ensures.awake (c.edited_draft.ensures.clean k)))
-          (λ k o kept. c.in_ok-timetable.ensures.edits k
-          (c.in_ok-found.ensures.awake (c.edited_draft.ensures.clean k)) o kept
-          (c.in_ok-found.ensures.rows (c.edited_draft.ensures.clean k) o kept))
-          c.draft_row-row.ensures.number c.draft_row-row.ensures.parts c.total.ensures.total exams
-          (c.deref-2.ensures.value ∙ c.in_ok-places.ensures)
-          (c.put.ensures.clean k) (c.in_ok-put.ensures.done k).makes),
-      c.self.invariant.2,
+      rests (draft_edited d c.args.edit) (state g.S.Store inside) (state g.S.Store after)
+          c.self.inside.memory c.put-2.new.self c.total.result c.self.invariant.1
+          (λ k. read.clean (c.put.ensures.clean k))
+          (λ k. (awake_inside g.S.Store start inside c.self.view_is c.in_ok-look.ensures.awake
+          (read.clean (c.put.ensures.clean k))).0)
+          (λ k. let awake = awake_inside g.S.Store start inside c.self.view_is
+          c.in_ok-look.ensures.awake (read.clean (c.put.ensures.clean k)) in
+          edit_moves (state g.S.Store inside).now (state g.S.Store after).now
+          c.self.inside.memory d c.args.edit draft row c.total.result places
+          (λ o here is. c.in_ok-new.ensures.edits (c.put.ensures.clean k) awake o here is)
+          c.draft_row.ensures.number c.draft_row.ensures.parts c.total.ensures.total
+          (c.deref.ensures.value ∙ c.in_ok-new.ensures.places)
+          (made_on g.S.Store inside mid (state g.S.Store after).now c.in_ok-new.ensures.same
+          (c.put.ensures.clean k) awake.0 make (c.in_ok-put.ensures.done k).makes))
+          (λ k. let awake = awake_inside g.S.Store start inside c.self.view_is
+          c.in_ok-look.ensures.awake (read.clean (c.put.ensures.clean k)) in
+          edit_remembers (state g.S.Store inside).now c.self.inside.memory c.put-2.new.self d
+          c.args.edit draft c.total.result
+          (λ o here is. c.in_ok-new.ensures.edits (c.put.ensures.clean k) awake o here is)
+          c.total.ensures.total c.put-2.ensures.put),
+      draft_together d c.self.inside.memory c.put-2.new.self draft c.self.invariant.2
+          c.in_ok-new.ensures.suits c.put-2.ensures.put c.put-2.ensures.beyond,
     )
 
-pub returns-in_err-found-clause-survives : goal.returns-in_err-found-clause-survives
-returns-in_err-found-clause-survives g c =
-    survives_more (state g.S.Store c.args.self.now) (state g.S.Store c.draft_rows.new.self) _
-    c.draft_rows.ensures.survives
+pub edited_draft-requires : goal.edited_draft-requires
+edited_draft-requires g c = record { together = c.self.invariant.2 }
 
-pub returns-in_err-timetable-clause-survives : goal.returns-in_err-timetable-clause-survives
-returns-in_err-timetable-clause-survives g c =
-    survives_more (state g.S.Store c.args.self.now) (state g.S.Store c.edited_draft.new.self) _
-    (survives_on (state g.S.Store c.args.self.now) (state g.S.Store c.draft_rows.new.self)
-    (state g.S.Store c.edited_draft.new.self) c.draft_rows.ensures.survives
-    c.edited_draft.ensures.survives)
+pub returns-in_err-new-clause-leaves : goal.returns-in_err-new-clause-leaves
+returns-in_err-new-clause-leaves g c = record {
+  awake = search rules;
+  survives = survives_more (state g.S.Store c.args.self.now) (state g.S.Store
+      c.edited_draft.new.conn) _
+      (survives_on (state g.S.Store c.args.self.now) (state g.S.Store c.look.new.self)
+      (state g.S.Store c.edited_draft.new.conn) c.look.ensures.survives
+      (survives_at g.S.Store c.look.new.self c.self.inside.conn c.edited_draft.new.conn _
+      c.self.view_is c.edited_draft.ensures.read.survives));
+}
 
-pub returns-in_err-exams-clause-survives : goal.returns-in_err-exams-clause-survives
-returns-in_err-exams-clause-survives g c =
-    survives_more (state g.S.Store c.args.self.now) (state g.S.Store c.edited_draft.new.self) _
-    (survives_on (state g.S.Store c.args.self.now) (state g.S.Store c.draft_rows.new.self)
-    (state g.S.Store c.edited_draft.new.self) c.draft_rows.ensures.survives
-    c.edited_draft.ensures.survives)
+pub returns-in_err-put-clause-leaves : goal.returns-in_err-put-clause-leaves
+returns-in_err-put-clause-leaves g c = record {
+  awake = search rules;
+  survives = let start = c.look.new.self in
+      let inside = c.self.inside.conn in
+      let mid = c.edited_draft.new.conn in
+      let after = c.put.new.conn in
+      let read = c.edited_draft.ensures.read in
+      let d = c.args.number in
+      let draft = c.in_ok-new.new.draft in
+      let row = c.draft_row.result in
+      let places = c.deref.result.now in
+      let make : Tables → Tables
+      = λ t. after_all move_made places (with_draft row (without_draft d t)) in
+      survives_by g.S.Store (draft_edited d c.args.edit) c.args.self.now start inside after
+      c.self.inside.memory c.self.view_is c.self.invariant.1 c.in_ok-look.ensures.awake
+      c.in_ok-look.ensures.still c.look.ensures.survives make (total_of draft.parts)
+      (changed_on g.S.Store inside mid after read.survives c.in_ok-new.ensures.same
+      (λ k. (awake_inside g.S.Store start inside c.self.view_is c.in_ok-look.ensures.awake k).0)
+      make c.put.ensures.survives)
+      (λ k found changed. let awake = awake_inside g.S.Store start inside c.self.view_is
+      c.in_ok-look.ensures.awake (read.clean (c.put.ensures.clean k)) in
+      edit_moves (state g.S.Store inside).now _ c.self.inside.memory d c.args.edit draft row
+      (total_of draft.parts) places
+      (λ o here is. c.in_ok-new.ensures.edits (c.put.ensures.clean k) awake o here is)
+      c.draft_row.ensures.number c.draft_row.ensures.parts refl (c.deref.ensures.value
+      ∙ c.in_ok-new.ensures.places) changed)
+      c.from_residual-in_err-put.result (is_failed _ c.from_residual-in_err-put.ensures.1);
+}
 
-pub returns-in_err-places-clause-survives : goal.returns-in_err-places-clause-survives
-returns-in_err-places-clause-survives g c =
-    survives_more (state g.S.Store c.args.self.now) (state g.S.Store c.edited_draft.new.self) _
-    (survives_on (state g.S.Store c.args.self.now) (state g.S.Store c.draft_rows.new.self)
-    (state g.S.Store c.edited_draft.new.self) c.draft_rows.ensures.survives
-    c.edited_draft.ensures.survives)
-
-pub returns-in_err-put-clause-survives : goal.returns-in_err-put-clause-survives
-returns-in_err-put-clause-survives g c =
-    let exams : c.deref.result.now ≡ edited_exams c.args.edit = search rules in
-    let first = c.draft_rows.new.self in
-    let mid = c.edited_draft.new.self in
-    leaves_by g.S.Store (draft_edited c.args.number c.args.edit) c.args.self.now mid
-    c.self.inside.conn c.put.new.conn c.self.inside.kept c.self.inside.kept (λ k. k) c.self.view_is
-    c.self.invariant.1
-    (λ k. c.in_ok-timetable.ensures.awake k
-    (c.in_ok-found.ensures.awake (c.edited_draft.ensures.clean k)))
-    (λ k. still_then (state g.S.Store c.args.self.now) (state g.S.Store first)
-    (state g.S.Store mid) (c.in_ok-found.ensures.still (c.edited_draft.ensures.clean k))
-    (c.edited_draft.ensures.still k))
-    (survives_on (state g.S.Store c.args.self.now) (state g.S.Store first) (state g.S.Store mid)
-    c.draft_rows.ensures.survives c.edited_draft.ensures.survives)
-    _ (total_of c.in_ok-timetable.parts) c.put.ensures.survives
-    (λ k found changed. edit_moves g.S.Store first mid c.self.inside.conn c.self.view_is
-    c.args.number c.args.edit _ c.self.inside.kept
-    (c.in_ok-timetable.timetable, c.in_ok-timetable.parts) c.draft_row-row.result
-    (total_of c.in_ok-timetable.parts) c.deref.result.now c.deref-2.result.now
-    (λ k. c.in_ok-found.ensures.awake (c.edited_draft.ensures.clean k))
-    c.edited_draft.ensures.still
-    (λ k. c.in_ok-timetable.ensures.awake k
-    (c.in_ok-found.ensures.awake (c.edited_draft.ensures.clean k)))
-    (λ k o kept. c.in_ok-timetable.ensures.edits k
-    (c.in_ok-found.ensures.awake (c.edited_draft.ensures.clean k)) o kept
-    (c.in_ok-found.ensures.rows (c.edited_draft.ensures.clean k) o kept))
-    c.draft_row-row.ensures.number c.draft_row-row.ensures.parts refl exams
-    (c.deref-2.ensures.value ∙ c.in_ok-places.ensures) (c.put.ensures.clean k) changed)
-    c.from_residual-in_err-put.result (is_failed _ c.from_residual-in_err-put.ensures.1)
-
-pub returns-clause-survives : goal.returns-clause-survives
-returns-clause-survives g c =
-    let exams : c.deref.result.now ≡ edited_exams c.args.edit = search rules in
-    let first = c.draft_rows.new.self in
-    let mid = c.edited_draft.new.self in
-    leaves_by g.S.Store (draft_edited c.args.number c.args.edit) c.args.self.now mid
-    c.self.inside.conn c.put.new.conn c.self.inside.kept c.self.inside.kept (λ k. k) c.self.view_is
-    c.self.invariant.1
-    (λ k. c.in_ok-timetable.ensures.awake k
-    (c.in_ok-found.ensures.awake (c.edited_draft.ensures.clean k)))
-    (λ k. still_then (state g.S.Store c.args.self.now) (state g.S.Store first)
-    (state g.S.Store mid) (c.in_ok-found.ensures.still (c.edited_draft.ensures.clean k))
-    (c.edited_draft.ensures.still k))
-    (survives_on (state g.S.Store c.args.self.now) (state g.S.Store first) (state g.S.Store mid)
-    c.draft_rows.ensures.survives c.edited_draft.ensures.survives)
-    _ (total_of c.in_ok-timetable.parts) c.put.ensures.survives
-    (λ k found changed. edit_moves g.S.Store first mid c.self.inside.conn c.self.view_is
-    c.args.number c.args.edit _ c.self.inside.kept
-    (c.in_ok-timetable.timetable, c.in_ok-timetable.parts) c.draft_row-row.result
-    (total_of c.in_ok-timetable.parts) c.deref.result.now c.deref-2.result.now
-    (λ k. c.in_ok-found.ensures.awake (c.edited_draft.ensures.clean k))
-    c.edited_draft.ensures.still
-    (λ k. c.in_ok-timetable.ensures.awake k
-    (c.in_ok-found.ensures.awake (c.edited_draft.ensures.clean k)))
-    (λ k o kept. c.in_ok-timetable.ensures.edits k
-    (c.in_ok-found.ensures.awake (c.edited_draft.ensures.clean k)) o kept
-    (c.in_ok-found.ensures.rows (c.edited_draft.ensures.clean k) o kept))
-    c.draft_row-row.ensures.number c.draft_row-row.ensures.parts refl exams
-    (c.deref-2.ensures.value ∙ c.in_ok-places.ensures) (c.put.ensures.clean k) changed)
-    (Ok c.total.result) tt
+pub returns-clause-leaves : goal.returns-clause-leaves
+returns-clause-leaves g c = record {
+  awake = search rules;
+  survives = let start = c.look.new.self in
+      let inside = c.self.inside.conn in
+      let mid = c.edited_draft.new.conn in
+      let after = c.put.new.conn in
+      let read = c.edited_draft.ensures.read in
+      let d = c.args.number in
+      let draft = c.in_ok-new.new.draft in
+      let row = c.draft_row.result in
+      let places = c.deref.result.now in
+      let make : Tables → Tables
+      = λ t. after_all move_made places (with_draft row (without_draft d t)) in
+      survives_by g.S.Store (draft_edited d c.args.edit) c.args.self.now start inside after
+      c.self.inside.memory c.self.view_is c.self.invariant.1 c.in_ok-look.ensures.awake
+      c.in_ok-look.ensures.still c.look.ensures.survives make (total_of draft.parts)
+      (changed_on g.S.Store inside mid after read.survives c.in_ok-new.ensures.same
+      (λ k. (awake_inside g.S.Store start inside c.self.view_is c.in_ok-look.ensures.awake k).0)
+      make c.put.ensures.survives)
+      (λ k found changed. let awake = awake_inside g.S.Store start inside c.self.view_is
+      c.in_ok-look.ensures.awake (read.clean (c.put.ensures.clean k)) in
+      edit_moves (state g.S.Store inside).now _ c.self.inside.memory d c.args.edit draft row
+      (total_of draft.parts) places
+      (λ o here is. c.in_ok-new.ensures.edits (c.put.ensures.clean k) awake o here is)
+      c.draft_row.ensures.number c.draft_row.ensures.parts refl (c.deref.ensures.value
+      ∙ c.in_ok-new.ensures.places) changed)
+      (Ok c.total.result) tt;
+}

@@ -8,7 +8,7 @@ use Rattle.office_store.proofs.CommandLemmas.{stays_by}
 use Rattle.office_store.proofs.KeptBatchLemmas.{again_does, no_row_of}
 use Rattle.office_store.proofs.ReadLemmas.{does_now}
 use Rattle.office_store.proofs.RunLemmas.{still_then}
-use Rattle.office_store.proofs.LeavingLemmas.{survives_more, survives_same, leaves_then}
+use Rattle.office_store.proofs.LeavingLemmas.{survives_more, survives_same, survives_next}
 use Rattle.office_store.proofs.office.Office.enrol_batch.Goals as goal
 
 -- a number that is kept
@@ -54,23 +54,33 @@ enrol_new-requires g c = record {
   awake = λ clean. c.in_ok-kept.ensures.awake clean;
 }
 
-pub returns-in-Err-clause-survives : goal.returns-in-Err-clause-survives
-returns-in-Err-clause-survives g c =
-    survives_more (state g.S.Store c.args.self.now) (state g.S.Store c.args.self.now) _
-    (survives_same (state g.S.Store c.args.self.now))
+pub returns-in-Err-clause-leaves : goal.returns-in-Err-clause-leaves
+returns-in-Err-clause-leaves g c = record {
+  awake = search rules;
+  survives = survives_more (state g.S.Store c.args.self.now) (state g.S.Store c.args.self.now) _
+      (survives_same (state g.S.Store c.args.self.now));
+}
 
-pub returns-in_err-kept-clause-survives : goal.returns-in_err-kept-clause-survives
-returns-in_err-kept-clause-survives g c =
-    survives_more (state g.S.Store c.args.self.now) (state g.S.Store c.kept_batch.new.self) _
-    c.kept_batch.ensures.survives
+pub returns-in_err-kept-clause-leaves : goal.returns-in_err-kept-clause-leaves
+returns-in_err-kept-clause-leaves g c = record {
+  awake = search rules;
+  survives = survives_more (state g.S.Store c.args.self.now) (state g.S.Store
+      c.kept_batch.new.self) _
+      c.kept_batch.ensures.survives;
+}
 
-pub returns-in-Some-clause-survives : goal.returns-in-Some-clause-survives
-returns-in-Some-clause-survives g c =
-    survives_more (state g.S.Store c.args.self.now) (state g.S.Store c.kept_batch.new.self) _
-    c.kept_batch.ensures.survives
+pub returns-in-Some-clause-leaves : goal.returns-in-Some-clause-leaves
+returns-in-Some-clause-leaves g c = record {
+  awake = search rules;
+  survives = survives_more (state g.S.Store c.args.self.now) (state g.S.Store
+      c.kept_batch.new.self) _
+      c.kept_batch.ensures.survives;
+}
 
-pub returns-clause-survives : goal.returns-clause-survives
-returns-clause-survives g c =
-    leaves_then g.S.Store (batch_enrolled c.args.number c.args.text.now) c.args.self.now
-    c.kept_batch.new.self c.enrol_new.new.self c.enrol_new.result c.kept_batch.ensures.survives
-    c.in_ok-kept.ensures.still c.enrol_new.ensures.clean c.enrol_new.ensures.survives
+pub returns-clause-leaves : goal.returns-clause-leaves
+returns-clause-leaves g c = record {
+  awake = search rules;
+  survives = survives_next g.S.Store (batch_enrolled c.args.number c.args.text.now) c.args.self.now
+      c.kept_batch.new.self c.enrol_new.new.self c.enrol_new.result c.kept_batch.ensures.survives
+      c.in_ok-kept.ensures.still c.enrol_new.ensures.clean c.enrol_new.ensures.leaves.survives;
+}

@@ -8,17 +8,17 @@ use Rattle.office_store.proofs.office.Office.her_exams.Goals as goal
 
 pub returns-in_default-clause-reads : goal.returns-in_default-clause-reads
 returns-in_default-clause-reads g c =
-    tells g.S.Store c.args.self.now c.her_rows.new.self c.self.inside.conn c.self.inside.kept
+    tells g.S.Store c.args.self.now c.her_rows.new.self c.self.inside.conn c.self.inside.memory
     c.self.view_is c.self.invariant.1 c.in_ok-found.ensures.awake c.in_ok-found.ensures.still
     (λ o. shown_exams (view_of c.args.student o)) (listed (Ok c.new.result))
-    (λ k o kept is. nothing_told o c.self.inside.kept c.in_default.is is c.args.student
+    (λ k o kept is. nothing_told o c.self.inside.memory.kept c.in_default.is is.session c.args.student
     (listed (Ok c.new.result)) c.new.ensures.items)
 
 pub returns-clause-reads : goal.returns-clause-reads
 returns-clause-reads g c =
-    tells g.S.Store c.args.self.now c.her_rows.new.self c.self.inside.conn c.self.inside.kept
+    tells g.S.Store c.args.self.now c.her_rows.new.self c.self.inside.conn c.self.inside.memory
     c.self.view_is c.self.invariant.1 c.in_ok-found.ensures.awake c.in_ok-found.ensures.still
     (λ o. shown_exams (view_of c.args.student o)) (listed c.exams_from.result)
-    (λ k o kept is. exams_told o c.in-Some.instance c.in-Some.field-0-1 c.self.inside.kept
-    c.in-Some.is kept.office is c.args.student _ _ _ (c.in_ok-found.ensures.rows k o kept)
+    (λ k o kept is. exams_told o c.in-Some.instance c.in-Some.field-0-1 c.self.inside.memory.kept
+    c.in-Some.is kept.office is.session c.args.student _ _ _ (c.in_ok-found.ensures.rows k o kept)
     (listed c.exams_from.result) (c.exams_from.ensures.told c.args.student))

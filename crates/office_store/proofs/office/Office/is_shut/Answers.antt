@@ -11,7 +11,7 @@ pub invariant_of-self : goal.invariant_of-self
 invariant_of-self g c = (
   c.prepare.ensures.mode c.self.invariant.0,
   rest_still (state g.S.Store c.self.inside.conn) (state g.S.Store c.prepare.new.self)
-      c.self.inside.kept (λ k. omega (arith, c.prepare.ensures.survives.clean, k))
+      c.self.inside.memory (λ k. omega (arith, c.prepare.ensures.survives.clean, k))
       (still_asked (state g.S.Store c.self.inside.conn) (state g.S.Store c.prepare.new.self)
       (c.is_autocommit-at_rest.ensures.settled
       (c.is_autocommit-at_rest.ensures.value ∙ ap not c.self.invariant.0))

@@ -1,27 +1,22 @@
-use Rattle.std.proofs.Common.{subst}
+use Rattle.std.proofs.Common.{subst, sym}
 use Rattle.sqlite.specs.Held.{state}
-use Rattle.sqlite.specs.State.{HasCleanDisk}
-use Rattle.office_store.proofs.PublishLemmas.{none_at_hand, puts_at_hand}
-use Rattle.office_store.proofs.LeavingLemmas.{survives_same, survives_at}
+use Rattle.office_records.specs.Stands.{IsKept}
+use Rattle.office_store.specs.Running.{IsAwake}
+use Rattle.office_store.proofs.RunLemmas.{at_hand}
+use Rattle.office_store.proofs.LeavingLemmas.{survives_at}
 use Rattle.office_store.proofs.office.Office.judged_publication.Goals as goal
 
-pub returns-in_default-clause-publishes : goal.returns-in_default-clause-publishes
-returns-in_default-clause-publishes g c clean awake office kept are =
-    none_at_hand g.S.Store c.args.self.now c.args.self.now c.self.inside.conn c.self.view_is
-    c.args.number c.self.inside.kept c.self.invariant.1 c.in_default.is clean awake office kept
-
 pub returns-clause-publishes : goal.returns-clause-publishes
-returns-clause-publishes g c clean awake office kept are =
+returns-clause-publishes g c clean awake office kept =
+    let inside = state g.S.Store c.self.inside.conn in
     let before = c.new_publication.ensures.read.clean clean in
-    puts_at_hand g.S.Store c.args.self.now c.args.self.now c.self.inside.conn c.self.view_is
-    c.args.number c.self.inside.kept c.self.invariant.1 c.in-Some.instance c.in-Some.enrolments
-    c.in-Some.is c.args.found.now.rows.items c.args.found.now.slots.items c.new_publication.result
-    (subst (λ h. HasCleanDisk (state g.S.Store h)) c.self.view_is before) awake office kept are
-    (c.new_publication.ensures.publishes clean)
+    let opened = subst (λ h. IsAwake (state g.S.Store h)) (sym c.self.view_is) awake in
+    let here = subst (λ h. IsKept (state g.S.Store h).now office) (sym c.self.view_is) kept in
+    c.new_publication.ensures.publishes clean opened office here
+    (at_hand inside c.self.inside.memory office c.self.invariant.1 before opened.0 here)
 
-pub returns-in_default-clause-survives : goal.returns-in_default-clause-survives
-returns-in_default-clause-survives g c =
-    survives_same (state g.S.Store c.args.self.now)
+pub new_publication-requires : goal.new_publication-requires
+new_publication-requires g c = record { together = c.self.invariant.2 }
 
 pub returns-clause-survives : goal.returns-clause-survives
 returns-clause-survives g c =

@@ -1,4 +1,4 @@
-use Rattle.std.proofs.Common.{rules, ◌≡◌, Some, ◌∙◌, ap, map, true, false, Ok}
+use Rattle.std.proofs.Common.{rules, ◌≡◌, ◌∙◌, ap, map, true, false, Ok}
 use Rattle.office_tables.specs.declared.enrol.InsertEnrol.{InsertEnrol}
 use Rattle.std.specs.Prelude.{is_some}
 use Rattle.sqlite.specs.Held.{state}
@@ -8,31 +8,32 @@ use Rattle.office_model.specs.Loading.{loaded}
 use Rattle.office_model.specs.declared.fault.StoreFault.TheVariants.{Loaded}
 use Rattle.office_model.proofs.RecordLemmas.{are_enrolled}
 use Rattle.office_store.proofs.CommandLemmas.{refuses, rests, runs, stays_undone}
-use Rattle.office_store.proofs.LoadLemmas.{as_many, load_denied, load_moves}
-use Rattle.office_store.proofs.LeavingLemmas.{survives_more, is_failed, leaves_by, survives_same}
+use Rattle.office_store.proofs.LoadLemmas.{as_many, load_denied, load_moves, load_remembers}
+use Rattle.office_store.proofs.TogetherLemmas.{loaded_together}
+use Rattle.office_store.proofs.LeavingLemmas.{survives_more, is_failed, survives_by, survives_same}
 use Rattle.office_store.proofs.office.Office.load.Goals as goal
 
 pub returns-then-is_some-clause-runs : goal.returns-then-is_some-clause-runs
 returns-then-is_some-clause-runs g c =
-    let some : is_some c.self.inside.kept ≡ true = search rules in
+    let some : is_some c.self.inside.memory.kept ≡ true = search rules in
     refuses g.S.Store (loaded c.args.text.now) c.args.self.now c.look.new.self c.self.inside.conn
-    c.self.inside.kept c.self.view_is c.self.invariant.1 c.in_ok-look.ensures.awake
+    c.self.inside.memory c.self.view_is c.self.invariant.1 c.in_ok-look.ensures.awake
     c.in_ok-look.ensures.still Loaded
-    (λ _. load_denied c.args.text.now _ _ c.self.inside.kept c.in-Ok.ensures.exact some)
+    (λ _. load_denied c.args.text.now _ _ c.self.inside.memory c.in-Ok.ensures.exact some)
 
 pub returns-clause-runs : goal.returns-clause-runs
 returns-clause-runs g c =
     let I : Session = c.in-Ok.read.0 in
     let E : Enrolled = c.in-Ok.read.1 in
-    let no : is_some c.self.inside.kept ≡ false = search rules in
+    let no : is_some c.self.inside.memory.kept ≡ false = search rules in
     let are = are_enrolled I E c.counts_of-loaded.ensures.enrolments
     (as_many c.args.text.now I E c.in-Ok.ensures.reading) in
     runs g.S.Store (loaded c.args.text.now) c.args.self.now c.look.new.self c.self.inside.conn
-    c.self.inside.kept c.self.view_is c.self.invariant.1 c.in_ok-look.ensures.awake
-    c.in_ok-look.ensures.still c.put.new.conn (Some (I, E)) (λ k. k) c.counts_of-loaded.result
+    c.self.inside.memory c.self.view_is c.self.invariant.1 c.in_ok-look.ensures.awake
+    c.in_ok-look.ensures.still c.put.new.conn c.counts_of-loaded.result
     c.put.ensures.clean
     (λ k. load_moves c.args.text.now I E c.counts_of-loaded.result c.deref.result.now
-    c.deref-2.result.now _ _ c.self.inside.kept c.in-Ok.ensures.exact
+    c.deref-2.result.now _ _ c.self.inside.memory c.in-Ok.ensures.exact
     c.counts_of-loaded.ensures.counts (c.deref.ensures.value ∙ c.in_ok-stored.ensures.text)
     (ap (map (λ (it : InsertEnrol). it.row)) c.deref-2.ensures.value ∙ c.in_ok-rows.ensures)
     c.counts_of-loaded.ensures.instance are no
@@ -42,20 +43,25 @@ pub invariant_of-self-2 : goal.invariant_of-self-2
 invariant_of-self-2 g c =
     let I : Session = c.in-Ok.read.0 in
     let E : Enrolled = c.in-Ok.read.1 in
-    let no : is_some c.self.inside.kept ≡ false = search rules in
+    let no : is_some c.self.inside.memory.kept ≡ false = search rules in
     let are = are_enrolled I E c.counts_of-loaded.ensures.enrolments
     (as_many c.args.text.now I E c.in-Ok.ensures.reading) in (
       c.in_ok-put.ensures.rests,
       rests (loaded c.args.text.now) (state g.S.Store c.self.inside.conn)
-          (state g.S.Store c.put.new.conn) c.self.inside.kept (Some (I, E)) (λ k. k)
+          (state g.S.Store c.put.new.conn) c.self.inside.memory c.of_session.result
           c.counts_of-loaded.result c.self.invariant.1 c.put.ensures.clean
           (λ k. (c.in_ok-put.ensures.done k).was_open)
           (λ k. load_moves c.args.text.now I E c.counts_of-loaded.result c.deref.result.now
-          c.deref-2.result.now _ _ c.self.inside.kept c.in-Ok.ensures.exact
+          c.deref-2.result.now _ _ c.self.inside.memory c.in-Ok.ensures.exact
           c.counts_of-loaded.ensures.counts (c.deref.ensures.value ∙ c.in_ok-stored.ensures.text)
           (ap (map (λ (it : InsertEnrol). it.row)) c.deref-2.ensures.value ∙ c.in_ok-rows.ensures)
-          c.counts_of-loaded.ensures.instance are no (c.in_ok-put.ensures.done k).makes),
-      as_many c.args.text.now I E c.in-Ok.ensures.reading,
+          c.counts_of-loaded.ensures.instance are no (c.in_ok-put.ensures.done k).makes)
+          (λ k. load_remembers c.args.text.now I E c.counts_of-loaded.result _
+          c.self.inside.memory c.of_session.result c.in-Ok.ensures.exact
+          c.counts_of-loaded.ensures.counts no c.of_session.ensures.kept
+          c.of_session.ensures.batches c.of_session.ensures.drafts),
+      loaded_together I E c.of_session.result c.of_session.ensures.kept
+          (as_many c.args.text.now I E c.in-Ok.ensures.reading) c.of_session.ensures.drafts,
     )
 
 -- what was read is what the text spells
@@ -66,66 +72,80 @@ returns-clause-counts g c = (
   c.counts_of-loaded.ensures.counts,
 )
 
-pub returns-in_err-look-clause-survives : goal.returns-in_err-look-clause-survives
-returns-in_err-look-clause-survives g c =
-    survives_more (state g.S.Store c.args.self.now) (state g.S.Store c.look.new.self) _
-    c.look.ensures.survives
+pub returns-in_err-look-clause-leaves : goal.returns-in_err-look-clause-leaves
+returns-in_err-look-clause-leaves g c = record {
+  awake = search rules;
+  survives = survives_more (state g.S.Store c.args.self.now) (state g.S.Store c.look.new.self) _
+      c.look.ensures.survives;
+}
 
-pub returns-then-is_some-clause-survives : goal.returns-then-is_some-clause-survives
-returns-then-is_some-clause-survives g c =
-    survives_more (state g.S.Store c.args.self.now) (state g.S.Store c.look.new.self) _
-    c.look.ensures.survives
+pub returns-then-is_some-clause-leaves : goal.returns-then-is_some-clause-leaves
+returns-then-is_some-clause-leaves g c = record {
+  awake = search rules;
+  survives = survives_more (state g.S.Store c.args.self.now) (state g.S.Store c.look.new.self) _
+      c.look.ensures.survives;
+}
 
-pub returns-in_err-stored-clause-survives : goal.returns-in_err-stored-clause-survives
-returns-in_err-stored-clause-survives g c =
-    survives_more (state g.S.Store c.args.self.now) (state g.S.Store c.look.new.self) _
-    c.look.ensures.survives
+pub returns-in_err-stored-clause-leaves : goal.returns-in_err-stored-clause-leaves
+returns-in_err-stored-clause-leaves g c = record {
+  awake = search rules;
+  survives = survives_more (state g.S.Store c.args.self.now) (state g.S.Store c.look.new.self) _
+      c.look.ensures.survives;
+}
 
-pub returns-in_err-rows-clause-survives : goal.returns-in_err-rows-clause-survives
-returns-in_err-rows-clause-survives g c =
-    survives_more (state g.S.Store c.args.self.now) (state g.S.Store c.look.new.self) _
-    c.look.ensures.survives
+pub returns-in_err-rows-clause-leaves : goal.returns-in_err-rows-clause-leaves
+returns-in_err-rows-clause-leaves g c = record {
+  awake = search rules;
+  survives = survives_more (state g.S.Store c.args.self.now) (state g.S.Store c.look.new.self) _
+      c.look.ensures.survives;
+}
 
-pub returns-in_err-put-clause-survives : goal.returns-in_err-put-clause-survives
-returns-in_err-put-clause-survives g c =
-    let I : Session = c.in-Ok.read.0 in
-    let E : Enrolled = c.in-Ok.read.1 in
-    let no : is_some c.self.inside.kept ≡ false = search rules in
-    let are = are_enrolled I E c.counts_of-loaded.ensures.enrolments
-    (as_many c.args.text.now I E c.in-Ok.ensures.reading) in
-    leaves_by g.S.Store (loaded c.args.text.now) c.args.self.now c.look.new.self
-    c.self.inside.conn c.put.new.conn c.self.inside.kept (Some (I, E)) (λ k. k) c.self.view_is
-    c.self.invariant.1 c.in_ok-look.ensures.awake c.in_ok-look.ensures.still
-    c.look.ensures.survives _ c.counts_of-loaded.result c.put.ensures.survives
-    (λ k found changed. load_moves c.args.text.now I E c.counts_of-loaded.result
-    c.deref.result.now c.deref-2.result.now _ _ c.self.inside.kept c.in-Ok.ensures.exact
-    c.counts_of-loaded.ensures.counts (c.deref.ensures.value ∙ c.in_ok-stored.ensures.text)
-    (ap (map (λ (it : InsertEnrol). it.row)) c.deref-2.ensures.value ∙ c.in_ok-rows.ensures)
-    c.counts_of-loaded.ensures.instance are no changed)
-    c.from_residual-in_err-put.result (is_failed _ c.from_residual-in_err-put.ensures.1)
+pub returns-in_err-put-clause-leaves : goal.returns-in_err-put-clause-leaves
+returns-in_err-put-clause-leaves g c = record {
+  awake = search rules;
+  survives = let I : Session = c.in-Ok.read.0 in
+      let E : Enrolled = c.in-Ok.read.1 in
+      let no : is_some c.self.inside.memory.kept ≡ false = search rules in
+      let are = are_enrolled I E c.counts_of-loaded.ensures.enrolments
+      (as_many c.args.text.now I E c.in-Ok.ensures.reading) in
+      survives_by g.S.Store (loaded c.args.text.now) c.args.self.now c.look.new.self
+      c.self.inside.conn c.put.new.conn c.self.inside.memory c.self.view_is
+      c.self.invariant.1 c.in_ok-look.ensures.awake c.in_ok-look.ensures.still
+      c.look.ensures.survives _ c.counts_of-loaded.result c.put.ensures.survives
+      (λ k found changed. load_moves c.args.text.now I E c.counts_of-loaded.result
+      c.deref.result.now c.deref-2.result.now _ _ c.self.inside.memory c.in-Ok.ensures.exact
+      c.counts_of-loaded.ensures.counts (c.deref.ensures.value ∙ c.in_ok-stored.ensures.text)
+      (ap (map (λ (it : InsertEnrol). it.row)) c.deref-2.ensures.value ∙ c.in_ok-rows.ensures)
+      c.counts_of-loaded.ensures.instance are no changed)
+      c.from_residual-in_err-put.result (is_failed _ c.from_residual-in_err-put.ensures.1);
+}
 
-pub returns-clause-survives : goal.returns-clause-survives
-returns-clause-survives g c =
-    let I : Session = c.in-Ok.read.0 in
-    let E : Enrolled = c.in-Ok.read.1 in
-    let no : is_some c.self.inside.kept ≡ false = search rules in
-    let are = are_enrolled I E c.counts_of-loaded.ensures.enrolments
-    (as_many c.args.text.now I E c.in-Ok.ensures.reading) in
-    leaves_by g.S.Store (loaded c.args.text.now) c.args.self.now c.look.new.self
-    c.self.inside.conn c.put.new.conn c.self.inside.kept (Some (I, E)) (λ k. k) c.self.view_is
-    c.self.invariant.1 c.in_ok-look.ensures.awake c.in_ok-look.ensures.still
-    c.look.ensures.survives _ c.counts_of-loaded.result c.put.ensures.survives
-    (λ k found changed. load_moves c.args.text.now I E c.counts_of-loaded.result
-    c.deref.result.now c.deref-2.result.now _ _ c.self.inside.kept c.in-Ok.ensures.exact
-    c.counts_of-loaded.ensures.counts (c.deref.ensures.value ∙ c.in_ok-stored.ensures.text)
-    (ap (map (λ (it : InsertEnrol). it.row)) c.deref-2.ensures.value ∙ c.in_ok-rows.ensures)
-    c.counts_of-loaded.ensures.instance are no changed)
-    (Ok c.counts_of-loaded.result) tt
+pub returns-clause-leaves : goal.returns-clause-leaves
+returns-clause-leaves g c = record {
+  awake = search rules;
+  survives = let I : Session = c.in-Ok.read.0 in
+      let E : Enrolled = c.in-Ok.read.1 in
+      let no : is_some c.self.inside.memory.kept ≡ false = search rules in
+      let are = are_enrolled I E c.counts_of-loaded.ensures.enrolments
+      (as_many c.args.text.now I E c.in-Ok.ensures.reading) in
+      survives_by g.S.Store (loaded c.args.text.now) c.args.self.now c.look.new.self
+      c.self.inside.conn c.put.new.conn c.self.inside.memory c.self.view_is
+      c.self.invariant.1 c.in_ok-look.ensures.awake c.in_ok-look.ensures.still
+      c.look.ensures.survives _ c.counts_of-loaded.result c.put.ensures.survives
+      (λ k found changed. load_moves c.args.text.now I E c.counts_of-loaded.result
+      c.deref.result.now c.deref-2.result.now _ _ c.self.inside.memory c.in-Ok.ensures.exact
+      c.counts_of-loaded.ensures.counts (c.deref.ensures.value ∙ c.in_ok-stored.ensures.text)
+      (ap (map (λ (it : InsertEnrol). it.row)) c.deref-2.ensures.value ∙ c.in_ok-rows.ensures)
+      c.counts_of-loaded.ensures.instance are no changed)
+      (Ok c.counts_of-loaded.result) tt;
+}
 
-pub returns-in-Err-clause-survives : goal.returns-in-Err-clause-survives
-returns-in-Err-clause-survives g c =
-    survives_more (state g.S.Store c.args.self.now) (state g.S.Store c.args.self.now) _
-    (survives_same (state g.S.Store c.args.self.now))
+pub returns-in-Err-clause-leaves : goal.returns-in-Err-clause-leaves
+returns-in-Err-clause-leaves g c = record {
+  awake = search rules;
+  survives = survives_more (state g.S.Store c.args.self.now) (state g.S.Store c.args.self.now) _
+      (survives_same (state g.S.Store c.args.self.now));
+}
 
 -- the transaction failed
 pub returns-in_err-put-clause-stays : goal.returns-in_err-put-clause-stays

@@ -1,4 +1,4 @@
-use Rattle.std.proofs.Common.{inl, inr, None, refl, sym, subst}
+use Rattle.std.proofs.Common.{inl, inr, None, refl, sym, subst, rules}
 use Rattle.office_records.specs.Stands.{IsKept}
 use Rattle.office_store.proofs.AdoptLemmas.{kept_before, kept_still}
 use Rattle.office_store.proofs.OpenLemmas.{before_load, fails, if_err, if_ok, is_kept, or_none}
@@ -43,7 +43,9 @@ returns-else-is_bare-clause-refused g c = if_err c.adopt.result _ _ _
     (is_kept _ there (fails _ _ c.is_bare.ensures.1 c.if-is_bare.false) is)))
     c.adopt.ensures.fault c.adopt.ensures.no_office
 
-pub returns-else-is_bare-clause-survives : goal.returns-else-is_bare-clause-survives
-returns-else-is_bare-clause-survives g c =
-    survives_more (state g.S.Store c.args.conn)
-    (state g.S.Store (connection_of c.adopt.result)) _ c.adopt.ensures.survives
+pub returns-else-is_bare-clause-leaves : goal.returns-else-is_bare-clause-leaves
+returns-else-is_bare-clause-leaves g c = record {
+  awake = search rules;
+  survives = survives_more (state g.S.Store c.args.conn)
+      (state g.S.Store (connection_of c.adopt.result)) _ c.adopt.ensures.leaves.survives;
+}

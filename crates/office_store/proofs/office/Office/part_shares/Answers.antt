@@ -9,7 +9,7 @@ pub invariant_of-self : goal.invariant_of-self
 invariant_of-self g c = (
   c.part_shares.ensures.mode c.self.invariant.0,
   rest_read (state g.S.Store c.self.inside.conn) (state g.S.Store c.part_shares.new.conn)
-      c.self.inside.kept c.self.invariant.1
+      c.self.inside.memory c.self.invariant.1
       (λ k. omega (arith, c.part_shares.ensures.survives.clean, k))
       (c.is_autocommit-at_rest.ensures.settled
       (c.is_autocommit-at_rest.ensures.value ∙ ap not c.self.invariant.0))
@@ -21,7 +21,7 @@ pub returns-clause-rows : goal.returns-clause-rows
 returns-clause-rows g c clean office here =
     let kept = kept_read (state g.S.Store c.self.inside.conn)
     (state g.S.Store c.part_shares.new.conn)
-    c.self.inside.kept c.self.invariant.1
+    c.self.inside.memory c.self.invariant.1
     (λ k. omega (arith, c.part_shares.ensures.survives.clean, k))
     (c.is_autocommit-at_rest.ensures.settled
     (c.is_autocommit-at_rest.ensures.value ∙ ap not c.self.invariant.0))

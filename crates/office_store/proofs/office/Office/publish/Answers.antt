@@ -3,9 +3,9 @@ use Rattle.sqlite.specs.Held.{state}
 use Rattle.office_model.specs.Publishing.{draft_published}
 use Rattle.office_store.specs.Running.{Runs}
 use Rattle.office_store.proofs.CommandLemmas.{rests, runs, stays_by, stays_on, stays_undone}
-use Rattle.office_store.proofs.PublishLemmas.{publication_moves}
+use Rattle.office_store.proofs.PublishLemmas.{publication_moves, publication_remembers}
 use Rattle.office_store.proofs.RunLemmas.{now_still, still_then}
-use Rattle.office_store.proofs.LeavingLemmas.{survives_more, survives_on, is_failed, leaves_by}
+use Rattle.office_store.proofs.LeavingLemmas.{survives_more, survives_on, is_failed, survives_by}
 use Rattle.office_store.proofs.office.Office.publish.Goals as goal
 
 pub returns-in_err-new-clause-runs : goal.returns-in_err-new-clause-runs
@@ -16,12 +16,11 @@ returns-in_err-new-clause-runs g c =
     c.judged_publication.new.self) (sym is)
     (λ clean o now.
     let before = c.judged_publication.ensures.clean clean in
-    let awake = c.in_ok-found.ensures.awake before in
-    let here = stays_by g.S.Store c.args.self.now c.draft_rows.new.self
-    c.in_ok-found.ensures.still before o now in (
-      c.in_err-new.ensures.publishes clean awake o (here awake.0)
-          (c.in_ok-found.ensures.rows before o (here awake.0)),
-      now_still (state g.S.Store c.draft_rows.new.self)
+    let awake = c.in_ok-look.ensures.awake before in
+    let here = stays_by g.S.Store c.args.self.now c.look.new.self
+    c.in_ok-look.ensures.still before o now in (
+      c.in_err-new.ensures.publishes clean awake o (here awake.0),
+      now_still (state g.S.Store c.look.new.self)
           (state g.S.Store c.judged_publication.new.self) o
           (c.judged_publication.ensures.still clean) here,
     ))
@@ -29,9 +28,9 @@ returns-in_err-new-clause-runs g c =
 pub returns-in_err-new-clause-stays : goal.returns-in_err-new-clause-stays
 returns-in_err-new-clause-stays g c =
     stays_on g.S.Store c.args.self.now c.args.self.now c.judged_publication.new.self refl
-    (λ k. still_then (state g.S.Store c.args.self.now) (state g.S.Store c.draft_rows.new.self)
+    (λ k. still_then (state g.S.Store c.args.self.now) (state g.S.Store c.look.new.self)
     (state g.S.Store c.judged_publication.new.self)
-    (c.in_ok-found.ensures.still (c.judged_publication.ensures.clean k))
+    (c.in_ok-look.ensures.still (c.judged_publication.ensures.clean k))
     (c.judged_publication.ensures.still k))
     c.from_residual-in_err-new.result
 
@@ -40,120 +39,132 @@ pub returns-in_err-put_publication-clause-stays : goal.returns-in_err-put_public
 returns-in_err-put_publication-clause-stays g c =
     stays_undone g.S.Store c.args.self.now c.judged_publication.new.self c.self.inside.conn
     c.put_publication.new.conn c.self.view_is
-    (λ k. still_then (state g.S.Store c.args.self.now) (state g.S.Store c.draft_rows.new.self)
+    (λ k. still_then (state g.S.Store c.args.self.now) (state g.S.Store c.look.new.self)
     (state g.S.Store c.judged_publication.new.self)
-    (c.in_ok-found.ensures.still (c.judged_publication.ensures.clean k))
+    (c.in_ok-look.ensures.still (c.judged_publication.ensures.clean k))
     (c.judged_publication.ensures.still k))
     (λ k. c.in_ok-new.ensures.awake k
-    (c.in_ok-found.ensures.awake (c.judged_publication.ensures.clean k)))
+    (c.in_ok-look.ensures.awake (c.judged_publication.ensures.clean k)))
     c.put_publication.ensures.clean c.in_err-put_publication.ensures.undone
     c.from_residual-in_err-put_publication.result
 
 pub returns-clause-runs : goal.returns-clause-runs
 returns-clause-runs g c =
     runs g.S.Store (draft_published c.args.number) c.args.self.now
-    c.judged_publication.new.self c.self.inside.conn c.self.inside.kept c.self.view_is
+    c.judged_publication.new.self c.self.inside.conn c.self.inside.memory c.self.view_is
     c.self.invariant.1
     (λ k. c.in_ok-new.ensures.awake k
-    (c.in_ok-found.ensures.awake (c.judged_publication.ensures.clean k)))
-    (λ k. still_then (state g.S.Store c.args.self.now) (state g.S.Store c.draft_rows.new.self)
+    (c.in_ok-look.ensures.awake (c.judged_publication.ensures.clean k)))
+    (λ k. still_then (state g.S.Store c.args.self.now) (state g.S.Store c.look.new.self)
     (state g.S.Store c.judged_publication.new.self)
-    (c.in_ok-found.ensures.still (c.judged_publication.ensures.clean k))
+    (c.in_ok-look.ensures.still (c.judged_publication.ensures.clean k))
     (c.judged_publication.ensures.still k))
-    c.put_publication.new.conn c.self.inside.kept (λ k. k) c.in_ok-new.new.counts
+    c.put_publication.new.conn c.in_ok-new.new.counts
     c.put_publication.ensures.clean
-    (λ k. publication_moves g.S.Store c.draft_rows.new.self c.judged_publication.new.self
+    (λ k. publication_moves g.S.Store c.look.new.self c.judged_publication.new.self
     c.self.inside.conn c.self.view_is c.args.number
     (state g.S.Store c.put_publication.new.conn).now
-    c.self.inside.kept c.in_ok-new.new c.judged_publication.ensures.still
+    c.self.inside.memory c.in_ok-new.new c.judged_publication.ensures.still
     (λ k. c.in_ok-new.ensures.awake k
-    (c.in_ok-found.ensures.awake (c.judged_publication.ensures.clean k)))
+    (c.in_ok-look.ensures.awake (c.judged_publication.ensures.clean k)))
     (λ k o kept. c.in_ok-new.ensures.publishes k
-    (c.in_ok-found.ensures.awake (c.judged_publication.ensures.clean k)) o kept
-    (c.in_ok-found.ensures.rows (c.judged_publication.ensures.clean k) o kept))
+    (c.in_ok-look.ensures.awake (c.judged_publication.ensures.clean k)) o kept)
     (c.put_publication.ensures.clean k) (c.in_ok-put_publication.ensures.done k).makes)
 
 pub invariant_of-self-2 : goal.invariant_of-self-2
 invariant_of-self-2 g c = (
   c.in_ok-put_publication.ensures.rests,
   rests (draft_published c.args.number) (state g.S.Store c.self.inside.conn)
-      (state g.S.Store c.put_publication.new.conn) c.self.inside.kept c.self.inside.kept
-      (λ k. k) c.in_ok-new.new.counts c.self.invariant.1 c.put_publication.ensures.clean
+      (state g.S.Store c.put_publication.new.conn) c.self.inside.memory c.self.inside.memory
+      c.in_ok-new.new.counts c.self.invariant.1 c.put_publication.ensures.clean
       (λ k. (c.in_ok-put_publication.ensures.done k).was_open)
-      (λ k. publication_moves g.S.Store c.draft_rows.new.self c.judged_publication.new.self
+      (λ k. publication_moves g.S.Store c.look.new.self c.judged_publication.new.self
       c.self.inside.conn c.self.view_is c.args.number
       (state g.S.Store c.put_publication.new.conn).now
-      c.self.inside.kept c.in_ok-new.new c.judged_publication.ensures.still
+      c.self.inside.memory c.in_ok-new.new c.judged_publication.ensures.still
       (λ k. c.in_ok-new.ensures.awake k
-      (c.in_ok-found.ensures.awake (c.judged_publication.ensures.clean k)))
+      (c.in_ok-look.ensures.awake (c.judged_publication.ensures.clean k)))
       (λ k o kept. c.in_ok-new.ensures.publishes k
-      (c.in_ok-found.ensures.awake (c.judged_publication.ensures.clean k)) o kept
-      (c.in_ok-found.ensures.rows (c.judged_publication.ensures.clean k) o kept))
-      (c.put_publication.ensures.clean k) (c.in_ok-put_publication.ensures.done k).makes),
+      (c.in_ok-look.ensures.awake (c.judged_publication.ensures.clean k)) o kept)
+      (c.put_publication.ensures.clean k) (c.in_ok-put_publication.ensures.done k).makes)
+      (λ k. publication_remembers g.S.Store c.look.new.self c.judged_publication.new.self
+      c.self.inside.conn c.self.view_is c.args.number c.self.inside.memory c.in_ok-new.new
+      c.judged_publication.ensures.still
+      (λ k. c.in_ok-new.ensures.awake k
+      (c.in_ok-look.ensures.awake (c.judged_publication.ensures.clean k)))
+      (λ k o kept. c.in_ok-new.ensures.publishes k
+      (c.in_ok-look.ensures.awake (c.judged_publication.ensures.clean k)) o kept)
+      (c.put_publication.ensures.clean k)),
   c.self.invariant.2,
 )
 
-pub returns-in_err-found-clause-survives : goal.returns-in_err-found-clause-survives
-returns-in_err-found-clause-survives g c =
-    survives_more (state g.S.Store c.args.self.now) (state g.S.Store c.draft_rows.new.self) _
-    c.draft_rows.ensures.survives
+pub returns-in_err-look-clause-leaves : goal.returns-in_err-look-clause-leaves
+returns-in_err-look-clause-leaves g c = record {
+  awake = search rules;
+  survives = survives_more (state g.S.Store c.args.self.now) (state g.S.Store c.look.new.self) _
+      c.look.ensures.survives;
+}
 
-pub returns-in_err-new-clause-survives : goal.returns-in_err-new-clause-survives
-returns-in_err-new-clause-survives g c =
-    survives_more (state g.S.Store c.args.self.now)
-    (state g.S.Store c.judged_publication.new.self) _
-    (survives_on (state g.S.Store c.args.self.now) (state g.S.Store c.draft_rows.new.self)
-    (state g.S.Store c.judged_publication.new.self) c.draft_rows.ensures.survives
-    c.judged_publication.ensures.survives)
+pub returns-in_err-new-clause-leaves : goal.returns-in_err-new-clause-leaves
+returns-in_err-new-clause-leaves g c = record {
+  awake = search rules;
+  survives = survives_more (state g.S.Store c.args.self.now)
+      (state g.S.Store c.judged_publication.new.self) _
+      (survives_on (state g.S.Store c.args.self.now) (state g.S.Store c.look.new.self)
+      (state g.S.Store c.judged_publication.new.self) c.look.ensures.survives
+      c.judged_publication.ensures.survives);
+}
 
-pub returns-in_err-put_publication-clause-survives
-    : goal.returns-in_err-put_publication-clause-survives
-returns-in_err-put_publication-clause-survives g c =
-    let first = c.draft_rows.new.self in
-    let mid = c.judged_publication.new.self in
-    leaves_by g.S.Store (draft_published c.args.number) c.args.self.now mid c.self.inside.conn
-    c.put_publication.new.conn c.self.inside.kept c.self.inside.kept (λ k. k) c.self.view_is
-    c.self.invariant.1
-    (λ k. c.in_ok-new.ensures.awake k
-    (c.in_ok-found.ensures.awake (c.judged_publication.ensures.clean k)))
-    (λ k. still_then (state g.S.Store c.args.self.now) (state g.S.Store first)
-    (state g.S.Store mid) (c.in_ok-found.ensures.still (c.judged_publication.ensures.clean k))
-    (c.judged_publication.ensures.still k))
-    (survives_on (state g.S.Store c.args.self.now) (state g.S.Store first) (state g.S.Store mid)
-    c.draft_rows.ensures.survives c.judged_publication.ensures.survives)
-    _ c.in_ok-new.new.counts c.put_publication.ensures.survives
-    (λ k found changed. publication_moves g.S.Store first mid c.self.inside.conn c.self.view_is
-    c.args.number _ c.self.inside.kept c.in_ok-new.new c.judged_publication.ensures.still
-    (λ k. c.in_ok-new.ensures.awake k
-    (c.in_ok-found.ensures.awake (c.judged_publication.ensures.clean k)))
-    (λ k o kept. c.in_ok-new.ensures.publishes k
-    (c.in_ok-found.ensures.awake (c.judged_publication.ensures.clean k)) o kept
-    (c.in_ok-found.ensures.rows (c.judged_publication.ensures.clean k) o kept))
-    (c.put_publication.ensures.clean k) changed)
-    c.from_residual-in_err-put_publication.result (is_failed _
-    c.from_residual-in_err-put_publication.ensures.1)
+pub returns-in_err-put_publication-clause-leaves
+    : goal.returns-in_err-put_publication-clause-leaves
+returns-in_err-put_publication-clause-leaves g c = record {
+  awake = search rules;
+  survives = let first = c.look.new.self in
+      let mid = c.judged_publication.new.self in
+      survives_by g.S.Store (draft_published c.args.number) c.args.self.now mid c.self.inside.conn
+      c.put_publication.new.conn c.self.inside.memory c.self.view_is
+      c.self.invariant.1
+      (λ k. c.in_ok-new.ensures.awake k
+      (c.in_ok-look.ensures.awake (c.judged_publication.ensures.clean k)))
+      (λ k. still_then (state g.S.Store c.args.self.now) (state g.S.Store first)
+      (state g.S.Store mid) (c.in_ok-look.ensures.still (c.judged_publication.ensures.clean k))
+      (c.judged_publication.ensures.still k))
+      (survives_on (state g.S.Store c.args.self.now) (state g.S.Store first) (state g.S.Store mid)
+      c.look.ensures.survives c.judged_publication.ensures.survives)
+      _ c.in_ok-new.new.counts c.put_publication.ensures.survives
+      (λ k found changed. publication_moves g.S.Store first mid c.self.inside.conn c.self.view_is
+      c.args.number _ c.self.inside.memory c.in_ok-new.new c.judged_publication.ensures.still
+      (λ k. c.in_ok-new.ensures.awake k
+      (c.in_ok-look.ensures.awake (c.judged_publication.ensures.clean k)))
+      (λ k o kept. c.in_ok-new.ensures.publishes k
+      (c.in_ok-look.ensures.awake (c.judged_publication.ensures.clean k)) o kept)
+      (c.put_publication.ensures.clean k) changed)
+      c.from_residual-in_err-put_publication.result (is_failed _
+      c.from_residual-in_err-put_publication.ensures.1);
+}
 
-pub returns-clause-survives : goal.returns-clause-survives
-returns-clause-survives g c =
-    let first = c.draft_rows.new.self in
-    let mid = c.judged_publication.new.self in
-    leaves_by g.S.Store (draft_published c.args.number) c.args.self.now mid c.self.inside.conn
-    c.put_publication.new.conn c.self.inside.kept c.self.inside.kept (λ k. k) c.self.view_is
-    c.self.invariant.1
-    (λ k. c.in_ok-new.ensures.awake k
-    (c.in_ok-found.ensures.awake (c.judged_publication.ensures.clean k)))
-    (λ k. still_then (state g.S.Store c.args.self.now) (state g.S.Store first)
-    (state g.S.Store mid) (c.in_ok-found.ensures.still (c.judged_publication.ensures.clean k))
-    (c.judged_publication.ensures.still k))
-    (survives_on (state g.S.Store c.args.self.now) (state g.S.Store first) (state g.S.Store mid)
-    c.draft_rows.ensures.survives c.judged_publication.ensures.survives)
-    _ c.in_ok-new.new.counts c.put_publication.ensures.survives
-    (λ k found changed. publication_moves g.S.Store first mid c.self.inside.conn c.self.view_is
-    c.args.number _ c.self.inside.kept c.in_ok-new.new c.judged_publication.ensures.still
-    (λ k. c.in_ok-new.ensures.awake k
-    (c.in_ok-found.ensures.awake (c.judged_publication.ensures.clean k)))
-    (λ k o kept. c.in_ok-new.ensures.publishes k
-    (c.in_ok-found.ensures.awake (c.judged_publication.ensures.clean k)) o kept
-    (c.in_ok-found.ensures.rows (c.judged_publication.ensures.clean k) o kept))
-    (c.put_publication.ensures.clean k) changed)
-    (Ok c.in_ok-new.new.counts) tt
+pub returns-clause-leaves : goal.returns-clause-leaves
+returns-clause-leaves g c = record {
+  awake = search rules;
+  survives = let first = c.look.new.self in
+      let mid = c.judged_publication.new.self in
+      survives_by g.S.Store (draft_published c.args.number) c.args.self.now mid c.self.inside.conn
+      c.put_publication.new.conn c.self.inside.memory c.self.view_is
+      c.self.invariant.1
+      (λ k. c.in_ok-new.ensures.awake k
+      (c.in_ok-look.ensures.awake (c.judged_publication.ensures.clean k)))
+      (λ k. still_then (state g.S.Store c.args.self.now) (state g.S.Store first)
+      (state g.S.Store mid) (c.in_ok-look.ensures.still (c.judged_publication.ensures.clean k))
+      (c.judged_publication.ensures.still k))
+      (survives_on (state g.S.Store c.args.self.now) (state g.S.Store first) (state g.S.Store mid)
+      c.look.ensures.survives c.judged_publication.ensures.survives)
+      _ c.in_ok-new.new.counts c.put_publication.ensures.survives
+      (λ k found changed. publication_moves g.S.Store first mid c.self.inside.conn c.self.view_is
+      c.args.number _ c.self.inside.memory c.in_ok-new.new c.judged_publication.ensures.still
+      (λ k. c.in_ok-new.ensures.awake k
+      (c.in_ok-look.ensures.awake (c.judged_publication.ensures.clean k)))
+      (λ k o kept. c.in_ok-new.ensures.publishes k
+      (c.in_ok-look.ensures.awake (c.judged_publication.ensures.clean k)) o kept)
+      (c.put_publication.ensures.clean k) changed)
+      (Ok c.in_ok-new.new.counts) tt;
+}

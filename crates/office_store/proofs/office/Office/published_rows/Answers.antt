@@ -8,7 +8,7 @@ pub invariant_of-self : goal.invariant_of-self
 invariant_of-self g c = (
   c.read_published.ensures.read.mode c.self.invariant.0,
   rest_read (state g.S.Store c.self.inside.conn) (state g.S.Store c.read_published.new.conn)
-      c.self.inside.kept c.self.invariant.1 c.read_published.ensures.read.clean
+      c.self.inside.memory c.self.invariant.1 c.read_published.ensures.read.clean
       (c.is_autocommit-at_rest.ensures.settled
       (c.is_autocommit-at_rest.ensures.value ∙ ap not c.self.invariant.0))
       c.read_published.ensures.read.was_open c.read_published.ensures.read.kept,
@@ -20,7 +20,7 @@ returns-clause-rows g c clean office here =
     let opened = c.in_ok-rows.ensures.open in
     let kept = kept_read (state g.S.Store c.self.inside.conn)
     (state g.S.Store c.read_published.new.conn)
-    c.self.inside.kept c.self.invariant.1 c.read_published.ensures.read.clean
+    c.self.inside.memory c.self.invariant.1 c.read_published.ensures.read.clean
     (c.is_autocommit-at_rest.ensures.settled
     (c.is_autocommit-at_rest.ensures.value ∙ ap not c.self.invariant.0))
     opened (λ k t held. c.in_ok-rows.ensures.same k t held (opened k)) clean office here in

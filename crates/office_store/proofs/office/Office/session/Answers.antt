@@ -1,4 +1,4 @@
-use Rattle.std.proofs.Common.{Some, None, refl, ap, subst}
+use Rattle.std.proofs.Common.{ap, refl, subst, ◌∙◌}
 use Rattle.sqlite.specs.Held.{state}
 use Rattle.office_model.specs.Commands.{session_shown}
 use Rattle.office_store.specs.Running.{IsAtRest}
@@ -9,20 +9,18 @@ use Rattle.office_store.proofs.office.Office.session.Goals as goal
 pub returns-in-Some-clause-shown : goal.returns-in-Some-clause-shown
 returns-in-Some-clause-shown g c clean opened office here =
     let s = state g.S.Store c.args.self.now in
-    let n = c.self.inside.batches in
-    let rest : IsAtRest s (Some (c.in-Some.instance, c.in-Some.enrolments)) n
-    = subst (λ m. IsAtRest s m n) c.in-Some.is
-    (subst (λ h. IsAtRest (state g.S.Store h) c.self.inside.kept n) c.self.view_is
-    c.self.invariant.1) in
-    (office, session_told office _ _ (at_hand s _ office rest clean opened here), refl)
+    let m = c.self.inside.memory in
+    let rest : IsAtRest s m
+    = subst (λ h. IsAtRest (state g.S.Store h) m) c.self.view_is c.self.invariant.1 in
+    let kept = at_hand s m office rest clean opened here in
+    (office, session_told office _ _ (kept.session ∙ c.in-Some.is), refl)
 
 pub returns-in-None-clause-shown : goal.returns-in-None-clause-shown
 returns-in-None-clause-shown g c clean opened office here =
     let s = state g.S.Store c.args.self.now in
-    let n = c.self.inside.batches in
-    let rest : IsAtRest s None n
-    = subst (λ m. IsAtRest s m n) c.in-None.is
-    (subst (λ h. IsAtRest (state g.S.Store h) c.self.inside.kept n) c.self.view_is
-    c.self.invariant.1) in
-    let none = nothing_kept office (at_hand s None office rest clean opened here) in
+    let m = c.self.inside.memory in
+    let rest : IsAtRest s m
+    = subst (λ h. IsAtRest (state g.S.Store h) m) c.self.view_is c.self.invariant.1 in
+    let kept = at_hand s m office rest clean opened here in
+    let none = nothing_kept office (kept.session ∙ c.in-None.is) in
     (ap session_shown none, refl)

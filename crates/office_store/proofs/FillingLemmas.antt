@@ -1,0 +1,246 @@
+-- Drafts that are made number by number, and their rows.
+use Rattle.std.proofs.Common.{◌≡◌, ◌≢◌, ℕ, zero, suc, ◌+◌, ◌<◌, ◌≤◌, Bool, true, false, eqb, ltb, cond, List, [], ◌∷◌, ◌++◌, filter, get_or, length, map, set, Option, Some, None, option_map, refl, sym, ◌∙◌, ap, subst, arith}
+use Rattle.std.specs.List.{AllByRecursion}
+use Rattle.std.specs.Prelude.{is_some}
+use Rattle.std.proofs.lemmas.Bool.{ltb-false, ltb-true}
+use Rattle.std.proofs.lemmas.Bool.Decides.{nat_tests}
+use Rattle.std.proofs.lemmas.List.{append-nil, get_or-set_same, get_or-set_other, length-set, map-append}
+use Rattle.std.proofs.lemmas.List.Elements.{filter-append}
+use Rattle.sqlite_trees.proofs.ListLemmas.{all-append}
+use Rattle.exam_model.specs.Enrolments.{Enrolled}
+use Rattle.exam_model.specs.Instance.{Session}
+use Rattle.exam_model.specs.Timetable.{Placing}
+use Rattle.office_tables.specs.Draft.{AreAmounts}
+use Rattle.office_tables.specs.declared.draft.DraftRow.{DraftRow}
+use Rattle.office_tables.specs.declared.draft.InsertDraft.{InsertDraft}
+use Rattle.office_tables.specs.declared.slot.SlotRow.{SlotRow}
+use Rattle.office_model.specs.Office.{AreRecords, Records}
+use Rattle.office_records.specs.Found.{AreDrafts}
+use Rattle.office_records.specs.Stands.{IsKept, parts_of}
+use Rattle.office_records.specs.TableRows.{drafts_at, once}
+use Rattle.office_store.specs.Memory.{AreDraftRows, draft_at, scored_by}
+use Rattle.office_store.specs.declared.memory.Draft.{Draft}
+
+-- ---- drafts of the first numbers
+
+-- these are the drafts of the smaller numbers, and there is none of others
+pub record AreMade (made : List (Option Draft)) (n : ℕ) (drafts : ℕ → Option Draft) : Type 0 where
+  pub done : (d : ℕ) → d < n → draft_at made d ≡ drafts d
+  pub rest : (d : ℕ) → n ≤ d → draft_at made d ≡ None
+  pub size : length made ≡ 9
+
+pub none_made : (made : List (Option Draft)) (drafts : ℕ → Option Draft)
+    → ((d : ℕ) → draft_at made d ≡ None) → length made ≡ 9 → AreMade made 0 drafts
+none_made made drafts none size = record {
+  done = λ d low. absurd (omega (arith, low));
+  rest = λ d _. none d;
+  size = size;
+}
+
+-- none is numbered 0
+pub zero_made : (I : Session) (E : Enrolled) (rows : List DraftRow) (slots : List SlotRow)
+    (draft : ℕ → Option Placing) → AreDrafts I E rows slots draft → (made : List (Option Draft))
+    → ((d : ℕ) → draft_at made d ≡ None) → length made ≡ 9
+    → AreMade made 1 (λ d. option_map (scored_by I E) (draft d))
+zero_made I E rows slots draft are made none size = record {
+  done = λ d low. none d ∙ go d low (draft d) refl;
+  rest = λ d _. none d;
+  size = size;
+}
+  where
+    go : (d : ℕ) → d < 1 → (x : Option Placing) → draft d ≡ x
+        → None ≡ option_map (scored_by I E) (draft d)
+    go d low None is = sym (ap (option_map (scored_by I E)) is)
+    go d low (Some T) is =
+        absurd (let numbered = (are.numbered d (ap is_some is)).0 in omega (arith, low, numbered))
+
+-- nor is one numbered beyond 8
+pub none_beyond : (I : Session) (E : Enrolled) (rows : List DraftRow) (slots : List SlotRow)
+    (draft : ℕ → Option Placing) → AreDrafts I E rows slots draft → (d : ℕ) → 9 ≤ d
+    → option_map (scored_by I E) (draft d) ≡ None
+none_beyond I E rows slots draft are d high = go (draft d) refl
+  where
+    go : (x : Option Placing) → draft d ≡ x → option_map (scored_by I E) (draft d) ≡ None
+    go None is = ap (option_map (scored_by I E)) is
+    go (Some T) is =
+        absurd (let numbered = (are.numbered d (ap is_some is)).1 in omega (arith, high, numbered))
+
+-- one more
+pub one_made : (made : List (Option Draft)) (n : ℕ) (drafts : ℕ → Option Draft) (x : Option Draft)
+    → AreMade made n drafts → n < 9 → x ≡ drafts n
+    → AreMade (set made n x) (n + 1) drafts
+one_made made n drafts x are low is = record {
+  done = λ d low. go d (eqb d n) refl low;
+  rest = λ d high. get_or-set_other made n d x None (λ same. omega (arith, high, same))
+      ∙ are.rest d (omega (arith, high));
+  size = length-set made n x ∙ are.size;
+}
+  where
+    within : n < length made
+    within = let size = are.size in omega (arith, low, size)
+
+    go : (d : ℕ) (b : Bool) → eqb d n ≡ b → d < n + 1 → draft_at (set made n x) d ≡ drafts d
+    go d true same low =
+        let here : d ≡ n = grind (arith, nat_tests, same) in
+        ap (draft_at (set made n x)) here ∙ get_or-set_same made n x None within ∙ is
+        ∙ ap drafts (sym here)
+    go d false same low =
+        let less : d < n = grind (arith, nat_tests, same, low) in
+        get_or-set_other made n d x None (λ here. omega (arith, less, here)) ∙ are.done d less
+
+-- all of them
+pub all_made : (made : List (Option Draft)) (n : ℕ) (drafts : ℕ → Option Draft)
+    → AreMade made n drafts → ((d : ℕ) → n ≤ d → drafts d ≡ None)
+    → (d : ℕ) → draft_at made d ≡ drafts d
+all_made made n drafts are none d = go (ltb d n) refl
+  where
+    go : (b : Bool) → ltb d n ≡ b → draft_at made d ≡ drafts d
+    go true is = are.done d (ltb-true d n is)
+    go false is =
+        let high = ltb-false d n is in are.rest d high ∙ sym (none d high)
+
+-- ---- elements of a list
+
+pub same_within : {X : Type 0} (xs : List X) (i : ℕ) (a b : X) → i < length xs
+    → get_or xs i a ≡ get_or xs i b
+same_within [] i a b low = absurd (omega (arith, low))
+same_within (x ∷ xs) zero a b low = refl
+same_within (x ∷ xs) (suc i) a b low = same_within xs i a b (omega (arith, low))
+
+pub past_end : {X : Type 0} (xs : List X) (i : ℕ) (a : X) → length xs ≤ i → get_or xs i a ≡ a
+past_end [] i a high = refl
+past_end (x ∷ xs) zero a high = absurd (omega (arith, high))
+past_end (x ∷ xs) (suc i) a high = past_end xs i a (omega (arith, high))
+
+-- ---- rows of the drafts of the first numbers
+
+abbrev IsPricedBy : List (Option Draft) → DraftRow → Type 0
+IsPricedBy drafts row =
+    (draft : Draft) → draft_at drafts row.no ≡ Some draft → parts_of row ≡ draft.parts
+
+pub record AreFirstRows (drafts : List (Option Draft)) (n : ℕ) (rows : List DraftRow) : Type 0 where
+  pub below : (d : ℕ) → d < n
+      → map (λ (row : DraftRow). row.no) (drafts_at d rows) ≡ once (is_some (draft_at drafts d)) d
+  pub beyond : (d : ℕ) → n ≤ d → drafts_at d rows ≡ []
+  pub scored : AllByRecursion (IsPricedBy drafts) rows
+
+pub no_rows : (drafts : List (Option Draft)) → AreFirstRows drafts 0 []
+no_rows drafts = record {
+  below = λ d low. absurd (omega (arith, low));
+  beyond = λ d _. refl;
+  scored = tt;
+}
+
+-- a number without a draft
+pub none_more : (drafts : List (Option Draft)) (n : ℕ) (rows : List DraftRow)
+    → AreFirstRows drafts n rows → draft_at drafts n ≡ None → AreFirstRows drafts (n + 1) rows
+none_more drafts n rows are none = record {
+  below = λ d low. go d (eqb d n) refl low;
+  beyond = λ d high. are.beyond d (omega (arith, high));
+  scored = are.scored;
+}
+  where
+    go : (d : ℕ) (b : Bool) → eqb d n ≡ b → d < n + 1
+        → map (λ (row : DraftRow). row.no) (drafts_at d rows)
+        ≡ once (is_some (draft_at drafts d)) d
+    go d true same low =
+        let here : d ≡ n = grind (arith, nat_tests, same) in
+        ap (map (λ (row : DraftRow). row.no)) (are.beyond d (omega (arith, here)))
+        ∙ sym (ap (λ x. once (is_some x) d) (ap (draft_at drafts) here ∙ none))
+    go d false same low = are.below d (grind (arith, nat_tests, same, low))
+
+-- a draft's row
+pub row_more : (drafts : List (Option Draft)) (n : ℕ) (rows : List DraftRow) (draft : Draft)
+    (row : DraftRow) → AreFirstRows drafts n rows → draft_at drafts n ≡ Some draft → row.no ≡ n
+    → parts_of row ≡ draft.parts → AreFirstRows drafts (n + 1) (rows ++ row ∷ [])
+row_more drafts n rows draft row are some number parts = record {
+  below = λ d low. go d (eqb d n) refl low;
+  beyond = λ d high. at_end d ∙ ap (λ l. l ++ cond (eqb row.no d) (row ∷ []) []) (are.beyond d
+      (omega (arith, high)))
+      ∙ not_here d (grind (arith, nat_tests, high, number));
+  scored = all-append (IsPricedBy drafts) rows (row ∷ []) are.scored (priced, tt);
+}
+  where
+    at_end : (d : ℕ) → drafts_at d (rows ++ row ∷ [])
+        ≡ drafts_at d rows ++ cond (eqb row.no d) (row ∷ []) []
+    at_end d = filter-append (λ (r : DraftRow). eqb r.no d) rows (row ∷ [])
+
+    not_here : (d : ℕ) → eqb row.no d ≡ false → cond (eqb row.no d) (row ∷ []) [] ≡ []
+    not_here d other = ap (λ b. cond {A = List DraftRow} b (row ∷ []) []) other
+
+    some_is : {X : Type 0} {x y : X} → Some x ≡ Some y → x ≡ y
+    some_is e = cc
+
+    priced : IsPricedBy drafts row
+    priced other at =
+        parts ∙ ap (λ (x : Draft). x.parts)
+        (some_is (sym some ∙ ap (draft_at drafts) (sym number) ∙ at))
+
+    go : (d : ℕ) (b : Bool) → eqb d n ≡ b → d < n + 1
+        → map (λ (row : DraftRow). row.no) (drafts_at d (rows ++ row ∷ []))
+        ≡ once (is_some (draft_at drafts d)) d
+    go d true same low =
+        let here : d ≡ n = grind (arith, nat_tests, same) in
+        let own : eqb row.no d ≡ true = grind (arith, nat_tests, here, number) in
+        ap (map (λ (row : DraftRow). row.no)) (at_end d
+        ∙ ap (λ l. l ++ cond (eqb row.no d) (row ∷ []) []) (are.beyond d (omega (arith, here)))
+        ∙ ap (λ b. cond {A = List DraftRow} b (row ∷ []) []) own)
+        ∙ ap (λ k. k ∷ []) (number ∙ sym here)
+        ∙ sym (ap (λ x. once (is_some x) d) (ap (draft_at drafts) here ∙ some))
+    go d false same low =
+        let other : eqb row.no d ≡ false = grind (arith, nat_tests, same, number) in
+        ap (map (λ (row : DraftRow). row.no)) (at_end d
+        ∙ ap (λ l. drafts_at d rows ++ l) (not_here d other) ∙ append-nil (drafts_at d rows))
+        ∙ are.below d (grind (arith, nat_tests, same, low))
+
+-- all of them
+pub all_rows : (drafts : List (Option Draft)) (n : ℕ) (rows : List DraftRow)
+    → AreFirstRows drafts n rows → ((d : ℕ) → n ≤ d → draft_at drafts d ≡ None)
+    → AreDraftRows drafts rows
+all_rows drafts n rows are none = record {
+  numbers = λ d. go d (ltb d n) refl;
+  scored = are.scored;
+}
+  where
+    go : (d : ℕ) (b : Bool) → ltb d n ≡ b
+        → map (λ (row : DraftRow). row.no) (drafts_at d rows)
+        ≡ once (is_some (draft_at drafts d)) d
+    go d true is = are.below d (ltb-true d n is)
+    go d false is =
+        let high = ltb-false d n is in
+        ap (map (λ (row : DraftRow). row.no)) (are.beyond d high)
+        ∙ sym (ap (λ x. once (is_some x) d) (none d high))
+
+-- the rows of one number more, as parts of a transaction
+module _ (drafts : List (Option Draft)) (n : ℕ) (old new : List InsertDraft)
+    (are : AreFirstRows drafts n (map (λ (it : InsertDraft). it.row) old))
+    (small : AllByRecursion (λ (it : InsertDraft). AreAmounts it.row) old) where
+  pub record AreMore : Type 0 where
+    pub rows : AreFirstRows drafts (n + 1) (map (λ (it : InsertDraft). it.row) new)
+    pub amounts : AllByRecursion (λ (it : InsertDraft). AreAmounts it.row) new
+
+  pub more_rows : (x : Option Draft) → draft_at drafts n ≡ x → (x ≡ None → new ≡ old)
+      → ((y : Draft) → x ≡ Some y → (row : DraftRow) × (new ≡ old ++ (record { row = row } ∷ []))
+      × (row.no ≡ n) × (parts_of row ≡ y.parts) × AreAmounts row)
+      → AreMore
+  more_rows None at same adds =
+      let is = same refl in
+      record {
+        rows = subst (λ l. AreFirstRows drafts (n + 1) (map (λ (it : InsertDraft). it.row) l))
+            (sym is) (none_more drafts n (map (λ (it : InsertDraft). it.row) old) are at);
+        amounts = subst (AllByRecursion (λ (it : InsertDraft). AreAmounts it.row)) (sym is) small;
+      }
+  more_rows (Some y) at same adds =
+      let added = adds y refl in
+      let one : InsertDraft = record { row = added.0 } in
+      let rows = map-append (λ (it : InsertDraft). it.row) old (one ∷ []) in
+      record {
+        rows = subst (λ l. AreFirstRows drafts (n + 1) (map (λ (it : InsertDraft). it.row) l))
+            (sym added.1)
+            (subst (AreFirstRows drafts (n + 1)) (sym rows)
+            (row_more drafts n (map (λ (it : InsertDraft). it.row) old) y added.0 are at added.2
+            added.3));
+        amounts = subst (AllByRecursion (λ (it : InsertDraft). AreAmounts it.row)) (sym added.1)
+            (all-append (λ (it : InsertDraft). AreAmounts it.row) old (one ∷ []) small
+            (added.4, tt));
+      }

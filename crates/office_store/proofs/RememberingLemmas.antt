@@ -1,0 +1,114 @@
+-- What is in memory after a command.
+use Rattle.std.proofs.Common.{◌≡◌, ℕ, ◌+◌, ◌≢◌, Bool, true, false, cond, eqb, List, length, Option, Some, None, Result, Ok, option_map, refl, sym, ◌∙◌, ap, subst, arith}
+use Rattle.std.specs.Prelude.{IfSome}
+use Rattle.std.proofs.lemmas.Bool.Decides.{nat_tests}
+use Rattle.exam_model.specs.Enrolments.{Enrolled}
+use Rattle.exam_model.specs.Instance.{Session}
+use Rattle.exam_model.specs.Timetable.{Placing}
+use Rattle.office_enrolment.specs.AfterBatch.{latest}
+use Rattle.office_model.specs.Office.{OfficeState, Records, set_at}
+use Rattle.office_model.specs.declared.fault.StoreFault.{StoreFault}
+use Rattle.office_store.specs.Memory.{AreRescored, HasPut, IsMemoryOf, IsRenewed, draft_at, rescored, scored_by}
+use Rattle.office_store.specs.declared.memory.Draft.{Draft}
+use Rattle.office_store.specs.declared.memory.OfficeMemory.{OfficeMemory}
+
+-- a command leads to one office
+pub next_is : {A : Type 0} {x y : A} {o p : OfficeState}
+    {gives : Result (A × OfficeState) StoreFault}
+    → gives ≡ Ok (x, o) → gives ≡ Ok (y, p) → p ≡ o
+next_is {A} one other = ap (λ (p : A × OfficeState). p.1) (ok_is (sym other ∙ one))
+  where
+    ok_is : {X : Type 0} {x y : X} → ◌≡◌ {A = Result X StoreFault} (Ok x) (Ok y) → x ≡ y
+    ok_is e = cc
+
+-- one draft is put in place of another
+pub one_changed : (r : Records) (m n : OfficeMemory) (d : ℕ) (x : Option Placing)
+    → IsMemoryOf (Some r) m → HasPut d (option_map (scored_by r.session r.enrolments) x) m n
+    → IsMemoryOf (Some (record r { draft = set_at d x r.draft })) n
+one_changed r m n d x is put = record {
+  session = is.session ∙ sym put.kept;
+  batches = is.batches ∙ sym put.batches;
+  drafts = λ e. go e (eqb e d) refl;
+}
+  where
+    go : (e : ℕ) (b : Bool) → eqb e d ≡ b → draft_at n.drafts e
+        ≡ option_map (scored_by r.session r.enrolments) (cond b x (r.draft e))
+    go e true same =
+        let here : e ≡ d = grind (arith, nat_tests, same) in
+        ap (draft_at n.drafts) here ∙ put.put
+    go e false same =
+        put.others e (λ here. let there : eqb e d ≡ true = grind (arith, nat_tests, here) in cc)
+        ∙ is.drafts e
+
+-- the session, the batches and the drafts stay
+pub all_stays : (r s : Records) (m : OfficeMemory) → IsMemoryOf (Some r) m
+    → s.session ≡ r.session → s.enrolments ≡ r.enrolments → s.batches ≡ r.batches
+    → s.draft ≡ r.draft → IsMemoryOf (Some s) m
+all_stays r s m is session enrolments batches drafts = record {
+  session = ap (λ I. Some (I, s.enrolments)) session ∙ ap (λ E. Some (r.session, E)) enrolments
+      ∙ is.session;
+  batches = ap length batches ∙ is.batches;
+  drafts = λ d. is.drafts d
+      ∙ sym (ap (λ I. option_map (scored_by I s.enrolments) (s.draft d)) session
+      ∙ ap (λ E. option_map (scored_by r.session E) (s.draft d)) enrolments
+      ∙ ap (λ (f : ℕ → Option Placing). option_map (scored_by r.session r.enrolments) (f d))
+      drafts);
+}
+
+-- ---- a batch
+
+pub twice : (I J : Session) (E F : Enrolled) (x : Option Placing)
+    → option_map (rescored I F) (option_map (scored_by J E) x) ≡ option_map (scored_by I F) x
+twice I J E F None = refl
+twice I J E F (Some T) = refl
+
+module _ (r s : Records) (m n : OfficeMemory) (I : Session) (E : Enrolled)
+    (kept : m.kept ≡ Some (I, E)) (drafts : List (Option Draft)) (is : IsMemoryOf (Some r) m)
+    (session : s.session ≡ r.session) (same : s.draft ≡ r.draft)
+    (count : length s.batches ≡ length r.batches + 1) (batches : n.batches ≡ m.batches + 1) where
+  both : ◌≡◌ {A = Session × Enrolled} (r.session, r.enrolments) (I, E)
+  both = some_is (is.session ∙ kept)
+    where
+      some_is : {X : Type 0} {x y : X} → Some x ≡ Some y → x ≡ y
+      some_is e = cc
+
+  session_is : s.session ≡ I
+  session_is = session ∙ ap (λ (p : Session × Enrolled). p.0) both
+
+  one_more : length s.batches ≡ n.batches
+  one_more = let old = is.batches in omega (arith, count, batches, old)
+
+  -- other enrolments
+  made : (F : Enrolled) → s.enrolments ≡ F → n.kept ≡ Some (I, F) → n.drafts ≡ drafts
+      → AreRescored I F m.drafts drafts → IsMemoryOf (Some s) n
+  made F enrolled now anew scored = record {
+    session = ap (λ J. Some (J, s.enrolments)) session_is ∙ ap (λ G. Some (I, G)) enrolled ∙ sym
+        now;
+    batches = one_more;
+    drafts = λ d. ap (λ l. draft_at l d) anew ∙ scored d
+        ∙ ap (option_map (rescored I F)) (is.drafts d)
+        ∙ twice I r.session r.enrolments F (r.draft d)
+        ∙ sym (ap (λ J. option_map (scored_by J s.enrolments) (s.draft d)) session_is
+        ∙ ap (λ G. option_map (scored_by I G) (s.draft d)) enrolled
+        ∙ ap (λ (f : ℕ → Option Placing). option_map (scored_by I F) (f d)) same);
+  }
+
+  -- the same
+  left : s.enrolments ≡ r.enrolments → n.kept ≡ Some (I, E) → n.drafts ≡ m.drafts
+      → IsMemoryOf (Some s) n
+  left enrolled now old = record {
+    session = ap (λ J. Some (J, s.enrolments)) session ∙ ap (λ G. Some (r.session, G)) enrolled
+        ∙ is.session ∙ kept ∙ sym now;
+    batches = one_more;
+    drafts = λ d. ap (λ l. draft_at l d) old ∙ is.drafts d
+        ∙ sym (ap (λ J. option_map (scored_by J s.enrolments) (s.draft d)) session
+        ∙ ap (λ G. option_map (scored_by r.session G) (s.draft d)) enrolled
+        ∙ ap (λ (f : ℕ → Option Placing). option_map (scored_by r.session r.enrolments) (f d))
+        same);
+  }
+
+  pub after_lines : (F : Option Enrolled) → s.enrolments ≡ latest F r.enrolments
+      → IsRenewed I E F drafts m n → IfSome F (λ F. AreRescored I F m.drafts drafts)
+      → IsMemoryOf (Some s) n
+  after_lines None enrolled renewed scored = left enrolled renewed.0 renewed.1
+  after_lines (Some F) enrolled renewed scored = made F enrolled renewed.0 renewed.1 scored

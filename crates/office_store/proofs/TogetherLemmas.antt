@@ -1,0 +1,151 @@
+-- What is in memory fits together, whatever the disk returns.
+use Rattle.std.proofs.Common.{◌≡◌, ℕ, ◌<◌, ◌≤◌, Bool, true, false, eqb, List, length, set, Option, Some, None, option_map, refl, sym, ◌∙◌, ap, subst, arith}
+use Rattle.std.specs.Prelude.{IfSome, nat_le}
+use Rattle.std.proofs.lemmas.Bool.Decides.{nat_tests}
+use Rattle.std.proofs.lemmas.List.{get_or-set_same, get_or-set_other}
+use Rattle.exam_model.specs.Enrolments.{Enrolled}
+use Rattle.exam_model.specs.Fits.{Fits, Suits}
+use Rattle.exam_model.specs.Instance.{Session}
+use Rattle.office_records.specs.Memory.{AreTogether}
+use Rattle.office_store.specs.Memory.{AreRescored, AreSuited, HasPut, IsRenewed, IsTogether, draft_at, rescored}
+use Rattle.office_store.specs.declared.memory.Draft.{Draft}
+use Rattle.office_store.specs.declared.memory.OfficeMemory.{OfficeMemory}
+
+some_is : {X : Type 0} {x y : X} → Some x ≡ Some y → x ≡ y
+some_is e = cc
+
+no_one : {X : Type 0} {x : X} {o : Option X} → o ≡ None → o ≡ Some x → ⊥
+no_one none some = cc
+
+-- ---- there is no draft
+
+pub none_suited : (I : Session) (drafts : List (Option Draft))
+    → ((d : ℕ) → draft_at drafts d ≡ None) → AreSuited I drafts
+none_suited I drafts none d draft at = absurd (no_one (none d) at)
+
+-- one draft more
+pub one_suited : (I : Session) (drafts : List (Option Draft)) (n : ℕ) (x : Option Draft)
+    → AreSuited I drafts → n < length drafts → IfSome x (λ draft. Suits I draft.timetable)
+    → AreSuited I (set drafts n x)
+one_suited I drafts n x suited within suits d draft at = go (eqb d n) refl
+  where
+    go : (b : Bool) → eqb d n ≡ b → Suits I draft.timetable
+    go true same =
+        let here : d ≡ n = grind (arith, nat_tests, same) in
+        let is : x ≡ Some draft = sym (get_or-set_same drafts n x None within)
+        ∙ ap (draft_at (set drafts n x)) (sym here) ∙ at in
+        subst (λ y. IfSome y (λ draft. Suits I draft.timetable)) is suits
+    go false same =
+        suited d draft (sym (get_or-set_other drafts n d x None
+        (λ here. let there : eqb d n ≡ true = grind (arith, nat_tests, here) in cc)) ∙ at)
+
+pub loaded_together : (I : Session) (E : Enrolled) (n : OfficeMemory) → n.kept ≡ Some (I, E)
+    → length E ≡ length I.exams → ((d : ℕ) → draft_at n.drafts d ≡ None) → IsTogether n
+loaded_together I E n kept exams none = record {
+  exams = subst AreTogether (sym kept) exams;
+  drafts = λ J F is d draft at. absurd (no_one (none d) at);
+}
+
+pub unloaded_together : (n : OfficeMemory) → n.kept ≡ None
+    → ((d : ℕ) → draft_at n.drafts d ≡ None) → IsTogether n
+unloaded_together n kept none = record {
+  exams = subst AreTogether (sym kept) tt;
+  drafts = λ J F is d draft at. absurd (no_one (none d) at);
+}
+
+-- ---- a draft, or none, is put in
+
+module _ (d : ℕ) (m n : OfficeMemory) (x : Option Draft) (together : IsTogether m)
+    (suits : (I : Session) (E : Enrolled) → m.kept ≡ Some (I, E)
+    → IfSome x (λ draft. Suits I draft.timetable)) where
+  at_number : (put : HasPut d x m n) (I : Session) (E : Enrolled) → n.kept ≡ Some (I, E)
+      → (e : ℕ) (b : Bool) → eqb e d ≡ b → (draft : Draft) → draft_at n.drafts e ≡ Some draft
+      → Suits I draft.timetable
+  at_number put I E kept e true same draft at =
+      let here : e ≡ d = grind (arith, nat_tests, same) in
+      let is : x ≡ Some draft = sym put.put ∙ ap (draft_at n.drafts) (sym here) ∙ at in
+      subst (λ y. IfSome y (λ draft. Suits I draft.timetable)) is
+      (suits I E (sym put.kept ∙ kept))
+  at_number put I E kept e false same draft at =
+      together.drafts I E (sym put.kept ∙ kept) e draft
+      (sym (put.others e
+      (λ here. let there : eqb e d ≡ true = grind (arith, nat_tests, here) in cc)) ∙ at)
+
+  put_in : HasPut d x m n → IsTogether n
+  put_in put = record {
+    exams = subst AreTogether (sym put.kept) together.exams;
+    drafts = λ I E kept e draft at. at_number put I E kept e (eqb e d) refl draft at;
+  }
+
+  pub put_together : (d ≤ 8 → HasPut d x m n) → (8 < d → n ≡ m) → IsTogether n
+  put_together within beyond = go (nat_le d 8) refl
+    where
+      go : (b : Bool) → nat_le d 8 ≡ b → IsTogether n
+      go true is = put_in (within (grind (arith, nat_tests, is)))
+      go false is = subst IsTogether (sym (beyond (grind (arith, nat_tests, is)))) together
+
+-- a draft is gone
+pub none_together : (d : ℕ) (m n : OfficeMemory) → IsTogether m → (d ≤ 8 → HasPut d None m n)
+    → (8 < d → n ≡ m) → IsTogether n
+none_together d m n together = put_together d m n None together (λ I E kept. tt)
+
+-- a draft of the session
+pub draft_together : (d : ℕ) (m n : OfficeMemory) (draft : Draft) → IsTogether m
+    → ((I : Session) (E : Enrolled) → m.kept ≡ Some (I, E) → Suits I draft.timetable)
+    → (d ≤ 8 → HasPut d (Some draft) m n) → (8 < d → n ≡ m) → IsTogether n
+draft_together d m n draft together suits = put_together d m n (Some draft) together suits
+
+-- what fits these enrolments is a timetable of the session
+pub suits_of : (m : OfficeMemory) (I : Session) (E : Enrolled) (draft : Draft)
+    → m.kept ≡ Some (I, E) → Fits I E draft.timetable
+    → (J : Session) (F : Enrolled) → m.kept ≡ Some (J, F) → Suits J draft.timetable
+suits_of m I E draft kept fits J F other =
+    subst (λ (K : Session). Suits K draft.timetable)
+    (ap (λ (p : Session × Enrolled). p.0) (some_is (sym kept ∙ other)))
+    (record { exams = fits.timetable; places = fits.places })
+
+-- ---- a draft in memory
+
+pub fits_in : (m : OfficeMemory) → IsTogether m → (I : Session) (E : Enrolled)
+    → m.kept ≡ Some (I, E) → (d : ℕ) (draft : Draft) → draft_at m.drafts d ≡ Some draft
+    → Fits I E draft.timetable
+fits_in m together I E kept d draft at =
+    let suits = together.drafts I E kept d draft at in
+    record {
+      enrolments = subst AreTogether kept together.exams;
+      timetable = suits.exams;
+      places = suits.places;
+    }
+
+-- ---- a batch
+
+-- rescored drafts have the timetables that they had
+rescored_suit : (I : Session) (F : Enrolled) (old new : List (Option Draft)) → AreSuited I old
+    → AreRescored I F old new → AreSuited I new
+rescored_suit I F old new suited scored d draft at =
+    go (draft_at old d) refl (sym (scored d) ∙ at)
+  where
+    go : (x : Option Draft) → draft_at old d ≡ x → option_map (rescored I F) x ≡ Some draft
+        → Suits I draft.timetable
+    go None is made = absurd cc
+    go (Some before) is made =
+        subst (λ (y : Draft). Suits I y.timetable) (some_is made) (suited d before is)
+
+pub renewed_together : (m n : OfficeMemory) (I : Session) (E : Enrolled) → m.kept ≡ Some (I, E)
+    → IsTogether m → (F : Option Enrolled) (drafts : List (Option Draft))
+    → IsRenewed I E F drafts m n → IfSome F (λ F. length F ≡ length I.exams)
+    → IfSome F (λ F. AreRescored I F m.drafts drafts) → IsTogether n
+renewed_together m n I E kept together None drafts renewed exams scored = record {
+  exams = subst AreTogether (kept ∙ sym renewed.0) together.exams;
+  drafts = λ J G is. subst (AreSuited J) (sym renewed.1)
+      (together.drafts J G (kept ∙ sym renewed.0 ∙ is));
+}
+renewed_together m n I E kept together (Some F) drafts renewed exams scored = record {
+  exams = subst AreTogether (sym renewed.0) exams;
+  drafts = λ J G is.
+      let session : I ≡ J
+      = ap (λ (p : Session × Enrolled). p.0) (some_is (sym renewed.0 ∙ is)) in
+      subst (λ K. AreSuited K n.drafts) session
+      (subst (AreSuited I) (sym renewed.1)
+      (rescored_suit I F m.drafts drafts (together.drafts I E kept) scored));
+}

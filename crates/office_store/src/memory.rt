@@ -1,0 +1,114 @@
+// What an office keeps in memory of its tables.
+ghost use Rattle.std.specs.Prelude.{◌≡◌, ◌+◌, ◌≤◌, ◌<◌, ℕ, IfNone, IfSome, None, Some, is_some, length};
+ghost use Rattle.exam_terms.specs.declared.limits.TheConstants.{MAX_BATCHES, MAX_DRAFTS};
+ghost use Rattle.exam_model.specs.Enrolments.{Enrolled};
+ghost use Rattle.exam_model.specs.Instance.{Session};
+ghost use Rattle.office_store.specs.Memory.{HasPut, IsRenewed, draft_at};
+
+use exam_model::{Enrolments, Instance, Timetable};
+use exam_score::Parts;
+use exam_terms::limits::MAX_DRAFTS;
+
+// A draft with its penalty.
+#[derive(Drop)]
+pub(crate) struct Draft {
+    pub(crate) timetable: Timetable,
+    pub(crate) parts: Parts,
+}
+
+// The numbers that a draft may have, and 0, which none has.
+pub(crate) const NUMBERS: usize = MAX_DRAFTS as usize + 1;
+
+// The drafts, each under its number.
+pub(crate) type Drafts = [Option<Draft>; NUMBERS];
+
+// What the tables hold of the session, the batches and the drafts.
+#[derive(Drop)]
+pub(crate) struct OfficeMemory {
+    // The session and its live enrolments, once there is one.
+    pub(crate) kept: Option<(Instance, Enrolments)>,
+    // How many batches it keeps.
+    pub(crate) batches: usize,
+    pub(crate) drafts: Drafts,
+}
+
+impl OfficeMemory {
+    // Returns what is in memory before a load.
+    pub(crate) fn new() -> OfficeMemory
+        ensures kept { result.kept ≡ None }
+        ensures batches { result.batches ≡ 0 }
+        ensures drafts { (d : ℕ) → draft_at result.drafts d ≡ None }
+    {
+        OfficeMemory {
+            kept: None,
+            batches: 0,
+            drafts: no_drafts(),
+        }
+    }
+
+    // Returns what is in memory of a session that has just been loaded.
+    pub(crate) fn of_session(instance: Instance, enrolments: Enrolments) -> OfficeMemory
+        ensures kept { result.kept ≡ Some (instance, enrolments) }
+        ensures batches { result.batches ≡ 0 }
+        ensures drafts { (d : ℕ) → draft_at result.drafts d ≡ None }
+    {
+        OfficeMemory {
+            kept: Some((instance, enrolments)),
+            batches: 0,
+            drafts: no_drafts(),
+        }
+    }
+
+    // Returns the draft of a number, if there is one.
+    pub(crate) fn draft(&self, number: u32) -> Option<&Draft>
+        ensures some { IfSome result (λ draft. draft_at self.now.drafts number ≡ Some draft.now) }
+        ensures none { IfNone result (draft_at self.now.drafts number ≡ None) }
+    {
+        match self.drafts.get(number as usize) {
+            Some(Some(draft)) => Some(draft),
+            _ => None,
+        }
+    }
+
+    // Returns whether there is a draft of a number.
+    pub(crate) fn has_draft(&self, number: u32) -> bool
+        ensures { result ≡ is_some (draft_at self.now.drafts number) }
+    {
+        self.draft(number).is_some()
+    }
+
+    // Puts a draft, or none, under a number, in place of what is there.
+    pub(crate) fn put(&mut self, number: u32, draft: Option<Draft>)
+        ensures put { number ≤ MAX_DRAFTS → HasPut number draft self.old self.new }
+        ensures beyond { MAX_DRAFTS < number → self.new ≡ self.old }
+    {
+        if number <= MAX_DRAFTS {
+            self.drafts[number as usize] = draft;
+        }
+    }
+
+    // Keeps one batch more, and what it made of the enrolments and the drafts, if a line acted.
+    pub(crate) fn renew(&mut self, enrolments: Option<Enrolments>, drafts: Drafts)
+        requires room { self.old.batches < MAX_BATCHES }
+        ensures batches { self.new.batches ≡ self.old.batches + 1 }
+        ensures renewed { (I : Session) (E : Enrolled) → self.old.kept ≡ Some (I, E)
+            → IsRenewed I E enrolments drafts self.old self.new }
+    {
+        self.batches += 1;
+        let Some(enrolments) = enrolments else {
+            return;
+        };
+        if let Some((instance, _)) = self.kept.take() {
+            self.kept = Some((instance, enrolments));
+            self.drafts = drafts;
+        }
+    }
+}
+
+// Returns no draft under any number.
+pub(crate) fn no_drafts() -> Drafts
+    ensures none { (d : ℕ) → draft_at result d ≡ None }
+    ensures size { length result ≡ 9 }
+{
+    [None, None, None, None, None, None, None, None, None]
+}
