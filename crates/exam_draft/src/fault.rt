@@ -1,3 +1,4 @@
+// Why an edit is refused.
 use exam_rules::Breach;
 use std::alloc::AllocError;
 

@@ -1,3 +1,4 @@
+// Why a value of a session is refused.
 ghost use Rattle.std.specs.Prelude.{◌≡◌};
 ghost use Rattle.exam_model.specs.declared.fault.ModelFault.TheVariants.{NoMemory};
 

@@ -1,3 +1,4 @@
+// Costs of two exams of one student.
 ghost use Rattle.std.specs.Prelude.{◌≡◌, ℕ};
 ghost use Rattle.exam_model.specs.PairCost.{CostLaws};
 

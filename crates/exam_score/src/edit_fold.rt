@@ -75,6 +75,7 @@ impl<'a> EditFold<'a> {
           after = record { row = 0; day = 0; spread = 0 };
           current = [];
         }) }
+        // It represents no pairs.
         ensures stands { IfOk result (λ fold. StandsFor fold []) }
     {
         let exams = Vec::with_capacity(alloc, instance.exams() as usize)?;
@@ -96,6 +97,7 @@ impl<'a> EditFold<'a> {
     pub fn row(&mut self, student: StudentNo, exam: ExamNo) -> Result<(), AllocError>
         requires few { self.old.count < MAX_PAIRS }
         requires follows { CanFollow self.old (record { exam = exam; student = student }) }
+        // The fold represents the pairs that it represented, with this one appended.
         ensures ok { (pairs : List Pair) → StandsFor self.old pairs
             → OnOk result (StandsFor self.new
             (pairs ++ record { exam = exam; student = student } ∷ [])) }
@@ -126,11 +128,15 @@ impl<'a> EditFold<'a> {
     /// answer is None only where a part would fall below zero, or the total reach 2^62.
     pub fn finish(self, sizes: &[u32], old_parts: Parts) -> Option<Parts>
         requires sizes { length sizes.now ≡ length self.instance.exams }
+        // If the fold took exactly the pairs of the students who sit an edited exam, this is the
+        // penalty of the new timetable.
         ensures scored { (E : Enrolled) (pairs : List Pair) → StandsFor self.entry pairs
             → IsOfEdit self.entry E pairs sizes.now old_parts
             → result ≡ Some (track self.entry.instance E self.entry.later) }
+        // Each part is the old one, with the old amounts replaced by the new ones.
         ensures made { IfSome result (IsExchanged old_parts
             (going self.entry sizes.now) (coming self.entry sizes.now)) }
+        // No such penalty has a total below 2^62.
         ensures none { IfNone result (CannotExchange old_parts
             (going self.entry sizes.now) (coming self.entry sizes.now)) }
     {

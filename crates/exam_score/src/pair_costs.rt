@@ -23,7 +23,10 @@ impl PairCost for RowCost<'_> {
     ghost cost_of = { row_cost_of };
 
     fn cost(&self, one: PeriodNo, other: PeriodNo) -> u64
+        // The cost of the trait: the same number, cut at 100,000, which no weight of an instance
+        // exceeds.
         ensures capped { result ≡ row_cost_of self.now one other }
+        // The weight of two in a row if both periods exist, have one date and are adjacent, else 0.
         ensures case { result ≡ row_cost self.now.0.now.periods self.now.0.now.weights one other }
     {
         let adjacent = one.get().abs_diff(other.get()) == 1;
@@ -42,7 +45,10 @@ impl PairCost for DayCost<'_> {
     ghost cost_of = { day_cost_of };
 
     fn cost(&self, one: PeriodNo, other: PeriodNo) -> u64
+        // The cost of the trait: the same number, cut at 100,000.
         ensures capped { result ≡ day_cost_of self.now one other }
+        // The weight of two in a day if both periods have one date and are at least two apart, else
+        // 0.
         ensures case { result ≡ day_cost self.now.0.now.periods self.now.0.now.weights one other }
     {
         let apart = one.get().abs_diff(other.get()) >= 2;
@@ -61,6 +67,8 @@ impl PairCost for SpreadCost<'_> {
     ghost cost_of = { spread_cost_of };
 
     fn cost(&self, one: PeriodNo, other: PeriodNo) -> u64
+        // 1 if both periods exist and are at least one and at most the spread apart, overnight too,
+        // else 0.
         ensures { result ≡ spread_cost_of self.now one other }
     {
         let gap = one.get().abs_diff(other.get());

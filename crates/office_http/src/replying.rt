@@ -27,6 +27,9 @@ pub fn reply<S: Alter>(
     desk: &mut Desk<S>,
     request: &Request<'_>,
 ) -> Reply
+    // One step of the office that the file represents, with its answer's reply; or a refusal that
+    // needs nothing stored; or a 503, and nothing was done. After a 200 or a 201 the store is open,
+    // and all that was written is committed.
     ensures answered { Answered S.Store desk.old (plain_request request.now) (plain_reply result)
         desk.new }
     // A candidate is replied the text of her view, and nothing else that is stored.

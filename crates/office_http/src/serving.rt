@@ -54,6 +54,8 @@ pub fn serve<R: Read, W: Write, S: Alter>(
     ensures told { IfOk result (λ served. LeadsOffice S.Store
         (λ office next. ServesByView (R.remaining reader.old) (W.contents writer.old)
         (W.contents writer.new) office next served) desk.old desk.new) }
+    // The same of the first of the messages. If the writer failed, all replies but the last went
+    // out whole, and the last command is done too.
     ensures err { IfErr result (λ fault. LeadsOffice S.Store
         (AnswersFront (R.remaining reader.old) (W.contents writer.old) (W.contents writer.new)
         fault) desk.old desk.new) }

@@ -103,12 +103,19 @@ pub fn serve<R: Read, W: Write, M: Machine>(
     machine: &mut M,
     turns: &mut u64,
 ) -> Result<Served, ServeFault>
+    // Over a reader and a writer that tell their bytes, for any machine: what was written is its
+    // replies to the messages of the whole stream, one after another, in whatever pieces it came.
+    // The result has their number and the end.
     ensures ok { IfOk result (λ served. Serves M.Answers (R.remaining reader.old)
         (W.contents writer.old) (W.contents writer.new) machine.old machine.new served) }
+    // The same of the requests that the stream begins with. If the writer failed, the machine is as
+    // after the last of them; all replies but the last went out whole, and of the last a front.
     ensures err { IfErr result (λ fault. ServesFront M.Answers (R.remaining reader.old)
         (W.contents writer.old) (W.contents writer.new) machine.old machine.new fault) }
+    // What it reads is at the front of what is left of the reader.
     ensures taken { (bytes : List ℕ)
         × Consumes (R.remaining reader.old) (R.remaining reader.new) bytes }
+    // `TooMany` comes only if no turn is left.
     ensures spent { IfErr result (λ fault. fault ≡ ServeFault.TooMany → turns.new ≡ 0) }
     ensures turns { turns.new ≤ turns.old }
 {

@@ -11,8 +11,11 @@ use std::io::{ErrorKind, Read};
 /// closes then. A turn is one call of `read`, also of an interrupted one, which is tried again;
 /// those used are taken from `turns`.
 pub fn drain<R: Read>(reader: &mut R, turns: &mut u64) -> Result<(), ServeFault>
+    // An Ok comes only at the end of the input.
     ensures ok { OnOk result (IsAtEnd (R.remaining reader.new)) }
+    // `Read`, or `TooMany` if no turn is left.
     ensures err { IfErr result (λ fault. (fault ≡ ServeFault.Read) ⊎ (fault ≡ ServeFault.TooMany)) }
+    // What it reads is at the front of what is left of the reader.
     ensures taken { (bytes : List ℕ)
         × Consumes (R.remaining reader.old) (R.remaining reader.new) bytes }
     ensures spent { IfErr result (λ fault. fault ≡ ServeFault.TooMany → turns.new ≡ 0) }

@@ -11,6 +11,8 @@ use crate::connection::Machine;
 /// A stream has one reading, but where the input ends within a faulty head, before an empty line
 /// behind a line that isn't empty: there the head may be refused, or the connection be cut.
 pub fn one_reading()
+    // The input ends so if less than 16,384 bytes are left, without an empty line after a line that
+    // isn't empty, and if no continuation with at most 32 fields makes them a head.
     ensures { (stream : List ℕ) (items others : List Item) (end last : End)
         → Messages items end 0 stream → Messages others last 0 stream
         → Agree stream items end others last }

@@ -78,6 +78,8 @@ pub fn export_run<S: Alter, W: Write>(
     ensures done { IfOk result (λ after. HasCleanDisk (state S.Store after)
         → (there : OfficeState) → IsKept (state S.Store conn).now there
         → Exports there (state S.Store after) (W.contents writer.old) (W.contents writer.new)) }
+    // A fault is a failed statement, `NoPublication`, out of memory or the writer's; `BadSchema` if
+    // the tables represent no office.
     ensures refused { IfErr result (λ e. HasCleanDisk (state S.Store e.1)
         → (there : OfficeState) → IsKept (state S.Store conn).now there
         → RefusesExport there e.0) }

@@ -62,6 +62,7 @@ pub fn load_run<S: Alter, W: Write>(
         → (there : OfficeState) → IsOfficeOf (state S.Store conn).now there
         → Loads text.now there (state S.Store after)
         (W.contents writer.old) (W.contents writer.new)) }
+    // A fault is the office's own refusal, or all is done but the line.
     ensures refused { IfErr result (λ e. HasCleanDisk (state S.Store e.1)
         → (there : OfficeState) → IsOfficeOf (state S.Store conn).now there
         → RefusesLoad text.now there (state S.Store e.1) e.0) }

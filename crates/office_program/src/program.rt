@@ -50,9 +50,11 @@ pub fn run_program<O: Write, E: Write>(
     // finds, or that they name no fault.
     ensures answered { result.status ≡ 0 → AreAnswered (map string_bytes words.now) }
     ensures mistake { result.status ≡ 2 → fault_of_words (map string_bytes words.now) ≢ [] }
+    // A judgement that finds a breach comes only for words without a mistake.
     ensures broken { result.status ≡ 3 → fault_of_words (map string_bytes words.now) ≡ [] }
 
     // A judgement is the report of two texts, written whole, or a line for each of some solutions.
+    // The texts have a reading. Of some solutions, one has a breach and none a fault.
     ensures reported { result.status ≡ 3
         → (task : Task) × IsTask (map string_bytes words.now) task
         × PrintsBroken task (O.contents out.old) (O.contents out.new) }
@@ -64,12 +66,16 @@ pub fn run_program<O: Write, E: Write>(
     ensures unprinted { result.status ≡ 2 → out.new ≡ out.old }
 
     // What is done is the task of the words, and what it prints is written whole.
+    // Of `serve` that is the line of the port, of `export` the solution of a whole timetable, of
+    // `explain` the words of the fault.
     ensures done { result.status ≡ 0 → fault_of_words (map string_bytes words.now) ≡ []
         → (task : Task) × IsTask (map string_bytes words.now) task
         × Prints task (O.contents out.old) (O.contents out.new) }
 
     // Status 1 comes with the line of a fault of the words, written whole, unless `err` failed; and
     // where it is none of writing, `out` is as it was, or the port was told there.
+    // `check`, `load`, `export` and `explain` write nothing else there; of `serve` it is the last
+    // line; of `check-all` there is a line for each solution with a fault, with its path.
     ensures told { result.status ≡ 1 → IsTrue result.is_told
         → TellsFault E.contents (map string_bytes words.now) err.old err.new
         (O.contents out.old) (O.contents out.new) }
@@ -241,6 +247,7 @@ fn print_fault<W: Write>(fault: &ProgramFault<'_>, err: &mut W) -> io::Result<()
 /// Answers a command line that is no list of texts.
 pub fn refuse_arguments<E: Write>(fault: &io::Error, err: &mut E) -> Ending
     ensures within { (result.status ≡ 1) ⊎ (result.status ≡ 2) }
+    // 1 for out of memory, else 2.
     ensures memory { (result.status ≡ 1) ↔ (error_kind fault.now ≡ failure.OutOfMemory) }
 
     // The line of the one or of the other is written whole, unless `err` failed.

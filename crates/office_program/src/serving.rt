@@ -67,6 +67,7 @@ pub fn serve_stored<'a, S: Alter, O: Write, E: Write>(
         → ((state S.Store conn).now ≡ (state S.Store conn).committed)
         → (there : OfficeState) → IsOfficeOf (state S.Store conn).now there
         → ComesTo terms.connections there (state S.Store result.0) }
+    // As of `serve_desk`.
     ensures served { IfOk result.1 (PrintsServed terms (O.contents out.old) (O.contents out.new)
         (E.contents err.old) (E.contents err.new)) }
     ensures fault { IfErr result.1 IsOfServe }
@@ -95,9 +96,13 @@ pub fn serve_desk<'a, S: Alter, O: Write, E: Write>(
     ensures reached { ServesTerms S.Store (λ visits. Unit {0}) terms result desk.old desk.new
         (E.contents err.old) (E.contents err.new) }
     ensures clean { HasCleanDisk (state S.Store desk.new) → HasCleanDisk (state S.Store desk.old) }
+    // The line of the port was written: of the one asked for, or of any if that was 0. If no line
+    // failed, each connection that ended with a fault has its line on `err`.
     ensures served { IfOk result (PrintsServed terms (O.contents out.old) (O.contents out.new)
         (E.contents err.old) (E.contents err.new)) }
+    // A fault of a database, of an office or of listening.
     ensures fault { IfErr result IsOfServe }
+    // Unless the writer failed, nothing was printed, or the line of the port.
     ensures port { IfErr result
         (LeavesPort terms (O.contents out.old) (O.contents out.new)) }
 {
@@ -145,6 +150,9 @@ pub fn serve_at_desk<
     // pieces and at whatever pace it comes, or, after a fault, to the first of them; the office
     // goes from one client to the next, and the file represents it after the last. Each candidate
     // is replied the text of their view.
+    // As many clients were served as the terms say; or fewer, and an accept failed, or a failed
+    // call of the disk has shut the store and the fault is `Store`; or nobody. The lines on `err`
+    // are those of the faults that connections ended with, unless a line could not be written.
     ensures served { ServesTerms S.Store
         (AreOfClients I.next_gives R.remaining W.contents clients.old) terms result
         desk.old desk.new (E.contents err.old) (E.contents err.new) }

@@ -76,7 +76,12 @@ pub fn words_of(alloc: Global, args: Args) -> io::Result<Vec<String>>
 /// The command that the words give, of which the first is the program's name. An error shows as
 /// the text for the user: a mistake in the words, a call for help or the version, or out of memory.
 pub fn read_words(alloc: Global, words: &[String]) -> Result<Task, Error>
+    // The values are those that clap finds. A number is the one that its text spells: a port of at
+    // most 65,535, 1 to 1,000,000 connections, a timeout of 1 to 86,400 seconds, 30 if none is
+    // given. The words of `explain` are those of the fault of this kind and number.
     ensures task { IfOk result (IsTask (map string_bytes words.now)) }
+    // An error is a mistake that clap finds, or a fault to explain that doesn't exist, or out of
+    // memory. An Ok comes only without such a mistake.
     ensures kinds { FailsBy (fault_of_words (map string_bytes words.now)) result }
 {
     let found = matches(alloc, words)?;
