@@ -1,5 +1,5 @@
 #!/usr/bin/env python3
-"""run_isolation.py PROGRAM: what a candidate is replied depends on her view alone.
+"""run_isolation.py PROGRAM: a candidate's reply depends only on their view.
 
 Each round makes two offices at random that agree on one candidate's view and on little else: exams,
 rooms, rules, other candidates and places differ. She asks the same in both, and the same batches
