@@ -22,7 +22,7 @@ from serve_cases import MANY
 TOP = pathlib.Path(__file__).resolve().parent.parent
 EXAMPLES = TOP / "examples"
 # A row of the page's table of faults: the number, the words of the help, and such a line.
-FAULT_ROW = re.compile(r"(?m)^\| (\d+) \w+ \| (.*?) \| .*? \| (?:line (\d+): `(.*)` )?\|$")
+FAULT_ROW = re.compile(r"(?m)^\| (\d+) \w+ \| (.*?) \| (?:line (\d+): `(.*)` )?\|$")
 FORMATS = (TOP / "docs" / "FORMATS.md").read_text(encoding="utf-8")
 FAULTS = FAULT_ROW.findall(FORMATS)
 VERSION = (TOP / "VERSION").read_text(encoding="utf-8").strip()
