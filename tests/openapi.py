@@ -152,7 +152,6 @@ def formats():
     """Of FORMATS.md: who may ask for each path, and each refusal as its status and error."""
     page = (TOP / "docs" / "FORMATS.md").read_text()
     page = page.split("\n## Messages\n")[1].split("\n## The tables\n")[0]
-    page = page.split("\nThe office knows a caller by")[0]
     may, refusals, answers = {}, set(), set()
     for cells in table_rows(page):
         paths = re.findall(r"`(/[^`]*)`", cells[0])
