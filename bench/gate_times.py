@@ -2,10 +2,11 @@
 """gate_times.py COMMAND ..: what a run of the gate takes, crate by crate.
 
 Runs the command in a session of its own, and looks twice a second at the prover's processes of that
-session. In the end it prints the rows of the table in docs/WORKING.md: seconds of processor for proofs, for tests
-and for the wrong bodies of the gate, then the seconds of the whole run beside the gate's budget, and how long a Python
-loop of 5,000,000 additions took. Proofs that an earlier run kept take nothing: only a run from nothing
-(`rt ci --anew` in ./test, or a machine that has kept none) is measured against the budget."""
+session. In the end it prints a row for each crate: seconds of processor for proofs, for tests and for
+the wrong bodies of the gate, then the seconds of the whole run beside the gate's budget, and how long
+a Python loop of 5,000,000 additions took. Proofs that an earlier run kept take nothing: only a run
+from nothing (`rt ci --anew` in ./test, or a machine that has kept none) is measured against the
+budget."""
 import resource
 import subprocess
 import sys
