@@ -1,6 +1,6 @@
--- The ten tables of an office's file as SQLite keeps them, schema version 1. All are STRICT, all
--- columns are NOT NULL. A table's rows lie in the tree of its number; each key of more than one
--- column, and each UNIQUE, has a tree of its own behind that of its table.
+-- The twelve tables of an office's file as SQLite keeps them, schema version 2, and the ten of
+-- version 1. All are STRICT, all columns are NOT NULL. A table's rows are in the tree of its number;
+-- each key of more than one column, and each UNIQUE, has a tree of its own after that of its table.
 use Rattle.std.specs.Prelude.{◌≡◌, ℕ, true, false, List, [], ◌∷◌, map, Some, None, Option, codes}
 use Rattle.std.specs.Borrow.{Bor}
 use Rattle.sqlite_value.specs.declared.keys.Collation.TheVariants.{Binary}
@@ -110,7 +110,7 @@ abbrev pub enrol_table : Table
 enrol_table = paired_table (codes "enrol") 2
     (int (codes "student") ∷ int (codes "exam") ∷ [])
 
--- the drafts, each with the seven parts of its penalty
+-- the drafts, each with seven parts of its penalty; the eighth is in night_draft
 abbrev pub draft_table : Table
 draft_table = keyed_table (codes "draft") 4
     (int (codes "no") ∷ int (codes "in_row") ∷ int (codes "in_day") ∷ int (codes "spread") ∷
@@ -132,7 +132,7 @@ seat_table = seated_table (codes "seat") 8
     (int (codes "student") ∷ int (codes "exam") ∷ int (codes "period") ∷ int (codes "room") ∷
     int (codes "seat") ∷ [])
 
--- what each candidate with a seat adds to the publication's penalty
+-- what each candidate with a seat adds to the publication's penalty, but over night
 abbrev pub share_student_table : Table
 share_student_table = keyed_table (codes "share_student") 11
     (int (codes "student") ∷ int (codes "in_row") ∷ int (codes "in_day") ∷ int (codes "spread") ∷
@@ -149,6 +149,16 @@ batch_table = keyed_table (codes "batch") 14
     (int (codes "no") ∷ blob (codes "bytes") ∷ int (codes "added") ∷ int (codes "dropped") ∷
     int (codes "unchanged") ∷ [])
 
+-- what each draft costs over night
+abbrev pub night_draft_table : Table
+night_draft_table = keyed_table (codes "night_draft") 15
+    (int (codes "no") ∷ int (codes "night") ∷ [])
+
+-- what each candidate with a seat adds to the publication's penalty over night
+abbrev pub night_share_table : Table
+night_share_table = keyed_table (codes "night_share") 16
+    (int (codes "student") ∷ int (codes "night") ∷ [])
+
 -- the index that SQLite makes by itself for the key of a table
 abbrev pub index_of : List ℕ → ℕ → ℕ → List ℕ → Index
 index_of name tree table columns = record {
@@ -160,9 +170,9 @@ index_of name tree table columns = record {
   is_unique = true;
 }
 
--- the ten tables and the indexes of their keys
-abbrev pub office_schema : Schema
-office_schema = record {
+-- version 1: ten tables and the indexes of their keys
+abbrev pub schema_before : Schema
+schema_before = record {
   tables = meta_table ∷ owner_table ∷ enrol_table ∷ draft_table ∷ slot_table ∷ placed_table ∷
       seat_table ∷ share_student_table ∷ share_part_table ∷ batch_table ∷ [];
   indexes = index_of (codes "sqlite_autoindex_enrol_1") 3 2 (1 ∷ 2 ∷ [])
@@ -172,4 +182,12 @@ office_schema = record {
       ∷ index_of (codes "sqlite_autoindex_share_part_1") 13 12 (1 ∷ 2 ∷ [])
       ∷ [];
   views = [];
+}
+
+-- version 2: two more tables at the end
+abbrev pub office_schema : Schema
+office_schema = record schema_before {
+  tables = meta_table ∷ owner_table ∷ enrol_table ∷ draft_table ∷ slot_table ∷ placed_table ∷
+      seat_table ∷ share_student_table ∷ share_part_table ∷ batch_table ∷ night_draft_table ∷
+      night_share_table ∷ [];
 }

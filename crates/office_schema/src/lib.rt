@@ -4,4 +4,4 @@
 mod parts;
 mod whole;
 
-pub use whole::is_office_schema;
+pub use whole::{is_office_schema, is_schema_before};

@@ -1,20 +1,31 @@
-// Whether a schema is that of an office, found by its value: the ten tables, their five indexes,
-// and no more.
+// Whether a schema is that of an office, found by its value: its tables, their five indexes, and no
+// more.
 ghost use Rattle.std.specs.Prelude.{◌≡◌, ◌↔◌, [], ◌∷◌, drop, IfOk, IsTrue};
-ghost use Rattle.office_schema.specs.Schema.{office_schema};
-ghost use Rattle.office_schema.specs.Schema.{meta_table, owner_table, enrol_table, draft_table, slot_table, placed_table, seat_table, share_student_table, share_part_table, batch_table};
+ghost use Rattle.office_schema.specs.Schema.{office_schema, schema_before};
+ghost use Rattle.office_schema.specs.Schema.{meta_table, owner_table, enrol_table, draft_table, slot_table, placed_table, seat_table, share_student_table, share_part_table, batch_table, night_draft_table, night_share_table};
 
 use crate::parts::{TableKey, is_pair_index, is_seat_index, is_table};
 use sqlite_schema::schema::{Index, Kind, Schema, Table};
 use std::alloc::{AllocError, Global};
 
-/// Whether it is the schema of an office's file: the tables in their order and trees, their
-/// indexes, and no further table, view, index or trigger.
+/// Whether it is the schema of an office's file, version 2: the twelve tables in their order and
+/// trees, their indexes, and no further table, view, index or trigger.
 pub fn is_office_schema(alloc: Global, schema: &Schema) -> Result<bool, AllocError>
     ensures { IfOk result (λ is. IsTrue is ↔ (schema.now ≡ office_schema)) }
 {
     Ok(
         has_tables(alloc, schema.tables.as_slice())?
+            && has_indexes(schema.indexes.as_slice())
+            && schema.views.is_empty(),
+    )
+}
+
+/// Whether it is the schema of version 1: the same without the two tables of nights.
+pub fn is_schema_before(alloc: Global, schema: &Schema) -> Result<bool, AllocError>
+    ensures { IfOk result (λ is. IsTrue is ↔ (schema.now ≡ schema_before)) }
+{
+    Ok(
+        has_tables_before(alloc, schema.tables.as_slice())?
             && has_indexes(schema.indexes.as_slice())
             && schema.views.is_empty(),
     )
@@ -27,29 +38,92 @@ fn has_tables(alloc: Global, tables: &[Table]) -> Result<bool, AllocError>
         return Ok(false);
     };
     Ok(
-        is_meta(alloc, meta)?
-            && is_owner(alloc, owner)?
-            && is_enrol(alloc, enrol)?
+        has_session_tables(alloc, meta, owner, enrol)?
             && is_draft(alloc, draft)?
             && is_slot(alloc, slot)?
-            && has_publication_tables(alloc, rest)?,
+            && has_later_tables(alloc, rest)?,
+    )
+}
+
+fn has_tables_before(alloc: Global, tables: &[Table]) -> Result<bool, AllocError>
+    ensures { IfOk result (λ is. IsTrue is ↔ (tables.now ≡ schema_before.tables)) }
+{
+    let [meta, owner, enrol, draft, slot, rest @ ..] = tables else {
+        return Ok(false);
+    };
+    Ok(
+        has_session_tables(alloc, meta, owner, enrol)?
+            && is_draft(alloc, draft)?
+            && is_slot(alloc, slot)?
+            && has_later_tables_before(alloc, rest)?,
+    )
+}
+
+fn has_session_tables(
+    alloc: Global,
+    meta: &Table,
+    owner: &Table,
+    enrol: &Table,
+) -> Result<bool, AllocError>
+    ensures { IfOk result (λ is. IsTrue is ↔ ((meta.now ≡ meta_table)
+        × (owner.now ≡ owner_table) × (enrol.now ≡ enrol_table))) }
+{
+    Ok(is_meta(alloc, meta)? && is_owner(alloc, owner)? && is_enrol(alloc, enrol)?)
+}
+
+// The tables of the publication, of batches and of nights.
+fn has_later_tables(alloc: Global, tables: &[Table]) -> Result<bool, AllocError>
+    ensures { IfOk result (λ is. IsTrue is ↔ (tables.now ≡ drop 5 office_schema.tables)) }
+{
+    let [
+        placed,
+        seat,
+        share_student,
+        share_part,
+        batch,
+        night_draft,
+        night_share,
+    ] = tables
+    else {
+        return Ok(false);
+    };
+    Ok(
+        has_publication_tables(alloc, placed, seat, share_student, share_part)?
+            && is_batch(alloc, batch)?
+            && is_night_draft(alloc, night_draft)?
+            && is_night_share(alloc, night_share)?,
     )
 }
 
 // The tables of the publication and of batches.
-fn has_publication_tables(alloc: Global, tables: &[Table]) -> Result<bool, AllocError>
-    ensures { IfOk result (λ is. IsTrue is ↔ (tables.now ≡ placed_table ∷ seat_table
-        ∷ share_student_table ∷ share_part_table ∷ batch_table ∷ [])) }
+fn has_later_tables_before(alloc: Global, tables: &[Table]) -> Result<bool, AllocError>
+    ensures { IfOk result (λ is. IsTrue is ↔ (tables.now ≡ drop 5 schema_before.tables)) }
 {
     let [placed, seat, share_student, share_part, batch] = tables else {
         return Ok(false);
     };
     Ok(
+        has_publication_tables(alloc, placed, seat, share_student, share_part)?
+            && is_batch(alloc, batch)?,
+    )
+}
+
+fn has_publication_tables(
+    alloc: Global,
+    placed: &Table,
+    seat: &Table,
+    share_student: &Table,
+    share_part: &Table,
+) -> Result<bool, AllocError>
+    ensures { IfOk result (λ is. IsTrue is ↔ ((placed.now ≡ placed_table)
+        × (seat.now ≡ seat_table) × (share_student.now ≡ share_student_table)
+        × (share_part.now ≡ share_part_table))) }
+{
+    Ok(
         is_placed(alloc, placed)?
             && is_seat(alloc, seat)?
             && is_share_student(alloc, share_student)?
-            && is_share_part(alloc, share_part)?
-            && is_batch(alloc, batch)?,
+            && is_share_part(alloc, share_part)?,
     )
 }
 
@@ -201,4 +275,18 @@ fn is_batch(alloc: Global, table: &Table) -> Result<bool, AllocError>
         ("unchanged", Kind::Integer),
     ];
     is_table(alloc, table, "batch", 14, TableKey::Number, &columns)
+}
+
+fn is_night_draft(alloc: Global, table: &Table) -> Result<bool, AllocError>
+    ensures { IfOk result (λ is. IsTrue is ↔ (table.now ≡ night_draft_table)) }
+{
+    let columns = [("no", Kind::Integer), ("night", Kind::Integer)];
+    is_table(alloc, table, "night_draft", 15, TableKey::Number, &columns)
+}
+
+fn is_night_share(alloc: Global, table: &Table) -> Result<bool, AllocError>
+    ensures { IfOk result (λ is. IsTrue is ↔ (table.now ≡ night_share_table)) }
+{
+    let columns = [("student", Kind::Integer), ("night", Kind::Integer)];
+    is_table(alloc, table, "night_share", 16, TableKey::Number, &columns)
 }
