@@ -1,11 +1,12 @@
 -- What the parts that are found tell of the tables, and what readers in a row leave.
-use Rattle.std.proofs.Common.{◌≡◌, inl, inr, map, Option, Some, None, sym, ap, subst, ◌∙◌, arith}
+use Rattle.std.proofs.Common.{◌≡◌, inl, inr, map, length, Option, Some, None, Result, OnOk, IfOk, refl, sym, ap, subst, ◌∙◌, arith}
+use Rattle.std.proofs.lemmas.Result.{IfOk-weaker, on_ok_weaker}
 use Rattle.std.specs.Prelude.{Vec}
 use Rattle.std.specs.declared.alloc.Global.{Global}
 use Rattle.sqlite.specs.Effect.{Database, IsDatabase}
 use Rattle.sqlite.specs.State.{State, HasCleanDisk, IsUnchanged}
 use Rattle.sqlite.proofs.StateLemmas.{survives_then}
-use Rattle.office_tables.specs.Adopting.{IsFoundSession, IsFoundDrafts, IsFoundPublication, IsAdopted, IsSession, IsDrafts, HasAllOfPublication, IsWhole}
+use Rattle.office_tables.specs.Adopting.{HaveDrafts, HaveShares, IsFoundSession, IsFoundDrafts, IsFoundPublication, IsAdopted, IsForeign, IsForeignIn, tables_of, IsSession, IsDrafts, HasAllOfPublication, IsWhole}
 use Rattle.office_tables.specs.Batch.{IsFoundBatches}
 use Rattle.office_tables.specs.declared.found.Found.{Found}
 use Rattle.office_tables.specs.declared.found.FoundDrafts.{FoundDrafts}
@@ -25,13 +26,19 @@ use Rattle.office_tables.specs.Finders.{IsFound, HasTables, Looks}
 use Rattle.office_tables.specs.Meta.{IsFoundMeta, meta_columns}
 use Rattle.office_tables.specs.Owner.{FitsOwner, owner_columns}
 use Rattle.office_tables.specs.Enrol.{FitsEnrol, enrol_columns}
-use Rattle.office_tables.specs.Draft.{FitsDraft, draft_columns}
+use Rattle.office_tables.specs.Draft.{FitsDraft}
 use Rattle.office_tables.specs.Slot.{FitsSlot, slot_columns}
 use Rattle.office_tables.specs.Placed.{FitsPlacement, placed_columns}
 use Rattle.office_tables.specs.Seat.{FitsSeat, seat_columns}
-use Rattle.office_tables.specs.ShareStudent.{FitsStudentShare, share_student_columns}
+use Rattle.office_tables.specs.ShareStudent.{FitsStudentShare}
 use Rattle.office_tables.specs.SharePart.{FitsPartShare, share_part_columns}
-use Rattle.office_schema.specs.Schema.{office_schema}
+use Rattle.sqlite_schema.specs.declared.schema.Schema.{Schema}
+use Rattle.office_schema.specs.Schema.{office_schema, schema_before}
+use Rattle.office_tables.specs.declared.version.Version.{Version}
+use Rattle.office_tables.specs.declared.version.Version.TheVariants.{One, Two}
+use Rattle.office_tables.specs.Joining.{AreFound}
+use Rattle.office_tables.specs.Standing.{StandsIn}
+use Rattle.office_tables.specs.Versions.{schema_of}
 use Rattle.office_tables.specs.Stored.{Holds, keyed, keyless}
 use Rattle.office_tables.proofs.Reading.{keeps_after}
 
@@ -50,148 +57,195 @@ unchanged_then a b c p q = (
   q.2 ∙ p.2,
 )
 
-tables_still : (a b : State) → IsUnchanged a b → HasTables a → HasTables b
-tables_still a b same tables =
-    let both = tables.live same.0.was_open in
-    record {
-      schema = ap (λ (d : Database). d.schema) same.0.now_is ∙ tables.schema;
-      live = λ _. (
-        subst IsDatabase (sym same.0.now_is) both.0,
-        subst IsDatabase (sym same.0.committed_is) both.1,
-      );
-    }
+module _ (version : Version) where
+  tables_still : (a b : State) → IsUnchanged a b → HasTables version a → HasTables version b
+  tables_still a b same tables =
+      let both = tables.live same.0.was_open in
+      record {
+        schema = ap (λ (d : Database). d.schema) same.0.now_is ∙ tables.schema;
+        live = λ _. (
+          subst IsDatabase (sym same.0.now_is) both.0,
+          subst IsDatabase (sym same.0.committed_is) both.1,
+        );
+      }
 
--- what a reader that answers Ok leaves
-abbrev pub Stays : State → State → Type 0
-Stays a b = HasCleanDisk b → HasTables a → IsUnchanged a b
+  -- what a reader that answers Ok leaves
+  abbrev pub Stays : State → State → Type 0
+  Stays a b = HasCleanDisk b → HasTables version a → IsUnchanged a b
 
-pub clean_before : (a b : State) → Looks a b → HasCleanDisk b → HasCleanDisk a
-clean_before a b looks clean = omega (arith, looks.survives.clean)
+  pub clean_before : (a b : State) → Looks version a b → HasCleanDisk b → HasCleanDisk a
+  clean_before a b looks clean = omega (arith, looks.survives.clean)
 
-module _ (a b c : State) (first : Stays a b) (looks : Looks b c) where
-  pub found_after : (P : Database → Type 0) → (HasCleanDisk c → HasTables b → P b.now)
-      → HasCleanDisk c → HasTables a → P a.now
-  found_after P h clean tables =
-      let mid = first (clean_before b c looks clean) tables in
-      subst P mid.0.now_is (h clean (tables_still a b mid tables))
-
-  pub stays_then : Stays b c → Stays a c
-  stays_then second clean tables =
-      let mid = first (clean_before b c looks clean) tables in
-      unchanged_then a b c mid (second clean (tables_still a b mid tables))
-
-  pub looks_then : Looks a b → Looks a c
-  looks_then before = record {
-    kept = λ clean tables.
+  module _ (a b c : State) (first : Stays a b) (looks : Looks version b c) where
+    pub found_after : (P : Database → Type 0) → (HasCleanDisk c → HasTables version b → P b.now)
+        → HasCleanDisk c → HasTables version a → P a.now
+    found_after P h clean tables =
         let mid = first (clean_before b c looks clean) tables in
-        keeps_after a b c mid (looks.kept clean (tables_still a b mid tables));
-    mode = λ rests. looks.mode (before.mode rests);
-    survives = survives_then a b c _ _ _ (λ clean db h. h)
-        (λ clean db h tables. h
-        (tables_still a b (first (clean_before b c looks clean) tables) tables)) before.survives
-        looks.survives;
-  }
+        subst P mid.0.now_is (h clean (tables_still a b mid tables))
+
+    pub stays_then : Stays b c → Stays a c
+    stays_then second clean tables =
+        let mid = first (clean_before b c looks clean) tables in
+        unchanged_then a b c mid (second clean (tables_still a b mid tables))
+
+    -- of a last reader, whose result is the whole's
+    pub still_then : {T E : Type 0} (r : Result T E)
+        → (HasCleanDisk c → HasTables version b → OnOk r (IsUnchanged b c))
+        → HasCleanDisk c → HasTables version a → OnOk r (IsUnchanged a c)
+    still_then r second clean tables =
+        let mid = first (clean_before b c looks clean) tables in
+        on_ok_weaker r (λ last. unchanged_then a b c mid last)
+        (second clean (tables_still a b mid tables))
+
+    pub found_ok_after : {T E : Type 0} (r : Result T E) (P Q : Database → T → Type 0)
+        → ((x : T) → P a.now x → Q a.now x)
+        → (HasCleanDisk c → HasTables version b → IfOk r (P b.now))
+        → HasCleanDisk c → HasTables version a → IfOk r (Q a.now)
+    found_ok_after r P Q more h clean tables =
+        let mid = first (clean_before b c looks clean) tables in
+        IfOk-weaker r (P b.now) (Q a.now)
+        (λ x is. more x (subst (λ db. P db x) mid.0.now_is is))
+        (h clean (tables_still a b mid tables))
+
+    pub looks_then : Looks version a b → Looks version a c
+    looks_then before = record {
+      kept = λ clean tables.
+          let mid = first (clean_before b c looks clean) tables in
+          keeps_after a b c mid (looks.kept clean (tables_still a b mid tables));
+      mode = λ rests. looks.mode (before.mode rests);
+      survives = survives_then a b c _ _ _ (λ clean db h. h)
+          (λ clean db h tables. h
+          (tables_still a b (first (clean_before b c looks clean) tables) tables)) before.survives
+          looks.survives;
+    }
 
 -- ---- what was found
 
-pub session_found : (db : Database) (meta : Option MetaRow) (owners : Option (Vec OwnerRow Global))
-    (enrols : Option (Vec EnrolRow Global))
-    → IsFoundMeta (db.trees 0) meta → IsFound FitsOwner owner_columns keyed (db.trees 1) owners
+pub session_found : (version : Version) (db : Database) (meta : Option MetaRow)
+    (owners : Option (Vec OwnerRow Global)) (enrols : Option (Vec EnrolRow Global))
+    → IsFoundMeta version (db.trees 0) meta
+    → IsFound FitsOwner owner_columns keyed (db.trees 1) owners
     → IsFound FitsEnrol enrol_columns keyless (db.trees 2) enrols
-    → (found : Option FoundSession) → IsSession meta owners enrols found → IsFoundSession db found
-session_found db meta owners enrols m o e (Some found) is = record {
-  meta = subst (IsFoundMeta (db.trees 0)) is.0 m;
+    → (found : Option FoundSession) → IsSession meta owners enrols found
+    → IsFoundSession version db found
+session_found version db meta owners enrols m o e (Some found) is = record {
+  meta = subst (IsFoundMeta version (db.trees 0)) is.0 m;
   owner = subst (IsFound FitsOwner owner_columns keyed (db.trees 1)) is.1 o;
   enrol = subst (IsFound FitsEnrol enrol_columns keyless (db.trees 2)) is.2 e;
 }
-session_found db meta owners enrols m o e None (inl none) = λ t plain stands.
-    subst (IsFoundMeta (db.trees 0)) none m plain.row
-    (subst (λ l. Holds keyed (map meta_columns l) (db.trees 0)) plain.meta stands.meta)
-session_found db meta owners enrols m o e None (inr (inl none)) = λ t plain stands.
+session_found version db meta owners enrols m o e None (inl none) = λ t plain stands.
+    subst (IsFoundMeta version (db.trees 0)) none m plain.row
+    (subst (λ l. Holds keyed (map (meta_columns version) l) (db.trees 0)) plain.meta stands.meta)
+session_found version db meta owners enrols m o e None (inr (inl none)) = λ t plain stands.
     subst (IsFound FitsOwner owner_columns keyed (db.trees 1)) none o t.owner
     plain.owner stands.owner
-session_found db meta owners enrols m o e None (inr (inr none)) = λ t plain stands.
+session_found version db meta owners enrols m o e None (inr (inr none)) = λ t plain stands.
     subst (IsFound FitsEnrol enrol_columns keyless (db.trees 2)) none e t.enrol
     plain.enrol stands.enrol
 
-pub drafts_found : (db : Database) (drafts : Option (Vec DraftRow Global))
+pub drafts_found : (version : Version) (db : Database) (drafts : Option (Vec DraftRow Global))
     (slots : Option (Vec SlotRow Global))
-    → IsFound FitsDraft draft_columns keyed (db.trees 4) drafts
+    → AreFound FitsDraft (HaveDrafts version db) drafts
     → IsFound FitsSlot slot_columns keyless (db.trees 5) slots
-    → (found : Option FoundDrafts) → IsDrafts drafts slots found → IsFoundDrafts db found
-drafts_found db drafts slots d s (Some found) is = record {
-  draft = subst (IsFound FitsDraft draft_columns keyed (db.trees 4)) is.0 d;
+    → (found : Option FoundDrafts) → IsDrafts drafts slots found
+    → IsFoundDrafts version db found
+drafts_found version db drafts slots d s (Some found) is = record {
+  draft = subst (AreFound FitsDraft (HaveDrafts version db)) is.0 d;
   slot = subst (IsFound FitsSlot slot_columns keyless (db.trees 5)) is.1 s;
 }
-drafts_found db drafts slots d s None (inl none) = λ t plain stands.
-    subst (IsFound FitsDraft draft_columns keyed (db.trees 4)) none d t.draft
-    plain.draft stands.draft
-drafts_found db drafts slots d s None (inr none) = λ t plain stands.
+drafts_found version db drafts slots d s None (inl none) = λ t plain stands.
+    subst (AreFound FitsDraft (HaveDrafts version db)) none d t.draft plain.draft
+    (record { first = stands.draft; second = stands.night_draft })
+drafts_found version db drafts slots d s None (inr none) = λ t plain stands.
     subst (IsFound FitsSlot slot_columns keyless (db.trees 5)) none s t.slot plain.slot stands.slot
 
-pub publication_found : (db : Database) (placements : Option (Vec PlacedRow Global))
-    (seats : Option (Vec SeatRow Global)) (students : Option (Vec StudentShareRow Global))
-    (parts : Option (Vec PartShareRow Global))
+pub publication_found : (version : Version) (db : Database)
+    (placements : Option (Vec PlacedRow Global)) (seats : Option (Vec SeatRow Global))
+    (students : Option (Vec StudentShareRow Global)) (parts : Option (Vec PartShareRow Global))
     → IsFound FitsPlacement placed_columns keyed (db.trees 7) placements
     → IsFound FitsSeat seat_columns keyless (db.trees 8) seats
-    → IsFound FitsStudentShare share_student_columns keyed (db.trees 11) students
+    → AreFound FitsStudentShare (HaveShares version db) students
     → IsFound FitsPartShare share_part_columns keyless (db.trees 12) parts
     → (found : Option FoundPublication) → HasAllOfPublication placements seats students parts found
-    → IsFoundPublication db found
-publication_found db placements seats students parts p s n k (Some found) is = record {
+    → IsFoundPublication version db found
+publication_found version db placements seats students parts p s n k (Some found) is = record {
   placed = subst (IsFound FitsPlacement placed_columns keyed (db.trees 7)) is.0 p;
   seat = subst (IsFound FitsSeat seat_columns keyless (db.trees 8)) is.1 s;
-  share_student = subst (IsFound FitsStudentShare share_student_columns keyed (db.trees 11)) is.2 n;
+  share_student = subst (AreFound FitsStudentShare (HaveShares version db)) is.2 n;
   share_part = subst (IsFound FitsPartShare share_part_columns keyless (db.trees 12)) is.3 k;
 }
-publication_found db placements seats students parts p s n k None (inl none) = λ t plain stands.
+publication_found version db placements seats students parts p s n k None (inl none) =
+    λ t plain stands.
     subst (IsFound FitsPlacement placed_columns keyed (db.trees 7)) none p t.placed plain.placed
     stands.placed
-publication_found db placements seats students parts p s n k None (inr (inl none)) =
+publication_found version db placements seats students parts p s n k None (inr (inl none)) =
     λ t plain stands. subst (IsFound FitsSeat seat_columns keyless (db.trees 8)) none s
     t.seat plain.seat
     stands.seat
-publication_found db placements seats students parts p s n k None (inr (inr (inl none))) =
+publication_found version db placements seats students parts p s n k None (inr (inr (inl none))) =
     λ t plain stands.
-    subst (IsFound FitsStudentShare share_student_columns keyed (db.trees 11)) none n
-    t.share_student plain.share_student stands.share_student
-publication_found db placements seats students parts p s n k None (inr (inr (inr none))) =
+    subst (AreFound FitsStudentShare (HaveShares version db)) none n
+    t.share_student plain.share_student
+    (record { first = stands.share_student; second = stands.night_share })
+publication_found version db placements seats students parts p s n k None (inr (inr (inr none))) =
     λ t plain stands. subst (IsFound FitsPartShare share_part_columns keyless (db.trees 12)) none k
     t.share_part plain.share_part stands.share_part
 
-pub rows_found : (db : Database) → db.schema ≡ office_schema
+-- ---- any version
+
+one_version : (v w : Version) → schema_of v ≡ schema_of w → v ≡ w
+one_version One One same = refl
+one_version Two Two same = refl
+one_version One Two same =
+    let long : length schema_before.tables ≡ length office_schema.tables =
+    ap (λ (s : Schema). length s.tables) same in absurd (omega (long, arith))
+one_version Two One same =
+    let long : length office_schema.tables ≡ length schema_before.tables =
+    ap (λ (s : Schema). length s.tables) same in absurd (omega (long, arith))
+
+-- a database has one version
+in_no_version : (version : Version) (db : Database) → db.schema ≡ schema_of version
+    → IsForeignIn version db → IsForeign db
+in_no_version version db is foreign v t plain stands =
+    foreign t plain
+    (subst (λ w. StandsIn w db t) (one_version v version (sym stands.schema ∙ is)) stands)
+
+pub rows_found : (version : Version) (db : Database) → db.schema ≡ schema_of version
     → (session : Option FoundSession) (drafts : Option FoundDrafts)
     (publication : Option FoundPublication) (batches : Option (Vec BatchCountsRow Global))
-    → IsFoundSession db session → IsFoundDrafts db drafts → IsFoundPublication db publication
-    → IsFoundBatches db batches
-    → (found : Option Found) → IsWhole session drafts publication batches found
+    → IsFoundSession version db session → IsFoundDrafts version db drafts
+    → IsFoundPublication version db publication → IsFoundBatches db batches
+    → (found : Option Found) → IsWhole version session drafts publication batches found
     → IsAdopted db found
-rows_found db schema session drafts publication batches s d p b (Some found) is =
-    let here = subst (IsFoundSession db) is.0 s in
-    let plan = subst (IsFoundDrafts db) is.1 d in
-    let public = subst (IsFoundPublication db) is.2 p in
-    let kept = subst (IsFoundBatches db) is.3 b in (
-      kept.0,
-      kept.1,
-      record {
-        schema = schema;
-        meta = here.meta;
-        owner = here.owner;
-        enrol = here.enrol;
-        draft = plan.draft;
-        slot = plan.slot;
-        placed = public.placed;
-        seat = public.seat;
-        share_student = public.share_student;
-        share_part = public.share_part;
-        batch = kept.2;
-      },
-    )
-rows_found db schema session drafts publication batches s d p b None (inl none) =
-    subst (IsFoundSession db) none s
-rows_found db schema session drafts publication batches s d p b None (inr (inl none)) =
-    subst (IsFoundDrafts db) none d
-rows_found db schema session drafts publication batches s d p b None (inr (inr (inl none))) =
-    subst (IsFoundPublication db) none p
-rows_found db schema session drafts publication batches s d p b None (inr (inr (inr none))) =
-    λ t plain stands. subst (IsFoundBatches db) none b t.batch plain.batch stands.batch
+rows_found version db schema session drafts publication batches s d p b (Some found) is =
+    let here = subst (IsFoundSession version db) is.1 s in
+    let plan = subst (IsFoundDrafts version db) is.2 d in
+    let public = subst (IsFoundPublication version db) is.3 p in
+    let kept = subst (IsFoundBatches db) is.4 b in
+    let stands : StandsIn version db (tables_of found kept.0) = record {
+      schema = schema;
+      meta = here.meta;
+      owner = here.owner;
+      enrol = here.enrol;
+      draft = plan.draft.first;
+      slot = plan.slot;
+      placed = public.placed;
+      seat = public.seat;
+      share_student = public.share_student.first;
+      share_part = public.share_part;
+      batch = kept.2;
+      night_draft = plan.draft.second;
+      night_share = public.share_student.second;
+    } in
+    (kept.0, kept.1, subst (λ v. StandsIn v db (tables_of found kept.0)) (sym is.0) stands)
+rows_found version db schema session drafts publication batches s d p b None (inl none) =
+    in_no_version version db schema (subst (IsFoundSession version db) none s)
+rows_found version db schema session drafts publication batches s d p b None (inr (inl none)) =
+    in_no_version version db schema (subst (IsFoundDrafts version db) none d)
+rows_found version db schema session drafts publication batches s d p b None
+    (inr (inr (inl none))) =
+    in_no_version version db schema (subst (IsFoundPublication version db) none p)
+rows_found version db schema session drafts publication batches s d p b None
+    (inr (inr (inr none))) =
+    in_no_version version db schema
+    (λ t plain stands. subst (IsFoundBatches db) none b t.batch plain.batch stands.batch)

@@ -23,7 +23,9 @@ use Rattle.sqlite.proofs.Callers.{IsPlain, command_of, reads_as}
 use Rattle.office_schema.specs.Schema.{office_schema}
 use Rattle.office_tables.specs.Asking.{asks, Means, Selects}
 use Rattle.office_tables.specs.Tables.{Tables}
-use Rattle.office_tables.specs.Standing.{Stands}
+use Rattle.office_tables.specs.Standing.{Stands, StandsIn}
+use Rattle.office_tables.specs.Versions.{schema_of}
+use Rattle.office_tables.specs.declared.version.Version.{Version}
 use Rattle.office_tables.proofs.LookLemmas.{was_open}
 use Rattle.office_tables.proofs.Queries.{both_alike}
 use Rattle.office_tables.proofs.SilentLemmas.{commits_never}
@@ -54,6 +56,15 @@ module _ (q : Query) (sql : List ℕ) (means : Means office_schema q sql) (old n
   pub silent_in : Survives old new (λ _. IsPlain (understood office_schema sql) → ⊥)
       → Survives old new (λ _. ⊥)
   silent_in = survives_weaker old new _ _ (λ _ db h. h means.plain)
+
+-- under the schema of a version
+module _ (version : Version) (q : Query) (sql : List ℕ) (means : Means (schema_of version) q sql)
+    (old : State) (t : Tables) (stands : StandsIn version old.now t) where
+  pub plain_at : IsPlain (understood old.now.schema sql)
+  plain_at = subst (λ s. IsPlain (understood s sql)) (sym stands.schema) means.plain
+
+  pub means_at : Means old.now.schema q sql
+  means_at = subst (λ s. Means s q sql) (sym stands.schema) means
 
 -- what permutes a list's images is the images of a list that permutes it
 pub unmapped : {X Y : Type 0} (f : X → Y) (xs : List X) (ys : List Y) → IsPermutation (map f xs) ys

@@ -13,7 +13,9 @@ use Rattle.sqlite_value.specs.declared.value.Value.{Value}
 use Rattle.sqlite_value.specs.declared.value.Value.TheVariants.{Null, Int, Real, Text, Blob}
 use Rattle.sqlite_value.specs.Order.{Row, column}
 use Rattle.sqlite.specs.Effect.{Database, IsDatabase}
-use Rattle.office_schema.specs.Schema.{office_schema, int, blob, batch_table}
+use Rattle.office_schema.specs.Schema.{int, blob, batch_table}
+use Rattle.office_tables.specs.declared.version.Version.{Version}
+use Rattle.office_tables.specs.Versions.{schema_of}
 use Rattle.office_tables.specs.Batch.{IsFoundBatches, counts_of, counts_columns, FitsCounts}
 use Rattle.office_tables.specs.Finders.{IsFound}
 use Rattle.office_tables.specs.Stored.{keyed}
@@ -75,15 +77,16 @@ all_same f (q ∷ rows) h = ap₂ (λ x xs. x ∷ xs) h.0 (all_same f rows h.1)
 
 -- ---- the table
 
-module _ (db : Database) (is : db.schema ≡ office_schema) (sound : IsDatabase db) where
+module _ (version : Version) (db : Database) (is : db.schema ≡ schema_of version)
+    (sound : IsDatabase db) where
   all_whole : AllByRecursion IsWhole (map keyed (db.trees 14))
   all_whole =
-      let Typed = λ (r : Row). passes Datatype office_schema db.trees batch_table r ≡ true in
-      let Present = λ (r : Row). passes NotNull office_schema db.trees batch_table r ≡ true in
-      let typed = (typed_rows db is sound).1.1.1.1.1.1.1.1.1.0 in
-      let present = (present_rows db is sound).1.1.1.1.1.1.1.1.1.0 in
+      let Typed = λ (r : Row). passes Datatype (schema_of version) db.trees batch_table r ≡ true in
+      let Present = λ (r : Row). passes NotNull (schema_of version) db.trees batch_table r ≡ true in
+      let typed = (typed_rows version db is sound).1.1.1.1.1.1.1.1.1.0 in
+      let present = (present_rows version db is sound).1.1.1.1.1.1.1.1.1.0 in
       let long = rows_long batch_table (take 4 batch_table.columns) (int (codes "unchanged")) refl
-      refl refl db.trees (db.trees 14) typed present in
+      refl refl (schema_of version) db.trees (db.trees 14) typed present in
       all-map IsWhole keyed (db.trees 14)
       (all_both (λ r. length r ≡ 6) (λ r. Typed r × Present r) (λ r. IsWhole (keyed r))
       (λ r wide both. whole r wide (and_parts _ _ both.0).0 both.1) (db.trees 14) long

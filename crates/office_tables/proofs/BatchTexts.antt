@@ -15,11 +15,13 @@ use Rattle.sqlite.specs.Query.{Query, inner, end}
 use Rattle.sqlite.specs.Term.{Term, col}
 use Rattle.sqlite.proofs.Callers.{one_permutation}
 use Rattle.sqlite_tied.specs.Compute.{everything}
-use Rattle.office_schema.specs.Schema.{office_schema}
+use Rattle.office_tables.specs.declared.version.Version.{Version}
+use Rattle.office_tables.specs.declared.version.Version.TheVariants.{One, Two}
+use Rattle.office_tables.specs.Versions.{schema_of}
 use Rattle.office_tables.specs.Asking.{asks, IsReadOf, Means}
 use Rattle.office_tables.specs.Batch.{batch_from, batch_columns}
 use Rattle.office_tables.specs.Tables.{Tables, Batch}
-use Rattle.office_tables.specs.Standing.{Stands}
+use Rattle.office_tables.specs.Standing.{StandsIn}
 use Rattle.office_tables.specs.Stored.{keyed}
 use Rattle.office_tables.specs.declared.batch.BatchRow.{BatchRow}
 use Rattle.office_tables.proofs.OrderLemmas.{read, rising, table_shown, typed}
@@ -28,9 +30,9 @@ use Rattle.office_tables.proofs.RecordsBack.{batch_of}
 use Rattle.office_tables.proofs.TableLemmas.{keys_once}
 
 -- a number is kept once
-pub kept_once : (db : Database) (t : Tables) → Stands db t
+pub kept_once : (version : Version) (db : Database) (t : Tables) → StandsIn version db t
     → IsAscending (λ a b. a.no ≢ b.no) t.batch
-kept_once db t stands =
+kept_once version db t stands =
     keys_once batch_columns (λ (b : Batch). b.no) (λ b. refl) t.batch (db.trees 14)
     stands.batch
 
@@ -46,9 +48,15 @@ columns = col 1 0 ∷ col 1 2 ∷ col 1 3 ∷ col 1 4 ∷ col 1 5 ∷ []
 abbrev pub batch_of_query : Query
 batch_of_query = asks (inner 14 end) (equals 0 0 ∷ []) columns (rising columns (0 ∷ []))
 
-pub batch_of_means : Means office_schema batch_of_query batch_of_text
+pub batch_of_means : (version : Version) → Means (schema_of version) batch_of_query batch_of_text
 unfolding understood everything
-batch_of_means = record {
+batch_of_means One = record {
+  names = codes "no" ∷ codes "bytes" ∷ codes "added" ∷ codes "dropped" ∷ codes "unchanged" ∷ [];
+  selects = refl;
+  unlisted = refl;
+  plain = (refl, refl);
+}
+batch_of_means Two = record {
   names = codes "no" ∷ codes "bytes" ∷ codes "added" ∷ codes "dropped" ∷ codes "unchanged" ∷ [];
   selects = refl;
   unlisted = refl;
@@ -67,10 +75,11 @@ shown_is r = rw (
   column_later r 3,
 ) refl
 
-rows_read : (db : Database) (n : ℕ) (t : Tables) → Stands db t → (found : List Batch)
+rows_read : (version : Version) (db : Database) (n : ℕ) (t : Tables) → StandsIn version db t
+    → (found : List Batch)
     → IsReadOf batch_columns 5 (Int (pos n) ∷ []) batch_of_query db.trees found
     → IsPermutation (filter (λ r. r.no == n) t.batch) found
-rows_read db n t stands found is =
+rows_read version db n t stands found is =
     let params : Row = Int (pos n) ∷ [] in
     (read batch_of batch_columns 5 (λ x. refl) (λ x. refl) (inner 14 end) (equals 0 0 ∷ []) columns
     (0 ∷ []) (λ (x : Batch). x.no ∷ []) (λ x. refl) db.trees params
@@ -111,19 +120,21 @@ last_alone xs (z ∷ rest) (Some y) is some few =
     let long = length-append rest (y ∷ []) in
     absurd (omega (arith, few, long, ap length is))
 
-pub batch_of_read : (db : Database) (n : ℕ) (t : Tables) → Stands db t
+pub batch_of_read : (version : Version) (db : Database) (n : ℕ) (t : Tables)
+    → StandsIn version db t
     → (found rest : List BatchRow) (last : Option BatchRow)
     → IsReadOf (λ r. batch_columns (batch_from r)) 5
     (Int (pos n) ∷ []) batch_of_query db.trees found
     → found ≡ rest ++ option_to_list last → IsSome last ↔ (0 < length found)
     → filter (λ r. r.no == n) t.batch ≡ map batch_from (option_to_list last)
-batch_of_read db n t stands found rest last is ends some =
+batch_of_read version db n t stands found rest last is ends some =
     let kept = filter (λ r. r.no == n) t.batch in
     let same : IsPermutation kept (map batch_from found) =
-    rows_read db n t stands (map batch_from found)
+    rows_read version db n t stands (map batch_from found)
     (typed batch_columns batch_from 5 (Int (pos n) ∷ []) batch_of_query db.trees found is) in
     let few = one_at_most n kept (passing n t.batch)
-    (ascending-filter (λ a b. a.no ≢ b.no) (λ r. r.no == n) t.batch (kept_once db t stands)) in
+    (ascending-filter (λ a b. a.no ≢ b.no) (λ r. r.no == n) t.batch
+    (kept_once version db t stands)) in
     let long = length_permutation _ _ same in
     let alone : found ≡ option_to_list last = last_alone found rest last ends some
     (omega (arith, few, long, length-map found batch_from)) in

@@ -8,7 +8,8 @@ use Rattle.sqlite.proofs.Callers.{IsPlain, command_of, statement_of}
 use Rattle.sqlite_schema.specs.declared.schema.Schema.{Schema}
 use Rattle.sqlite_schema.specs.declared.schema.Table.{Table}
 use Rattle.sqlite_tied.specs.Compute.{everything}
-use Rattle.sqlite.specs.Change.{created}
+use Rattle.sqlite.specs.Change.{created, next_tree}
+use Rattle.sqlite_trees.specs.Tree.{Trees}
 use Rattle.sqlite.specs.Does.{lacks_sequence}
 use Rattle.sqlite.specs.State.{State}
 use Rattle.sqlite.specs.Effect.{Database}
@@ -16,9 +17,9 @@ use Rattle.office_tables.specs.Steps.{HasRun, Leads}
 use Rattle.office_tables.specs.Tables.{Tables}
 use Rattle.office_tables.specs.Standing.{Stands}
 use Rattle.office_tables.proofs.Statements.{creates}
-use Rattle.office_schema.specs.Schema.{office_schema}
-use Rattle.office_tables.specs.Schema.{IsBlank, no_schema, schema_1, schema_2, schema_3, schema_4, schema_5, schema_6, schema_7, schema_8, schema_9, schema_10}
-use Rattle.office_schema.specs.Schema.{meta_table, owner_table, enrol_table, draft_table, slot_table, placed_table, seat_table, share_student_table, share_part_table, batch_table}
+use Rattle.office_schema.specs.Schema.{office_schema, schema_before}
+use Rattle.office_tables.specs.Schema.{HasRows, IsBlank, no_schema, schema_1, schema_2, schema_3, schema_4, schema_5, schema_6, schema_7, schema_8, schema_9, schema_10, schema_11, schema_12}
+use Rattle.office_schema.specs.Schema.{meta_table, owner_table, enrol_table, draft_table, slot_table, placed_table, seat_table, share_student_table, share_part_table, batch_table, night_draft_table, night_share_table}
 
 -- under this schema the text makes this table
 pub record Defines (schema : Schema) (text : List ℕ) (table : Table) : Type 0 where
@@ -27,16 +28,26 @@ pub record Defines (schema : Schema) (text : List ℕ) (table : Table) : Type 0 
   pub defined : table_defined_by text ≡ Ok (record table { tree = 0 })
   pub plain : IsPlain (understood schema text)
 
--- so where it has run the table is there
+-- so where it has run the table is there, and the rows of the others stay
+pub makes_beside : (schema : Schema) (text : List ℕ) (table : Table) (old new : State)
+    → Defines schema text table
+    → lacks_sequence (created schema table) ≡ false
+    → (trees : Trees) → trees (next_tree schema) ≡ []
+    → HasRun text [] old new
+    → Leads (HasRows schema trees) (HasRows (created schema table) trees) old new
+makes_beside schema text table old new it counted trees none ran = (
+  ran.inside,
+  creates text old new ran.count schema (record table { tree = 0 }) trees none it.plain it.command
+      it.whole it.defined counted ran.executed,
+)
+
+-- the same beside tables with no row
 pub makes : (schema : Schema) (text : List ℕ) (table : Table) (old new : State)
     → Defines schema text table
     → lacks_sequence (created schema table) ≡ false
     → HasRun text [] old new → Leads (IsBlank schema) (IsBlank (created schema table)) old new
-makes schema text table old new it counted ran = (
-  ran.inside,
-  creates text old new ran.count schema
-      (record table { tree = 0 }) it.plain it.command it.whole it.defined counted ran.executed,
-)
+makes schema text table old new it counted =
+    makes_beside schema text table old new it counted (λ _. []) refl
 
 abbrev pub meta_text : List ℕ
 meta_text = codes "CREATE TABLE meta (id INTEGER NOT NULL PRIMARY KEY, version INTEGER NOT NULL, published INTEGER NOT NULL, instance BLOB NOT NULL) STRICT"
@@ -110,8 +121,29 @@ pub batch_defined : Defines schema_9 batch_text batch_table
 unfolding understood everything
 batch_defined = record { command = refl; whole = refl; defined = refl; plain = (refl, refl) }
 
--- the ten texts make the schema that is written out
-pub whole : schema_10 ≡ office_schema
+abbrev pub night_draft_text : List ℕ
+night_draft_text = codes "CREATE TABLE night_draft (no INTEGER NOT NULL PRIMARY KEY, night INTEGER NOT NULL) STRICT"
+
+pub night_draft_defined : Defines schema_10 night_draft_text night_draft_table
+unfolding understood everything
+night_draft_defined =
+    record { command = refl; whole = refl; defined = refl; plain = (refl, refl) }
+
+abbrev pub night_share_text : List ℕ
+night_share_text = codes "CREATE TABLE night_share (student INTEGER NOT NULL PRIMARY KEY, night INTEGER NOT NULL) STRICT"
+
+pub night_share_defined : Defines schema_11 night_share_text night_share_table
+unfolding understood everything
+night_share_defined =
+    record { command = refl; whole = refl; defined = refl; plain = (refl, refl) }
+
+-- ten texts make version 1
+pub ten : schema_10 ≡ schema_before
+unfolding digits
+ten = refl
+
+-- all twelve make version 2
+pub whole : schema_12 ≡ office_schema
 unfolding digits
 whole = refl
 

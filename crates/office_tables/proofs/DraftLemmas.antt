@@ -1,8 +1,9 @@
--- What each statement on the table draft means, and what it makes of the tables.
-use Rattle.std.proofs.Common.{◌≡◌, ℕ, pos, List, [], ◌∷◌, map, filter, not, ◌==◌, codes, true, Ok, refl, ap, ◌∙◌}
+-- What each statement on the tables draft and night_draft means, and what it makes of the tables.
+use Rattle.std.proofs.Common.{◌≡◌, ℕ, pos, List, [], ◌∷◌, map, filter, not, ◌==◌, codes, true, Ok, arith, refl, ◌∙◌}
 use Rattle.sqlite_trees.specs.Tree.{put_row}
 use Rattle.sqlite_value.specs.declared.value.Value.TheVariants.{Null, Int}
 use Rattle.sqlite_value.specs.Order.{Row}
+use Rattle.sqlite.specs.Effect.{Database}
 use Rattle.sqlite.specs.Command.TheVariants.{Insert, Delete}
 use Rattle.sqlite.specs.Edit.{are_fresh}
 use Rattle.sqlite.specs.Listing.{understood}
@@ -12,16 +13,17 @@ use Rattle.sqlite.specs.Term.{Term, lit, col}
 use Rattle.sqlite.proofs.Callers.{IsPlain, command_of}
 use Rattle.sqlite_tied.specs.Compute.{everything}
 use Rattle.office_tables.specs.declared.draft.DraftRow.{DraftRow}
-use Rattle.office_schema.specs.Schema.{office_schema, draft_table}
+use Rattle.office_schema.specs.Schema.{office_schema, draft_table, night_draft_table}
 use Rattle.office_tables.specs.Tables.{Tables}
 use Rattle.office_tables.specs.Standing.{Stands}
-use Rattle.office_tables.specs.Stored.{keyed}
-use Rattle.office_tables.specs.Draft.{draft_columns}
+use Rattle.office_tables.specs.Stored.{Holds, keyed}
+use Rattle.office_tables.specs.Draft.{draft_columns, night_draft_columns}
 use Rattle.office_tables.proofs.Casts.{cast_int, cast_null}
-use Rattle.office_tables.proofs.Frames.{draft_changed, holds_none}
-use Rattle.office_tables.proofs.Statements.{inserts, deletes}
-use Rattle.office_tables.proofs.TableLemmas.{holds_more, rowids_filter}
-use Rattle.office_tables.proofs.Queries.{answered, passes, shown_filter, left_of, none_left, equal_numbers, one_table, equals, rowids}
+use Rattle.office_tables.proofs.Frames.{OneChanged, Others, drafts_changed, still}
+use Rattle.office_tables.proofs.KeyedLemmas.{keyed_cleared, keyed_deleted, night_added, night_terms}
+use Rattle.office_tables.proofs.Statements.{inserts}
+use Rattle.office_tables.proofs.TableLemmas.{holds_more}
+use Rattle.office_tables.proofs.Queries.{equal_numbers, one_table, equals, rowids}
 
 -- ---- INSERT
 
@@ -40,11 +42,12 @@ insert_plain : IsPlain (understood office_schema insert_text)
 unfolding understood everything
 insert_plain = (refl, refl)
 
-pub added : (old new : State) (row : DraftRow) (count : ℕ) (t : Tables) → Stands old.now t
+costs_added : (old new : State) (row : DraftRow) (count : ℕ) (rows : List DraftRow)
+    → old.now.schema ≡ office_schema → Holds keyed (map draft_columns rows) (old.now.trees 4)
     → Executes insert_text (draft_columns row) old new (Ok count)
-    → Stands new.now (record t { draft = row ∷ t.draft })
-added old new row count t stands h =
-    let done = inserts insert_text _ old new count office_schema stands.schema insert_plain
+    → OneChanged 4 (map draft_columns (row ∷ rows)) old.now new.now
+costs_added old new row count rows schema holds h =
+    let done = inserts insert_text _ old new count office_schema schema insert_plain
     3 draft_table refl insert_terms 9 insert_is (λ taken news. refl) h in
     let is = done.1 in
     let stored = old.now.trees 4 in
@@ -52,13 +55,56 @@ added old new row count t stands h =
     Int (pos row.no) ∷ Null ∷ Int (pos row.in_row) ∷ Int (pos row.in_day) ∷ Int (pos row.spread)
     ∷ Int (pos row.mixed) ∷ Int (pos row.front) ∷ Int (pos row.period)
     ∷ Int (pos row.room) ∷ [] in
-    let rows : new.now.trees 4 ≡ put_row new_row stored =
-    is.rows ∙ rw (cast_null, cast_int row.no, cast_int row.in_row, cast_int row.in_day, cast_int row.spread, cast_int row.mixed, cast_int row.front, cast_int row.period, cast_int row.room)
+    let now : new.now.trees 4 ≡ put_row new_row stored =
+    is.rows ∙ rw (
+      cast_null,
+      cast_int row.no,
+      cast_int row.in_row,
+      cast_int row.in_day,
+      cast_int row.spread,
+      cast_int row.mixed,
+      cast_int row.front,
+      cast_int row.period,
+      cast_int row.room,
+    )
     refl in
     let fresh : are_fresh stored (new_row ∷ []) ≡ true = rw (cast_int row.no) at is.fresh in
-    draft_changed old.now new.now t stands done.0 (row ∷ t.draft) is.tables
-    (rw rows (holds_more keyed (map draft_columns t.draft) stored new_row
-    (draft_columns row) refl refl fresh stands.draft))
+    record {
+      schema = done.0;
+      others = is.tables;
+      holds = rw now (holds_more keyed (map draft_columns rows) stored new_row (draft_columns row)
+          refl refl fresh holds);
+    }
+
+abbrev pub insert_night_text : List ℕ
+insert_night_text = codes "INSERT INTO night_draft (no, night) VALUES (?1, ?2)"
+
+insert_night_is : command_of (understood office_schema insert_night_text)
+    ≡ Insert 10 (Values night_terms 3)
+unfolding understood everything
+insert_night_is = refl
+
+insert_night_plain : IsPlain (understood office_schema insert_night_text)
+unfolding understood everything
+insert_night_plain = (refl, refl)
+
+-- what is in the second table stays beside a change of the first
+nights_beside : (old mid : Database) (t : Tables) → Stands old t → Others 4 old.trees mid.trees
+    → Holds keyed (map night_draft_columns t.draft) (mid.trees 15)
+nights_beside old mid t stands others =
+    still keyed _ _ _ (others.1.1.1.1.1.1.1.1.1.1.0 (omega arith)) stands.night_draft
+
+pub added : (old mid new : State) (row : DraftRow) (first second : ℕ) (t : Tables)
+    → Stands old.now t → Executes insert_text (draft_columns row) old mid (Ok first)
+    → Executes insert_night_text (night_draft_columns row) mid new (Ok second)
+    → Stands new.now (record t { draft = row ∷ t.draft })
+added old mid new row first second t stands h k =
+    let one = costs_added old mid row first t.draft stands.schema stands.draft h in
+    drafts_changed old.now mid.now new.now t stands (row ∷ t.draft) one
+    (night_added insert_night_text insert_night_plain 10 15 (codes "night_draft") (codes "no")
+    (codes "night") refl (λ taken news. refl) insert_night_is row.no row.night second
+    (map night_draft_columns t.draft) mid new one.schema
+    (nights_beside old.now mid.now t stands one.others) k)
 
 -- ---- DELETE WHERE no = ?1
 
@@ -74,26 +120,33 @@ delete_plain : IsPlain (understood office_schema delete_text)
 unfolding understood everything
 delete_plain = (refl, refl)
 
-pub deleted : (old new : State) (number : ℕ) (count : ℕ) (t : Tables) → Stands old.now t
-    → Executes delete_text (Int (pos number) ∷ []) old new (Ok count)
+abbrev pub delete_night_text : List ℕ
+delete_night_text = codes "DELETE FROM night_draft WHERE no = ?1"
+
+delete_night_is : command_of (understood office_schema delete_night_text)
+    ≡ Delete 10 (record { lets = []; body = one_table 15 (equals 0 0 ∷ []) rowids [] })
+unfolding understood everything
+delete_night_is = refl
+
+delete_night_plain : IsPlain (understood office_schema delete_night_text)
+unfolding understood everything
+delete_night_plain = (refl, refl)
+
+pub deleted : (old mid new : State) (number : ℕ) (first second : ℕ) (t : Tables)
+    → Stands old.now t → Executes delete_text (Int (pos number) ∷ []) old mid (Ok first)
+    → Executes delete_night_text (Int (pos number) ∷ []) mid new (Ok second)
     → Stands new.now (record t { draft = filter (λ r. not (r.no == number)) t.draft })
-deleted old new number count t stands h =
-    let params = Int (pos number) ∷ [] in
-    let done = deletes delete_text params old new count office_schema stands.schema delete_plain
-    3 draft_table refl _ delete_is (λ taken news. refl) h in
-    let is = done.3 in
-    let stored = old.now.trees 4 in
-    let test = passes params (equals 0 0 ∷ []) in
-    let shown_test = λ (row : Row). passes params (equals 0 0 ∷ []) row in
-    let answer = answered 4 (equals 0 0 ∷ []) _ [] old.now.trees params done.0 done.2 in
-    let rows : new.now.trees 4 ≡ filter (λ r. not (test r)) stored =
-    is.rows ∙ left_of test stored done.0 stands.draft.rowids answer in
-    let same = shown_filter keyed draft_columns (λ r. not (test r)) (λ row. not (shown_test row))
-    (λ r. not (r.no == number))
-    (λ r. refl) (λ x. ap not (equal_numbers x.no number)) stored t.draft stands.draft.same in
-    draft_changed old.now new.now t stands done.1
-    (filter (λ r. not (r.no == number)) t.draft) is.tables
-    (rw rows (record { rowids = rowids_filter (λ r. not (test r)) stored stands.draft.rowids; same = same }))
+deleted old mid new number first second t stands h k =
+    let one =
+    keyed_deleted delete_text delete_plain 3 draft_table refl (λ taken news. refl) delete_is
+    draft_columns (λ (r : DraftRow). r.no) number first old mid (λ x. equal_numbers x.no number)
+    t.draft stands.schema stands.draft h in
+    drafts_changed old.now mid.now new.now t stands (filter (λ r. not (r.no == number)) t.draft) one
+    (keyed_deleted delete_night_text delete_night_plain 10 night_draft_table refl
+    (λ taken news. refl)
+    delete_night_is night_draft_columns (λ (r : DraftRow). r.no) number second mid new
+    (λ x. equal_numbers x.no number) t.draft one.schema
+    (nights_beside old.now mid.now t stands one.others) k)
 
 -- ---- DELETE
 
@@ -109,16 +162,25 @@ clear_plain : IsPlain (understood office_schema clear_text)
 unfolding understood everything
 clear_plain = (refl, refl)
 
-pub cleared : (old new : State) (count : ℕ) (t : Tables) → Stands old.now t
-    → Executes clear_text [] old new (Ok count)
+abbrev pub clear_night_text : List ℕ
+clear_night_text = codes "DELETE FROM night_draft"
+
+clear_night_is : command_of (understood office_schema clear_night_text)
+    ≡ Delete 10 (record { lets = []; body = one_table 15 [] rowids [] })
+unfolding understood everything
+clear_night_is = refl
+
+clear_night_plain : IsPlain (understood office_schema clear_night_text)
+unfolding understood everything
+clear_night_plain = (refl, refl)
+
+pub cleared : (old mid new : State) (first second : ℕ) (t : Tables) → Stands old.now t
+    → Executes clear_text [] old mid (Ok first) → Executes clear_night_text [] mid new (Ok second)
     → Stands new.now (record t { draft = [] })
-cleared old new count t stands h =
-    let done = deletes clear_text [] old new count office_schema stands.schema clear_plain
-    3 draft_table refl _ clear_is (λ taken news. refl) h in
-    let is = done.3 in
-    let stored = old.now.trees 4 in
-    let answer = answered 4 [] _ [] old.now.trees [] done.0 done.2 in
-    let rows : new.now.trees 4 ≡ [] =
-    is.rows ∙ left_of (λ r. true) stored done.0 stands.draft.rowids answer ∙ none_left stored in
-    draft_changed old.now new.now t stands done.1 [] is.tables
-    (holds_none keyed (new.now.trees 4) rows)
+cleared old mid new first second t stands h k =
+    let one = keyed_cleared clear_text clear_plain 3 draft_table refl (λ taken news. refl) clear_is
+    (map draft_columns t.draft) first old mid stands.schema stands.draft h in
+    drafts_changed old.now mid.now new.now t stands [] one
+    (keyed_cleared clear_night_text clear_night_plain 10 night_draft_table refl (λ taken news. refl)
+    clear_night_is (map night_draft_columns t.draft) second mid new one.schema
+    (nights_beside old.now mid.now t stands one.others) k)

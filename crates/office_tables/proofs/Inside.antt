@@ -39,12 +39,22 @@ within_then a b c p q = record {
   kept = λ clean.
       let first = p.kept (clean_before b c q clean) in
       let second = q.kept clean in
-      record { was_open = λ o. first.was_open (second.was_open o); committed = λ o. second.committed o ∙ first.committed (second.was_open o) };
+      record {
+        was_open = λ o. first.was_open (second.was_open o);
+        committed = λ o. second.committed o ∙ first.committed (second.was_open o);
+      };
 }
 
 pub within_same : (a : State) → Within a a
 within_same a = record {
-  survives = record { clean = omega arith; shield = λ h. h; counts = omega arith; limit = refl; closes = λ _ o. inl o; crash = λ _ db h. inl h };
+  survives = record {
+    clean = omega arith;
+    shield = λ h. h;
+    counts = omega arith;
+    limit = refl;
+    closes = λ _ o. inl o;
+    crash = λ _ db h. inl h;
+  };
   kept = λ _. record { was_open = λ o. o; committed = λ _. refl };
 }
 
@@ -60,6 +70,19 @@ pub changes_by : (f : Tables → Tables) (sql : List ℕ) (params : Row) (old ne
     → OnOk r (HasRun sql params old new) → OnOk r (Makes f old new)
 changes_by f sql params old new r step =
     on_ok_weaker r (λ ran. (ran.inside, λ t stands. step ran.count t stands ran.executed))
+
+-- the same of two statements, one after the other
+pub changes_by_two : (f : Tables → Tables) (sql : List ℕ) (params : Row) (more : List ℕ)
+    (others : Row) (old mid new : State) (r : Result (Unit {0}) Error)
+    → ((first second : ℕ) (t : Tables) → Stands old.now t → Executes sql params old mid (Ok first)
+    → Executes more others mid new (Ok second) → Stands new.now (f t))
+    → HasRun sql params old mid → OnOk r (HasRun more others mid new) → OnOk r (Makes f old new)
+changes_by_two f sql params more others old mid new r step ran =
+    on_ok_weaker r (λ last. (
+      last.inside,
+      λ t stands.
+          step ran.count last.count t stands ran.executed last.executed,
+    ))
 
 -- ---- alterations, one after the other
 

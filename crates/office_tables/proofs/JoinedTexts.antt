@@ -29,7 +29,7 @@ use Rattle.office_tables.proofs.RecordsBack.{placement_of}
 
 -- ---- the matches in two tables
 
-abbrev both_pass : Row → List Term → Row → Row → Bool
+abbrev pub both_pass : Row → List Term → Row → Row → Bool
 both_pass params where_ r s = list_all (holds (params ∷ r ∷ s ∷ [])) where_
 
 second_matched : (params : Row) (where_ : List Term) (r : Row) (rows : List Row)
@@ -46,7 +46,7 @@ second_matched params where_ r (s ∷ rows) =
     ]
 
 -- the matches of a join are the pairs of rows that pass
-joined : (params : Row) (where_ : List Term) (trees : Trees) (one two : ℕ)
+pub joined : (params : Row) (where_ : List Term) (trees : Trees) (one two : ℕ)
     → matches trees where_ (inner one (inner two end)) (params ∷ [])
     ≡ flat_map (λ r. map (λ s. params ∷ r ∷ s ∷ [])
     (filter (both_pass params where_ r) (trees two))) (trees one)

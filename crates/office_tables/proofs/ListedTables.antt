@@ -1,14 +1,14 @@
 -- What a text that lists a table tells of it.
-use Rattle.std.proofs.Common.{◌≡◌, ◌≢◌, ◌≤◌, ◌<◌, ℕ, List, [], ◌∷◌, map, length, get_or, Option, Some, None, Result, Ok, Err, refl, sym, ap, ap₂, subst, ◌∙◌, IsTrue, IsPermutation, IfOk, IfErr, OnOk}
+use Rattle.std.proofs.Common.{◌≡◌, ◌≢◌, ◌≤◌, ◌<◌, ◌+◌, ℕ, zero, suc, arith, List, [], ◌∷◌, map, length, get_or, Option, Some, None, Result, Ok, Err, refl, sym, ap, ap₂, subst, ◌∙◌, IsTrue, IsPermutation, IfOk, IfErr, OnOk}
 use Rattle.std.specs.List.{AllByRecursion}
-use Rattle.std.specs.Prelude.{Vec}
+use Rattle.std.specs.Prelude.{Vec, IfSome}
 use Rattle.std.specs.declared.alloc.Global.{Global}
 use Rattle.std.proofs.lemmas.List.Sorted.{IsPermutation-sym, IsPermutation-trans, IsPermutation-map}
 use Rattle.sqlite_trees.specs.Tree.{rowid, Trees}
 use Rattle.sqlite_trees.specs.View.{is_int}
-use Rattle.sqlite_trees.proofs.ListLemmas.{all_weaker, ascending-map, map-map, all_from_map, ascending_from_map, all-map, all-permutation, all-get_or}
+use Rattle.sqlite_trees.proofs.ListLemmas.{all_of, all_weaker, ascending-map, map-map, all_from_map, ascending_from_map, all-map, all-permutation, all-get_or}
 use Rattle.sqlite_value.specs.declared.keys.Key.{Key}
-use Rattle.sqlite_value.specs.Order.{Row}
+use Rattle.sqlite_value.specs.Order.{Row, column}
 use Rattle.sqlite.specs.declared.error.Error.{Error}
 use Rattle.sqlite.specs.Listing.{understood}
 use Rattle.sqlite.specs.Query.{IsAnswer, inner, end, matches}
@@ -20,7 +20,8 @@ use Rattle.office_tables.specs.Readings.{IsRead, ColumnRises}
 use Rattle.office_tables.specs.Finders.{IsFound, HasTables}
 use Rattle.office_tables.specs.Listings.{one_table, ordered_by, Lists, listed, IsListed}
 use Rattle.office_tables.specs.Records.{columns_from}
-use Rattle.office_schema.specs.Schema.{office_schema}
+use Rattle.office_tables.specs.declared.version.Version.{Version}
+use Rattle.office_tables.specs.Versions.{schema_of}
 use Rattle.office_tables.specs.Readers.{Keeps}
 use Rattle.office_tables.specs.Stored.{HasRowids}
 use Rattle.office_tables.proofs.AskLemmas.{arranged, command_is, overlay_none}
@@ -33,15 +34,15 @@ use Rattle.office_tables.proofs.TableLemmas.{rowids_moved}
 -- ---- a text that lists a tree
 
 module _ (tree : ℕ) (shown : List Term) (order : List (Term × Key)) (sql : List ℕ)
-    (lists : Lists tree shown order sql) (old new : State)
-    (has : old.now.schema ≡ office_schema) where
+    (version : Version) (lists : Lists version tree shown order sql) (old new : State)
+    (has : old.now.schema ≡ schema_of version) where
   pub listing : (rows : List Row) → Shown sql [] old new rows
       → IsAnswer (one_table tree [] shown order) old.now.trees [] rows
   listing rows h =
       let q = one_table tree [] shown order in
       let command = command_is q lists.names _ lists.selects in
       subst (λ trees. IsAnswer q trees [] rows) (overlay_none old.now.trees)
-      (selects sql [] old new office_schema has lists.plain _ lists.names command
+      (selects sql [] old new (schema_of version) has lists.plain _ lists.names command
       lists.unlisted rows h)
 
   plain_now : IsPlain (understood old.now.schema sql)
@@ -57,9 +58,10 @@ module _ (tree : ℕ) (shown : List Term) (order : List (Term × Key)) (sql : Li
   listed_kept (Err e) ok err = kept_failed sql [] old new e err
 
 pub listed_silent : (tree : ℕ) (shown : List Term) (order : List (Term × Key)) (sql : List ℕ)
-    → Lists tree shown order sql → (old new : State)
-    → Survives old new (CommitsShowing sql [] old) → Survives old new (λ _. HasTables old → ⊥)
-listed_silent tree shown order sql lists old new =
+    (version : Version) → Lists version tree shown order sql → (old new : State)
+    → Survives old new (CommitsShowing sql [] old)
+    → Survives old new (λ _. HasTables version old → ⊥)
+listed_silent tree shown order sql version lists old new =
     survives_weaker old new _ _ (λ _ db h tables. never_commits sql [] old db
     (subst (λ s. IsPlain (understood s sql)) (sym tables.schema) lists.plain) h)
 
@@ -185,3 +187,38 @@ adopted fits row_of width show terms stored rows whole same rise None none = λ 
     none (rows_wide width show terms stored rows whole same) made fit
     (IsPermutation-trans _ _ _
     (IsPermutation-sym _ _ (stored_columns width show terms stored rows whole same)) holds.same)
+
+-- ---- records in the order of their rows' numbers
+
+from_column : (from width at : ℕ) (row : Row) → at < width
+    → column (columns_from from width row) at ≡ column row (from + at)
+from_column from zero at row low = absurd (omega (arith, low))
+from_column from (suc width) zero row low = ap (column row) (omega arith)
+from_column from (suc width) (suc at) row low =
+    from_column (suc from) width at row (omega (arith, low)) ∙ ap (column row) (omega arith)
+
+own_column : (width at : ℕ) (row : Row) → at < width
+    → column (columns_from 0 width row) at ≡ column row at
+own_column width at row low = from_column 0 width at row low ∙ ap (column row) (omega arith)
+
+-- if a column of what is listed is the row's number, it rises in the records that are read
+pub read_rises : {X : Type 0} (fits : X → Type 0) (row_of : X → Row) (width at : ℕ) → at < width
+    → (terms : List Term) (stored rows : List Row)
+    → ((r : Row) → column (listed terms r) at ≡ column (listed terms r) width)
+    → IsPermutation (map (listed terms) stored) rows → ColumnRises width rows
+    → (found : Option (Vec X Global)) → IsRead fits row_of width rows found
+    → IfSome found (λ records. ColumnRises at (map row_of records.items))
+read_rises fits row_of width at within terms stored rows number same rise (Some made) is =
+    let alike : AllByRecursion (λ r. column (columns_from 0 width r) at ≡ column r width) rows =
+    all-permutation (λ r. column (columns_from 0 width r) at ≡ column r width)
+    (map (listed terms) stored) rows same
+    (all-map (λ r. column (columns_from 0 width r) at ≡ column r width) (listed terms) stored
+    (all_of _ (λ r. own_column width at (listed terms r) within ∙ number r) stored)) in (
+      rise.0,
+      ap (map (λ r. column r at)) is
+          ∙ map-map (λ r. column r at) (columns_from 0 width) rows
+          ∙ same_map (λ r. column (columns_from 0 width r) at) (λ r. column r width) rows alike
+          ∙ rise.1,
+      rise.2,
+    )
+read_rises fits row_of width at within terms stored rows number same rise None none = tt

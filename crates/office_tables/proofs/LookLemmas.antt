@@ -23,7 +23,7 @@ unfolding Shown
 was_open sql params old new rows h = open_rows old new sql h.0 _ rows h.0.returning h.2
 
 abbrev pub look_text : List ℕ
-look_text = codes "SELECT id FROM meta"
+look_text = codes "SELECT no FROM draft WHERE no = 0"
 
 pub look_plain : IsPlain (understood office_schema look_text)
 unfolding understood everything

@@ -10,7 +10,8 @@ use Rattle.sqlite.specs.Effect.{Database, IsDatabase}
 use Rattle.office_tables.specs.declared.meta.MetaRow.{MetaRow}
 use Rattle.office_tables.specs.Meta.{IsReadMeta, IsFoundMeta, meta_from, meta_columns}
 use Rattle.office_tables.specs.Listings.{listed}
-use Rattle.office_schema.specs.Schema.{office_schema}
+use Rattle.office_tables.specs.declared.version.Version.{Version}
+use Rattle.office_tables.specs.Versions.{schema_of}
 use Rattle.office_tables.specs.Tables.{Meta}
 use Rattle.office_tables.specs.Stored.{HasRowids, Holds, keyed}
 use Rattle.office_tables.proofs.ListedTables.{same_map}
@@ -32,12 +33,13 @@ first_alone (y ∷ []) x long first = ap (λ v. v ∷ []) (sym first)
 first_alone (y ∷ z ∷ xs) x long first = absurd (omega (arith, long))
 
 -- the row that stands alone has the number 0
-rowids_of_one : (stored : List Row) (m : Meta)
-    → IsPermutation (map keyed stored) (meta_columns m ∷ [])
+rowids_of_one : (version : Version) (stored : List Row) (m : Meta)
+    → IsPermutation (map keyed stored) (meta_columns version m ∷ [])
     → HasRowids stored
-rowids_of_one stored m same =
+rowids_of_one version stored m same =
     let ints = all_from_map (λ r. IsTrue (is_int (rowid r))) keyed stored
-    (all-permutation (λ r. IsTrue (is_int (rowid r))) (meta_columns m ∷ []) (map keyed stored)
+    (all-permutation (λ r. IsTrue (is_int (rowid r))) (meta_columns version m ∷ [])
+    (map keyed stored)
     (IsPermutation-sym _ _ same) (refl, tt)) in
     go stored (sym (length_permutation _ _ same)) ints
   where
@@ -47,13 +49,15 @@ rowids_of_one stored m same =
     go (x ∷ []) h all = record { ints = all; apart = (tt, tt) }
     go (x ∷ y ∷ xs) h all = absurd (omega (arith, h))
 
-module _ (db : Database) (is : db.schema ≡ office_schema) (sound : IsDatabase db) (rows : List Row)
+module _ (version : Version) (db : Database) (is : db.schema ≡ schema_of version)
+    (sound : IsDatabase db) (rows : List Row)
     (list : IsPermutation (map (listed meta_terms) (db.trees 0)) rows) where
   shown : IsPermutation (map keyed (db.trees 0)) rows
   shown = subst (λ l. IsPermutation l rows)
-      (same_map (listed meta_terms) keyed (db.trees 0) (meta_whole db is sound)) list
+      (same_map (listed meta_terms) keyed (db.trees 0) (meta_whole version db is sound)) list
 
-  pub not_alone : length rows ≢ 1 → (m : Meta) → Holds keyed (meta_columns m ∷ []) (db.trees 0) → ⊥
+  pub not_alone : length rows ≢ 1 → (m : Meta)
+      → Holds keyed (meta_columns version m ∷ []) (db.trees 0) → ⊥
   not_alone many m holds =
       let one = length_permutation _ _
       (IsPermutation-trans _ _ _ (IsPermutation-sym _ _ shown) holds.same) in many (sym one)
@@ -63,17 +67,18 @@ module _ (db : Database) (is : db.schema ≡ office_schema) (sound : IsDatabase 
       (all-map (λ r. length r ≡ 4) (listed meta_terms) (db.trees 0)
       (all_of _ (λ r. refl) (db.trees 0)))
 
-  pub alone : (row : Row) → rows ≡ row ∷ [] → (found : Option MetaRow) → IsReadMeta row found
-      → IsFoundMeta (db.trees 0) found
+  pub alone : (row : Row) → rows ≡ row ∷ [] → (found : Option MetaRow)
+      → IsReadMeta version row found
+      → IsFoundMeta version (db.trees 0) found
   alone row one (Some m) read =
       let long = (subst (AllByRecursion (λ r. length r ≡ 4)) one four).0 in
-      let here : IsPermutation (map keyed (db.trees 0)) (meta_columns (meta_from m) ∷ []) =
+      let here : IsPermutation (map keyed (db.trees 0)) (meta_columns version (meta_from m) ∷ []) =
       subst (IsPermutation (map keyed (db.trees 0)))
       (one ∙ ap (λ v. v ∷ []) (dropped 0 4 row long ∙ read)) shown in
-      record { rowids = rowids_of_one (db.trees 0) (meta_from m) here; same = here }
+      record { rowids = rowids_of_one version (db.trees 0) (meta_from m) here; same = here }
   alone row one None none = λ m holds.
       let long = (subst (AllByRecursion (λ r. length r ≡ 4)) one four).0 in
-      let same = one_same row (meta_columns m)
+      let same = one_same row (meta_columns version m)
       (IsPermutation-trans _ _ _
       (IsPermutation-sym _ _ (subst (IsPermutation (map keyed (db.trees 0))) one shown))
       holds.same) in

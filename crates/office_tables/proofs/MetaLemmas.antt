@@ -13,6 +13,7 @@ use Rattle.sqlite.specs.Term.{Term, lit, col}
 use Rattle.sqlite.proofs.Callers.{IsPlain, command_of}
 use Rattle.sqlite_tied.specs.Compute.{everything}
 use Rattle.office_schema.specs.Schema.{office_schema, meta_table}
+use Rattle.office_tables.specs.declared.version.Version.TheVariants.{Two}
 use Rattle.office_tables.specs.Schema.{IsBlank}
 use Rattle.office_tables.specs.Tables.{Tables, Meta, empty_tables}
 use Rattle.office_tables.specs.Standing.{Stands}
@@ -27,10 +28,10 @@ use Rattle.office_tables.proofs.Queries.{answered, left_of, none_left, one_table
 -- ---- INSERT
 
 abbrev pub insert_text : List ℕ
-insert_text = codes "INSERT INTO meta (id, version, published, instance) VALUES (0, 1, ?1, ?2)"
+insert_text = codes "INSERT INTO meta (id, version, published, instance) VALUES (0, 2, ?1, ?2)"
 
 abbrev insert_terms : List Term
-insert_terms = lit (Int (pos 0)) ∷ lit Null ∷ lit (Int (pos 1)) ∷ col 0 0 ∷ col 0 1 ∷ []
+insert_terms = lit (Int (pos 0)) ∷ lit Null ∷ lit (Int (pos 2)) ∷ col 0 0 ∷ col 0 1 ∷ []
 
 insert_is : command_of (understood office_schema insert_text) ≡ Insert 0 (Values insert_terms 5)
 unfolding understood everything
@@ -50,26 +51,26 @@ added old new row count t stands h =
     let is = done.1 in
     let stored = old.now.trees 0 in
     let new_row : Row =
-    Int (pos 0) ∷ Null ∷ Int (pos 1) ∷ Int (pos (flag row.published))
+    Int (pos 0) ∷ Null ∷ Int (pos 2) ∷ Int (pos (flag row.published))
     ∷ Blob row.instance ∷ [] in
     let rows : new.now.trees 0 ≡ put_row new_row stored =
-    is.rows ∙ rw (cast_int 0, cast_int 1, cast_null, cast_int (flag row.published)) refl in
+    is.rows ∙ rw (cast_int 0, cast_int 2, cast_null, cast_int (flag row.published)) refl in
     let fresh : are_fresh stored (new_row ∷ []) ≡ true = rw (cast_int 0) at is.fresh in
     meta_changed old.now new.now t stands done.0 (row ∷ t.meta) is.tables
-    (rw rows (holds_more keyed (map meta_columns t.meta) stored new_row
-    (meta_columns row) refl refl fresh stands.meta))
+    (rw rows (holds_more keyed (map (meta_columns Two) t.meta) stored new_row
+    (meta_columns Two row) refl refl fresh stands.meta))
 
 -- ---- DELETE
 
 abbrev pub delete_text : List ℕ
 delete_text = codes "DELETE FROM meta"
 
-delete_is : command_of (understood office_schema delete_text)
+pub delete_is : command_of (understood office_schema delete_text)
     ≡ Delete 0 (record { lets = []; body = one_table 0 ([]) rowids [] })
 unfolding understood everything
 delete_is = refl
 
-delete_plain : IsPlain (understood office_schema delete_text)
+pub delete_plain : IsPlain (understood office_schema delete_text)
 unfolding understood everything
 delete_plain = (refl, refl)
 
@@ -91,14 +92,16 @@ pub blank_stands : (db : Database) → IsBlank office_schema db
     → Stands db (record empty_tables { meta = [] })
 blank_stands db blank = record {
   schema = blank.schema_is;
-  meta = holds_none keyed _ (blank.empty.0);
-  owner = holds_none keyed _ (blank.empty.1.0);
-  enrol = holds_none keyless _ (blank.empty.1.1.0);
-  draft = holds_none keyed _ (blank.empty.1.1.1.0);
-  slot = holds_none keyless _ (blank.empty.1.1.1.1.0);
-  placed = holds_none keyed _ (blank.empty.1.1.1.1.1.0);
-  seat = holds_none keyless _ (blank.empty.1.1.1.1.1.1.0);
-  share_student = holds_none keyed _ (blank.empty.1.1.1.1.1.1.1.0);
-  share_part = holds_none keyless _ (blank.empty.1.1.1.1.1.1.1.1.0);
-  batch = holds_none keyed _ (blank.empty.1.1.1.1.1.1.1.1.1.0);
+  meta = holds_none keyed _ (blank.rows.0);
+  owner = holds_none keyed _ (blank.rows.1.0);
+  enrol = holds_none keyless _ (blank.rows.1.1.0);
+  draft = holds_none keyed _ (blank.rows.1.1.1.0);
+  slot = holds_none keyless _ (blank.rows.1.1.1.1.0);
+  placed = holds_none keyed _ (blank.rows.1.1.1.1.1.0);
+  seat = holds_none keyless _ (blank.rows.1.1.1.1.1.1.0);
+  share_student = holds_none keyed _ (blank.rows.1.1.1.1.1.1.1.0);
+  share_part = holds_none keyless _ (blank.rows.1.1.1.1.1.1.1.1.0);
+  batch = holds_none keyed _ (blank.rows.1.1.1.1.1.1.1.1.1.0);
+  night_draft = holds_none keyed _ (blank.rows.1.1.1.1.1.1.1.1.1.1.0);
+  night_share = holds_none keyed _ (blank.rows.1.1.1.1.1.1.1.1.1.1.1.0);
 }

@@ -22,6 +22,7 @@ use Rattle.std.proofs.lemmas.Int.{ints}
 use Rattle.office_tables.specs.Stored.{HasRowids}
 pub use Rattle.office_tables.specs.Listings.{one_table}
 use Rattle.office_tables.proofs.TableLemmas.{rowid_once}
+use Rattle.sqlite_value.specs.declared.keys.Collation.{Collation}
 use Rattle.sqlite_value.specs.declared.keys.Collation.TheVariants.{Binary}
 use Rattle.sqlite_sql.specs.declared.ops.BinaryOp.TheVariants.{Compare}
 use Rattle.sqlite_sql.specs.declared.ops.CompareOp.TheVariants.{Eq}
@@ -66,13 +67,14 @@ matched params where_ (r ∷ rows) =
     ]
 
 -- the rows that pass are shown, in some order
-pub answered : (tree : ℕ) (where_ shown : List Term) (order : List (Term × Key)) (trees : Trees)
-    (params : Row) (rows : List Row)
-    → IsAnswer (one_table tree where_ shown order) (overlay trees []) params rows
+pub answered_by : (collations : List Collation) (tree : ℕ) (where_ shown : List Term)
+    (order : List (Term × Key)) (trees : Trees) (params : Row) (rows : List Row)
+    → IsAnswer (record (one_table tree where_ shown order) { collations = collations })
+    (overlay trees []) params rows
     → IsPermutation
     (map (shown_of params shown) (filter (passes params where_) (trees tree))) rows
-answered tree where_ shown order trees params rows a =
-    let q = one_table tree where_ shown order in
+answered_by collations tree where_ shown order trees params rows a =
+    let q = record (one_table tree where_ shown order) { collations = collations } in
     let over : overlay trees [] tree ≡ trees tree =
     ap (λ o. unwrap_or o (trees tree)) (both_alike (nat_le (2 ^ 31) tree) None) in
     let staged : a.staged
@@ -84,8 +86,19 @@ answered tree where_ shown order trees params rows a =
     a.distinct ∙ ap (map (output q)) staged ∙ map-map (output q) (λ r. params ∷ r ∷ []) _ in
     let mixed = subst (λ k. IsPermutation k a.ordered) kept a.same in
     let last = IsPermutation-map (λ (o : Output). o.1) _ _ mixed in
-    rw (a.shown, sym (map-map (λ (o : Output). o.1) (λ r. output q (params ∷ r ∷ [])) (filter (passes params where_) (trees tree))))
+    rw (
+      a.shown,
+      sym (map-map (λ (o : Output). o.1) (λ r. output q (params ∷ r ∷ []))
+          (filter (passes params where_) (trees tree))),
+    )
     last
+
+pub answered : (tree : ℕ) (where_ shown : List Term) (order : List (Term × Key)) (trees : Trees)
+    (params : Row) (rows : List Row)
+    → IsAnswer (one_table tree where_ shown order) (overlay trees []) params rows
+    → IsPermutation
+    (map (shown_of params shown) (filter (passes params where_) (trees tree))) rows
+answered = answered_by []
 
 -- ---- from stored rows to what they stand for
 

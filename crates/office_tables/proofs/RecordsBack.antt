@@ -36,14 +36,15 @@ enrol_of row = record {
 
 abbrev pub draft_of : Row → DraftRow
 draft_of row = record {
-  no = number (column row 0);
-  in_row = number (column row 1);
-  in_day = number (column row 2);
-  spread = number (column row 3);
-  mixed = number (column row 4);
-  front = number (column row 5);
-  period = number (column row 6);
-  room = number (column row 7);
+  no = number (column row 1);
+  in_row = number (column row 2);
+  in_day = number (column row 3);
+  spread = number (column row 4);
+  mixed = number (column row 5);
+  front = number (column row 6);
+  period = number (column row 7);
+  room = number (column row 8);
+  night = number (column row 0);
 }
 
 abbrev pub slot_of : Row → SlotRow
@@ -72,10 +73,11 @@ seat_of row = record {
 
 abbrev pub student_share_of : Row → StudentShareRow
 student_share_of row = record {
-  student = number (column row 0);
-  in_row = number (column row 1);
-  in_day = number (column row 2);
-  spread = number (column row 3);
+  student = number (column row 1);
+  in_row = number (column row 2);
+  in_day = number (column row 3);
+  spread = number (column row 4);
+  night = number (column row 0);
 }
 
 abbrev pub part_share_of : Row → PartShareRow

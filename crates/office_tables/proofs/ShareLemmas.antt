@@ -1,8 +1,9 @@
 -- What each statement on the tables of shares means, and what it makes of the tables.
-use Rattle.std.proofs.Common.{◌≡◌, ℕ, pos, List, [], ◌∷◌, map, filter, not, ◌==◌, codes, true, Ok, refl, ap, ◌∙◌}
+use Rattle.std.proofs.Common.{◌≡◌, ℕ, pos, List, [], ◌∷◌, map, filter, not, ◌==◌, codes, true, Ok, arith, refl, ◌∙◌}
 use Rattle.sqlite_trees.specs.Tree.{put_row}
 use Rattle.sqlite_value.specs.declared.value.Value.TheVariants.{Null, Int}
 use Rattle.sqlite_value.specs.Order.{Row}
+use Rattle.sqlite.specs.Effect.{Database}
 use Rattle.sqlite.specs.Command.TheVariants.{Insert, Delete}
 use Rattle.sqlite.specs.Edit.{next_rowid, are_fresh}
 use Rattle.sqlite.specs.Listing.{understood}
@@ -13,17 +14,18 @@ use Rattle.sqlite.proofs.Callers.{IsPlain, command_of}
 use Rattle.sqlite_tied.specs.Compute.{everything}
 use Rattle.office_tables.specs.declared.share_student.StudentShareRow.{StudentShareRow}
 use Rattle.office_tables.specs.declared.share_part.PartShareRow.{PartShareRow}
-use Rattle.office_schema.specs.Schema.{office_schema, share_student_table, share_part_table}
+use Rattle.office_schema.specs.Schema.{office_schema, share_student_table, share_part_table, night_share_table}
 use Rattle.office_tables.specs.Tables.{Tables}
 use Rattle.office_tables.specs.Standing.{Stands}
-use Rattle.office_tables.specs.Stored.{keyed, keyless}
-use Rattle.office_tables.specs.ShareStudent.{share_student_columns}
+use Rattle.office_tables.specs.Stored.{Holds, keyed, keyless}
+use Rattle.office_tables.specs.ShareStudent.{share_student_columns, night_share_columns}
 use Rattle.office_tables.specs.SharePart.{share_part_columns}
 use Rattle.office_tables.proofs.Casts.{cast_int, cast_null}
-use Rattle.office_tables.proofs.Frames.{holds_none, share_student_changed, share_part_changed}
+use Rattle.office_tables.proofs.Frames.{OneChanged, Others, holds_none, student_shares_changed, share_part_changed, still}
+use Rattle.office_tables.proofs.KeyedLemmas.{keyed_deleted, night_added, night_terms}
 use Rattle.office_tables.proofs.Statements.{inserts, deletes}
-use Rattle.office_tables.proofs.TableLemmas.{holds_more, rowids_filter}
-use Rattle.office_tables.proofs.Queries.{answered, passes, shown_filter, left_of, none_left, equal_numbers, one_table, equals, rowids}
+use Rattle.office_tables.proofs.TableLemmas.{holds_more}
+use Rattle.office_tables.proofs.Queries.{answered, left_of, none_left, equal_numbers, one_table, equals, rowids}
 
 -- ---- INSERT INTO share_student
 
@@ -43,12 +45,13 @@ insert_student_share_plain : IsPlain (understood office_schema insert_student_sh
 unfolding understood everything
 insert_student_share_plain = (refl, refl)
 
-pub student_share_added : (old new : State) (row : StudentShareRow) (count : ℕ) (t : Tables)
-    → Stands old.now t
+student_costs_added : (old new : State) (row : StudentShareRow) (count : ℕ)
+    (rows : List StudentShareRow) → old.now.schema ≡ office_schema
+    → Holds keyed (map share_student_columns rows) (old.now.trees 11)
     → Executes insert_student_share_text (share_student_columns row) old new (Ok count)
-    → Stands new.now (record t { share_student = row ∷ t.share_student })
-student_share_added old new row count t stands h =
-    let done = inserts insert_student_share_text _ old new count office_schema stands.schema
+    → OneChanged 11 (map share_student_columns (row ∷ rows)) old.now new.now
+student_costs_added old new row count rows schema holds h =
+    let done = inserts insert_student_share_text _ old new count office_schema schema
     insert_student_share_plain 7 share_student_table refl insert_student_share_terms 5
     insert_student_share_is
     (λ taken news. refl) h in
@@ -56,7 +59,7 @@ student_share_added old new row count t stands h =
     let stored = old.now.trees 11 in
     let new_row : Row = Int (pos row.student) ∷ Null ∷ Int (pos row.in_row) ∷ Int (pos row.in_day) ∷
     Int (pos row.spread) ∷ [] in
-    let rows : new.now.trees 11 ≡ put_row new_row stored =
+    let now : new.now.trees 11 ≡ put_row new_row stored =
     is.rows ∙ rw (
       cast_null,
       cast_int row.student,
@@ -65,10 +68,45 @@ student_share_added old new row count t stands h =
       cast_int row.spread,
     ) refl in
     let fresh : are_fresh stored (new_row ∷ []) ≡ true = rw (cast_int row.student) at is.fresh in
-    share_student_changed old.now new.now t stands done.0 (row ∷ t.share_student) is.tables
-    (rw rows (holds_more keyed (map share_student_columns t.share_student) stored new_row
-    (share_student_columns row) refl refl fresh
-    stands.share_student))
+    record {
+      schema = done.0;
+      others = is.tables;
+      holds = rw now (holds_more keyed (map share_student_columns rows) stored new_row
+          (share_student_columns row) refl refl fresh holds);
+    }
+
+abbrev pub insert_night_share_text : List ℕ
+insert_night_share_text = codes "INSERT INTO night_share (student, night) VALUES (?1, ?2)"
+
+insert_night_share_is : command_of (understood office_schema insert_night_share_text)
+    ≡ Insert 11 (Values night_terms 3)
+unfolding understood everything
+insert_night_share_is = refl
+
+insert_night_share_plain : IsPlain (understood office_schema insert_night_share_text)
+unfolding understood everything
+insert_night_share_plain = (refl, refl)
+
+-- what is in the second table stays beside a change of the first
+nights_beside : (old mid : Database) (t : Tables) → Stands old t → Others 11 old.trees mid.trees
+    → Holds keyed (map night_share_columns t.share_student) (mid.trees 16)
+nights_beside old mid t stands others =
+    still keyed _ _ _ (others.1.1.1.1.1.1.1.1.1.1.1.0 (omega arith)) stands.night_share
+
+pub student_share_added : (old mid new : State) (row : StudentShareRow) (first second : ℕ)
+    (t : Tables) → Stands old.now t
+    → Executes insert_student_share_text (share_student_columns row) old mid (Ok first)
+    → Executes insert_night_share_text (night_share_columns row) mid new (Ok second)
+    → Stands new.now (record t { share_student = row ∷ t.share_student })
+student_share_added old mid new row first second t stands h k =
+    let one =
+    student_costs_added old mid row first t.share_student stands.schema stands.share_student
+    h in
+    student_shares_changed old.now mid.now new.now t stands (row ∷ t.share_student) one
+    (night_added insert_night_share_text insert_night_share_plain 11 16 (codes "night_share")
+    (codes "student") (codes "night") refl (λ taken news. refl) insert_night_share_is row.student
+    row.night second (map night_share_columns t.share_student) mid new one.schema
+    (nights_beside old.now mid.now t stands one.others) k)
 
 -- ---- DELETE FROM share_student WHERE student = ?1
 
@@ -84,34 +122,39 @@ delete_student_share_plain : IsPlain (understood office_schema delete_student_sh
 unfolding understood everything
 delete_student_share_plain = (refl, refl)
 
-pub student_share_deleted : (old new : State) (number : ℕ) (count : ℕ) (t : Tables)
+abbrev pub delete_night_share_text : List ℕ
+delete_night_share_text = codes "DELETE FROM night_share WHERE student = ?1"
+
+delete_night_share_is : command_of (understood office_schema delete_night_share_text)
+    ≡ Delete 11 (record { lets = []; body = one_table 16 (equals 0 0 ∷ []) rowids [] })
+unfolding understood everything
+delete_night_share_is = refl
+
+delete_night_share_plain : IsPlain (understood office_schema delete_night_share_text)
+unfolding understood everything
+delete_night_share_plain = (refl, refl)
+
+pub student_share_deleted : (old mid new : State) (number : ℕ) (first second : ℕ) (t : Tables)
     → Stands old.now t
-    → Executes delete_student_share_text (Int (pos number) ∷ []) old new (Ok count)
+    → Executes delete_student_share_text (Int (pos number) ∷ []) old mid (Ok first)
+    → Executes delete_night_share_text (Int (pos number) ∷ []) mid new (Ok second)
     → Stands new.now (record t {
       share_student = filter (λ r. not (r.student == number))
           t.share_student;
     })
-student_share_deleted old new number count t stands h =
-    let params = Int (pos number) ∷ [] in
-    let done = deletes delete_student_share_text params old new count office_schema stands.schema
-    delete_student_share_plain 7 share_student_table refl _ delete_student_share_is
-    (λ taken news. refl) h in
-    let is = done.3 in
-    let stored = old.now.trees 11 in
-    let test = passes params (equals 0 0 ∷ []) in
-    let answer = answered 11 (equals 0 0 ∷ []) _ [] old.now.trees params done.0 done.2 in
-    let rows : new.now.trees 11 ≡ filter (λ r. not (test r)) stored =
-    is.rows ∙ left_of test stored done.0 stands.share_student.rowids answer in
-    let same = shown_filter keyed share_student_columns (λ r. not (test r))
-    (λ (row : Row). not (passes params (equals 0 0 ∷ []) row)) (λ r. not (r.student == number))
-    (λ r. refl) (λ x. ap not (equal_numbers x.student number)) stored t.share_student
-    stands.share_student.same in
-    share_student_changed old.now new.now t stands done.1
-    (filter (λ r. not (r.student == number)) t.share_student)
-    is.tables (rw rows (record {
-      rowids = rowids_filter (λ r. not (test r)) stored stands.share_student.rowids;
-      same = same;
-    }))
+student_share_deleted old mid new number first second t stands h k =
+    let one =
+    keyed_deleted delete_student_share_text delete_student_share_plain 7 share_student_table
+    refl (λ taken news. refl) delete_student_share_is share_student_columns
+    (λ (r : StudentShareRow). r.student) number first old mid (λ x. equal_numbers x.student number)
+    t.share_student stands.schema stands.share_student h in
+    student_shares_changed old.now mid.now new.now t stands
+    (filter (λ r. not (r.student == number)) t.share_student) one
+    (keyed_deleted delete_night_share_text delete_night_share_plain 11 night_share_table refl
+    (λ taken news. refl) delete_night_share_is night_share_columns
+    (λ (r : StudentShareRow). r.student) number second mid new
+    (λ x. equal_numbers x.student number) t.share_student one.schema
+    (nights_beside old.now mid.now t stands one.others) k)
 
 -- ---- INSERT INTO share_part
 

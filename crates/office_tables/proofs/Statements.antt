@@ -8,6 +8,7 @@ use Rattle.sqlite_value.specs.Order.{Row}
 use Rattle.sqlite_rules.specs.declared.error.Rowids.TheVariants.{Chosen, Given}
 use Rattle.sqlite_rules.specs.Edit.{edit_of, taken_by, Applies}
 use Rattle.sqlite_rules.specs.Action.{works}
+use Rattle.sqlite.specs.Source.TheVariants as source
 use Rattle.sqlite.specs.Source.TheVariants.{Values}
 use Rattle.sqlite.specs.Command.TheVariants.{Insert, Delete, Select, CreateTable}
 use Rattle.sqlite.specs.Term.{Term}
@@ -21,7 +22,7 @@ use Rattle.sqlite.specs.Does.{Tally, Does, lacks_sequence}
 use Rattle.sqlite.specs.Change.{created, next_tree, KeepsRows}
 use Rattle.sqlite.specs.Compile.{table_defined_by}
 use Rattle.std.specs.List.{AllByRecursion}
-use Rattle.office_tables.specs.Schema.{IsBlank}
+use Rattle.office_tables.specs.Schema.{HasRows}
 use Rattle.sqlite.specs.Rows.{Written}
 use Rattle.sqlite.specs.State.{State, mode_of, Writes, Executes, Shown}
 use Rattle.sqlite.proofs.Callers.{IsPlain, command_of, statement_of, runs_as, reads_as, one_step}
@@ -83,6 +84,45 @@ module _ (sql : List ℕ) (params : Row) (old new : State) (count : ℕ) (schema
             (sym trees ∙ sym (ap (λ (d : Database). d.trees) now)) applied,
       )
 
+  -- the same of rows that a query gives
+  pub inserts_from : (q : Query) → command_of (understood schema sql)
+      ≡ Insert at (source.Query (record { lets = []; body = q }))
+      → ((taken news : List Row) → works schema Enforced 0 base.tree taken news ≡ [])
+      → Executes sql params old new (Ok count)
+      → (rows : List Row) × (new.now.schema ≡ schema)
+      × IsAnswer q (overlay old.now.trees []) params rows
+      × Applies schema Enforced old.now.trees
+      (edit_of old.now.trees (simple base) [] Chosen 0 rows) new.now.trees
+  inserts_from q is quiet h =
+      let command = Insert at (source.Query (record { lets = []; body = q })) in
+      let text = statement_of sql (understood schema sql) in
+      let w : Writes old new None command text params count =
+      runs_as sql params old new schema has command is plain count h in
+      let all = subst
+      (λ s. Does old.step_limit (mode_of old) params
+      (record old.now { schema = s }) text None command (Ok (w.tally, new.now)))
+      has w.changed in
+      let done = went (rw found at all) in
+      let now = ap (λ (p : Tally × Database). p.1) (same_value (went (went done.2).2).2) in
+      let given = went done.1 in
+      let written = went (went given.2).2 in
+      let counted = went written.2 in
+      let trees : done.0.trees ≡ written.0 =
+      ap (λ (it : Written). it.trees) (same_value counted.2) ∙ same_value counted.1 in
+      let edit = edit_of old.now.trees table [] Chosen 0 given.0 in
+      let applied : Applies schema Enforced old.now.trees edit written.0 =
+      one_step schema Enforced old.now.trees written.0 edit
+      (quiet (taken_by old.now.trees edit) edit.news) written.1 in
+      let answer : IsAnswer q (overlay old.now.trees []) params given.0 =
+      subst (λ ps. IsAnswer q (overlay old.now.trees []) ps given.0) (append-nil params)
+      (given.1.answer Null) in (
+        given.0,
+        ap (λ (d : Database). d.schema) now,
+        answer,
+        subst (Applies schema Enforced old.now.trees edit)
+            (sym trees ∙ sym (ap (λ (d : Database). d.trees) now)) applied,
+      )
+
   pub deletes : (q : Query) → command_of (understood schema sql)
       ≡ Delete at (record { lets = []; body = q })
       → ((taken news : List Row) → works schema Enforced 0 base.tree taken news ≡ [])
@@ -132,11 +172,12 @@ selects sql params old new schema has plain q names is unlisted rows shown =
 
 -- ---- CREATE TABLE
 
-blank_kept : (tables : List Table) (old new : Trees) → KeepsRows tables old new
-    → AllByRecursion (λ t. old t.tree ≡ []) tables → AllByRecursion (λ t. new t.tree ≡ []) tables
-blank_kept [] old new keeps blank = tt
-blank_kept (t ∷ tables) old new keeps blank =
-    (keeps.0 ∙ blank.0, blank_kept tables old new keeps.1 blank.1)
+rows_kept : (tables : List Table) (trees old new : Trees) → KeepsRows tables old new
+    → AllByRecursion (λ t. old t.tree ≡ trees t.tree) tables
+    → AllByRecursion (λ t. new t.tree ≡ trees t.tree) tables
+rows_kept [] trees old new keeps same = tt
+rows_kept (t ∷ tables) trees old new keeps same =
+    (keeps.0 ∙ same.0, rows_kept tables trees old new keeps.1 same.1)
 
 all_push : (P : Table → Type 0) (tables : List Table) (t : Table) → AllByRecursion P tables → P t
     → AllByRecursion P (tables ++ t ∷ [])
@@ -144,28 +185,31 @@ all_push P [] t all last = (last, tt)
 all_push P (x ∷ tables) t all last = (all.0, all_push P tables t all.1 last)
 
 pub creates : (sql : List ℕ) (old new : State) (count : ℕ) (schema : Schema) (table : Table)
+    (trees : Trees) → trees (next_tree schema) ≡ []
     → IsPlain (understood schema sql) → command_of (understood schema sql) ≡ CreateTable
     → statement_of sql (understood schema sql) ≡ sql → table_defined_by sql ≡ Ok table
     → lacks_sequence (created schema table) ≡ false
-    → Executes sql [] old new (Ok count) → IsBlank schema old.now
-    → IsBlank (created schema table) new.now
-creates sql old new count schema table plain is whole defined uncounted h blank =
+    → Executes sql [] old new (Ok count) → HasRows schema trees old.now
+    → HasRows (created schema table) trees new.now
+creates sql old new count schema table trees none plain is whole defined uncounted h has =
     let w = subst (λ t. Writes old new None CreateTable t [] count) whole
-    (runs_as sql [] old new schema blank.schema_is CreateTable is plain count h) in
+    (runs_as sql [] old new schema has.schema_is CreateTable is plain count h) in
     let all = went w.changed in
     let first = went all.1 in
     let made = first.1 in
     let same : made.table ≡ table = same_value (sym made.defined ∙ defined) in
     let schema_is : first.0.schema ≡ created schema table =
-    made.is ∙ ap (λ s. created s made.table) blank.schema_is ∙ ap (created schema) same in
+    made.is ∙ ap (λ s. created s made.table) has.schema_is ∙ ap (created schema) same in
     let fine : lacks_sequence first.0.schema ≡ false = ap lacks_sequence schema_is ∙ uncounted in
     let now : new.now ≡ first.0 =
     ap (λ (p : Tally × Database). p.1) (same_value all.2) ∙ same_value (rw fine at first.2) in
     let empty : first.0.trees (next_tree schema) ≡ [] =
-    subst (λ s. first.0.trees (next_tree s) ≡ []) blank.schema_is made.empty in
+    subst (λ s. first.0.trees (next_tree s) ≡ []) has.schema_is made.empty in
     let kept = subst (λ s. KeepsRows s.tables old.now.trees first.0.trees)
-    blank.schema_is made.others in
-    let full : AllByRecursion (λ t. first.0.trees t.tree ≡ []) (created schema table).tables =
+    has.schema_is made.others in
+    let full : AllByRecursion (λ t. first.0.trees t.tree ≡ trees t.tree)
+    (created schema table).tables =
     all_push _ schema.tables (record table { tree = next_tree schema })
-    (blank_kept schema.tables old.now.trees first.0.trees kept blank.empty) empty in
-    record { schema_is = ap (λ (d : Database). d.schema) now ∙ schema_is; empty = subst (λ (d : Database). AllByRecursion (λ t. d.trees t.tree ≡ []) (created schema table).tables) (sym now) full }
+    (rows_kept schema.tables trees old.now.trees first.0.trees kept has.rows)
+    (empty ∙ sym none) in
+    record { schema_is = ap (λ (d : Database). d.schema) now ∙ schema_is; rows = subst (λ (d : Database). AllByRecursion (λ t. d.trees t.tree ≡ trees t.tree) (created schema table).tables) (sym now) full }

@@ -3,6 +3,7 @@ use Rattle.std.proofs.Common.{◌≡◌, ◌≤◌, ◌<◌, ◌+◌, ◌++◌, 
 use Rattle.std.specs.List.{AllByRecursion}
 use Rattle.std.proofs.lemmas.Bool.{and_parts}
 use Rattle.sqlite_schema.specs.declared.schema.Column.{Column}
+use Rattle.sqlite_schema.specs.declared.schema.Constraint.{Constraint}
 use Rattle.sqlite_schema.specs.declared.schema.Constraint.TheVariants.{Datatype, NotNull}
 use Rattle.sqlite_schema.specs.declared.schema.Schema.{Schema}
 use Rattle.sqlite_schema.specs.declared.schema.Table.{Table}
@@ -15,7 +16,10 @@ use Rattle.sqlite_value.specs.declared.value.Value.{Value}
 use Rattle.sqlite_value.specs.Order.{Row, column}
 use Rattle.sqlite.specs.Effect.{Database, IsDatabase}
 use Rattle.office_tables.specs.Records.{columns_from}
-use Rattle.office_schema.specs.Schema.{office_schema}
+use Rattle.office_schema.specs.Schema.{office_schema, schema_before, night_draft_table, night_share_table}
+use Rattle.office_tables.specs.declared.version.Version.{Version}
+use Rattle.office_tables.specs.declared.version.Version.TheVariants.{One, Two}
+use Rattle.office_tables.specs.Versions.{schema_of}
 
 -- ---- the columns of a row of known length
 
@@ -88,21 +92,53 @@ row_long key cols c row unkeyed present typed all =
 -- the rows of a table of the office, by the columns before its last
 pub rows_long : (table : Table) (cols : List Column) (c : Column) → table.columns ≡ cols ++ c ∷ []
     → is_key table.key (length cols) ≡ false → c.not_null ≡ true
-    → (trees : Trees) (stored : List Row)
-    → AllByRecursion (λ r. passes Datatype office_schema trees table r ≡ true) stored
-    → AllByRecursion (λ r. passes NotNull office_schema trees table r ≡ true) stored
+    → (schema : Schema) (trees : Trees) (stored : List Row)
+    → AllByRecursion (λ r. passes Datatype schema trees table r ≡ true) stored
+    → AllByRecursion (λ r. passes NotNull schema trees table r ≡ true) stored
     → AllByRecursion (λ r. length r ≡ 2 + length cols) stored
-rows_long table cols c is unkeyed present trees stored typed all =
+rows_long table cols c is unkeyed present schema trees stored typed all =
     all_both _ _ _ (λ r t p. row_long table.key cols c r unkeyed present
     (subst (λ l. are_typed table.key 0 l (drop 1 r) ≡ true) is (and_parts _ _ t).0)
     (subst (λ l. are_present table.key 0 l r ≡ true) is p)) stored typed all
 
-pub typed_rows : (db : Database) → db.schema ≡ office_schema → IsDatabase db
-    → Keeps Datatype office_schema db.trees
-typed_rows db is sound = subst (λ (s : Schema). Keeps Datatype s db.trees) is
-    (sound.obeys.rules Datatype)
+all_first : (P : Table → Type 0) (xs ys : List Table) → AllByRecursion P (xs ++ ys)
+    → AllByRecursion P xs
+all_first P [] ys all = tt
+all_first P (x ∷ xs) ys all = (all.0, all_first P xs ys all.1)
 
-pub present_rows : (db : Database) → db.schema ≡ office_schema → IsDatabase db
+-- the rows of the ten tables of version 1, which both versions have, obey a rule
+abbrev pub KeepsTen : Constraint → Version → Trees → Type 0
+KeepsTen rule version trees =
+    AllByRecursion (λ t. AllByRecursion (λ r. passes rule (schema_of version) trees t r ≡ true)
+    (trees t.tree)) schema_before.tables
+
+ten_keep : (rule : Constraint) (version : Version) (trees : Trees)
+    → Keeps rule (schema_of version) trees → KeepsTen rule version trees
+ten_keep rule One trees all = all
+ten_keep rule Two trees all =
+    all_first (λ t. AllByRecursion (λ r. passes rule office_schema trees t r ≡ true) (trees t.tree))
+    schema_before.tables (night_draft_table ∷ night_share_table ∷ []) all
+
+rows_keep : (rule : Constraint) (version : Version) (db : Database)
+    → db.schema ≡ schema_of version → IsDatabase db → Keeps rule (schema_of version) db.trees
+rows_keep rule version db is sound =
+    subst (λ (s : Schema). Keeps rule s db.trees) is (sound.obeys.rules rule)
+
+pub typed_rows : (version : Version) (db : Database) → db.schema ≡ schema_of version → IsDatabase db
+    → KeepsTen Datatype version db.trees
+typed_rows version db is sound =
+    ten_keep Datatype version db.trees (rows_keep Datatype version db is sound)
+
+pub present_rows : (version : Version) (db : Database) → db.schema ≡ schema_of version
+    → IsDatabase db → KeepsTen NotNull version db.trees
+present_rows version db is sound =
+    ten_keep NotNull version db.trees (rows_keep NotNull version db is sound)
+
+-- version 2 has two more
+pub all_typed : (db : Database) → db.schema ≡ office_schema → IsDatabase db
+    → Keeps Datatype office_schema db.trees
+all_typed = rows_keep Datatype Two
+
+pub all_present : (db : Database) → db.schema ≡ office_schema → IsDatabase db
     → Keeps NotNull office_schema db.trees
-present_rows db is sound = subst (λ (s : Schema). Keeps NotNull s db.trees) is
-    (sound.obeys.rules NotNull)
+all_present = rows_keep NotNull Two

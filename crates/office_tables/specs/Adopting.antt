@@ -18,16 +18,18 @@ use Rattle.office_tables.specs.declared.draft.DraftRow.{DraftRow}
 use Rattle.office_tables.specs.declared.slot.SlotRow.{SlotRow}
 use Rattle.office_tables.specs.declared.meta.MetaRow.{MetaRow}
 use Rattle.office_tables.specs.Batch.{counts_of, FitsBatch}
-use Rattle.office_tables.specs.Draft.{draft_columns, FitsDraft}
+use Rattle.office_tables.specs.declared.version.Version.{Version}
+use Rattle.office_tables.specs.Draft.{draft_columns, night_draft_columns, FitsDraft}
 use Rattle.office_tables.specs.Enrol.{enrol_columns, FitsEnrol}
 use Rattle.office_tables.specs.Meta.{meta_columns, meta_from}
+use Rattle.office_tables.specs.Joining.{HaveRows}
 use Rattle.office_tables.specs.Owner.{owner_columns, FitsOwner}
 use Rattle.office_tables.specs.Placed.{placed_columns, FitsPlacement}
 use Rattle.office_tables.specs.Seat.{seat_columns, FitsSeat}
 use Rattle.office_tables.specs.SharePart.{share_part_columns, FitsPartShare}
-use Rattle.office_tables.specs.ShareStudent.{share_student_columns, FitsStudentShare}
+use Rattle.office_tables.specs.ShareStudent.{share_student_columns, night_share_columns, FitsStudentShare}
 use Rattle.office_tables.specs.Slot.{slot_columns, FitsSlot}
-use Rattle.office_tables.specs.Standing.{Stands}
+use Rattle.office_tables.specs.Standing.{StandsIn}
 use Rattle.office_tables.specs.Stored.{keyed, keyless, Holds}
 use Rattle.office_tables.specs.Tables.{Tables, Meta, Batch}
 
@@ -45,43 +47,59 @@ pub record AreReadable (t : Tables) : Type 0 where
   pub share_part : AllByRecursion FitsPartShare t.share_part
   pub batch : AllByRecursion FitsBatch t.batch
 
--- the database stands for no such tables
+-- the database doesn't hold the rows of an office in this version
+abbrev pub IsForeignIn : Version → Database → Type 0
+IsForeignIn version db = (t : Tables) → AreReadable t → StandsIn version db t → ⊥
+
+-- it doesn't hold them in either version
 abbrev pub IsForeign : Database → Type 0
-IsForeign db = (t : Tables) → AreReadable t → Stands db t → ⊥
+IsForeign db = (version : Version) → IsForeignIn version db
 
 -- what was found of the session is what its three tables hold
-pub record HoldsSession (db : Database) (found : FoundSession) : Type 0 where
-  pub meta : Holds keyed (meta_columns (meta_from found.meta) ∷ []) (db.trees 0)
+pub record HoldsSession (version : Version) (db : Database) (found : FoundSession) : Type 0 where
+  pub meta : Holds keyed (meta_columns version (meta_from found.meta) ∷ []) (db.trees 0)
   pub owner : Holds keyed (map owner_columns found.owners.items) (db.trees 1)
   pub enrol : Holds keyless (map enrol_columns found.enrols.items) (db.trees 2)
 
--- what was found of the drafts is what their two tables hold
-pub record HoldsDrafts (db : Database) (found : FoundDrafts) : Type 0 where
-  pub draft : Holds keyed (map draft_columns found.drafts.items) (db.trees 4)
+-- the database's drafts, with their amounts over night
+abbrev pub HaveDrafts : Version → Database → List DraftRow → Type 0
+HaveDrafts version db =
+    HaveRows version draft_columns night_draft_columns (λ (r : DraftRow). r.night) (db.trees 4)
+    (db.trees 15)
+
+-- the database's shares of students, with their amounts over night
+abbrev pub HaveShares : Version → Database → List StudentShareRow → Type 0
+HaveShares version db =
+    HaveRows version share_student_columns night_share_columns
+    (λ (r : StudentShareRow). r.night) (db.trees 11) (db.trees 16)
+
+-- the tables of drafts hold what was found
+pub record HoldsDrafts (version : Version) (db : Database) (found : FoundDrafts) : Type 0 where
+  pub draft : HaveDrafts version db found.drafts.items
   pub slot : Holds keyless (map slot_columns found.slots.items) (db.trees 5)
 
--- the four tables of a publication hold what was found
-pub record HoldsPublication (db : Database) (found : FoundPublication) : Type 0 where
+-- the tables of a publication hold what was found
+pub record HoldsPublication (version : Version) (db : Database) (found : FoundPublication)
+    : Type 0 where
   pub placed : Holds keyed (map placed_columns found.placements.items) (db.trees 7)
   pub seat : Holds keyless (map seat_columns found.seats.items) (db.trees 8)
-  pub share_student :
-      Holds keyed (map share_student_columns found.student_shares.items) (db.trees 11)
+  pub share_student : HaveShares version db found.student_shares.items
   pub share_part : Holds keyless (map share_part_columns found.part_shares.items) (db.trees 12)
 
 -- it is what the tables hold, or none, and the file is no office's
-abbrev pub IsFoundSession : Database → Option FoundSession → Type 0
-IsFoundSession db (Some found) = HoldsSession db found
-IsFoundSession db None = IsForeign db
+abbrev pub IsFoundSession : Version → Database → Option FoundSession → Type 0
+IsFoundSession version db (Some found) = HoldsSession version db found
+IsFoundSession version db None = IsForeignIn version db
 
 -- the same of the drafts
-abbrev pub IsFoundDrafts : Database → Option FoundDrafts → Type 0
-IsFoundDrafts db (Some found) = HoldsDrafts db found
-IsFoundDrafts db None = IsForeign db
+abbrev pub IsFoundDrafts : Version → Database → Option FoundDrafts → Type 0
+IsFoundDrafts version db (Some found) = HoldsDrafts version db found
+IsFoundDrafts version db None = IsForeignIn version db
 
 -- they hold what was found; or the database stands for no such tables
-abbrev pub IsFoundPublication : Database → Option FoundPublication → Type 0
-IsFoundPublication db (Some found) = HoldsPublication db found
-IsFoundPublication db None = IsForeign db
+abbrev pub IsFoundPublication : Version → Database → Option FoundPublication → Type 0
+IsFoundPublication version db (Some found) = HoldsPublication version db found
+IsFoundPublication version db None = IsForeignIn version db
 
 -- what was found, with the bytes of the batches
 abbrev pub tables_of : Found → List Batch → Tables
@@ -98,11 +116,12 @@ tables_of found batches = record {
   batch = batches;
 }
 
--- the database stands for what was found, with batches of these numbers; or for no such tables
+-- `Some`: the database holds the rows that were found, and batches with these counts. `None`: it
+-- doesn't hold the rows of an office
 abbrev pub IsAdopted : Database → Option Found → Type 0
 IsAdopted db (Some found) =
     (batches : List Batch) × (map counts_of batches ≡ found.batches.items)
-    × Stands db (tables_of found batches)
+    × StandsIn found.version db (tables_of found batches)
 IsAdopted db None = IsForeign db
 
 -- ---- parts together
@@ -131,10 +150,11 @@ HasAllOfPublication placements seats students parts None =
     (placements ≡ None) ⊎ ((seats ≡ None) ⊎ ((students ≡ None) ⊎ (parts ≡ None)))
 
 -- all parts together; none where one of them gave nothing
-abbrev pub IsWhole : Option FoundSession → Option FoundDrafts → Option FoundPublication
+abbrev pub IsWhole : Version → Option FoundSession → Option FoundDrafts → Option FoundPublication
     → Option (Vec BatchCountsRow Global) → Option Found → Type 0
-IsWhole session drafts publication batches (Some found) =
-    (session ≡ Some (record { meta = found.meta; owners = found.owners; enrols = found.enrols }))
+IsWhole version session drafts publication batches (Some found) =
+    (found.version ≡ version)
+    × (session ≡ Some (record { meta = found.meta; owners = found.owners; enrols = found.enrols }))
     × (drafts ≡ Some (record { drafts = found.drafts; slots = found.slots }))
     × (publication ≡ Some (record {
       placements = found.placements;
@@ -143,5 +163,5 @@ IsWhole session drafts publication batches (Some found) =
       part_shares = found.part_shares;
     }))
     × (batches ≡ Some found.batches)
-IsWhole session drafts publication batches None =
+IsWhole version session drafts publication batches None =
     (session ≡ None) ⊎ ((drafts ≡ None) ⊎ ((publication ≡ None) ⊎ (batches ≡ None)))

@@ -1,4 +1,5 @@
--- The table draft: its columns, what statements make of it, which rows fit, and their penalties.
+-- The tables draft and night_draft: their columns, what statements make of them, which rows fit,
+-- and their penalties.
 use Rattle.std.specs.Prelude.{◌==◌, ℕ, pos, [], ◌∷◌, filter, not}
 use Rattle.sqlite_value.specs.declared.value.Value.TheVariants.{Int}
 use Rattle.sqlite_value.specs.Order.{Row}
@@ -7,11 +8,19 @@ use Rattle.office_tables.specs.Amounts.{IsStorable}
 use Rattle.office_tables.specs.Records.{IsNarrow}
 use Rattle.office_tables.specs.Tables.{Tables}
 
--- a draft's columns
+-- a draft's columns in the table draft
 abbrev pub draft_columns : DraftRow → Row
 draft_columns r =
     Int (pos r.no) ∷ Int (pos r.in_row) ∷ Int (pos r.in_day) ∷ Int (pos r.spread) ∷
     Int (pos r.mixed) ∷ Int (pos r.front) ∷ Int (pos r.period) ∷ Int (pos r.room) ∷ []
+
+-- its columns in the table night_draft
+abbrev pub night_draft_columns : DraftRow → Row
+night_draft_columns r = Int (pos r.no) ∷ Int (pos r.night) ∷ []
+
+-- all of its columns, as a SELECT gives them
+abbrev pub draft_shown : DraftRow → Row
+draft_shown r = Int (pos r.night) ∷ draft_columns r
 
 -- with one more draft
 abbrev pub with_draft : DraftRow → Tables → Tables
@@ -29,7 +38,7 @@ no_drafts t = record t { draft = [] }
 abbrev pub FitsDraft : DraftRow → Type 0
 FitsDraft r = IsNarrow r.no
 
--- all seven parts of a draft's penalty are sums that the tables can hold
+-- all eight parts of a draft's penalty are sums that the tables can hold
 pub record AreAmounts (row : DraftRow) : Type 0 where
   pub in_row : IsStorable row.in_row
   pub in_day : IsStorable row.in_day
@@ -38,3 +47,4 @@ pub record AreAmounts (row : DraftRow) : Type 0 where
   pub front : IsStorable row.front
   pub period : IsStorable row.period
   pub room : IsStorable row.room
+  pub night : IsStorable row.night

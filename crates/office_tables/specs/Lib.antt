@@ -6,8 +6,11 @@ pub mod Batch
 pub mod Draft
 pub mod Enrol
 pub mod Finders
+pub mod Joining
 pub mod Listings
 pub mod Meta
+pub mod Migrating
+pub mod Nights
 pub mod Owner
 pub mod Placed
 pub mod Readers
@@ -23,3 +26,4 @@ pub mod Standing
 pub mod Steps
 pub mod Stored
 pub mod Tables
+pub mod Versions

@@ -1,5 +1,5 @@
 -- What the text of a query lists of a table.
-use Rattle.std.specs.Prelude.{◌≡◌, ℕ, ◌≤◌, List, [], ◌∷◌, length, slice_index_or}
+use Rattle.std.specs.Prelude.{◌≡◌, ℕ, ◌<◌, ◌≤◌, List, [], ◌∷◌, length, slice_index_or}
 use Rattle.std.specs.List.{AllByRecursion}
 use Rattle.sqlite_trees.specs.Tree.{rowid}
 use Rattle.sqlite_value.specs.declared.keys.Collation.TheVariants.{Binary}
@@ -10,18 +10,19 @@ use Rattle.sqlite_value.specs.Order.{Row, column}
 use Rattle.sqlite.specs.Effect.{Database, IsDatabase}
 use Rattle.sqlite.specs.Query.{Query, inner, end}
 use Rattle.sqlite.specs.Term.{Term, lit, eval_all}
-use Rattle.office_schema.specs.Schema.{office_schema}
+use Rattle.office_tables.specs.declared.version.Version.{Version}
 use Rattle.office_tables.specs.Asking.{asks, Means}
 use Rattle.office_tables.specs.Records.{columns_from}
+use Rattle.office_tables.specs.Versions.{schema_of}
 
 -- SELECT .. FROM a table WHERE .. ORDER BY ..
 abbrev pub one_table : ℕ → List Term → List Term → List (Term × Key) → Query
 one_table tree where_ shown order = asks (inner tree end) where_ shown order
 
--- under the office's schema the text lists all rows of a tree, each shown by these terms, in this
--- order
-abbrev pub Lists : ℕ → List Term → List (Term × Key) → List ℕ → Type 0
-Lists tree shown order = Means office_schema (one_table tree [] shown order)
+-- under the schema of a version the text lists all rows of a tree, each shown by these terms, in
+-- this order
+abbrev pub Lists : Version → ℕ → List Term → List (Term × Key) → List ℕ → Type 0
+Lists version tree shown order = Means (schema_of version) (one_table tree [] shown order)
 
 -- what a SELECT shows of a row: the value of each of its terms
 abbrev pub listed : List Term → Row → Row
@@ -38,8 +39,16 @@ pub record IsListed (width : ℕ) (show : Row → Row) (stored shown : Row) : Ty
   pub wide : width ≤ length shown
 
 -- the text lists the whole table, in the order of the rows' numbers
-pub record ListsTable (width tree : ℕ) (show : Row → Row) (sql : List ℕ) : Type 0 where
+pub record ListsTable (version : Version) (width tree : ℕ) (show : Row → Row) (sql : List ℕ)
+    : Type 0 where
   pub terms : List Term
-  pub lists : Lists tree terms (ordered_by terms width) sql
-  pub whole : (db : Database) → db.schema ≡ office_schema → IsDatabase db
+  pub lists : Lists version tree terms (ordered_by terms width) sql
+  pub whole : (db : Database) → db.schema ≡ schema_of version → IsDatabase db
       → AllByRecursion (λ r. IsListed width show r (listed terms r)) (db.trees tree)
+
+-- it lists them so, and one of these columns is the row's number
+pub record ListsKeyed (version : Version) (at width tree : ℕ) (show : Row → Row) (sql : List ℕ)
+    : Type 0 where
+  pub table : ListsTable version width tree show sql
+  pub within : at < width
+  pub number : (r : Row) → column (listed table.terms r) at ≡ column (listed table.terms r) width

@@ -3,17 +3,21 @@ use Rattle.std.specs.Prelude.{◌≡◌, ◌≢◌, ◌≤◌, ℕ, pos, Bool, i
 use Rattle.sqlite_value.specs.declared.value.Value.TheVariants.{Int, Blob}
 use Rattle.sqlite_value.specs.Order.{Row}
 use Rattle.office_tables.specs.declared.meta.MetaRow.{MetaRow}
+use Rattle.office_tables.specs.declared.version.Version.{Version}
 use Rattle.office_tables.specs.Records.{columns_from}
 use Rattle.office_tables.specs.Stored.{Holds, keyed}
 use Rattle.office_tables.specs.Tables.{Tables, Meta}
+use Rattle.office_tables.specs.Versions.{number_of}
 
 -- a yes or no, as the file has it
 abbrev pub flag : Bool → ℕ
 flag b = if b then 1 else 0
 
--- the columns of the line about the file: its key, 0, and the version of the schema, 1, come first
-abbrev pub meta_columns : Meta → Row
-meta_columns r = Int (pos 0) ∷ Int (pos 1) ∷ Int (pos (flag r.published)) ∷ Blob r.instance ∷ []
+-- the columns of the line about the file: its key, 0, and the version of the schema come first
+abbrev pub meta_columns : Version → Meta → Row
+meta_columns version r =
+    Int (pos 0) ∷ Int (pos (number_of version)) ∷ Int (pos (flag r.published)) ∷
+    Blob r.instance ∷ []
 
 -- with a first line about the file
 abbrev pub with_meta : Bool → List ℕ → Tables → Tables
@@ -29,11 +33,14 @@ abbrev pub meta_from : MetaRow → Meta
 meta_from r = record { published = r.published; instance = r.instance.items }
 
 -- the first columns are those of this row; or, if there are enough, of no such row
-abbrev pub IsReadMeta : Row → Option MetaRow → Type 0
-IsReadMeta row (Some read) = columns_from 0 4 row ≡ meta_columns (meta_from read)
-IsReadMeta row None = 4 ≤ length row → (m : Meta) → columns_from 0 4 row ≢ meta_columns m
+abbrev pub IsReadMeta : Version → Row → Option MetaRow → Type 0
+IsReadMeta version row (Some read) = columns_from 0 4 row ≡ meta_columns version (meta_from read)
+IsReadMeta version row None =
+    4 ≤ length row → (m : Meta) → columns_from 0 4 row ≢ meta_columns version m
 
 -- the table holds this row alone; or there is none that it holds alone
-abbrev pub IsFoundMeta : List Row → Option MetaRow → Type 0
-IsFoundMeta stored (Some found) = Holds keyed (meta_columns (meta_from found) ∷ []) stored
-IsFoundMeta stored None = (m : Meta) → Holds keyed (meta_columns m ∷ []) stored → ⊥
+abbrev pub IsFoundMeta : Version → List Row → Option MetaRow → Type 0
+IsFoundMeta version stored (Some found) =
+    Holds keyed (meta_columns version (meta_from found) ∷ []) stored
+IsFoundMeta version stored None =
+    (m : Meta) → Holds keyed (meta_columns version m ∷ []) stored → ⊥

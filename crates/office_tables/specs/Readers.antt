@@ -5,7 +5,9 @@ use Rattle.sqlite.specs.Held.{Held, state}
 use Rattle.sqlite.specs.State.{State, HasCleanDisk, IsUnchanged}
 use Rattle.sqlite.specs.Store.{Ghosts}
 use Rattle.office_tables.specs.Tables.{Tables}
-use Rattle.office_tables.specs.Standing.{Stands}
+use Rattle.office_tables.specs.Standing.{StandsIn}
+use Rattle.office_tables.specs.declared.version.Version.{Version}
+use Rattle.office_tables.specs.declared.version.Version.TheVariants.{Two}
 
 -- it leaves the database as it is, or where it failed as the last commit left it
 pub record Keeps (old new : State) : Type 0 where
@@ -25,21 +27,33 @@ OpensNone store old new =
     HasCleanDisk (state store new)
     → IsTrue (state store new).is_open → IsTrue (state store old).is_open
 
--- the same of a connection: on a clean disk, where the tables stand, what is answered is so
-abbrev pub Reads : {S X : Type 0} → Ghosts S → (Tables → X → Type 0)
+-- the same of a connection: on a clean disk, if the database has the tables of this version
+abbrev pub ReadsIn : {S X : Type 0} → Version → Ghosts S → (Tables → X → Type 0)
     → Held S → Held S → Result X Error → Type 0
-Reads store is old new result =
-    HasCleanDisk (state store new) → (t : Tables) → Stands (state store old).now t
+ReadsIn version store is old new result =
+    HasCleanDisk (state store new) → (t : Tables) → StandsIn version (state store old).now t
     → IfOk result (is t)
 
 -- and an Ok leaves everything as it was
-abbrev pub LeavesAll : {S X : Type 0} → Ghosts S → Held S → Held S → Result X Error → Type 0
-LeavesAll store old new result =
-    HasCleanDisk (state store new) → (t : Tables) → Stands (state store old).now t
+abbrev pub LeavesAllIn : {S X : Type 0} → Version → Ghosts S
+    → Held S → Held S → Result X Error → Type 0
+LeavesAllIn version store old new result =
+    HasCleanDisk (state store new) → (t : Tables) → StandsIn version (state store old).now t
     → OnOk result (IsUnchanged (state store old) (state store new))
 
 -- and an Err does but for what was not committed
-abbrev pub LeavesCommitted : {S : Type 0} → Ghosts S → Held S → Held S → Type 0
-LeavesCommitted store old new =
-    HasCleanDisk (state store new) → (t : Tables) → Stands (state store old).now t
+abbrev pub LeavesCommittedIn : {S : Type 0} → Version → Ghosts S → Held S → Held S → Type 0
+LeavesCommittedIn version store old new =
+    HasCleanDisk (state store new) → (t : Tables) → StandsIn version (state store old).now t
     → Keeps (state store old) (state store new)
+
+-- these three in version 2
+abbrev pub Reads : {S X : Type 0} → Ghosts S → (Tables → X → Type 0)
+    → Held S → Held S → Result X Error → Type 0
+Reads = ReadsIn Two
+
+abbrev pub LeavesAll : {S X : Type 0} → Ghosts S → Held S → Held S → Result X Error → Type 0
+LeavesAll = LeavesAllIn Two
+
+abbrev pub LeavesCommitted : {S : Type 0} → Ghosts S → Held S → Held S → Type 0
+LeavesCommitted = LeavesCommittedIn Two

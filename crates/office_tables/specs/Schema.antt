@@ -2,9 +2,10 @@
 use Rattle.std.specs.Prelude.{◌≡◌, []}
 use Rattle.std.specs.List.{AllByRecursion}
 use Rattle.sqlite_schema.specs.declared.schema.Schema.{Schema}
+use Rattle.sqlite_trees.specs.Tree.{Trees}
 use Rattle.sqlite.specs.Change.{created}
 use Rattle.sqlite.specs.Effect.{Database}
-use Rattle.office_schema.specs.Schema.{meta_table, owner_table, enrol_table, draft_table, slot_table, placed_table, seat_table, share_student_table, share_part_table, batch_table}
+use Rattle.office_schema.specs.Schema.{meta_table, owner_table, enrol_table, draft_table, slot_table, placed_table, seat_table, share_student_table, share_part_table, batch_table, night_draft_table, night_share_table}
 
 -- of a file without a table
 abbrev pub no_schema : Schema
@@ -46,11 +47,23 @@ schema_8 = created schema_7 share_student_table
 abbrev pub schema_9 : Schema
 schema_9 = created schema_8 share_part_table
 
--- after all ten tables
+-- after ten tables: version 1
 abbrev pub schema_10 : Schema
 schema_10 = created schema_9 batch_table
 
--- the tables of this schema, with no row, and no others
-pub record IsBlank (schema : Schema) (db : Database) : Type 0 where
+-- after eleven tables
+abbrev pub schema_11 : Schema
+schema_11 = created schema_10 night_draft_table
+
+-- after all twelve tables: version 2
+abbrev pub schema_12 : Schema
+schema_12 = created schema_11 night_share_table
+
+-- the tables of this schema, with the rows of these trees, and no other tables
+pub record HasRows (schema : Schema) (trees : Trees) (db : Database) : Type 0 where
   pub schema_is : db.schema ≡ schema
-  pub empty : AllByRecursion (λ t. db.trees t.tree ≡ []) schema.tables
+  pub rows : AllByRecursion (λ t. db.trees t.tree ≡ trees t.tree) schema.tables
+
+-- the tables of this schema, with no row, and no others
+abbrev pub IsBlank : Schema → Database → Type 0
+IsBlank schema = HasRows schema (λ _. [])

@@ -1,5 +1,5 @@
--- The table share_student: its columns, what statements make of it, which rows fit, their order and
--- their amounts.
+-- The tables share_student and night_share: their columns, what statements make of them, which rows
+-- fit, their order and their amounts.
 use Rattle.std.specs.Prelude.{◌<◌, ◌==◌, ℕ, pos, List, [], ◌∷◌, filter, not}
 use Rattle.sqlite_value.specs.declared.value.Value.TheVariants.{Int}
 use Rattle.sqlite_value.specs.Order.{Row}
@@ -9,10 +9,18 @@ use Rattle.office_tables.specs.Amounts.{IsStorable}
 use Rattle.office_tables.specs.Records.{IsNarrow}
 use Rattle.office_tables.specs.Tables.{Tables}
 
--- the columns of a student's share
+-- the columns of a student's share in the table share_student
 abbrev pub share_student_columns : StudentShareRow → Row
 share_student_columns r =
     Int (pos r.student) ∷ Int (pos r.in_row) ∷ Int (pos r.in_day) ∷ Int (pos r.spread) ∷ []
+
+-- its columns in the table night_share
+abbrev pub night_share_columns : StudentShareRow → Row
+night_share_columns r = Int (pos r.student) ∷ Int (pos r.night) ∷ []
+
+-- all of its columns, as a SELECT gives them
+abbrev pub share_shown : StudentShareRow → Row
+share_shown r = Int (pos r.night) ∷ share_student_columns r
 
 -- with one more student's share
 abbrev pub with_student_share : StudentShareRow → Tables → Tables
@@ -31,8 +39,9 @@ FitsStudentShare r = IsNarrow r.student
 abbrev pub StudentSharesRise : List StudentShareRow → Type 0
 StudentSharesRise = IsAscending (λ (a b : StudentShareRow). a.student < b.student)
 
--- all three parts of a student's share are sums that the tables can hold
+-- all four parts of a student's share are sums that the tables can hold
 pub record AreStudentAmounts (row : StudentShareRow) : Type 0 where
   pub in_row : IsStorable row.in_row
   pub in_day : IsStorable row.in_day
   pub spread : IsStorable row.spread
+  pub night : IsStorable row.night

@@ -1,24 +1,30 @@
--- When a database has the ten tables, and which rows they hold.
+-- When a database has the tables of an office, and which rows they hold.
 use Rattle.std.specs.Prelude.{◌≡◌, map}
 use Rattle.sqlite.specs.Effect.{Database}
-use Rattle.office_schema.specs.Schema.{office_schema}
+use Rattle.office_tables.specs.declared.draft.DraftRow.{DraftRow}
+use Rattle.office_tables.specs.declared.share_student.StudentShareRow.{StudentShareRow}
+use Rattle.office_tables.specs.declared.version.Version.{Version}
+use Rattle.office_tables.specs.declared.version.Version.TheVariants.{One, Two}
 use Rattle.office_tables.specs.Meta.{meta_columns}
 use Rattle.office_tables.specs.Owner.{owner_columns}
 use Rattle.office_tables.specs.Enrol.{enrol_columns}
-use Rattle.office_tables.specs.Draft.{draft_columns}
+use Rattle.office_tables.specs.Draft.{draft_columns, night_draft_columns}
 use Rattle.office_tables.specs.Slot.{slot_columns}
 use Rattle.office_tables.specs.Placed.{placed_columns}
 use Rattle.office_tables.specs.Seat.{seat_columns}
-use Rattle.office_tables.specs.ShareStudent.{share_student_columns}
+use Rattle.office_tables.specs.ShareStudent.{share_student_columns, night_share_columns}
 use Rattle.office_tables.specs.SharePart.{share_part_columns}
 use Rattle.office_tables.specs.Batch.{batch_columns}
+use Rattle.office_tables.specs.Nights.{HoldsNights}
 use Rattle.office_tables.specs.Stored.{Holds, keyed, keyless}
 use Rattle.office_tables.specs.Tables.{Tables}
+use Rattle.office_tables.specs.Versions.{schema_of}
 
--- the database has the ten tables, and they hold these rows
-pub record Stands (db : Database) (t : Tables) : Type 0 where
-  pub schema : db.schema ≡ office_schema
-  pub meta : Holds keyed (map meta_columns t.meta) (db.trees 0)
+-- the database has the tables of this version, and they hold these rows; what drafts and students
+-- have over night is in the last two, and 0 in version 1
+pub record StandsIn (version : Version) (db : Database) (t : Tables) : Type 0 where
+  pub schema : db.schema ≡ schema_of version
+  pub meta : Holds keyed (map (meta_columns version) t.meta) (db.trees 0)
   pub owner : Holds keyed (map owner_columns t.owner) (db.trees 1)
   pub enrol : Holds keyless (map enrol_columns t.enrol) (db.trees 2)
   pub draft : Holds keyed (map draft_columns t.draft) (db.trees 4)
@@ -28,3 +34,16 @@ pub record Stands (db : Database) (t : Tables) : Type 0 where
   pub share_student : Holds keyed (map share_student_columns t.share_student) (db.trees 11)
   pub share_part : Holds keyless (map share_part_columns t.share_part) (db.trees 12)
   pub batch : Holds keyed (map batch_columns t.batch) (db.trees 14)
+  pub night_draft :
+      HoldsNights version night_draft_columns (λ (r : DraftRow). r.night) t.draft (db.trees 15)
+  pub night_share :
+      HoldsNights version night_share_columns (λ (r : StudentShareRow). r.night) t.share_student
+      (db.trees 16)
+
+-- version 2: the database has the twelve tables, and they hold these rows
+abbrev pub Stands : Database → Tables → Type 0
+Stands = StandsIn Two
+
+-- version 1: the database has ten tables, they hold these rows, and no amount is over night
+abbrev pub StandsBefore : Database → Tables → Type 0
+StandsBefore = StandsIn One

@@ -22,7 +22,7 @@ pub record Batch : Type 0 where
   pub dropped : ℕ
   pub unchanged : ℕ
 
--- the rows of the ten tables
+-- the rows of the tables; a draft and a student's share are in two tables each
 pub record Tables : Type 0 where
   pub meta : List Meta
   pub owner : List OwnerRow

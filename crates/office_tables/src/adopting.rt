@@ -17,12 +17,13 @@ use crate::seat::{SeatRow, adopt_seats};
 use crate::share_part::{PartShareRow, adopt_part_shares};
 use crate::share_student::{StudentShareRow, adopt_student_shares};
 use crate::slot::{SlotRow, adopt_slots};
-use office_schema::is_office_schema;
+use crate::version::{Version, version_of};
 use sqlite::{Alter, Connection, Error};
 use std::alloc::Global;
 
-/// The rows of an office; of each batch all but its bytes, which `batch_of` reads. `None` says that
-/// the database stands for no such office; an error, that a statement failed or memory was refused.
+/// The rows of an office and the version of its file; of each batch all but its bytes, which
+/// `batch_of` reads. `None`: the database doesn't hold the rows of an office. `Err`: a statement
+/// failed or memory was refused.
 pub fn adopt_tables<S: Alter>(
     alloc: Global,
     conn: &mut Connection<S>,
@@ -40,34 +41,39 @@ pub fn adopt_tables<S: Alter>(
     ensures mode { conn.old.in_transaction ≡ false → conn.new.in_transaction ≡ false }
     ensures survives { Survives (state S.Store conn.old) (state S.Store conn.new) (λ _. ⊥) }
 {
-    if !is_office_schema(alloc, conn.schema())? {
+    let Some(version) = version_of(alloc, conn.schema())? else {
         return Ok(None);
-    }
-    adopt_rows(alloc, conn)
+    };
+    adopt_rows(alloc, conn, version)
 }
 
-fn adopt_rows<S: Alter>(alloc: Global, conn: &mut Connection<S>) -> Result<Option<Found>, Error>
-    ensures found { Finds S.Store IsAdopted conn.old conn.new result }
-    ensures same { Leaves S.Store conn.old conn.new result }
-    ensures looks { Looks (state S.Store conn.old) (state S.Store conn.new) }
+fn adopt_rows<S: Alter>(
+    alloc: Global,
+    conn: &mut Connection<S>,
+    version: Version,
+) -> Result<Option<Found>, Error>
+    ensures found { Finds version S.Store IsAdopted conn.old conn.new result }
+    ensures same { Leaves version S.Store conn.old conn.new result }
+    ensures looks { Looks version (state S.Store conn.old) (state S.Store conn.new) }
 {
-    let session = find_session(alloc, conn)?;
-    let drafts = find_drafts(alloc, conn)?;
-    let publication = find_publication(alloc, conn)?;
+    let session = find_session(alloc, conn, version)?;
+    let drafts = find_drafts(alloc, conn, version)?;
+    let publication = find_publication(alloc, conn, version)?;
     let batches = adopt_batches(alloc, conn)?;
-    Ok(whole_of(session, drafts, publication, batches))
+    Ok(whole_of(version, session, drafts, publication, batches))
 }
 
 // The session's part.
 fn find_session<S: Alter>(
     alloc: Global,
     conn: &mut Connection<S>,
+    version: Version,
 ) -> Result<Option<FoundSession>, Error>
-    ensures found { Finds S.Store IsFoundSession conn.old conn.new result }
-    ensures same { Leaves S.Store conn.old conn.new result }
-    ensures looks { Looks (state S.Store conn.old) (state S.Store conn.new) }
+    ensures found { Finds version S.Store (IsFoundSession version) conn.old conn.new result }
+    ensures same { Leaves version S.Store conn.old conn.new result }
+    ensures looks { Looks version (state S.Store conn.old) (state S.Store conn.new) }
 {
-    let meta = adopt_meta(conn)?;
+    let meta = adopt_meta(conn, version)?;
     let owners = adopt_owners(alloc, conn)?;
     let enrols = adopt_enrols(alloc, conn)?;
     Ok(session_of(meta, owners, enrols))
@@ -77,12 +83,13 @@ fn find_session<S: Alter>(
 fn find_drafts<S: Alter>(
     alloc: Global,
     conn: &mut Connection<S>,
+    version: Version,
 ) -> Result<Option<FoundDrafts>, Error>
-    ensures found { Finds S.Store IsFoundDrafts conn.old conn.new result }
-    ensures same { Leaves S.Store conn.old conn.new result }
-    ensures looks { Looks (state S.Store conn.old) (state S.Store conn.new) }
+    ensures found { Finds version S.Store (IsFoundDrafts version) conn.old conn.new result }
+    ensures same { Leaves version S.Store conn.old conn.new result }
+    ensures looks { Looks version (state S.Store conn.old) (state S.Store conn.new) }
 {
-    let drafts = adopt_drafts(alloc, conn)?;
+    let drafts = adopt_drafts(alloc, conn, version)?;
     let slots = adopt_slots(alloc, conn)?;
     Ok(drafts_of(drafts, slots))
 }
@@ -91,14 +98,15 @@ fn find_drafts<S: Alter>(
 fn find_publication<S: Alter>(
     alloc: Global,
     conn: &mut Connection<S>,
+    version: Version,
 ) -> Result<Option<FoundPublication>, Error>
-    ensures found { Finds S.Store IsFoundPublication conn.old conn.new result }
-    ensures same { Leaves S.Store conn.old conn.new result }
-    ensures looks { Looks (state S.Store conn.old) (state S.Store conn.new) }
+    ensures found { Finds version S.Store (IsFoundPublication version) conn.old conn.new result }
+    ensures same { Leaves version S.Store conn.old conn.new result }
+    ensures looks { Looks version (state S.Store conn.old) (state S.Store conn.new) }
 {
     let placements = adopt_placements(alloc, conn)?;
     let seats = adopt_seats(alloc, conn)?;
-    let students = adopt_student_shares(alloc, conn)?;
+    let students = adopt_student_shares(alloc, conn, version)?;
     let parts = adopt_part_shares(alloc, conn)?;
     Ok(publication_of(placements, seats, students, parts))
 }
@@ -143,17 +151,19 @@ fn publication_of(
 }
 
 fn whole_of(
+    version: Version,
     session: Option<FoundSession>,
     drafts: Option<FoundDrafts>,
     publication: Option<FoundPublication>,
     batches: Option<Vec<BatchCountsRow>>,
 ) -> Option<Found>
-    ensures { IsWhole session drafts publication batches result }
+    ensures { IsWhole version session drafts publication batches result }
 {
     let session = session?;
     let drafts = drafts?;
     let publication = publication?;
     Some(Found {
+        version,
         meta: session.meta,
         owners: session.owners,
         enrols: session.enrols,

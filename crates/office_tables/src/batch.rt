@@ -2,12 +2,12 @@
 ghost use Rattle.std.specs.Prelude.{◌≡◌, ◌==◌, false, filter, map, option_to_list};
 ghost use Rattle.sqlite.specs.Held.{state};
 ghost use Rattle.sqlite.specs.State.{Survives};
-ghost use Rattle.office_schema.specs.Schema.{office_schema};
+ghost use Rattle.office_tables.specs.declared.version.Version.{Version};
 ghost use Rattle.office_tables.specs.Batch.{batch_columns, batch_from, counts_columns, with_batch, FitsBatch, FitsCounts, IsFoundBatches};
 ghost use Rattle.office_tables.specs.Finders.{Finds, Leaves, Looks};
-ghost use Rattle.office_tables.specs.Schema.{schema_9, IsBlank};
+ghost use Rattle.office_tables.specs.Schema.{schema_9, schema_10, IsBlank};
 ghost use Rattle.office_tables.specs.Steps.{Grows, Within};
-ghost use Rattle.office_tables.specs.Readers.{AnswersOpen, LeavesAll, LeavesCommitted, OpensNone, Reads};
+ghost use Rattle.office_tables.specs.Readers.{AnswersOpen, LeavesAllIn, LeavesCommittedIn, OpensNone, ReadsIn};
 
 use crate::altering::Alteration;
 use crate::listing::read_table;
@@ -39,7 +39,7 @@ pub struct BatchCountsRow {
 // The table of batches.
 pub(crate) fn create_batch<S: Alter>(tx: &mut Transaction<'_, S>) -> Result<(), Error>
     ensures same_reference { tx.new.conn.ghost_name ≡ tx.old.conn.ghost_name }
-    ensures makes { Grows S.Store (IsBlank schema_9) (IsBlank office_schema)
+    ensures makes { Grows S.Store (IsBlank schema_9) (IsBlank schema_10)
         tx.old.conn.now tx.new.conn.now result }
     ensures within { Within (state S.Store tx.old.conn.now) (state S.Store tx.new.conn.now) }
 {
@@ -126,19 +126,19 @@ impl Alteration for InsertBatch<'_> {
     }
 }
 
-/// The kept batch of a number, if there is one.
+/// The kept batch of a number, if there is one, in a file of either version.
 pub fn batch_of<S: Alter>(
     alloc: Global,
     conn: &mut Connection<S>,
     no: u32,
 ) -> Result<Option<BatchRow>, Error>
-    ensures row { Reads S.Store
+    ensures row { (version : Version) → ReadsIn version S.Store
         (λ t found. filter (λ r. r.no == no) t.batch ≡ map batch_from (option_to_list found))
         conn.old conn.new result }
     ensures open { AnswersOpen S.Store conn.old conn.new result }
     ensures was_open { OpensNone S.Store conn.old conn.new }
-    ensures same { LeavesAll S.Store conn.old conn.new result }
-    ensures kept { LeavesCommitted S.Store conn.old conn.new }
+    ensures same { (version : Version) → LeavesAllIn version S.Store conn.old conn.new result }
+    ensures kept { (version : Version) → LeavesCommittedIn version S.Store conn.old conn.new }
     ensures mode { conn.old.in_transaction ≡ false → conn.new.in_transaction ≡ false }
     ensures survives { Survives (state S.Store conn.old) (state S.Store conn.new) (λ _. ⊥) }
 {
@@ -156,9 +156,11 @@ pub(crate) fn adopt_batches<S: Alter>(
     alloc: Global,
     conn: &mut Connection<S>,
 ) -> Result<Option<Vec<BatchCountsRow>>, Error>
-    ensures found { Finds S.Store IsFoundBatches conn.old conn.new result }
-    ensures same { Leaves S.Store conn.old conn.new result }
-    ensures looks { Looks (state S.Store conn.old) (state S.Store conn.new) }
+    ensures found { (version : Version)
+        → Finds version S.Store IsFoundBatches conn.old conn.new result }
+    ensures same { (version : Version) → Leaves version S.Store conn.old conn.new result }
+    ensures looks { (version : Version)
+        → Looks version (state S.Store conn.old) (state S.Store conn.new) }
 {
     read_table(
         alloc,

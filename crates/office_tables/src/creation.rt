@@ -1,4 +1,4 @@
-// All ten tables, and the row that an office without a session has.
+// All twelve tables, and the row that an office without a session has.
 ghost use Rattle.std.specs.Prelude.{◌≡◌, ◌↔◌, IsTrue};
 ghost use Rattle.sqlite.specs.Held.{state};
 ghost use Rattle.office_tables.specs.Schema.{no_schema, schema_3, schema_5, schema_9, IsBlank};
@@ -8,14 +8,14 @@ ghost use Rattle.office_tables.specs.Tables.{empty_tables};
 
 use crate::altering::Alteration;
 use crate::batch::create_batch;
-use crate::draft::create_draft;
+use crate::draft::{create_draft, create_night_draft};
 use crate::enrol::create_enrol;
 use crate::meta::{InsertMeta, create_meta};
 use crate::owner::create_owner;
 use crate::placed::create_placed;
 use crate::seat::create_seat;
 use crate::share_part::create_share_part;
-use crate::share_student::create_share_student;
+use crate::share_student::{create_night_share, create_share_student};
 use crate::slot::create_slot;
 use sqlite::{Alter, Connection, Error, Transaction};
 
@@ -37,7 +37,7 @@ pub fn create_tables<S: Alter>(tx: &mut Transaction<'_, S>) -> Result<(), Error>
     create_session_tables(tx)?;
     create_draft_tables(tx)?;
     create_publication_tables(tx)?;
-    create_last_table(tx)
+    create_last_tables(tx)
 }
 
 // The tables of the session and its students.
@@ -76,14 +76,16 @@ fn create_publication_tables<S: Alter>(tx: &mut Transaction<'_, S>) -> Result<()
     create_share_part(tx)
 }
 
-// The table of batches, and the one row about the office.
-fn create_last_table<S: Alter>(tx: &mut Transaction<'_, S>) -> Result<(), Error>
+// The tables of batches and of what is over night, and the one row about the office.
+fn create_last_tables<S: Alter>(tx: &mut Transaction<'_, S>) -> Result<(), Error>
     ensures same_reference { tx.new.conn.ghost_name ≡ tx.old.conn.ghost_name }
     ensures makes { Grows S.Store (IsBlank schema_9) (λ db. Stands db empty_tables)
         tx.old.conn.now tx.new.conn.now result }
     ensures within { Within (state S.Store tx.old.conn.now) (state S.Store tx.new.conn.now) }
 {
     create_batch(tx)?;
+    create_night_draft(tx)?;
+    create_night_share(tx)?;
     let row = InsertMeta {
         published: false,
         instance: &[],

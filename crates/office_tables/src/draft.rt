@@ -1,23 +1,26 @@
-// Drafts and their penalties.
-ghost use Rattle.std.specs.Prelude.{◌≡◌, false};
+// Drafts and their penalties. The part over night is in a table of its own.
+ghost use Rattle.std.specs.Prelude.{◌≡◌, [], false};
 ghost use Rattle.sqlite.specs.Held.{state};
 ghost use Rattle.sqlite.specs.Values.{bound};
-ghost use Rattle.office_tables.specs.Draft.{draft_columns, no_drafts, with_draft, without_draft, AreAmounts, FitsDraft};
-ghost use Rattle.office_tables.specs.Finders.{Finds, IsFound, Leaves, Looks};
-ghost use Rattle.office_tables.specs.Schema.{schema_3, schema_4, IsBlank};
+ghost use Rattle.sqlite_trees.specs.Tree.{Trees};
+ghost use Rattle.office_tables.specs.Draft.{draft_columns, no_drafts, draft_shown, night_draft_columns, with_draft, without_draft, AreAmounts, FitsDraft};
+ghost use Rattle.office_tables.specs.Adopting.{HaveDrafts};
+ghost use Rattle.office_tables.specs.Finders.{Finds, Leaves, Looks};
+ghost use Rattle.office_tables.specs.Joining.{AreFound};
+ghost use Rattle.office_tables.specs.Schema.{schema_3, schema_4, schema_10, schema_11, HasRows, IsBlank};
 ghost use Rattle.office_tables.specs.Steps.{Grows, Within};
-ghost use Rattle.office_tables.specs.Stored.{keyed};
 
 use crate::altering::Alteration;
 use crate::amounts::signed;
-use crate::listing::read_table;
+use crate::nights::{HasNight, adopt_with_nights};
 use crate::records::Record;
 use crate::running::run;
+use crate::version::Version;
 use sqlite::types::ValueRef;
 use sqlite::{Alter, Connection, Error, Row, Transaction, params};
 use std::alloc::Global;
 
-/// A draft, 1 to 8, with the seven parts of its penalty.
+/// A draft, 1 to 8, with the eight parts of its penalty.
 #[derive(Clone, Copy, Debug, PartialEq, Eq)]
 pub struct DraftRow {
     pub no: u32,
@@ -28,6 +31,7 @@ pub struct DraftRow {
     pub front: u64,
     pub period: u64,
     pub room: u64,
+    pub night: u64,
 }
 
 // The table of drafts.
@@ -46,26 +50,62 @@ pub(crate) fn create_draft<S: Alter>(tx: &mut Transaction<'_, S>) -> Result<(), 
     )
 }
 
-impl Record for DraftRow {
-    ghost WIDTH = { 8 };
+// The first table that version 2 adds: what drafts cost over night.
+pub(crate) fn create_night_draft<S: Alter>(tx: &mut Transaction<'_, S>) -> Result<(), Error>
+    ensures same_reference { tx.new.conn.ghost_name ≡ tx.old.conn.ghost_name }
+    ensures makes { (trees : Trees) → trees 15 ≡ []
+        → Grows S.Store (HasRows schema_10 trees) (HasRows schema_11 trees)
+        tx.old.conn.now tx.new.conn.now result }
+    ensures within { Within (state S.Store tx.old.conn.now) (state S.Store tx.new.conn.now) }
+{
+    run(
+        tx,
+        "CREATE TABLE night_draft (no INTEGER NOT NULL PRIMARY KEY, night INTEGER NOT NULL) STRICT",
+        &[],
+    )
+}
 
-    ghost columns_of = { draft_columns };
+impl Record for DraftRow {
+    ghost WIDTH = { 9 };
+
+    ghost columns_of = { draft_shown };
 
     ghost fits = { FitsDraft };
 
-    const WIDTH: usize = 8;
+    const WIDTH: usize = 9;
 
     fn read(row: &Row) -> Result<DraftRow, Error> {
         Ok(DraftRow {
-            no: row.get(0)?,
-            in_row: row.get(1)?,
-            in_day: row.get(2)?,
-            spread: row.get(3)?,
-            mixed: row.get(4)?,
-            front: row.get(5)?,
-            period: row.get(6)?,
-            room: row.get(7)?,
+            night: row.get(0)?,
+            no: row.get(1)?,
+            in_row: row.get(2)?,
+            in_day: row.get(3)?,
+            spread: row.get(4)?,
+            mixed: row.get(5)?,
+            front: row.get(6)?,
+            period: row.get(7)?,
+            room: row.get(8)?,
         })
+    }
+}
+
+impl HasNight for DraftRow {
+    ghost columns_in_first = { draft_columns };
+
+    ghost columns_in_second = { night_draft_columns };
+
+    ghost number_in = { λ row. row.no };
+
+    ghost night_in = { λ row. row.night };
+
+    fn number(&self) -> u32 {
+        self.no
+    }
+
+    fn with_night(&self, night: u64) -> DraftRow {
+        let mut row = *self;
+        row.night = night;
+        row
     }
 }
 
@@ -86,11 +126,16 @@ impl Alteration for InsertDraft {
             "INSERT INTO draft (no, in_row, in_day, spread, mixed, front, period, room) VALUES \
              (?1, ?2, ?3, ?4, ?5, ?6, ?7, ?8)",
             &stored_columns(self.row),
+        )?;
+        run(
+            tx,
+            "INSERT INTO night_draft (no, night) VALUES (?1, ?2)",
+            &night_columns(self.row),
         )
     }
 }
 
-// The columns of a draft.
+// Its columns in the first table.
 fn stored_columns(row: DraftRow) -> [ValueRef<'static>; 8]
     requires amounts { AreAmounts row }
     ensures { bound result ≡ draft_columns row }
@@ -107,6 +152,17 @@ fn stored_columns(row: DraftRow) -> [ValueRef<'static>; 8]
     ]
 }
 
+// Its columns in the second table.
+fn night_columns(row: DraftRow) -> [ValueRef<'static>; 2]
+    requires amounts { AreAmounts row }
+    ensures { bound result ≡ night_draft_columns row }
+{
+    [
+        ValueRef::Int(i64::from(row.no)),
+        ValueRef::Int(signed(row.night)),
+    ]
+}
+
 /// Takes a draft out.
 #[derive(Clone, Copy)]
 pub struct DeleteDraft {
@@ -119,7 +175,12 @@ impl Alteration for DeleteDraft {
     ghost fits = { λ _. Unit {0} };
 
     fn apply<S: Alter>(&self, tx: &mut Transaction<'_, S>) -> Result<(), Error> {
-        run(tx, "DELETE FROM draft WHERE no = ?1", params![self.no])
+        run(tx, "DELETE FROM draft WHERE no = ?1", params![self.no])?;
+        run(
+            tx,
+            "DELETE FROM night_draft WHERE no = ?1",
+            params![self.no],
+        )
     }
 }
 
@@ -133,24 +194,28 @@ impl Alteration for DeleteDrafts {
     ghost fits = { λ _. Unit {0} };
 
     fn apply<S: Alter>(&self, tx: &mut Transaction<'_, S>) -> Result<(), Error> {
-        run(tx, "DELETE FROM draft", &[])
+        run(tx, "DELETE FROM draft", &[])?;
+        run(tx, "DELETE FROM night_draft", &[])
     }
 }
 
-// All drafts, or that a row is of none.
+// All drafts of a file of this version. `None`: its tables don't hold drafts.
 pub(crate) fn adopt_drafts<S: Alter>(
     alloc: Global,
     conn: &mut Connection<S>,
+    version: Version,
 ) -> Result<Option<Vec<DraftRow>>, Error>
-    ensures found { Finds S.Store (λ db. IsFound FitsDraft draft_columns keyed (db.trees 4))
+    ensures found { Finds version S.Store (λ db. AreFound FitsDraft (HaveDrafts version db))
         conn.old conn.new result }
-    ensures same { Leaves S.Store conn.old conn.new result }
-    ensures looks { Looks (state S.Store conn.old) (state S.Store conn.new) }
+    ensures same { Leaves version S.Store conn.old conn.new result }
+    ensures looks { Looks version (state S.Store conn.old) (state S.Store conn.new) }
 {
-    read_table(
+    adopt_with_nights(
         alloc,
         conn,
-        "SELECT no, in_row, in_day, spread, mixed, front, period, room, rowid FROM draft ORDER BY \
-         rowid",
+        version,
+        "SELECT 0, no, in_row, in_day, spread, mixed, front, period, room, rowid FROM draft ORDER \
+         BY rowid",
+        "SELECT no, night, rowid FROM night_draft ORDER BY rowid",
     )
 }

@@ -3,6 +3,7 @@ ghost use Rattle.std.specs.Prelude.{◌≡◌, ◌==◌, false, filter, IfSome, 
 ghost use Rattle.std.specs.List.{AllByRecursion};
 ghost use Rattle.sqlite.specs.Held.{state};
 ghost use Rattle.sqlite.specs.State.{Survives};
+ghost use Rattle.office_tables.specs.declared.version.Version.{Version};
 ghost use Rattle.office_tables.specs.Enrol.{enrol_columns, with_enrol, without_enrol, FitsEnrol, HerEnrolsRise};
 ghost use Rattle.office_tables.specs.Finders.{Finds, IsFound, Leaves, Looks};
 ghost use Rattle.office_tables.specs.Schema.{schema_2, schema_3, IsBlank};
@@ -161,10 +162,12 @@ pub(crate) fn adopt_enrols<S: Alter>(
     alloc: Global,
     conn: &mut Connection<S>,
 ) -> Result<Option<Vec<EnrolRow>>, Error>
-    ensures found { Finds S.Store (λ db. IsFound FitsEnrol enrol_columns keyless (db.trees 2))
+    ensures found { (version : Version) → Finds version S.Store
+        (λ db. IsFound FitsEnrol enrol_columns keyless (db.trees 2))
         conn.old conn.new result }
-    ensures same { Leaves S.Store conn.old conn.new result }
-    ensures looks { Looks (state S.Store conn.old) (state S.Store conn.new) }
+    ensures same { (version : Version) → Leaves version S.Store conn.old conn.new result }
+    ensures looks { (version : Version)
+        → Looks version (state S.Store conn.old) (state S.Store conn.new) }
 {
     read_table(
         alloc,

@@ -9,10 +9,13 @@ use crate::seat::SeatRow;
 use crate::share_part::PartShareRow;
 use crate::share_student::StudentShareRow;
 use crate::slot::SlotRow;
+use crate::version::Version;
 
-/// All rows of the tables, in no order that counts; of the batches all but their bytes.
+/// All rows of the tables of a version, in any order; of the batches all but their bytes. In
+/// version 1 each amount over night is 0.
 #[derive(Drop)]
 pub struct Found {
+    pub version: Version,
     pub meta: MetaRow,
     pub owners: Vec<OwnerRow>,
     pub enrols: Vec<EnrolRow>,

@@ -1,4 +1,4 @@
-//! The ten tables of an office's SQLite file, each with a file of its own: a value for each
+//! The twelve tables of an office's SQLite file, each with a file of its own: a value for each
 //! statement that changes it, a function for each that reads.
 #![tactic(auto)]
 
@@ -13,6 +13,8 @@ mod found;
 mod listing;
 mod looking;
 mod meta;
+mod migrating;
+mod nights;
 mod owner;
 mod placed;
 mod records;
@@ -22,6 +24,7 @@ mod share_part;
 mod share_student;
 mod slot;
 mod streaming;
+mod version;
 
 pub use adopting::adopt_tables;
 pub use altering::{Alteration, Both, Each, transact};
@@ -32,6 +35,7 @@ pub use enrol::{DeleteEnrol, EnrolRow, InsertEnrol, enrols_of, find_enrols_of};
 pub use found::Found;
 pub use looking::look;
 pub use meta::{DeleteMeta, InsertMeta, MetaRow};
+pub use migrating::migrate;
 pub use owner::{DeleteOwner, InsertOwner, OwnerRow, owners_of};
 pub use placed::{DeletePlacements, InsertPlacement, PlacedRow, placements, placements_of};
 pub use seat::{DeleteStudentSeats, InsertSeat, SeatRow, seats, seats_of};
@@ -40,3 +44,4 @@ pub use share_student::{
     DeleteStudentShare, InsertStudentShare, StudentShareRow, student_shares, student_shares_of,
 };
 pub use slot::{DeleteSlot, DeleteSlots, InsertSlot, SlotRow};
+pub use version::Version;

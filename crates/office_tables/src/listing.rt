@@ -1,13 +1,14 @@
 // Whole tables, read from a database of which only the schema is known.
-ghost use Rattle.std.specs.Prelude.{◌≡◌, ◌↔◌, ℕ, List, [], IfOk, IsTrue};
+ghost use Rattle.std.specs.Prelude.{◌≡◌, ◌↔◌, ℕ, List, [], map, IfOk, IfSome, IsTrue};
 ghost use Rattle.sqlite.specs.Held.{state};
 ghost use Rattle.sqlite.specs.Query.{IsAnswer};
 ghost use Rattle.sqlite.specs.Term.{Term};
 ghost use Rattle.sqlite_value.specs.declared.keys.Key.{Key};
 ghost use Rattle.sqlite_value.specs.Order.{Row as Columns, column};
+ghost use Rattle.office_tables.specs.declared.version.Version.{Version};
 ghost use Rattle.office_tables.specs.Readings.{IsNext, IsRead, ColumnRises};
 ghost use Rattle.office_tables.specs.Finders.{Finds, IsFound, Leaves, Looks};
-ghost use Rattle.office_tables.specs.Listings.{one_table, Lists, ListsTable};
+ghost use Rattle.office_tables.specs.Listings.{one_table, Lists, ListsKeyed, ListsTable};
 
 use crate::records::Record;
 use sqlite::types::ValueRef;
@@ -22,13 +23,22 @@ pub(crate) fn read_table<S: Alter, R: Record + Drop>(
     conn: &mut Connection<S>,
     sql: &str,
 ) -> Result<Option<Vec<R>>, Error>
-    ensures found { (tree : ℕ) (show : Columns → Columns) → ListsTable R.WIDTH tree show sql.now
-        → Finds S.Store (λ db. IsFound R.fits R.columns_of show (db.trees tree))
+    ensures found { (version : Version) (tree : ℕ) (show : Columns → Columns)
+        → ListsTable version R.WIDTH tree show sql.now
+        → Finds version S.Store (λ db. IsFound R.fits R.columns_of show (db.trees tree))
         conn.old conn.new result }
-    ensures same { (tree : ℕ) (show : Columns → Columns) → ListsTable R.WIDTH tree show sql.now
-        → Leaves S.Store conn.old conn.new result }
-    ensures looks { (tree : ℕ) (show : Columns → Columns) → ListsTable R.WIDTH tree show sql.now
-        → Looks (state S.Store conn.old) (state S.Store conn.new) }
+    // Records come in the order of their rows' numbers.
+    ensures rise { (version : Version) (at tree : ℕ) (show : Columns → Columns)
+        → ListsKeyed version at R.WIDTH tree show sql.now
+        → Finds version S.Store (λ _ found. IfSome found
+        (λ records. ColumnRises at (map R.columns_of records.items)))
+        conn.old conn.new result }
+    ensures same { (version : Version) (tree : ℕ) (show : Columns → Columns)
+        → ListsTable version R.WIDTH tree show sql.now
+        → Leaves version S.Store conn.old conn.new result }
+    ensures looks { (version : Version) (tree : ℕ) (show : Columns → Columns)
+        → ListsTable version R.WIDTH tree show sql.now
+        → Looks version (state S.Store conn.old) (state S.Store conn.new) }
 {
     let rows = list_rows(conn, sql)?;
     if !numbers_rise(&rows, R::WIDTH) {
@@ -39,15 +49,17 @@ pub(crate) fn read_table<S: Alter, R: Record + Drop>(
 
 // The rows that a text lists.
 pub(crate) fn list_rows<S: Alter>(conn: &mut Connection<S>, sql: &str) -> Result<Vec<Row>, Error>
-    ensures rows { (tree : ℕ) (shown : List Term) (order : List (Term × Key))
-        → Lists tree shown order sql.now
-        → Finds S.Store (λ db rows. IsAnswer (one_table tree [] shown order) db.trees [] rows.items)
+    ensures rows { (version : Version) (tree : ℕ) (shown : List Term) (order : List (Term × Key))
+        → Lists version tree shown order sql.now
+        → Finds version S.Store
+        (λ db rows. IsAnswer (one_table tree [] shown order) db.trees [] rows.items)
         conn.old conn.new result }
-    ensures same { (tree : ℕ) (shown : List Term) (order : List (Term × Key))
-        → Lists tree shown order sql.now → Leaves S.Store conn.old conn.new result }
-    ensures looks { (tree : ℕ) (shown : List Term) (order : List (Term × Key))
-        → Lists tree shown order sql.now
-        → Looks (state S.Store conn.old) (state S.Store conn.new) }
+    ensures same { (version : Version) (tree : ℕ) (shown : List Term) (order : List (Term × Key))
+        → Lists version tree shown order sql.now
+        → Leaves version S.Store conn.old conn.new result }
+    ensures looks { (version : Version) (tree : ℕ) (shown : List Term) (order : List (Term × Key))
+        → Lists version tree shown order sql.now
+        → Looks version (state S.Store conn.old) (state S.Store conn.new) }
 {
     conn.query_all(sql, &[])
 }

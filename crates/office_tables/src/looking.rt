@@ -6,7 +6,8 @@ ghost use Rattle.office_tables.specs.Readers.{Keeps, LeavesAll};
 
 use sqlite::{Alter, Connection, Error};
 
-/// Looks whether the file can still be read: a store that was shut by a fault answers nothing.
+/// Looks whether the file can still be read: a store that was shut by a fault answers nothing. No
+/// draft has the number that is asked for, so no row is read.
 pub fn look<S: Alter>(conn: &mut Connection<S>) -> Result<(), Error>
     ensures open { HasCleanDisk (state S.Store conn.new)
         → OnOk result (IsTrue (state S.Store conn.old).is_open) }
@@ -16,6 +17,6 @@ pub fn look<S: Alter>(conn: &mut Connection<S>) -> Result<(), Error>
     ensures mode { conn.old.in_transaction ≡ false → conn.new.in_transaction ≡ false }
     ensures survives { Survives (state S.Store conn.old) (state S.Store conn.new) (λ _. ⊥) }
 {
-    let _rows = conn.query_all("SELECT id FROM meta", &[])?;
+    let _rows = conn.query_all("SELECT no FROM draft WHERE no = 0", &[])?;
     Ok(())
 }

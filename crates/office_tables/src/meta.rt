@@ -12,6 +12,7 @@ ghost use Rattle.office_tables.specs.Steps.{Grows, Within};
 use crate::altering::Alteration;
 use crate::listing::{is_out_of_memory, list_rows};
 use crate::running::run;
+use crate::version::Version;
 use sqlite::{Alter, Connection, Error, ErrorCode, Row, Transaction, params};
 
 /// The row about the office: whether there is a publication, and the canonical text of the
@@ -52,7 +53,7 @@ impl Alteration for InsertMeta<'_> {
     fn apply<S: Alter>(&self, tx: &mut Transaction<'_, S>) -> Result<(), Error> {
         run(
             tx,
-            "INSERT INTO meta (id, version, published, instance) VALUES (0, 1, ?1, ?2)",
+            "INSERT INTO meta (id, version, published, instance) VALUES (0, 2, ?1, ?2)",
             params![flag_of(self.published), self.instance],
         )
     }
@@ -80,24 +81,28 @@ impl Alteration for DeleteMeta {
 }
 
 // The row as it is found when an office is taken over, where the table holds it alone.
-pub(crate) fn adopt_meta<S: Alter>(conn: &mut Connection<S>) -> Result<Option<MetaRow>, Error>
-    ensures found { Finds S.Store (λ db. IsFoundMeta (db.trees 0)) conn.old conn.new result }
-    ensures same { Leaves S.Store conn.old conn.new result }
-    ensures looks { Looks (state S.Store conn.old) (state S.Store conn.new) }
+pub(crate) fn adopt_meta<S: Alter>(
+    conn: &mut Connection<S>,
+    version: Version,
+) -> Result<Option<MetaRow>, Error>
+    ensures found { Finds version S.Store (λ db. IsFoundMeta version (db.trees 0))
+        conn.old conn.new result }
+    ensures same { Leaves version S.Store conn.old conn.new result }
+    ensures looks { Looks version (state S.Store conn.old) (state S.Store conn.new) }
 {
     let rows = list_rows(conn, "SELECT id, version, published, instance FROM meta")?;
     if rows.len() != 1 {
         return Ok(None);
     }
-    read_meta(&rows[0])
+    read_meta(&rows[0], version)
 }
 
-// The row, if it is one of version 1 under the key 0.
-fn read_meta(row: &Row) -> Result<Option<MetaRow>, Error>
-    ensures ok { IfOk result (IsReadMeta row.now) }
+// The row, if it is one of this version under the key 0.
+fn read_meta(row: &Row, version: Version) -> Result<Option<MetaRow>, Error>
+    ensures ok { IfOk result (IsReadMeta version row.now) }
     ensures memory { IfErr result (λ e. e ≡ Error.SqliteFailure ErrorCode.OutOfMemory) }
 {
-    if !is_number(row, 0, 0)? || !is_number(row, 1, 1)? {
+    if !is_number(row, 0, 0)? || !is_number(row, 1, version.number())? {
         return Ok(None);
     }
     let Some(published) = flag_at(row, 2)? else {

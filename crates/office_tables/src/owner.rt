@@ -2,6 +2,7 @@
 ghost use Rattle.std.specs.Prelude.{◌≡◌, ◌==◌, false, filter, IsPermutation};
 ghost use Rattle.sqlite.specs.Held.{state};
 ghost use Rattle.sqlite.specs.State.{Survives};
+ghost use Rattle.office_tables.specs.declared.version.Version.{Version};
 ghost use Rattle.office_tables.specs.Owner.{owner_columns, with_owner, without_owner, FitsOwner};
 ghost use Rattle.office_tables.specs.Finders.{Finds, IsFound, Leaves, Looks};
 ghost use Rattle.office_tables.specs.Schema.{schema_1, schema_2, IsBlank};
@@ -120,10 +121,12 @@ pub(crate) fn adopt_owners<S: Alter>(
     alloc: Global,
     conn: &mut Connection<S>,
 ) -> Result<Option<Vec<OwnerRow>>, Error>
-    ensures found { Finds S.Store (λ db. IsFound FitsOwner owner_columns keyed (db.trees 1))
+    ensures found { (version : Version) → Finds version S.Store
+        (λ db. IsFound FitsOwner owner_columns keyed (db.trees 1))
         conn.old conn.new result }
-    ensures same { Leaves S.Store conn.old conn.new result }
-    ensures looks { Looks (state S.Store conn.old) (state S.Store conn.new) }
+    ensures same { (version : Version) → Leaves version S.Store conn.old conn.new result }
+    ensures looks { (version : Version)
+        → Looks version (state S.Store conn.old) (state S.Store conn.new) }
 {
     read_table(
         alloc,

@@ -2,6 +2,7 @@
 ghost use Rattle.std.specs.Prelude.{◌≡◌, false, IsPermutation};
 ghost use Rattle.sqlite.specs.Held.{state};
 ghost use Rattle.sqlite.specs.State.{Survives};
+ghost use Rattle.office_tables.specs.declared.version.Version.{Version};
 ghost use Rattle.office_tables.specs.Placed.{no_placements, placed_columns, placed_of, with_placement, FitsPlacement, PlacementsRise};
 ghost use Rattle.office_tables.specs.Finders.{Finds, IsFound, Leaves, Looks};
 ghost use Rattle.office_tables.specs.Schema.{schema_5, schema_6, IsBlank};
@@ -149,10 +150,12 @@ pub(crate) fn adopt_placements<S: Alter>(
     alloc: Global,
     conn: &mut Connection<S>,
 ) -> Result<Option<Vec<PlacedRow>>, Error>
-    ensures found { Finds S.Store (λ db. IsFound FitsPlacement placed_columns keyed (db.trees 7))
+    ensures found { (version : Version) → Finds version S.Store
+        (λ db. IsFound FitsPlacement placed_columns keyed (db.trees 7))
         conn.old conn.new result }
-    ensures same { Leaves S.Store conn.old conn.new result }
-    ensures looks { Looks (state S.Store conn.old) (state S.Store conn.new) }
+    ensures same { (version : Version) → Leaves version S.Store conn.old conn.new result }
+    ensures looks { (version : Version)
+        → Looks version (state S.Store conn.old) (state S.Store conn.new) }
 {
     read_table(
         alloc,

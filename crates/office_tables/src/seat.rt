@@ -2,6 +2,7 @@
 ghost use Rattle.std.specs.Prelude.{◌≡◌, ◌==◌, false, filter, IsPermutation};
 ghost use Rattle.sqlite.specs.Held.{state};
 ghost use Rattle.sqlite.specs.State.{Survives};
+ghost use Rattle.office_tables.specs.declared.version.Version.{Version};
 ghost use Rattle.office_tables.specs.Finders.{Finds, IsFound, Leaves, Looks};
 ghost use Rattle.office_tables.specs.Schema.{schema_6, schema_7, IsBlank};
 ghost use Rattle.office_tables.specs.Seat.{seat_columns, with_seat, without_student_seats, FitsSeat, HerSeatsRise, SeatsRise};
@@ -158,10 +159,12 @@ pub(crate) fn adopt_seats<S: Alter>(
     alloc: Global,
     conn: &mut Connection<S>,
 ) -> Result<Option<Vec<SeatRow>>, Error>
-    ensures found { Finds S.Store (λ db. IsFound FitsSeat seat_columns keyless (db.trees 8))
+    ensures found { (version : Version) → Finds version S.Store
+        (λ db. IsFound FitsSeat seat_columns keyless (db.trees 8))
         conn.old conn.new result }
-    ensures same { Leaves S.Store conn.old conn.new result }
-    ensures looks { Looks (state S.Store conn.old) (state S.Store conn.new) }
+    ensures same { (version : Version) → Leaves version S.Store conn.old conn.new result }
+    ensures looks { (version : Version)
+        → Looks version (state S.Store conn.old) (state S.Store conn.new) }
 {
     read_table(
         alloc,

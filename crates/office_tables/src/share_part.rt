@@ -3,6 +3,7 @@ ghost use Rattle.std.specs.Prelude.{◌≡◌, false, IsPermutation};
 ghost use Rattle.sqlite.specs.Held.{state};
 ghost use Rattle.sqlite.specs.State.{Survives};
 ghost use Rattle.sqlite.specs.Values.{bound};
+ghost use Rattle.office_tables.specs.declared.version.Version.{Version};
 ghost use Rattle.office_tables.specs.Finders.{Finds, IsFound, Leaves, Looks};
 ghost use Rattle.office_tables.specs.Schema.{schema_8, schema_9, IsBlank};
 ghost use Rattle.office_tables.specs.Selections.{IsInOrder};
@@ -140,11 +141,12 @@ pub(crate) fn adopt_part_shares<S: Alter>(
     alloc: Global,
     conn: &mut Connection<S>,
 ) -> Result<Option<Vec<PartShareRow>>, Error>
-    ensures found { Finds S.Store
+    ensures found { (version : Version) → Finds version S.Store
         (λ db. IsFound FitsPartShare share_part_columns keyless (db.trees 12))
         conn.old conn.new result }
-    ensures same { Leaves S.Store conn.old conn.new result }
-    ensures looks { Looks (state S.Store conn.old) (state S.Store conn.new) }
+    ensures same { (version : Version) → Leaves version S.Store conn.old conn.new result }
+    ensures looks { (version : Version)
+        → Looks version (state S.Store conn.old) (state S.Store conn.new) }
 {
     read_table(
         alloc,

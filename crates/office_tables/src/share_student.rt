@@ -1,22 +1,26 @@
-// What students have of the penalty of the publication.
-ghost use Rattle.std.specs.Prelude.{◌≡◌, ◌==◌, false, filter, IsPermutation};
+// What students have of the penalty of the publication. The part over night is in a table of its
+// own.
+ghost use Rattle.std.specs.Prelude.{◌≡◌, ◌==◌, [], false, filter, IsPermutation};
 ghost use Rattle.sqlite.specs.Held.{state};
 ghost use Rattle.sqlite.specs.State.{Survives};
 ghost use Rattle.sqlite.specs.Values.{bound};
-ghost use Rattle.office_tables.specs.Finders.{Finds, IsFound, Leaves, Looks};
-ghost use Rattle.office_tables.specs.Schema.{schema_7, schema_8, IsBlank};
+ghost use Rattle.sqlite_trees.specs.Tree.{Trees};
+ghost use Rattle.office_tables.specs.Adopting.{HaveShares};
+ghost use Rattle.office_tables.specs.Finders.{Finds, Leaves, Looks};
+ghost use Rattle.office_tables.specs.Joining.{AreFound};
+ghost use Rattle.office_tables.specs.Schema.{schema_7, schema_8, schema_11, schema_12, HasRows, IsBlank};
 ghost use Rattle.office_tables.specs.Selections.{IsInOrder};
-ghost use Rattle.office_tables.specs.ShareStudent.{share_student_columns, with_student_share, without_student_share, AreStudentAmounts, FitsStudentShare, StudentSharesRise};
+ghost use Rattle.office_tables.specs.ShareStudent.{night_share_columns, share_shown, share_student_columns, with_student_share, without_student_share, AreStudentAmounts, FitsStudentShare, StudentSharesRise};
 ghost use Rattle.office_tables.specs.Steps.{Grows, Within};
 ghost use Rattle.office_tables.specs.Readers.{AnswersOpen, LeavesAll, LeavesCommitted, OpensNone, Reads};
-ghost use Rattle.office_tables.specs.Stored.{keyed};
 
 use crate::altering::Alteration;
 use crate::amounts::signed;
-use crate::listing::read_table;
+use crate::nights::{HasNight, adopt_with_nights};
 use crate::records::Record;
 use crate::running::run;
 use crate::streaming::stream;
+use crate::version::Version;
 use sqlite::types::ValueRef;
 use sqlite::{Alter, Connection, Error, Row, Transaction, params};
 use std::alloc::Global;
@@ -28,6 +32,7 @@ pub struct StudentShareRow {
     pub in_row: u64,
     pub in_day: u64,
     pub spread: u64,
+    pub night: u64,
 }
 
 // The table of candidates' shares.
@@ -45,22 +50,59 @@ pub(crate) fn create_share_student<S: Alter>(tx: &mut Transaction<'_, S>) -> Res
     )
 }
 
-impl Record for StudentShareRow {
-    ghost WIDTH = { 4 };
+// The second table that version 2 adds: what candidates' seats cost over night.
+pub(crate) fn create_night_share<S: Alter>(tx: &mut Transaction<'_, S>) -> Result<(), Error>
+    ensures same_reference { tx.new.conn.ghost_name ≡ tx.old.conn.ghost_name }
+    ensures makes { (trees : Trees) → trees 16 ≡ []
+        → Grows S.Store (HasRows schema_11 trees) (HasRows schema_12 trees)
+        tx.old.conn.now tx.new.conn.now result }
+    ensures within { Within (state S.Store tx.old.conn.now) (state S.Store tx.new.conn.now) }
+{
+    run(
+        tx,
+        "CREATE TABLE night_share (student INTEGER NOT NULL PRIMARY KEY, night INTEGER NOT NULL) \
+         STRICT",
+        &[],
+    )
+}
 
-    ghost columns_of = { share_student_columns };
+impl Record for StudentShareRow {
+    ghost WIDTH = { 5 };
+
+    ghost columns_of = { share_shown };
 
     ghost fits = { FitsStudentShare };
 
-    const WIDTH: usize = 4;
+    const WIDTH: usize = 5;
 
     fn read(row: &Row) -> Result<StudentShareRow, Error> {
         Ok(StudentShareRow {
-            student: row.get(0)?,
-            in_row: row.get(1)?,
-            in_day: row.get(2)?,
-            spread: row.get(3)?,
+            night: row.get(0)?,
+            student: row.get(1)?,
+            in_row: row.get(2)?,
+            in_day: row.get(3)?,
+            spread: row.get(4)?,
         })
+    }
+}
+
+impl HasNight for StudentShareRow {
+    ghost columns_in_first = { share_student_columns };
+
+    ghost columns_in_second = { night_share_columns };
+
+    ghost number_in = { λ row. row.student };
+
+    ghost night_in = { λ row. row.night };
+
+    fn number(&self) -> u32 {
+        self.student
+    }
+
+    fn with_night(&self, night: u64) -> StudentShareRow {
+        let mut row = *self;
+        row.night = night;
+        row
     }
 }
 
@@ -80,11 +122,16 @@ impl Alteration for InsertStudentShare {
             tx,
             "INSERT INTO share_student (student, in_row, in_day, spread) VALUES (?1, ?2, ?3, ?4)",
             &student_columns(self.row),
+        )?;
+        run(
+            tx,
+            "INSERT INTO night_share (student, night) VALUES (?1, ?2)",
+            &night_columns(self.row),
         )
     }
 }
 
-// The columns of a student's share.
+// Its columns in the first table.
 fn student_columns(row: StudentShareRow) -> [ValueRef<'static>; 4]
     requires amounts { AreStudentAmounts row }
     ensures { bound result ≡ share_student_columns row }
@@ -94,6 +141,17 @@ fn student_columns(row: StudentShareRow) -> [ValueRef<'static>; 4]
         ValueRef::Int(signed(row.in_row)),
         ValueRef::Int(signed(row.in_day)),
         ValueRef::Int(signed(row.spread)),
+    ]
+}
+
+// Its columns in the second table.
+fn night_columns(row: StudentShareRow) -> [ValueRef<'static>; 2]
+    requires amounts { AreStudentAmounts row }
+    ensures { bound result ≡ night_share_columns row }
+{
+    [
+        ValueRef::Int(i64::from(row.student)),
+        ValueRef::Int(signed(row.night)),
     ]
 }
 
@@ -112,6 +170,11 @@ impl Alteration for DeleteStudentShare {
         run(
             tx,
             "DELETE FROM share_student WHERE student = ?1",
+            params![self.student],
+        )?;
+        run(
+            tx,
+            "DELETE FROM night_share WHERE student = ?1",
             params![self.student],
         )
     }
@@ -137,7 +200,9 @@ pub fn student_shares<S: Alter>(
     stream(
         alloc,
         conn,
-        "SELECT student, in_row, in_day, spread FROM share_student ORDER BY student",
+        "SELECT night, share_student.student, in_row, in_day, spread FROM share_student, \
+         night_share WHERE night_share.student = share_student.student ORDER BY \
+         share_student.student",
         &[],
     )
 }
@@ -161,26 +226,29 @@ pub fn student_shares_of<S: Alter>(
     stream(
         alloc,
         conn,
-        "SELECT student, in_row, in_day, spread FROM share_student WHERE student = ?1 ORDER BY \
-         student",
+        "SELECT night, share_student.student, in_row, in_day, spread FROM share_student, \
+         night_share WHERE share_student.student = ?1 AND night_share.student = \
+         share_student.student ORDER BY share_student.student",
         params![student],
     )
 }
 
-// All shares of students, or that a row is of none.
+// All shares of students in a file of this version. `None`: its tables don't hold shares.
 pub(crate) fn adopt_student_shares<S: Alter>(
     alloc: Global,
     conn: &mut Connection<S>,
+    version: Version,
 ) -> Result<Option<Vec<StudentShareRow>>, Error>
-    ensures found { Finds S.Store
-        (λ db. IsFound FitsStudentShare share_student_columns keyed (db.trees 11))
+    ensures found { Finds version S.Store (λ db. AreFound FitsStudentShare (HaveShares version db))
         conn.old conn.new result }
-    ensures same { Leaves S.Store conn.old conn.new result }
-    ensures looks { Looks (state S.Store conn.old) (state S.Store conn.new) }
+    ensures same { Leaves version S.Store conn.old conn.new result }
+    ensures looks { Looks version (state S.Store conn.old) (state S.Store conn.new) }
 {
-    read_table(
+    adopt_with_nights(
         alloc,
         conn,
-        "SELECT student, in_row, in_day, spread, rowid FROM share_student ORDER BY rowid",
+        version,
+        "SELECT 0, student, in_row, in_day, spread, rowid FROM share_student ORDER BY rowid",
+        "SELECT student, night, rowid FROM night_share ORDER BY rowid",
     )
 }

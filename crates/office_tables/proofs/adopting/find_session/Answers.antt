@@ -18,7 +18,8 @@ returns-in_err-owners-clause-looks g c =
     let at_1 = state g.S.Store c.adopt_meta.new.conn in
     let at_2 = state g.S.Store c.adopt_owners.new.conn in
     let looks_1 = c.adopt_meta.ensures.looks in
-    looks_then at_0 at_1 at_2 c.in_ok-meta.ensures.same c.adopt_owners.ensures.looks looks_1
+    looks_then c.args.version at_0 at_1 at_2 c.in_ok-meta.ensures.same
+    (c.adopt_owners.ensures.looks c.args.version) looks_1
 
 pub returns-in_err-enrols-clause-looks : goal.returns-in_err-enrols-clause-looks
 returns-in_err-enrols-clause-looks g c =
@@ -27,11 +28,16 @@ returns-in_err-enrols-clause-looks g c =
     let at_2 = state g.S.Store c.adopt_owners.new.conn in
     let at_3 = state g.S.Store c.adopt_enrols.new.conn in
     let looks_1 = c.adopt_meta.ensures.looks in
-    let looks_2 = looks_then at_0 at_1 at_2 c.in_ok-meta.ensures.same c.adopt_owners.ensures.looks
+    let looks_2 =
+    looks_then c.args.version at_0 at_1 at_2 c.in_ok-meta.ensures.same
+    (c.adopt_owners.ensures.looks c.args.version)
     looks_1 in
-    let stays_2 = stays_then at_0 at_1 at_2 c.in_ok-meta.ensures.same c.adopt_owners.ensures.looks
-    c.in_ok-owners.ensures.same in
-    looks_then at_0 at_2 at_3 stays_2 c.adopt_enrols.ensures.looks looks_2
+    let stays_2 =
+    stays_then c.args.version at_0 at_1 at_2 c.in_ok-meta.ensures.same
+    (c.adopt_owners.ensures.looks c.args.version)
+    (c.in_ok-owners.ensures.same c.args.version) in
+    looks_then c.args.version at_0 at_2 at_3 stays_2 (c.adopt_enrols.ensures.looks c.args.version)
+    looks_2
 
 pub returns-clause-looks : goal.returns-clause-looks
 returns-clause-looks g c =
@@ -40,11 +46,16 @@ returns-clause-looks g c =
     let at_2 = state g.S.Store c.adopt_owners.new.conn in
     let at_3 = state g.S.Store c.adopt_enrols.new.conn in
     let looks_1 = c.adopt_meta.ensures.looks in
-    let looks_2 = looks_then at_0 at_1 at_2 c.in_ok-meta.ensures.same c.adopt_owners.ensures.looks
+    let looks_2 =
+    looks_then c.args.version at_0 at_1 at_2 c.in_ok-meta.ensures.same
+    (c.adopt_owners.ensures.looks c.args.version)
     looks_1 in
-    let stays_2 = stays_then at_0 at_1 at_2 c.in_ok-meta.ensures.same c.adopt_owners.ensures.looks
-    c.in_ok-owners.ensures.same in
-    looks_then at_0 at_2 at_3 stays_2 c.adopt_enrols.ensures.looks looks_2
+    let stays_2 =
+    stays_then c.args.version at_0 at_1 at_2 c.in_ok-meta.ensures.same
+    (c.adopt_owners.ensures.looks c.args.version)
+    (c.in_ok-owners.ensures.same c.args.version) in
+    looks_then c.args.version at_0 at_2 at_3 stays_2 (c.adopt_enrols.ensures.looks c.args.version)
+    looks_2
 
 pub returns-clause-same : goal.returns-clause-same
 returns-clause-same g c =
@@ -52,9 +63,12 @@ returns-clause-same g c =
     let at_1 = state g.S.Store c.adopt_meta.new.conn in
     let at_2 = state g.S.Store c.adopt_owners.new.conn in
     let at_3 = state g.S.Store c.adopt_enrols.new.conn in
-    let stays_2 = stays_then at_0 at_1 at_2 c.in_ok-meta.ensures.same c.adopt_owners.ensures.looks
-    c.in_ok-owners.ensures.same in
-    stays_then at_0 at_2 at_3 stays_2 c.adopt_enrols.ensures.looks c.in_ok-enrols.ensures.same
+    let stays_2 =
+    stays_then c.args.version at_0 at_1 at_2 c.in_ok-meta.ensures.same
+    (c.adopt_owners.ensures.looks c.args.version)
+    (c.in_ok-owners.ensures.same c.args.version) in
+    stays_then c.args.version at_0 at_2 at_3 stays_2 (c.adopt_enrols.ensures.looks c.args.version)
+    (c.in_ok-enrols.ensures.same c.args.version)
 
 pub returns-clause-found : goal.returns-clause-found
 returns-clause-found g c clean tables =
@@ -62,15 +76,23 @@ returns-clause-found g c clean tables =
     let at_1 = state g.S.Store c.adopt_meta.new.conn in
     let at_2 = state g.S.Store c.adopt_owners.new.conn in
     let at_3 = state g.S.Store c.adopt_enrols.new.conn in
-    let stays_2 = stays_then at_0 at_1 at_2 c.in_ok-meta.ensures.same c.adopt_owners.ensures.looks
-    c.in_ok-owners.ensures.same in
-    let clean_2 = clean_before at_2 at_3 c.adopt_enrols.ensures.looks clean in
-    let clean_1 = clean_before at_1 at_2 c.adopt_owners.ensures.looks clean_2 in
+    let stays_2 =
+    stays_then c.args.version at_0 at_1 at_2 c.in_ok-meta.ensures.same
+    (c.adopt_owners.ensures.looks c.args.version)
+    (c.in_ok-owners.ensures.same c.args.version) in
+    let clean_2 =
+    clean_before c.args.version at_2 at_3 (c.adopt_enrols.ensures.looks c.args.version) clean in
+    let clean_1 =
+    clean_before c.args.version at_1 at_2 (c.adopt_owners.ensures.looks c.args.version) clean_2 in
     let found_1 = c.in_ok-meta.ensures.found clean_1 tables in
-    let found_2 = found_after at_0 at_1 at_2 c.in_ok-meta.ensures.same c.adopt_owners.ensures.looks
+    let found_2 =
+    found_after c.args.version at_0 at_1 at_2 c.in_ok-meta.ensures.same
+    (c.adopt_owners.ensures.looks c.args.version)
     (λ db. IsFound FitsOwner owner_columns keyed (db.trees 1) c.in_ok-owners.owners)
-    c.in_ok-owners.ensures.found clean_2 tables in
-    let found_3 = found_after at_0 at_2 at_3 stays_2 c.adopt_enrols.ensures.looks
+    (c.in_ok-owners.ensures.found c.args.version) clean_2 tables in
+    let found_3 =
+    found_after c.args.version at_0 at_2 at_3 stays_2 (c.adopt_enrols.ensures.looks c.args.version)
     (λ db. IsFound FitsEnrol enrol_columns keyless (db.trees 2) c.in_ok-enrols.enrols)
-    c.in_ok-enrols.ensures.found clean tables in
-    session_found at_0.now _ _ _ found_1 found_2 found_3 c.session_of.result c.session_of.ensures
+    (c.in_ok-enrols.ensures.found c.args.version) clean tables in
+    session_found c.args.version at_0.now _ _ _ found_1 found_2 found_3 c.session_of.result
+    c.session_of.ensures

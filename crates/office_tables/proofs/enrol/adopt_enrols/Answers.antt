@@ -3,10 +3,12 @@ use Rattle.office_tables.proofs.ListTexts.{enrol_lists}
 use Rattle.office_tables.proofs.enrol.adopt_enrols.Goals as goal
 
 pub returns-clause-found : goal.returns-clause-found
-returns-clause-found g c = c.read_table.ensures.found 2 keyless enrol_lists
+returns-clause-found g c version =
+    c.read_table.ensures.found version 2 keyless (enrol_lists version)
 
 pub returns-clause-same : goal.returns-clause-same
-returns-clause-same g c = c.read_table.ensures.same 2 keyless enrol_lists
+returns-clause-same g c version = c.read_table.ensures.same version 2 keyless (enrol_lists version)
 
 pub returns-clause-looks : goal.returns-clause-looks
-returns-clause-looks g c = c.read_table.ensures.looks 2 keyless enrol_lists
+returns-clause-looks g c version =
+    c.read_table.ensures.looks version 2 keyless (enrol_lists version)

@@ -3,10 +3,10 @@ use Rattle.office_tables.proofs.ListTexts.{owner_lists}
 use Rattle.office_tables.proofs.owner.adopt_owners.Goals as goal
 
 pub returns-clause-found : goal.returns-clause-found
-returns-clause-found g c = c.read_table.ensures.found 1 keyed owner_lists
+returns-clause-found g c version = c.read_table.ensures.found version 1 keyed (owner_lists version)
 
 pub returns-clause-same : goal.returns-clause-same
-returns-clause-same g c = c.read_table.ensures.same 1 keyed owner_lists
+returns-clause-same g c version = c.read_table.ensures.same version 1 keyed (owner_lists version)
 
 pub returns-clause-looks : goal.returns-clause-looks
-returns-clause-looks g c = c.read_table.ensures.looks 1 keyed owner_lists
+returns-clause-looks g c version = c.read_table.ensures.looks version 1 keyed (owner_lists version)

@@ -1,10 +1,15 @@
 use Rattle.sqlite.specs.Held.{state}
-use Rattle.office_tables.proofs.Inside.{changes_by}
+use Rattle.office_tables.proofs.Inside.{changes_by_two, clean_before}
 use Rattle.office_tables.proofs.DraftLemmas.{cleared}
 use Rattle.office_tables.proofs.draft.DeleteDraftsAlteration.apply.Goals as goal
 
 pub returns-clause-makes : goal.returns-clause-makes
 returns-clause-makes g c clean inside =
     let old = state g.S.Store c.args.tx.now.conn.now in
-    let new = state g.S.Store c.run.new.tx.conn.now in
-    changes_by _ _ _ old new c.run.result (cleared old new) (c.run.ensures.ran clean inside)
+    let mid = state g.S.Store c.run.new.tx.conn.now in
+    let new = state g.S.Store c.run-2.new.tx.conn.now in
+    let clean_1 = clean_before mid new c.run-2.ensures.within clean in
+    let first = c.in_ok-run.ensures.ran clean_1 inside in
+    changes_by_two _ _ _ _ _ old mid new c.run-2.result
+    (cleared old mid new)
+    first (c.run-2.ensures.ran clean first.inside)

@@ -1,0 +1,68 @@
+-- What is found of two tables whose rows have the same numbers.
+use Rattle.std.specs.Prelude.{◌≡◌, ◌≢◌, ℕ, pos, List, [], ◌∷◌, map, Option, Some, None, IfSome, Vec}
+use Rattle.std.specs.List.{AllByRecursion}
+use Rattle.std.specs.declared.alloc.Global.{Global}
+use Rattle.sqlite_value.specs.declared.value.Value.TheVariants.{Int}
+use Rattle.sqlite_value.specs.Order.{Row, column}
+use Rattle.office_tables.specs.declared.nights.NightRow.{NightRow}
+use Rattle.office_tables.specs.declared.version.Version.{Version}
+use Rattle.office_tables.specs.Finders.{IsFound}
+use Rattle.office_tables.specs.Nights.{night_columns, FitsNight, HoldsNights}
+use Rattle.office_tables.specs.Readings.{ColumnRises}
+use Rattle.office_tables.specs.Records.{IsNarrow}
+use Rattle.office_tables.specs.Stored.{Holds, keyed}
+
+-- `Some`: the rows have this property. `None`: no rows that fit have it
+abbrev pub AreFound : {X : Type 0} → (X → Type 0) → (List X → Type 0) → Option (Vec X Global)
+    → Type 0
+AreFound fits Have (Some found) = Have found.items
+AreFound {X} fits Have None = (rows : List X) → AllByRecursion fits rows → Have rows → ⊥
+
+-- `Some`: the rows with the amounts of their numbers, in this order. `None`: the numbers differ
+abbrev pub AreJoined : {X : Type 0} → (X → Row) → (X → Row) → (X → ℕ) → List X → List NightRow
+    → Option (Vec X Global) → Type 0
+AreJoined columns_of nights_of number rows nights (Some made) =
+    (map columns_of made.items ≡ map columns_of rows)
+    × (map nights_of made.items ≡ map night_columns nights)
+AreJoined columns_of nights_of number rows nights None =
+    map number rows ≢ map (λ (n : NightRow). n.number) nights
+
+-- both lists joined; `None` if either of them is `None`
+abbrev pub IsJoined : {X : Type 0} → (X → Row) → (X → Row) → (X → ℕ) → Option (Vec X Global)
+    → Option (Vec NightRow Global) → Option (Vec X Global) → Type 0
+IsJoined columns_of nights_of number None nights found = found ≡ None
+IsJoined columns_of nights_of number (Some rows) None found = found ≡ None
+IsJoined columns_of nights_of number (Some rows) (Some nights) found =
+    AreJoined columns_of nights_of number rows.items nights.items found
+
+-- the rows of a table of nights, in the order of their numbers
+abbrev pub AreNights : List Row → Option (Vec NightRow Global) → Type 0
+AreNights stored found =
+    IsFound FitsNight night_columns keyed stored found
+    × IfSome found (λ nights. ColumnRises 0 (map night_columns nights.items))
+
+-- the rows joined with those of a table of nights
+abbrev pub IsJoinedWith : {X : Type 0} → (X → Row) → (X → Row) → (X → ℕ) → Option (Vec X Global)
+    → List Row → Option (Vec X Global) → Type 0
+IsJoinedWith columns_of nights_of number rows stored found =
+    (nights : Option (Vec NightRow Global)) × AreNights stored nights
+    × IsJoined columns_of nights_of number rows nights found
+
+-- the rows are stored in two tables, and in version 1 in one
+pub record HaveRows {X : Type 0} (version : Version) (columns_of nights_of : X → Row)
+    (night : X → ℕ) (stored nights_stored : List Row) (rows : List X) : Type 0 where
+  pub first : Holds keyed (map columns_of rows) stored
+  pub second : HoldsNights version nights_of night rows nights_stored
+
+-- a SELECT shows a row's amount over night and then its columns in the first table; each row has a
+-- copy whose amount is 0
+pub record Splits {X : Type 0} (fits : X → Type 0) (shown columns_of nights_of : X → Row)
+    (number night : X → ℕ) : Type 0 where
+  pub shown_is : (x : X) → shown x ≡ Int (pos (night x)) ∷ columns_of x
+  pub number_is : (x : X) → column (columns_of x) 0 ≡ Int (pos (number x))
+  pub nights_are : (x : X) → nights_of x ≡ Int (pos (number x)) ∷ Int (pos (night x)) ∷ []
+  pub narrow : (x : X) → fits x → IsNarrow (number x)
+  pub bare : X → X
+  pub bare_same : (x : X) → columns_of (bare x) ≡ columns_of x
+  pub bare_night : (x : X) → night (bare x) ≡ 0
+  pub bare_fits : (x : X) → fits x → fits (bare x)

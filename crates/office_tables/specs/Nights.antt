@@ -1,0 +1,28 @@
+-- Amounts over night. In version 2 those of drafts and of students have tables of their own; in
+-- version 1 there is no such table, and each amount is 0.
+use Rattle.std.specs.Prelude.{◌≡◌, ℕ, pos, List, [], ◌∷◌, map}
+use Rattle.std.specs.List.{AllByRecursion}
+use Rattle.sqlite_value.specs.declared.value.Value.TheVariants.{Int}
+use Rattle.sqlite_value.specs.Order.{Row}
+use Rattle.office_tables.specs.declared.nights.NightRow.{NightRow}
+use Rattle.office_tables.specs.declared.version.Version.{Version}
+use Rattle.office_tables.specs.declared.version.Version.TheVariants.{One, Two}
+use Rattle.office_tables.specs.Records.{IsNarrow}
+use Rattle.office_tables.specs.Stored.{Holds, keyed}
+
+-- the columns of a table of nights: the number of a draft or a student, and the amount
+abbrev pub night_columns : NightRow → Row
+night_columns r = Int (pos r.number) ∷ Int (pos r.night) ∷ []
+
+-- a number has 32 bits; the amount may have 64
+abbrev pub FitsNight : NightRow → Type 0
+FitsNight r = IsNarrow r.number
+
+-- a stored row, with an amount of 0 in front of it
+abbrev pub with_no_night : Row → Row
+with_no_night row = Int (pos 0) ∷ keyed row
+
+-- the table of nights has these rows; in version 1 there is none, and each amount is 0
+abbrev pub HoldsNights : {X : Type 0} → Version → (X → Row) → (X → ℕ) → List X → List Row → Type 0
+HoldsNights One nights_of night rows stored = AllByRecursion (λ x. night x ≡ 0) rows
+HoldsNights Two nights_of night rows stored = Holds keyed (map nights_of rows) stored

@@ -1,0 +1,59 @@
+// From version 1 of a file to version 2.
+ghost use Rattle.std.specs.Prelude.{◌≡◌, [], ◌∷◌};
+ghost use Rattle.sqlite.specs.Held.{state};
+ghost use Rattle.office_tables.specs.Meta.{no_meta};
+ghost use Rattle.office_tables.specs.Migrating.{IsWidened};
+ghost use Rattle.office_tables.specs.Standing.{Stands, StandsBefore};
+ghost use Rattle.office_tables.specs.Steps.{Grows, Within};
+ghost use Rattle.office_tables.specs.Tables.{Tables};
+
+use crate::altering::Alteration;
+use crate::draft::create_night_draft;
+use crate::meta::InsertMeta;
+use crate::running::run;
+use crate::share_student::create_night_share;
+use sqlite::{Alter, Error, Transaction};
+
+/// Brings the tables of version 1, with this row about the office, to version 2. The rows stay the
+/// same, and each amount over night is 0.
+pub fn migrate<S: Alter>(
+    tx: &mut Transaction<'_, S>,
+    published: bool,
+    instance: &[u8],
+) -> Result<(), Error>
+    ensures same_reference { tx.new.conn.ghost_name ≡ tx.old.conn.ghost_name }
+    ensures makes { (t : Tables)
+        → t.meta ≡ record { published = published; instance = instance.now } ∷ []
+        → Grows S.Store (λ db. StandsBefore db t) (λ db. Stands db t)
+        tx.old.conn.now tx.new.conn.now result }
+    ensures within { Within (state S.Store tx.old.conn.now) (state S.Store tx.new.conn.now) }
+{
+    create_night_draft(tx)?;
+    create_night_share(tx)?;
+    fill_nights(tx)?;
+    let row = InsertMeta {
+        published,
+        instance,
+    };
+    row.apply(tx)
+}
+
+// Deletes the row of version 1, and inserts an amount of 0 for each draft and each student's share.
+fn fill_nights<S: Alter>(tx: &mut Transaction<'_, S>) -> Result<(), Error>
+    ensures same_reference { tx.new.conn.ghost_name ≡ tx.old.conn.ghost_name }
+    ensures makes { (t : Tables) → Grows S.Store (IsWidened t) (λ db. Stands db (no_meta t))
+        tx.old.conn.now tx.new.conn.now result }
+    ensures within { Within (state S.Store tx.old.conn.now) (state S.Store tx.new.conn.now) }
+{
+    run(tx, "DELETE FROM meta", &[])?;
+    run(
+        tx,
+        "INSERT INTO night_draft (no, night) SELECT no, 0 FROM draft",
+        &[],
+    )?;
+    run(
+        tx,
+        "INSERT INTO night_share (student, night) SELECT student, 0 FROM share_student",
+        &[],
+    )
+}

@@ -1,0 +1,155 @@
+// Amounts over night of drafts and students: in version 2 they have tables of their own.
+ghost use Rattle.std.specs.Prelude.{◌≡◌, ℕ, IfOk};
+ghost use Rattle.sqlite.specs.Held.{state};
+ghost use Rattle.sqlite_value.specs.Order.{Row as Columns};
+ghost use Rattle.office_tables.specs.declared.version.Version.{Version};
+ghost use Rattle.office_tables.specs.declared.version.Version.TheVariants.{Two};
+ghost use Rattle.office_tables.specs.Finders.{Finds, Leaves, Looks};
+ghost use Rattle.office_tables.specs.Listings.{ListsKeyed};
+ghost use Rattle.office_tables.specs.Joining.{AreFound, AreJoined, HaveRows, IsJoined, IsJoinedWith, Splits};
+ghost use Rattle.office_tables.specs.Nights.{night_columns, with_no_night, FitsNight};
+ghost use Rattle.office_tables.specs.Stored.{keyed};
+
+use crate::listing::read_table;
+use crate::records::Record;
+use crate::version::Version;
+use sqlite::{Alter, Connection, Error, Row};
+use std::alloc::Global;
+
+// The number of a draft or a student, and its amount over night.
+#[derive(Clone, Copy)]
+pub(crate) struct NightRow {
+    pub number: u32,
+    pub night: u64,
+}
+
+impl Record for NightRow {
+    ghost WIDTH = { 2 };
+
+    ghost columns_of = { night_columns };
+
+    ghost fits = { FitsNight };
+
+    const WIDTH: usize = 2;
+
+    fn read(row: &Row) -> Result<NightRow, Error> {
+        Ok(NightRow {
+            number: row.get(0)?,
+            night: row.get(1)?,
+        })
+    }
+}
+
+// A row whose amount over night is in a second table.
+pub(crate) trait HasNight: Copy {
+    // Its columns in the first table.
+    ghost columns_in_first: { Self → Columns };
+
+    // Its columns in the second table.
+    ghost columns_in_second: { Self → Columns };
+
+    ghost number_in: { Self → ℕ };
+
+    ghost night_in: { Self → ℕ };
+
+    fn number(&self) -> u32
+        ensures { result ≡ number_in self.now };
+
+    fn with_night(&self, night: u64) -> Self
+        ensures first { columns_in_first result ≡ columns_in_first self.now }
+        ensures second { columns_in_second result
+            ≡ night_columns (record { number = number_in self.now; night = night }) };
+}
+
+// The rows of a table, whose text lists 0 as each amount over night. In version 2 the amounts come
+// from the second table. `None`: the tables hold no such rows.
+pub(crate) fn adopt_with_nights<S: Alter, R: Record + HasNight + Drop>(
+    alloc: Global,
+    conn: &mut Connection<S>,
+    version: Version,
+    rows_sql: &str,
+    nights_sql: &str,
+) -> Result<Option<Vec<R>>, Error>
+    ensures found { (tree nights_tree : ℕ)
+        → ListsKeyed version 1 R.WIDTH tree with_no_night rows_sql.now
+        → ListsKeyed Two 0 2 nights_tree keyed nights_sql.now
+        → Splits R.fits R.columns_of R.columns_in_first R.columns_in_second R.number_in R.night_in
+        → Finds version S.Store (λ db. AreFound R.fits (HaveRows version R.columns_in_first
+        R.columns_in_second R.night_in (db.trees tree) (db.trees nights_tree)))
+        conn.old conn.new result }
+    ensures same { (tree nights_tree : ℕ)
+        → ListsKeyed version 1 R.WIDTH tree with_no_night rows_sql.now
+        → ListsKeyed Two 0 2 nights_tree keyed nights_sql.now
+        → Leaves version S.Store conn.old conn.new result }
+    ensures looks { (tree nights_tree : ℕ)
+        → ListsKeyed version 1 R.WIDTH tree with_no_night rows_sql.now
+        → ListsKeyed Two 0 2 nights_tree keyed nights_sql.now
+        → Looks version (state S.Store conn.old) (state S.Store conn.new) }
+{
+    let rows = read_table(alloc, conn, rows_sql)?;
+    match version {
+        Version::One => Ok(rows),
+        Version::Two => add_nights(alloc, conn, rows, nights_sql),
+    }
+}
+
+// Rows of the first table with the amounts that this text lists from the second.
+fn add_nights<S: Alter, R: HasNight + Drop>(
+    alloc: Global,
+    conn: &mut Connection<S>,
+    rows: Option<Vec<R>>,
+    sql: &str,
+) -> Result<Option<Vec<R>>, Error>
+    ensures found { (version : Version) (tree : ℕ) → ListsKeyed version 0 2 tree keyed sql.now
+        → Finds version S.Store (λ db. IsJoinedWith R.columns_in_first R.columns_in_second
+        R.number_in rows (db.trees tree))
+        conn.old conn.new result }
+    ensures same { (version : Version) (tree : ℕ) → ListsKeyed version 0 2 tree keyed sql.now
+        → Leaves version S.Store conn.old conn.new result }
+    ensures looks { (version : Version) (tree : ℕ) → ListsKeyed version 0 2 tree keyed sql.now
+        → Looks version (state S.Store conn.old) (state S.Store conn.new) }
+{
+    let nights = read_table(alloc, conn, sql)?;
+    joined(alloc, rows, nights)
+}
+
+// Joins both lists, if there are two.
+fn joined<R: HasNight + Drop>(
+    alloc: Global,
+    rows: Option<Vec<R>>,
+    nights: Option<Vec<NightRow>>,
+) -> Result<Option<Vec<R>>, Error>
+    ensures { IfOk result
+        (IsJoined R.columns_in_first R.columns_in_second R.number_in rows nights) }
+{
+    let Some(rows) = rows else {
+        return Ok(None);
+    };
+    let Some(nights) = nights else {
+        return Ok(None);
+    };
+    with_nights(alloc, &rows, &nights)
+}
+
+// The rows with their amounts over night. `None`: the two lists have different numbers.
+fn with_nights<R: HasNight + Drop>(
+    alloc: Global,
+    rows: &[R],
+    nights: &[NightRow],
+) -> Result<Option<Vec<R>>, Error>
+    ensures { IfOk result
+        (AreJoined R.columns_in_first R.columns_in_second R.number_in rows.now nights.now) }
+{
+    if rows.len() != nights.len() {
+        return Ok(None);
+    }
+    let mut made = Vec::new(alloc);
+    'rows: for (at, row) in rows.iter().enumerate() {
+        let night = nights[at];
+        if night.number != row.number() {
+            return Ok(None);
+        }
+        made.push(row.with_night(night.night))?;
+    }
+    Ok(Some(made))
+}
