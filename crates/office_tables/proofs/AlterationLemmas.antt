@@ -22,7 +22,7 @@ use Rattle.office_tables.specs.declared.share_student.InsertStudentShare.{Insert
 use Rattle.office_tables.specs.declared.slot.InsertSlot.{InsertSlot}
 
 -- a row that comes before others comes last of their reverse
-first_last : {X : Type 0} (x : X) (xs ys : List X)
+pub first_last : {X : Type 0} (x : X) (xs ys : List X)
     → reverse xs ++ (x ∷ ys) ≡ reverse (x ∷ xs) ++ ys
 first_last x xs ys =
     sym (append_assoc (reverse xs) (x ∷ []) ys)

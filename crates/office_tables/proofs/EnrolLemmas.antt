@@ -1,5 +1,5 @@
 -- What each statement on the table enrol means, and what it makes of the tables.
-use Rattle.std.proofs.Common.{◌≡◌, ℕ, pos, List, [], ◌∷◌, map, filter, not, ◌==◌, ◌&&◌, codes, true, Ok, refl, ap, ◌∙◌}
+use Rattle.std.proofs.Common.{◌≡◌, ℕ, pos, List, [], ◌∷◌, map, filter, not, ◌==◌, ◌&&◌, ◌++◌, codes, flat_map, length, reverse, true, Ok, refl, sym, ap, subst, ◌∙◌}
 use Rattle.sqlite_trees.specs.Tree.{put_row}
 use Rattle.sqlite_value.specs.declared.value.Value.TheVariants.{Null, Int}
 use Rattle.sqlite_value.specs.Order.{Row}
@@ -11,14 +11,19 @@ use Rattle.sqlite.specs.State.{State, Executes}
 use Rattle.sqlite.specs.Term.{Term, lit, col}
 use Rattle.sqlite.proofs.Callers.{IsPlain, command_of}
 use Rattle.sqlite_tied.specs.Compute.{everything}
+use Rattle.std.proofs.lemmas.List.{length-map}
+use Rattle.office_tables.specs.Alterations.{after_all}
 use Rattle.office_tables.specs.declared.enrol.EnrolRow.{EnrolRow}
+use Rattle.office_tables.specs.declared.enrol.InsertEnrol.{InsertEnrol}
 use Rattle.office_schema.specs.Schema.{office_schema, enrol_table}
 use Rattle.office_tables.specs.Tables.{Tables}
 use Rattle.office_tables.specs.Standing.{Stands}
 use Rattle.office_tables.specs.Stored.{keyless}
-use Rattle.office_tables.specs.Enrol.{enrol_columns}
+use Rattle.office_tables.specs.Enrol.{enrol_columns, with_enrol}
+use Rattle.office_tables.proofs.AlterationLemmas.{enrols_put}
 use Rattle.office_tables.proofs.Casts.{cast_int, cast_null}
 use Rattle.office_tables.proofs.Frames.{enrol_changed}
+use Rattle.office_tables.proofs.ManyRows.{repeated, numberless, terms_from, added_numberless}
 use Rattle.office_tables.proofs.Statements.{inserts, deletes}
 use Rattle.office_tables.proofs.TableLemmas.{holds_more, rowids_filter}
 use Rattle.office_tables.proofs.Queries.{answered, passes, shown_filter, left_of, column_less, equal_pairs, one_table, equals, rowids}
@@ -54,6 +59,35 @@ added old new row count t stands h =
     enrol_changed old.now new.now t stands done.0 (row ∷ t.enrol) is.tables
     (rw rows (holds_more keyless (map enrol_columns t.enrol) stored new_row
     (enrol_columns row) refl refl fresh stands.enrol))
+
+-- ---- INSERT, thirty-two rows
+
+abbrev pub insert_many_text : List ℕ
+insert_many_text = codes "INSERT INTO enrol (student, exam) VALUES (?, ?)"
+    ++ repeated 31 (codes ", (?, ?)")
+
+insert_many_is : command_of (understood office_schema insert_many_text)
+    ≡ Insert 2 (Values (terms_from (numberless 2) 2 0 32) 3)
+unfolding understood everything
+insert_many_is = refl
+
+insert_many_plain : IsPlain (understood office_schema insert_many_text)
+unfolding understood everything
+insert_many_plain = (refl, refl)
+
+pub added_many : (old new : State) (its : List InsertEnrol) → length its ≡ 32
+    → (count : ℕ) (t : Tables) → Stands old.now t
+    → Executes insert_many_text (flat_map enrol_columns (map (λ it. it.row) its)) old new (Ok count)
+    → Stands new.now (after_all (λ it. with_enrol it.row) its t)
+added_many old new its long count t stands h =
+    let rows : List EnrolRow = map (λ it. it.row) its in
+    let done = added_numberless enrol_columns 2 (λ row. refl) insert_many_text 32 2 enrol_table refl
+    insert_many_plain insert_many_is refl (λ taken news. refl)
+    (λ row. rw (cast_null, cast_int row.student, cast_int row.exam) refl)
+    old new rows t.enrol (length-map its (λ it. it.row) ∙ long) count stands.schema
+    stands.enrol h in
+    subst (Stands new.now) (sym (enrols_put its t))
+    (enrol_changed old.now new.now t stands done.0 (reverse rows ++ t.enrol) done.1 done.2)
 
 -- ---- DELETE WHERE student = ?1 AND exam = ?2
 

@@ -18,6 +18,7 @@ pub mod KeyedLemmas
 pub mod ListTexts
 pub mod ListedTables
 pub mod LookLemmas
+pub mod ManyRows
 pub mod MetaFound
 pub mod MetaLemmas
 pub mod MigrateLemmas

@@ -1,12 +1,12 @@
 -- What each statement on the tables of the publication means, and what it makes of the tables.
-use Rattle.std.proofs.Common.{◌≡◌, ℕ, pos, List, [], ◌∷◌, map, filter, not, ◌==◌, ◌&&◌, codes, true, Ok, refl, ap, ◌∙◌}
+use Rattle.std.proofs.Common.{◌≡◌, ℕ, suc, pos, List, [], ◌∷◌, ◌++◌, map, filter, not, ◌==◌, ◌&&◌, codes, drop, flat_map, length, reverse, true, Ok, refl, sym, ap, subst, ◌∙◌}
 use Rattle.sqlite_sql.specs.Ops.{binary, is_true}
 use Rattle.sqlite_sql.specs.declared.ops.BinaryOp.TheVariants.{Compare}
 use Rattle.sqlite_sql.specs.declared.ops.CompareOp.TheVariants.{Eq}
 use Rattle.sqlite_trees.specs.Tree.{put_row}
 use Rattle.sqlite_value.specs.declared.keys.Collation.TheVariants.{Binary}
 use Rattle.sqlite_value.specs.declared.value.Value.TheVariants.{Null, Int}
-use Rattle.sqlite_value.specs.Order.{Row}
+use Rattle.sqlite_value.specs.Order.{Row, column}
 use Rattle.sqlite.specs.Command.TheVariants.{Insert, Delete}
 use Rattle.sqlite.specs.Edit.{next_rowid, are_fresh}
 use Rattle.sqlite.specs.Listing.{understood}
@@ -15,16 +15,22 @@ use Rattle.sqlite.specs.State.{State, Executes}
 use Rattle.sqlite.specs.Term.{Term, lit, col}
 use Rattle.sqlite.proofs.Callers.{IsPlain, command_of}
 use Rattle.sqlite_tied.specs.Compute.{everything}
+use Rattle.std.proofs.lemmas.List.{length-map}
+use Rattle.office_tables.specs.Alterations.{after_all}
+use Rattle.office_tables.specs.declared.placed.InsertPlacement.{InsertPlacement}
 use Rattle.office_tables.specs.declared.placed.PlacedRow.{PlacedRow}
+use Rattle.office_tables.specs.declared.seat.InsertSeat.{InsertSeat}
 use Rattle.office_tables.specs.declared.seat.SeatRow.{SeatRow}
 use Rattle.office_schema.specs.Schema.{office_schema, placed_table, seat_table}
 use Rattle.office_tables.specs.Tables.{Tables}
 use Rattle.office_tables.specs.Standing.{Stands}
 use Rattle.office_tables.specs.Stored.{keyed, keyless}
-use Rattle.office_tables.specs.Placed.{placed_columns}
-use Rattle.office_tables.specs.Seat.{seat_columns}
+use Rattle.office_tables.specs.Placed.{placed_columns, with_placement}
+use Rattle.office_tables.specs.Seat.{seat_columns, with_seat}
+use Rattle.office_tables.proofs.AlterationLemmas.{placements_put, seats_put}
 use Rattle.office_tables.proofs.Casts.{cast_int, cast_null}
 use Rattle.office_tables.proofs.Frames.{holds_none, placed_changed, seat_changed}
+use Rattle.office_tables.proofs.ManyRows.{repeated, next_params, numberless, terms_from, values_there, added_rows, added_numberless}
 use Rattle.office_tables.proofs.Statements.{inserts, deletes}
 use Rattle.office_tables.proofs.TableLemmas.{holds_more, rowids_filter}
 use Rattle.office_tables.proofs.Queries.{answered, passes, shown_filter, left_of, none_left, column_less, equal_numbers, one_table, equals, rowids}
@@ -66,6 +72,47 @@ placement_added old new row count t stands h =
     (placed_columns row) refl refl
     fresh
     stands.placed))
+
+-- ---- INSERT INTO placed, sixteen rows
+
+-- a row that has its number, the first of three parameters
+abbrev keyed_terms : ℕ → List Term
+keyed_terms at = col 0 at ∷ lit Null ∷ next_params 2 (suc at)
+
+abbrev keyed_row : PlacedRow → Row
+keyed_row row = Int (pos row.exam) ∷ Null ∷ Int (pos row.period) ∷ Int (pos row.room) ∷ []
+
+abbrev pub insert_placements_text : List ℕ
+insert_placements_text = codes "INSERT INTO placed (exam, period, room) VALUES (?, ?, ?)"
+    ++ repeated 15 (codes ", (?, ?, ?)")
+
+insert_placements_is : command_of (understood office_schema insert_placements_text)
+    ≡ Insert 5 (Values (terms_from keyed_terms 3 0 16) 4)
+unfolding understood everything
+insert_placements_is = refl
+
+insert_placements_plain : IsPlain (understood office_schema insert_placements_text)
+unfolding understood everything
+insert_placements_plain = (refl, refl)
+
+pub placements_added : (old new : State) (its : List InsertPlacement) → length its ≡ 16
+    → (count : ℕ) (t : Tables) → Stands old.now t
+    → Executes insert_placements_text (flat_map placed_columns (map (λ it. it.row) its)) old new (Ok count)
+    → Stands new.now (after_all (λ it. with_placement it.row) its t)
+placements_added old new its long count t stands h =
+    let rows : List PlacedRow = map (λ it. it.row) its in
+    let done = added_rows placed_columns keyed_row keyed 3 4 keyed_terms
+    (λ row. refl) (λ at. refl)
+    (λ pre post row. ap (λ l. column l 0 ∷ Null ∷ drop 1 l)
+    (values_there pre (placed_columns row) post))
+    (λ stored row. refl) (λ stored row. refl)
+    insert_placements_text 16 5 placed_table refl insert_placements_plain
+    insert_placements_is refl (λ taken news. refl)
+    (λ row. rw (cast_null, cast_int row.exam, cast_int row.period, cast_int row.room) refl)
+    old new rows t.placed (length-map its (λ it. it.row) ∙ long) count stands.schema
+    stands.placed h in
+    subst (Stands new.now) (sym (placements_put its t))
+    (placed_changed old.now new.now t stands done.0 (reverse rows ++ t.placed) done.1 done.2)
 
 -- ---- DELETE FROM placed
 
@@ -138,6 +185,36 @@ seat_added old new row count t stands h =
     (rw rows (holds_more keyless (map seat_columns t.seat) stored new_row
     (seat_columns row) refl refl fresh
     stands.seat))
+
+-- ---- INSERT INTO seat, sixteen rows
+
+abbrev pub insert_seats_text : List ℕ
+insert_seats_text = codes "INSERT INTO seat (student, exam, period, room, seat) VALUES (?, ?, ?, ?, ?)"
+    ++ repeated 15 (codes ", (?, ?, ?, ?, ?)")
+
+insert_seats_is : command_of (understood office_schema insert_seats_text)
+    ≡ Insert 6 (Values (terms_from (numberless 5) 5 0 16) 6)
+unfolding understood everything
+insert_seats_is = refl
+
+insert_seats_plain : IsPlain (understood office_schema insert_seats_text)
+unfolding understood everything
+insert_seats_plain = (refl, refl)
+
+pub seats_added : (old new : State) (its : List InsertSeat) → length its ≡ 16
+    → (count : ℕ) (t : Tables) → Stands old.now t
+    → Executes insert_seats_text (flat_map seat_columns (map (λ it. it.row) its)) old new (Ok count)
+    → Stands new.now (after_all (λ it. with_seat it.row) its t)
+seats_added old new its long count t stands h =
+    let rows : List SeatRow = map (λ it. it.row) its in
+    let done = added_numberless seat_columns 5 (λ row. refl) insert_seats_text 16 6 seat_table
+    refl insert_seats_plain
+    insert_seats_is refl (λ taken news. refl)
+    (λ row. rw (cast_null, cast_int row.student, cast_int row.exam, cast_int row.period, cast_int row.room, cast_int row.seat) refl)
+    old new rows t.seat (length-map its (λ it. it.row) ∙ long) count stands.schema
+    stands.seat h in
+    subst (Stands new.now) (sym (seats_put its t))
+    (seat_changed old.now new.now t stands done.0 (reverse rows ++ t.seat) done.1 done.2)
 
 -- ---- DELETE FROM seat WHERE student = ?1
 

@@ -1,5 +1,5 @@
 -- What each statement on the table slot means, and what it makes of the tables.
-use Rattle.std.proofs.Common.{◌≡◌, ℕ, pos, List, [], ◌∷◌, map, filter, not, ◌==◌, ◌&&◌, codes, true, Ok, refl, ap, ◌∙◌}
+use Rattle.std.proofs.Common.{◌≡◌, ℕ, pos, List, [], ◌∷◌, map, filter, not, ◌==◌, ◌&&◌, ◌++◌, codes, flat_map, length, reverse, true, Ok, refl, sym, ap, subst, ◌∙◌}
 use Rattle.sqlite_sql.specs.Ops.{binary, is_true}
 use Rattle.sqlite_sql.specs.declared.ops.BinaryOp.TheVariants.{Compare}
 use Rattle.sqlite_sql.specs.declared.ops.CompareOp.TheVariants.{Eq}
@@ -15,14 +15,19 @@ use Rattle.sqlite.specs.State.{State, Executes}
 use Rattle.sqlite.specs.Term.{Term, lit, col}
 use Rattle.sqlite.proofs.Callers.{IsPlain, command_of}
 use Rattle.sqlite_tied.specs.Compute.{everything}
+use Rattle.std.proofs.lemmas.List.{length-map}
+use Rattle.office_tables.specs.Alterations.{after_all}
+use Rattle.office_tables.specs.declared.slot.InsertSlot.{InsertSlot}
 use Rattle.office_tables.specs.declared.slot.SlotRow.{SlotRow}
 use Rattle.office_schema.specs.Schema.{office_schema, slot_table}
 use Rattle.office_tables.specs.Tables.{Tables}
 use Rattle.office_tables.specs.Standing.{Stands}
 use Rattle.office_tables.specs.Stored.{keyless}
-use Rattle.office_tables.specs.Slot.{slot_columns}
+use Rattle.office_tables.specs.Slot.{slot_columns, with_slot}
+use Rattle.office_tables.proofs.AlterationLemmas.{slots_put}
 use Rattle.office_tables.proofs.Casts.{cast_int, cast_null}
 use Rattle.office_tables.proofs.Frames.{slot_changed}
+use Rattle.office_tables.proofs.ManyRows.{repeated, numberless, terms_from, added_numberless}
 use Rattle.office_tables.proofs.Statements.{inserts, deletes}
 use Rattle.office_tables.proofs.TableLemmas.{holds_more, rowids_filter}
 use Rattle.office_tables.proofs.Queries.{answered, passes, shown_filter, left_of, column_less, equal_numbers, equal_pairs, one_table, equals, rowids}
@@ -59,6 +64,36 @@ added old new row count t stands h =
     slot_changed old.now new.now t stands done.0 (row ∷ t.slot) is.tables
     (rw rows (holds_more keyless (map slot_columns t.slot) stored new_row
     (slot_columns row) refl refl fresh stands.slot))
+
+-- ---- INSERT, sixteen rows
+
+abbrev pub insert_many_text : List ℕ
+insert_many_text = codes "INSERT INTO slot (draft, exam, period, room) VALUES (?, ?, ?, ?)"
+    ++ repeated 15 (codes ", (?, ?, ?, ?)")
+
+insert_many_is : command_of (understood office_schema insert_many_text)
+    ≡ Insert 4 (Values (terms_from (numberless 4) 4 0 16) 5)
+unfolding understood everything
+insert_many_is = refl
+
+insert_many_plain : IsPlain (understood office_schema insert_many_text)
+unfolding understood everything
+insert_many_plain = (refl, refl)
+
+pub added_many : (old new : State) (its : List InsertSlot) → length its ≡ 16
+    → (count : ℕ) (t : Tables) → Stands old.now t
+    → Executes insert_many_text (flat_map slot_columns (map (λ it. it.row) its)) old new (Ok count)
+    → Stands new.now (after_all (λ it. with_slot it.row) its t)
+added_many old new its long count t stands h =
+    let rows : List SlotRow = map (λ it. it.row) its in
+    let done = added_numberless slot_columns 4 (λ row. refl) insert_many_text 16 4 slot_table
+    refl insert_many_plain
+    insert_many_is refl (λ taken news. refl)
+    (λ row. rw (cast_null, cast_int row.draft, cast_int row.exam, cast_int row.period, cast_int row.room) refl)
+    old new rows t.slot (length-map its (λ it. it.row) ∙ long) count stands.schema
+    stands.slot h in
+    subst (Stands new.now) (sym (slots_put its t))
+    (slot_changed old.now new.now t stands done.0 (reverse rows ++ t.slot) done.1 done.2)
 
 -- ---- DELETE WHERE draft = ?1
 

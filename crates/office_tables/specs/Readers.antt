@@ -47,13 +47,15 @@ LeavesCommittedIn version store old new =
     HasCleanDisk (state store new) → (t : Tables) → StandsIn version (state store old).now t
     → Keeps (state store old) (state store new)
 
--- these three in version 2
+-- in version 2: what is answered is so
 abbrev pub Reads : {S X : Type 0} → Ghosts S → (Tables → X → Type 0)
     → Held S → Held S → Result X Error → Type 0
 Reads = ReadsIn Two
 
+-- an Ok leaves everything as it was
 abbrev pub LeavesAll : {S X : Type 0} → Ghosts S → Held S → Held S → Result X Error → Type 0
 LeavesAll = LeavesAllIn Two
 
+-- and an Err does but for what was not committed
 abbrev pub LeavesCommitted : {S : Type 0} → Ghosts S → Held S → Held S → Type 0
 LeavesCommitted = LeavesCommittedIn Two

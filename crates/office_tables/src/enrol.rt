@@ -3,6 +3,7 @@ ghost use Rattle.std.specs.Prelude.{◌≡◌, ◌==◌, false, filter, IfSome, 
 ghost use Rattle.std.specs.List.{AllByRecursion};
 ghost use Rattle.sqlite.specs.Held.{state};
 ghost use Rattle.sqlite.specs.State.{Survives};
+ghost use Rattle.sqlite.specs.Values.{bound};
 ghost use Rattle.office_tables.specs.declared.version.Version.{Version};
 ghost use Rattle.office_tables.specs.Enrol.{enrol_columns, with_enrol, without_enrol, FitsEnrol, HerEnrolsRise};
 ghost use Rattle.office_tables.specs.Finders.{Finds, IsFound, Leaves, Looks};
@@ -12,12 +13,13 @@ ghost use Rattle.office_tables.specs.Steps.{Grows, Within};
 ghost use Rattle.office_tables.specs.Readers.{AnswersOpen, LeavesAll, LeavesCommitted, OpensNone, Reads};
 ghost use Rattle.office_tables.specs.Stored.{keyless};
 
-use crate::altering::Alteration;
+use crate::altering::{Alteration, Both, Each};
 use crate::listing::read_table;
 use crate::records::Record;
-use crate::running::run;
+use crate::running::{number, run};
 use crate::streaming::stream_found;
 use sqlite::{Alter, Connection, Error, Row, Transaction, params};
+use sqlite_value::value::ValueRef;
 use std::alloc::Global;
 
 /// A student sits an exam.
@@ -74,8 +76,60 @@ impl Alteration for InsertEnrol {
         run(
             tx,
             "INSERT INTO enrol (student, exam) VALUES (?1, ?2)",
-            params![self.row.student, self.row.exam],
+            &columns(*self),
         )
+    }
+}
+
+/// Adds thirty-two pairs by one statement.
+impl Alteration for [InsertEnrol; 32] {
+    ghost use Rattle.office_tables.specs.Alterations.{after_all};
+
+    ghost alteration = { λ its t. after_all (λ it. with_enrol it.row) its t };
+
+    ghost fits = { λ _. Unit {0} };
+
+    fn apply<S: Alter>(&self, tx: &mut Transaction<'_, S>) -> Result<(), Error> {
+        run(
+            tx,
+            "INSERT INTO enrol (student, exam) VALUES \
+             (?, ?), (?, ?), (?, ?), (?, ?), (?, ?), (?, ?), (?, ?), (?, ?), \
+             (?, ?), (?, ?), (?, ?), (?, ?), (?, ?), (?, ?), (?, ?), (?, ?), \
+             (?, ?), (?, ?), (?, ?), (?, ?), (?, ?), (?, ?), (?, ?), (?, ?), \
+             (?, ?), (?, ?), (?, ?), (?, ?), (?, ?), (?, ?), (?, ?), (?, ?)",
+            self.map(columns).as_flattened(),
+        )
+    }
+}
+
+fn columns(it: InsertEnrol) -> [ValueRef<'static>; 2]
+    ensures { bound result ≡ enrol_columns it.row }
+{
+    [number(it.row.student), number(it.row.exam)]
+}
+
+/// Adds pairs, one after another: thirty-two by a statement, and what is left one by one.
+#[derive(Clone, Copy)]
+pub struct InsertEnrols<'a> {
+    pub rows: &'a [InsertEnrol],
+}
+
+impl Alteration for InsertEnrols<'_> {
+    ghost use Rattle.office_tables.specs.Alterations.{after_all};
+
+    ghost alteration = { λ it t. after_all (λ it. with_enrol it.row) it.rows.now t };
+
+    ghost fits = { λ _. Unit {0} };
+
+    fn apply<S: Alter>(&self, tx: &mut Transaction<'_, S>) -> Result<(), Error> {
+        let (chunks, rest) = self.rows.as_chunks::<32>();
+        let all = Both {
+            first: Each {
+                alterations: chunks,
+            },
+            second: Each { alterations: rest },
+        };
+        all.apply(tx)
     }
 }
 

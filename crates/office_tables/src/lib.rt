@@ -31,17 +31,19 @@ pub use altering::{Alteration, Both, Each, transact};
 pub use batch::{BatchCountsRow, BatchRow, InsertBatch, batch_of};
 pub use creation::{create_tables, is_bare};
 pub use draft::{DeleteDraft, DeleteDrafts, DraftRow, InsertDraft};
-pub use enrol::{DeleteEnrol, EnrolRow, InsertEnrol, enrols_of, find_enrols_of};
+pub use enrol::{DeleteEnrol, EnrolRow, InsertEnrol, InsertEnrols, enrols_of, find_enrols_of};
 pub use found::Found;
 pub use looking::look;
 pub use meta::{DeleteMeta, InsertMeta, MetaRow};
 pub use migrating::migrate;
 pub use owner::{DeleteOwner, InsertOwner, OwnerRow, owners_of};
-pub use placed::{DeletePlacements, InsertPlacement, PlacedRow, placements, placements_of};
-pub use seat::{DeleteStudentSeats, InsertSeat, SeatRow, seats, seats_of};
+pub use placed::{
+    DeletePlacements, InsertPlacement, InsertPlacements, PlacedRow, placements, placements_of,
+};
+pub use seat::{DeleteStudentSeats, InsertSeat, InsertSeats, SeatRow, seats, seats_of};
 pub use share_part::{DeletePartShares, InsertPartShare, PartShareRow, part_shares};
 pub use share_student::{
     DeleteStudentShare, InsertStudentShare, StudentShareRow, student_shares, student_shares_of,
 };
-pub use slot::{DeleteSlot, DeleteSlots, InsertSlot, SlotRow};
+pub use slot::{DeleteSlot, DeleteSlots, InsertSlot, InsertSlots, SlotRow};
 pub use version::Version;

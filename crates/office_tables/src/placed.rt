@@ -2,6 +2,7 @@
 ghost use Rattle.std.specs.Prelude.{◌≡◌, false, IsPermutation};
 ghost use Rattle.sqlite.specs.Held.{state};
 ghost use Rattle.sqlite.specs.State.{Survives};
+ghost use Rattle.sqlite.specs.Values.{bound};
 ghost use Rattle.office_tables.specs.declared.version.Version.{Version};
 ghost use Rattle.office_tables.specs.Placed.{no_placements, placed_columns, placed_of, with_placement, FitsPlacement, PlacementsRise};
 ghost use Rattle.office_tables.specs.Finders.{Finds, IsFound, Leaves, Looks};
@@ -11,12 +12,13 @@ ghost use Rattle.office_tables.specs.Steps.{Grows, Within};
 ghost use Rattle.office_tables.specs.Readers.{AnswersOpen, LeavesAll, LeavesCommitted, OpensNone, Reads};
 ghost use Rattle.office_tables.specs.Stored.{keyed};
 
-use crate::altering::Alteration;
+use crate::altering::{Alteration, Both, Each};
 use crate::listing::read_table;
 use crate::records::Record;
-use crate::running::run;
+use crate::running::{number, run};
 use crate::streaming::stream;
 use sqlite::{Alter, Connection, Error, Row, Transaction, params};
+use sqlite_value::value::ValueRef;
 use std::alloc::Global;
 
 /// Where an exam stands in the publication.
@@ -75,8 +77,64 @@ impl Alteration for InsertPlacement {
         run(
             tx,
             "INSERT INTO placed (exam, period, room) VALUES (?1, ?2, ?3)",
-            params![self.row.exam, self.row.period, self.row.room],
+            &columns(*self),
         )
+    }
+}
+
+/// Adds sixteen placements by one statement.
+impl Alteration for [InsertPlacement; 16] {
+    ghost use Rattle.office_tables.specs.Alterations.{after_all};
+
+    ghost alteration = { λ its t. after_all (λ it. with_placement it.row) its t };
+
+    ghost fits = { λ _. Unit {0} };
+
+    fn apply<S: Alter>(&self, tx: &mut Transaction<'_, S>) -> Result<(), Error> {
+        run(
+            tx,
+            "INSERT INTO placed (exam, period, room) VALUES \
+             (?, ?, ?), (?, ?, ?), (?, ?, ?), (?, ?, ?), \
+             (?, ?, ?), (?, ?, ?), (?, ?, ?), (?, ?, ?), \
+             (?, ?, ?), (?, ?, ?), (?, ?, ?), (?, ?, ?), \
+             (?, ?, ?), (?, ?, ?), (?, ?, ?), (?, ?, ?)",
+            self.map(columns).as_flattened(),
+        )
+    }
+}
+
+fn columns(it: InsertPlacement) -> [ValueRef<'static>; 3]
+    ensures { bound result ≡ placed_columns it.row }
+{
+    [
+        number(it.row.exam),
+        number(it.row.period),
+        number(it.row.room),
+    ]
+}
+
+/// Adds placements, one after another: sixteen by a statement, and what is left one by one.
+#[derive(Clone, Copy)]
+pub struct InsertPlacements<'a> {
+    pub rows: &'a [InsertPlacement],
+}
+
+impl Alteration for InsertPlacements<'_> {
+    ghost use Rattle.office_tables.specs.Alterations.{after_all};
+
+    ghost alteration = { λ it t. after_all (λ it. with_placement it.row) it.rows.now t };
+
+    ghost fits = { λ _. Unit {0} };
+
+    fn apply<S: Alter>(&self, tx: &mut Transaction<'_, S>) -> Result<(), Error> {
+        let (chunks, rest) = self.rows.as_chunks::<16>();
+        let all = Both {
+            first: Each {
+                alterations: chunks,
+            },
+            second: Each { alterations: rest },
+        };
+        all.apply(tx)
     }
 }
 

@@ -2,6 +2,7 @@
 ghost use Rattle.std.specs.Prelude.{◌≡◌, ◌==◌, false, filter, IsPermutation};
 ghost use Rattle.sqlite.specs.Held.{state};
 ghost use Rattle.sqlite.specs.State.{Survives};
+ghost use Rattle.sqlite.specs.Values.{bound};
 ghost use Rattle.office_tables.specs.declared.version.Version.{Version};
 ghost use Rattle.office_tables.specs.Finders.{Finds, IsFound, Leaves, Looks};
 ghost use Rattle.office_tables.specs.Schema.{schema_6, schema_7, IsBlank};
@@ -11,12 +12,13 @@ ghost use Rattle.office_tables.specs.Steps.{Grows, Within};
 ghost use Rattle.office_tables.specs.Readers.{AnswersOpen, LeavesAll, LeavesCommitted, OpensNone, Reads};
 ghost use Rattle.office_tables.specs.Stored.{keyless};
 
-use crate::altering::Alteration;
+use crate::altering::{Alteration, Both, Each};
 use crate::listing::read_table;
 use crate::records::Record;
-use crate::running::run;
+use crate::running::{number, run};
 use crate::streaming::stream;
 use sqlite::{Alter, Connection, Error, Row, Transaction, params};
+use sqlite_value::value::ValueRef;
 use std::alloc::Global;
 
 /// A published seat; seats count from 1 in each room and period.
@@ -77,12 +79,69 @@ impl Alteration for InsertSeat {
     ghost fits = { λ _. Unit {0} };
 
     fn apply<S: Alter>(&self, tx: &mut Transaction<'_, S>) -> Result<(), Error> {
-        let row = self.row;
         run(
             tx,
             "INSERT INTO seat (student, exam, period, room, seat) VALUES (?1, ?2, ?3, ?4, ?5)",
-            params![row.student, row.exam, row.period, row.room, row.seat],
+            &columns(*self),
         )
+    }
+}
+
+/// Adds sixteen seats by one statement.
+impl Alteration for [InsertSeat; 16] {
+    ghost use Rattle.office_tables.specs.Alterations.{after_all};
+
+    ghost alteration = { λ its t. after_all (λ it. with_seat it.row) its t };
+
+    ghost fits = { λ _. Unit {0} };
+
+    fn apply<S: Alter>(&self, tx: &mut Transaction<'_, S>) -> Result<(), Error> {
+        run(
+            tx,
+            "INSERT INTO seat (student, exam, period, room, seat) VALUES \
+             (?, ?, ?, ?, ?), (?, ?, ?, ?, ?), (?, ?, ?, ?, ?), (?, ?, ?, ?, ?), \
+             (?, ?, ?, ?, ?), (?, ?, ?, ?, ?), (?, ?, ?, ?, ?), (?, ?, ?, ?, ?), \
+             (?, ?, ?, ?, ?), (?, ?, ?, ?, ?), (?, ?, ?, ?, ?), (?, ?, ?, ?, ?), \
+             (?, ?, ?, ?, ?), (?, ?, ?, ?, ?), (?, ?, ?, ?, ?), (?, ?, ?, ?, ?)",
+            self.map(columns).as_flattened(),
+        )
+    }
+}
+
+fn columns(it: InsertSeat) -> [ValueRef<'static>; 5]
+    ensures { bound result ≡ seat_columns it.row }
+{
+    [
+        number(it.row.student),
+        number(it.row.exam),
+        number(it.row.period),
+        number(it.row.room),
+        number(it.row.seat),
+    ]
+}
+
+/// Adds seats, one after another: sixteen by a statement, and what is left one by one.
+#[derive(Clone, Copy)]
+pub struct InsertSeats<'a> {
+    pub rows: &'a [InsertSeat],
+}
+
+impl Alteration for InsertSeats<'_> {
+    ghost use Rattle.office_tables.specs.Alterations.{after_all};
+
+    ghost alteration = { λ it t. after_all (λ it. with_seat it.row) it.rows.now t };
+
+    ghost fits = { λ _. Unit {0} };
+
+    fn apply<S: Alter>(&self, tx: &mut Transaction<'_, S>) -> Result<(), Error> {
+        let (chunks, rest) = self.rows.as_chunks::<16>();
+        let all = Both {
+            first: Each {
+                alterations: chunks,
+            },
+            second: Each { alterations: rest },
+        };
+        all.apply(tx)
     }
 }
 

@@ -1,6 +1,7 @@
 // Where exams stand in drafts.
 ghost use Rattle.std.specs.Prelude.{◌≡◌};
 ghost use Rattle.sqlite.specs.Held.{state};
+ghost use Rattle.sqlite.specs.Values.{bound};
 ghost use Rattle.office_tables.specs.declared.version.Version.{Version};
 ghost use Rattle.office_tables.specs.Finders.{Finds, IsFound, Leaves, Looks};
 ghost use Rattle.office_tables.specs.Schema.{schema_4, schema_5, IsBlank};
@@ -8,11 +9,12 @@ ghost use Rattle.office_tables.specs.Slot.{slot_columns, with_slot, without_slot
 ghost use Rattle.office_tables.specs.Steps.{Grows, Within};
 ghost use Rattle.office_tables.specs.Stored.{keyless};
 
-use crate::altering::Alteration;
+use crate::altering::{Alteration, Both, Each};
 use crate::listing::read_table;
 use crate::records::Record;
-use crate::running::run;
+use crate::running::{number, run};
 use sqlite::{Alter, Connection, Error, Row, Transaction, params};
+use sqlite_value::value::ValueRef;
 use std::alloc::Global;
 
 /// Where an exam stands in a draft.
@@ -73,13 +75,65 @@ impl Alteration for InsertSlot {
         run(
             tx,
             "INSERT INTO slot (draft, exam, period, room) VALUES (?1, ?2, ?3, ?4)",
-            params![
-                self.row.draft,
-                self.row.exam,
-                self.row.period,
-                self.row.room
-            ],
+            &columns(*self),
         )
+    }
+}
+
+/// Adds sixteen placements by one statement.
+impl Alteration for [InsertSlot; 16] {
+    ghost use Rattle.office_tables.specs.Alterations.{after_all};
+
+    ghost alteration = { λ its t. after_all (λ it. with_slot it.row) its t };
+
+    ghost fits = { λ _. Unit {0} };
+
+    fn apply<S: Alter>(&self, tx: &mut Transaction<'_, S>) -> Result<(), Error> {
+        run(
+            tx,
+            "INSERT INTO slot (draft, exam, period, room) VALUES \
+             (?, ?, ?, ?), (?, ?, ?, ?), (?, ?, ?, ?), (?, ?, ?, ?), \
+             (?, ?, ?, ?), (?, ?, ?, ?), (?, ?, ?, ?), (?, ?, ?, ?), \
+             (?, ?, ?, ?), (?, ?, ?, ?), (?, ?, ?, ?), (?, ?, ?, ?), \
+             (?, ?, ?, ?), (?, ?, ?, ?), (?, ?, ?, ?), (?, ?, ?, ?)",
+            self.map(columns).as_flattened(),
+        )
+    }
+}
+
+fn columns(it: InsertSlot) -> [ValueRef<'static>; 4]
+    ensures { bound result ≡ slot_columns it.row }
+{
+    [
+        number(it.row.draft),
+        number(it.row.exam),
+        number(it.row.period),
+        number(it.row.room),
+    ]
+}
+
+/// Adds placements, one after another: sixteen by a statement, and what is left one by one.
+#[derive(Clone, Copy)]
+pub struct InsertSlots<'a> {
+    pub rows: &'a [InsertSlot],
+}
+
+impl Alteration for InsertSlots<'_> {
+    ghost use Rattle.office_tables.specs.Alterations.{after_all};
+
+    ghost alteration = { λ it t. after_all (λ it. with_slot it.row) it.rows.now t };
+
+    ghost fits = { λ _. Unit {0} };
+
+    fn apply<S: Alter>(&self, tx: &mut Transaction<'_, S>) -> Result<(), Error> {
+        let (chunks, rest) = self.rows.as_chunks::<16>();
+        let all = Both {
+            first: Each {
+                alterations: chunks,
+            },
+            second: Each { alterations: rest },
+        };
+        all.apply(tx)
     }
 }
 

@@ -8,10 +8,4 @@ returns-clause-makes g c clean inside =
     let old = state g.S.Store c.args.tx.now.conn.now in
     let new = state g.S.Store c.run.new.tx.conn.now in
     changes_by _ _ _ old new c.run.result (seat_added old new c.args.self.now.row)
-    (rw (
-      c.params-to_sql.ensures,
-      c.params-to_sql-2.ensures,
-      c.params-to_sql-3.ensures,
-      c.params-to_sql-4.ensures,
-      c.params-to_sql-5.ensures,
-    ) at (c.run.ensures.ran clean inside))
+    (rw (c.columns.ensures) at (c.run.ensures.ran clean inside))
