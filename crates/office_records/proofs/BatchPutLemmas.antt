@@ -19,7 +19,7 @@ use Rattle.office_enrolment.specs.Keeping.{records_with_batch}
 use Rattle.office_enrolment.proofs.RowLemmas.{rows_after_batch}
 use Rattle.office_records.specs.BatchRows.{batch_put, enrol_rows}
 use Rattle.office_records.specs.Found.{AreDrafts}
-use Rattle.office_records.specs.Stands.{IsSound, StandsLoaded, parts_of}
+use Rattle.office_records.specs.Stands.{IsSound, NoneOverNight, StandsLoaded, parts_of}
 use Rattle.office_records.specs.TableRows.{stored_batch}
 use Rattle.office_records.proofs.SameTables.{few_once, few_read}
 
@@ -55,8 +55,13 @@ module _ (number : ℕ) (bytes : List ℕ) (changes : List Change) (r : Records)
   }
 
   -- and are sound: what is published, and its shares, stays
-  pub batch_sound : IsSound t (Some r) → IsSound put (Some (records_with_batch number bytes r done))
-  batch_sound h = record { scored = again.scored; shared = h.shared }
+  pub batch_sound : NoneOverNight drafts → IsSound t (Some r)
+      → IsSound put (Some (records_with_batch number bytes r done))
+  batch_sound none h = record {
+    scored = again.scored;
+    none_over_night = none;
+    shared = h.shared;
+  }
 
 -- ---- drafts
 

@@ -18,14 +18,16 @@ use Rattle.office_files.specs.CanonicalText.{canonical_instance}
 use Rattle.office_files.specs.InstanceText.{instance_in}
 use Rattle.office_files.proofs.CanonicalInstance.{instance_same}
 use Rattle.office_tables.specs.Tables.{Tables, Meta}
-use Rattle.office_tables.specs.Standing.{Stands}
+use Rattle.office_tables.specs.Standing.{StandsIn}
+use Rattle.office_tables.specs.declared.version.Version.{Version}
+use Rattle.office_tables.specs.declared.version.Version.TheVariants.{Two}
 use Rattle.office_tables.specs.Stored.{Holds, keyed, keyless}
 use Rattle.office_tables.specs.Meta.{meta_columns, flag}
 use Rattle.office_tables.specs.Enrol.{enrol_columns}
 use Rattle.office_tables.specs.declared.enrol.EnrolRow.{EnrolRow}
 use Rattle.office_model.specs.Office.{OfficeState, Records, AreRecords, AreEnrolled}
 use Rattle.office_records.specs.Memory.{memory_of}
-use Rattle.office_records.specs.Stands.{IsKept, StandsForOffice, StandsLoaded}
+use Rattle.office_records.specs.Stands.{IsKept, StandsForOffice, StandsLoaded, IsKeptIn}
 use Rattle.office_records.specs.TableRows.{enrol_row, meta_row}
 
 -- ---- the rows of a table
@@ -70,9 +72,9 @@ unfolding is_one
 flags true = refl
 flags false = refl
 
-pub meta_is : (m : Meta) → meta_back (meta_columns m) ≡ m
+pub meta_is : (version : Version) (m : Meta) → meta_back (meta_columns version m) ≡ m
 unfolding meta_back blob_of
-meta_is m = ap (λ b. record { published = b; instance = m.instance }) (flags m.published)
+meta_is version m = ap (λ b. record { published = b; instance = m.instance }) (flags m.published)
 
 no_students : (n e : ℕ) → students (no_pairs n) e ≡ []
 no_students zero e = refl
@@ -143,9 +145,10 @@ same_enrolments I E F e f p =
 
 -- ---- both
 
-module _ (db : Database) (p q : Tables) (held : Stands db p) (held2 : Stands db q) where
+module _ (version : Version) (db : Database) (p q : Tables) (held : StandsIn version db p)
+    (held2 : StandsIn version db q) where
   metas : IsPermutation p.meta q.meta
-  metas = same_rows keyed meta_columns meta_back meta_is p.meta q.meta
+  metas = same_rows keyed (meta_columns version) meta_back (meta_is version) p.meta q.meta
       (db.trees 0) held.meta held2.meta
 
   enrols : IsPermutation p.enrol q.enrol
@@ -177,12 +180,16 @@ module _ (db : Database) (p q : Tables) (held : Stands db p) (held2 : Stands db 
       ap (λ I. Some (I, r.enrolments)) sessions ∙ ap (λ E. Some (s.session, E)) sets
 
 -- a database stands for one session with one set of enrolments
+pub same_memory_in : (version : Version) (db : Database) (o p : OfficeState)
+    → IsKeptIn version db o → IsKeptIn version db p → memory_of o ≡ memory_of p
+same_memory_in version db None None a b = refl
+same_memory_in version db None (Some s) a b =
+    absurd (nothing_loaded version db a.held b.held a.tables b.tables s a.stands b.stands)
+same_memory_in version db (Some r) None a b =
+    absurd (nothing_loaded version db b.held a.held b.tables a.tables r b.stands a.stands)
+same_memory_in version db (Some r) (Some s) a b =
+    loaded_same version db a.held b.held a.tables b.tables r s a.stands b.stands a.office b.office
+
 pub same_memory : (db : Database) (o p : OfficeState) → IsKept db o → IsKept db p
     → memory_of o ≡ memory_of p
-same_memory db None None a b = refl
-same_memory db None (Some s) a b =
-    absurd (nothing_loaded db a.held b.held a.tables b.tables s a.stands b.stands)
-same_memory db (Some r) None a b =
-    absurd (nothing_loaded db b.held a.held b.tables a.tables r b.stands a.stands)
-same_memory db (Some r) (Some s) a b =
-    loaded_same db a.held b.held a.tables b.tables r s a.stands b.stands a.office b.office
+same_memory = same_memory_in Two

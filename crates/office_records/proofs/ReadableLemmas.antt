@@ -32,6 +32,8 @@ use Rattle.exam_publish.specs.declared.share_lists.RoomShare.{RoomShare}
 use Rattle.exam_publish.proofs.PlaceLemmas.{row_exists, rows_exist}
 use Rattle.exam_publish.proofs.RowLemmas.{pairs_in, rows_numbered}
 use Rattle.exam_score.specs.Penalty.{PersonalPenalty}
+use Rattle.office_tables.specs.declared.version.Version.{Version}
+use Rattle.office_tables.specs.declared.version.Version.TheVariants.{Two}
 use Rattle.office_tables.specs.Adopting.{AreReadable, IsForeign}
 use Rattle.office_tables.specs.Owner.{FitsOwner}
 use Rattle.office_tables.specs.Enrol.{FitsEnrol}
@@ -51,7 +53,7 @@ use Rattle.office_model.specs.Publishing.{rows_now}
 use Rattle.office_records.specs.Publications.{placed_from, placed_rows, stored_seat}
 use Rattle.office_records.specs.PartShares.{part_rows, part_share_rows, plain_rows, room_rows}
 use Rattle.office_records.specs.SharesStored.{student_share_row, student_share_rows}
-use Rattle.office_records.specs.Stands.{IsKept, IsSound, StandsForOffice}
+use Rattle.office_records.specs.Stands.{IsKept, IsSound, StandsForOffice, IsKeptIn}
 use Rattle.office_records.specs.TableRows.{some_dept, once, slot_rows, slots_from, enrol_row}
 
 -- ---- lists
@@ -353,7 +355,12 @@ are_readable t (Some r) stands sound is = record {
   batch = stands.batches.fit;
 }
 
--- a database that stands for an office is not foreign
+-- a database that stands for an office, in any version, is not foreign
+pub not_foreign_in : (version : Version) (db : Database) (o : OfficeState) → IsKeptIn version db o
+    → IsForeign db → ⊥
+not_foreign_in version db o kept foreign =
+    foreign version kept.held (are_readable kept.held o kept.stands kept.sound kept.office)
+    kept.tables
+
 pub not_foreign : (db : Database) (o : OfficeState) → IsKept db o → IsForeign db → ⊥
-not_foreign db o kept foreign =
-    foreign kept.held (are_readable kept.held o kept.stands kept.sound kept.office) kept.tables
+not_foreign = not_foreign_in Two

@@ -18,7 +18,7 @@ use Rattle.office_records.specs.Found.{AreOwners, ArePublication, IsSessionRow, 
 use Rattle.office_model.specs.Office.{OfficeState, Publication, Records, AreKept, AreRecords, IsOffice, IsPublication}
 use Rattle.office_records.specs.FoundPublications.{ArePublished}
 use Rattle.office_records.specs.Memory.{memory_of}
-use Rattle.office_records.specs.Stands.{IsSound, StandsForOffice, StandsLoaded}
+use Rattle.office_records.specs.Stands.{IsSound, StandsForOffice, StandsLoaded, NoneOverNight}
 use Rattle.office_records.specs.TableRows.{meta_row}
 use Rattle.office_records.proofs.BatchRowLemmas.{batch_rows, batches_kept, batches_stand}
 use Rattle.office_records.proofs.BatchRowLemmas.{kept_batch, no_batches}
@@ -99,10 +99,11 @@ module _ (found : Found) (batches : List Batch) where
       → AreEnrolRows I found.enrols.items E
       → (draft : ℕ → Option Placing) × AreDrafts I E found.drafts.items found.slots.items draft
       → (published : Option Publication) × IsPublished I published
-      → AreBatchRows found.batches.items → AreFoundBatches found.batches.items batches
+      → AreBatchRows found.batches.items → NoneOverNight found.drafts.items
+      → AreFoundBatches found.batches.items batches
       → (office : OfficeState) × StandsForOffice t office × IsSound t office × IsOffice office
       × (memory_of office ≡ Some (I, E))
-  office_of I E session owners enrols drafts published kept these = (
+  office_of I E session owners enrols drafts published kept none these = (
     Some (record {
       session = I;
       owner_of = owners.0;
@@ -120,7 +121,11 @@ module _ (found : Found) (batches : List Batch) where
       published = published.1.rows.stands;
       batches = batches_stand found.batches.items batches kept these.rows;
     },
-    record { scored = drafts.1.scored; shared = published.1.shared },
+    record {
+      scored = drafts.1.scored;
+      none_over_night = none;
+      shared = published.1.shared;
+    },
     record {
       session = session.session;
       enrolled = enrols.enrolled;
@@ -141,6 +146,9 @@ module _ (found : Found) (batches : List Batch) where
     pub kept_rows : map counts_of batches ≡ found.batches.items → AreBatchRows found.batches.items
     kept_rows rows =
         batch_rows found.batches.items batches r.batches rows stands.batches is.batches
+
+    pub none_over_night : NoneOverNight found.drafts.items
+    none_over_night = sound.none_over_night
 
     pub session_row : IsSessionRow (meta_from found.meta) r.session
     session_row = record {

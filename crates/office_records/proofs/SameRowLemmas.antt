@@ -24,20 +24,31 @@ four_same : (k l m n : ℕ) → (eqb k k && (eqb l l && (eqb m m && eqb n n))) �
 four_same k l m n =
     both_true _ _ (same k) (both_true _ _ (same l) (both_true _ _ (same m) (same n)))
 
+five_true : (p q r s t : Bool) → (p && (q && (r && (s && t)))) ≡ true
+    → (p ≡ true) × (q ≡ true) × (r ≡ true) × (s ≡ true) × (t ≡ true)
+five_true true q r s t h =
+    let rest = each_true q r s t h in (refl, rest.0, rest.1, rest.2, rest.3)
+five_true false q r s t h = cc
+
+five_same : (k l m n o : ℕ)
+    → (eqb k k && (eqb l l && (eqb m m && (eqb n n && eqb o o)))) ≡ true
+five_same k l m n o = both_true _ _ (same k) (four_same l m n o)
+
 pub student_decides : (a b : StudentShareRow) → Decides (student.eq-value.it a b) (a ≡ b)
 student_decides a b = (
   λ equal.
-      let each = each_true (eqb a.student b.student) (eqb a.in_row b.in_row)
-      (eqb a.in_day b.in_day) (eqb a.spread b.spread) equal in
+      let each = five_true (eqb a.student b.student) (eqb a.in_row b.in_row)
+      (eqb a.in_day b.in_day) (eqb a.spread b.spread) (eqb a.night b.night) equal in
       λ i. record {
         student = eqb-true a.student b.student each.0 i;
         in_row = eqb-true a.in_row b.in_row each.1 i;
         in_day = eqb-true a.in_day b.in_day each.2 i;
         spread = eqb-true a.spread b.spread each.3 i;
+        night = eqb-true a.night b.night each.4 i;
       },
   λ is.
       subst (λ (other : StudentShareRow). student.eq-value.it a other ≡ true) is
-      (four_same a.student a.in_row a.in_day a.spread),
+      (five_same a.student a.in_row a.in_day a.spread a.night),
 )
 
 pub part_decides : (a b : PartShareRow) → Decides (part.eq-value.it a b) (a ≡ b)

@@ -11,7 +11,10 @@ use Rattle.sqlite_trees.proofs.ListLemmas.{IsPermutation-filter, all-permutation
 use Rattle.office_tables.specs.Batch.{FitsBatch, batch_columns}
 use Rattle.office_tables.specs.Tables.{Tables, Meta, empty_tables}
 use Rattle.office_tables.specs.Stored.{Holds, keyed, keyless}
-use Rattle.office_tables.specs.Standing.{Stands}
+use Rattle.office_tables.specs.Standing.{Stands, StandsIn}
+use Rattle.office_tables.specs.declared.version.Version.{Version}
+use Rattle.office_tables.specs.declared.version.Version.TheVariants.{Two}
+use Rattle.office_tables.proofs.SameRows.{same_drafts, same_student_shares}
 use Rattle.office_tables.specs.Owner.{owner_columns}
 use Rattle.office_tables.specs.Enrol.{enrol_columns}
 use Rattle.office_tables.specs.Draft.{draft_columns}
@@ -89,9 +92,10 @@ all_empty t m o e d s p z x y b = λ i. record {
   batch = b i;
 }
 
-module _ (db : Database) (t u : Tables) (p : Stands db t) (q : Stands db u) where
+module _ (version : Version) (db : Database) (t u : Tables) (p : StandsIn version db t)
+    (q : StandsIn version db u) where
   metas : IsPermutation t.meta u.meta
-  metas = same_rows keyed meta_columns meta_back meta_is _ _ _ p.meta q.meta
+  metas = same_rows keyed (meta_columns version) meta_back (meta_is version) _ _ _ p.meta q.meta
 
   owners : IsPermutation t.owner u.owner
   owners = same_rows keyed owner_columns owner_of (λ r. refl) _ _ _ p.owner q.owner
@@ -100,7 +104,7 @@ module _ (db : Database) (t u : Tables) (p : Stands db t) (q : Stands db u) wher
   enrols = same_rows keyless enrol_columns enrol_of (λ r. refl) _ _ _ p.enrol q.enrol
 
   drafts : IsPermutation t.draft u.draft
-  drafts = same_rows keyed draft_columns draft_of (λ r. refl) _ _ _ p.draft q.draft
+  drafts = same_drafts version db t u p q
 
   slots : IsPermutation t.slot u.slot
   slots = same_rows keyless slot_columns slot_of (λ r. refl) _ _ _ p.slot q.slot
@@ -112,9 +116,7 @@ module _ (db : Database) (t u : Tables) (p : Stands db t) (q : Stands db u) wher
   seats = same_rows keyless seat_columns seat_of (λ r. refl) _ _ _ p.seat q.seat
 
   student_shares : IsPermutation t.share_student u.share_student
-  student_shares =
-      same_rows keyed share_student_columns student_share_of (λ r. refl) _ _ _ p.share_student
-      q.share_student
+  student_shares = same_student_shares version db t u p q
 
   part_shares : IsPermutation t.share_part u.share_part
   part_shares =
@@ -181,18 +183,29 @@ module _ (db : Database) (t u : Tables) (p : Stands db t) (q : Stands db u) wher
   }
 
   -- they stand for the same offices
-  pub same_stands : (o : OfficeState) → StandsForOffice t o → StandsForOffice u o
-  same_stands None h = empty h
-  same_stands (Some r) h = loaded r h
+  pub same_stands_in : (o : OfficeState) → StandsForOffice t o → StandsForOffice u o
+  same_stands_in None h = empty h
+  same_stands_in (Some r) h = loaded r h
 
   -- and are as sound
-  pub same_sound : (o : OfficeState) → IsSound t o → IsSound u o
-  same_sound None h = tt
-  same_sound (Some r) h = record {
+  pub same_sound_in : (o : OfficeState) → IsSound t o → IsSound u o
+  same_sound_in None h = tt
+  same_sound_in (Some r) h = record {
     scored = all-permutation (IsScoredRow r) _ _ drafts h.scored;
+    none_over_night = all-permutation (λ (row : DraftRow). row.night ≡ 0) _ _ drafts
+        h.none_over_night;
     shared = record {
       of_students = IsPermutation-trans _ _ _ (IsPermutation-sym _ _ student_shares)
           h.shared.of_students;
       of_parts = IsPermutation-trans _ _ _ (IsPermutation-sym _ _ part_shares) h.shared.of_parts;
     };
   }
+
+-- the same of version 2
+pub same_stands : (db : Database) (t u : Tables) → Stands db t → Stands db u → (o : OfficeState)
+    → StandsForOffice t o → StandsForOffice u o
+same_stands = same_stands_in Two
+
+pub same_sound : (db : Database) (t u : Tables) → Stands db t → Stands db u → (o : OfficeState)
+    → IsSound t o → IsSound u o
+same_sound = same_sound_in Two

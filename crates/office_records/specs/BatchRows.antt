@@ -28,6 +28,7 @@ pub record IsRescored (I : Session) (E : Enrolled) (places : List SlotRow) (row 
   pub timetable : Placing
   pub slots : AreSlots I row.no places timetable
   pub parts : parts_of row ≡ track I E timetable
+  pub night : row.night ≡ 0
 
 -- the tables after these lines, with these rows of drafts and one batch more
 abbrev pub batch_put : List Change → List DraftRow → Batch → Tables → Tables

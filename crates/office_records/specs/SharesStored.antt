@@ -12,13 +12,14 @@ use Rattle.office_records.specs.PartShares.{part_rows, part_share_rows}
 
 -- ---- the rows of shares
 
--- a candidate's share
+-- a candidate's share; nothing is over night
 abbrev pub student_share_row : ℕ × PersonalPenalty → StudentShareRow
 student_share_row share = record {
   student = share.0;
   in_row = share.1.row;
   in_day = share.1.day;
   spread = share.1.spread;
+  night = 0;
 }
 
 -- a number that a student can have, and a total below the limit

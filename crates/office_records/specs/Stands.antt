@@ -10,6 +10,8 @@ use Rattle.office_tables.specs.Standing as tables
 use Rattle.office_tables.specs.Batch.{FitsBatch}
 use Rattle.office_tables.specs.Tables.{Tables, Batch, empty_tables}
 use Rattle.office_tables.specs.declared.draft.DraftRow.{DraftRow}
+use Rattle.office_tables.specs.declared.version.Version.{Version}
+use Rattle.office_tables.specs.declared.version.Version.TheVariants.{One, Two}
 use Rattle.office_model.specs.Office.{OfficeState, Records, KeptBatch, IsOffice}
 use Rattle.office_records.specs.Publications.{StandsPublished}
 use Rattle.office_records.specs.SharesStored.{AreShared}
@@ -39,7 +41,11 @@ StandsForOffice t (Some r) = StandsLoaded t r
 
 -- ---- soundness
 
--- the seven parts of the penalty that a draft's row has
+-- no draft costs anything over night
+abbrev pub NoneOverNight : List DraftRow → Type 0
+NoneOverNight = AllByRecursion (λ row. row.night ≡ 0)
+
+-- the other seven parts of the penalty that a draft's row has
 abbrev pub parts_of : DraftRow → Penalty
 parts_of row = record {
   row = row.in_row;
@@ -59,6 +65,7 @@ IsScoredRow r row =
 -- each draft's row has its penalty, and the rows of shares are those of the publication
 pub record AreSound (t : Tables) (r : Records) : Type 0 where
   pub scored : AllByRecursion (IsScoredRow r) t.draft
+  pub none_over_night : NoneOverNight t.draft
   pub shared : AreShared r.session r.published t.share_student t.share_part
 
 -- where nothing is loaded there is nothing to be sound
@@ -68,10 +75,18 @@ IsSound t (Some r) = AreSound t r
 
 -- ---- a database
 
--- the database's tables stand for this office, and are sound
-pub record IsKept (db : Database) (o : OfficeState) : Type 0 where
+-- the database's tables stand for this office in this version, and are sound
+pub record IsKeptIn (version : Version) (db : Database) (o : OfficeState) : Type 0 where
   pub held : Tables
-  pub tables : tables.Stands db held
+  pub tables : tables.StandsIn version db held
   pub stands : StandsForOffice held o
   pub sound : IsSound held o
   pub office : IsOffice o
+
+-- the database is that of an office
+abbrev pub IsKept : Database → OfficeState → Type 0
+IsKept = IsKeptIn Two
+
+-- it is that of an office in version 1
+abbrev pub IsKeptBefore : Database → OfficeState → Type 0
+IsKeptBefore = IsKeptIn One

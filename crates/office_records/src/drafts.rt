@@ -1,13 +1,13 @@
 // Rows of drafts.
 ghost use Rattle.std.specs.Prelude.{◌≡◌, ◌≢◌, ◌≤◌, ◌↔◌, ◌==◌, ℕ, length};
-ghost use Rattle.std.specs.Prelude.{All, IfErr, IsTrue, OnOk, Option};
+ghost use Rattle.std.specs.Prelude.{All, IfErr, IsTrue, OnErr, OnOk, Option};
 ghost use Rattle.std.specs.List.{list_all, list_any};
 ghost use Rattle.exam_terms.specs.declared.limits.TheConstants.{MAX_DRAFTS};
 ghost use Rattle.exam_model.specs.Timetable.{Placing};
 ghost use Rattle.exam_score.specs.Track.{track};
 ghost use Rattle.office_tables.specs.Draft.{AreAmounts};
 ghost use Rattle.office_records.specs.Found.{AreDrafts, AreSlots};
-ghost use Rattle.office_records.specs.Stands.{parts_of};
+ghost use Rattle.office_records.specs.Stands.{parts_of, NoneOverNight};
 
 use crate::fault::RecordFault;
 use crate::timetable::timetable_of;
@@ -106,10 +106,29 @@ fn are_parts(row: &DraftRow, parts: &Parts) -> bool
         && row.room == parts.room()
 }
 
-/// The row that stores a draft's penalty.
+// Whether no draft costs anything over night. `BadRows`: one does.
+pub(crate) fn check_nights(rows: &[DraftRow]) -> Result<(), RecordFault>
+    ensures are { OnOk result (NoneOverNight rows.now) }
+    ensures none { OnErr result (NoneOverNight rows.now → ⊥) }
+{
+    if have_no_night(rows) {
+        Ok(())
+    } else {
+        Err(RecordFault::BadRows)
+    }
+}
+
+fn have_no_night(rows: &[DraftRow]) -> bool
+    ensures { result ≡ list_all (λ row. row.night == 0) rows.now }
+{
+    rows.iter().all(|row| row.night == 0)
+}
+
+/// The row that stores a draft's penalty, with nothing over night.
 pub fn draft_row(number: u32, parts: Parts) -> DraftRow
     ensures number { result.no ≡ number }
     ensures parts { parts_of result ≡ parts }
+    ensures night { result.night ≡ 0 }
     ensures amounts { AreAmounts result }
 {
     DraftRow {
@@ -121,5 +140,6 @@ pub fn draft_row(number: u32, parts: Parts) -> DraftRow
         front: parts.front(),
         period: parts.period(),
         room: parts.room(),
+        night: 0,
     }
 }

@@ -10,7 +10,7 @@ ghost use Rattle.office_records.specs.Memory.{AreTogether, memory_of};
 ghost use Rattle.office_records.specs.Stands.{IsSound, StandsForOffice};
 
 use crate::batches::check_batches;
-use crate::drafts::check_drafts;
+use crate::drafts::{check_drafts, check_nights};
 use crate::enrolments::enrolments_of;
 use crate::fault::RecordFault;
 use crate::owners::check_owners;
@@ -20,8 +20,9 @@ use exam_model::{Enrolments, Instance};
 use office_tables::Found;
 use std::alloc::Global;
 
-/// What an office keeps in memory of the rows that stand for it, whose batches are no longer than
-/// texts may be. `BadRows`: they stand for no office, however long the batches are.
+/// What an office keeps in memory of the rows that stand for it, in either version of the file, and
+/// whose batches are no longer than texts may be. `BadRows`: they stand for no office, however long
+/// the batches are.
 pub fn kept_of(alloc: Global, found: &Found) -> Result<Option<(Instance, Enrolments)>, RecordFault>
     ensures are { IfOk result (λ kept. (batches : List Batch)
         → AreFoundBatches found.now.batches.items batches
@@ -43,6 +44,7 @@ pub fn kept_of(alloc: Global, found: &Found) -> Result<Option<(Instance, Enrolme
     check_drafts(alloc, &instance, &enrolments, &found.drafts, &found.slots)?;
     check_published(alloc, &instance, found)?;
     check_batches(&found.batches)?;
+    check_nights(&found.drafts)?;
     Ok(Some((instance, enrolments)))
 }
 

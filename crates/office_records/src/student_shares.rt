@@ -60,6 +60,7 @@ fn share_row(share: (StudentNo, PersonalParts)) -> StudentShareRow
         in_row: share.1.row(),
         in_day: share.1.day(),
         spread: share.1.spread(),
+        night: 0,
     }
 }
 
@@ -87,7 +88,8 @@ pub(crate) fn students_in_order(
     Ok(sorted)
 }
 
-// The shares that rows are, in their order. `BadRows`: a number or an amount is beyond its limit.
+// The shares that rows are, in their order. `BadRows`: a number or an amount is beyond its limit,
+// or one is over night.
 pub(crate) fn personal_shares(
     alloc: Global,
     rows: &[StudentShareRow],
@@ -107,12 +109,15 @@ pub(crate) fn personal_shares(
     Ok(shares)
 }
 
-// The share that a row is, unless a number or an amount is beyond its limit.
+// The share that a row is, unless a number or an amount is beyond its limit or one is over night.
 fn personal_share(row: StudentShareRow) -> Option<(StudentNo, PersonalParts)>
     ensures some { IfSome result (λ share. student_share_row share ≡ row) }
     ensures none { IfNone result ((share : ℕ × PersonalPenalty) → IsShare share
         → student_share_row share ≡ row → ⊥) }
 {
+    if row.night != 0 {
+        return None;
+    }
     let student = StudentNo::new(row.student)?;
     let parts = PersonalParts::new(row.in_row, row.in_day, row.spread)?;
     Some((student, parts))
