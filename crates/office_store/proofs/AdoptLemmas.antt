@@ -1,42 +1,39 @@
--- What a reader leaves that looks at all tables.
-use Rattle.std.proofs.Common.{◌≡◌, ◌≢◌, ◌⊎◌, inl, inr, false, List, [], ◌∷◌, map, IsTrue}
-use Rattle.std.proofs.Common.{refl, sym, ◌∙◌, arith, subst}
-use Rattle.std.specs.Prelude.{All, AllPairs}
+-- What a reader leaves that looks at all tables, and what their migration makes of them.
+use Rattle.std.proofs.Common.{◌≡◌, ◌≢◌, ◌⊎◌, inl, inr, false, List, [], ◌∷◌, map, length, IsTrue}
+use Rattle.std.proofs.Common.{ap, refl, sym, ◌∙◌, arith, subst}
+use Rattle.std.specs.Prelude.{All, AllPairs, IfErr, Result}
 use Rattle.std.proofs.lemmas.List.Elements.{All-from_recursion}
 use Rattle.std.proofs.lemmas.List.Kept.{AllPairs-cons}
-use Rattle.sqlite_trees.specs.Tree.{IsAscending}
+use Rattle.sqlite_schema.specs.declared.schema.Schema.{Schema}
+use Rattle.sqlite.proofs.StateLemmas.{survives_then}
+use Rattle.sqlite_trees.specs.Tree.{IsAscending, Trees}
 use Rattle.sqlite.specs.Effect.{Database}
 use Rattle.sqlite.specs.Held.{Held, state}
-use Rattle.sqlite.specs.State.{State, IsUnchanged}
+use Rattle.sqlite.specs.State.{HasCleanDisk, IsUnchanged, State, Survives}
 use Rattle.sqlite.specs.Store.{Ghosts}
+use Rattle.office_schema.specs.Schema.{office_schema, schema_before}
 use Rattle.office_tables.specs.Adopting.{tables_of}
 use Rattle.office_tables.specs.Batch.{counts_of, batch_columns}
 use Rattle.office_tables.specs.Readers.{Keeps}
 use Rattle.office_tables.specs.Tables.{Batch, Tables}
-use Rattle.office_tables.specs.Standing.{Stands}
+use Rattle.office_tables.specs.Standing.{Stands, StandsIn}
+use Rattle.office_tables.specs.Versions.{schema_of}
 use Rattle.office_tables.specs.declared.found.Found.{Found}
+use Rattle.office_tables.specs.declared.version.Version.{Version}
+use Rattle.office_tables.specs.declared.version.Version.TheVariants.{One, Two}
 use Rattle.office_tables.proofs.TableLemmas.{keys_once}
 use Rattle.office_model.specs.Office.{OfficeState, IsOffice}
+use Rattle.office_model.specs.declared.fault.StoreFault.{StoreFault}
+use Rattle.office_model.specs.declared.fault.StoreFault.TheVariants.{Store}
 use Rattle.office_records.specs.FoundBatches.{AreFoundBatches, IsShort}
-use Rattle.office_records.specs.Stands.{IsKept, IsSound, StandsForOffice}
+use Rattle.office_records.specs.Stands.{IsKept, IsKeptIn, IsSound, StandsForOffice}
 use Rattle.office_records.proofs.BatchRowLemmas.{stored_short}
-use Rattle.office_records.proofs.SameTables.{same_sound, same_stands}
+use Rattle.office_records.proofs.SameTables.{same_sound_in, same_stands_in}
+use Rattle.office_store.specs.Leaving.{MayMigrate, found_in}
+use Rattle.office_store.specs.Opening.{HoldsOffice, IsFoundOffice, IsTakenOver}
+use Rattle.office_store.specs.declared.memory.OfficeMemory.{OfficeMemory}
 use Rattle.office_tables.specs.Alterations.{Undone}
 use Rattle.office_store.specs.Running.{IsAwake}
-
--- the office that was there is there
-pub kept_still : {S : Type 0} (g : Ghosts S) (old new : Held S) (o : OfficeState)
-    → (new ≡ old) ⊎ IsUnchanged (state g old) (state g new)
-    → IsKept (state g old).now o → IsKept (state g new).now o
-kept_still g old new o (inl same) kept = subst (λ h. IsKept (state g h).now o) (sym same) kept
-kept_still g old new o (inr still) kept = subst (λ db. IsKept db o) (sym still.0.now_is) kept
-
--- and was there before
-pub kept_before : {S : Type 0} (g : Ghosts S) (old new : Held S) (o : OfficeState)
-    → (new ≡ old) ⊎ IsUnchanged (state g old) (state g new)
-    → IsKept (state g new).now o → IsKept (state g old).now o
-kept_before g old new o (inl same) kept = subst (λ h. IsKept (state g h).now o) same kept
-kept_before g old new o (inr still) kept = subst (λ db. IsKept db o) still.0.now_is kept
 
 -- ---- readers, one after the other
 
@@ -58,10 +55,13 @@ unchanged_then a b c first second = (
 
 module _ {S : Type 0} (g : Ghosts S) (old mid : Held S) where
   -- tables that stood still do
-  pub held_still : (t : Tables) → (mid ≡ old) ⊎ IsUnchanged (state g old) (state g mid)
-      → Stands (state g old).now t → Stands (state g mid).now t
-  held_still t (inl same) held = subst (λ h. Stands (state g h).now t) (sym same) held
-  held_still t (inr still) held = subst (λ db. Stands db t) (sym still.0.now_is) held
+  pub held_still : (version : Version) (t : Tables)
+      → (mid ≡ old) ⊎ IsUnchanged (state g old) (state g mid)
+      → StandsIn version (state g old).now t → StandsIn version (state g mid).now t
+  held_still version t (inl same) held =
+      subst (λ h. StandsIn version (state g h).now t) (sym same) held
+  held_still version t (inr still) held =
+      subst (λ db. StandsIn version db t) (sym still.0.now_is) held
 
   -- what changes nothing keeps all
   pub kept_by : (mid ≡ old) ⊎ IsUnchanged (state g old) (state g mid)
@@ -110,6 +110,22 @@ module _ {S : Type 0} (g : Ghosts S) (old mid : Held S) where
       mode = λ rests. keeps.mode (still.0.mode ∙ rests);
     }
 
+-- ---- the versions
+
+differ : schema_before ≡ office_schema → ⊥
+differ is =
+    let long : length schema_before.tables ≡ length office_schema.tables
+    = ap (λ (s : Schema). length s.tables) is in
+    omega (long, arith)
+
+-- a database has one version
+pub one_version : (db : Database) (v w : Version) → db.schema ≡ schema_of v
+    → db.schema ≡ schema_of w → v ≡ w
+one_version db One One a b = refl
+one_version db Two Two a b = refl
+one_version db One Two a b = absurd (differ (sym a ∙ b))
+one_version db Two One a b = absurd (differ (sym b ∙ a))
+
 -- ---- an office that is found
 
 -- numbers of which none comes twice, two by two
@@ -120,7 +136,7 @@ two_by_two R (x ∷ xs) up =
 
 module _ (db : Database) (found : Found) (batches : List Batch)
     (rows : map counts_of batches ≡ found.batches.items)
-    (held : Stands db (tables_of found batches)) where
+    (held : StandsIn found.version db (tables_of found batches)) where
   pub found_batches : All IsShort batches → AreFoundBatches found.batches.items batches
   found_batches short = record {
     rows = rows;
@@ -131,10 +147,26 @@ module _ (db : Database) (found : Found) (batches : List Batch)
   }
 
   -- what stands for an office is among the tables that were found
-  module _ (o : OfficeState) (kept : IsKept db o) where
+  module _ (o : OfficeState) (there : HoldsOffice db o) where
+    kept : IsKeptIn found.version db o
+    kept = subst (λ version. IsKeptIn version db o)
+        (one_version db there.0 found.version there.1.tables.schema held.schema) there.1
+
     same_office : StandsForOffice (tables_of found batches) o
     same_office =
-        same_stands db kept.held (tables_of found batches) kept.tables held o kept.stands
+        same_stands_in found.version db kept.held (tables_of found batches) kept.tables held o
+        kept.stands
+
+    -- where those tables are in version 2, they represent it
+    pub kept_after : (new : Database) → Stands new (tables_of found batches) → IsKept new o
+    kept_after new stands = record {
+      held = tables_of found batches;
+      tables = stands;
+      stands = same_office;
+      sound = same_sound_in found.version db kept.held (tables_of found batches) kept.tables held o
+          kept.sound;
+      office = kept.office;
+    }
 
     -- its batches are not too long
     pub none_long : All IsShort batches
@@ -144,7 +176,8 @@ module _ (db : Database) (found : Found) (batches : List Batch)
         → IsSound (tables_of found batches) office → IsOffice office → ⊥) → ⊥
     none_refused none =
         none o same_office
-        (same_sound db kept.held (tables_of found batches) kept.tables held o kept.sound)
+        (same_sound_in found.version db kept.held (tables_of found batches) kept.tables held o
+        kept.sound)
         kept.office
 
 -- what was read had been committed
@@ -158,6 +191,63 @@ undone_reading a b settled keeps = record {
   ];
   committed = keeps.committed;
 }
+
+-- what failed afterwards leaves what was committed
+pub undone_after : {S : Type 0} (g : Ghosts S) (old mid new : Held S)
+    → (mid ≡ old) ⊎ IsUnchanged (state g old) (state g mid) → Undone (state g mid) (state g new)
+    → Undone (state g old) (state g new)
+undone_after g old mid new (inl same) undone =
+    subst (λ h. Undone (state g h) (state g new)) same undone
+undone_after g old mid new (inr still) undone = record {
+  was_open = λ opened. still.0.was_open;
+  now = λ opened. undone.now opened ∙ still.0.committed_is;
+  committed = λ opened. undone.committed opened ∙ still.0.committed_is;
+}
+
+-- an office that was found is represented by its tables in version 2
+pub taken_over : (old new : Database) (found : Found) (memory : OfficeMemory)
+    (is : IsFoundOffice old found memory) → Stands new (tables_of found is.batches)
+    → IsTakenOver old new
+taken_over old new found memory is stands = record {
+  office = is.office;
+  stood = (found.version, is.kept);
+  stands = λ there holds.
+      kept_after old found is.batches is.counted is.tables there holds new stands;
+}
+
+-- ---- what a later opening may find
+
+module _ {S : Type 0} (g : Ghosts S) (old mid new : Held S) (found : Found) (memory : OfficeMemory)
+    (result : Result (Held S) (StoreFault × Held S))
+    (unrefused : IfErr result (λ refused. refused.0 ≡ Store))
+    (clean : HasCleanDisk (state g new) → HasCleanDisk (state g mid))
+    (same : HasCleanDisk (state g mid) → (mid ≡ old) ⊎ IsUnchanged (state g old) (state g mid))
+    (is : HasCleanDisk (state g mid) → IsFoundOffice (state g old).now found memory) where
+  migrated : HasCleanDisk (state g new) → (trees : Trees) → found.version ≡ One
+      → ((batches : List Batch) → StandsIn found.version (state g mid).now (tables_of found batches)
+      → Stands (found_in trees) (tables_of found batches))
+      → MayMigrate (state g old) result trees
+  migrated clean_new trees before stands =
+      let clean_mid = clean clean_new in
+      let found_so = is clean_mid in
+      let held = held_still g old mid found.version (tables_of found found_so.batches)
+      (same clean_mid) found_so.tables in (
+        subst (λ version. (state g old).now.schema ≡ schema_of version) before
+            found_so.tables.schema,
+        unrefused,
+        taken_over (state g old).now (found_in trees) found memory found_so
+            (stands found_so.batches held),
+      )
+
+  pub may_migrate : Survives (state g old) (state g mid) (λ _. ⊥)
+      → Survives (state g mid) (state g new) (λ trees. (found.version ≡ One)
+      × ((batches : List Batch) → StandsIn found.version (state g mid).now (tables_of found batches)
+      → Stands (found_in trees) (tables_of found batches)))
+      → Survives (state g old) (state g new) (MayMigrate (state g old) result)
+  may_migrate read brought =
+      survives_then (state g old) (state g mid) (state g new) (λ _. ⊥) _
+      (MayMigrate (state g old) result) (λ _ trees none. absurd none)
+      (λ clean_new trees made. migrated clean_new trees made.0 made.1) read brought
 
 -- ---- a database that was at rest
 

@@ -1,18 +1,20 @@
 -- What a later opening may find after calls, one after the other.
-use Rattle.std.proofs.Common.{◌≡◌, Ok, Err, Result, IsTrue, arith, inl, refl, sym, subst, true}
+use Rattle.std.proofs.Common.{◌≡◌, ◌∙◌, [], ◌∷◌, Ok, Err, Result, IsTrue, arith, false, inl, inr, refl, sym, subst, true}
 use Rattle.std.specs.Prelude.{IfErr}
 use Rattle.std.specs.Result.{IsErrAnd}
 use Rattle.sqlite.specs.Effect.{Database}
 use Rattle.sqlite.specs.Held.{Held, state}
-use Rattle.sqlite.specs.State.{State, HasCleanDisk, Survives}
+use Rattle.sqlite.specs.State.{State, HasCleanDisk, KeepsCommit, KeepsCounts, Shows, Survives}
+use Rattle.sqlite.specs.Steps.{FailsToCommit}
+use Rattle.sqlite.specs.declared.error.Error.{Error}
 use Rattle.sqlite.specs.Store.{Ghosts}
 use Rattle.sqlite.proofs.StateLemmas.{survives_then, survives_weaker}
 use Rattle.sqlite_trees.specs.Tree.{Trees}
-use Rattle.office_tables.specs.Alterations.{HoldsChanged}
+use Rattle.office_tables.specs.Alterations.{HoldsChanged, Undone}
 use Rattle.office_tables.specs.Schema.{IsBlank, no_schema}
-use Rattle.office_tables.specs.Standing.{Stands}
+use Rattle.office_tables.specs.Standing.{Stands, StandsBefore}
 use Rattle.office_tables.specs.Steps.{Leads, Within}
-use Rattle.office_tables.specs.Tables.{Tables, empty_tables}
+use Rattle.office_tables.specs.Tables.{Meta, Tables, empty_tables}
 use Rattle.office_model.specs.Commands.{Gives}
 use Rattle.office_model.specs.Office.{OfficeState}
 use Rattle.office_model.specs.declared.fault.StoreFault.{StoreFault}
@@ -21,6 +23,7 @@ use Rattle.office_records.specs.Stands.{IsKept}
 use Rattle.office_store.specs.FoldReads.{IsSame}
 use Rattle.office_store.specs.Leaving.{HoldsNext, MayCommit, MayMake, found_in}
 use Rattle.office_store.specs.Running.{IsAtRest, IsAwake, IsStill}
+use Rattle.office_store.specs.Transactions.{Turned}
 use Rattle.office_store.specs.declared.memory.OfficeMemory.{OfficeMemory}
 use Rattle.office_store.proofs.CommandLemmas.{Moves}
 use Rattle.office_store.proofs.RunLemmas.{made_on}
@@ -156,11 +159,12 @@ trees_stand db found t is held =
     subst (λ s. Stands (record { schema = s; trees = found }) t) held.schema
     (subst (λ trees. Stands (record { schema = db.schema; trees = trees }) t) (sym is) held)
 
-module _ {S : Type 0} (g : Ghosts S) (old begun last end : Held S)
-    (begins : begun ≡ record old { in_transaction = true })
+-- a transaction that leads from such a database to tables that stand
+module _ {S : Type 0} (g : Ghosts S) (P : Tables → Database → Type 0)
+    (old begun last end : Held S) (begins : begun ≡ record old { in_transaction = true })
     (within : Within (state g begun) (state g last))
-    (makes : HasCleanDisk (state g last) → IsTrue begun.in_transaction
-    → Leads (IsBlank no_schema) (λ db. Stands db empty_tables) (state g begun) (state g last))
+    (makes : HasCleanDisk (state g last) → IsTrue begun.in_transaction → (t : Tables)
+    → Leads (P t) (λ db. Stands db t) (state g begun) (state g last))
     (survives : Survives (state g last) (state g end) (λ db. db ≡ (state g last).now.trees)) where
   begun_survives : Survives (state g old) (state g last) (λ _. ⊥)
   begun_survives =
@@ -174,23 +178,144 @@ module _ {S : Type 0} (g : Ghosts S) (old begun last end : Held S)
         crash = inside.crash;
       }
 
-  made_in : HasCleanDisk (state g end) → IsBlank no_schema (state g old).now
-      → Stands (state g last).now empty_tables
-  made_in clean =
-      (subst (λ h. IsTrue h.in_transaction
-      → Leads (IsBlank no_schema) (λ db. Stands db empty_tables) (state g h) (state g last)) begins
-      (makes (omega (arith, survives.clean, clean))) refl).1
+  made_in : HasCleanDisk (state g end) → (t : Tables) → P t (state g old).now
+      → Stands (state g last).now t
+  made_in clean t =
+      (subst (λ h. IsTrue h.in_transaction → (t : Tables)
+      → Leads (P t) (λ db. Stands db t) (state g h) (state g last)) begins
+      (makes (omega (arith, survives.clean, clean))) refl t).1
 
   pub tables_survive : Survives (state g old) (state g end)
-      (λ found. IsBlank no_schema (state g old).now → Stands (found_in found) empty_tables)
+      (λ found. (t : Tables) → P t (state g old).now → Stands (found_in found) t)
   tables_survive =
       survives_then (state g old) (state g last) (state g end) (λ _. ⊥)
       (λ db. db ≡ (state g last).now.trees)
-      (λ found. IsBlank no_schema (state g old).now → Stands (found_in found) empty_tables)
+      (λ found. (t : Tables) → P t (state g old).now → Stands (found_in found) t)
       (λ _ db none. absurd none)
-      (λ clean found is blank. trees_stand (state g last).now found empty_tables is
-      (made_in clean blank))
+      (λ clean found is t before. trees_stand (state g last).now found t is
+      (made_in clean t before))
       begun_survives survives
+
+  inside : HasCleanDisk (state g last) → IsTrue (state g last).in_transaction
+  inside clean =
+      (subst (λ h. IsTrue h.in_transaction → (t : Tables)
+      → Leads (P t) (λ db. Stands db t) (state g h) (state g last)) begins (makes clean) refl
+      empty_tables).0
+
+  begun_kept : HasCleanDisk (state g last) → KeepsCommit (state g old) (state g last)
+  begun_kept clean =
+      let kept = (subst (λ h. Within (state g h) (state g last)) begins within).kept clean in
+      record { was_open = kept.was_open; committed = kept.committed }
+
+  -- once it is committed
+  pub turned : (HasCleanDisk (state g end) → IsTrue (state g last).in_transaction
+      × Shows (state g last) (state g end) (state g last).now (state g last).now false
+      × KeepsCounts (state g last) (state g end) × ((state g end).marks ≡ []))
+      → HasCleanDisk (state g end) → (t : Tables)
+      → Turned (P t) (λ db. Stands db t) (state g old) (state g end)
+  turned ok clean t =
+      let done = (ok clean).1 in
+      let before : HasCleanDisk (state g last) = omega (arith, survives.clean, clean) in
+      record {
+        was_open = (begun_kept before).was_open done.was_open;
+        is_open = done.is_open;
+        committed = done.now_is ∙ sym done.committed_is;
+        leads = λ held. subst (λ db. Stands db t) (sym done.now_is) (made_in clean t held);
+      }
+
+  -- or if that fails
+  pub unturned : (e : Error) → FailsToCommit (state g last) (state g end) e
+      → HasCleanDisk (state g end) → Undone (state g old) (state g end)
+  unturned e (inl fails) clean =
+      let before : HasCleanDisk (state g last) = omega (arith, survives.clean, clean) in
+      let kept = begun_kept before in
+      let back = fails.3 in
+      record {
+        was_open = λ opened. kept.was_open (back.was_open opened);
+        now = λ opened. (back.undone opened).0 ∙ kept.committed (back.was_open opened);
+        committed = λ opened. (back.undone opened).1 ∙ kept.committed (back.was_open opened);
+      }
+  unturned e (inr outside) clean =
+      let before : HasCleanDisk (state g last) = omega (arith, survives.clean, clean) in
+      absurd (let never : true ≡ false = sym (inside before) ∙ outside.1 in cc)
+
+-- what a transaction makes of a bare database
+abbrev pub MakesEmpty : Tables → Database → Type 0
+MakesEmpty t db = (t ≡ empty_tables) × IsBlank no_schema db
+
+-- and of tables of version 1 with this row about the office
+abbrev pub MakesLater : Meta → Tables → Database → Type 0
+MakesLater row t db = (t.meta ≡ row ∷ []) × StandsBefore db t
+
+module _ {S : Type 0} (g : Ghosts S) (old last : Held S) where
+  makes_empty : Leads (IsBlank no_schema) (λ db. Stands db empty_tables) (state g old)
+      (state g last) → (t : Tables)
+      → Leads (MakesEmpty t) (λ db. Stands db t) (state g old) (state g last)
+  makes_empty leads t = (
+    leads.0,
+    λ before. subst (Stands (state g last).now) (sym before.0) (leads.1 before.1),
+  )
+
+  makes_later : (row : Meta) → ((t : Tables) → t.meta ≡ row ∷ []
+      → Leads (λ db. StandsBefore db t) (λ db. Stands db t) (state g old) (state g last))
+      → (t : Tables) → Leads (MakesLater row t) (λ db. Stands db t) (state g old) (state g last)
+  makes_later row leads t = (
+    (leads (record empty_tables { meta = row ∷ [] }) refl).0,
+    λ before. (leads t before.0).1 before.1,
+  )
+
+-- what either transaction leaves
+module _ {S : Type 0} (g : Ghosts S) (old begun last end : Held S)
+    (begins : begun ≡ record old { in_transaction = true })
+    (within : Within (state g begun) (state g last))
+    (survives : Survives (state g last) (state g end) (λ db. db ≡ (state g last).now.trees)) where
+  pub made_survive : (HasCleanDisk (state g last) → IsTrue begun.in_transaction
+      → Leads (IsBlank no_schema) (λ db. Stands db empty_tables) (state g begun) (state g last))
+      → Survives (state g old) (state g end)
+      (λ found. IsBlank no_schema (state g old).now → Stands (found_in found) empty_tables)
+  made_survive makes =
+      survives_weaker (state g old) (state g end) _ _
+      (λ _ found all blank. all empty_tables (refl, blank))
+      (tables_survive g MakesEmpty old begun last end begins within
+      (λ clean inside. makes_empty g begun last (makes clean inside)) survives)
+
+  module _ (row : Meta) (makes : (t : Tables) → t.meta ≡ row ∷ []
+      → HasCleanDisk (state g last) → IsTrue begun.in_transaction
+      → Leads (λ db. StandsBefore db t) (λ db. Stands db t) (state g begun) (state g last)) where
+    all_later : HasCleanDisk (state g last) → IsTrue begun.in_transaction → (t : Tables)
+        → Leads (MakesLater row t) (λ db. Stands db t) (state g begun) (state g last)
+    all_later clean inside = makes_later g begun last row (λ t is. makes t is clean inside)
+
+    pub migrated_survive : Survives (state g old) (state g end) (λ found. (t : Tables)
+        → t.meta ≡ row ∷ [] → StandsBefore (state g old).now t → Stands (found_in found) t)
+    migrated_survive =
+        survives_weaker (state g old) (state g end) _ _
+        (λ _ found all t is before. all t (is, before))
+        (tables_survive g (MakesLater row) old begun last end begins within all_later survives)
+
+    pub migrated_turned : (HasCleanDisk (state g end) → IsTrue (state g last).in_transaction
+        × Shows (state g last) (state g end) (state g last).now (state g last).now false
+        × KeepsCounts (state g last) (state g end) × ((state g end).marks ≡ []))
+        → HasCleanDisk (state g end) → (t : Tables) → t.meta ≡ row ∷ []
+        → Turned (λ db. StandsBefore db t) (λ db. Stands db t) (state g old) (state g end)
+    migrated_turned ok clean t is =
+        let all = turned g (MakesLater row) old begun last end begins within all_later survives ok
+        clean t in
+        record {
+          was_open = all.was_open;
+          is_open = all.is_open;
+          committed = all.committed;
+          leads = λ before. all.leads (is, before);
+        }
+
+    pub migrated_undone : (e : Error) → FailsToCommit (state g last) (state g end) e
+        → HasCleanDisk (state g end) → Undone (state g old) (state g end)
+    migrated_undone =
+        unturned g (MakesLater row) old begun last end begins within all_later survives
+
+-- a database without a table has no row
+pub bare_blank : (db : Database) → db.schema ≡ no_schema → IsBlank no_schema db
+bare_blank db bare = record { schema_is = bare; rows = tt }
 
 pub may_make : {S : Type 0} (g : Ghosts S) (old new : Held S)
     (result : Result (Held S) (StoreFault × Held S)) → (state g old).now.schema ≡ no_schema
@@ -204,7 +329,7 @@ may_make g old new result bare unrefused =
       unrefused,
       record {
         held = empty_tables;
-        tables = makes (record { schema_is = bare; empty = tt });
+        tables = makes (bare_blank (state g old).now bare);
         stands = refl;
         sound = tt;
         office = tt;

@@ -100,6 +100,7 @@ module _ (I : Session) (E : Enrolled) (text : List ℕ) (rows : List EnrolRow)
     stands = session_stands;
     sound = record {
       scored = tt;
+      none_over_night = tt;
       shared = record { of_students = IsPermutation-refl []; of_parts = IsPermutation-refl [] };
     };
     office = fresh_records I E is are;
@@ -152,7 +153,8 @@ pub load_moves : (text : List ℕ) (I : Session) (E : Enrolled) (counts : loadin
     → ((t : Tables) → Stands a t → Stands b (after_all (λ (it : InsertEnrol). with_enrol it.row) its
     (with_meta false stored (no_meta t))))
     → Moves (loaded text) counts a b m
-load_moves text I E counts stored its a b m read counted is_text are_rows is are empty comes o kept held =
+load_moves text I E counts stored its a b m read counted is_text are_rows is are empty comes o kept
+    held =
     let none = none_kept m o held empty in
     let rows = map (λ (it : InsertEnrol). it.row) its in
     let makes : (t : Tables) → Stands a t → Stands b (session_put stored rows t)

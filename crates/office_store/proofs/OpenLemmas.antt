@@ -1,28 +1,48 @@
 -- The office that a database stands for when it is opened, by whether it has a table.
-use Rattle.std.proofs.Common.{◌≡◌, ◌∙◌, ◌⊎◌, None, inl, inr, sym, Bool, true, false}
+use Rattle.std.proofs.Common.{◌≡◌, ◌∙◌, ◌⊎◌, None, ap, arith, inl, inr, length, sym, Bool, true, false}
 use Rattle.std.proofs.Common.{Err, IfErr, IfOk, Ok, Result}
 use Rattle.std.specs.Prelude.{IsTrue}
 use Rattle.sqlite.specs.Effect.{Database}
+use Rattle.sqlite_schema.specs.declared.schema.Schema.{Schema}
 use Rattle.office_tables.specs.Schema.{no_schema}
-use Rattle.office_tables.proofs.Creates.{has_tables}
+use Rattle.office_schema.specs.Schema.{office_schema, schema_before}
+use Rattle.office_tables.specs.Versions.{schema_of}
+use Rattle.office_tables.specs.declared.version.Version.{Version}
+use Rattle.office_tables.specs.declared.version.Version.TheVariants.{One, Two}
 use Rattle.office_model.specs.Office.{OfficeState}
 use Rattle.office_records.specs.Stands.{IsKept}
 use Rattle.office_store.specs.Faults.{IsOfDatabase}
-use Rattle.office_store.specs.Opening.{IsOfficeOf}
+use Rattle.office_store.specs.Opening.{HoldsOffice, IsOfficeOf}
 use Rattle.office_model.specs.declared.fault.StoreFault.{StoreFault}
 use Rattle.office_model.specs.declared.fault.StoreFault.TheVariants.{BadSchema, Store}
 
--- with no table, it stands for the office before its load alone
+-- an office's schema has a table
+has_some : (version : Version) → schema_of version ≡ no_schema → ⊥
+has_some One bare =
+    let none : length schema_before.tables ≡ length no_schema.tables
+    = ap (λ (s : Schema). length s.tables) bare in
+    omega (none, arith)
+has_some Two bare =
+    let none : length office_schema.tables ≡ length no_schema.tables
+    = ap (λ (s : Schema). length s.tables) bare in
+    omega (none, arith)
+
+-- with no table, it represents only the office before its load
 pub before_load : (db : Database) (there : OfficeState) → db.schema ≡ no_schema
     → IsOfficeOf db there → there ≡ None
 before_load db there bare (inl is) = is.1
-before_load db there bare (inr kept) = absurd (has_tables db kept.held kept.tables bare)
+before_load db there bare (inr held) =
+    absurd (has_some held.0 (sym held.1.tables.schema ∙ bare))
 
--- with tables, it is kept
-pub is_kept : (db : Database) (there : OfficeState) → (db.schema ≡ no_schema → ⊥)
-    → IsOfficeOf db there → IsKept db there
-is_kept db there tables (inl is) = absurd (tables is.0)
-is_kept db there tables (inr kept) = kept
+-- the tables of version 2 are those of one of the two
+pub kept_holds : (db : Database) (there : OfficeState) → IsKept db there → HoldsOffice db there
+kept_holds db there kept = (Two, kept)
+
+-- with tables, they represent it
+pub holds : (db : Database) (there : OfficeState) → (db.schema ≡ no_schema → ⊥)
+    → IsOfficeOf db there → HoldsOffice db there
+holds db there tables (inl is) = absurd (tables is.0)
+holds db there tables (inr held) = held
 
 -- a test that fails
 pub fails : (b : Bool) (P : Type 0) → (P → IsTrue b) → b ≡ false → P → ⊥

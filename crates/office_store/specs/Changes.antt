@@ -40,12 +40,12 @@ draft_put row slots t = with_slots slots (with_draft row t)
 abbrev pub draft_removed : ℕ → Tables → Tables
 draft_removed d t = without_slots d (without_draft d t)
 
--- an exam stands there in a draft, or nowhere
+-- an exam has this place in a draft, or none
 abbrev pub slot_put : ℕ → ℕ → Option Place → Tables → Tables
 slot_put d e None t = without_slot d e t
 slot_put d e (Some at) t = with_slot (slot_row d e at) (without_slot d e t)
 
--- these exams stand in a draft where they stand in the timetable, or nowhere
+-- these exams have in a draft the places that they have in the timetable, or none
 abbrev pub slots_put : ℕ → Placing → List ℕ → Tables → Tables
 slots_put d T [] t = t
 slots_put d T (e ∷ exams) t = slots_put d T exams (slot_put d e (place_of T e) t)
@@ -57,10 +57,10 @@ moved d e place = record {
   second = option_map (λ at. record { row = slot_row d e at }) place;
 }
 
--- it goes where it stood, and comes where it stands in the timetable
+-- it loses its place, and gets the one that it has in the timetable
 abbrev pub new_place : ℕ → Placing → ℕ → Both DeleteSlot (Option InsertSlot)
 new_place d T e = moved d e (place_of T e)
 
--- a draft in place of another, where these exams stand elsewhere
+-- a draft in place of another, in which these exams have other places
 abbrev pub edit_put : DraftRow → Placing → List ℕ → Tables → Tables
 edit_put row T exams t = slots_put row.no T exams (with_draft row (without_draft row.no t))

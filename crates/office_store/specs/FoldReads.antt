@@ -18,7 +18,7 @@ pub record HasRead {S : Type 0} (store : Ghosts S) (old new : Held S) : Type 0 w
   pub kept : LeavesCommitted store old new
   pub mode : old.in_transaction ≡ false → new.in_transaction ≡ false
 
--- over a clean disk, where the tables stand, everything is as it was
+-- over a clean disk, if the tables are an office's, everything is as it was
 abbrev pub IsSame : {S : Type 0} → Ghosts S → Held S → Held S → Type 0
 IsSame store old new =
     HasCleanDisk (state store new) → (t : Tables) → Stands (state store old).now t

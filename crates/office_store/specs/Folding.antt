@@ -47,7 +47,7 @@ pub record HasTaken {S : Type 0} (store : Ghosts S) (old new : Held S) (fold : F
 
 -- ---- an edit that was judged
 
--- what is told of it holds for these enrolments
+-- what is said of it holds for these enrolments
 pub record IsEditOf (I : Session) (E : Enrolled) (judged : Judged) : Type 0 where
   pub fits : Fits I E judged.new
   pub others : DiffersAtMost judged.exams.items judged.draft.now.timetable judged.new

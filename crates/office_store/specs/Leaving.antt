@@ -1,17 +1,18 @@
 -- What a later opening of the file may find after a call.
-use Rattle.std.specs.Prelude.{◌≡◌, IfErr, IsTrue, None, OnOk, Result, Ok, Err}
+use Rattle.std.specs.Prelude.{◌≡◌, ◌⊎◌, IfErr, IsTrue, None, OnOk, Result, Ok, Err}
 use Rattle.sqlite.specs.Effect.{Database}
 use Rattle.sqlite.specs.Held.{Held, state}
 use Rattle.sqlite.specs.State.{HasCleanDisk, State, Survives}
 use Rattle.sqlite.specs.Store.{Ghosts}
 use Rattle.sqlite_trees.specs.Tree.{Trees}
-use Rattle.office_schema.specs.Schema.{office_schema}
+use Rattle.office_schema.specs.Schema.{office_schema, schema_before}
 use Rattle.office_tables.specs.Schema.{no_schema}
 use Rattle.office_model.specs.Commands.{Gives}
 use Rattle.office_model.specs.Office.{OfficeState}
 use Rattle.office_model.specs.declared.fault.StoreFault.{StoreFault}
 use Rattle.office_model.specs.declared.fault.StoreFault.TheVariants.{Store}
 use Rattle.office_records.specs.Stands.{IsKept}
+use Rattle.office_store.specs.Opening.{IsTakenOver}
 use Rattle.office_store.specs.Running.{IsAwake}
 
 -- the database of a file in which these trees are found, under the office's schema
@@ -59,3 +60,15 @@ abbrev pub MayMake : {S : Type 0} → State → Result (Held S) (StoreFault × H
 MayMake old result found =
     (old.now.schema ≡ no_schema) × IfErr result (λ refused. refused.0 ≡ Store)
     × IsKept (found_in found) None
+
+-- what taking an office over may commit where its tables are of version 1, unless that is refused by
+-- name: the same office in version 2
+abbrev pub MayMigrate : {S : Type 0} → State → Result (Held S) (StoreFault × Held S) → Trees
+    → Type 0
+MayMigrate old result found =
+    (old.now.schema ≡ schema_before) × IfErr result (λ refused. refused.0 ≡ Store)
+    × IsTakenOver old.now (found_in found)
+
+-- what opening may commit: the tables without a session, or those of version 2
+abbrev pub MayOpen : {S : Type 0} → State → Result (Held S) (StoreFault × Held S) → Trees → Type 0
+MayOpen old result found = MayMake old result found ⊎ MayMigrate old result found

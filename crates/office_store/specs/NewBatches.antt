@@ -19,6 +19,7 @@ use Rattle.office_model.specs.declared.fault.StoreFault.{StoreFault}
 use Rattle.office_model.specs.declared.fault.StoreFault.TheVariants.{BatchDiffers}
 use Rattle.office_records.specs.BatchRows.{batch_put}
 use Rattle.office_records.specs.Found.{AreDrafts}
+use Rattle.office_records.specs.Stands.{NoneOverNight}
 use Rattle.office_records.specs.TableRows.{enrol_row, stored_batch}
 use Rattle.office_store.specs.Running.{IsFault}
 use Rattle.office_store.specs.declared.new_batch.NewBatch.{NewBatch}
@@ -34,10 +35,11 @@ line_put change t =
 abbrev pub put_line : Change → PutLine
 put_line change = record { change = change }
 
--- these rows are an office's drafts with other enrolments
+-- these rows are an office's drafts with other enrolments, and nothing is over night
 pub record AreAnew (r : Records) (E : Enrolled) (drafts : List DraftRow) : Type 0 where
   pub slots : List SlotRow
   pub are : AreDrafts r.session E drafts slots r.draft
+  pub none_over_night : NoneOverNight drafts
 
 -- what these lines make of an office's enrolments, with the lines that act and, where there are any,
 -- the rows of all drafts with the enrolments after them; there is room for one batch more
@@ -60,7 +62,7 @@ abbrev pub IsRowOf : Option KeptBatch → Option BatchRow → Type 0
 IsRowOf kept found =
     map batch_from (option_to_list found) ≡ map stored_batch (option_to_list kept)
 
--- the rows of the drafts after such lines: those anew, or where no line acts those that stand
+-- the rows of the drafts after such lines: new ones, or, if no line acts, those that are there
 abbrev pub drafts_after : List PutLine → List DraftRow → List DraftRow → List DraftRow
 drafts_after [] anew rows = rows
 drafts_after (line ∷ lines) anew rows = reverse anew

@@ -24,8 +24,8 @@ use Rattle.office_store.specs.RowPuts.{placement_put, her_seats_gone, seat_put, 
 
 -- ---- a publication that is put in
 
--- the rows of this timetable in place of the old ones; of the candidates' seats and shares those
--- alone whose seats differ, which go and come; and what is answered
+-- the rows of this timetable in place of the old ones; of the candidates' seats and shares only
+-- those whose seats differ, which go and come; and what is answered
 pub record ArePutIn (I : Session) (T : Placing) (old rows : List SeatRow) (penalty : ℕ)
     (new : NewPublication) : Type 0 where
   pub text : new.text.items ≡ session_text I

@@ -30,7 +30,7 @@ pub record AreShareRowsOf (office : OfficeState) (students : List StudentShareRo
   pub of_students : IsPermutation students (student_rows_in office)
   pub of_parts : IsPermutation parts (part_rows_in office)
 
--- the values behind two references
+-- the values of two references
 abbrev pub shown : {X Y F : Type 0} → Result (Bor X × Bor Y) F → Result (X × Y) F
 shown (Ok pair) = Ok (pair.0.now, pair.1.now)
 shown (Err fault) = Err fault

@@ -1,10 +1,38 @@
--- The office that a database stands for when it is opened.
-use Rattle.std.specs.Prelude.{◌≡◌, ◌⊎◌, None}
+-- The office that a database represents when it is opened.
+use Rattle.std.specs.Prelude.{◌≡◌, ◌⊎◌, List, None, map}
 use Rattle.sqlite.specs.Effect.{Database}
+use Rattle.office_tables.specs.Adopting.{tables_of}
+use Rattle.office_tables.specs.Batch.{counts_of}
 use Rattle.office_tables.specs.Schema.{no_schema}
+use Rattle.office_tables.specs.Standing.{StandsIn}
+use Rattle.office_tables.specs.Tables.{Batch}
+use Rattle.office_tables.specs.declared.found.Found.{Found}
+use Rattle.office_tables.specs.declared.version.Version.{Version}
 use Rattle.office_model.specs.Office.{OfficeState}
-use Rattle.office_records.specs.Stands.{IsKept}
+use Rattle.office_records.specs.Stands.{IsKept, IsKeptIn}
+use Rattle.office_store.specs.Memory.{IsMemoryOf}
+use Rattle.office_store.specs.declared.memory.OfficeMemory.{OfficeMemory}
 
--- the database stands for this office; one with no table stands for the office before its load
+-- the database represents this office in one of the two versions, and is sound
+abbrev pub HoldsOffice : Database → OfficeState → Type 0
+HoldsOffice db office = (version : Version) × IsKeptIn version db office
+
+-- the database represents this office; one with no table represents the office before its load
 abbrev pub IsOfficeOf : Database → OfficeState → Type 0
-IsOfficeOf db office = ((db.schema ≡ no_schema) × (office ≡ None)) ⊎ IsKept db office
+IsOfficeOf db office = ((db.schema ≡ no_schema) × (office ≡ None)) ⊎ HoldsOffice db office
+
+-- what was found in a database, with the bytes of its batches, represents an office, and this is in
+-- memory of it
+pub record IsFoundOffice (db : Database) (found : Found) (memory : OfficeMemory) : Type 0 where
+  pub batches : List Batch
+  pub counted : map counts_of batches ≡ found.batches.items
+  pub tables : StandsIn found.version db (tables_of found batches)
+  pub office : OfficeState
+  pub kept : IsKeptIn found.version db office
+  pub in_memory : IsMemoryOf office memory
+
+-- a database represented an office, and the other represents it in version 2
+pub record IsTakenOver (old new : Database) : Type 0 where
+  pub office : OfficeState
+  pub stood : HoldsOffice old office
+  pub stands : (there : OfficeState) → HoldsOffice old there → IsKept new there

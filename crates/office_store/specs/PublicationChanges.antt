@@ -15,7 +15,7 @@ places_put new t = record t {
       ++ seat_rows_without (map (λ it. it.student) new.seats_gone.items) t.seat;
 }
 
--- of the candidates' shares some go and some come; those of exams, periods and rooms come anew
+-- of the candidates' shares some go and some come; all of exams, periods and rooms are put in again
 abbrev pub shares_put : NewPublication → Tables → Tables
 shares_put new t = record t {
   share_student = reverse (map (λ it. it.row) new.students.items)

@@ -1,4 +1,4 @@
--- What a call of the office makes of the office that its file stands for.
+-- What a call of the office makes of the office that its file represents.
 use Rattle.std.specs.Prelude.{◌≡◌, IsTrue, OnErr, Result, Ok, Err}
 use Rattle.sqlite.specs.Held.{Held, state}
 use Rattle.sqlite.specs.State.{State, HasCleanDisk}
@@ -11,7 +11,7 @@ use Rattle.office_model.specs.declared.fault.StoreFault.TheVariants.{Store, BadS
 use Rattle.office_store.specs.Memory.{IsMemoryOf}
 use Rattle.office_store.specs.declared.memory.OfficeMemory.{OfficeMemory}
 
--- while the store is open, its tables stand for this office
+-- while the store is open, its tables represent this office
 abbrev pub Now : State → OfficeState → Type 0
 Now s office = IsTrue s.is_open → IsKept s.now office
 
@@ -21,7 +21,8 @@ IsFault gives Store = Unit {0}
 IsFault gives BadSchema = ⊥
 IsFault gives fault = gives ≡ Err fault
 
--- it gave what the command gives and that office stands now, or it was refused and the old one does
+-- it gave what the command gives and the tables represent that office, or it was refused and they
+-- represent the old one
 abbrev pub Does : {A : Type 0} → Gives A → OfficeState → (OfficeState → Type 0)
     → Result A StoreFault → Type 0
 Does gives old Stays (Ok x) = (new : OfficeState) × (gives ≡ Ok (x, new)) × Stays new

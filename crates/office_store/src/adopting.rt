@@ -1,78 +1,94 @@
 // A database that holds an office, taken over.
-ghost use Rattle.std.specs.Prelude.{◌≡◌, ◌⊎◌, false, IfErr, IfOk, IsTrue, OnOk};
+ghost use Rattle.std.specs.Prelude.{◌≡◌, ◌⊎◌, false, IfErr, IfOk, IsTrue, List, OnErr, OnOk};
 ghost use Rattle.sqlite.specs.Held.{state};
 ghost use Rattle.sqlite.specs.State.{HasCleanDisk, IsUnchanged, Survives};
-ghost use Rattle.office_tables.specs.Readers.{Keeps};
-ghost use Rattle.office_model.specs.Office.{OfficeState};
-ghost use Rattle.office_records.specs.Stands.{IsKept};
-ghost use Rattle.office_store.specs.Faults.{IsOfDatabase};
-ghost use Rattle.office_store.specs.Leaving.{Leaves, connection_of};
-ghost use Rattle.office_store.specs.Memory.{IsMemoryOf, IsTogether};
+ghost use Rattle.office_schema.specs.Schema.{office_schema};
+ghost use Rattle.office_tables.specs.Adopting.{tables_of};
 ghost use Rattle.office_tables.specs.Alterations.{Undone};
+ghost use Rattle.office_tables.specs.Readers.{Keeps};
+ghost use Rattle.office_tables.specs.Standing.{Stands, StandsIn};
+ghost use Rattle.office_tables.specs.Tables.{Batch};
+ghost use Rattle.office_model.specs.Office.{OfficeState};
+ghost use Rattle.office_store.specs.Faults.{IsOfDatabase};
+ghost use Rattle.office_store.specs.Leaving.{Leaves, MayMigrate, connection_of, found_in};
+ghost use Rattle.office_store.specs.Memory.{IsTogether};
+ghost use Rattle.office_store.specs.Opening.{HoldsOffice, IsFoundOffice, IsTakenOver};
+ghost use Rattle.office_store.specs.Running.{IsAwake};
 
+use crate::fault::Failed;
 use crate::found_drafts::drafts_found;
 use crate::kept_bytes::check_bytes;
 use crate::memory::OfficeMemory;
 use crate::office::Office;
+use crate::transactions::migrate_tables;
 use office_model::StoreFault;
 use office_records::kept_of;
-use office_tables::adopt_tables;
+use office_tables::{Found, Version, adopt_tables};
 use sqlite::{Alter, Connection};
 use std::alloc::Global;
 
 impl<S: Alter> Office<S> {
-    /// Takes over a database that holds an office. `BadSchema`: the tables are not those of an
-    /// office, or what they hold is not what it should be. `Store`: a statement failed, memory was
-    /// refused, or a transaction is open. A refusal hands the connection back; nothing changes.
+    /// Takes over a database that holds an office; tables of version 1 become those of version 2,
+    /// with nothing over night. `BadSchema`: the tables are not those of an office, or what they
+    /// hold is not what it should be. `Store`: a statement failed, memory was refused, or a
+    /// transaction is open. A refusal hands the connection back; nothing changes.
     pub fn adopt(
         alloc: Global,
         conn: Connection<S>,
     ) -> Result<Office<S>, (StoreFault, Connection<S>)>
-        // The tables stand for an office.
+        // The tables represented an office, and now they represent it in version 2.
         ensures adopted { IfOk result (λ office. HasCleanDisk (state S.Store office)
-            → (o : OfficeState) × IsKept (state S.Store office).now o) }
-        // Nothing has changed.
+            → IsTakenOver (state S.Store conn).now (state S.Store office).now) }
+        // In version 2 nothing has changed.
         ensures same { IfOk result (λ office. HasCleanDisk (state S.Store office)
+            → (state S.Store conn).now.schema ≡ office_schema
             → (office ≡ conn) ⊎ IsUnchanged (state S.Store conn) (state S.Store office)) }
-        // They stand for none.
-        // `Store` says nothing of them.
+        // They represent none, in either version. `Store` says nothing of them.
         ensures no_office { IfErr result (λ e. e.0 ≡ StoreFault.BadSchema
             → HasCleanDisk (state S.Store e.1)
-            → (o : OfficeState) → IsKept (state S.Store conn).now o → ⊥) }
+            → (o : OfficeState) → HoldsOffice (state S.Store conn).now o → ⊥) }
         // Only `Store` or `BadSchema`.
         ensures fault { IfErr result (λ e. IsOfDatabase e.0) }
         // Whatever the refusal, the tables are as they were.
         ensures undone { IfErr result (λ e. (e.1 ≡ conn) ⊎ (HasCleanDisk (state S.Store e.1)
             → Undone (state S.Store conn) (state S.Store e.1))) }
         // On `Ok` the database is open, and all is committed.
-        // A later opening may find only what it might have found before.
-        ensures leaves { Leaves (λ _. ⊥) (state S.Store conn)
+        // A later opening may find what it might have found before, or, if that was of version 1,
+        // the same office in version 2.
+        ensures leaves { Leaves (MayMigrate (state S.Store conn) result) (state S.Store conn)
             (state S.Store (connection_of result)) result }
     {
         if !conn.is_autocommit() {
             return Err((StoreFault::Store, conn));
         }
         let mut conn = conn;
-        match kept_in(alloc, &mut conn) {
-            Ok(memory) => Ok(Office { conn, memory }),
-            Err(fault) => Err((fault, conn)),
+        let (found, memory) = match kept_in(alloc, &mut conn) {
+            Ok(kept) => kept,
+            Err(fault) => return Err((fault, conn)),
+        };
+        match bring_up(&mut conn, &found) {
+            Ok(()) => Ok(Office { conn, memory }),
+            Err(_) => Err((StoreFault::Store, conn)),
         }
     }
 }
 
-// Returns what is kept in memory of the office that the tables represent. `BadSchema`: they
-// represent none.
-fn kept_in<S: Alter>(alloc: Global, conn: &mut Connection<S>) -> Result<OfficeMemory, StoreFault>
-    ensures kept { HasCleanDisk (state S.Store conn.new) → IfOk result (λ memory. (o : OfficeState)
-        × IsKept (state S.Store conn.old).now o × IsMemoryOf o memory) }
-    ensures together { IfOk result IsTogether }
+// Returns the tables, and what is kept in memory of the office that they represent. `BadSchema`:
+// they represent none.
+fn kept_in<S: Alter>(
+    alloc: Global,
+    conn: &mut Connection<S>,
+) -> Result<(Found, OfficeMemory), StoreFault>
+    ensures kept { HasCleanDisk (state S.Store conn.new)
+        → IfOk result (λ kept. IsFoundOffice (state S.Store conn.old).now kept.0 kept.1) }
+    ensures together { IfOk result (λ kept. IsTogether kept.1) }
     ensures open { HasCleanDisk (state S.Store conn.new)
         → OnOk result (IsTrue (state S.Store conn.new).is_open) }
     ensures same { HasCleanDisk (state S.Store conn.new) → OnOk result ((conn.new ≡ conn.old)
         ⊎ IsUnchanged (state S.Store conn.old) (state S.Store conn.new)) }
     ensures none { HasCleanDisk (state S.Store conn.new)
         → IfErr result (λ e. e ≡ StoreFault.BadSchema
-        → (o : OfficeState) → IsKept (state S.Store conn.old).now o → ⊥) }
+        → (o : OfficeState) → HoldsOffice (state S.Store conn.old).now o → ⊥) }
     ensures fault { IfErr result IsOfDatabase }
     ensures keeps { HasCleanDisk (state S.Store conn.new)
         → Keeps (state S.Store conn.old) (state S.Store conn.new) }
@@ -87,9 +103,34 @@ fn kept_in<S: Alter>(alloc: Global, conn: &mut Connection<S>) -> Result<OfficeMe
     let kept = kept_of(alloc, &found)?;
     check_bytes(alloc, conn, &found.batches)?;
     let drafts = drafts_found(alloc, &kept, &found)?;
-    Ok(OfficeMemory {
+    let memory = OfficeMemory {
         kept,
         batches: found.batches.len(),
         drafts,
-    })
+    };
+    Ok((found, memory))
+}
+
+// Makes version 2 of the tables that were found, if they are of version 1.
+fn bring_up<S: Alter>(conn: &mut Connection<S>, found: &Found) -> Result<(), Failed>
+    requires rests { conn.old.in_transaction ≡ false }
+    ensures tables { HasCleanDisk (state S.Store conn.new) → (batches : List Batch)
+        → StandsIn found.now.version (state S.Store conn.old).now (tables_of found.now batches)
+        → OnOk result (Stands (state S.Store conn.new).now (tables_of found.now batches)) }
+    ensures same { found.now.version ≡ Version.Two → OnOk result (conn.new ≡ conn.old) }
+    ensures awake { HasCleanDisk (state S.Store conn.new) → IsAwake (state S.Store conn.old)
+        → OnOk result (IsAwake (state S.Store conn.new)) }
+    ensures undone { HasCleanDisk (state S.Store conn.new)
+        → OnErr result (Undone (state S.Store conn.old) (state S.Store conn.new)) }
+    ensures rests { conn.new.in_transaction ≡ false }
+    ensures clean { HasCleanDisk (state S.Store conn.new) → HasCleanDisk (state S.Store conn.old) }
+    ensures survives { Survives (state S.Store conn.old) (state S.Store conn.new) (λ trees.
+        (found.now.version ≡ Version.One) × ((batches : List Batch)
+        → StandsIn found.now.version (state S.Store conn.old).now (tables_of found.now batches)
+        → Stands (found_in trees) (tables_of found.now batches))) }
+{
+    match found.version {
+        Version::One => migrate_tables(conn, found.meta.published, &found.meta.instance),
+        Version::Two => Ok(()),
+    }
 }

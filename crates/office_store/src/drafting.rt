@@ -23,7 +23,7 @@ use sqlite::Alter;
 use std::alloc::{AllocError, Global};
 
 impl<S: Alter> Office<S> {
-    /// Makes a draft, 1 to 8, and answers its penalty. No exam is placed where the text is empty,
+    /// Makes a draft, 1 to 8, and answers its penalty. No exam is placed if the text is empty,
     /// else it is the timetable of a solution file, with or without breaches. `NotLoaded`; then
     /// `NoDraft`: not 1 to 8; then `DraftTaken`; then `Refused`: the file is faulty.
     pub fn new_draft(&mut self, alloc: Global, number: u32, text: &[u8]) -> Result<u64, StoreFault>

@@ -161,7 +161,8 @@ fn new_timetable(
     }
 }
 
-// Each of these exams goes where it stood in the draft, and comes where it stands in the timetable.
+// The alterations by which these exams lose their places in the draft and get those of the new
+// timetable.
 fn new_places(
     alloc: Global,
     draft: u32,

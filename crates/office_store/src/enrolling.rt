@@ -25,7 +25,7 @@ use std::alloc::Global;
 
 impl<S: Alter> Office<S> {
     /// Carries out a batch of changes of enrolments, its lines in file order, and answers what they
-    /// did; where one acts all drafts are scored anew, and what is published stays. A batch acts
+    /// did; if one acts all drafts are scored again, and what is published stays. A batch acts
     /// once: the same bytes under a number that is kept are answered as at first. `Refused`: the
     /// file is faulty; then `NotLoaded`; then `BatchDiffers`: other bytes are kept under the
     /// number; then `Refused`: a line names an exam that isn't there; then `TooMany`: at some line

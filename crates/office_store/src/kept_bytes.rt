@@ -5,9 +5,10 @@ ghost use Rattle.std.specs.Prelude.{option_to_list};
 ghost use Rattle.sqlite.specs.Held.{state};
 ghost use Rattle.sqlite.specs.State.{HasCleanDisk, IsUnchanged, Survives};
 ghost use Rattle.office_tables.specs.Batch.{batch_from, counts_of};
-ghost use Rattle.office_tables.specs.Readers.{LeavesCommitted};
-ghost use Rattle.office_tables.specs.Standing.{Stands};
+ghost use Rattle.office_tables.specs.Readers.{LeavesCommittedIn};
+ghost use Rattle.office_tables.specs.Standing.{StandsIn};
 ghost use Rattle.office_tables.specs.Tables.{Tables};
+ghost use Rattle.office_tables.specs.declared.version.Version.{Version};
 ghost use Rattle.office_records.specs.FoundBatches.{IsShort};
 ghost use Rattle.office_store.specs.Faults.{IsOfDatabase};
 
@@ -17,24 +18,24 @@ use office_tables::{BatchCountsRow, BatchRow, batch_of};
 use sqlite::{Alter, Connection};
 use std::alloc::Global;
 
-// Whether none of the batches, which have these rows, is longer than a text may be. `BadSchema`:
-// one is. The bytes of one batch are in memory at a time.
+// Whether none of the batches, which have these rows in a file of either version, is longer than a
+// text may be. `BadSchema`: one is. The bytes of one batch are in memory at a time.
 pub(crate) fn check_bytes<S: Alter>(
     alloc: Global,
     conn: &mut Connection<S>,
     batches: &[BatchCountsRow],
 ) -> Result<(), StoreFault>
-    ensures short { HasCleanDisk (state S.Store conn.new) → (t : Tables)
-        → Stands (state S.Store conn.old).now t → map counts_of t.batch ≡ batches.now
+    ensures short { HasCleanDisk (state S.Store conn.new) → (version : Version) (t : Tables)
+        → StandsIn version (state S.Store conn.old).now t → map counts_of t.batch ≡ batches.now
         → OnOk result (All IsShort t.batch) }
-    ensures long { HasCleanDisk (state S.Store conn.new) → (t : Tables)
-        → Stands (state S.Store conn.old).now t
+    ensures long { HasCleanDisk (state S.Store conn.new) → (version : Version) (t : Tables)
+        → StandsIn version (state S.Store conn.old).now t
         → IfErr result (λ e. e ≡ StoreFault.BadSchema → All IsShort t.batch → ⊥) }
     ensures fault { IfErr result IsOfDatabase }
-    ensures same { HasCleanDisk (state S.Store conn.new) → (t : Tables)
-        → Stands (state S.Store conn.old).now t → OnOk result ((conn.new ≡ conn.old)
+    ensures same { HasCleanDisk (state S.Store conn.new) → (version : Version) (t : Tables)
+        → StandsIn version (state S.Store conn.old).now t → OnOk result ((conn.new ≡ conn.old)
         ⊎ IsUnchanged (state S.Store conn.old) (state S.Store conn.new)) }
-    ensures kept { LeavesCommitted S.Store conn.old conn.new }
+    ensures kept { (version : Version) → LeavesCommittedIn version S.Store conn.old conn.new }
     ensures mode { conn.old.in_transaction ≡ false → conn.new.in_transaction ≡ false }
     ensures clean { HasCleanDisk (state S.Store conn.new) → HasCleanDisk (state S.Store conn.old) }
     ensures survives { Survives (state S.Store conn.old) (state S.Store conn.new) (λ _. ⊥) }
@@ -48,17 +49,17 @@ pub(crate) fn check_bytes<S: Alter>(
 // Whether the batch of a number, if there is one, is no longer than a text may be. `BadSchema`: it
 // is.
 fn check_batch<S: Alter>(alloc: Global, conn: &mut Connection<S>, no: u32) -> Result<(), StoreFault>
-    ensures short { HasCleanDisk (state S.Store conn.new) → (t : Tables)
-        → Stands (state S.Store conn.old).now t
+    ensures short { HasCleanDisk (state S.Store conn.new) → (version : Version) (t : Tables)
+        → StandsIn version (state S.Store conn.old).now t
         → OnOk result (AllByRecursion IsShort (filter (λ b. b.no == no) t.batch)) }
-    ensures long { HasCleanDisk (state S.Store conn.new) → (t : Tables)
-        → Stands (state S.Store conn.old).now t
+    ensures long { HasCleanDisk (state S.Store conn.new) → (version : Version) (t : Tables)
+        → StandsIn version (state S.Store conn.old).now t
         → IfErr result (λ e. e ≡ StoreFault.BadSchema → All IsShort t.batch → ⊥) }
     ensures fault { IfErr result IsOfDatabase }
-    ensures same { HasCleanDisk (state S.Store conn.new) → (t : Tables)
-        → Stands (state S.Store conn.old).now t
+    ensures same { HasCleanDisk (state S.Store conn.new) → (version : Version) (t : Tables)
+        → StandsIn version (state S.Store conn.old).now t
         → OnOk result (IsUnchanged (state S.Store conn.old) (state S.Store conn.new)) }
-    ensures kept { LeavesCommitted S.Store conn.old conn.new }
+    ensures kept { (version : Version) → LeavesCommittedIn version S.Store conn.old conn.new }
     ensures mode { conn.old.in_transaction ≡ false → conn.new.in_transaction ≡ false }
     ensures clean { HasCleanDisk (state S.Store conn.new) → HasCleanDisk (state S.Store conn.old) }
     ensures survives { Survives (state S.Store conn.old) (state S.Store conn.new) (λ _. ⊥) }

@@ -10,7 +10,7 @@ ghost use Rattle.office_store.specs.Running.{IsAwake};
 
 use sqlite::Alter;
 
-/// Of tables that stand for an office with a publication, the rows of shares are, together, its
+/// Of tables that represent an office with a publication, the rows of shares are, together, its
 /// penalty, with the enrolments that were published: in all, and part by part.
 pub fn stored_shares_add_up()
     ensures { (db : Database) (office : OfficeState) (kept : IsKept db office)

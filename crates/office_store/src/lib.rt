@@ -1,4 +1,4 @@
-//! The office over its tables: one SQLite file that stands for an examination session.
+//! The office over its tables: one SQLite file that represents an examination session.
 #![tactic(auto)]
 
 mod adopting;
@@ -32,3 +32,4 @@ pub use exam_draft::Edit;
 pub use laws::{awake_store_leaves_its_tables, stored_shares_add_up};
 pub use office::Office;
 pub use office_model::{CandidateView, Counts, Loaded, Published, Refusal, StoreFault};
+pub use opening::is_of_version_1;

@@ -1,4 +1,4 @@
-// What is put in where a batch is accepted.
+// What is put in for an accepted batch.
 ghost use Rattle.std.specs.Prelude.{◌≡◌, ◌<◌, ◌≤◌, All, IfErr, IfOk, IfSome, IsTrue, OnErr, OnOk, Some};
 ghost use Rattle.std.specs.Prelude.{false, length, map};
 ghost use Rattle.sqlite.specs.Effect.{Database};
@@ -95,7 +95,7 @@ fn drafts_after(
     }
 }
 
-// Puts in a batch, with the lines that act and, where there are any, all drafts anew.
+// Puts in a batch, with the lines that act and, if there are any, all drafts again.
 pub(crate) fn put_batch<S: Alter>(
     conn: &mut Connection<S>,
     new: &NewBatch,

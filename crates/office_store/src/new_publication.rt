@@ -1,4 +1,4 @@
-// What is put in where a draft is published.
+// What is put in for a publication.
 ghost use Rattle.std.specs.Prelude.{◌≡◌, ℕ, All, IfErr, IfOk, None, OnOk, Some, length, map};
 ghost use Rattle.sqlite.specs.Held.{state};
 ghost use Rattle.sqlite.specs.State.{HasCleanDisk};
@@ -109,7 +109,7 @@ fn check_permit(
     }
 }
 
-// The seat rows that were published before; none where nothing was.
+// The seat rows that were published before; none if nothing was.
 fn old_seats(
     alloc: Global,
     instance: &Instance,
@@ -166,8 +166,8 @@ fn put_together(
     })
 }
 
-// The candidates whose seats and shares are written anew: all whose seat rows differ from those
-// before, be it by their places alone.
+// The candidates whose seats and shares are written: all whose seat rows differ from those before,
+// if only by their places.
 fn rewritten(alloc: Global, old: &[SeatRow], rows: &[SeatRow]) -> Result<Vec<StudentNo>, AllocError>
     requires old_in_order { RowsInOrder old.now }
     requires new_in_order { RowsInOrder rows.now }

@@ -17,7 +17,7 @@ use sqlite::{Alter, Connection};
 use std::marker::Model;
 
 /// An examination office in one SQLite database. Contracts see the connection; over a disk that
-/// returns what was written, its tables stand for an office.
+/// returns what was written, its tables represent an office.
 #[derive(Drop)]
 pub struct Office<S: Alter> {
     pub(crate) conn: Connection<S>,
@@ -48,7 +48,7 @@ impl<S: Alter> Office<S> {
     /// indexes or views. `Store`: a statement failed, or a transaction is open. A refusal hands the
     /// connection back.
     pub fn create(conn: Connection<S>) -> Result<Office<S>, (StoreFault, Connection<S>)>
-        // The tables stand for the office without a session.
+        // The tables represent the office without a session.
         ensures made { IfOk result (λ office. HasCleanDisk (state S.Store office)
             → IsKept (state S.Store office).now None) }
         // There were none.
@@ -83,7 +83,7 @@ impl<S: Alter> Office<S> {
         }
     }
 
-    /// Looks whether the file can still be read; what is at hand is then what it says.
+    /// Looks whether the file can still be read; memory and the file then agree.
     pub fn look(&mut self) -> Result<(), StoreFault>
         ensures awake { HasCleanDisk (state S.Store self.new)
             → OnOk result (IsAwake (state S.Store self.new)) }

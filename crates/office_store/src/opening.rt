@@ -1,38 +1,40 @@
 // A database that holds an office or nothing, opened.
-ghost use Rattle.std.specs.Prelude.{◌≡◌, ◌⊎◌, IfErr, IfOk};
+ghost use Rattle.std.specs.Prelude.{◌≡◌, ◌⊎◌, ◌↔◌, IfErr, IfOk, IsTrue};
 ghost use Rattle.sqlite.specs.Held.{state};
 ghost use Rattle.sqlite.specs.State.{HasCleanDisk};
+ghost use Rattle.office_schema.specs.Schema.{schema_before};
 ghost use Rattle.office_model.specs.Office.{OfficeState};
 ghost use Rattle.office_store.specs.Faults.{IsOfDatabase};
-ghost use Rattle.office_store.specs.Leaving.{Leaves, MayMake, connection_of};
+ghost use Rattle.office_store.specs.Leaving.{Leaves, MayOpen, connection_of};
 ghost use Rattle.office_store.specs.Opening.{IsOfficeOf};
 ghost use Rattle.office_store.specs.Running.{Now};
 ghost use Rattle.office_tables.specs.Alterations.{Undone};
 
 use crate::office::Office;
 use office_model::StoreFault;
+use office_schema::is_schema_before;
 use office_tables::is_bare;
 use sqlite::{Alter, Connection};
-use std::alloc::Global;
+use std::alloc::{AllocError, Global};
 
 impl<S: Alter> Office<S> {
-    /// The office of a database: a new one where there is no table, index or view. `BadSchema`:
-    /// what is there is no office. `Store`: a statement failed, memory was refused, or a
-    /// transaction is open. A refusal hands the connection back.
+    /// The office of a database: a new one if there is no table, index or view; tables of version 1
+    /// become those of version 2. `BadSchema`: what is there is no office. `Store`: a statement
+    /// failed, memory was refused, or a transaction is open. A refusal hands the connection back.
     pub fn open(
         alloc: Global,
         conn: Connection<S>,
     ) -> Result<Office<S>, (StoreFault, Connection<S>)>
-        // The office that the database stands for is the one that is found.
+        // The office that the database represents is the one that is found, in version 2.
         ensures found { IfOk result (λ office. HasCleanDisk (state S.Store office)
             → (there : OfficeState) → IsOfficeOf (state S.Store conn).now there
             → Now (state S.Store office) there) }
-        // It stood for one.
+        // It represented one.
         ensures stood { IfOk result (λ office. HasCleanDisk (state S.Store office)
             → (there : OfficeState) × IsOfficeOf (state S.Store conn).now there) }
         // Only `Store` or `BadSchema`.
         ensures fault { IfErr result (λ e. IsOfDatabase e.0) }
-        // But for Store, it stands for none.
+        // But for Store, it represents none.
         ensures refused { IfErr result (λ e. HasCleanDisk (state S.Store e.1)
             → (e.0 ≡ StoreFault.Store) ⊎ ((there : OfficeState)
             → IsOfficeOf (state S.Store conn).now there → ⊥)) }
@@ -40,8 +42,9 @@ impl<S: Alter> Office<S> {
         ensures undone { IfErr result (λ e. (e.1 ≡ conn) ⊎ (HasCleanDisk (state S.Store e.1)
             → Undone (state S.Store conn) (state S.Store e.1))) }
         // On `Ok` the database is open, and all is committed.
-        // A later opening may find what it might have found before, or what `create` makes.
-        ensures leaves { Leaves (MayMake (state S.Store conn) result) (state S.Store conn)
+        // A later opening may find what it might have found before, or what `create` or `adopt`
+        // makes.
+        ensures leaves { Leaves (MayOpen (state S.Store conn) result) (state S.Store conn)
             (state S.Store (connection_of result)) result }
     {
         if is_bare(&conn) {
@@ -50,4 +53,12 @@ impl<S: Alter> Office<S> {
             Office::adopt(alloc, conn)
         }
     }
+}
+
+/// Whether the tables of a database are those of version 1, which opening brings to version 2.
+pub fn is_of_version_1<S: Alter>(alloc: Global, conn: &Connection<S>) -> Result<bool, AllocError>
+    ensures { IfOk result
+        (λ is. IsTrue is ↔ ((state S.Store conn.now).now.schema ≡ schema_before)) }
+{
+    is_schema_before(alloc, conn.schema())
 }

@@ -52,10 +52,10 @@ impl<S: Alter> Office<S> {
     /// The department that owns an exam; 0 for one that nobody owns or that isn't there.
     pub fn owner(&mut self, alloc: Global, exam: ExamNo) -> Result<u32, StoreFault>
         ensures reads { ReadsOffice S.Store (owner_in exam) self.old self.new result }
-        // While it is open, the database is as it was, every row where it lay.
+        // While it is open, the database is as it was, row by row.
         ensures still { HasCleanDisk (state S.Store self.new)
             → IsStill (state S.Store self.old) (state S.Store self.new) }
-        // What is at hand is then what the file says.
+        // Memory and the file then agree.
         ensures awake { HasCleanDisk (state S.Store self.new)
             → OnOk result (IsAwake (state S.Store self.new)) }
         ensures clean { HasCleanDisk (state S.Store self.new)

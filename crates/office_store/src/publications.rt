@@ -28,10 +28,10 @@ impl<S: Alter> Office<S> {
         alloc: Global,
     ) -> Result<Option<(Timetable, Vec<SeatRow>)>, StoreFault>
         ensures reads { ReadsOffice S.Store publication_shown self.old self.new (plain result) }
-        // While it is open, the database is as it was, every row where it lay.
+        // While it is open, the database is as it was, row by row.
         ensures still { HasCleanDisk (state S.Store self.new)
             → IsStill (state S.Store self.old) (state S.Store self.new) }
-        // What is at hand is then what the file says.
+        // Memory and the file then agree.
         ensures awake { HasCleanDisk (state S.Store self.new)
             → OnOk result (IsAwake (state S.Store self.new)) }
         ensures clean { HasCleanDisk (state S.Store self.new)
@@ -45,13 +45,13 @@ impl<S: Alter> Office<S> {
         published_of(alloc, instance, &found)
     }
 
-    /// The published timetable alone; no seat is read. `None`: nothing is published.
+    /// Only the published timetable; no seat is read. `None`: nothing is published.
     pub fn published_timetable(&mut self, alloc: Global) -> Result<Option<Timetable>, StoreFault>
         ensures reads { ReadsOffice S.Store timetable_shown self.old self.new result }
-        // While it is open, the database is as it was, every row where it lay.
+        // While it is open, the database is as it was, row by row.
         ensures still { HasCleanDisk (state S.Store self.new)
             → IsStill (state S.Store self.old) (state S.Store self.new) }
-        // What is at hand is then what the file says.
+        // Memory and the file then agree.
         ensures awake { HasCleanDisk (state S.Store self.new)
             → OnOk result (IsAwake (state S.Store self.new)) }
         ensures clean { HasCleanDisk (state S.Store self.new)
@@ -71,7 +71,7 @@ impl<S: Alter> Office<S> {
         // Together they are the penalty of the publication.
         ensures add_up { HasCleanDisk (state S.Store self.new) → (office : OfficeState)
             → Now (state S.Store self.old) office → IfOk result (AddUpIn office) }
-        // While it is open, the database is as it was, every row where it lay.
+        // While it is open, the database is as it was, row by row.
         ensures still { HasCleanDisk (state S.Store self.new)
             → IsStill (state S.Store self.old) (state S.Store self.new) }
         ensures awake { HasCleanDisk (state S.Store self.new)
@@ -88,7 +88,7 @@ impl<S: Alter> Office<S> {
     }
 }
 
-// What is published of the session at hand, by its rows.
+// What is published of the session in memory, by its rows.
 pub(crate) fn published_of(
     alloc: Global,
     instance: &Instance,
@@ -112,7 +112,7 @@ fn has_places(found: &PublishedRows) -> bool
     !found.placements.is_empty()
 }
 
-// The timetable that is published of the session at hand, by the rows of its places.
+// The timetable that is published of the session in memory, by the rows of its places.
 fn placed_in(
     alloc: Global,
     instance: &Instance,
@@ -130,7 +130,7 @@ fn placed_in(
     Ok(Some(timetable))
 }
 
-// The shares of what is published of the session at hand, by their rows.
+// The shares of what is published of the session in memory, by their rows.
 fn shared_of(
     alloc: Global,
     instance: &Instance,

@@ -53,7 +53,7 @@ impl<S: Alter> Office<S> {
         Ok(rows)
     }
 
-    // The rows of its places alone.
+    // Only the rows of its places.
     pub(crate) fn placements(&mut self, alloc: Global) -> Result<Vec<PlacedRow>, Failed>
         ensures rows { HasCleanDisk (state S.Store self.new) → (office : OfficeState)
             → IsKept (state S.Store self.new).now office

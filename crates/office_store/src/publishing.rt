@@ -18,7 +18,7 @@ use std::alloc::Global;
 
 impl<S: Alter> Office<S> {
     /// Publishes a draft's timetable, with a seat for each live enrolment, in place of what is
-    /// published; an old seat stays where its exam stands as before. Answers how many candidates'
+    /// published; an exam that isn't moved keeps its seats. Answers how many candidates'
     /// seat rows changed, and the penalty. `NotLoaded`; then `NoDraft`: there is none of this
     /// number; then `Refused`: an exam has no place, or a hard rule is broken.
     pub fn publish(&mut self, alloc: Global, number: u32) -> Result<Published, StoreFault>

@@ -45,8 +45,8 @@ impl Alteration for NewPublication {
     }
 }
 
-// The session as one of which something is published, its places anew, and the seats of candidates
-// that go and those that come: first all that go, so that each seat is free for who comes.
+// Says that the session is published, and writes all places and the seats of candidates that go and
+// come: first all that go, so that each seat is free for whoever gets it.
 fn put_places<S: Alter>(tx: &mut Transaction<'_, S>, new: &NewPublication) -> Result<(), Error>
     ensures same_reference { tx.new.conn.ghost_name ≡ tx.old.conn.ghost_name }
     ensures makes { Changes S.Store (places_put new.now) tx.old.conn.now tx.new.conn.now result }
@@ -78,7 +78,7 @@ fn put_places<S: Alter>(tx: &mut Transaction<'_, S>, new: &NewPublication) -> Re
     seats.apply(tx)
 }
 
-// The shares of candidates that go and those that come, and all others anew.
+// Writes the shares of candidates that go and come, and all other shares.
 fn put_shares<S: Alter>(tx: &mut Transaction<'_, S>, new: &NewPublication) -> Result<(), Error>
     requires small { AreSmallShares new.now }
     ensures same_reference { tx.new.conn.ghost_name ≡ tx.old.conn.ghost_name }

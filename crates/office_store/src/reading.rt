@@ -20,8 +20,8 @@ use sqlite::Alter;
 use std::alloc::Global;
 
 impl<S: Alter> Office<S> {
-    /// The session with its live enrolments, as they are at hand: what the file says while it can
-    /// be read, which `draft`, `owner` or `look` tell where they answer. `NotLoaded`: there is
+    /// The session with its live enrolments, as they are in memory. While the file can be read it
+    /// says the same; that it can, an Ok of `draft`, `owner` or `look` says. `NotLoaded`: there is
     /// none yet.
     pub fn session(&self) -> Result<(&Instance, &Enrolments), StoreFault>
         // While the store is open, these are the session and its present enrolments.
@@ -42,10 +42,10 @@ impl<S: Alter> Office<S> {
     /// this number.
     pub fn draft(&mut self, alloc: Global, number: u32) -> Result<(Timetable, Parts), StoreFault>
         ensures runs { Runs S.Store (draft_shown number) self.old self.new result }
-        // While it is open, the database is as it was, every row where it lay.
+        // While it is open, the database is as it was, row by row.
         ensures still { HasCleanDisk (state S.Store self.new)
             → IsStill (state S.Store self.old) (state S.Store self.new) }
-        // What is at hand is then what the file says.
+        // Memory and the file then agree.
         ensures awake { HasCleanDisk (state S.Store self.new)
             → OnOk result (IsAwake (state S.Store self.new)) }
         ensures clean { HasCleanDisk (state S.Store self.new)
@@ -66,10 +66,10 @@ impl<S: Alter> Office<S> {
     /// What a draft costs. `NotLoaded`, then `NoDraft`: there is none of this number.
     pub fn penalty(&mut self, number: u32) -> Result<Parts, StoreFault>
         ensures runs { Runs S.Store (draft_priced number) self.old self.new result }
-        // While it is open, the database is as it was, every row where it lay.
+        // While it is open, the database is as it was, row by row.
         ensures still { HasCleanDisk (state S.Store self.new)
             → IsStill (state S.Store self.old) (state S.Store self.new) }
-        // What is at hand is then what the file says.
+        // Memory and the file then agree.
         ensures awake { HasCleanDisk (state S.Store self.new)
             → OnOk result (IsAwake (state S.Store self.new)) }
         ensures clean { HasCleanDisk (state S.Store self.new)
@@ -90,10 +90,10 @@ impl<S: Alter> Office<S> {
     /// number.
     pub fn breaches(&mut self, alloc: Global, number: u32) -> Result<Vec<Breach>, StoreFault>
         ensures runs { Runs S.Store (draft_judged number) self.old self.new (listed result) }
-        // While it is open, the database is as it was, every row where it lay.
+        // While it is open, the database is as it was, row by row.
         ensures still { HasCleanDisk (state S.Store self.new)
             → IsStill (state S.Store self.old) (state S.Store self.new) }
-        // What is at hand is then what the file says.
+        // Memory and the file then agree.
         ensures awake { HasCleanDisk (state S.Store self.new)
             → OnOk result (IsAwake (state S.Store self.new)) }
         ensures clean { HasCleanDisk (state S.Store self.new)

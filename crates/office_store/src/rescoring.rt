@@ -64,7 +64,7 @@ pub(crate) fn rows_put(alloc: Global, drafts: &Drafts) -> Result<Vec<InsertDraft
     Ok(rows)
 }
 
-// Puts the row of a draft, if there is one, behind those of others.
+// Adds the row of a draft, if there is one.
 fn add_row(
     rows: &mut Vec<InsertDraft>,
     number: u32,
@@ -73,7 +73,7 @@ fn add_row(
     ensures none { draft.now ≡ None → OnOk result (rows.new.items ≡ rows.old.items) }
     ensures some { (x : Draft) → draft.now ≡ Some x → OnOk result ((row : DraftRow)
         × (rows.new.items ≡ rows.old.items ++ (record { row = row } ∷ [])) × (row.no ≡ number)
-        × (parts_of row ≡ x.parts) × AreAmounts row) }
+        × (parts_of row ≡ x.parts) × (row.night ≡ 0) × AreAmounts row) }
 {
     let Some(draft) = draft else {
         return Ok(());

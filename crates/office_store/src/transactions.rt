@@ -1,19 +1,19 @@
 // Whole transactions: all of it is done, or nothing.
-ghost use Rattle.std.specs.Prelude.{◌≡◌, false, OnOk, OnErr};
+ghost use Rattle.std.specs.Prelude.{◌≡◌, [], ◌∷◌, false, OnOk, OnErr};
 ghost use Rattle.sqlite.specs.Held.{state};
 ghost use Rattle.sqlite.specs.State.{HasCleanDisk, Survives};
 ghost use Rattle.office_tables.specs.Alterations.{Changed, HoldsChanged, Undone};
 ghost use Rattle.office_tables.specs.Schema.{no_schema, IsBlank};
-ghost use Rattle.office_tables.specs.Standing.{Stands};
-ghost use Rattle.office_tables.specs.Tables.{empty_tables};
+ghost use Rattle.office_tables.specs.Standing.{Stands, StandsBefore};
+ghost use Rattle.office_tables.specs.Tables.{Tables, empty_tables};
 ghost use Rattle.office_store.specs.Leaving.{found_in};
 ghost use Rattle.office_store.specs.Transactions.{Turned};
 
 use crate::fault::Failed;
-use office_tables::{Alteration, create_tables, transact};
+use office_tables::{Alteration, create_tables, migrate, transact};
 use sqlite::{Alter, Connection};
 
-// Makes the ten tables, which then stand for the office without a session.
+// Makes the tables, which then represent the office without a session.
 pub(crate) fn make_tables<S: Alter>(conn: &mut Connection<S>) -> Result<(), Failed>
     requires rests { conn.old.in_transaction ≡ false }
     ensures done { HasCleanDisk (state S.Store conn.new) → OnOk result (Turned (IsBlank no_schema)
@@ -28,6 +28,32 @@ pub(crate) fn make_tables<S: Alter>(conn: &mut Connection<S>) -> Result<(), Fail
 {
     let mut tx = conn.transaction();
     create_tables(&mut tx)?;
+    tx.commit()?;
+    Ok(())
+}
+
+// Makes version 2 of tables of version 1, which have this row about the office.
+pub(crate) fn migrate_tables<S: Alter>(
+    conn: &mut Connection<S>,
+    published: bool,
+    instance: &[u8],
+) -> Result<(), Failed>
+    requires rests { conn.old.in_transaction ≡ false }
+    ensures done { HasCleanDisk (state S.Store conn.new) → (t : Tables)
+        → t.meta ≡ record { published = published; instance = instance.now } ∷ []
+        → OnOk result (Turned (λ db. StandsBefore db t) (λ db. Stands db t)
+        (state S.Store conn.old) (state S.Store conn.new)) }
+    ensures undone { HasCleanDisk (state S.Store conn.new)
+        → OnErr result (Undone (state S.Store conn.old) (state S.Store conn.new)) }
+    ensures rests { conn.new.in_transaction ≡ false }
+    ensures clean { HasCleanDisk (state S.Store conn.new) → HasCleanDisk (state S.Store conn.old) }
+    ensures survives { Survives (state S.Store conn.old) (state S.Store conn.new)
+        (λ found. (t : Tables)
+        → t.meta ≡ record { published = published; instance = instance.now } ∷ []
+        → StandsBefore (state S.Store conn.old).now t → Stands (found_in found) t) }
+{
+    let mut tx = conn.transaction();
+    migrate(&mut tx, published, instance)?;
     tx.commit()?;
     Ok(())
 }

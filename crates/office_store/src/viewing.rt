@@ -47,10 +47,10 @@ impl<S: Alter> Office<S> {
     ) -> Result<CandidateView, StoreFault>
         ensures reads { ReadsOffice S.Store (λ o. shown_to student (view_of student o))
             self.old self.new result }
-        // While it is open, the database is as it was, every row where it lay.
+        // While it is open, the database is as it was, row by row.
         ensures still { HasCleanDisk (state S.Store self.new)
             → IsStill (state S.Store self.old) (state S.Store self.new) }
-        // What is at hand is then what the file says.
+        // Memory and the file then agree.
         ensures awake { HasCleanDisk (state S.Store self.new)
             → OnOk result (IsAwake (state S.Store self.new)) }
         ensures clean { HasCleanDisk (state S.Store self.new)
@@ -62,7 +62,7 @@ impl<S: Alter> Office<S> {
         Ok(CandidateView::new(student, exams, personal))
     }
 
-    /// One of a candidate's exams, by her enrolments, places and seats alone. Nothing of anybody
+    /// One of a candidate's exams, by only her enrolments, places and seats. Nothing of anybody
     /// else's is read. `None`: it is none of hers, or nothing is loaded.
     pub fn candidate_exam(
         &mut self,
@@ -73,10 +73,10 @@ impl<S: Alter> Office<S> {
         ensures reads { ReadsOffice S.Store
             (λ o. find (λ row. row.exam == exam) (shown_exams (view_of student o)))
             self.old self.new result }
-        // While it is open, the database is as it was, every row where it lay.
+        // While it is open, the database is as it was, row by row.
         ensures still { HasCleanDisk (state S.Store self.new)
             → IsStill (state S.Store self.old) (state S.Store self.new) }
-        // What is at hand is then what the file says.
+        // Memory and the file then agree.
         ensures awake { HasCleanDisk (state S.Store self.new)
             → OnOk result (IsAwake (state S.Store self.new)) }
         ensures clean { HasCleanDisk (state S.Store self.new)
@@ -87,7 +87,7 @@ impl<S: Alter> Office<S> {
         Ok(row_of(&rows, exam))
     }
 
-    /// What a candidate's seats cost her, by her share alone. Nothing of anybody else's is read.
+    /// What a candidate's seats cost her, by only her share. Nothing of anybody else's is read.
     pub fn candidate_penalty(
         &mut self,
         alloc: Global,
@@ -95,10 +95,10 @@ impl<S: Alter> Office<S> {
     ) -> Result<PersonalParts, StoreFault>
         ensures reads { ReadsOffice S.Store (λ o. shown_penalty (view_of student o))
             self.old self.new result }
-        // While it is open, the database is as it was, every row where it lay.
+        // While it is open, the database is as it was, row by row.
         ensures still { HasCleanDisk (state S.Store self.new)
             → IsStill (state S.Store self.old) (state S.Store self.new) }
-        // What is at hand is then what the file says.
+        // Memory and the file then agree.
         ensures awake { HasCleanDisk (state S.Store self.new)
             → OnOk result (IsAwake (state S.Store self.new)) }
         ensures clean { HasCleanDisk (state S.Store self.new)
@@ -109,7 +109,7 @@ impl<S: Alter> Office<S> {
         personal_in(&rows)
     }
 
-    // All exams of a candidate, as she is shown them; none where nothing is loaded.
+    // All exams of a candidate, as she is shown them; none if nothing is loaded.
     fn her_exams(&mut self, alloc: Global, student: StudentNo) -> Result<Vec<ViewRow>, StoreFault>
         ensures reads { ReadsOffice S.Store (λ o. shown_exams (view_of student o))
             self.old self.new (listed result) }
@@ -228,7 +228,7 @@ impl<S: Alter> Office<S> {
     }
 }
 
-// The exams that these rows show of the session at hand, whoever's they are.
+// The exams that these rows show of the session in memory, whoever's they are.
 fn exams_from(
     alloc: Global,
     instance: &Instance,

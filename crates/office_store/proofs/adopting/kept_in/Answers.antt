@@ -7,7 +7,7 @@ use Rattle.office_tables.specs.Adopting.{IsAdopted, tables_of}
 use Rattle.office_tables.specs.Batch.{counts_of}
 use Rattle.office_records.specs.declared.fault.RecordFault.{RecordFault}
 use Rattle.office_records.specs.declared.fault.RecordFault.TheVariants.{NoMemory, BadRows}
-use Rattle.office_records.proofs.ReadableLemmas.{not_foreign}
+use Rattle.office_records.proofs.ReadableLemmas.{not_foreign_in}
 use Rattle.office_records.specs.Faults.{store_fault}
 use Rattle.office_store.specs.Faults.{IsOfDatabase}
 use Rattle.office_model.specs.declared.fault.StoreFault.{StoreFault}
@@ -23,10 +23,11 @@ use Rattle.office_store.proofs.adopting.kept_in.Goals as goal
 
 -- the tables are foreign
 pub returns-in-Ok-None-clause-none : goal.returns-in-Ok-None-clause-none
-returns-in-Ok-None-clause-none g c clean bad o kept =
+returns-in-Ok-None-clause-none g c clean bad o there =
     let db = (state g.S.Store c.args.conn.now).now in
     let none : c.in-Ok-None.field-0 ≡ None = search rules in
-    not_foreign db o kept (subst (IsAdopted db) none (c.in-Ok-None.ensures.found clean))
+    not_foreign_in there.0 db o there.1
+    (subst (IsAdopted db) none (c.in-Ok-None.ensures.found clean))
 
 pub returns-in_err-kept-clause-none : goal.returns-in_err-kept-clause-none
 returns-in_err-kept-clause-none g c clean =
@@ -36,7 +37,7 @@ returns-in_err-kept-clause-none g c clean =
     let adopted = subst (IsAdopted db) some (c.in-Ok-Some.ensures.found clean) in
     told c.from_residual.result c.in_err-kept.field-0.0
     c.from_residual.ensures.1
-    (λ bad o kept. none_refused db found adopted.0 adopted.1 adopted.2 o kept
+    (λ bad o there. none_refused db found adopted.0 adopted.1 adopted.2 o there
     (c.in_err-kept.ensures.none bad adopted.0 adopted.1))
 
 -- a batch that is too long is no office's
@@ -49,13 +50,14 @@ returns-in_err-check_bytes-clause-none g c clean =
     let some : c.in-Ok-Some.field-0 ≡ Some found = search rules in
     let clean_mid = c.check_bytes.ensures.clean clean in
     let adopted = subst (IsAdopted db) some (c.in-Ok-Some.ensures.found clean_mid) in
-    let held = held_still g.S.Store old mid (tables_of found adopted.0)
+    let held = held_still g.S.Store old mid found.version (tables_of found adopted.0)
     (c.in-Ok-Some.ensures.same clean_mid) adopted.2 in
-    let long = c.in_err-check_bytes.ensures.long clean (tables_of found adopted.0) held in
+    let long = c.in_err-check_bytes.ensures.long clean found.version (tables_of found adopted.0)
+    held in
     let is : c.from_residual-in_err-check_bytes.result ≡ Err c.in_err-check_bytes.field-0.0
     = search rules in
-    rw is (λ bad o kept. long bad
-    (none_long db found adopted.0 adopted.1 adopted.2 o kept))
+    rw is (λ bad o there. long bad
+    (none_long db found adopted.0 adopted.1 adopted.2 o there))
 
 pub returns-in_err-check_bytes-clause-keeps : goal.returns-in_err-check_bytes-clause-keeps
 returns-in_err-check_bytes-clause-keeps g c clean =
@@ -67,9 +69,10 @@ returns-in_err-check_bytes-clause-keeps g c clean =
     let adopted = subst (IsAdopted (state g.S.Store old).now) some
     (c.in-Ok-Some.ensures.found clean_mid) in
     let same = c.in-Ok-Some.ensures.same clean_mid in
-    let held = held_still g.S.Store old mid (tables_of found adopted.0) same adopted.2 in
+    let held = held_still g.S.Store old mid found.version (tables_of found adopted.0) same
+    adopted.2 in
     keeps_still g.S.Store old mid c.check_bytes.new.conn same
-    (c.check_bytes.ensures.kept clean (tables_of found adopted.0) held)
+    (c.check_bytes.ensures.kept found.version clean (tables_of found adopted.0) held)
 
 pub returns-clause-keeps : goal.returns-clause-keeps
 returns-clause-keeps g c clean =
@@ -81,9 +84,10 @@ returns-clause-keeps g c clean =
     let adopted = subst (IsAdopted (state g.S.Store old).now) some
     (c.in-Ok-Some.ensures.found clean_mid) in
     let same = c.in-Ok-Some.ensures.same clean_mid in
-    let held = held_still g.S.Store old mid (tables_of found adopted.0) same adopted.2 in
+    let held = held_still g.S.Store old mid found.version (tables_of found adopted.0) same
+    adopted.2 in
     keeps_still g.S.Store old mid c.check_bytes.new.conn same
-    (c.check_bytes.ensures.kept clean (tables_of found adopted.0) held)
+    (c.check_bytes.ensures.kept found.version clean (tables_of found adopted.0) held)
 
 pub returns-clause-same : goal.returns-clause-same
 returns-clause-same g c clean =
@@ -95,9 +99,10 @@ returns-clause-same g c clean =
     let adopted = subst (IsAdopted (state g.S.Store old).now) some
     (c.in-Ok-Some.ensures.found clean_mid) in
     let same = c.in-Ok-Some.ensures.same clean_mid in
-    let held = held_still g.S.Store old mid (tables_of found adopted.0) same adopted.2 in
+    let held = held_still g.S.Store old mid found.version (tables_of found adopted.0) same
+    adopted.2 in
     both_same g.S.Store old mid c.check_bytes.new.conn same
-    (c.in_ok-check_bytes.ensures.same clean (tables_of found adopted.0) held)
+    (c.in_ok-check_bytes.ensures.same clean found.version (tables_of found adopted.0) held)
 
 pub returns-clause-open : goal.returns-clause-open
 returns-clause-open g c clean =
@@ -109,9 +114,10 @@ returns-clause-open g c clean =
     let adopted = subst (IsAdopted (state g.S.Store old).now) some
     (c.in-Ok-Some.ensures.found clean_mid) in
     let same = c.in-Ok-Some.ensures.same clean_mid in
-    let held = held_still g.S.Store old mid (tables_of found adopted.0) same adopted.2 in
+    let held = held_still g.S.Store old mid found.version (tables_of found adopted.0) same
+    adopted.2 in
     open_still g.S.Store mid c.check_bytes.new.conn
-    (c.in_ok-check_bytes.ensures.same clean (tables_of found adopted.0) held)
+    (c.in_ok-check_bytes.ensures.same clean found.version (tables_of found adopted.0) held)
     (c.in-Ok-Some.ensures.open clean_mid (subst IsSome (sym some) refl))
 
 pub returns-clause-kept : goal.returns-clause-kept
@@ -124,28 +130,33 @@ returns-clause-kept g c clean =
     let clean_mid = c.check_bytes.ensures.clean clean in
     let adopted = subst (IsAdopted db) some (c.in-Ok-Some.ensures.found clean_mid) in
     let t = tables_of found adopted.0 in
-    let held = held_still g.S.Store old mid t (c.in-Ok-Some.ensures.same clean_mid) adopted.2 in
-    let short = c.in_ok-check_bytes.ensures.short clean t held
+    let held = held_still g.S.Store old mid found.version t (c.in-Ok-Some.ensures.same clean_mid)
+    adopted.2 in
+    let short = c.in_ok-check_bytes.ensures.short clean found.version t held
     (adopted.1 ∙ sym c.deref.ensures.value) in
     let long : c.len.result ≡ length found.batches.items = search rules in
     let are = c.in_ok-kept.ensures.are adopted.0
-    (found_batches db found adopted.0 adopted.1 adopted.2 short) in (
-      are.0,
-      record {
+    (found_batches db found adopted.0 adopted.1 adopted.2 short) in
+    record {
+      batches = adopted.0;
+      counted = adopted.1;
+      tables = adopted.2;
+      office = are.0;
+      kept = record {
         held = t;
         tables = adopted.2;
         stands = are.1;
         sound = are.2;
         office = are.3;
-      },
-      record {
+      };
+      in_memory = record {
         session = are.4;
         batches = sym (counted t are.0 are.1) ∙ sym (length-map adopted.0 counts_of)
             ∙ ap length adopted.1 ∙ sym long;
         drafts = found_drafts t are.0 are.1 are.2 are.3 c.in_ok-kept.kept are.4
             c.in_ok-drafts.drafts c.in_ok-drafts.ensures.are c.in_ok-drafts.ensures.none;
-      },
-    )
+      };
+    }
 
 -- rows of drafts are not refused after all
 pub returns-in_err-drafts-clause-none : goal.returns-in_err-drafts-clause-none
@@ -158,8 +169,9 @@ returns-in_err-drafts-clause-none g c clean =
     let clean_mid = c.check_bytes.ensures.clean clean in
     let adopted = subst (IsAdopted db) some (c.in-Ok-Some.ensures.found clean_mid) in
     let t = tables_of found adopted.0 in
-    let held = held_still g.S.Store old mid t (c.in-Ok-Some.ensures.same clean_mid) adopted.2 in
-    let short = c.in_ok-check_bytes.ensures.short clean t held
+    let held = held_still g.S.Store old mid found.version t (c.in-Ok-Some.ensures.same clean_mid)
+    adopted.2 in
+    let short = c.in_ok-check_bytes.ensures.short clean found.version t held
     (adopted.1 ∙ sym c.deref.ensures.value) in
     let are = c.in_ok-kept.ensures.are adopted.0
     (found_batches db found adopted.0 adopted.1 adopted.2 short) in
@@ -178,9 +190,10 @@ returns-in_err-drafts-clause-keeps g c clean =
     let adopted = subst (IsAdopted (state g.S.Store old).now) some
     (c.in-Ok-Some.ensures.found clean_mid) in
     let same = c.in-Ok-Some.ensures.same clean_mid in
-    let held = held_still g.S.Store old mid (tables_of found adopted.0) same adopted.2 in
+    let held = held_still g.S.Store old mid found.version (tables_of found adopted.0) same
+    adopted.2 in
     keeps_still g.S.Store old mid c.check_bytes.new.conn same
-    (c.check_bytes.ensures.kept clean (tables_of found adopted.0) held)
+    (c.check_bytes.ensures.kept found.version clean (tables_of found adopted.0) held)
 
 pub returns-in_err-drafts-clause-survives : goal.returns-in_err-drafts-clause-survives
 returns-in_err-drafts-clause-survives g c =

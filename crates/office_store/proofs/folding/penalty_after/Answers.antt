@@ -34,7 +34,8 @@ returns-clause-told g c had of =
     subst (Tells (track I E judged.new)) (sym c.ok_or.ensures.value)
     (told_after g.S.Store c.args.conn.now c.fold_students.new.conn c.in_ok-fold.fold I E judged
     empty.edited c.deref-4.result.now c.finish.result stands.0 had of
-    (fold_of c.in_ok-fold.fold empty I judged.draft.now.timetable judged.new empty.edited c.in_ok-fold.ensures.of
+    (fold_of c.in_ok-fold.fold empty I judged.draft.now.timetable judged.new empty.edited
+    c.in_ok-fold.ensures.of
     (record {
       session = ap (λ (f : Folded). f.instance) made;
       before = ap (λ (f : Folded). f.earlier) made;

@@ -1,5 +1,5 @@
-use Rattle.std.proofs.Common.{◌≡◌, ◌∙◌, ℕ, Vec, None, rules, sym, subst}
-use Rattle.std.specs.Prelude.{IsSome}
+use Rattle.std.proofs.Common.{◌≡◌, ◌∙◌, ℕ, Vec, Err, None, Ok, Result, rules, sym, subst}
+use Rattle.std.specs.Prelude.{IsSome, OnOk}
 use Rattle.exam_model.specs.Changes.{exams_sat}
 use Rattle.std.specs.declared.alloc.Global.{Global}
 use Rattle.office_store.proofs.FoldingLemmas.{exams_are, ok_weaker, rows_fit, rows_had, sat_up, some_is}
@@ -31,3 +31,11 @@ returns-in_default-found-clause-fault g c E had =
     c.in-Ok.found c.in-Ok.ensures.found in
     let none : c.in-Ok.found ≡ None = search rules in
     absurd (let no = subst IsSome none read in cc)
+
+kept : {T E P : Type 0} (result : Result T E) → P → OnOk result P
+kept (Ok x) p = p
+kept (Err e) p = tt
+
+pub returns-clause-same : goal.returns-clause-same
+returns-clause-same g c =
+    kept c.exams_in_order.result (λ clean t stands _. c.in-Ok.ensures.same clean t stands)

@@ -17,15 +17,15 @@ refused (Ok x) f not = tt
 refused (Err e) f not = λ bad q. not (f q)
 
 pub returns-clause-short : goal.returns-clause-short
-returns-clause-short g c clean t held =
+returns-clause-short g c clean version t held =
     on_ok_weaker c.check_length.result
-    (subst (AllByRecursion IsShort) (sym (c.in-Ok.ensures.row clean t held)))
+    (subst (AllByRecursion IsShort) (sym (c.in-Ok.ensures.row version clean t held)))
     c.check_length.ensures.short
 
 pub returns-clause-long : goal.returns-clause-long
-returns-clause-long g c clean t held =
+returns-clause-long g c clean version t held =
     refused c.check_length.result
-    (λ all. subst (AllByRecursion IsShort) (c.in-Ok.ensures.row clean t held)
+    (λ all. subst (AllByRecursion IsShort) (c.in-Ok.ensures.row version clean t held)
     (all-filter IsShort (λ (b : Batch). eqb b.no c.args.no) t.batch
     (recursion_from_All IsShort t.batch all)))
     c.check_length.ensures.long

@@ -16,8 +16,8 @@ batches-init g c = record {
   clean = λ clean. clean;
   survives = survives_same (state g.S.Store c.args.conn.now);
   mode = λ rests. rests;
-  same = λ clean t held. inl refl;
-  short = λ clean t held k d none. absurd (omega (arith, none));
+  same = λ clean version t held. inl refl;
+  short = λ clean version t held k d none. absurd (omega (arith, none));
 }
 
 pub batches-preserved : goal.batches-preserved
@@ -31,46 +31,47 @@ batches-preserved g c =
       survives = survives_on (state g.S.Store old) (state g.S.Store mid) (state g.S.Store new)
           before.survives c.check_batch.ensures.survives;
       mode = λ rests. c.check_batch.ensures.mode (before.mode rests);
-      same = λ clean t held.
-          let same = before.same (c.check_batch.ensures.clean clean) t held in
+      same = λ clean version t held.
+          let same = before.same (c.check_batch.ensures.clean clean) version t held in
           same_then g.S.Store old mid new same
-          (c.in_ok-check_batch.ensures.same clean t (held_still g.S.Store old mid t same held));
-      short = λ clean t held.
+          (c.in_ok-check_batch.ensures.same clean version t
+          (held_still g.S.Store old mid version t same held));
+      short = λ clean version t held.
           let clean_mid = c.check_batch.ensures.clean clean in
-          let same = before.same clean_mid t held in
+          let same = before.same clean_mid version t held in
           pushed (λ (row : BatchCountsRow).
           AllByRecursion IsShort (filter (λ (b : Batch). eqb b.no row.no) t.batch))
           c.args.batches.now c.batches.row-index no_row c.batches-test.true
-          (before.short clean_mid t held)
-          (c.in_ok-check_batch.ensures.short clean t
-          (held_still g.S.Store old mid t same held));
+          (before.short clean_mid version t held)
+          (c.in_ok-check_batch.ensures.short clean version t
+          (held_still g.S.Store old mid version t same held));
     }
 
 pub returns-in_err-check_batch-clause-long : goal.returns-in_err-check_batch-clause-long
-returns-in_err-check_batch-clause-long g c clean t held =
-    let same = c.batches.invariant.same (c.check_batch.ensures.clean clean) t held in
+returns-in_err-check_batch-clause-long g c clean version t held =
+    let same = c.batches.invariant.same (c.check_batch.ensures.clean clean) version t held in
     let is : c.from_residual.result ≡ Err c.in_err-check_batch.field-0.0 = search rules in
-    rw is (c.in_err-check_batch.ensures.long clean t
-    (held_still g.S.Store c.args.conn.now c.batches.conn t same held))
+    rw is (c.in_err-check_batch.ensures.long clean version t
+    (held_still g.S.Store c.args.conn.now c.batches.conn version t same held))
 
 pub returns-in_err-check_batch-clause-kept : goal.returns-in_err-check_batch-clause-kept
-returns-in_err-check_batch-clause-kept g c clean t held =
-    let same = c.batches.invariant.same (c.check_batch.ensures.clean clean) t held in
+returns-in_err-check_batch-clause-kept g c version clean t held =
+    let same = c.batches.invariant.same (c.check_batch.ensures.clean clean) version t held in
     keeps_still g.S.Store c.args.conn.now c.batches.conn c.check_batch.new.conn same
-    (c.check_batch.ensures.kept clean t
-    (held_still g.S.Store c.args.conn.now c.batches.conn t same held))
+    (c.check_batch.ensures.kept version clean t
+    (held_still g.S.Store c.args.conn.now c.batches.conn version t same held))
 
 pub returns-clause-short : goal.returns-clause-short
-returns-clause-short g c clean t held rows =
+returns-clause-short g c clean version t held rows =
     short_by_rows c.args.batches.now t.batch rows
     (subst (All (λ (row : BatchCountsRow).
     AllByRecursion IsShort (filter (λ (b : Batch). eqb b.no row.no) t.batch)))
     (take_all c.batches.row-index c.args.batches.now (omega arith))
-    (c.batches.invariant.short clean t held))
+    (c.batches.invariant.short clean version t held))
 
 pub returns-clause-kept : goal.returns-clause-kept
-returns-clause-kept g c clean t held =
-    kept_by g.S.Store c.args.conn.now c.batches.conn (c.batches.invariant.same clean t held)
+returns-clause-kept g c version clean t held =
+    kept_by g.S.Store c.args.conn.now c.batches.conn (c.batches.invariant.same clean version t held)
     c.batches.invariant.mode
 
 pub returns-in_err-check_batch-clause-survives : goal.returns-in_err-check_batch-clause-survives

@@ -1,6 +1,7 @@
 use Rattle.std.proofs.Common.{arith, inr}
 use Rattle.sqlite.specs.Held.{state}
 use Rattle.sqlite.specs.State.{HasCleanDisk}
+use Rattle.office_tables.specs.declared.version.Version.TheVariants.{Two}
 use Rattle.office_store.proofs.AdoptLemmas.{held_still}
 use Rattle.office_store.proofs.FoldingLemmas.{read_on, read_one, same_on}
 use Rattle.office_store.proofs.PublishedReadLemmas.{placed_read, seats_read}
@@ -67,7 +68,7 @@ pub returns-clause-rows : goal.returns-clause-rows
 returns-clause-rows g c clean office kept =
     let mid : HasCleanDisk (state g.S.Store c.placements.new.conn)
     = omega (arith, c.seats.ensures.survives.clean, clean) in
-    let held = held_still g.S.Store c.args.conn.now c.placements.new.conn kept.held
+    let held = held_still g.S.Store c.args.conn.now c.placements.new.conn Two kept.held
     (inr (c.in_ok-placements.ensures.same mid kept.held kept.tables)) kept.tables in
     record {
       placed = placed_read kept.held office c.in_ok-placements.placements.items kept.stands

@@ -5,4 +5,5 @@ use Rattle.office_store.proofs.rescoring.rescored_drafts.Given as goal
 
 abbrev pub invariant-numbers : goal.invariant-numbers
 invariant-numbers l =
-    AreMade l.made l.number (λ d. option_map (rescored l.instance l.enrolments) (draft_at l.drafts d))
+    AreMade l.made l.number
+    (λ d. option_map (rescored l.instance l.enrolments) (draft_at l.drafts d))

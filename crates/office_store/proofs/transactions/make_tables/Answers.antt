@@ -1,7 +1,7 @@
 use Rattle.std.proofs.Common.{rules, subst, ◌≡◌}
 use Rattle.sqlite.specs.Held.{state}
 use Rattle.sqlite.specs.State.{Survives}
-use Rattle.office_store.proofs.LeavingLemmas.{tables_survive}
+use Rattle.office_store.proofs.LeavingLemmas.{made_survive}
 use Rattle.office_tables.specs.Schema.{IsBlank, no_schema}
 use Rattle.office_tables.specs.Standing.{Stands}
 use Rattle.office_tables.specs.Tables.{empty_tables}
@@ -15,9 +15,9 @@ returns-in_err-commit-clause-survives g c =
     subst (λ h. Survives (state g.S.Store old) (state g.S.Store h)
     (λ found. IsBlank no_schema (state g.S.Store old).now → Stands (found_in found) empty_tables))
     same
-    (tables_survive g.S.Store old c.transaction-tx.result.conn.now c.create_tables.new.tx.conn.now
+    (made_survive g.S.Store old c.transaction-tx.result.conn.now c.create_tables.new.tx.conn.now
     c.commit.new.self.0 c.transaction-tx.ensures.begun c.create_tables.ensures.within
-    c.in_ok-create_tables.ensures.makes c.commit.ensures.survives)
+    c.commit.ensures.survives c.in_ok-create_tables.ensures.makes)
 
 pub returns-clause-survives : goal.returns-clause-survives
 returns-clause-survives g c =
@@ -26,6 +26,6 @@ returns-clause-survives g c =
     subst (λ h. Survives (state g.S.Store old) (state g.S.Store h)
     (λ found. IsBlank no_schema (state g.S.Store old).now → Stands (found_in found) empty_tables))
     same
-    (tables_survive g.S.Store old c.transaction-tx.result.conn.now c.create_tables.new.tx.conn.now
+    (made_survive g.S.Store old c.transaction-tx.result.conn.now c.create_tables.new.tx.conn.now
     c.commit.new.self.0 c.transaction-tx.ensures.begun c.create_tables.ensures.within
-    c.in_ok-create_tables.ensures.makes c.commit.ensures.survives)
+    c.commit.ensures.survives c.in_ok-create_tables.ensures.makes)

@@ -1,51 +1,94 @@
-use Rattle.std.proofs.Common.{◌≡◌, inr, refl, Bool, true, false, not, rules}
+use Rattle.std.proofs.Common.{◌≡◌, ◌⊎◌, inr, refl, Bool, Err, Ok, true, false, not, rules, subst, sym}
+use Rattle.office_model.specs.declared.fault.StoreFault.TheVariants.{Store}
 use Rattle.sqlite.specs.Held.{state}
-use Rattle.office_store.proofs.AdoptLemmas.{awake_still, kept_still, undone_reading}
-use Rattle.office_store.proofs.LeavingLemmas.{survives_same}
+use Rattle.sqlite.specs.State.{HasCleanDisk, IsUnchanged}
+use Rattle.office_tables.specs.declared.version.Version.TheVariants.{One, Two}
+use Rattle.office_store.proofs.AdoptLemmas.{awake_still, held_still, may_migrate, one_version}
+use Rattle.office_store.proofs.AdoptLemmas.{taken_over, undone_after, undone_reading}
+use Rattle.office_store.proofs.LeavingLemmas.{survives_more, survives_same}
 use Rattle.office_store.proofs.office.Office.adopt.Goals as goal
 
 at_rest : (answer within : Bool) → answer ≡ not within → answer ≡ true → within ≡ false
 at_rest answer true is told = absurd cc
 at_rest answer false is told = refl
 
-pub invariant_of-result : goal.invariant_of-result
-invariant_of-result g c =
-    let rests = at_rest _ _ c.is_autocommit.ensures.value c.if-not-is_autocommit.false in (
-      c.in-Ok.ensures.rests rests,
-      (λ clean opened.
-          let here = c.in-Ok.ensures.kept clean in (
-            here.0,
-            kept_still g.S.Store c.args.conn c.kept_in.new.conn here.0 (c.in-Ok.ensures.same clean)
-                here.1,
-            here.2,
-          )),
-      c.in-Ok.ensures.together,
-    )
-
-pub returns-in-Ok-clause-adopted : goal.returns-in-Ok-clause-adopted
-returns-in-Ok-clause-adopted g c clean =
-    let here = c.in-Ok.ensures.kept clean in (
-      here.0,
-      kept_still g.S.Store c.args.conn c.kept_in.new.conn here.0 (c.in-Ok.ensures.same clean)
-          here.1,
-    )
-
-pub returns-in-Ok-clause-leaves : goal.returns-in-Ok-clause-leaves
-returns-in-Ok-clause-leaves g c = record {
-  awake = λ clean. awake_still g.S.Store c.args.conn c.kept_in.new.conn
-      (c.in-Ok.ensures.same clean) (c.is_autocommit.ensures.settled c.if-not-is_autocommit.false)
-      (c.in-Ok.ensures.open clean);
-  survives = c.kept_in.ensures.survives;
+pub bring_up-requires : goal.bring_up-requires
+bring_up-requires g c = record {
+  rests = c.in-Ok.ensures.rests
+      (at_rest _ _ c.is_autocommit.ensures.value c.if-not-is_autocommit.false);
 }
+
+-- what was found is represented in version 2
+pub returns-in-Ok-bring_up-clause-adopted : goal.returns-in-Ok-bring_up-clause-adopted
+returns-in-Ok-bring_up-clause-adopted g c clean =
+    let old = c.args.conn in
+    let clean_mid = c.bring_up.ensures.clean clean in
+    let is = c.in-Ok.ensures.kept clean_mid in
+    taken_over (state g.S.Store old).now _ _ _ is
+    (c.in-Ok-bring_up.ensures.tables clean is.batches
+    (held_still g.S.Store old c.kept_in.new.conn _ _ (c.in-Ok.ensures.same clean_mid) is.tables))
+
+pub invariant_of-result : goal.invariant_of-result
+invariant_of-result g c = (
+  c.bring_up.ensures.rests,
+  λ clean opened.
+      let old = c.args.conn in
+      let clean_mid = c.bring_up.ensures.clean clean in
+      let is = c.in-Ok.ensures.kept clean_mid in
+      let taken = taken_over (state g.S.Store old).now _ _ _ is
+      (c.in-Ok-bring_up.ensures.tables clean is.batches
+      (held_still g.S.Store old c.kept_in.new.conn _ _ (c.in-Ok.ensures.same clean_mid) is.tables))
+      in
+      (is.office, taken.stands is.office (_, is.kept), is.in_memory),
+  c.in-Ok.ensures.together,
+)
+
+pub returns-in-Ok-bring_up-clause-same : goal.returns-in-Ok-bring_up-clause-same
+returns-in-Ok-bring_up-clause-same g c clean schema =
+    let old = c.args.conn in
+    let clean_mid = c.bring_up.ensures.clean clean in
+    let is = c.in-Ok.ensures.kept clean_mid in
+    let version = one_version (state g.S.Store old).now _ Two is.tables.schema schema in
+    subst (λ h. (h ≡ old) ⊎ IsUnchanged (state g.S.Store old) (state g.S.Store h))
+    (sym (c.in-Ok-bring_up.ensures.same version)) (c.in-Ok.ensures.same clean_mid)
+
+pub returns-in-Ok-bring_up-clause-leaves : goal.returns-in-Ok-bring_up-clause-leaves
+returns-in-Ok-bring_up-clause-leaves g c = record {
+  awake = λ clean.
+      let clean_mid = c.bring_up.ensures.clean clean in
+      c.in-Ok-bring_up.ensures.awake clean
+      (awake_still g.S.Store c.args.conn c.kept_in.new.conn (c.in-Ok.ensures.same clean_mid)
+      (c.is_autocommit.ensures.settled c.if-not-is_autocommit.false)
+      (c.in-Ok.ensures.open clean_mid));
+  survives = may_migrate g.S.Store c.args.conn c.kept_in.new.conn c.bring_up.new.conn _ _
+      (Ok c.bring_up.new.conn) tt
+      c.bring_up.ensures.clean c.in-Ok.ensures.same c.in-Ok.ensures.kept
+      c.kept_in.ensures.survives c.bring_up.ensures.survives;
+}
+
+pub returns-clause-leaves : goal.returns-clause-leaves
+returns-clause-leaves g c = record {
+  awake = search rules;
+  survives = may_migrate g.S.Store c.args.conn c.kept_in.new.conn c.bring_up.new.conn _ _
+      (Err (Store, c.bring_up.new.conn)) refl
+      c.bring_up.ensures.clean c.in-Ok.ensures.same c.in-Ok.ensures.kept
+      c.kept_in.ensures.survives c.bring_up.ensures.survives;
+}
+
+pub returns-clause-undone : goal.returns-clause-undone
+returns-clause-undone g c =
+    inr (λ clean. undone_after g.S.Store c.args.conn c.kept_in.new.conn c.bring_up.new.conn
+    (c.in-Ok.ensures.same (c.bring_up.ensures.clean clean)) (c.in-Err-bring_up.ensures.undone clean))
 
 pub returns-in-Err-clause-leaves : goal.returns-in-Err-clause-leaves
 returns-in-Err-clause-leaves g c = record {
   awake = search rules;
-  survives = c.kept_in.ensures.survives;
+  survives = survives_more (state g.S.Store c.args.conn) (state g.S.Store c.kept_in.new.conn) _
+      c.kept_in.ensures.survives;
 }
 
 pub returns-in-Err-clause-no_office : goal.returns-in-Err-clause-no_office
-returns-in-Err-clause-no_office g c bad clean o kept = c.in-Err.ensures.none clean bad o kept
+returns-in-Err-clause-no_office g c bad clean o holds = c.in-Err.ensures.none clean bad o holds
 
 pub returns-in-Err-clause-undone : goal.returns-in-Err-clause-undone
 returns-in-Err-clause-undone g c =
@@ -56,5 +99,6 @@ pub returns-then-not-is_autocommit-clause-leaves
     : goal.returns-then-not-is_autocommit-clause-leaves
 returns-then-not-is_autocommit-clause-leaves g c = record {
   awake = search rules;
-  survives = survives_same (state g.S.Store c.args.conn);
+  survives = survives_more (state g.S.Store c.args.conn) (state g.S.Store c.args.conn) _
+      (survives_same (state g.S.Store c.args.conn));
 }

@@ -14,7 +14,7 @@ invariant_of-result g c = (
     None,
     record {
       held = empty_tables;
-      tables = (c.in-Ok.ensures.done clean).leads (record { schema_is = search rules; empty = tt });
+      tables = (c.in-Ok.ensures.done clean).leads (record { schema_is = search rules; rows = tt });
       stands = refl;
       sound = tt;
       office = tt;
@@ -31,7 +31,7 @@ invariant_of-result g c = (
 pub returns-in-Ok-clause-made : goal.returns-in-Ok-clause-made
 returns-in-Ok-clause-made g c clean = record {
   held = empty_tables;
-  tables = (c.in-Ok.ensures.done clean).leads (record { schema_is = search rules; empty = tt });
+  tables = (c.in-Ok.ensures.done clean).leads (record { schema_is = search rules; rows = tt });
   stands = refl;
   sound = tt;
   office = tt;

@@ -11,7 +11,8 @@ returns-in_default-clause-reads g c =
     tells g.S.Store c.args.self.now c.her_rows.new.self c.self.inside.conn c.self.inside.memory
     c.self.view_is c.self.invariant.1 c.in_ok-found.ensures.awake c.in_ok-found.ensures.still
     (λ o. shown_exams (view_of c.args.student o)) (listed (Ok c.new.result))
-    (λ k o kept is. nothing_told o c.self.inside.memory.kept c.in_default.is is.session c.args.student
+    (λ k o kept is. nothing_told o c.self.inside.memory.kept c.in_default.is is.session
+    c.args.student
     (listed (Ok c.new.result)) c.new.ensures.items)
 
 pub returns-clause-reads : goal.returns-clause-reads

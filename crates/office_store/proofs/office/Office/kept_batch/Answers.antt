@@ -1,5 +1,6 @@
 use Rattle.std.proofs.Common.{ap, arith, not, ◌∙◌}
 use Rattle.sqlite.specs.Held.{state}
+use Rattle.office_tables.specs.declared.version.Version.TheVariants.{Two}
 use Rattle.office_store.proofs.KeptBatchLemmas.{batch_read}
 use Rattle.office_store.proofs.RunLemmas.{kept_read, rest_read}
 use Rattle.office_store.proofs.LeavingLemmas.{survives_at}
@@ -13,7 +14,7 @@ invariant_of-self g c = (
       (λ k. omega (arith, c.batch_of.ensures.survives.clean, k))
       (c.is_autocommit-at_rest.ensures.settled
       (c.is_autocommit-at_rest.ensures.value ∙ ap not c.self.invariant.0))
-      c.batch_of.ensures.was_open c.batch_of.ensures.kept,
+      c.batch_of.ensures.was_open (c.batch_of.ensures.kept Two),
   c.self.invariant.2,
 )
 
@@ -24,9 +25,9 @@ returns-clause-row g c clean office here =
     (λ k. omega (arith, c.batch_of.ensures.survives.clean, k))
     (c.is_autocommit-at_rest.ensures.settled
     (c.is_autocommit-at_rest.ensures.value ∙ ap not c.self.invariant.0))
-    c.in_ok-row.ensures.open c.in_ok-row.ensures.same clean office here in
+    c.in_ok-row.ensures.open (c.in_ok-row.ensures.same Two) clean office here in
     batch_read kept.held office c.args.number c.in_ok-row.row kept.stands kept.office
-    (c.in_ok-row.ensures.row clean kept.held kept.tables)
+    (c.in_ok-row.ensures.row Two clean kept.held kept.tables)
 
 pub returns-in_err-row-clause-survives : goal.returns-in_err-row-clause-survives
 returns-in_err-row-clause-survives g c =

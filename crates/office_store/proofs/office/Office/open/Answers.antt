@@ -1,10 +1,9 @@
 use Rattle.std.proofs.Common.{inl, inr, None, refl, sym, subst, rules}
-use Rattle.office_records.specs.Stands.{IsKept}
-use Rattle.office_store.proofs.AdoptLemmas.{kept_before, kept_still}
-use Rattle.office_store.proofs.OpenLemmas.{before_load, fails, if_err, if_ok, is_kept, or_none}
 use Rattle.sqlite.specs.Held.{state}
-use Rattle.office_store.proofs.LeavingLemmas.{survives_more}
+use Rattle.sqlite.proofs.StateLemmas.{survives_weaker}
+use Rattle.office_records.specs.Stands.{IsKept}
 use Rattle.office_store.specs.Leaving.{connection_of}
+use Rattle.office_store.proofs.OpenLemmas.{before_load, fails, holds, if_err, if_ok, or_none}
 use Rattle.office_store.proofs.office.Office.open.Goals as goal
 
 -- a new office has no session
@@ -17,9 +16,9 @@ returns-then-is_bare-clause-found g c = if_ok c.create.result _ _ _
 -- the office that was there is still there
 pub returns-else-is_bare-clause-found : goal.returns-else-is_bare-clause-found
 returns-else-is_bare-clause-found g c = if_ok c.adopt.result _ _ _
-    (λ office same _ clean there is stays. kept_still g.S.Store _ _ there (same clean)
-    (is_kept _ there (fails _ _ c.is_bare.ensures.1 c.if-is_bare.false) is))
-    c.adopt.ensures.same c.adopt.ensures.same
+    (λ office adopted _ clean there is stays. (adopted clean).stands there
+    (holds _ there (fails _ _ c.is_bare.ensures.1 c.if-is_bare.false) is))
+    c.adopt.ensures.adopted c.adopt.ensures.adopted
 
 -- what was opened had no table
 pub returns-then-is_bare-clause-stood : goal.returns-then-is_bare-clause-stood
@@ -30,22 +29,28 @@ returns-then-is_bare-clause-stood g c = if_ok c.create.result _ _ _
 -- or tables of an office
 pub returns-else-is_bare-clause-stood : goal.returns-else-is_bare-clause-stood
 returns-else-is_bare-clause-stood g c = if_ok c.adopt.result _ _ _
-    (λ office adopted same clean. (
-      (adopted clean).0,
-      inr (kept_before g.S.Store _ _ (adopted clean).0 (same clean) (adopted clean).1),
-    ))
-    c.adopt.ensures.adopted c.adopt.ensures.same
+    (λ office adopted _ clean. ((adopted clean).office, inr (adopted clean).stood))
+    c.adopt.ensures.adopted c.adopt.ensures.adopted
 
 -- what is no office's database
 pub returns-else-is_bare-clause-refused : goal.returns-else-is_bare-clause-refused
 returns-else-is_bare-clause-refused g c = if_err c.adopt.result _ _ _
     (λ e fault no_office clean. or_none fault (λ wrong there is. no_office wrong clean there
-    (is_kept _ there (fails _ _ c.is_bare.ensures.1 c.if-is_bare.false) is)))
+    (holds _ there (fails _ _ c.is_bare.ensures.1 c.if-is_bare.false) is)))
     c.adopt.ensures.fault c.adopt.ensures.no_office
+
+pub returns-then-is_bare-clause-leaves : goal.returns-then-is_bare-clause-leaves
+returns-then-is_bare-clause-leaves g c = record {
+  awake = search rules;
+  survives = survives_weaker (state g.S.Store c.args.conn)
+      (state g.S.Store (connection_of c.create.result)) _ _ (λ _ found made. inl made)
+      c.create.ensures.leaves.survives;
+}
 
 pub returns-else-is_bare-clause-leaves : goal.returns-else-is_bare-clause-leaves
 returns-else-is_bare-clause-leaves g c = record {
   awake = search rules;
-  survives = survives_more (state g.S.Store c.args.conn)
-      (state g.S.Store (connection_of c.adopt.result)) _ c.adopt.ensures.leaves.survives;
+  survives = survives_weaker (state g.S.Store c.args.conn)
+      (state g.S.Store (connection_of c.adopt.result)) _ _ (λ _ found made. inr made)
+      c.adopt.ensures.leaves.survives;
 }
