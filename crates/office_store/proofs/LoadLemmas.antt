@@ -2,7 +2,7 @@
 use Rattle.std.proofs.Common.{◌≡◌, ℕ, ◌+◌, ◌<◌, List, [], ◌∷◌, ◌++◌, map, length, take, get_or, Some, None, refl, sym, ◌∙◌, ap, arith, subst, reverse, true, false}
 use Rattle.std.specs.Prelude.{IsPermutation, is_some, is_none, Ok, Err}
 use Rattle.std.proofs.lemmas.List.{append-nil, append_assoc, map-append, take_more, length-take, length-map}
-use Rattle.std.proofs.lemmas.List.Sorted.{IsPermutation-sym, IsPermutation-reverse, IsPermutation-refl}
+use Rattle.std.proofs.lemmas.List.Sorted.{IsPermutation-sym, IsPermutation-reverse, IsPermutation-refl, IsPermutation-trans}
 use Rattle.exam_model.specs.Enrolments.{Enrolled, students, no_pairs}
 use Rattle.exam_model.specs.Instance.{Session, IsInstance}
 use Rattle.exam_model.specs.Pairs.{pairs_at, pairs_from, pairs_of}
@@ -75,15 +75,14 @@ exam_added E e lt =
 
 module _ (I : Session) (E : Enrolled) (text : List ℕ) (rows : List EnrolRow)
     (is_text : text ≡ canonical_instance I (no_pairs (length I.exams)))
-    (are_rows : rows ≡ map enrol_row (pairs_of E)) where
+    (are_rows : IsPermutation rows (map enrol_row (pairs_of E))) where
   session_stands : StandsLoaded (session_put text rows empty_tables) (fresh (I, E))
   session_stands = record {
     meta = ap (λ b. record { published = false; instance = b } ∷ []) is_text;
     owner = λ e. refl;
     enrol = subst (λ l. IsPermutation l (map enrol_row (pairs_of E)))
         (sym (append-nil (reverse rows)))
-        (subst (λ l. IsPermutation (reverse rows) l) are_rows
-        (IsPermutation-sym _ _ (IsPermutation-reverse rows)));
+        (IsPermutation-trans _ _ _ (IsPermutation-sym _ _ (IsPermutation-reverse rows)) are_rows);
     draft = λ d. refl;
     slot = λ d. IsPermutation-refl [];
     published = record { placed = IsPermutation-refl []; seat = IsPermutation-refl [] };
@@ -144,11 +143,20 @@ pub load_denied : (text : List ℕ) (s : Session × Enrolled) (a : Database) (m 
     → instance_in text ≡ Ok s → is_some m.kept ≡ true → Denies (loaded text) Loaded a m
 load_denied text s a m read some o kept is = loaded_again text s o read (some_kept m o is some)
 
+-- rows that are put in are those that were made
+pub same_pairs : (its made : List InsertEnrol) (E : Enrolled) → its ≡ made
+    → IsPermutation (map (λ (it : InsertEnrol). it.row) made) (map enrol_row (pairs_of E))
+    → IsPermutation (map (λ (it : InsertEnrol). it.row) its) (map enrol_row (pairs_of E))
+same_pairs its made E same are =
+    subst (λ l. IsPermutation (map (λ (it : InsertEnrol). it.row) l) (map enrol_row (pairs_of E)))
+    (sym same) are
+
 pub load_moves : (text : List ℕ) (I : Session) (E : Enrolled) (counts : loading.Loaded)
     (stored : List ℕ) (its : List InsertEnrol) (a b : Database) (m : OfficeMemory)
     → instance_in text ≡ Ok (I, E) → counts ≡ loaded_of (I, E)
     → stored ≡ canonical_instance I (no_pairs (length I.exams))
-    → map (λ (it : InsertEnrol). it.row) its ≡ map enrol_row (pairs_of E) → IsInstance I
+    → IsPermutation (map (λ (it : InsertEnrol). it.row) its) (map enrol_row (pairs_of E))
+    → IsInstance I
     → AreEnrolled I E → is_some m.kept ≡ false
     → ((t : Tables) → Stands a t → Stands b (after_all (λ (it : InsertEnrol). with_enrol it.row) its
     (with_meta false stored (no_meta t))))

@@ -18,7 +18,9 @@ use exam_terms::limits::MAX_DRAFTS;
 use office_files::read_solution;
 use office_model::StoreFault;
 use office_records::draft_row;
-use office_tables::{Both, DeleteDraft, DeleteSlots, Each, InsertDraft, InsertSlot, SlotRow};
+use office_tables::{
+    Both, DeleteDraft, DeleteSlots, InsertDraft, InsertSlot, InsertSlots, SlotRow,
+};
 use sqlite::Alter;
 use std::alloc::{AllocError, Global};
 
@@ -52,9 +54,7 @@ impl<S: Alter> Office<S> {
             first: InsertDraft {
                 row: draft_row(number, parts),
             },
-            second: Each {
-                alterations: &slots,
-            },
+            second: InsertSlots { rows: &slots },
         };
         put(&mut self.conn, &draft)?;
         self.memory.put(number, Some(begun));

@@ -1,5 +1,5 @@
 // The session is loaded once.
-ghost use Rattle.std.specs.Prelude.{◌≡◌, ◌++◌, IfErr, IfOk, OnOk, map};
+ghost use Rattle.std.specs.Prelude.{◌≡◌, ◌++◌, IfErr, IfOk, IsPermutation, OnOk, map};
 ghost use Rattle.sqlite.specs.Held.{state};
 ghost use Rattle.sqlite.specs.State.{HasCleanDisk};
 ghost use Rattle.exam_model.specs.Enrolments.{AreEnrolments};
@@ -17,7 +17,7 @@ use exam_model::{Enrolments, ExamNo, Instance, StudentNo};
 use office_files::read_instance;
 use office_model::{Loaded, StoreFault};
 use office_records::text_of;
-use office_tables::{Both, DeleteMeta, Each, EnrolRow, InsertEnrol, InsertMeta};
+use office_tables::{Both, DeleteMeta, EnrolRow, InsertEnrol, InsertEnrols, InsertMeta};
 use sqlite::Alter;
 use std::alloc::{AllocError, Global};
 
@@ -55,7 +55,7 @@ impl<S: Alter> Office<S> {
                 instance: &stored,
             },
         };
-        let pairs = Each { alterations: &rows };
+        let pairs = InsertEnrols { rows: &rows };
         put(
             &mut self.conn,
             &Both {
@@ -81,16 +81,17 @@ fn counts_of(instance: &Instance, enrolments: &Enrolments) -> Loaded
     }
 }
 
-// The rows of the pairs, by exam and then by student.
+// The rows of the pairs, by student and then by exam: in this order they fill the pages of the file.
 fn enrol_rows(alloc: Global, enrolments: &Enrolments) -> Result<Vec<InsertEnrol>, AllocError>
-    ensures { IfOk result (λ rows. map (λ it. it.row) rows.items
-        ≡ map enrol_row (pairs_of enrolments.now)) }
+    ensures { IfOk result (λ rows. IsPermutation (map (λ it. it.row) rows.items)
+        (map enrol_row (pairs_of enrolments.now))) }
 {
     let mut rows = Vec::new(alloc);
     for number in 0..enrolments.exams() {
         let students = enrolments.students(ExamNo::new(number));
         add_rows(&mut rows, number, students)?;
     }
+    rows.sort_by_key(|it| it.row.student)?; // stable, so that exams stay in order
     Ok(rows)
 }
 

@@ -10,7 +10,8 @@ ghost use Rattle.office_store.specs.NewPublications.{AreSmallShares};
 use crate::fault::Failed;
 use crate::new_publication::NewPublication;
 use office_tables::{
-    Alteration, Both, DeleteMeta, DeletePartShares, DeletePlacements, Each, InsertMeta, transact,
+    Alteration, Both, DeleteMeta, DeletePartShares, DeletePlacements, Each, InsertMeta,
+    InsertPlacements, InsertSeats, transact,
 };
 use sqlite::{Alter, Connection, Error, Transaction};
 
@@ -61,17 +62,15 @@ fn put_places<S: Alter>(tx: &mut Transaction<'_, S>, new: &NewPublication) -> Re
     };
     let placements = Both {
         first: DeletePlacements,
-        second: Each {
-            alterations: &new.placements,
+        second: InsertPlacements {
+            rows: &new.placements,
         },
     };
     let seats = Both {
         first: Each {
             alterations: &new.seats_gone,
         },
-        second: Each {
-            alterations: &new.seats,
-        },
+        second: InsertSeats { rows: &new.seats },
     };
     meta.apply(tx)?;
     placements.apply(tx)?;

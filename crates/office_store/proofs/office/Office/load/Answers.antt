@@ -1,5 +1,4 @@
-use Rattle.std.proofs.Common.{rules, ◌≡◌, ◌∙◌, ap, map, true, false, Ok}
-use Rattle.office_tables.specs.declared.enrol.InsertEnrol.{InsertEnrol}
+use Rattle.std.proofs.Common.{rules, ◌≡◌, ◌∙◌, true, false, Ok}
 use Rattle.std.specs.Prelude.{is_some}
 use Rattle.sqlite.specs.Held.{state}
 use Rattle.exam_model.specs.Enrolments.{Enrolled}
@@ -8,7 +7,7 @@ use Rattle.office_model.specs.Loading.{loaded}
 use Rattle.office_model.specs.declared.fault.StoreFault.TheVariants.{Loaded}
 use Rattle.office_model.proofs.RecordLemmas.{are_enrolled}
 use Rattle.office_store.proofs.CommandLemmas.{refuses, rests, runs, stays_undone}
-use Rattle.office_store.proofs.LoadLemmas.{as_many, load_denied, load_moves, load_remembers}
+use Rattle.office_store.proofs.LoadLemmas.{as_many, load_denied, load_moves, load_remembers, same_pairs}
 use Rattle.office_store.proofs.TogetherLemmas.{loaded_together}
 use Rattle.office_store.proofs.LeavingLemmas.{survives_more, is_failed, survives_by, survives_same}
 use Rattle.office_store.proofs.office.Office.load.Goals as goal
@@ -35,7 +34,7 @@ returns-clause-runs g c =
     (λ k. load_moves c.args.text.now I E c.counts_of-loaded.result c.deref.result.now
     c.deref-2.result.now _ _ c.self.inside.memory c.in-Ok.ensures.exact
     c.counts_of-loaded.ensures.counts (c.deref.ensures.value ∙ c.in_ok-stored.ensures.text)
-    (ap (map (λ (it : InsertEnrol). it.row)) c.deref-2.ensures.value ∙ c.in_ok-rows.ensures)
+    (same_pairs _ _ E c.deref-2.ensures.value c.in_ok-rows.ensures)
     c.counts_of-loaded.ensures.instance are no
     (c.in_ok-put.ensures.done k).makes)
 
@@ -54,7 +53,7 @@ invariant_of-self-2 g c =
           (λ k. load_moves c.args.text.now I E c.counts_of-loaded.result c.deref.result.now
           c.deref-2.result.now _ _ c.self.inside.memory c.in-Ok.ensures.exact
           c.counts_of-loaded.ensures.counts (c.deref.ensures.value ∙ c.in_ok-stored.ensures.text)
-          (ap (map (λ (it : InsertEnrol). it.row)) c.deref-2.ensures.value ∙ c.in_ok-rows.ensures)
+          (same_pairs _ _ E c.deref-2.ensures.value c.in_ok-rows.ensures)
           c.counts_of-loaded.ensures.instance are no (c.in_ok-put.ensures.done k).makes)
           (λ k. load_remembers c.args.text.now I E c.counts_of-loaded.result _
           c.self.inside.memory c.of_session.result c.in-Ok.ensures.exact
@@ -115,7 +114,7 @@ returns-in_err-put-clause-leaves g c = record {
       (λ k found changed. load_moves c.args.text.now I E c.counts_of-loaded.result
       c.deref.result.now c.deref-2.result.now _ _ c.self.inside.memory c.in-Ok.ensures.exact
       c.counts_of-loaded.ensures.counts (c.deref.ensures.value ∙ c.in_ok-stored.ensures.text)
-      (ap (map (λ (it : InsertEnrol). it.row)) c.deref-2.ensures.value ∙ c.in_ok-rows.ensures)
+      (same_pairs _ _ E c.deref-2.ensures.value c.in_ok-rows.ensures)
       c.counts_of-loaded.ensures.instance are no changed)
       c.from_residual-in_err-put.result (is_failed _ c.from_residual-in_err-put.ensures.1);
 }
@@ -135,7 +134,7 @@ returns-clause-leaves g c = record {
       (λ k found changed. load_moves c.args.text.now I E c.counts_of-loaded.result
       c.deref.result.now c.deref-2.result.now _ _ c.self.inside.memory c.in-Ok.ensures.exact
       c.counts_of-loaded.ensures.counts (c.deref.ensures.value ∙ c.in_ok-stored.ensures.text)
-      (ap (map (λ (it : InsertEnrol). it.row)) c.deref-2.ensures.value ∙ c.in_ok-rows.ensures)
+      (same_pairs _ _ E c.deref-2.ensures.value c.in_ok-rows.ensures)
       c.counts_of-loaded.ensures.instance are no changed)
       (Ok c.counts_of-loaded.result) tt;
 }
