@@ -1,4 +1,4 @@
--- The lines that are printed before work that takes long, and of a new office.
+-- The lines that are printed before work that takes long, and of a file that is new or old.
 use Rattle.std.specs.Prelude.{ℕ, ◌++◌, List, codes}
 use Rattle.office_program.specs.declared.telling.LongWork.{LongWork}
 use Rattle.office_program.specs.declared.telling.LongWork.TheVariants as work
@@ -13,3 +13,5 @@ work_line (work.Publishing path) =
     codes "examoffice: publishing in " ++ path.now ++ codes ", which takes a while"
 work_line (work.Making path) =
     codes "examoffice: " ++ path.now ++ codes " is new: an office without a session"
+work_line (work.Upgrading path) =
+    codes "examoffice: " ++ path.now ++ codes " becomes version 2, which no older program opens"

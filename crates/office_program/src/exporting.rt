@@ -1,12 +1,12 @@
 // `export`: what the office of a database has published.
-ghost use Rattle.std.specs.Prelude.{◌≡◌, ◌≢◌, IfErr, IfOk, Some};
+ghost use Rattle.std.specs.Prelude.{◌≡◌, ◌≢◌, IfErr, IfOk, IsTrue, Some};
 ghost use Rattle.std.specs.Io.KnownBytes.{Keeps};
 ghost use Rattle.sqlite.specs.Held.{state};
 ghost use Rattle.sqlite.specs.State.{HasCleanDisk};
 ghost use Rattle.exam_model.specs.Timetable.{Placing};
 ghost use Rattle.office_files.specs.CanonicalSolution.{canonical_solution};
 ghost use Rattle.office_model.specs.Office.{OfficeState};
-ghost use Rattle.office_records.specs.Stands.{IsKept};
+ghost use Rattle.office_store.specs.Opening.{HoldsOffice};
 ghost use Rattle.office_store.specs.Running.{Now};
 ghost use Rattle.office_program.specs.Export.{Exports, IsWhole, PrintsSolution, RefusesExport};
 ghost use Rattle.office_program.specs.Export.{published_solution};
@@ -14,7 +14,7 @@ ghost use Rattle.office_program.specs.TaskFaults.{IsOfExport};
 
 use crate::ending::Ending;
 use crate::faults::{ProgramFault, fault_of_export, fault_of_open};
-use crate::telling::{LongWork, tell};
+use crate::telling::{LongWork, tell, tell_upgrade};
 use office_files::{FaultKind, write_solution};
 use office_http::{Alter, Connection, Office, StoreFault};
 use sqlite::{Error, ErrorCode};
@@ -55,6 +55,7 @@ pub(crate) fn export<'a, W: Write>(
         Ok(conn) => conn,
         Err(error) => return Err(fault_of_open(error)),
     };
+    tell_upgrade(rt, database, &conn);
     // A log that can't be copied into the file stays beside it, and is read there.
     match export_run(rt.alloc(), conn, out) {
         Ok(conn) => {
@@ -76,18 +77,18 @@ pub fn export_run<S: Alter, W: Write>(
 ) -> Result<Connection<S>, (ExportFault, Connection<S>)>
     // Over a disk that returns what was written: what is written is what the office has published.
     ensures done { IfOk result (λ after. HasCleanDisk (state S.Store after)
-        → (there : OfficeState) → IsKept (state S.Store conn).now there
+        → (there : OfficeState) → HoldsOffice (state S.Store conn).now there
         → Exports there (state S.Store after) (W.contents writer.old) (W.contents writer.new)) }
     // A fault is a failed statement, `NoPublication`, out of memory or the writer's; `BadSchema` if
     // the tables represent no office.
     ensures refused { IfErr result (λ e. HasCleanDisk (state S.Store e.1)
-        → (there : OfficeState) → IsKept (state S.Store conn).now there
+        → (there : OfficeState) → HoldsOffice (state S.Store conn).now there
         → RefusesExport there e.0) }
     // A refusal leaves the office as it was, in a database that has nothing uncommitted.
     ensures stays { IfErr result (λ e. HasCleanDisk (state S.Store e.1)
         → ((state S.Store conn).now ≡ (state S.Store conn).committed)
-        → (there : OfficeState) → IsKept (state S.Store conn).now there
-        → Now (state S.Store e.1) there) }
+        → (there : OfficeState) → HoldsOffice (state S.Store conn).now there
+        → IsTrue (state S.Store e.1).is_open → HoldsOffice (state S.Store e.1).now there) }
 
     // Over any disk a whole solution is written, or nothing.
     ensures printed { IfOk result (λ _.

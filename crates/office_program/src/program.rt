@@ -26,7 +26,7 @@ use crate::faults::{ProgramFault, fault_of_input, fault_of_load, fault_of_open};
 use crate::judging::check_all;
 use crate::loading::load_run;
 use crate::serving::serve;
-use crate::telling::{LongWork, tell};
+use crate::telling::{LongWork, tell, tell_upgrade};
 use crate::words::{Task, read_words};
 use clap::Error;
 use clap::error::ErrorKind;
@@ -184,6 +184,7 @@ fn load_text<'a, W: Write>(
         Ok(conn) => conn,
         Err(error) => return Err(fault_of_open(error)),
     };
+    tell_upgrade(rt, database, &conn);
     // A log that can't be copied into the file stays beside it, and is read there.
     match load_run(rt.alloc(), conn, text, out) {
         Ok(conn) => {

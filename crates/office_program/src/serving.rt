@@ -14,7 +14,7 @@ ghost use Rattle.office_program.specs.TaskFaults.{IsOfServe};
 use crate::answering::ServingDesk;
 use crate::ending::Ending;
 use crate::faults::{ProgramFault, fault_of_open, fault_of_run};
-use crate::telling::{LongWork, tell, tell_new};
+use crate::telling::{LongWork, tell, tell_new, tell_upgrade};
 use crate::words::Terms;
 use office_connections::{Plan, Timed, listen, serve_run};
 use office_http::{Alter, Connection, Desk, Office, Routes};
@@ -45,6 +45,7 @@ pub(crate) fn serve<'a, O: Write, E: Write>(
     if is_new {
         tell_new(rt, database);
     }
+    tell_upgrade(rt, database, &conn);
     let (conn, done) = serve_stored(rt, database, conn, terms, out, err);
     // A log that can't be copied into the file stays beside it, and is read there.
     let _ = conn.close();

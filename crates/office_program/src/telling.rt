@@ -1,8 +1,10 @@
-// What is said on a terminal before work that takes long, and of a new office.
+// What is said on a terminal before work that takes long, and of a file that is new or old.
 ghost use Rattle.std.specs.Prelude.{◌++◌, ◌∷◌, [], OnOk};
 ghost use Rattle.std.specs.Io.KnownBytes.{Appends};
 ghost use Rattle.office_program.specs.LongWork.{work_line};
 
+use office_store::is_of_version_1;
+use sqlite::{Alter, Connection};
 use std::io::{IsTerminal, Write};
 use std::{fmt, fs, io};
 
@@ -17,6 +19,8 @@ pub(crate) enum LongWork<'a> {
     Publishing(&'a str),
     /// An office is made in a new file.
     Making(&'a str),
+    /// The tables of version 1 become those of version 2.
+    Upgrading(&'a str),
 }
 
 // It shows as its line.
@@ -40,6 +44,12 @@ impl fmt::Display for LongWork<'_> {
             LongWork::Making(path) => {
                 write!(f, "examoffice: {path} is new: an office without a session")
             }
+            LongWork::Upgrading(path) => {
+                write!(
+                    f,
+                    "examoffice: {path} becomes version 2, which no older program opens"
+                )
+            }
         }
     }
 }
@@ -47,10 +57,29 @@ impl fmt::Display for LongWork<'_> {
 // A file of so many bytes takes some tenths of a second at least, and at the limits seconds.
 const LARGE: u64 = 2_000_000;
 
-// Says on standard error what is begun, where that is a terminal and the file is large.
+// Says what is begun, where the file is large.
 pub(crate) fn tell(rt: &HostRuntime, work: LongWork<'_>) {
+    if is_large(rt, path_of(work)) {
+        say(rt, work);
+    }
+}
+
+// Says that the office of a file is new.
+pub(crate) fn tell_new(rt: &HostRuntime, path: &str) {
+    say(rt, LongWork::Making(path));
+}
+
+// Says that the tables of a database are of version 1, if they are: opening changes them.
+pub(crate) fn tell_upgrade<S: Alter>(rt: &HostRuntime, path: &str, conn: &Connection<S>) {
+    if let Ok(true) = is_of_version_1(rt.alloc(), conn) {
+        say(rt, LongWork::Upgrading(path));
+    }
+}
+
+// Prints the line of a work on standard error, where that is a terminal.
+fn say(rt: &HostRuntime, work: LongWork<'_>) {
     let mut terminal = rt.stderr();
-    if terminal.is_terminal() && is_large(rt, path_of(work)) {
+    if terminal.is_terminal() {
         // Work that can't be told is done all the same.
         let _ = print_work(work, &mut terminal);
     }
@@ -62,7 +91,8 @@ fn path_of(work: LongWork<'_>) -> &str {
         LongWork::Loading(path)
         | LongWork::Opening(path)
         | LongWork::Publishing(path)
-        | LongWork::Making(path) => path,
+        | LongWork::Making(path)
+        | LongWork::Upgrading(path) => path,
     }
 }
 
@@ -80,13 +110,4 @@ fn print_work<W: Write>(work: LongWork<'_>, out: &mut W) -> io::Result<()>
         (Appends (W.contents out.old) (W.contents out.new) (work_line work.entry ++ 10 ∷ [])) }
 {
     writeln!(out, "{work}")
-}
-
-// Says on standard error that the office of a file is new, where that is a terminal.
-pub(crate) fn tell_new(rt: &HostRuntime, path: &str) {
-    let mut terminal = rt.stderr();
-    if terminal.is_terminal() {
-        // An office that can't be told to be new is served all the same.
-        let _ = print_work(LongWork::Making(path), &mut terminal);
-    }
 }

@@ -2,49 +2,49 @@ use Rattle.std.proofs.Common.{◌∙◌, inl, inr, subst, sym}
 use Rattle.sqlite.specs.Held.{state}
 use Rattle.sqlite.specs.State.{HasCleanDisk}
 use Rattle.office_program.specs.Export.{Exports}
-use Rattle.office_records.specs.Stands.{IsKept}
+use Rattle.office_store.specs.Opening.{HoldsOffice}
 use Rattle.office_store.specs.Running.{Now}
-use Rattle.office_store.proofs.AdoptLemmas.{kept_still}
+use Rattle.office_store.proofs.OpenLemmas.{kept_holds}
 use Rattle.office_program.proofs.exporting.export_run.Goals as goal
 
 -- no office was found
 pub returns-in-Err-clause-refused : goal.returns-in-Err-clause-refused
-returns-in-Err-clause-refused g c = λ clean there kept. elim c.in-Err.ensures.fault [
+returns-in-Err-clause-refused g c = λ clean there holds. elim c.in-Err.ensures.fault [
   | inl is ↦ is
-  | inr bad ↦ absurd (c.in-Err.ensures.no_office bad clean there kept)
+  | inr bad ↦ absurd (c.in-Err.ensures.no_office bad clean there holds)
 ]
 
 -- what the office that was found has published is written
 pub returns-in-Ok-export_from-clause-done : goal.returns-in-Ok-export_from-clause-done
-returns-in-Ok-export_from-clause-done g c = λ clean there kept.
+returns-in-Ok-export_from-clause-done g c = λ clean there holds.
     let now = subst (λ held. HasCleanDisk (state g.S.Store held)) c.release.ensures clean in
-    let found = kept_still g.S.Store _ _ there
-    (c.in-Ok.ensures.same (c.export_from.ensures.clean now)) kept in
+    let found = c.in-Ok.ensures.adopted (c.export_from.ensures.clean now) in
     subst (λ held. Exports there (state g.S.Store held)
     (g.W.Write.contents c.args.writer.now) (g.W.Write.contents c.export_from.new.writer))
     (sym c.release.ensures)
-    (c.in-Ok-export_from.ensures.done now there (λ opened. found))
+    (c.in-Ok-export_from.ensures.done now there (λ opened. found.stands there holds))
 
 -- the office that was found refuses
 pub returns-in-Err-export_from-clause-refused : goal.returns-in-Err-export_from-clause-refused
-returns-in-Err-export_from-clause-refused g c = λ clean there kept.
+returns-in-Err-export_from-clause-refused g c = λ clean there holds.
     let now = subst (λ held. HasCleanDisk (state g.S.Store held))
     c.release-in-Err-export_from.ensures clean in
-    c.in-Err-export_from.ensures.refused now there (λ opened. kept_still g.S.Store _ _ there
-    (c.in-Ok.ensures.same (c.export_from.ensures.clean now)) kept)
+    let found = c.in-Ok.ensures.adopted (c.export_from.ensures.clean now) in
+    c.in-Err-export_from.ensures.refused now there (λ opened. found.stands there holds)
 
 -- no office was found, and the tables are as they were
 pub returns-in-Err-clause-stays : goal.returns-in-Err-clause-stays
 returns-in-Err-clause-stays g c = λ clean kept there is opened. elim c.in-Err.ensures.undone [
-  | inl same ↦ subst (λ held. IsKept (state g.S.Store held).now there) (sym same) is
-  | inr undone ↦ subst (λ db. IsKept db there) (kept ∙ sym ((undone clean).now opened)) is
+  | inl same ↦ subst (λ held. HoldsOffice (state g.S.Store held).now there) (sym same) is
+  | inr undone ↦ subst (λ db. HoldsOffice db there) (kept ∙ sym ((undone clean).now opened)) is
 ]
 
 -- the office that was found refuses, and is as it was
 pub returns-in-Err-export_from-clause-stays : goal.returns-in-Err-export_from-clause-stays
-returns-in-Err-export_from-clause-stays g c = λ clean kept there is.
+returns-in-Err-export_from-clause-stays g c = λ clean kept there is opened.
     let released = c.release-in-Err-export_from.ensures in
     let now = subst (λ held. HasCleanDisk (state g.S.Store held)) released clean in
-    subst (λ held. Now (state g.S.Store held) there) (sym released)
-    (c.export_from.ensures.stays now there (λ opened. kept_still g.S.Store _ _ there
-    (c.in-Ok.ensures.same (c.export_from.ensures.clean now)) is))
+    let found = c.in-Ok.ensures.adopted (c.export_from.ensures.clean now) in
+    let after = subst (λ held. Now (state g.S.Store held) there) (sym released)
+    (c.export_from.ensures.stays now there (λ opened. found.stands there is)) in
+    kept_holds _ there (after opened)

@@ -5,6 +5,7 @@ use Rattle.office_program.specs.Load.{Loads, RefusesLoad}
 use Rattle.office_store.specs.Opening.{IsOfficeOf}
 use Rattle.office_store.specs.Running.{Now}
 use Rattle.office_program.proofs.LoadFacts.{if_refused, no_office}
+use Rattle.office_store.proofs.OpenLemmas.{kept_holds}
 use Rattle.office_program.proofs.loading.load_run.Goals as goal
 
 -- no office was found
@@ -46,7 +47,7 @@ returns-in-Err-load_into-clause-stays g c = λ clean kept there is.
     let released = c.release-in-Err-load_into.ensures in
     let now = subst (λ held. HasCleanDisk (state g.S.Store held)) released clean in
     if_refused c.in-Err-load_into.fault
-    (λ after opened. inr (subst (λ held. Now (state g.S.Store held) there) (sym released) after
-    opened))
+    (λ after opened. inr (kept_holds _ there
+    (subst (λ held. Now (state g.S.Store held) there) (sym released) after opened)))
     (c.in-Err-load_into.ensures.stays now there
     (c.in-Ok.ensures.found (c.load_into.ensures.clean now) there is))

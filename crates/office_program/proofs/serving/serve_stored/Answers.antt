@@ -4,6 +4,7 @@ use Rattle.sqlite.specs.State.{HasCleanDisk}
 use Rattle.office_store.specs.Opening.{IsOfficeOf}
 use Rattle.office_store.specs.Running.{Now}
 use Rattle.office_program.proofs.ServeFacts.{nobody_served}
+use Rattle.office_store.proofs.OpenLemmas.{kept_holds}
 use Rattle.office_program.proofs.serving.serve_stored.Goals as goal
 
 -- no office was found, and the tables are as they were
@@ -37,5 +38,5 @@ returns-clause-reached g c = λ clean kept there is.
       omega (arith, x.serves.count, x.most),
       led.0,
       led.1,
-      λ opened. inr (after opened),
+      λ opened. inr (kept_holds _ led.0 (after opened)),
     )
