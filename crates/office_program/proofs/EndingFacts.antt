@@ -1,14 +1,14 @@
--- What is known of an ending from its parts.
+-- Facts of an ending, from its parts.
 use Rattle.std.proofs.Common.{◌≡◌, ◌≢◌, ◌∙◌, ◌⊎◌, ℕ, Bool, true, false, Result, Ok, Err, arith, inl, inr, sym}
 use Rattle.std.specs.Prelude.{IfOk, IsTrue, OnOk, is_ok}
 
--- what an Ok brings, where it is told that there is one
+-- a bool that says whether a result is `Ok` gives, if true, what holds of an `Ok`
 pub if_told : {T E : Type 0} (r : Result T E) (P : Type 0) → OnOk r P → (b : Bool) → b ≡ is_ok r
     → IsTrue b → P
 if_told (Ok x) P p b is told = p
 if_told (Err e) P p b is told = let never : true ≡ false = sym told ∙ is in cc
 
--- what follows from a fact of a value follows of an Ok
+-- a fact of the values gives a fact of an `Ok`
 pub if_ok : {A E : Type 0} (result : Result A E) (P T : A → Type 0) → ((a : A) → P a → T a)
     → IfOk result P → IfOk result T
 if_ok (Ok a) P T follows p = follows a p

@@ -1,10 +1,10 @@
--- What clap reads of a number.
+-- The numbers that clap reads.
 use Rattle.std.proofs.Common.{◌≡◌, ℕ, Option, None, Some, Result, Ok, refl, subst, sym, ◌∙◌}
 use Rattle.std.specs.Str.Parse.{IsNumeral, ParsesUnsigned, digits_value, without_leading_plus}
 use Rattle.clap.specs.Words.{Text}
 use Rattle.clap.specs.Matches.{ReadsOne}
 
--- a number that was read is the one that a text spells that was found
+-- a number that was read is the one that a found text spells
 pub read_number : {E : Type 0} (Gives : Text → Result ℕ E → Type 0) (bits : ℕ)
     → ((t : Text) (r : Result ℕ E) → Gives t r → ParsesUnsigned bits 10 t r)
     → (found : Option Text) (read : Option ℕ) → (found ≡ None → read ≡ None)

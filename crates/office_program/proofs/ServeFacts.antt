@@ -1,4 +1,4 @@
--- What is known of an office from the clients that it served.
+-- Facts of an office, from the clients that it served.
 use Rattle.std.proofs.Common.{◌≡◌, ◌≢◌, ◌⊎◌, ◌∙◌, ℕ, Bool, true, false, List, [], Option, Result}
 use Rattle.std.proofs.Common.{Ok, Err, IfErr, IfOk, IsTrue, arith, inl, inr, refl, subst, sym}
 use Rattle.std.proofs.lemmas.List.Elements.{All-nil}
@@ -32,7 +32,7 @@ use Rattle.office_program.specs.declared.faults.ProgramFault.{ProgramFault}
 use Rattle.office_program.specs.declared.faults.ProgramFault.TheVariants.{CannotWrite}
 use Rattle.office_program.specs.declared.words.Terms.{Terms}
 
--- what holds if a bool is true, where it is
+-- the case of a bool that is true
 pub if_so : (b : Bool) → IsTrue b → (P Q : Type 0) → MatchBool b P Q → P
 if_so true so P Q h = h
 if_so false so P Q h = absurd cc
@@ -59,7 +59,7 @@ module _ {S : Type 0} (store : Ghosts S) where
     fewer = inl refl;
   }
 
-  -- what was answered stays answered after a look at the store
+  -- a request that was answered is still answered after the store is looked at
   pub answered_on : (old mid new : Held S) (request : PlainRequest) (reply : PlainReply)
       → Answered store old request reply mid → (IsDone reply.status → new ≡ mid)
       → (HasCleanDisk (state store new) → IsStill (state store mid) (state store new))
@@ -73,14 +73,14 @@ module _ {S : Type 0} (store : Ghosts S) where
     awake = λ k is. subst (λ h. IsAwake (state store h)) (sym (done is)) (x.awake (clean k) is);
   }
 
-  -- what holds a desk has it answer, and says that the store is shut only if it is
+  -- an answer of the machine is one of its desk, and it says that the store is shut only if it is
   abbrev pub Answering : {F : Type 0} → (name : F → ℕ) → (now : F → Held S) → (is_shut : F → Bool)
       → F → PlainRequest → PlainReply → F → Type 0
   Answering name now is_shut old request reply new =
       (name new ≡ name old) × Answered store (now old) request reply (now new)
       × (IsTrue (is_shut new) → IsStoreShut store (now new))
 
-  -- what is served by it
+  -- the clients that the machine serves are served by the office
   module _ {F : Type 0} (name : F → ℕ) (now : F → Held S) (is_shut : F → Bool) (old new : F)
       (last : Held S) (given : name old ≡ name new → last ≡ now new)
       (AreTheirs : List Visit → Type 0)
@@ -109,7 +109,7 @@ module _ {S : Type 0} (store : Ghosts S) where
     desk_clean =
         visits_clean store x.visits (now old) last (desk_visits x.visits x.served)
 
-    -- what was found shut is shut
+    -- a store that was found shut is shut
     pub desk_shut : is_shut old ≡ false → IsTrue (is_shut new) → IsStoreShut store last
     desk_shut opened shut =
         let kept = visits_keep Answers
@@ -119,7 +119,7 @@ module _ {S : Type 0} (store : Ghosts S) where
         (refl, λ is. let never : true ≡ false = sym is ∙ opened in absurd cc) in
         subst (IsStoreShut store) (sym (given kept.0)) (kept.1 shut)
 
-  -- whoever the clients are
+  -- the same without a condition on the clients
   pub whoever_came : (AreTheirs : List Visit → Type 0) (terms : Terms)
       (outcome : Result Ending ProgramFault) (old new : Held S)
       (errors_old errors_new : Option (List ℕ))
@@ -139,7 +139,7 @@ module _ {S : Type 0} (store : Ghosts S) where
     fewer = x.fewer;
   }
 
-  -- the port was printed, and the faults of connections
+  -- the port was printed, and the faults of connections were
   pub prints_served : (AreTheirs : List Visit → Type 0) (terms : Terms) (port : ℕ)
       → IsPortOf terms.port port → (outcome : Result Ending ProgramFault) (old new : Held S)
       (before after errors_old errors_new : Option (List ℕ))
@@ -158,7 +158,7 @@ module _ {S : Type 0} (store : Ghosts S) where
             x.serves (x.all.1 told));
       }
 
--- a fault that is none of writing left what was printed as it was, or the port was printed
+-- a fault other than of writing left the printed text unchanged, or the port was printed
 pub leaves_port : (terms : Terms) (port : ℕ) → IsPortOf terms.port port
     → (outcome : Result Ending ProgramFault) (before after : Option (List ℕ))
     → IfErr outcome (λ shown. shown ≢ CannotWrite

@@ -1,4 +1,4 @@
--- What is known of words from what clap found in them.
+-- Facts of words, from what clap found in them.
 use Rattle.std.proofs.Common.{◌≡◌, List, [], ◌∷◌, Option, Result, Ok, Err, IfErr, IfOk}
 use Rattle.std.proofs.Common.{inl, inr, refl}
 use Rattle.clap.specs.Kinds.{FailsBy, HasKind, Kinds, or_else}
@@ -9,14 +9,14 @@ use Rattle.office_program.specs.Program.{IsTaskOf}
 use Rattle.office_program.specs.declared.words.Task.{Task}
 use Rattle.office_program.specs.declared.words.Task.TheVariants.{Check, CheckAll, Explain, Export, Load, Serve}
 
--- an error of the first that fails is one of all
+-- an error with a kind of `first` has one of `or_else first next`
 pub comes_first : (first next : Kinds) (e : Error) → HasKind first e
     → HasKind (or_else first next) e
 comes_first [] next e (inl memory) = inl memory
 comes_first [] next e (inr none) = absurd none
 comes_first (k ∷ ks) next e has = has
 
--- words that give a task leave no fault unexplained
+-- words that give a task name no unknown fault
 pub task_explained : (found : Option (Text × List Row)) (task : Task) → IsTaskOf found task
     → unexplained_in found ≡ []
 task_explained found (Check instance solution) (rows, is, values) = rw is refl
@@ -26,7 +26,7 @@ task_explained found (Serve database terms) (rows, is, values) = rw is refl
 task_explained found (Export database) (rows, is, values) = rw is refl
 task_explained found (Explain words) (rows, is, values) = rw (is, values) refl
 
--- words in which clap finds no mistake fail as what it found in them
+-- words in which clap finds no mistake fail only by what they ask for
 pub found_fails : (first : Kinds) (found there : Option (Text × List Row))
     (r : Result Task Error) → first ≡ [] → found ≡ there → IfOk r (IsTaskOf found)
     → IfErr r (HasKind (unexplained_in found))

@@ -1,4 +1,4 @@
--- What `check-all` prints: a line for each solution that is judged, and one for each fault.
+-- The output of `check-all`: a line for each solution that is judged, and one for each fault.
 use Rattle.std.specs.Prelude.{◌≡◌, ◌⊎◌, ◌++◌, ◌∷◌, [], ℕ, ◌==◌, Bool, true, false, not, All, IsTrue, List}
 use Rattle.std.specs.Prelude.{Option, codes, if◌then◌else◌, map, string_bytes, ◌||◌}
 use Rattle.std.specs.List.{flat_map, list_any}
@@ -14,7 +14,7 @@ use Rattle.office_program.specs.FaultLines.{solution_line}
 use Rattle.office_program.specs.declared.judging.Found.{Found}
 use Rattle.office_program.specs.declared.judging.VerdictLine.{VerdictLine}
 
--- what came of one solution: what is printed of it, and what is said of its fault
+-- the outcome of one solution: the text that is printed of it, and the text of its fault
 pub record Outcome : Type 0 where
   pub path : List ℕ
   pub printed : List ℕ
@@ -32,7 +32,7 @@ pub record IsJudged (I : Session) (E : Enrolled) (form : LineForm) (o : Outcome)
   pub sound : o.is_faulty ≡ false
   pub breach : o.has_breach ≡ not (verdict.breaches == 0)
 
--- it has a fault: the fault's line is said, with the path in front of it
+-- it has a fault: the fault's line is written to `err`, after the path
 pub record IsFaulty (o : Outcome) : Type 0 where
   pub fault : InputFault
   pub printed : o.printed ≡ []
@@ -40,7 +40,7 @@ pub record IsFaulty (o : Outcome) : Type 0 where
   pub faulty : o.is_faulty ≡ true
   pub breach : o.has_breach ≡ false
 
--- the one or the other
+-- either it was judged, or it has a fault
 abbrev pub IsOutcome : Session → Enrolled → LineForm → Outcome → Type 0
 IsOutcome I E form o = IsJudged I E form o ⊎ IsFaulty o
 
@@ -49,13 +49,13 @@ abbrev pub status_of_all : Bool → Bool → ℕ
 status_of_all has_fault has_breach =
     if has_fault then 1 else (if has_breach then 3 else 0)
 
--- each solution has its outcome, in their order
+-- each solution has its outcome, in order
 pub record AreJudged (I : Session) (E : Enrolled) (form : LineForm) (paths : List (List ℕ))
     (outcomes : List Outcome) : Type 0 where
   pub are : map (λ o. o.path) outcomes ≡ paths
   pub each : All (IsOutcome I E form) outcomes
 
--- some text has a reading, by which the solutions of these paths have these outcomes
+-- some text has a reading as a session, and the solutions of these paths have these outcomes by it
 pub record AreBySession (form : LineForm) (paths : List (List ℕ)) (outcomes : List Outcome)
     : Type 0 where
   pub text : List ℕ
@@ -73,7 +73,7 @@ pub record PrintsVerdicts (form : LineForm) (paths : List (List ℕ)) (old new :
   pub ended : status ≡ status_of_all (list_any (λ o. o.is_faulty) outcomes)
       (list_any (λ o. o.has_breach) outcomes)
 
--- and the line of each fault is said, unless one can't be written
+-- and the line of each fault is written, unless a write failed
 pub record JudgesAll (form : LineForm) (paths : List (List ℕ))
     (old new errors_old errors_new : Option (List ℕ)) (is_told : Bool) (status : ℕ)
     : Type 0 where

@@ -1,4 +1,4 @@
--- The command line of `check-all`, and which values are those of its task.
+-- The command line of `check-all`, and the values of its task.
 use Rattle.std.specs.Prelude.{◌≡◌, List, Option, Some, None, codes, map, string_bytes}
 use Rattle.clap.specs.Lexer.{usize_max}
 use Rattle.clap.specs.Words.{App, Row, Rule, Text, all_of, first_of, new_app, new_rule, one_of}
@@ -10,11 +10,11 @@ use Rattle.office_program.specs.CommandLine.{required_rule}
 use Rattle.office_program.specs.declared.words.Task.{Task}
 use Rattle.office_program.specs.declared.words.Task.TheVariants.{Check, CheckAll, Explain, Export, Load, Serve}
 
--- the flag that asks for lines of JSON
+-- the flag that requests lines of JSON
 abbrev pub json_rule : Rule
 json_rule = record (new_rule (codes "json")) { long = Some (codes "json"); action = Some SetTrue }
 
--- the solutions: one or more, the last of the words
+-- the solutions: one or more, at the end of the words
 abbrev pub solutions_rule : Rule
 solutions_rule = record (required_rule (codes "solutions")) {
   range = Some (record { start_inclusive = 1; end_inclusive = usize_max });
@@ -25,7 +25,7 @@ abbrev pub check_all_app : App
 check_all_app = with_rule (with_rule (with_rule (new_app (codes "check-all")) json_rule)
     (required_rule (codes "session"))) solutions_rule
 
--- the value of the flag asks for this form
+-- the value of the flag requests this form
 pub record AsksFor (value : Option Text) (form : LineForm) : Type 0 where
   pub json : value ≡ Some (codes "true") → form ≡ Json
   pub plain : value ≡ Some (codes "false") → form ≡ Plain

@@ -1,11 +1,11 @@
--- The command line of `check`, `load` and `export`, in clap's own words: what each takes, and which
--- values are those of its task.
+-- The command line of `check`, `load` and `export`, in clap's terms: the arguments of each, and the
+-- values of its task.
 use Rattle.std.specs.Prelude.{◌≡◌, List, Some, codes, string_bytes, true}
 use Rattle.clap.specs.Words.{App, Row, Rule, Text, first_of, new_app, new_rule, with_rule}
 use Rattle.office_program.specs.declared.words.Task.{Task}
 use Rattle.office_program.specs.declared.words.Task.TheVariants.{Check, CheckAll, Explain, Export, Load, Serve}
 
--- an argument that has to be there, and has one value
+-- a required argument with one value
 abbrev pub required_rule : Text → Rule
 required_rule id = record (new_rule id) { required = true; value_names = 1 }
 
@@ -25,7 +25,7 @@ HasCheckValues rows (Serve database terms) = ⊥
 HasCheckValues rows (Export database) = ⊥
 HasCheckValues rows (Explain words) = ⊥
 
--- an option that has to be there, and has one value
+-- a required option with one value
 abbrev pub named_rule : Text → Rule
 named_rule id = record (required_rule id) { long = Some id }
 

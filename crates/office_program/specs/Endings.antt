@@ -1,4 +1,4 @@
--- What is said on the writer of faults, and what else is then printed.
+-- The lines that are written to `err`, and what is then printed on `out`.
 use Rattle.std.specs.Prelude.{◌≡◌, ◌≢◌, ◌⊎◌, ℕ, ◌++◌, ◌∷◌, [], Bool, true, List, Option}
 use Rattle.std.specs.Prelude.{map, string_bytes}
 use Rattle.std.specs.Io.KnownBytes.{Appends, Keeps}
@@ -13,8 +13,8 @@ use Rattle.office_program.specs.declared.faults.ProgramFault.TheVariants.{Cannot
 use Rattle.office_program.specs.declared.words.Task.{Task}
 use Rattle.office_program.specs.declared.words.Task.TheVariants.{Check, CheckAll, Explain, Export, Load, Serve}
 
--- before its own fault a task leaves the writer of faults as it was, except a server, which prints
--- the faults of connections there, and `check-all`, which prints those of solutions
+-- until its own fault a task leaves `err` unchanged; except a server, which writes the faults of
+-- connections there, and `check-all`, which writes those of solutions
 abbrev pub IsSilent : {W : Type 0} → Task → W → W → Type 0
 IsSilent (Check instance solution) old new = new ≡ old
 IsSilent (CheckAll session solutions form) old new = Unit {0}
@@ -23,8 +23,8 @@ IsSilent (Serve database terms) old new = Unit {0}
 IsSilent (Export database) old new = new ≡ old
 IsSilent (Explain words) old new = new ≡ old
 
--- what is told there of a task that is done: nothing, but of a server the faults of as many
--- connections at most as it was to serve
+-- a task that is done wrote nothing to `err`; except a server, which wrote the faults of
+-- connections, at most as many as it was to serve
 abbrev pub TellsConnections : {W : Type 0} → (W → Option (List ℕ)) → Task → W → W → Type 0
 TellsConnections contents (Check instance solution) old new = new ≡ old
 TellsConnections contents (CheckAll session solutions form) old new = new ≡ old
@@ -34,13 +34,13 @@ TellsConnections contents (Serve database terms) old new =
 TellsConnections contents (Export database) old new = new ≡ old
 TellsConnections contents (Explain words) old new = new ≡ old
 
--- the writer of faults is as it was, or was told what a task of the words tells that is done
+-- `err` is unchanged, or has what a task of the words writes there when it is done
 abbrev pub IsQuiet : {W : Type 0} → (W → Option (List ℕ)) → List Text → W → W → Type 0
 IsQuiet contents words old new =
     (new ≡ old)
     ⊎ ((task : Task) × IsTask words task × TellsConnections contents task old new)
 
--- what a task leaves printed whose fault is none of writing: what was, and of a server its port
+-- on a fault other than of writing, `out` is unchanged, or a server printed its port
 abbrev pub LeavesPrinted : Task → Option (List ℕ) → Option (List ℕ) → Type 0
 LeavesPrinted (Check instance solution) old new = Keeps old new
 LeavesPrinted (CheckAll session solutions form) old new = Keeps old new
@@ -49,8 +49,8 @@ LeavesPrinted (Serve database terms) old new = Keeps old new ⊎ PrintsPort term
 LeavesPrinted (Export database) old new = Keeps old new
 LeavesPrinted (Explain words) old new = Keeps old new
 
--- the line of a fault of the task is written, behind what the writer held when the fault came; and
--- where it is none of writing, nothing else is printed but a server's port
+-- the line of a fault of the task is appended to what `err` had when the fault came; unless it is a
+-- fault of writing, nothing else is printed but a server's port
 pub record TellsTask {W : Type 0} (contents : W → Option (List ℕ)) (task : Task) (old new : W)
     (printed_old printed_new : Option (List ℕ)) : Type 0 where
   pub shown : ProgramFault
@@ -67,7 +67,7 @@ TellsNoTask old new printed_old printed_new =
     (Appends old new (fault_line NoMemory ++ 10 ∷ []) × Keeps printed_old printed_new)
     ⊎ Appends old new (fault_line CannotWrite ++ 10 ∷ [])
 
--- what `check-all` prints and says if a solution has a fault
+-- what `check-all` prints, and writes to `err`, if a solution has a fault
 abbrev pub TellsSolutions : {W : Type 0} → (W → Option (List ℕ)) → Task → (old new : W)
     → (printed_old printed_new : Option (List ℕ)) → Bool → Type 0
 TellsSolutions contents (Check instance solution) old new printed_old printed_new is_told = ⊥
@@ -79,8 +79,8 @@ TellsSolutions contents (Serve database terms) old new printed_old printed_new i
 TellsSolutions contents (Export database) old new printed_old printed_new is_told = ⊥
 TellsSolutions contents (Explain words) old new printed_old printed_new is_told = ⊥
 
--- the line of a fault is written, of the task of the words or of words that give none; or those of
--- solutions
+-- the line of a fault is written, either of the task of the words or of words that give no task; or
+-- those of solutions
 abbrev pub TellsFault : {W : Type 0} → (W → Option (List ℕ)) → List Text → (old new : W)
     → (printed_old printed_new : Option (List ℕ)) → Type 0
 TellsFault contents words old new printed_old printed_new =

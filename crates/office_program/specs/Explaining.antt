@@ -1,4 +1,4 @@
--- The words of faults, and the command line of `explain`.
+-- The words that explain faults, and the command line of `explain`.
 use Rattle.std.specs.Prelude.{◌≡◌, ◌==◌, ◌-◌, ℕ, [], ◌∷◌, List, None, Option, Some, codes}
 use Rattle.std.specs.Prelude.{if◌then◌else◌, map, option_and_then, slice_get}
 use Rattle.std.specs.Option.{option_map_or}
@@ -24,7 +24,7 @@ fault_words kind n =
     else (if bytes_eq kind (codes "connection")
     then numbered (map (λ text. text.now) CONNECTION) n else None))
 
--- the argument that is the number of a fault
+-- the argument with the number of a fault
 abbrev pub fault_rule : Rule
 fault_rule = within (required_rule (codes "number")) 1 MAX_FAULT
 
@@ -48,11 +48,11 @@ HasExplainValues rows (Serve database terms) = ⊥
 HasExplainValues rows (Export database) = ⊥
 HasExplainValues rows (Explain words) = explained rows ≡ Some words.now
 
--- the kind of the error where the values of `explain` name no fault
+-- the kind of the error if the values of `explain` name no fault
 abbrev pub unexplained : List Row → Kinds
 unexplained rows = option_map_or (λ words. []) (explained rows) (InvalidValue ∷ [])
 
--- the same of a command and its values; another command explains nothing
+-- the same for a command and its values; another command has no such error
 abbrev pub unexplained_in : Option (Text × List Row) → Kinds
 unexplained_in found = option_map_or (λ p.
     if bytes_eq p.0 (codes "explain") then unexplained p.1 else []) found []

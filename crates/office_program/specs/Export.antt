@@ -1,4 +1,4 @@
--- What `export` makes of the office that a database stands for.
+-- The effect of `export` on the office that a database represents.
 use Rattle.std.specs.Prelude.{◌≡◌, ◌<◌, ◌≤◌, List, length, ℕ, Option, Some, None, IsSome, option_map}
 use Rattle.std.specs.Io.KnownBytes.{Appends}
 use Rattle.sqlite.specs.State.{State}
@@ -12,13 +12,13 @@ use Rattle.office_store.specs.Running.{Now}
 use Rattle.office_program.specs.declared.exporting.ExportFault.{ExportFault}
 use Rattle.office_program.specs.declared.exporting.ExportFault.TheVariants as fault
 
--- the canonical solution of what is published, if anything is
+-- the canonical solution of the publication, if there is one
 abbrev pub published_solution : OfficeState → Option (List ℕ)
 published_solution office =
     option_map (λ (found : Session × Publication). canonical_solution found.1.timetable)
     (publication_in office)
 
--- it is written, and the office stands as it did
+-- it is written, and the office is unchanged
 pub record Exports (office : OfficeState) (after : State) (old new : Option (List ℕ))
     : Type 0 where
   pub text : List ℕ
@@ -26,15 +26,15 @@ pub record Exports (office : OfficeState) (after : State) (old new : Option (Lis
   pub printed : Appends old new text
   pub stands : Now after office
 
--- a statement failed, nothing is published, memory was refused, or the writer failed at what is
--- published
+-- a statement failed, nothing is published, memory was refused, or the writer failed while the
+-- publication was written
 abbrev pub RefusesExport : OfficeState → ExportFault → Type 0
 RefusesExport office (fault.Store f) = f ≡ store.Store
 RefusesExport office fault.NoPublication = published_solution office ≡ None
 RefusesExport office fault.NoMemory = Unit {0}
 RefusesExport office fault.Write = (text : List ℕ) × (published_solution office ≡ Some text)
 
--- a whole timetable: it has exams, and each of them a place
+-- a whole timetable: it has exams, and each has a place
 abbrev pub IsWhole : Placing → Type 0
 IsWhole T = (1 ≤ length T) × ((e : ℕ) → e < length T → IsSome (place_of T e))
 

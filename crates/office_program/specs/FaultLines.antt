@@ -1,5 +1,4 @@
--- The lines of the program's own faults, as they are printed, and of what files, databases and
--- offices fail with.
+-- The printed lines of the program's own faults, and of the faults of files, databases and offices.
 use Rattle.std.specs.Prelude.{ℕ, ◌++◌, List, codes, decimal}
 use Rattle.office_model.specs.declared.fault.Refusal.TheVariants as refusal
 use Rattle.office_model.specs.declared.fault.StoreFault.{StoreFault}
@@ -49,6 +48,6 @@ abbrev pub store_line : StoreFault → List ℕ
 store_line (store.Refused (refusal.File f)) = fault_line (fault.Instance f)
 store_line f = fault_line (fault.Store f)
 
--- the line for words that are no texts, without its end
+-- the line for words that are not UTF-8, without its end
 abbrev pub not_text_line : List ℕ
 not_text_line = codes "error: the words are not all UTF-8"

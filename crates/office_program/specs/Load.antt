@@ -1,4 +1,4 @@
--- What `load` makes of the office that a database stands for, and what it prints.
+-- The effect of `load` on the office that a database represents, and what it prints.
 use Rattle.std.specs.Prelude.{◌≡◌, ℕ, ◌++◌, ◌∷◌, [], List, Option, Ok, codes, decimal}
 use Rattle.std.specs.Io.KnownBytes.{Appends}
 use Rattle.sqlite.specs.State.{State}
@@ -19,7 +19,7 @@ loaded_line l =
 abbrev pub loaded_text : Loaded → List ℕ
 loaded_text l = loaded_line l ++ 10 ∷ []
 
--- the text is loaded into the office: this is how much, and the new office stands
+-- the text is loaded into the office, with these counts; the database represents the new office
 pub record IsLoaded (text : List ℕ) (office : OfficeState) (after : State) (counts : Loaded)
     : Type 0 where
   pub next : OfficeState
@@ -33,22 +33,22 @@ pub record Loads (text : List ℕ) (office : OfficeState) (after : State)
   pub loaded : IsLoaded text office after counts
   pub printed : Appends old new (loaded_text counts)
 
--- the office's own refusal or a failed statement; or all but the line is done
+-- the office's own refusal or a failed statement; or the load is done, but the line isn't written
 abbrev pub RefusesLoad : List ℕ → OfficeState → State → LoadFault → Type 0
 RefusesLoad text office after (Store fault) = IsFault (loaded text office) fault
 RefusesLoad text office after Write = (counts : Loaded) × IsLoaded text office after counts
 
--- what holds when the office refuses the text, or a statement failed
+-- a fact that holds if the office refuses the text, or a statement failed
 abbrev pub IfRefused : Type 0 → LoadFault → Type 0
 IfRefused Then (Store fault) = Then
 IfRefused Then Write = Unit {0}
 
--- a text that the office refuses has this fault first
+-- the fault is the first one of a text that the office refuses
 abbrev pub NamesTextFault : List ℕ → LoadFault → Type 0
 NamesTextFault text (Store fault) = NamesFirstFault text fault
 NamesTextFault text Write = Unit {0}
 
--- the line of how much the text spells is printed
+-- the line with the counts of what the text spells is printed
 abbrev pub PrintsCounts : List ℕ → Option (List ℕ) → Option (List ℕ) → Type 0
 PrintsCounts text old new =
     (counts : Loaded) × SpellsSession text counts × Appends old new (loaded_text counts)

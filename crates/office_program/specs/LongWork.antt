@@ -1,9 +1,9 @@
--- The lines that are printed before work that takes long, and of a file that is new or old.
+-- The lines that are printed before work that takes long, and about a new or an old file.
 use Rattle.std.specs.Prelude.{ℕ, ◌++◌, List, codes}
 use Rattle.office_program.specs.declared.telling.LongWork.{LongWork}
 use Rattle.office_program.specs.declared.telling.LongWork.TheVariants as work
 
--- the line of work that is begun, without its end
+-- the line of the work that begins, without its end
 abbrev pub work_line : LongWork → List ℕ
 work_line (work.Loading path) =
     codes "examoffice: loading " ++ path.now ++ codes ", which takes a while"

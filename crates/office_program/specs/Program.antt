@@ -1,4 +1,4 @@
--- The program with its commands, which task its words are, and what is answered to them.
+-- The program with its commands, the task of its words, and the answer to them.
 use Rattle.std.specs.Prelude.{◌≡◌, ◌≢◌, ◌⊎◌, [], List, Option, Some, codes, true}
 use Rattle.clap.specs.Words.{AddsSubcommand, App, IsAmong, Kinds, Row, Shape, Text, app_of}
 use Rattle.clap.specs.Words.{new_app, subcommand_of, with_subcommand}
@@ -14,16 +14,16 @@ use Rattle.office_program.specs.CommandLine.{check_app, HasCheckValues, load_app
 use Rattle.office_program.specs.ServeLine.{serve_app, HasServeValues}
 use Rattle.office_program.specs.Explaining.{HasExplainValues, explain_app, unexplained_in}
 
--- whoever adds the command as a subcommand adds this shape
+-- adding the command as a subcommand adds this shape
 abbrev pub AddsShape : Command → Shape → Type 0
 AddsShape command shape = (old new : Command) → AddsSubcommand old command new
     → app_of new ≡ with_subcommand (app_of old) shape
 
--- a command that wants one of its subcommands
+-- a command that requires one of its subcommands
 abbrev pub wants_subcommand : App → App
 wants_subcommand a = record a { top = record a.top { subcommand_required = true } }
 
--- a command that tells its version
+-- a command that has a version
 abbrev pub tells_version : App → App
 tells_version a = record a { top = record a.top { has_version = true } }
 
@@ -54,7 +54,7 @@ IsTaskOf found (Explain words) =
     (rows : List Row) × (found ≡ Some (codes "explain", rows))
     × HasExplainValues rows (Explain words)
 
--- the task is the command that clap's matches of the words give
+-- the task is the command that clap matches in the words
 abbrev pub IsTask : List Text → Task → Type 0
 IsTask words = IsTaskOf (subcommand_of program words)
 

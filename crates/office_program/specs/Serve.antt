@@ -1,4 +1,4 @@
--- What a database stands for once its office was served, and what is printed meanwhile.
+-- The office that a database represents after clients were served, and what is printed meanwhile.
 use Rattle.std.specs.Prelude.{◌≡◌, ◌≢◌, ◌<◌, ◌≤◌, ◌⊎◌, ℕ, IfErr, IfOk, IsTrue, List, Option}
 use Rattle.std.specs.Prelude.{Result, length}
 use Rattle.std.specs.Io.KnownBytes.{Keeps}
@@ -20,17 +20,17 @@ use Rattle.office_program.specs.declared.words.Terms.{Terms}
 use Rattle.office_store.specs.Opening.{IsOfficeOf}
 use Rattle.office_store.specs.Shut.{IsShut}
 
--- the office served these connections, by each candidate's view, over a disk that returns what was
--- written
+-- assuming the disk returns what was written, the office served these connections, by each
+-- candidate's view
 abbrev pub OfficeServes : {S : Type 0} → Ghosts S → List Visit → Held S → Held S → Type 0
 OfficeServes store visits old new = LeadsOffice store (ServesAllByView visits) old new
 
--- over a disk that returns what was written, a failure of it has shut the store
+-- assuming the disk returns what was written, a failed call of it has shut the store
 abbrev pub IsStoreShut : {S : Type 0} → Ghosts S → Held S → Type 0
 IsStoreShut store held = HasCleanDisk (state store held) → IsShut (state store held)
 
 -- the office served as many clients as the terms say; or the store is shut after the last; or fewer
--- were served, and then an accept failed; or nobody
+-- were served, because an accept failed; or nobody was
 pub record ServesTerms {S : Type 0} (store : Ghosts S) (AreTheirs : List Visit → Type 0)
     (terms : Terms) (outcome : Result Ending ProgramFault) (old new : Held S)
     (errors_old errors_new : Option (List ℕ)) : Type 0 where
@@ -44,15 +44,15 @@ pub record ServesTerms {S : Type 0} (store : Ghosts S) (AreTheirs : List Visit �
       ⊎ (((shown ≡ fault.CannotListen) × (service.accepted < terms.connections))
       ⊎ ((shown ≡ fault.Store Store) × IsStoreShut store new)))
 
--- while it is open, it stands for the office that this one comes to by serving some connections, at
--- most so many
+-- while it is open, it represents an office that this one reaches by serving at most this many
+-- connections
 abbrev pub ComesTo : ℕ → OfficeState → State → Type 0
 ComesTo connections there s =
     (visits : List Visit) × (length visits ≤ connections) × (next : OfficeState)
     × ServesAllByView visits there next × (IsTrue s.is_open → IsOfficeOf s.now next)
 
--- the port of the terms is told on the one writer, and on the other the faults of connections, each
--- by its line unless the writer failed
+-- the port of the terms is printed on the one writer; the other has the line of each connection's
+-- fault, unless a write of it failed
 pub record PrintsServed (terms : Terms) (old new errors_old errors_new : Option (List ℕ))
     (ending : Ending) : Type 0 where
   pub status : ending.status ≡ 0
@@ -60,7 +60,7 @@ pub record PrintsServed (terms : Terms) (old new errors_old errors_new : Option 
   pub told :
       IsTrue ending.is_told → TellsFaults terms.connections errors_old errors_new
 
--- a fault that is none of writing leaves what was printed as it was, or the port was told
+-- a fault other than of writing leaves what was printed unchanged, or the port was printed
 abbrev pub LeavesPort : Terms → Option (List ℕ) → Option (List ℕ) → ProgramFault → Type 0
 LeavesPort terms old new shown =
     shown ≢ fault.CannotWrite → Keeps old new ⊎ PrintsPort terms.port old new

@@ -1,4 +1,4 @@
--- The command line of `serve`: its options, and which values are those of its task.
+-- The command line of `serve`: its options, and the values of its task.
 use Rattle.std.specs.Prelude.{◌≡◌, ◌≤◌, ℕ, [], ◌∷◌, List, Some, codes, pos, string_bytes}
 use Rattle.std.specs.Str.Parse.{IsNumeral, digits_value, without_leading_plus}
 use Rattle.clap.specs.Words.{App, Row, Rule, Text, first_of}
@@ -15,15 +15,15 @@ use Rattle.office_program.specs.CommandLine.{named_rule}
 abbrev pub numbered : Rule → ℕ → ℕ → Rule
 numbered rule least most = record rule { parser = Some (Signed (pos least) (pos most)) }
 
--- the option of the port, which has to be there
+-- the required option of the port
 abbrev pub port_rule : Rule
 port_rule = numbered (named_rule (codes "port")) 0 MAX_PORT
 
--- the option of the number of connections, which has to be there
+-- the required option of the number of connections
 abbrev pub connections_rule : Rule
 connections_rule = numbered (named_rule (codes "connections")) 1 MAX_CONNECTIONS
 
--- the option of the patience, which is 30 where it is not given
+-- the option of the timeout in seconds, by default 30
 abbrev pub patience_rule : Rule
 patience_rule = record (numbered (new_rule (codes "patience")) 1 MAX_PATIENCE) {
   long = Some (codes "patience");
@@ -36,7 +36,7 @@ abbrev pub serve_app : App
 serve_app = with_rule (with_rule (with_rule (with_rule (new_app (codes "serve"))
     (named_rule (codes "db"))) port_rule) connections_rule) patience_rule
 
--- the value found under this name spells the number in decimal digits, behind a plus or none
+-- the value under this name spells the number in decimal digits, with or without a plus
 abbrev pub HasNumber : Text → List Row → ℕ → Type 0
 HasNumber name rows n =
     (text : Text) × (one_of name rows ≡ Some text) × IsNumeral 10 (without_leading_plus text)

@@ -1,4 +1,4 @@
--- What the faults of each task show as: their lines, and which faults a task has.
+-- How the faults of each task are shown: their lines, and which faults a task has.
 use Rattle.std.specs.Prelude.{◌≡◌, ◌⊎◌, ℕ, ◌++◌, List, codes}
 use Rattle.office_model.specs.declared.fault.StoreFault.{StoreFault}
 use Rattle.office_model.specs.declared.fault.StoreFault.TheVariants.{Store}
@@ -26,12 +26,12 @@ check_line instance solution (check.Solution f) = fault_line (fault.Solution f)
 check_line instance solution check.Write = fault_line fault.CannotWrite
 check_line instance solution check.NoMemory = fault_line fault.NoMemory
 
--- the fault shows as one of `check` on the files of two paths
+-- the fault is shown as one of `check` on the files of two paths
 pub record IsOfCheck (instance solution : List ℕ) (shown : ProgramFault) : Type 0 where
   pub of : CheckFault
   pub line : fault_line shown ≡ check_line instance solution of
 
--- the fault shows as one of the session of this path, or of writing
+-- the fault is shown as one of the session of this path, or of writing
 abbrev pub IsOfCheckAll : List ℕ → ProgramFault → Type 0
 IsOfCheckAll session shown =
     ((of : InputFault) × (fault_line shown ≡ input_line session of)) ⊎ (shown ≡ fault.CannotWrite)
@@ -41,14 +41,14 @@ abbrev pub load_line : LoadFault → List ℕ
 load_line (load.Store f) = store_line f
 load_line load.Write = fault_line fault.CannotWrite
 
--- the fault shows as one of a database, or of loading the text into its office; a fault of the
+-- the fault is shown as one of a database, or of loading the text into its office; a fault of the
 -- text is its first
 abbrev pub IsOfOffice : List ℕ → ProgramFault → Type 0
 IsOfOffice text shown =
     ((of : Error) × (fault_line shown ≡ open_line of))
     ⊎ ((of : LoadFault) × NamesTextFault text of × (fault_line shown ≡ load_line of))
 
--- the fault shows as one of the instance of this path, or of the office that it goes into
+-- the fault is shown as one of the instance of this path, or of the office that it is loaded into
 abbrev pub IsOfLoad : List ℕ → ProgramFault → Type 0
 IsOfLoad path shown =
     ((of : InputFault) × (fault_line shown ≡ input_line path of))
@@ -60,7 +60,7 @@ run_line run.Listen = fault_line fault.CannotListen
 run_line run.Write = fault_line fault.CannotWrite
 run_line run.Shut = fault_line (fault.Store Store)
 
--- the fault shows as one of a database, of the office in it, or of a server's run
+-- the fault is shown as one of a database, of the office in it, or of a server's run
 abbrev pub IsOfServe : ProgramFault → Type 0
 IsOfServe shown =
     ((of : Error) × (fault_line shown ≡ open_line of))
@@ -74,7 +74,7 @@ export_line export.NoPublication = fault_line fault.NoPublication
 export_line export.NoMemory = fault_line fault.NoMemory
 export_line export.Write = fault_line fault.CannotWrite
 
--- the fault shows as one of a database, or of writing what is published in its office
+-- the fault is shown as one of a database, or of writing its office's publication
 abbrev pub IsOfExport : ProgramFault → Type 0
 IsOfExport shown =
     ((of : Error) × (fault_line shown ≡ open_line of))

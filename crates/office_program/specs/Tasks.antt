@@ -1,4 +1,4 @@
--- What a task that is done prints.
+-- The output of a task that is done.
 use Rattle.std.specs.Prelude.{◌≡◌, ◌++◌, ◌∷◌, [], ℕ, List, Option, map, string_bytes}
 use Rattle.std.specs.Io.KnownBytes.{Appends}
 use Rattle.office_check.specs.Check.{WritesReport}
@@ -13,8 +13,8 @@ use Rattle.office_program.specs.declared.words.Task.{Task}
 use Rattle.office_program.specs.declared.words.Task.TheVariants.{Check, CheckAll, Explain, Export, Load, Serve}
 
 -- a report on a solution that breaks no hard rule, the lines of solutions of which none has a fault
--- or a breach, the line of what some text spells, the line of
--- the port, some whole timetable's solution, or the words of a fault
+-- or a breach, the line with the counts of some text, the line of the port, the solution of some
+-- whole timetable, or the words of a fault
 abbrev pub Prints : Task → Option (List ℕ) → Option (List ℕ) → Type 0
 Prints (Check instance solution) old new = WritesReport old new 0
 Prints (CheckAll session solutions form) old new =
@@ -24,7 +24,7 @@ Prints (Serve database terms) old new = PrintsPort terms.port old new
 Prints (Export database) old new = PrintsSolution old new
 Prints (Explain words) old new = Appends old new (words.now ++ 10 ∷ [])
 
--- the fault shows as one of the files that the task names; words can only be unwritten
+-- the fault is shown as one of the files that the task names; `explain` can only fail to write
 abbrev pub IsOfTask : Task → ProgramFault → Type 0
 IsOfTask (Check instance solution) shown =
     IsOfCheck (string_bytes instance) (string_bytes solution) shown
@@ -34,8 +34,8 @@ IsOfTask (Serve database terms) shown = IsOfServe shown
 IsOfTask (Export database) shown = IsOfExport shown
 IsOfTask (Explain words) shown = shown ≡ CannotWrite
 
--- what a task prints that ends with status 3: a report on a solution that breaks a hard rule, or the
--- lines of solutions of which none has a fault and one has a breach
+-- the output of a task that ends with status 3: a report on a solution that breaks a hard rule, or
+-- the lines of solutions of which none has a fault and one has a breach
 abbrev pub PrintsBroken : Task → Option (List ℕ) → Option (List ℕ) → Type 0
 PrintsBroken (Check instance solution) old new = WritesReport old new 3
 PrintsBroken (CheckAll session solutions form) old new =

@@ -1,4 +1,4 @@
-// What answers the requests of `serve`.
+// The desk that answers the requests of `serve`.
 ghost use Rattle.std.specs.Prelude.{◌≡◌, IsTrue};
 ghost use Rattle.sqlite.specs.Held.{state};
 ghost use Rattle.sqlite.specs.State.{HasCleanDisk};
@@ -12,7 +12,7 @@ use office_http::{Alter, Desk, Routes, reply};
 use office_messages::{Machine, Reply, Request, Status};
 use std::alloc::Global;
 
-/// The desk of an office in a database, which looks after each reply whether its store is shut.
+/// The desk of an office in a database. It checks after each reply whether its store is shut.
 #[derive(Drop)]
 pub(crate) struct ServingDesk<'a, 'b, S: Alter> {
     pub(crate) rt: &'b HostRuntime,
@@ -52,7 +52,7 @@ impl<S: Alter> MayShut for ServingDesk<'_, '_, S> {
     }
 }
 
-// Whether the office asks to publish a draft.
+// Returns whether the office requests to publish a draft.
 fn asks_to_publish(request: &Request<'_>) -> bool {
     let Some(caller) = request.caller else {
         return false;
@@ -62,8 +62,8 @@ fn asks_to_publish(request: &Request<'_>) -> bool {
         && request.target.ends_with("/publish")
 }
 
-// Whether the store is shut after a reply of this status. A request that was done shows that it is
-// open.
+// Returns whether the store is shut after a reply with this status. After a request that was done
+// it is open.
 fn is_shut_after<S: Alter>(status: Status, desk: &mut Desk<S>) -> bool
     ensures shut { IsTrue result → IsStoreShut S.Store desk.new }
     ensures done { IsDone status → desk.new ≡ desk.old }
@@ -77,7 +77,7 @@ fn is_shut_after<S: Alter>(status: Status, desk: &mut Desk<S>) -> bool
     }
 }
 
-// Whether the store is shut: no, if it doesn't say.
+// Returns whether the store is shut; false if that can't be found out.
 fn is_shut<S: Alter>(desk: &mut Desk<S>) -> bool
     ensures shut { IsTrue result → IsStoreShut S.Store desk.new }
     ensures still { HasCleanDisk (state S.Store desk.new)

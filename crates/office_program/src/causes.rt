@@ -1,4 +1,4 @@
-// What is said of a fault after its line, on a terminal or to a journal: what it is about.
+// What is printed about the cause of a fault, after its line, on a terminal or to a journal.
 use crate::explaining::fault_words;
 use crate::faults::ProgramFault;
 use crate::words::Task;
@@ -9,16 +9,16 @@ use sqlite::Error;
 use std::io::{IsTerminal, Read, Write};
 use std::{env, fmt, fs, io};
 
-// Says what a fault of the task is about, if standard error is a terminal or goes to a journal.
+// Prints the cause of a task's fault, if standard error is a terminal or goes to a journal.
 pub(crate) fn tell_cause(rt: &HostRuntime, task: &Task, fault: &ProgramFault<'_>) {
     let mut terminal = rt.stderr();
     if terminal.is_terminal() || env::var(rt, "JOURNAL_STREAM").is_ok() {
-        // The fault has its line, whether or not this one can be printed.
+        // The fault's own line is printed whether or not this one can be.
         let _ = print_cause(rt, task, fault, &mut terminal);
     }
 }
 
-// Prints the line of what a fault is about, if there is more to say of it.
+// Prints the line of a fault's cause, if there is more to say about it.
 fn print_cause<W: Write>(
     rt: &HostRuntime,
     task: &Task,
@@ -44,7 +44,7 @@ fn print_unread<W: Write>(rt: &HostRuntime, path: &str, out: &mut W) -> io::Resu
     }
 }
 
-// Reads a byte of a file or a folder. Others, such as pipes, may not be opened twice.
+// Reads a byte of a file or a folder. Other files, such as pipes, may not be opened twice.
 fn try_reading(rt: &HostRuntime, path: &str) -> io::Result<()> {
     let found = fs::metadata(rt, path)?;
     if found.is_file() || found.is_dir() {
@@ -54,7 +54,7 @@ fn try_reading(rt: &HostRuntime, path: &str) -> io::Result<()> {
     Ok(())
 }
 
-// The path of the instance's file.
+// Returns the path of the instance's file.
 fn instance_of(task: &Task) -> &str {
     match task {
         Task::Check(instance, _) | Task::CheckAll(instance, _, _) | Task::Load(_, instance) => {
@@ -64,7 +64,7 @@ fn instance_of(task: &Task) -> &str {
     }
 }
 
-// The path of the solution's file.
+// Returns the path of the solution's file.
 fn solution_of(task: &Task) -> &str {
     match task {
         Task::Check(_, solution) => solution,
@@ -72,7 +72,7 @@ fn solution_of(task: &Task) -> &str {
     }
 }
 
-// The path of the database's file.
+// Returns the path of the database's file.
 fn database_of(task: &Task) -> &str {
     match task {
         Task::Load(database, _) | Task::Serve(database, _) | Task::Export(database) => database,
@@ -106,7 +106,7 @@ fn print_faulty<W: Write>(
     }
 }
 
-// A fault of a file in short.
+// Returns the short words for a fault of a file.
 fn words_in_short(what: FaultKind) -> &'static str {
     match fault_words("file", u32::from(kind_number(what))) {
         Some(words) => match words.split_once(": ") {
@@ -117,12 +117,12 @@ fn words_in_short(what: FaultKind) -> &'static str {
     }
 }
 
-// The text of a file, which is empty if it can't be read again.
+// Returns the text of a file; empty if it can't be read again.
 fn text_again(rt: &HostRuntime, path: &str) -> Vec<u8> {
     read_again(rt, path).unwrap_or(Vec::new(rt.alloc()))
 }
 
-// The text of a file, if it can be read again.
+// Returns the text of a file, if it can be read again.
 fn read_again(rt: &HostRuntime, path: &str) -> Option<Vec<u8>> {
     if !fs::metadata(rt, path).ok()?.is_file() {
         return None;
@@ -131,7 +131,7 @@ fn read_again(rt: &HostRuntime, path: &str) -> Option<Vec<u8>> {
     instance_text(rt.alloc(), &mut file).ok()
 }
 
-// The line of this number, from 1, if it is there and has more than blanks.
+// Returns the line of this number, from 1, if the text has it and it isn't blank.
 fn line_of(text: &[u8], number: u32) -> Option<&[u8]> {
     let before = number.checked_sub(1)?;
     let found = text.split(|byte| *byte == b'\n').nth(before as usize)?;
@@ -142,7 +142,7 @@ fn line_of(text: &[u8], number: u32) -> Option<&[u8]> {
     }
 }
 
-// A fault of a file in short, or that the file is the other one of a session and its solution.
+// Returns the short words for a fault of a file, or says that a session and a solution are swapped.
 fn words_beside(what: FaultKind, line: &[u8]) -> &'static str {
     if what == FaultKind::MissingSection && is_place(line) {
         return "a solution, not a session";
@@ -153,7 +153,7 @@ fn words_beside(what: FaultKind, line: &[u8]) -> &'static str {
     words_in_short(what)
 }
 
-// Whether a line is a period and a room, as those of solutions are.
+// Returns whether a line has a period and a room, like those of solutions.
 fn is_place(line: &[u8]) -> bool {
     let commas = line.iter().filter(|byte| **byte == b',').count();
     commas == 1

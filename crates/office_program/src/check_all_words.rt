@@ -9,7 +9,7 @@ use clap::{ArgMatches, Error};
 use office_check::LineForm;
 use std::alloc::{AllocError, Global};
 
-// The task of `check-all` with these values.
+// Returns the task of `check-all` with these values.
 pub(crate) fn check_all_task(alloc: Global, values: &ArgMatches<'_>) -> Result<Task, Error>
     ensures ok { IfOk result (HasCheckAllValues (rows_of (found_of values.now))) }
     ensures err { IfErr result (λ e. kind_of e ≡ OutOfMemory) }
@@ -19,7 +19,7 @@ pub(crate) fn check_all_task(alloc: Global, values: &ArgMatches<'_>) -> Result<T
     Ok(Task::CheckAll(session, solutions, form_of(values)))
 }
 
-// All values that were found. Clap has seen to it that there is one, as for `value_of`.
+// Returns all values that were found. Clap makes sure that there is one, as for `value_of`.
 fn values_of(alloc: Global, values: &ArgMatches<'_>, id: &str) -> Result<Vec<String>, Error>
     ensures ok { IfOk result (λ texts. all_of id.now (rows_of (found_of values.now))
         ≡ Some (map string_bytes texts.items)) }
@@ -42,7 +42,7 @@ fn copies(alloc: Global, texts: &[&str]) -> Result<Vec<String>, AllocError>
     Ok(copied)
 }
 
-// The form that the flag asks for.
+// Returns the form that the flag requests.
 fn form_of(values: &ArgMatches<'_>) -> LineForm
     ensures { AsksFor (one_of (codes "json") (rows_of (found_of values.now))) result }
 {

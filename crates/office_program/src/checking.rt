@@ -1,4 +1,4 @@
-// `check`: a solution judged by the files of two paths.
+// `check`: judges a solution by the files of two paths.
 ghost use Rattle.std.specs.Prelude.{◌≡◌, ◌≢◌, ◌⊎◌, IfErr, IfOk, false, is_ok, true};
 ghost use Rattle.std.specs.Io.KnownBytes.{Keeps};
 ghost use Rattle.office_check.specs.Check.{WritesReport};
@@ -11,7 +11,7 @@ use std::io::Write;
 use std::rt::Files;
 use std::{fs, io};
 
-// `check`. Both files are open before either is read.
+// Runs `check`. Both files are opened before either is read.
 pub(crate) fn check<'a, R: Files + AllocGlobal, W: Write>(
     rt: &R,
     instance: &'a str,

@@ -1,4 +1,4 @@
-// The commands of the command line, as clap takes them.
+// The commands of the command line, as clap defines them.
 ghost use Rattle.std.specs.Prelude.{◌≡◌, IfOk, Some, false};
 ghost use Rattle.clap.specs.Words.{rule_of};
 ghost use Rattle.clap.specs.declared.builder.texts.Texts.TheVariants.{One};
@@ -17,7 +17,7 @@ use clap::{Arg, ArgAction, Command, value_parser};
 use office_connections::MAX_PORT;
 use std::alloc::{AllocError, Global};
 
-// The command `check`.
+// Returns the command `check`.
 pub(crate) fn check_command<'a>(alloc: Global) -> Result<Command<'a>, AllocError>
     ensures { IfOk result (λ c. AddsShape c check_app.top) }
 {
@@ -30,7 +30,7 @@ pub(crate) fn check_command<'a>(alloc: Global) -> Result<Command<'a>, AllocError
         .arg(solution)
 }
 
-// An argument that has to be there.
+// Returns a required argument.
 fn required<'a>(alloc: Global, id: &'a str, name: &'a str, help: &'a str) -> Arg<'a>
     ensures rule { rule_of result ≡ required_rule id.now }
     ensures local { result.global ≡ false }
@@ -43,7 +43,7 @@ fn required<'a>(alloc: Global, id: &'a str, name: &'a str, help: &'a str) -> Arg
         .required(true)
 }
 
-// The command `check-all`.
+// Returns the command `check-all`.
 pub(crate) fn check_all_command<'a>(alloc: Global) -> Result<Command<'a>, AllocError>
     ensures { IfOk result (λ c. AddsShape c check_all_app.top) }
 {
@@ -56,7 +56,7 @@ pub(crate) fn check_all_command<'a>(alloc: Global) -> Result<Command<'a>, AllocE
         .arg(solutions_argument(alloc))
 }
 
-// The flag that asks for lines of JSON.
+// Returns the flag that requests lines of JSON.
 fn json_flag<'a>(alloc: Global) -> Arg<'a>
     ensures rule { rule_of result ≡ json_rule }
     ensures local { result.global ≡ false }
@@ -67,7 +67,7 @@ fn json_flag<'a>(alloc: Global) -> Arg<'a>
         .action(ArgAction::SetTrue)
 }
 
-// The solutions, one or more.
+// Returns the argument of the solutions, one or more.
 fn solutions_argument<'a>(alloc: Global) -> Arg<'a>
     ensures rule { rule_of result ≡ solutions_rule }
     ensures local { result.global ≡ false }
@@ -75,7 +75,7 @@ fn solutions_argument<'a>(alloc: Global) -> Arg<'a>
     required(alloc, "solutions", "SOLUTION", "The files of the solutions").num_args(1..)
 }
 
-// The command `load`.
+// Returns the command `load`.
 pub(crate) fn load_command<'a>(alloc: Global) -> Result<Command<'a>, AllocError>
     ensures { IfOk result (λ c. AddsShape c load_app.top) }
 {
@@ -88,7 +88,7 @@ pub(crate) fn load_command<'a>(alloc: Global) -> Result<Command<'a>, AllocError>
         .arg(instance)
 }
 
-// An option that has to be there, with a value.
+// Returns a required option with a value.
 fn named<'a>(alloc: Global, id: &'a str, name: &'a str, help: &'a str) -> Arg<'a>
     ensures rule { rule_of result ≡ named_rule id.now }
     ensures local { result.global ≡ false }
@@ -98,7 +98,7 @@ fn named<'a>(alloc: Global, id: &'a str, name: &'a str, help: &'a str) -> Arg<'a
     required(alloc, id, name, help).long(id)
 }
 
-// The command `serve`.
+// Returns the command `serve`.
 pub(crate) fn serve_command<'a>(alloc: Global) -> Result<Command<'a>, AllocError>
     ensures { IfOk result (λ c. AddsShape c serve_app.top) }
 {
@@ -112,7 +112,7 @@ pub(crate) fn serve_command<'a>(alloc: Global) -> Result<Command<'a>, AllocError
         .arg(patience_option(alloc))
 }
 
-// The option that says on which port the office listens.
+// Returns the option for the port on which the office listens.
 fn port_option<'a>(alloc: Global) -> Arg<'a>
     ensures rule { rule_of result ≡ port_rule }
     ensures local { result.global ≡ false }
@@ -125,7 +125,7 @@ fn port_option<'a>(alloc: Global) -> Arg<'a>
         .value_parser(value_parser!(u16).range(0..=i64::from(MAX_PORT)))
 }
 
-// The option that says how many connections are served.
+// Returns the option for the number of connections that are served.
 fn connections_option<'a>(alloc: Global) -> Arg<'a>
     ensures rule { rule_of result ≡ connections_rule }
     ensures local { result.global ≡ false }
@@ -138,7 +138,7 @@ fn connections_option<'a>(alloc: Global) -> Arg<'a>
         .value_parser(value_parser!(u32).range(1..=i64::from(MAX_CONNECTIONS)))
 }
 
-// The option that says how patient the office is.
+// Returns the option for the timeout of a client.
 fn patience_option<'a>(alloc: Global) -> Arg<'a>
     ensures rule { rule_of result ≡ patience_rule }
     ensures local { result.global ≡ false }
@@ -151,7 +151,7 @@ fn patience_option<'a>(alloc: Global) -> Arg<'a>
         .value_parser(value_parser!(u32).range(1..=i64::from(MAX_PATIENCE)))
 }
 
-// The command `export`.
+// Returns the command `export`.
 pub(crate) fn export_command<'a>(alloc: Global) -> Result<Command<'a>, AllocError>
     ensures { IfOk result (λ c. AddsShape c export_app.top) }
 {
@@ -162,7 +162,7 @@ pub(crate) fn export_command<'a>(alloc: Global) -> Result<Command<'a>, AllocErro
         .arg(database)
 }
 
-// The command `explain`.
+// Returns the command `explain`.
 pub(crate) fn explain_command<'a>(alloc: Global) -> Result<Command<'a>, AllocError>
     ensures { IfOk result (λ c. AddsShape c explain_app.top) }
 {
@@ -179,7 +179,7 @@ pub(crate) fn explain_command<'a>(alloc: Global) -> Result<Command<'a>, AllocErr
         .arg(fault_argument(alloc))
 }
 
-// The argument that is the number of a fault.
+// Returns the argument for the number of a fault.
 fn fault_argument<'a>(alloc: Global) -> Arg<'a>
     ensures rule { rule_of result ≡ fault_rule }
     ensures local { result.global ≡ false }

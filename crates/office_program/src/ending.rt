@@ -7,14 +7,14 @@ pub struct Ending {
     /// The exit status: 0 done, 1 a fault of a file, an office, a port, `out` or memory, 2 a
     /// mistake in the words, 3 a solution that breaks a hard rule.
     pub status: u8,
-    /// Whether the writer of faults took it whole: the line of the fault, or text of the mistake,
-    /// that it ended with, or where it ended with none the lines of the connections that it served;
-    /// true where there are none.
+    /// Whether all of this was written to the writer of faults: the line of the fault or the text
+    /// of the mistake that the program ended with, or else the lines of the connections that it
+    /// served. True if there is nothing to write.
     pub is_told: bool,
 }
 
 impl Ending {
-    // An ending for which the writer of faults was given nothing.
+    // Returns an ending without anything for the writer of faults.
     pub(crate) fn quiet(status: u8) -> Ending
         ensures status { result.status ≡ status }
         ensures told { IsTrue result.is_told }

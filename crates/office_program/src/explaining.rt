@@ -1,4 +1,4 @@
-// `explain`: the faults in words.
+// `explain`: prints faults in words.
 ghost use Rattle.std.specs.Prelude.{◌≡◌, ◌++◌, ◌∷◌, [], IfErr, IfOk, OnOk, map, option_map};
 ghost use Rattle.std.specs.Io.KnownBytes.{Appends};
 ghost use Rattle.office_program.specs.Explaining.{fault_words, numbered};
@@ -7,7 +7,7 @@ use crate::ending::Ending;
 use crate::faults::ProgramFault;
 use std::io::{self, Write};
 
-// The faults of a file, from 1. What is before the colon is the fault in short.
+// The faults of a file, from 1. The part in front of the colon is the short form.
 const FILE: [&str; 13] = [
     "too long: the file has more bytes than are read (line 0)",
     "no header: the header of the next section is expected here",
@@ -48,7 +48,7 @@ const CONNECTION: [&str; 4] = [
 // The greatest number of a fault.
 pub(crate) const MAX_FAULT: u32 = 13;
 
-// The words of the fault of this kind and number, if there is one.
+// Returns the words of the fault of this kind and number, if there is one.
 pub(crate) fn fault_words(kind: &str, number: u32) -> Option<&'static str>
     ensures { option_map (λ words. words.now) result ≡ fault_words kind.now number }
 {
@@ -63,7 +63,7 @@ pub(crate) fn fault_words(kind: &str, number: u32) -> Option<&'static str>
     }
 }
 
-// The text of this number, from 1.
+// Returns the text of this number, from 1.
 fn numbered(texts: &[&'static str], number: u32) -> Option<&'static str>
     ensures { option_map (λ text. text.now) result
         ≡ numbered (map (λ text. text.now) texts.now) number }
@@ -74,7 +74,7 @@ fn numbered(texts: &[&'static str], number: u32) -> Option<&'static str>
     texts.get(number as usize - 1).copied()
 }
 
-// `explain`. Prints the words of a fault.
+// Runs `explain`, which prints the words of a fault.
 pub(crate) fn explain<'a, W: Write>(words: &str, out: &mut W) -> Result<Ending, ProgramFault<'a>>
     ensures status { IfOk result (λ ending. ending.status ≡ 0) }
     ensures printed { IfOk result (λ _.

@@ -1,4 +1,4 @@
-// `export`: what the office of a database has published.
+// `export`: writes the publication of a database's office.
 ghost use Rattle.std.specs.Prelude.{◌≡◌, ◌≢◌, IfErr, IfOk, IsTrue, Some};
 ghost use Rattle.std.specs.Io.KnownBytes.{Keeps};
 ghost use Rattle.sqlite.specs.Held.{state};
@@ -22,20 +22,20 @@ use std::alloc::Global;
 use std::fs;
 use std::io::Write;
 
-/// Why what is published is not written, or not said to be.
+/// Why the publication is not written.
 #[derive(Clone, Copy, Debug, PartialEq, Eq)]
 pub enum ExportFault {
-    /// The database is no office's, or a statement failed.
+    /// The tables represent no office, or a statement failed.
     Store(StoreFault),
     /// Nothing is published.
     NoPublication,
     /// Memory for the text was refused.
     NoMemory,
-    /// The writer failed; how much of the text went out is not known.
+    /// The writer failed; how much of the text was written is unknown.
     Write,
 }
 
-// `export`. The database's file is there and holds an office: none is made.
+// Runs `export`. The database's file must exist and hold an office: none is created.
 pub(crate) fn export<'a, W: Write>(
     rt: &HostRuntime,
     database: &str,
@@ -56,7 +56,7 @@ pub(crate) fn export<'a, W: Write>(
         Err(error) => return Err(fault_of_open(error)),
     };
     tell_upgrade(rt, database, &conn);
-    // A log that can't be copied into the file stays beside it, and is read there.
+    // A log that can't be copied into the file stays next to it, and is read there.
     match export_run(rt.alloc(), conn, out) {
         Ok(conn) => {
             let _ = conn.close();
@@ -69,13 +69,13 @@ pub(crate) fn export<'a, W: Write>(
     }
 }
 
-/// Writes the solution that the office of a database has published. The connection comes back.
+/// Writes the solution that the office of a database has published. Returns the connection.
 pub fn export_run<S: Alter, W: Write>(
     alloc: Global,
     conn: Connection<S>,
     writer: &mut W,
 ) -> Result<Connection<S>, (ExportFault, Connection<S>)>
-    // Over a disk that returns what was written: what is written is what the office has published.
+    // Assuming the disk returns what was written, the text is the publication of the office.
     ensures done { IfOk result (λ after. HasCleanDisk (state S.Store after)
         → (there : OfficeState) → HoldsOffice (state S.Store conn).now there
         → Exports there (state S.Store after) (W.contents writer.old) (W.contents writer.new)) }
@@ -84,13 +84,13 @@ pub fn export_run<S: Alter, W: Write>(
     ensures refused { IfErr result (λ e. HasCleanDisk (state S.Store e.1)
         → (there : OfficeState) → HoldsOffice (state S.Store conn).now there
         → RefusesExport there e.0) }
-    // A refusal leaves the office as it was, in a database that has nothing uncommitted.
+    // On a refusal the office is unchanged, if the database had nothing uncommitted.
     ensures stays { IfErr result (λ e. HasCleanDisk (state S.Store e.1)
         → ((state S.Store conn).now ≡ (state S.Store conn).committed)
         → (there : OfficeState) → HoldsOffice (state S.Store conn).now there
         → IsTrue (state S.Store e.1).is_open → HoldsOffice (state S.Store e.1).now there) }
 
-    // Over any disk a whole solution is written, or nothing.
+    // Over any disk, a whole solution is written, or nothing.
     ensures printed { IfOk result (λ _.
         PrintsSolution (W.contents writer.old) (W.contents writer.new)) }
     ensures unwritten { IfErr result (λ e. e.0 ≢ ExportFault.Write
@@ -134,7 +134,7 @@ fn export_from<S: Alter, W: Write>(
     }
 }
 
-// The solution that the office has published.
+// Returns the solution that the office has published.
 fn published_text<S: Alter>(alloc: Global, office: &mut Office<S>) -> Result<Vec<u8>, ExportFault>
     ensures published { HasCleanDisk (state S.Store office.new) → (there : OfficeState)
         → Now (state S.Store office.old) there
@@ -163,7 +163,7 @@ fn published_text<S: Alter>(alloc: Global, office: &mut Office<S>) -> Result<Vec
     }
 }
 
-// Why a published solution has no text. Each exam of a publication has a place.
+// Returns why a published solution has no text. Each exam of a publication has a place.
 fn text_fault(what: FaultKind) -> ExportFault
     ensures memory { what ≡ FaultKind.NoMemory → result ≡ ExportFault.NoMemory }
     ensures other { what ≢ FaultKind.NoMemory → result ≡ ExportFault.Store StoreFault.BadSchema }

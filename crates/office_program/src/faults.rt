@@ -1,4 +1,4 @@
-// What ends the program with status 1, and the line that it is printed as.
+// The faults that end the program with status 1, and their lines.
 ghost use Rattle.std.specs.Prelude.{◌≡◌};
 ghost use Rattle.office_program.specs.FaultLines.{fault_line, input_line, open_line, solution_line};
 ghost use Rattle.office_program.specs.TaskFaults.{check_line, export_line, load_line, run_line};
@@ -57,7 +57,7 @@ impl fmt::Display for ProgramFault<'_> {
     }
 }
 
-// What a fault of `check` on two files is to the program.
+// Returns the program's fault for a fault of `check` on two files.
 pub(crate) fn fault_on<'a>(
     fault: CheckFault,
     instance: &'a str,
@@ -76,7 +76,7 @@ pub(crate) fn fault_on<'a>(
     }
 }
 
-// What a fault of the instance's input is to the program.
+// Returns the program's fault for a fault of the instance's input.
 pub(crate) fn fault_of_input<'a>(fault: InputFault, path: &'a str) -> ProgramFault<'a>
     ensures { fault_line result ≡ input_line path.now fault }
 {
@@ -87,7 +87,7 @@ pub(crate) fn fault_of_input<'a>(fault: InputFault, path: &'a str) -> ProgramFau
     }
 }
 
-// What a fault of a solution's input is to the program.
+// Returns the program's fault for a fault of a solution's input.
 pub(crate) fn fault_of_solution<'a>(fault: InputFault, path: &'a str) -> ProgramFault<'a>
     ensures { fault_line result ≡ solution_line path.now fault }
 {
@@ -98,7 +98,7 @@ pub(crate) fn fault_of_solution<'a>(fault: InputFault, path: &'a str) -> Program
     }
 }
 
-// What a fault of `load` is to the program.
+// Returns the program's fault for a fault of `load`.
 pub(crate) fn fault_of_load<'a>(fault: LoadFault) -> ProgramFault<'a>
     ensures line { fault_line result ≡ load_line fault }
     ensures write { fault ≡ LoadFault.Write → result ≡ ProgramFault.CannotWrite }
@@ -112,7 +112,7 @@ pub(crate) fn fault_of_load<'a>(fault: LoadFault) -> ProgramFault<'a>
     }
 }
 
-// What a fault of `export` is to the program.
+// Returns the program's fault for a fault of `export`.
 pub(crate) fn fault_of_export<'a>(fault: ExportFault) -> ProgramFault<'a>
     ensures line { fault_line result ≡ export_line fault }
     ensures write { fault ≡ ExportFault.Write → result ≡ ProgramFault.CannotWrite }
@@ -125,7 +125,7 @@ pub(crate) fn fault_of_export<'a>(fault: ExportFault) -> ProgramFault<'a>
     }
 }
 
-// What a fault of a server's run is to the program.
+// Returns the program's fault for a fault of a server's run.
 pub(crate) fn fault_of_run<'a>(fault: RunFault) -> ProgramFault<'a>
     ensures line { fault_line result ≡ run_line fault }
     ensures listen { fault ≡ RunFault.Listen → result ≡ ProgramFault.CannotListen }
@@ -139,7 +139,7 @@ pub(crate) fn fault_of_run<'a>(fault: RunFault) -> ProgramFault<'a>
     }
 }
 
-// What a database that can't be opened is to the program.
+// Returns the program's fault for a database that can't be opened.
 pub(crate) fn fault_of_open<'a>(error: Error) -> ProgramFault<'a>
     ensures { fault_line result ≡ open_line error }
 {

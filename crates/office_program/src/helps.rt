@@ -1,7 +1,8 @@
-// What the help of each command says below its options: an example, the exit statuses, and what the
-// numbers of faults mean.
+// The end of each command's help: an example, the exit statuses, and the meaning of the numbers of
+// faults.
 
-// Below the help of `check`. The numbers are those of `FaultKind`, in the order of its variants.
+// The end of the help of `check`. The numbers are those of `FaultKind`, in the order of its
+// variants.
 pub(crate) const CHECK: &str = "\
 Example:
   examoffice check term.exam term.sol
@@ -27,7 +28,7 @@ The line 'examoffice: instance line 8: fault 5' names the first fault of a file:
   12  not placed: an exam of a timetable to be written has no place
   13  no memory: memory was refused (line 0); the file may be right";
 
-// Below the help of `check-all`.
+// The end of the help of `check-all`.
 pub(crate) const CHECK_ALL: &str = "\
 Example:
   examoffice check-all term.exam one.sol two.sol
@@ -42,7 +43,7 @@ Exit status:
   2  the command line is wrong
   3  all judged: a solution breaks hard rules";
 
-// Below the help of `load`.
+// The end of the help of `load`.
 pub(crate) const LOAD: &str = "\
 Example:
   examoffice load --db term.db term.exam
@@ -58,7 +59,7 @@ file; examoffice check --help has the numbers. Of 'examoffice: store fault F':
   8  failed: a statement failed, or memory was refused
   9  no office: the tables in the database are not those of an office";
 
-// Below the help of `serve`.
+// The end of the help of `serve`.
 pub(crate) const SERVE: &str = "\
 Example:
   examoffice serve --db term.db --port 8080 --connections 1000000
@@ -78,7 +79,7 @@ serves. 'examoffice: connection fault F' on standard error ends a connection:
   8  failed: a statement failed, or memory was refused
   9  no office: the tables in the database are not those of an office";
 
-// Below the help of `export`.
+// The end of the help of `export`.
 pub(crate) const EXPORT: &str = "\
 Example:
   examoffice export --db term.db > term.sol
@@ -92,7 +93,7 @@ Of 'examoffice: store fault F':
   8  failed: a statement failed, or memory was refused
   9  no office: the tables in the database are not those of an office";
 
-// Below the help of `explain`.
+// The end of the help of `explain`.
 pub(crate) const EXPLAIN: &str = "\
 Example:
   examoffice explain file 5        for 'instance line 8: fault 5'
@@ -104,7 +105,7 @@ Exit status:
   1  not written: a line on standard error says why
   2  the command line is wrong, or there is no such fault";
 
-// Below the help of the program.
+// The end of the help of the program.
 pub(crate) const PROGRAM: &str = "\
 Example:
   examoffice check term.exam term.sol

@@ -1,4 +1,4 @@
-// `check-all`: many solutions of one session, judged by the files of their paths.
+// `check-all`: judges many solutions of one session by the files of their paths.
 ghost use Rattle.std.specs.Prelude.{◌≡◌, ◌≢◌, ◌==◌, ◌++◌, ◌∷◌, [], ℕ, IfErr, IfOk, List, OnOk};
 ghost use Rattle.std.specs.Prelude.{◌&&◌, ◌||◌, codes, false, map, string_bytes, true};
 ghost use Rattle.std.specs.Io.KnownBytes.{Appends, Keeps};
@@ -16,7 +16,7 @@ use std::io::Write;
 use std::rt::Files;
 use std::{fs, io};
 
-// What came of the solutions so far.
+// The outcome of the solutions so far.
 #[derive(Clone, Copy)]
 pub(crate) struct Found {
     pub(crate) has_fault: bool,
@@ -32,8 +32,7 @@ pub(crate) struct VerdictLine {
     pub(crate) has_breach: bool,
 }
 
-// `check-all`. One solution after another is opened, and one that has a fault leaves the others as
-// they are.
+// Runs `check-all`. One solution after another is opened; a fault of one doesn't affect the others.
 pub(crate) fn check_all<'a, R: Files + AllocGlobal, W: Write, E: Write>(
     rt: &R,
     session: &'a str,
@@ -75,7 +74,7 @@ fn judge_at<R: Files + AllocGlobal>(rt: &R, path: &str) -> Result<Judge, InputFa
     Judge::new(rt.alloc(), &mut file)
 }
 
-// The exit status.
+// Returns the exit status.
 fn status_of(found: Found) -> u8
     ensures { result ≡ status_of_all found.has_fault found.has_breach }
 {
@@ -88,7 +87,7 @@ fn status_of(found: Found) -> u8
     }
 }
 
-// Judges solutions, one after another. It fails if a line can't be printed.
+// Judges solutions, one after another. Fails if a line can't be printed.
 fn judge_each<R: Files + AllocGlobal, W: Write, E: Write>(
     rt: &R,
     judge: &Judge,
@@ -140,7 +139,7 @@ fn judge_one<R: Files + AllocGlobal, W: Write, E: Write>(
     }
 }
 
-// One more solution was judged.
+// Counts one more solution that was judged.
 fn with_verdict(found: Found, has_breach: bool) -> Found
     ensures { result ≡ record {
       has_fault = found.has_fault;
@@ -154,7 +153,7 @@ fn with_verdict(found: Found, has_breach: bool) -> Found
     }
 }
 
-// One more has a fault.
+// Counts one more solution that has a fault.
 fn with_fault(found: Found, is_told: bool) -> Found
     ensures { result ≡ record {
       has_fault = true;
@@ -169,7 +168,7 @@ fn with_fault(found: Found, is_told: bool) -> Found
     }
 }
 
-// The line of the solution of this path.
+// Returns the line of the solution of this path.
 fn line_at<R: Files + AllocGlobal>(
     rt: &R,
     judge: &Judge,
@@ -188,7 +187,7 @@ fn line_at<R: Files + AllocGlobal>(
     })
 }
 
-// Prints the line of a solution's fault, with the path in front of it.
+// Prints the line of a solution's fault, after its path.
 fn print_fault<E: Write>(path: &str, fault: InputFault, err: &mut E) -> io::Result<()>
     ensures { OnOk result (Appends (E.contents err.old) (E.contents err.new)
         (path.now ++ codes ": " ++ solution_line path.now fault ++ 10 ∷ [])) }

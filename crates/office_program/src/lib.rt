@@ -1,5 +1,5 @@
-//! What the program does: it judges a solution, or loads or serves an office or exports what it has
-//! published, as the words of its command line say.
+//! The program's commands: it judges solutions, loads or serves an office, or exports what it has
+//! published, as its command line says.
 #![tactic(auto)]
 
 mod answering;

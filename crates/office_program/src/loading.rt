@@ -1,4 +1,4 @@
-// A session loaded into the office of a database.
+// Loads a session into the office of a database.
 ghost use Rattle.std.specs.Prelude.{◌≡◌, ◌≢◌, IfErr, IfOk, IsTrue, OnOk};
 ghost use Rattle.std.specs.Io.KnownBytes.{Appends, Keeps};
 ghost use Rattle.sqlite.specs.Held.{state};
@@ -13,16 +13,16 @@ use std::alloc::Global;
 use std::fmt;
 use std::io::{self, Write};
 
-/// Why a session is not loaded, or not said to be.
+/// Why a session is not loaded, or the line that says so is not written.
 #[derive(Clone, Copy, Debug, PartialEq, Eq)]
 pub enum LoadFault {
-    /// The database is no office's, or its office refuses the text; nothing is loaded.
+    /// The tables represent no office, or its office refuses the text; nothing is loaded.
     Store(StoreFault),
-    /// It is loaded, but the writer failed; how much of the line went out is not known.
+    /// The session is loaded, but the writer failed; how much of the line was written is unknown.
     Write,
 }
 
-// It shows as the line of how much was loaded.
+// It is displayed as the line with the counts of what was loaded.
 #[derive(Clone, Copy)]
 struct LoadedLine {
     loaded: Loaded,
@@ -48,37 +48,36 @@ impl fmt::Display for LoadedLine {
     }
 }
 
-/// Loads the session of an instance's text into the office of a database, which is made where
-/// the database has no table, index or view; then writes how much was loaded. The connection
-/// comes back.
+/// Loads the session of an instance's text into the office of a database, which is created if the
+/// database has no table, index or view; then writes how much was loaded. Returns the connection.
 pub fn load_run<S: Alter, W: Write>(
     alloc: Global,
     conn: Connection<S>,
     text: &[u8],
     writer: &mut W,
 ) -> Result<Connection<S>, (LoadFault, Connection<S>)>
-    // Over a disk that returns what was written: the line tells what the office answers.
+    // Assuming the disk returns what was written, the line has the counts that the office returns.
     ensures done { IfOk result (λ after. HasCleanDisk (state S.Store after)
         → (there : OfficeState) → IsOfficeOf (state S.Store conn).now there
         → Loads text.now there (state S.Store after)
         (W.contents writer.old) (W.contents writer.new)) }
-    // A fault is the office's own refusal, or all is done but the line.
+    // A fault is the office's own refusal; or the load is done, but the line isn't written.
     ensures refused { IfErr result (λ e. HasCleanDisk (state S.Store e.1)
         → (there : OfficeState) → IsOfficeOf (state S.Store conn).now there
         → RefusesLoad text.now there (state S.Store e.1) e.0) }
-    // A refusal leaves the office as it was, in a database that has nothing uncommitted.
+    // On a refusal the office is unchanged, if the database had nothing uncommitted.
     ensures stays { IfErr result (λ e. HasCleanDisk (state S.Store e.1)
         → ((state S.Store conn).now ≡ (state S.Store conn).committed)
         → (there : OfficeState) → IsOfficeOf (state S.Store conn).now there
         → IfRefused (IsTrue (state S.Store e.1).is_open
         → IsOfficeOf (state S.Store e.1).now there) e.0) }
 
-    // Over any disk the line says how much the text spells, or nothing is written.
+    // Over any disk, the line has the counts of what the text spells, or nothing is written.
     ensures printed { IfOk result (λ _.
         PrintsCounts text.now (W.contents writer.old) (W.contents writer.new)) }
     ensures unwritten { IfErr result (λ e. e.0 ≢ LoadFault.Write
         → Keeps (W.contents writer.old) (W.contents writer.new)) }
-    // A text that is refused has the fault first that is named.
+    // The fault of a refused text is the first one in it.
     ensures first { IfErr result (λ e. NamesTextFault text.now e.0) }
 {
     let mut office = match Office::open(alloc, conn) {

@@ -36,8 +36,8 @@ use std::io::Write;
 use std::rt::Files;
 use std::{fs, io};
 
-/// Does what the words say, of which the first is the program's name. The line of a fault, also of
-/// a connection, and the text of a mistake go to `err`, all else goes to `out`.
+/// Does what the words say; the first word is the program's name. The lines of faults, including
+/// those of connections, and the text of a mistake go to `err`. Everything else goes to `out`.
 pub fn run_program<O: Write, E: Write>(
     rt: &HostRuntime,
     words: &[String],
@@ -46,36 +46,36 @@ pub fn run_program<O: Write, E: Write>(
 ) -> Ending
     ensures within { result.status ≤ 3 }
 
-    // Done is a command, or a call for help or the version; a mistake in the words is one that clap
-    // finds, or that they name no fault.
+    // Status 0 is a command that is done, or a call for help or the version. Status 2 is a mistake
+    // in the words: one that clap finds, or that they name no fault.
     ensures answered { result.status ≡ 0 → AreAnswered (map string_bytes words.now) }
     ensures mistake { result.status ≡ 2 → fault_of_words (map string_bytes words.now) ≢ [] }
-    // A judgement that finds a breach comes only for words without a mistake.
+    // Status 3, a breach, comes only for words without a mistake.
     ensures broken { result.status ≡ 3 → fault_of_words (map string_bytes words.now) ≡ [] }
 
-    // A judgement is the report of two texts, written whole, or a line for each of some solutions.
-    // The texts have a reading. Of some solutions, one has a breach and none a fault.
+    // Status 3 comes with the whole report on two texts, which have a reading; or with a line for
+    // each of some solutions, of which one has a breach and none a fault.
     ensures reported { result.status ≡ 3
         → (task : Task) × IsTask (map string_bytes words.now) task
         × PrintsBroken task (O.contents out.old) (O.contents out.new) }
 
-    // Help, and what a task prints that is done, are written on `out` alone; but a server tells on
-    // `err` the faults of connections. A mistake leaves `out` as it was.
+    // Help, and the output of a task that is done, are written only to `out`; except that a server
+    // writes the faults of connections to `err`. A mistake leaves `out` unchanged.
     ensures quiet { (result.status ≡ 0) ⊎ (result.status ≡ 3) → IsTrue result.is_told
         → IsQuiet E.contents (map string_bytes words.now) err.old err.new }
     ensures unprinted { result.status ≡ 2 → out.new ≡ out.old }
 
-    // What is done is the task of the words, and what it prints is written whole.
-    // Of `serve` that is the line of the port, of `export` the solution of a whole timetable, of
-    // `explain` the words of the fault.
+    // The task of the words is done, and its output is written whole. The output of `serve` is the
+    // line of the port, of `export` the solution of a whole timetable, of `explain` the words of
+    // the fault.
     ensures done { result.status ≡ 0 → fault_of_words (map string_bytes words.now) ≡ []
         → (task : Task) × IsTask (map string_bytes words.now) task
         × Prints task (O.contents out.old) (O.contents out.new) }
 
-    // Status 1 comes with the line of a fault of the words, written whole, unless `err` failed; and
-    // where it is none of writing, `out` is as it was, or the port was told there.
-    // `check`, `load`, `export` and `explain` write nothing else there; of `serve` it is the last
-    // line; of `check-all` there is a line for each solution with a fault, with its path.
+    // Status 1 comes with the whole line of a fault of the words on `err`, unless `err` failed.
+    // Unless the fault is one of writing, `out` is unchanged, or has the line of the port. `check`,
+    // `load`, `export` and `explain` write nothing else to `err`; the last line of `serve` there is
+    // this one; `check-all` writes a line there for each solution with a fault, with its path.
     ensures told { result.status ≡ 1 → IsTrue result.is_told
         → TellsFault E.contents (map string_bytes words.now) err.old err.new
         (O.contents out.old) (O.contents out.new) }
@@ -94,7 +94,7 @@ pub fn run_program<O: Write, E: Write>(
     }
 }
 
-// Does a task.
+// Runs a task.
 fn run_task<'a, W: Write, E: Write>(
     rt: &HostRuntime,
     task: &'a Task,
@@ -109,7 +109,7 @@ fn run_task<'a, W: Write, E: Write>(
     ensures quiet { IfOk result (λ ending. ending.status ≢ 1 → IsTrue ending.is_told
         → TellsConnections E.contents task.now err.old err.new) }
 
-    // Status 1 comes as an Ok only if solutions have faults.
+    // An `Ok` has status 1 only if solutions have faults.
     ensures faulty { IfOk result (λ ending. ending.status ≡ 1
         → TellsSolutions E.contents task.now err.old err.new
         (W.contents out.old) (W.contents out.new) ending.is_told) }
@@ -132,7 +132,7 @@ fn run_task<'a, W: Write, E: Write>(
     }
 }
 
-// `load`. The instance's file is read before the database is opened.
+// Runs `load`. The instance's file is read before the database is opened.
 fn load<'a, W: Write>(
     rt: &HostRuntime,
     database: &str,
@@ -155,7 +155,7 @@ fn load<'a, W: Write>(
     }
 }
 
-// The whole text of an instance's file.
+// Returns the whole text of an instance's file.
 fn text_at<R: Files + AllocGlobal>(rt: &R, path: &str) -> Result<Vec<u8>, InputFault>
     ensures short { IfOk result (λ text. length text.items ≤ INSTANCE_BYTES) }
 {
@@ -185,7 +185,7 @@ fn load_text<'a, W: Write>(
         Err(error) => return Err(fault_of_open(error)),
     };
     tell_upgrade(rt, database, &conn);
-    // A log that can't be copied into the file stays beside it, and is read there.
+    // A log that can't be copied into the file stays next to it, and is read there.
     match load_run(rt.alloc(), conn, text, out) {
         Ok(conn) => {
             let _ = conn.close();
@@ -225,7 +225,7 @@ fn refuse_words<O: Write, E: Write>(error: &Error, out: &mut O, err: &mut E) -> 
     }
 }
 
-// Ends with a fault. Where its line can't be printed, nothing more can be done.
+// Ends with a fault. If its line can't be printed, nothing more can be done.
 fn complain<W: Write>(fault: &ProgramFault<'_>, err: &mut W) -> Ending
     ensures status { result.status ≡ 1 }
     ensures told { IsTrue result.is_told
@@ -245,13 +245,13 @@ fn print_fault<W: Write>(fault: &ProgramFault<'_>, err: &mut W) -> io::Result<()
     writeln!(err, "{fault}")
 }
 
-/// Answers a command line that is no list of texts.
+/// Answers a command line that is not UTF-8, or that memory ran out for.
 pub fn refuse_arguments<E: Write>(fault: &io::Error, err: &mut E) -> Ending
     ensures within { (result.status ≡ 1) ⊎ (result.status ≡ 2) }
-    // 1 for out of memory, else 2.
+    // The status is 1 for out of memory, else 2.
     ensures memory { (result.status ≡ 1) ↔ (error_kind fault.now ≡ failure.OutOfMemory) }
 
-    // The line of the one or of the other is written whole, unless `err` failed.
+    // The line of either is written whole, unless `err` failed.
     ensures no_memory { result.status ≡ 1 → IsTrue result.is_told
         → Appends (E.contents err.old) (E.contents err.new)
         (fault_line ProgramFault.NoMemory ++ 10 ∷ []) }
@@ -267,7 +267,7 @@ pub fn refuse_arguments<E: Write>(fault: &io::Error, err: &mut E) -> Ending
     }
 }
 
-// Prints the line for words that are no texts.
+// Prints the line for words that are not UTF-8.
 fn print_not_text<W: Write>(err: &mut W) -> io::Result<()>
     ensures { OnOk result
         (Appends (W.contents err.old) (W.contents err.new) (not_text_line ++ 10 ∷ [])) }

@@ -1,4 +1,4 @@
-// `serve`: the office of a database's file, over sockets.
+// `serve`: serves the office of a database's file over sockets.
 ghost use Rattle.std.specs.Prelude.{◌≡◌, ◌≢◌, ◌*◌, ◌^◌, ◌⊎◌, IfErr, IfOk};
 ghost use Rattle.std.specs.Duration.{as_nanos};
 ghost use Rattle.std.specs.Io.KnownBytes.{Appends, Keeps};
@@ -22,7 +22,7 @@ use std::fs;
 use std::io::{Read, Write};
 use std::time::Duration;
 
-// `serve`. The database is opened, and its office found or made, before anything is listened on.
+// Runs `serve`. The database is opened, and its office found or created, before the port is opened.
 pub(crate) fn serve<'a, O: Write, E: Write>(
     rt: &HostRuntime,
     database: &str,
@@ -47,13 +47,13 @@ pub(crate) fn serve<'a, O: Write, E: Write>(
     }
     tell_upgrade(rt, database, &conn);
     let (conn, done) = serve_stored(rt, database, conn, terms, out, err);
-    // A log that can't be copied into the file stays beside it, and is read there.
+    // A log that can't be copied into the file stays next to it, and is read there.
     let _ = conn.close();
     done
 }
 
-/// Serves the office of a database, whose connection comes back. The database is made an office
-/// where it has no table, index or view.
+/// Serves the office of a database, and returns its connection. An office is created in the
+/// database if it has no table, index or view.
 pub fn serve_stored<'a, S: Alter, O: Write, E: Write>(
     rt: &HostRuntime,
     database: &str,
@@ -62,13 +62,14 @@ pub fn serve_stored<'a, S: Alter, O: Write, E: Write>(
     out: &mut O,
     err: &mut E,
 ) -> (Connection<S>, Result<Ending, ProgramFault<'a>>)
-    // Over a disk that returns what was written, and that has nothing uncommitted: however it ends,
-    // the database represents the office that the one found comes to by serving its connections.
+    // Assuming the disk returns what was written, and the database had nothing uncommitted: however
+    // the call ends, the database represents an office that the one found reaches by serving its
+    // connections.
     ensures reached { HasCleanDisk (state S.Store result.0)
         → ((state S.Store conn).now ≡ (state S.Store conn).committed)
         → (there : OfficeState) → IsOfficeOf (state S.Store conn).now there
         → ComesTo terms.connections there (state S.Store result.0) }
-    // As of `serve_desk`.
+    // The same as for `serve_desk`.
     ensures served { IfOk result.1 (PrintsServed terms (O.contents out.old) (O.contents out.new)
         (E.contents err.old) (E.contents err.new)) }
     ensures fault { IfErr result.1 IsOfServe }
@@ -93,17 +94,17 @@ pub fn serve_desk<'a, S: Alter, O: Write, E: Write>(
     out: &mut O,
     err: &mut E,
 ) -> Result<Ending, ProgramFault<'a>>
-    // However it ends; sockets tell nothing of their bytes.
+    // This holds however the call ends; the contracts of sockets say nothing about their bytes.
     ensures reached { ServesTerms S.Store (λ visits. Unit {0}) terms result desk.old desk.new
         (E.contents err.old) (E.contents err.new) }
     ensures clean { HasCleanDisk (state S.Store desk.new) → HasCleanDisk (state S.Store desk.old) }
-    // The line of the port was written: of the one asked for, or of any if that was 0. If no line
-    // failed, each connection that ended with a fault has its line on `err`.
+    // The line of the port was printed: of the requested port, or of any if that was 0. If no line
+    // failed, `err` has a line for each connection that ended with a fault.
     ensures served { IfOk result (PrintsServed terms (O.contents out.old) (O.contents out.new)
         (E.contents err.old) (E.contents err.new)) }
-    // A fault of a database, of an office or of listening.
+    // The fault is one of a database, of an office or of listening.
     ensures fault { IfErr result IsOfServe }
-    // Unless the writer failed, nothing was printed, or the line of the port.
+    // Unless the writer failed, nothing was printed, or only the line of the port.
     ensures port { IfErr result
         (LeavesPort terms (O.contents out.old) (O.contents out.new)) }
 {
@@ -123,8 +124,8 @@ pub fn serve_desk<'a, S: Alter, O: Write, E: Write>(
     )
 }
 
-/// Serves the office at a desk to clients, each a reader and a writer, one after another as they
-/// come: prints which port they come from, then serves as many as the terms say, while the store
+/// Serves the office at a desk to clients, each a reader and a writer, in the order in which they
+/// come: prints the port that they come from, then serves as many as the terms say, while the store
 /// is open.
 pub fn serve_at_desk<
     'a,
@@ -146,14 +147,14 @@ pub fn serve_at_desk<
 ) -> Result<Ending, ProgramFault<'a>>
     requires { I.can_next clients.old }
 
-    // However it ends, over a disk that returns what was written, whatever office was found: each
-    // client is written the office's replies to the messages of its whole stream, in whatever
-    // pieces and at whatever pace it comes, or, after a fault, to the first of them; the office
-    // goes from one client to the next, and the file represents it after the last. Each candidate
-    // is replied the text of their view.
-    // As many clients were served as the terms say; or fewer, and an accept failed, or a failed
-    // call of the disk has shut the store and the fault is `Store`; or nobody. The lines on `err`
-    // are those of the faults that connections ended with, unless a line could not be written.
+    // However the call ends, assuming the disk returns what was written, whatever office was found:
+    // each client is sent the office's replies to the messages of its whole stream, in whatever
+    // pieces and at whatever pace it comes, or, after a fault, to the first of them. The office
+    // that one client leaves is the next one's, and the file represents it after the last. Each
+    // candidate is replied the text of their view. As many clients were served as the terms say; or
+    // fewer, because an accept failed, or because a failed call of the disk has shut the store and
+    // the fault is `Store`; or nobody was. The lines on `err` are those of the faults that
+    // connections ended with, unless a line could not be written.
     ensures served { ServesTerms S.Store
         (AreOfClients I.next_gives R.remaining W.contents clients.old) terms result
         desk.old desk.new (E.contents err.old) (E.contents err.new) }
@@ -186,7 +187,7 @@ pub fn serve_at_desk<
     }
 }
 
-// What the terms ask to be served.
+// Returns the plan of a run with these terms.
 fn plan_of(terms: Terms) -> Plan
     ensures connections { result.connections ≡ terms.connections }
     ensures patience { as_nanos result.patience ≡ terms.patience * 10 ^ 9 }

@@ -1,4 +1,4 @@
-// What is said on a terminal before work that takes long, and of a file that is new or old.
+// Lines for a terminal about work that takes long, and about a new or an old file.
 ghost use Rattle.std.specs.Prelude.{◌++◌, ◌∷◌, [], OnOk};
 ghost use Rattle.std.specs.Io.KnownBytes.{Appends};
 ghost use Rattle.office_program.specs.LongWork.{work_line};
@@ -8,7 +8,7 @@ use sqlite::{Alter, Connection};
 use std::io::{IsTerminal, Write};
 use std::{fmt, fs, io};
 
-/// Work on a file, which is told by its path.
+/// Work on a file, which the line names by its path.
 #[derive(Clone, Copy)]
 pub(crate) enum LongWork<'a> {
     /// An instance is read and loaded.
@@ -17,13 +17,13 @@ pub(crate) enum LongWork<'a> {
     Opening(&'a str),
     /// A draft is published in the office of a database.
     Publishing(&'a str),
-    /// An office is made in a new file.
+    /// An office is created in a new file.
     Making(&'a str),
     /// The tables of version 1 become those of version 2.
     Upgrading(&'a str),
 }
 
-// It shows as its line.
+// It is displayed as its line.
 impl fmt::Display for LongWork<'_> {
     ghost use Rattle.std.specs.Prelude.{Some};
     ghost use Rattle.office_program.specs.LongWork.{work_line};
@@ -54,10 +54,10 @@ impl fmt::Display for LongWork<'_> {
     }
 }
 
-// A file of so many bytes takes some tenths of a second at least, and at the limits seconds.
+// In bytes. Work on such a file takes at least some tenths of a second, and seconds at the limits.
 const LARGE: u64 = 2_000_000;
 
-// Says what is begun, where the file is large.
+// Says which work begins, if the file is large.
 pub(crate) fn tell(rt: &HostRuntime, work: LongWork<'_>) {
     if is_large(rt, path_of(work)) {
         say(rt, work);
@@ -69,23 +69,23 @@ pub(crate) fn tell_new(rt: &HostRuntime, path: &str) {
     say(rt, LongWork::Making(path));
 }
 
-// Says that the tables of a database are of version 1, if they are: opening changes them.
+// Says that the tables of a database have version 1, if so: opening changes them.
 pub(crate) fn tell_upgrade<S: Alter>(rt: &HostRuntime, path: &str, conn: &Connection<S>) {
     if let Ok(true) = is_of_version_1(rt.alloc(), conn) {
         say(rt, LongWork::Upgrading(path));
     }
 }
 
-// Prints the line of a work on standard error, where that is a terminal.
+// Prints the line of a work on standard error, if that is a terminal.
 fn say(rt: &HostRuntime, work: LongWork<'_>) {
     let mut terminal = rt.stderr();
     if terminal.is_terminal() {
-        // Work that can't be told is done all the same.
+        // The work is done even if its line can't be printed.
         let _ = print_work(work, &mut terminal);
     }
 }
 
-// The path of the file that the work is on.
+// Returns the path of the file that the work is on.
 fn path_of(work: LongWork<'_>) -> &str {
     match work {
         LongWork::Loading(path)
@@ -96,7 +96,7 @@ fn path_of(work: LongWork<'_>) -> &str {
     }
 }
 
-// Whether a file is there and large.
+// Returns whether a file exists and is large.
 fn is_large(rt: &HostRuntime, path: &str) -> bool {
     match fs::metadata(rt, path) {
         Ok(found) => found.len() >= LARGE,
@@ -104,7 +104,7 @@ fn is_large(rt: &HostRuntime, path: &str) -> bool {
     }
 }
 
-// Prints the line of work that is begun.
+// Prints the line of the work that begins.
 fn print_work<W: Write>(work: LongWork<'_>, out: &mut W) -> io::Result<()>
     ensures { OnOk result
         (Appends (W.contents out.old) (W.contents out.new) (work_line work.entry ++ 10 ∷ [])) }

@@ -1,4 +1,4 @@
-// The words of a command line.
+// The words of a command line, and their task.
 ghost use Rattle.std.specs.IoError.{error_kind};
 ghost use Rattle.std.specs.Iterator.{Drains};
 ghost use Rattle.std.specs.Prelude.{◌≡◌, ◌≤◌, IfErr, IfOk, Some, map, string_bytes};
@@ -28,16 +28,17 @@ use std::alloc::{AllocError, Global};
 use std::env::Args;
 use std::io;
 
-/// What the program is to do, with the paths of the files that it names.
+/// A task of the program, with the paths of the files that it names.
 #[derive(Drop)]
 pub enum Task {
     /// Judges a solution: the instance's file, then the solution's.
     Check(String, String),
-    /// Judges solutions of one session: the session's file, the solutions', and how lines look.
+    /// Judges solutions of one session: the session's file, the solutions', and the form of the
+    /// lines.
     CheckAll(String, Vec<String>, LineForm),
     /// Loads an office: its database's file, then the instance's.
     Load(String, String),
-    /// Serves an office: its database's file, and on which terms.
+    /// Serves an office: its database's file, and the terms.
     Serve(String, Terms),
     /// Prints what an office has published: its database's file.
     Export(String),
@@ -45,27 +46,27 @@ pub enum Task {
     Explain(&'static str),
 }
 
-/// On which terms an office is served.
+/// The terms on which an office is served.
 #[derive(Clone, Copy)]
 pub struct Terms {
-    /// The port of 127.0.0.1 that is listened on; 0 takes any.
+    /// The port of 127.0.0.1 to listen on; 0 is any free one.
     pub port: u16,
-    /// How many connections are served, 1 to 1,000,000.
+    /// The number of connections that are served, 1 to 1,000,000.
     pub connections: u32,
-    /// How many seconds a client may take, 1 to 86,400.
+    /// The timeout of a client in seconds, 1 to 86,400.
     pub patience: u32,
 }
 
-// Which release of the program this is.
+// The release of the program.
 const VERSION: &str = "1.0.0";
 
-// How many connections `serve` takes at most.
+// The most connections that `serve` takes.
 pub(crate) const MAX_CONNECTIONS: u32 = 1_000_000;
 
-// The longest patience, a day in seconds.
+// The longest timeout: a day, in seconds.
 pub(crate) const MAX_PATIENCE: u32 = 86_400;
 
-/// The words of the command line, in their order.
+/// The words of the command line, in order.
 pub fn words_of(alloc: Global, args: Args) -> io::Result<Vec<String>>
     ensures all { IfOk result (λ words. Drains into_iter_steps args words.items) }
     ensures err { IfErr result (λ fault. error_kind fault ≡ failure.OutOfMemory) }
@@ -73,22 +74,23 @@ pub fn words_of(alloc: Global, args: Args) -> io::Result<Vec<String>>
     Ok(args.collect(alloc)?)
 }
 
-/// The command that the words give, of which the first is the program's name. An error shows as
-/// the text for the user: a mistake in the words, a call for help or the version, or out of memory.
+/// Returns the task of the words, of which the first is the program's name. An error is displayed
+/// as the text for the user: a mistake in the words, a call for help or the version, or out of
+/// memory.
 pub fn read_words(alloc: Global, words: &[String]) -> Result<Task, Error>
-    // The values are those that clap finds. A number is the one that its text spells: a port of at
-    // most 65,535, 1 to 1,000,000 connections, a timeout of 1 to 86,400 seconds, 30 if none is
-    // given. The words of `explain` are those of the fault of this kind and number.
+    // The values are those that clap finds. A number is the one that its text spells: a port up to
+    // 65,535, 1 to 1,000,000 connections, a timeout of 1 to 86,400 seconds, or 30 if there is none.
+    // The words of `explain` are those of the fault of this kind and number.
     ensures task { IfOk result (IsTask (map string_bytes words.now)) }
-    // An error is a mistake that clap finds, or a fault to explain that doesn't exist, or out of
-    // memory. An Ok comes only without such a mistake.
+    // An error is a mistake that clap finds, a fault to explain that doesn't exist, or out of
+    // memory. An `Ok` comes only without such a mistake.
     ensures kinds { FailsBy (fault_of_words (map string_bytes words.now)) result }
 {
     let found = matches(alloc, words)?;
     task_of(alloc, &found)
 }
 
-// The task of what clap found.
+// Returns the task of what clap found.
 fn task_of(alloc: Global, found: &ArgMatches<'_>) -> Result<Task, Error>
     ensures task { IfOk result (IsTaskOf (subcommand_rows_of found.now)) }
     ensures err { IfErr result (HasKind (unexplained_in (subcommand_rows_of found.now))) }
@@ -114,7 +116,7 @@ fn task_of(alloc: Global, found: &ArgMatches<'_>) -> Result<Task, Error>
     }
 }
 
-// What clap finds in the words.
+// Returns what clap finds in the words.
 fn matches(alloc: Global, words: &[String]) -> Result<ArgMatches<'_>, Error>
     ensures found { IfOk result (λ m.
         subcommand_rows_of m ≡ subcommand_of program (map string_bytes words.now)) }
@@ -140,7 +142,7 @@ fn matches(alloc: Global, words: &[String]) -> Result<ArgMatches<'_>, Error>
     whole.try_get_matches_from(words)
 }
 
-// The task of `check` with these values.
+// Returns the task of `check` with these values.
 fn check_task(alloc: Global, values: &ArgMatches<'_>) -> Result<Task, Error>
     ensures ok { IfOk result (HasCheckValues (rows_of (found_of values.now))) }
     ensures err { IfErr result (λ e. kind_of e ≡ OutOfMemory) }
@@ -150,8 +152,8 @@ fn check_task(alloc: Global, values: &ArgMatches<'_>) -> Result<Task, Error>
     Ok(Task::Check(instance, solution))
 }
 
-// The value that was found. Clap has seen to it that it is there, but its contract says so of no
-// subcommand: a value that is missing would be answered as out of memory.
+// Returns the value that was found. Clap makes sure that there is one, but its contract says so of
+// no subcommand: a missing value would be answered as out of memory.
 pub(crate) fn value_of(alloc: Global, values: &ArgMatches<'_>, id: &str) -> Result<String, Error>
     ensures ok { IfOk result (λ value.
         first_of id.now (rows_of (found_of values.now)) ≡ Some (string_bytes value)) }
@@ -163,7 +165,7 @@ pub(crate) fn value_of(alloc: Global, values: &ArgMatches<'_>, id: &str) -> Resu
     }
 }
 
-// The task of `load` with these values.
+// Returns the task of `load` with these values.
 fn load_task(alloc: Global, values: &ArgMatches<'_>) -> Result<Task, Error>
     ensures ok { IfOk result (HasLoadValues (rows_of (found_of values.now))) }
     ensures err { IfErr result (λ e. kind_of e ≡ OutOfMemory) }
@@ -173,7 +175,7 @@ fn load_task(alloc: Global, values: &ArgMatches<'_>) -> Result<Task, Error>
     Ok(Task::Load(database, instance))
 }
 
-// The task of `serve` with these values.
+// Returns the task of `serve` with these values.
 fn serve_task(alloc: Global, values: &ArgMatches<'_>) -> Result<Task, Error>
     ensures ok { IfOk result (HasServeValues (rows_of (found_of values.now))) }
     ensures err { IfErr result (λ e. kind_of e ≡ OutOfMemory) }
@@ -182,7 +184,7 @@ fn serve_task(alloc: Global, values: &ArgMatches<'_>) -> Result<Task, Error>
     Ok(Task::Serve(database, terms_of(values)?))
 }
 
-// The terms of `serve` with these values.
+// Returns the terms of `serve` with these values.
 fn terms_of(values: &ArgMatches<'_>) -> Result<Terms, Error>
     ensures ok { IfOk result (HasTerms (rows_of (found_of values.now))) }
     ensures err { IfErr result (λ e. kind_of e ≡ OutOfMemory) }
@@ -197,8 +199,8 @@ fn terms_of(values: &ArgMatches<'_>) -> Result<Terms, Error>
     })
 }
 
-// The number that was found, within these bounds. Clap has seen to them too, but its contract says
-// so of no subcommand: a number beyond them would be answered as out of memory.
+// Returns the number that was found, within these bounds. Clap makes sure of them too, but its
+// contract says so of no subcommand: a number out of bounds would be answered as out of memory.
 fn number_of(values: &ArgMatches<'_>, id: &str, least: u32, most: u32) -> Result<u32, Error>
     ensures ok { IfOk result (λ n. HasNumber id.now (rows_of (found_of values.now)) n
         × (least ≤ n) × (n ≤ most)) }
@@ -210,7 +212,7 @@ fn number_of(values: &ArgMatches<'_>, id: &str, least: u32, most: u32) -> Result
     }
 }
 
-// The task of `export` with these values.
+// Returns the task of `export` with these values.
 fn export_task(alloc: Global, values: &ArgMatches<'_>) -> Result<Task, Error>
     ensures ok { IfOk result (HasExportValues (rows_of (found_of values.now))) }
     ensures err { IfErr result (λ e. kind_of e ≡ OutOfMemory) }
@@ -219,7 +221,7 @@ fn export_task(alloc: Global, values: &ArgMatches<'_>) -> Result<Task, Error>
     Ok(Task::Export(database))
 }
 
-// The task of `explain` with these values, which name a fault or not.
+// Returns the task of `explain` with these values, which name a fault or not.
 fn explain_task(alloc: Global, values: &ArgMatches<'_>) -> Result<Task, Error>
     ensures ok { IfOk result (HasExplainValues (rows_of (found_of values.now))) }
     ensures err { IfErr result (HasKind (unexplained (rows_of (found_of values.now)))) }
@@ -232,7 +234,7 @@ fn explain_task(alloc: Global, values: &ArgMatches<'_>) -> Result<Task, Error>
     }
 }
 
-// The mistake of words that name no fault.
+// Returns the mistake of words that name no fault.
 fn no_such_fault(alloc: Global) -> Result<Error, AllocError>
     ensures { IfOk result (λ e. kind_of e ≡ InvalidValue) }
 {

@@ -8,6 +8,6 @@ pub returns-in-Err-export_run-clause-unwritten : goal.returns-in-Err-export_run-
 returns-in-Err-export_run-clause-unwritten g c = λ other.
     c.in-Err-export_run.ensures.unwritten (λ is. other (c.fault_of_export.ensures.write is))
 
--- a file that isn't there shows as a database that can't be opened
+-- a missing file shows as a database that can't be opened
 pub returns-then-is_err-clause-fault : goal.returns-then-is_err-clause-fault
 returns-then-is_err-clause-fault g c = inl (SqliteFailure CannotOpen, c.fault_of_open.ensures)

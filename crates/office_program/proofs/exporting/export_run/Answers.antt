@@ -14,7 +14,7 @@ returns-in-Err-clause-refused g c = λ clean there holds. elim c.in-Err.ensures.
   | inr bad ↦ absurd (c.in-Err.ensures.no_office bad clean there holds)
 ]
 
--- what the office that was found has published is written
+-- the publication of the office that was found is written
 pub returns-in-Ok-export_from-clause-done : goal.returns-in-Ok-export_from-clause-done
 returns-in-Ok-export_from-clause-done g c = λ clean there holds.
     let now = subst (λ held. HasCleanDisk (state g.S.Store held)) c.release.ensures clean in
@@ -32,14 +32,14 @@ returns-in-Err-export_from-clause-refused g c = λ clean there holds.
     let found = c.in-Ok.ensures.adopted (c.export_from.ensures.clean now) in
     c.in-Err-export_from.ensures.refused now there (λ opened. found.stands there holds)
 
--- no office was found, and the tables are as they were
+-- no office was found, and the tables are unchanged
 pub returns-in-Err-clause-stays : goal.returns-in-Err-clause-stays
 returns-in-Err-clause-stays g c = λ clean kept there is opened. elim c.in-Err.ensures.undone [
   | inl same ↦ subst (λ held. HoldsOffice (state g.S.Store held).now there) (sym same) is
   | inr undone ↦ subst (λ db. HoldsOffice db there) (kept ∙ sym ((undone clean).now opened)) is
 ]
 
--- the office that was found refuses, and is as it was
+-- the office that was found refuses, and is unchanged
 pub returns-in-Err-export_from-clause-stays : goal.returns-in-Err-export_from-clause-stays
 returns-in-Err-export_from-clause-stays g c = λ clean kept there is opened.
     let released = c.release-in-Err-export_from.ensures in

@@ -2,7 +2,7 @@ use Rattle.std.proofs.Common.{◌∙◌, ap₂}
 use Rattle.office_program.specs.CheckAll.{status_of_all}
 use Rattle.office_program.proofs.judging.check_all.Goals as goal
 
--- the outcomes by the session that was read
+-- the outcomes, by the session that was read
 pub returns-in-Ok-judge_each-clause-judged : goal.returns-in-Ok-judge_each-clause-judged
 returns-in-Ok-judge_each-clause-judged g c =
     let all = c.in-Ok-judge_each.ensures.ok in

@@ -11,7 +11,7 @@ returns-in_ok-write_all-in-Ok-clause-ok g c =
     (line_added _ _ _ _ c.in-Ok.line _ _ _ _ c.in-Ok.ensures
     (subst (Appends _ _) c.as_bytes.ensures.value c.in_ok-write_all-in-Ok.ensures.bytes))
 
--- that of a fault
+-- the line of a fault
 pub returns-in-Err-clause-ok : goal.returns-in-Err-clause-ok
 returns-in-Err-clause-ok g c =
     subst (AddsOutcome _ _ _ _ _ _ _ _ _) (sym c.with_fault.ensures)

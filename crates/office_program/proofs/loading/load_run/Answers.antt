@@ -34,14 +34,14 @@ returns-in-Err-load_into-clause-refused g c = λ clean there is.
     (c.in-Err-load_into.ensures.refused now there
     (c.in-Ok.ensures.found (c.load_into.ensures.clean now) there is))
 
--- no office was found, and the tables are as they were
+-- no office was found, and the tables are unchanged
 pub returns-in-Err-clause-stays : goal.returns-in-Err-clause-stays
 returns-in-Err-clause-stays g c = λ clean kept there is opened. elim c.in-Err.ensures.undone [
   | inl same ↦ subst (λ held. IsOfficeOf (state g.S.Store held).now there) (sym same) is
   | inr undone ↦ subst (λ db. IsOfficeOf db there) (kept ∙ sym ((undone clean).now opened)) is
 ]
 
--- the office that was found refuses, and is as it was
+-- the office that was found refuses, and is unchanged
 pub returns-in-Err-load_into-clause-stays : goal.returns-in-Err-load_into-clause-stays
 returns-in-Err-load_into-clause-stays g c = λ clean kept there is.
     let released = c.release-in-Err-load_into.ensures in

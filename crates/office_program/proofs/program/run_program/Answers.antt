@@ -2,12 +2,12 @@ use Rattle.std.proofs.Common.{inl, inr}
 use Rattle.office_program.proofs.EndingFacts.{not_one}
 use Rattle.office_program.proofs.program.run_program.Goals as goal
 
--- the task of the words prints what it has to
+-- the task of the words prints its text
 pub returns-in-Ok-run_task-clause-done : goal.returns-in-Ok-run_task-clause-done
 returns-in-Ok-run_task-clause-done g c = λ zero valid.
     (c.in-Ok.task, c.in-Ok.ensures.task, c.in-Ok-run_task.ensures.done zero)
 
--- and tells of connections alone
+-- and `err` gets only the faults of connections
 pub returns-in-Ok-run_task-clause-quiet : goal.returns-in-Ok-run_task-clause-quiet
 returns-in-Ok-run_task-clause-quiet g c = λ ended told. inr (
   c.in-Ok.task,
@@ -15,7 +15,7 @@ returns-in-Ok-run_task-clause-quiet g c = λ ended told. inr (
   c.in-Ok-run_task.ensures.quiet (not_one _ ended) told,
 )
 
--- or its fault is told
+-- or `err` gets the line of its fault
 pub returns-clause-told : goal.returns-clause-told
 returns-clause-told g c = λ one told. inl (
   c.in-Ok.task,

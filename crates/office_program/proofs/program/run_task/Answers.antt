@@ -2,13 +2,13 @@ use Rattle.office_program.proofs.EndingFacts.{if_ok}
 use Rattle.office_program.proofs.LoadFacts.{if_err}
 use Rattle.office_program.proofs.program.run_task.Goals as goal
 
--- a server that is done told its port
+-- a server that is done printed its port
 pub returns-in-Serve-clause-done : goal.returns-in-Serve-clause-done
 returns-in-Serve-clause-done g c =
     if_ok c.serve.result _ _ (λ ending served zero. rw c.in-Serve.is served.port)
     c.serve.ensures.served
 
--- one that failed told nothing, or its port
+-- a server that failed printed nothing, or its port
 pub returns-in-Serve-clause-unwritten : goal.returns-in-Serve-clause-unwritten
 returns-in-Serve-clause-unwritten g c =
     let port = c.serve.ensures.port in

@@ -10,11 +10,11 @@ pub returns-in_default-clause-served : goal.returns-in_default-clause-served
 returns-in_default-clause-served g c =
     serves_nobody g.S.Store _ _ _ _ _ (_, no_client _ _ _ _)
 
--- out of memory shows as when a database is opened
+-- out of memory is shown like out of memory when a database is opened
 pub returns-in_default-clause-fault : goal.returns-in_default-clause-fault
 returns-in_default-clause-fault g c = inl (SqliteFailure OutOfMemory, refl)
 
--- as many clients as were to be
+-- as many clients were served as the terms say
 pub returns-in-Ok-serve_run-clause-served : goal.returns-in-Ok-serve_run-clause-served
 returns-in-Ok-serve_run-clause-served g c =
     let x = c.in-Ok-serve_run.ensures.served in
@@ -63,7 +63,7 @@ returns-clause-clean g c =
     desk_clean g.S.Store (λ m. m.desk.ghost_name) (λ m. m.desk.now) (λ m. m.is_shut) _ _ _
     c.desk-1.given.1 _ _ _ _ c.in-Err.ensures.served.serves
 
--- unless it could not be printed, the port was
+-- the port was printed, unless that failed
 pub returns-clause-unprinted : goal.returns-clause-unprinted
 returns-clause-unprinted g c = λ other.
     inr (c.in-Err.ensures.unaccepted (λ is. other (c.fault_of_run.ensures.write is)))

@@ -7,7 +7,7 @@ use Rattle.office_program.proofs.ServeFacts.{nobody_served}
 use Rattle.office_store.proofs.OpenLemmas.{kept_holds}
 use Rattle.office_program.proofs.serving.serve_stored.Goals as goal
 
--- no office was found, and the tables are as they were
+-- no office was found, and the tables are unchanged
 pub returns-in-Err-clause-reached : goal.returns-in-Err-clause-reached
 returns-in-Err-clause-reached g c = λ clean kept there is. (
   [],
