@@ -1,4 +1,4 @@
--- What is judged and performed is a step of the office.
+-- Judging and then performing a command is a step of the office.
 use Rattle.std.proofs.Common.{◌≡◌, ◌∙◌, Ok, ap, inl, inr, refl}
 use Rattle.office_policy.specs.Commands.{PlainCommand}
 use Rattle.office_policy.specs.declared.callers.Caller.{Caller}
@@ -7,13 +7,13 @@ use Rattle.office_model.specs.Office.{OfficeState}
 use Rattle.office_model.specs.Step.{Steps, allowed_in, if_allowed, permitted}
 use Rattle.office_desk.specs.Performing.{AnswersOutcome}
 
--- a step after which that office stands
+-- a step after which the state represents the new office
 abbrev pub StepsTo : OfficeState → Caller → PlainCommand → (OfficeState → Type 0) → PlainAnswer
     → Type 0
 StepsTo old caller command Stays told =
     (new : OfficeState) × Steps old caller command told new × Stays new
 
--- a command that is permitted and performed
+-- performing a permitted command is a step
 pub permitted_step : (old : OfficeState) (caller : Caller) (command : PlainCommand)
     (Stays : OfficeState → Type 0) (told : PlainAnswer) → Ok tt ≡ allowed_in old caller command
     → AnswersOutcome (permitted old caller command) old Stays told

@@ -1,4 +1,4 @@
--- What a call of the office gives is what is told of a command.
+-- The result of a call of the office becomes the answer to a command.
 use Rattle.std.specs.Prelude.{IfErr}
 use Rattle.std.specs.Result.{IsErrAnd}
 use Rattle.sqlite.specs.Held.{Held}
@@ -32,7 +32,7 @@ use Rattle.office_desk.specs.Performing.{AwakeUnlessRefused, IsGiven, told_of}
 use Rattle.office_desk.specs.Answers.{IsRefusal, plain_answer}
 use Rattle.office_desk.specs.declared.answer.Answer.{Answer}
 
--- what a command gives
+-- an `Ok` of a call becomes the command's answer
 pub given_told : {A : Type 0} (says : A → PlainAnswer) (old : OfficeState) (gives : Gives A)
     (Stays : OfficeState → Type 0) (x : A) (told : PlainAnswer)
     → Does gives old Stays (Ok x) → told ≡ says x
@@ -44,7 +44,7 @@ given_told says old gives Stays x told does same =
       subst (λ g. Stays (outcome says old g).0) (sym is) does.2,
     )
 
--- its own refusal
+-- a refusal of the command becomes its answer
 pub refusal_told : {A : Type 0} (says : A → PlainAnswer) (old : OfficeState) (gives : Gives A)
     (Stays : OfficeState → Type 0) (f : StoreFault) (told : PlainAnswer)
     → gives ≡ Err f → Stays old → told ≡ refused f
@@ -55,7 +55,7 @@ refusal_told says old gives Stays f told is stays same =
       subst (λ g. Stays (outcome says old g).0) (sym is) stays,
     )
 
--- any fault of a call
+-- any fault of a call becomes an answer
 pub fault_told : {A : Type 0} (says : A → PlainAnswer) (old : OfficeState) (gives : Gives A)
     (Stays : OfficeState → Type 0) (f : StoreFault) (told : PlainAnswer)
     → Does gives old Stays (Err f) → told ≡ refusal f
@@ -65,7 +65,7 @@ fault_told says old gives Stays BadSchema told does same = absurd does.0
 fault_told says old gives Stays f told does same =
     refusal_told says old gives Stays f told does.0 does.1 same
 
--- what is told of a draft's penalty alone is what is told of the draft that is shown
+-- the answer that says only a draft's penalty is the same if the draft itself is also returned
 priced_as_shown : (says : Penalty → PlainAnswer) (d : ℕ) (office : OfficeState)
     → outcome says office (draft_priced d office)
     ≡ outcome (λ found. says found.1) office (draft_shown d office)
@@ -99,27 +99,27 @@ is_refusal Store = tt
 is_refusal BadSchema = tt
 is_refusal f = tt
 
--- what `?` makes of a fault is a refusal
+-- `?` makes a refusal of a fault
 pub fault_refused : {S : Type 0} (g : Ghosts S) (new : Held S) (r : Result Answer Answer)
     (f : StoreFault) → IsErrAnd r (λ answer. plain_answer answer ≡ refusal f)
     → AwakeUnlessRefused g new r
 fault_refused g new r f is clean =
     inl (subst IsRefusal (sym (err_told r f is)) (is_refusal f))
 
--- of a candidate's command too
+-- also in a candidate's command
 pub fault_refuses : {X : Type 0} (r : Result X Answer) (f : StoreFault)
     → IsErrAnd r (λ answer. plain_answer answer ≡ refusal f)
     → IfErr r (λ answer. IsRefusal (plain_answer answer))
 fault_refuses (Ok x) f is = tt
 fault_refuses (Err answer) f is = subst IsRefusal (sym is) (is_refusal f)
 
--- so is what it makes of refused memory
+-- `?` makes a refusal of refused memory
 pub memory_refused : {S : Type 0} (g : Ghosts S) (new : Held S) (r : Result Answer Answer)
     → IsErrAnd r (λ answer. plain_answer answer ≡ unavailable) → AwakeUnlessRefused g new r
 memory_refused g new (Ok answer) is clean = absurd is
 memory_refused g new (Err answer) is clean = inl (subst IsRefusal (sym is) tt)
 
--- and a body that says nothing
+-- a faulty body is answered with a refusal
 pub body_refused : {A : Type 0} (body : Body A) (answer : Answer) → IsGiven body (Err answer)
     → IsRefusal (plain_answer answer)
 body_refused body answer (inl bad) = subst IsRefusal (sym bad.1) tt
@@ -127,7 +127,7 @@ body_refused body answer (inr long) = subst IsRefusal (sym long.1) tt
 
 -- ---- candidates
 
--- what her view makes is what a candidate is told
+-- an answer made from the candidate's view is the answer to the candidate
 pub view_told : (who : Caller) (asked : Asked) (says : ShownView → PlainAnswer) (old : OfficeState)
     (Stays : OfficeState → Type 0) (view : ShownView) (told : PlainAnswer)
     → ((s : ℕ) → says (shown_to s (view_of s old)) ≡ candidates.told s asked (view_of s old))
@@ -138,7 +138,7 @@ view_told (Dept d) asked says old Stays view told same shows is = absurd shows
 view_told (Cand s) asked says old Stays view told same shows is =
     inl (is ∙ ap says shows.0 ∙ same s, shows.1)
 
--- so is what she is shown of an exam
+-- the same for one exam
 pub her_exam_told : (who : Caller) (exam : ℕ) (old : OfficeState) (Stays : OfficeState → Type 0)
     (found : Option ViewRow) (told : PlainAnswer) → AnswersExam who exam old Stays (Ok found)
     → told ≡ candidates.exam_answer found
@@ -148,7 +148,7 @@ her_exam_told (Dept d) exam old Stays found told shows is = absurd shows
 her_exam_told (Cand s) exam old Stays found told shows is =
     inl (is ∙ ap candidates.exam_answer shows.0, shows.1)
 
--- and what her exams cost her
+-- the same for the personal penalty
 pub her_penalty_told : (who : Caller) (old : OfficeState) (Stays : OfficeState → Type 0)
     (penalty : PersonalPenalty) (told : PlainAnswer) → AnswersPenalty who old Stays (Ok penalty)
     → told ≡ my_cost penalty
@@ -160,7 +160,7 @@ her_penalty_told (Cand s) old Stays penalty told shows is =
 
 -- ---- what is published
 
--- a text of it is told
+-- a text of the publication is the answer
 pub text_told : (says : Session → Publication → List ℕ) (found : Option (Session × Publication))
     (p : Session × Publication) (told : List ℕ) → found ≡ Some p → told ≡ says p.0 p.1
     → text told ≡ of_published says found

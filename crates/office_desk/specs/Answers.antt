@@ -1,4 +1,4 @@
--- The answers that the program holds, without where their texts lie in memory.
+-- The answers that the program holds, without the place of their texts in memory.
 use Rattle.office_model.specs.Answers.{PlainAnswer, my_exams, my_one, my_cost, not_mine}
 use Rattle.office_model.specs.Answers.{now_loaded, text, now_owned, now_drafted, now_edited}
 use Rattle.office_model.specs.Answers.{now_dropped, shown_draft, now_published, unpublished}
@@ -30,7 +30,7 @@ plain_answer answer.LongBody = long_body
 plain_answer (answer.Refused fault) = refused fault
 plain_answer answer.Unavailable = unavailable
 
--- the answer to a refusal: of what failed below nothing is told
+-- the answer to a refusal; it says nothing about failures of the database
 abbrev pub refusal : StoreFault → PlainAnswer
 refusal Store = unavailable
 refusal BadSchema = unavailable

@@ -1,4 +1,4 @@
--- What the desk makes of a command, over the office that its file stands for.
+-- The effect of a command on the office that the desk's file represents, and its answer.
 use Rattle.std.specs.Prelude.{◌≡◌, ◌⊎◌, ◌==◌, ℕ, Option, Result, Ok, Err}
 use Rattle.std.specs.List.{find}
 use Rattle.sqlite.specs.Held.{Held, state}
@@ -20,56 +20,57 @@ use Rattle.office_store.specs.Running.{IsAwake, Now}
 use Rattle.office_desk.specs.Answers.{IsRefusal, plain_answer}
 use Rattle.office_desk.specs.declared.answer.Answer.{Answer}
 
--- what is told, whether something was done or not
+-- the answer, whether something was done or not
 abbrev pub told_of : Result Answer Answer → PlainAnswer
 told_of (Ok answer) = plain_answer answer
 told_of (Err answer) = plain_answer answer
 
--- the outcome stands and is told; or the office stands as it was, and nothing is told
+-- the outcome is reached and answered; or the office is unchanged and the answer is `unavailable`
 abbrev pub AnswersOutcome : Outcome → OfficeState → (OfficeState → Type 0) → PlainAnswer → Type 0
 AnswersOutcome outcome old Stays answer =
     ((answer ≡ outcome.1) × Stays outcome.0) ⊎ ((answer ≡ unavailable) × Stays old)
 
--- the same, over a disk that returns what was written
+-- the same, assuming the disk returns what was written
 abbrev pub Yields : {S : Type 0} → Ghosts S → (OfficeState → Outcome) → Held S → Held S
     → Result Answer Answer → Type 0
 Yields store command old new result =
     HasCleanDisk (state store new) → (office : OfficeState) → Now (state store old) office
     → AnswersOutcome (command office) office (Now (state store new)) (told_of result)
 
--- a command that is permitted, whoever asks
+-- the command is performed as a permitted one, whoever the caller is
 abbrev pub Performs : {S : Type 0} → Ghosts S → PlainCommand → Held S → Held S
     → Result Answer Answer → Type 0
 Performs store command old new result =
     (caller : Caller) → Yields store (λ office. permitted office caller command) old new result
 
--- a permitted command of this caller
+-- the command is performed as a permitted one of this caller
 abbrev pub PerformsFor : {S : Type 0} → Ghosts S → Caller → PlainCommand → Held S → Held S
     → Result Answer Answer → Type 0
 PerformsFor store caller command old new result =
     Yields store (λ office. permitted office caller command) old new result
 
--- over a disk that returns what was written, a command that isn't refused leaves the database open,
--- and all that was written committed
+-- assuming the disk returns what was written, a command that isn't refused leaves the database
+-- open, and all writes committed
 abbrev pub AwakeUnlessRefused : {S : Type 0} → Ghosts S → Held S → Result Answer Answer → Type 0
 AwakeUnlessRefused store new result =
     HasCleanDisk (state store new) → IsRefusal (told_of result) ⊎ IsAwake (state store new)
 
--- a candidate is shown her view; of what fails, and to whoever is no candidate, nothing is told
+-- `Ok`, only for a candidate, is their view; `Err` is answered with `unavailable`; the office is
+-- unchanged
 abbrev pub AnswersView : Caller → OfficeState → (OfficeState → Type 0) → Result ShownView Answer
     → Type 0
 AnswersView (Cand s) old Stays (Ok view) = (view ≡ shown_to s (view_of s old)) × Stays old
 AnswersView caller old Stays (Ok view) = ⊥
 AnswersView caller old Stays (Err answer) = (plain_answer answer ≡ unavailable) × Stays old
 
--- the same, over a disk that returns what was written
+-- the same, assuming the disk returns what was written
 abbrev pub ShowsView : {S : Type 0} → Ghosts S → Caller → Held S → Held S
     → Result ShownView Answer → Type 0
 ShowsView store caller old new result =
     HasCleanDisk (state store new) → (office : OfficeState) → Now (state store old) office
     → AnswersView caller office (Now (state store new)) result
 
--- a candidate is shown an exam of hers, alike
+-- likewise, a candidate is answered with one of their exams
 abbrev pub AnswersExam : Caller → ℕ → OfficeState → (OfficeState → Type 0)
     → Result (Option ViewRow) Answer → Type 0
 AnswersExam (Cand s) exam old Stays (Ok found) =
@@ -77,14 +78,14 @@ AnswersExam (Cand s) exam old Stays (Ok found) =
 AnswersExam caller exam old Stays (Ok found) = ⊥
 AnswersExam caller exam old Stays (Err answer) = (plain_answer answer ≡ unavailable) × Stays old
 
--- the same, over a disk that returns what was written
+-- the same, assuming the disk returns what was written
 abbrev pub ShowsExam : {S : Type 0} → Ghosts S → Caller → ℕ → Held S → Held S
     → Result (Option ViewRow) Answer → Type 0
 ShowsExam store caller exam old new result =
     HasCleanDisk (state store new) → (office : OfficeState) → Now (state store old) office
     → AnswersExam caller exam office (Now (state store new)) result
 
--- a candidate is told what her exams cost her, alike
+-- likewise, a candidate is answered with what their exams cost them
 abbrev pub AnswersPenalty : Caller → OfficeState → (OfficeState → Type 0)
     → Result PersonalPenalty Answer → Type 0
 AnswersPenalty (Cand s) old Stays (Ok penalty) =
@@ -92,14 +93,14 @@ AnswersPenalty (Cand s) old Stays (Ok penalty) =
 AnswersPenalty caller old Stays (Ok penalty) = ⊥
 AnswersPenalty caller old Stays (Err answer) = (plain_answer answer ≡ unavailable) × Stays old
 
--- the same, over a disk that returns what was written
+-- the same, assuming the disk returns what was written
 abbrev pub ShowsPenalty : {S : Type 0} → Ghosts S → Caller → Held S → Held S
     → Result PersonalPenalty Answer → Type 0
 ShowsPenalty store caller old new result =
     HasCleanDisk (state store new) → (office : OfficeState) → Now (state store old) office
     → AnswersPenalty caller office (Now (state store new)) result
 
--- a body is given, or else that is answered
+-- `Ok` is the value of the body; `Err` is the answer to a faulty or too long body
 abbrev pub IsGiven : {A : Type 0} → Body A → Result A Answer → Type 0
 IsGiven body (Ok x) = body ≡ Given x
 IsGiven body (Err answer) =

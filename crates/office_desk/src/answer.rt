@@ -1,4 +1,4 @@
-// What is answered.
+// The answers of the office.
 use exam_model::Timetable;
 use exam_score::PersonalParts;
 use exam_terms::ExamNo;
@@ -6,46 +6,46 @@ use office_model::{CandidateView, Counts, Loaded, Published, StoreFault, ViewRow
 use office_policy::{Body, Denial};
 use std::alloc::AllocError;
 
-/// What the office answers to a command.
+/// The office's answer to a command.
 #[derive(Drop)]
 pub enum Answer {
-    /// What a candidate is shown: her exams, and what they cost her.
+    /// What a candidate is shown: their exams, and what these cost them.
     Me(CandidateView),
     /// One of a candidate's exams.
     MyExam(ViewRow),
-    /// What a candidate's exams cost her.
+    /// What a candidate's exams cost them.
     MyPenalty(PersonalParts),
-    /// The exam is none of hers; nothing tells whether there is one.
+    /// The exam isn't one of the candidate's; the answer doesn't say whether it exists.
     NotMine,
-    /// How much was loaded.
+    /// How many exams, pairs, periods and rooms were loaded.
     Loaded(Loaded),
     /// An instance file, a solution file or a report.
     Text(Vec<u8>),
-    /// An exam and the department that owns it now, at most 999, where 0 is none.
+    /// An exam and the department that owns it now: at most 999, or 0 for none.
     Owner(ExamNo, u32),
-    /// A draft that is new, and its penalty, below 2^62.
+    /// A new draft, and its penalty, below 2^62.
     NewDraft(u32, u64),
-    /// A draft that was edited, and its penalty, below 2^62.
+    /// An edited draft, and its penalty, below 2^62.
     Edited(u32, u64),
-    /// A draft that is gone.
+    /// A deleted draft.
     Dropped(u32),
     /// A draft, its timetable and its penalty, below 2^62.
     Draft(u32, Timetable, u64),
-    /// A draft that is published now, and what that changed.
+    /// A draft that is published now, and the counts of what that changed.
     Published(u32, Published),
-    /// A batch that is accepted, and what its lines did when it first came.
+    /// An accepted batch, and what its lines did when it was first accepted.
     Enrolled(u32, Counts),
     /// Nothing is published.
     Unpublished,
     /// The policy denies the command.
     Denied(Denial),
-    /// The body is no JSON of the form that is asked for.
+    /// The body is no JSON of the required form.
     BadBody,
     /// The body is too long.
     LongBody,
     /// The state of the office refuses the command; never `Store` or `BadSchema`.
     Refused(StoreFault),
-    /// A statement failed, or memory ran out: nothing is done.
+    /// A statement failed, or memory ran out: nothing was done.
     Unavailable,
 }
 

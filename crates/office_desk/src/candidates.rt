@@ -1,5 +1,5 @@
-// Commands of candidates: each is answered by her view alone, or by what of it is told. An `Err`
-// says that nothing is told.
+// Commands of candidates. Each answer depends only on the candidate's view. On `Err` the answer
+// shows nothing of it.
 ghost use Rattle.std.specs.Prelude.{IfErr, OnOk};
 ghost use Rattle.sqlite.specs.Held.{state};
 ghost use Rattle.sqlite.specs.State.{HasCleanDisk};
@@ -17,7 +17,7 @@ use office_store::Office;
 use sqlite::Alter;
 use std::alloc::Global;
 
-// All of her exams, and what they cost her.
+// Answers with all exams of the candidate, and what these cost them.
 pub(crate) fn me<S: Alter>(
     office: &mut Office<S>,
     alloc: Global,
@@ -32,7 +32,7 @@ pub(crate) fn me<S: Alter>(
     Ok(Answer::Me(view))
 }
 
-// One exam, if it is hers.
+// Answers with one exam, if the candidate has it.
 pub(crate) fn my_exam<S: Alter>(
     office: &mut Office<S>,
     alloc: Global,
@@ -51,7 +51,7 @@ pub(crate) fn my_exam<S: Alter>(
     }
 }
 
-// What her exams cost her.
+// Answers with what the candidate's exams cost them.
 pub(crate) fn my_penalty<S: Alter>(
     office: &mut Office<S>,
     alloc: Global,
@@ -66,7 +66,7 @@ pub(crate) fn my_penalty<S: Alter>(
     Ok(Answer::MyPenalty(penalty))
 }
 
-// The view of the candidate who asks. Nobody else is permitted to ask for one.
+// Returns the view of the candidate who asks. No other caller is permitted to ask for one.
 fn her_view<S: Alter>(
     office: &mut Office<S>,
     alloc: Global,
@@ -86,7 +86,7 @@ fn her_view<S: Alter>(
     Ok(view)
 }
 
-// What the candidate who asks is shown of an exam. Nobody else is permitted to ask for that.
+// Returns what the candidate who asks is shown of an exam. No other caller is permitted to ask.
 fn her_exam<S: Alter>(
     office: &mut Office<S>,
     alloc: Global,
@@ -107,7 +107,7 @@ fn her_exam<S: Alter>(
     Ok(found)
 }
 
-// What her exams cost the candidate who asks. Nobody else is permitted to ask for that.
+// Returns what the exams of the candidate who asks cost them. No other caller is permitted to ask.
 fn her_penalty<S: Alter>(
     office: &mut Office<S>,
     alloc: Global,

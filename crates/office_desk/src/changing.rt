@@ -1,4 +1,4 @@
-// Commands that change the office. An `Err` says that nothing is done.
+// Commands that change the office. On `Err` the office is unchanged.
 ghost use Rattle.std.specs.Prelude.{◌≤◌};
 ghost use Rattle.sqlite.specs.Held.{state};
 ghost use Rattle.sqlite.specs.State.{HasCleanDisk};
@@ -185,7 +185,7 @@ fn edit<S: Alter>(
     Ok(Answer::Edited(number, penalty))
 }
 
-// What a body says, or what is answered to one that says nothing.
+// Returns the value of a body, or the answer to a faulty one.
 fn given<T: Drop>(body: Body<T>) -> Result<T, Answer>
     ensures { IsGiven body result }
 {

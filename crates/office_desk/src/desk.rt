@@ -1,4 +1,4 @@
-// The desk, where every command of the office is asked.
+// The desk, which runs every command of the office.
 ghost use Rattle.std.specs.Prelude.{◌≡◌, ◌⊎◌, IfErr, IfOk, MatchBool};
 ghost use Rattle.sqlite.specs.Held.{state};
 ghost use Rattle.sqlite.specs.State.{HasCleanDisk};
@@ -42,32 +42,32 @@ impl<S: Alter> Model for Desk<S> {
 }
 
 impl<S: Alter> Desk<S> {
-    /// The desk of this office.
+    /// Returns the desk of this office.
     pub fn new(office: Office<S>) -> Desk<S>
         ensures { result ≡ office }
     {
         Desk { office }
     }
 
-    /// Gives the office back.
+    /// Returns the office.
     pub fn into_office(self) -> Office<S>
         ensures { result ≡ self }
     {
         self.office
     }
 
-    /// Carries out a command, and answers it: the policy is judged first, then the body, then the
-    /// state. What is refused changes nothing.
+    /// Runs a command and returns its answer. The policy is judged first, then the body, then the
+    /// state. A refused command changes nothing.
     pub fn run(&mut self, alloc: Global, caller: Caller, command: &Command<'_>) -> Answer
         requires { HasSmallNumbers (plain_command command.now) }
-        // Over a disk that returns what was written it is one step of the office.
-        // Or the answer is `Unavailable`, and the office is as it was.
+        // Assuming the disk returns what was written, this is one step of the office; or the answer
+        // is `Unavailable`, and the office is unchanged.
         ensures runs { HasCleanDisk (state S.Store self.new) → (office : OfficeState)
             → Now (state S.Store self.old) office
             → (new : OfficeState)
             × Steps office caller (plain_command command.now) (plain_answer result) new
             × Now (state S.Store self.new) new }
-        // What isn't refused is done: the database is open, and all that was written is committed.
+        // After a command that isn't refused the database is open, and all writes are committed.
         ensures awake { HasCleanDisk (state S.Store self.new)
             → IsRefusal (plain_answer result) ⊎ IsAwake (state S.Store self.new) }
         ensures clean { HasCleanDisk (state S.Store self.new)
@@ -96,7 +96,7 @@ impl<S: Alter> Desk<S> {
     }
 }
 
-// What is told, whether something was done or not.
+// Returns the answer, whether something was done or not.
 fn told(performed: Result<Answer, Answer>) -> Answer
     ensures { plain_answer result ≡ told_of performed }
 {
@@ -105,7 +105,7 @@ fn told(performed: Result<Answer, Answer>) -> Answer
     }
 }
 
-// Carries out a command that is permitted. `Err`: nothing is done.
+// Performs a permitted command. On `Err` nothing was done.
 fn perform<S: Alter>(
     office: &mut Office<S>,
     alloc: Global,

@@ -1,4 +1,4 @@
-// What the policy says of a command in the office as it stands.
+// What the policy says about a command in the office's current state.
 ghost use Rattle.sqlite.specs.Held.{state};
 ghost use Rattle.sqlite.specs.State.{HasCleanDisk};
 ghost use Rattle.office_policy.specs.Commands.{plain_command};
@@ -11,8 +11,8 @@ use office_store::{Office, StoreFault};
 use sqlite::Alter;
 use std::alloc::Global;
 
-// Whether the caller may ask for that. Owners are read where a department edits exams: the policy
-// looks at them nowhere else.
+// Returns whether the caller may run the command. Owners are read only if a department edits exams:
+// the policy depends on them only then.
 pub(crate) fn judged<S: Alter>(
     office: &mut Office<S>,
     alloc: Global,
@@ -30,7 +30,8 @@ pub(crate) fn judged<S: Alter>(
     }
 }
 
-// Whether a department may. Of a swap the second owner is read where the first is the department.
+// Returns whether a department may. The second owner of a swap is read only if the department owns
+// the first exam.
 fn judged_by_owners<S: Alter>(
     office: &mut Office<S>,
     alloc: Global,

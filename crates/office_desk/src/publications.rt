@@ -1,4 +1,4 @@
-// Commands that show what is published. An `Err` says that nothing is told.
+// Commands that show the publication. On `Err` the answer shows nothing of it.
 ghost use Rattle.sqlite.specs.Held.{state};
 ghost use Rattle.sqlite.specs.State.{HasCleanDisk};
 ghost use Rattle.office_policy.specs.Commands.{publication, publication_penalty};
@@ -12,7 +12,7 @@ use office_store::Office;
 use sqlite::Alter;
 use std::alloc::Global;
 
-// The published timetable, as a solution file.
+// Answers with the published timetable, as a solution file.
 pub(crate) fn publication<S: Alter>(office: &mut Office<S>, alloc: Global) -> Result<Answer, Answer>
     ensures performs { Performs S.Store publication office.old office.new result }
     ensures awake { AwakeUnlessRefused S.Store office.new result }
@@ -28,7 +28,7 @@ pub(crate) fn publication<S: Alter>(office: &mut Office<S>, alloc: Global) -> Re
     }
 }
 
-// The penalty of the publication, by its shares.
+// Answers with the penalty of the publication, by its shares.
 pub(crate) fn publication_penalty<S: Alter>(
     office: &mut Office<S>,
     alloc: Global,
@@ -48,7 +48,7 @@ pub(crate) fn publication_penalty<S: Alter>(
     Ok(Answer::Text(report.into_bytes()))
 }
 
-// How the rooms of the publication are used.
+// Answers with how the publication uses the rooms.
 pub(crate) fn publication_rooms<S: Alter>(
     office: &mut Office<S>,
     alloc: Global,
@@ -66,7 +66,7 @@ pub(crate) fn publication_rooms<S: Alter>(
     Ok(Answer::Text(report.into_bytes()))
 }
 
-// Lists the seats of the publication.
+// Answers with the list of seats of the publication.
 pub(crate) fn publication_seats<S: Alter>(
     office: &mut Office<S>,
     alloc: Global,

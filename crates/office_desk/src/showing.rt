@@ -1,4 +1,4 @@
-// Commands that show the office, and change nothing. An `Err` says that nothing is told.
+// Commands that show the office and change nothing. On `Err` the answer shows nothing of it.
 ghost use Rattle.sqlite.specs.Held.{state};
 ghost use Rattle.sqlite.specs.State.{HasCleanDisk};
 ghost use Rattle.office_policy.specs.Commands.{draft, draft_penalty, draft_violations, instance};
@@ -11,7 +11,7 @@ use office_store::Office;
 use sqlite::Alter;
 use std::alloc::Global;
 
-// The session with its live enrolments, as an instance file.
+// Answers with the session and its live enrolments, as an instance file.
 pub(crate) fn instance<S: Alter>(office: &mut Office<S>, alloc: Global) -> Result<Answer, Answer>
     ensures performs { Performs S.Store instance office.old office.new result }
     ensures awake { AwakeUnlessRefused S.Store office.new result }
