@@ -1,4 +1,4 @@
--- From what the desk answers to what is replied.
+-- From an answer of the desk to a reply.
 use Rattle.std.proofs.Common.{◌≡◌, Result, Ok, Err, refl, sym, subst, inl, inr}
 use Rattle.office_messages.specs.Reply.{PlainReply}
 use Rattle.office_requests.specs.Requests.{PlainAsked}
@@ -12,7 +12,7 @@ use Rattle.office_model.specs.Step.{Steps}
 use Rattle.office_model.proofs.ToldLemmas.{shown_stays}
 use Rattle.office_http.specs.Replying.{IsReplyOf, RepliesTo}
 
--- a step whose answer is put into words, or of which nothing is told after all
+-- a step whose answer the reply expresses, or one that is replied with `unavailable` instead
 pub replied : (asked : PlainAsked) (old new : OfficeState) (answer : PlainAnswer)
     (reply : PlainReply)
     → Steps old asked.caller asked.command answer new → IsReplyOf answer reply
@@ -31,7 +31,7 @@ same said why office is =
     (sym is)
     (refl, refl)
 
--- what is refused unread changes nothing
+-- a request that is refused unread changes nothing
 pub refused : (said : Result PlainAsked Refusal) (why : Refusal) (office : OfficeState)
     → GivesAsked said (Err why) → RepliesTo said office (refusal_reply why) office
 refused said refusal.Caller office h = same said refusal.Caller office h

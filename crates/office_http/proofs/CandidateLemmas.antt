@@ -1,4 +1,4 @@
--- What a candidate is replied is the text of her view.
+-- A candidate is replied the text of their view.
 use Rattle.std.proofs.Common.{◌≡◌, ◌⊎◌, ◌∙◌, ℕ, Option, Some, None, Result, Ok, Err, ap, inl, inr, refl, subst}
 use Rattle.exam_terms.specs.Refusing.{◌>>=◌, else_err}
 use Rattle.office_messages.specs.Reply.{PlainReply}
@@ -17,7 +17,7 @@ use Rattle.office_model.proofs.ToldLemmas.{told}
 use Rattle.office_replies.specs.Replies.{reply_to}
 use Rattle.office_http.specs.Replying.{Replies, RepliesTo, TellsCandidate, her_text}
 
--- what a candidate's message asks for, if it asks for one of her pages
+-- the command that a candidate's message asks for, if it asks for one of their pages
 abbrev pub said_by : ℕ → Option PlainCommand → Result PlainAsked Refusal
 said_by s (Some command) = Ok (record { caller = Cand s; command = command })
 said_by s None = Err refusal.Candidate
@@ -47,7 +47,7 @@ told_by s (Some command) old new reply (answer, step, is) = elim step [
   | inr h ↦ inr (is ∙ ap reply_to h.1)
 ]
 
--- whatever the office goes on to
+-- whatever state the office reaches
 pub tells : (old new : OfficeState) (request : PlainRequest) (reply : PlainReply)
     → Replies old request reply new → TellsCandidate old request reply
 tells old new request reply h = λ s is.

@@ -1,4 +1,5 @@
--- Many clients, one after another: what the desk serves the office serves, by each candidate's view.
+-- Many clients, one after another: the office serves what the desk serves, by each candidate's
+-- view.
 use Rattle.std.proofs.Common.{◌≡◌, ◌∙◌, ℕ, List, [], ◌∷◌, ◌++◌, Option, Result, Ok, Err, IfOk, IfErr, All}
 use Rattle.std.proofs.Common.{ap, refl, subst, sym}
 use Rattle.std.proofs.lemmas.List.Elements.{All-append, All-cons, All-head, All-nil, All-tail, All-weaker}
@@ -63,7 +64,7 @@ module _ {S : Type 0} (store : Ghosts S) where
 
 -- ---- by a candidate's view
 
--- in runs of messages with no order but their own
+-- in runs of messages that are ordered only among themselves
 told_to : (ended : Result Served ServeFault) (input before after : Option (List ℕ))
     (old new : OfficeState) (run : ServesTo ended input before after old new)
     → All TellsHerView (entries_to ended input before after old new run)
@@ -95,7 +96,7 @@ visits_by_view store vs old new served = λ clean office now.
     let led = visits_lead store vs old new served clean office now in
     (led.0, (led.1, all_told vs office led.0 led.1), led.2)
 
--- ---- where others' messages are quiet for the candidate
+-- ---- if others' messages are quiet for the candidate
 
 end_to : (s : ℕ) (ended : Result Served ServeFault) (input before after : Option (List ℕ))
     (old new : OfficeState) (run : ServesTo ended input before after old new)
@@ -126,7 +127,7 @@ all_end s (v ∷ vs) old new (mid, served, rest) q =
     ∙ end_to s v.ended v.input v.before v.after old mid served
     (All-left (IsHersOrQuiet s) first later q)
 
--- entries that see a view, and then entries that see the same view of a later office
+-- entries that see a view, then entries that see the same view of a later office
 seen_on : (s : ℕ) (old mid : OfficeState) (first later : List Entry)
     → view_of s mid ≡ view_of s old → All (Sees s (view_of s old)) first
     → All (Sees s (view_of s mid)) later → All (Sees s (view_of s old)) (first ++ later)

@@ -1,4 +1,4 @@
--- A refusal is no reply of a request that was done.
+-- A refusal is never the reply to a request that was done.
 use Rattle.std.proofs.Common.{◌≡◌, ◌⊎◌, inl, inr, subst}
 use Rattle.exam_draft.specs.declared.fault.EditFault.{EditFault}
 use Rattle.exam_draft.specs.declared.fault.EditFault.TheVariants as edit
@@ -67,7 +67,7 @@ of_fault (fault.Refused (refusal.File f)) done = done
 of_fault fault.Store done = done
 of_fault fault.BadSchema done = done
 
--- of an answer that is one
+-- the same for the reply to an answer that is a refusal
 of_answer : (a : PlainAnswer) → IsRefusal a → IsDone (reply_to a).status → ⊥
 of_answer (answer.my_exams s exams penalty) refuses done = refuses
 of_answer (answer.my_one exam) refuses done = refuses
@@ -89,7 +89,7 @@ of_answer answer.long_body refuses done = done
 of_answer (answer.refused why) refuses done = of_fault why done
 of_answer answer.unavailable refuses done = done
 
--- of a request that is refused unread
+-- the same for the reply to a request that is refused unread
 pub of_unread : (r : Refusal) → IsDone (refusal_reply r).status → ⊥
 of_unread unread.Caller done = done
 of_unread unread.Candidate done = done
@@ -100,7 +100,8 @@ of_unread unread.NoMemory done = done
 status_with : (reply said : PlainReply) → reply ≡ said → IsDone reply.status → IsDone said.status
 status_with reply said is done = subst (λ (r : PlainReply). IsDone r.status) is done
 
--- what holds unless the answer is a refusal holds if the reply says that the request was done
+-- if a fact holds unless the answer is a refusal, it holds if the reply says that the request was
+-- done
 pub unless_refused : {A : Type 0} → (a : PlainAnswer) (reply : PlainReply) → IsReplyOf a reply
     → IsRefusal a ⊎ A → IsDone reply.status → A
 unless_refused a reply (inl is) (inl refuses) done =

@@ -1,4 +1,5 @@
--- A candidate's replies over whole connections: by her view, which quiet messages leave.
+-- A candidate's replies over whole connections depend only on their view, which quiet messages
+-- keep.
 use Rattle.std.proofs.Common.{◌≡◌, ◌≢◌, ◌⊎◌, ◌∙◌, ℕ, Bool, false, List, [], ◌∷◌, ◌++◌, Option, Some, None, Result, Ok, Err, IfOk, IfSome, All, ap, get_or, inl, inr, refl, subst, sym, true≢false}
 use Rattle.std.specs.Prelude.{◌==◌}
 use Rattle.std.proofs.lemmas.Bool.{cases_eq, eq-eqb, ne_eqb}
@@ -46,14 +47,14 @@ stays_by s (Some command) old new reply (answer, step, is) = elim step [
   | inr h ↦ h.0
 ]
 
--- her own message changes nothing
+-- a candidate's own message changes nothing
 pub stays : (s : ℕ) (old new : OfficeState) (request : PlainRequest) (reply : PlainReply)
     → Replies old request reply new → IsFrom s request → new ≡ old
 stays s old new request reply h is =
     stays_by s (her_command (verb_of request.method) request.target) old new reply
     (subst (λ said. RepliesTo said old reply new) (her_reading s request is) h)
 
--- two replies by one view, each unless the office is unavailable
+-- two replies by one view, unless the office is unavailable for one of them
 both_by : (said : PlainReply) (one other : PlainRequest) (reply answer : PlainReply)
     → one.method ≡ other.method → (reply ≡ said) ⊎ (reply ≡ unavailable)
     → (answer ≡ said) ⊎ (answer ≡ unavailable) → AreAlike (one, reply) (other, answer)
@@ -63,7 +64,7 @@ both_by said one other reply answer method (inl r) (inl a) =
 both_by said one other reply answer method (inr r) a = inr (inl r)
 both_by said one other reply answer method r (inr a) = inr (inr a)
 
--- two offices that agree on her view
+-- two offices that agree on a candidate's view
 pub same_bytes : (s : ℕ) (one other next last : OfficeState) (request : PlainRequest)
     (reply answer : PlainReply) → view_of s one ≡ view_of s other → IsFrom s request
     → Replies one request reply next → Replies other request answer last
@@ -82,7 +83,7 @@ quiet_said s (Ok asked) old new reply told q =
     quiet_one s old new asked.caller asked.command told.0 told.1 q
 quiet_said s (Err refusal) old new reply told q = ap (view_of s) told.0
 
--- a message that is quiet for her
+-- a message that is quiet for a candidate
 pub quiet_leaves : (s : ℕ) (old new : OfficeState) (request : PlainRequest) (reply : PlainReply)
     → (told : Replies old request reply new) → IsQuietFor s (entry old request reply new told)
     → view_of s new ≡ view_of s old
@@ -90,7 +91,7 @@ quiet_leaves s old new request reply told q =
     quiet_said s (reading request.method request.target request.caller request.body) old new reply
     told q
 
--- ---- whether a message is hers
+-- ---- whether a message is the candidate's
 
 abbrev is_candidate : ℕ → Option Caller → Bool
 is_candidate s None = false
@@ -113,7 +114,7 @@ hers_or_not s (Some (Cand t)) = elim (cases_eq t s) [
   | inr other ↦ inr (not_hers s (Some (Cand t)) (ne_eqb t s other))
 ]
 
--- hers or quiet for her, a message leaves her view
+-- a message of the candidate's, or one quiet for them, leaves their view unchanged
 leaves : (s : ℕ) (old new : OfficeState) (request : PlainRequest) (reply : PlainReply)
     → (told : Replies old request reply new) → IsHersOrQuiet s (entry old request reply new told)
     → view_of s new ≡ view_of s old
@@ -169,7 +170,7 @@ told_one : (s : ℕ) (view : View) (e : Entry) → TellsHerView e → Sees s vie
 told_one s view e told same is =
     subst (λ v. (e.reply ≡ her_reply s e.request v) ⊎ (e.reply ≡ unavailable)) same (told s is)
 
--- where each message finds this view, she is told its text
+-- if each message finds this view, the candidate is replied its text
 pub both_all : (s : ℕ) (view : View) (es : List Entry) → All TellsHerView es → All (Sees s view) es
     → All (RepliesView s view) es
 both_all s view es told same = λ k d lt. told_one s view (get_or es k d) (told k d lt) (same k d lt)
@@ -189,7 +190,7 @@ asks_same : (s : ℕ) (view : View) (one other : PlainRequest) → AsksTheSame o
 asks_same s view one other same =
     λ i. her_text s (her_command (verb_of (same.method i)) (same.target i)) view
 
--- two of her messages that ask for the same, in offices that agree on her view
+-- two messages of a candidate that ask for the same, in offices that agree on their view
 pair_alike : (s : ℕ) (x y : Entry) → TellsHerView x → TellsHerView y
     → view_of s x.office ≡ view_of s y.office → IsToldAlike s x y
 pair_alike s x y told said view is also same =
@@ -226,7 +227,7 @@ both_quiet s items others one next other last output text first second same q k 
     (subst (λ view. All (Sees s view) here) same (quiet_each s items one next output first q))
     (quiet_each s others other last text second k)
 
--- ---- connections of her messages alone
+-- ---- connections with only a candidate's messages
 
 pub stays_all : (s : ℕ) (items : List Item) (old new : OfficeState) (output : List ℕ)
     → Told Replies items old output new → AreFrom s items → new ≡ old
@@ -263,7 +264,7 @@ written s (asks request ∷ items) old new output (mid, reply, rest, step, is, t
     (stays s old mid request reply step hers.0) in
     is ∙ (λ i. bytes_of (request, here i) ++ there i)
 
--- two of them with the same messages, to offices that agree on her view
+-- two of them with the same messages, to offices that agree on the view
 pub same_output : (s : ℕ) (items others : List Item) (one next other last : OfficeState)
     (output text : List ℕ) (first : Told Replies items one output next)
     (second : Told Replies others other text last) → view_of s one ≡ view_of s other
@@ -275,7 +276,7 @@ same_output s items others one next other last output text first second same is 
 
 -- ---- the same changes
 
--- one exchange more, where a command was asked for
+-- one more exchange, if a command was asked for
 abbrev with_asked : Option Exchange → List Exchange → List Exchange
 with_asked None xs = xs
 with_asked (Some x) xs = x ∷ xs
@@ -341,7 +342,7 @@ same_changes_bytes s old one other next last items others output text request re
     same_bytes s one other next last request reply answer
     (same_changes s old one other items others output text first second keeps too same) is h k
 
--- ---- what a connection tells, whatever office the file stands for
+-- ---- the replies of a connection, whatever office the file represents
 
 by_view : {S : Type 0} (store : Ghosts S) (input before after : Option (List ℕ))
     (old new : Held S) (result : Result Served ServeFault)

@@ -1,4 +1,4 @@
--- A run of the desk is a run of the office that its file stands for.
+-- A run of the desk is a run of the office that its file represents.
 use Rattle.std.proofs.Common.{◌≡◌, ◌≢◌, ◌∙◌, ℕ, Bool, true, false, List, [], ◌∷◌, ◌++◌, Option, Result, Ok, Err, IfOk, IfErr, IfSome, refl, sym, subst, ap, true≢false}
 use Rattle.std.specs.Io.KnownBytes.{Appends}
 use Rattle.sqlite.specs.Held.{Held, state}
@@ -65,7 +65,7 @@ module _ {S : Type 0} (store : Ghosts S) where
           run.2,
         )
 
-    -- nothing went wrong while a reply went out
+    -- no write of a reply failed
     whole_front : (items : List Item) (output : List ℕ) → IfSome input (Begins items 0)
         → Told (Answered store) items old output new → Appends before after output
         → LeadsOffice store (λ office next. (its : List Item) × (out : List ℕ)

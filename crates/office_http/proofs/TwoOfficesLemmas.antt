@@ -1,4 +1,4 @@
--- An office in memory, and what it says after a list of requests.
+-- An office in memory, and its replies after a list of requests.
 use Rattle.std.proofs.Common.{◌≡◌, ◌≢◌, ◌⊎◌, ◌∙◌, ◌<◌, ◌+◌, ℕ, List, take, get_or, length, fold, None, Result, Ok, Err, ap, inl, inr, refl, subst, sym}
 use Rattle.std.proofs.lemmas.List.Sums.{fold_more}
 use Rattle.office_messages.specs.FixedReplies.{unavailable}
@@ -51,7 +51,7 @@ alike one other request reply answer first second = λ s is same.
     ap (λ (r : PlainReply). bytes_of (request, r))
     (first s is ∙ ap (λ (v : View). her_reply s request v) same ∙ sym (second s is))
 
--- one request more
+-- one more request
 pub office_of_more : (requests : List Request) (i : ℕ) (d : Request) → i < length requests
     → office_of (take (i + 1) requests)
     ≡ office_after (office_of (take i requests)) (plain_request (get_or requests i d))

@@ -1,4 +1,4 @@
--- What is replied with a 503 changes nothing.
+-- A request that is replied with a 503 changes nothing.
 use Rattle.std.proofs.Common.{◌≡◌, ◌∙◌, ℕ, true, Result, Ok, Err, ap, inl, inr, refl, sym, true≢false}
 use Rattle.std.specs.Prelude.{◌==◌}
 use Rattle.std.proofs.lemmas.Bool.{eq-eqb}
@@ -28,7 +28,7 @@ use Rattle.office_http.specs.Replying.{Replies, RepliesTo}
 abbrev Is503 : PlainAnswer → Type 0
 Is503 answer = (code_of (reply_to answer).status == 503) ≡ true
 
--- no change that was made is
+-- a change that was made is never replied with one
 edits : (old : OfficeState) (d : ℕ) (change : Edit)
     → EditKeeps (λ new. new ≡ old) Is503 old d change
 edits old d change = any_ok _ (draft_edited d change old) (λ x q. absurd (true≢false (sym q)))
@@ -51,7 +51,7 @@ changes old (batch number (Given bytes)) =
     any_ok _ (batch_enrolled number bytes old) (λ x q. absurd (true≢false (sym q)))
 changes old _ = tt
 
--- what a message asks for, if it is not refused unread
+-- the command that a message asks for, if it is not refused unread
 leaves_by : (said : Result PlainAsked Refusal) (old new : OfficeState) (reply : PlainReply)
     → RepliesTo said old reply new → code_of reply.status ≡ 503 → new ≡ old
 leaves_by (Err refusal) old new reply told is = told.0

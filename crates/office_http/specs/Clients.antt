@@ -1,4 +1,4 @@
--- What the office tells many clients, one after another.
+-- The office serves many clients, one after another.
 use Rattle.std.specs.Prelude.{◌≡◌, ℕ, List, [], ◌∷◌, ◌++◌, All, Option, Result, Ok, Err}
 use Rattle.office_messages.specs.Serve.{Serves}
 use Rattle.office_messages.specs.Visits.{Visit}
@@ -36,22 +36,22 @@ front_entries TooMany input before after old new (items, output, begins, told, w
 front_entries NoMemory input before after old new (items, output, begins, told, written) =
     transcript items old output new told
 
--- those of a connection, however it ended
+-- the messages of a connection, however it ended
 abbrev pub entries_to : (ended : Result Served ServeFault) (input before after : Option (List ℕ))
     (old new : OfficeState) → ServesTo ended input before after old new → List Entry
 entries_to (Ok served) input before after old new run = entries run
 entries_to (Err fault) input before after old new run =
     front_entries fault input before after old new run
 
--- those of connections one after another
+-- the messages of connections one after another
 abbrev pub all_entries : (visits : List Visit) (old new : OfficeState)
     → ServesAll visits old new → List Entry
 all_entries [] old new run = []
 all_entries (v ∷ vs) old new (mid, served, rest) =
     entries_to v.ended v.input v.before v.after old mid served ++ all_entries vs mid new rest
 
--- the office served these connections, and each candidate is replied the text of their view in the
--- office that their message came to, or that the office is unavailable
+-- the office served these connections, and replied to each candidate with the text of their view in
+-- the office that received the message, or that the office is unavailable
 abbrev pub ServesAllByView : List Visit → OfficeState → OfficeState → Type 0
 ServesAllByView visits old new =
     (run : ServesAll visits old new) × All TellsHerView (all_entries visits old new run)

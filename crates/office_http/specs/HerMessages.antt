@@ -1,4 +1,4 @@
--- A candidate's messages, and what she is replied by her view alone.
+-- A candidate's messages, and their replies, which depend only on the candidate's view.
 use Rattle.std.specs.Prelude.{◌≡◌, ◌⊎◌, ℕ, List, [], ◌∷◌, ◌++◌, Some}
 use Rattle.office_messages.specs.Form.{form_of}
 use Rattle.office_messages.specs.Reply.{PlainReply, reply_text}
@@ -15,13 +15,13 @@ use Rattle.office_http.specs.Replying.{her_text}
 abbrev pub IsFrom : ℕ → PlainRequest → Type 0
 IsFrom s request = caller_in request.caller ≡ Some (Cand s)
 
--- each message is hers
+-- each message comes from the candidate s
 abbrev pub AreFrom : ℕ → List Item → Type 0
 AreFrom s [] = Unit {0}
 AreFrom s (fails fault form ∷ items) = AreFrom s items
 AreFrom s (asks request ∷ items) = IsFrom s request × AreFrom s items
 
--- what she is replied by her view alone
+-- the reply to a candidate's message, by their view only
 abbrev pub her_reply : ℕ → PlainRequest → View → PlainReply
 her_reply s request view = her_text s (her_command (verb_of request.method) request.target) view
 
@@ -29,7 +29,7 @@ her_reply s request view = her_text s (her_command (verb_of request.method) requ
 abbrev pub bytes_of : PlainRequest × PlainReply → List ℕ
 bytes_of said = reply_text (form_of (said.0).method) said.1
 
--- the bytes of a connection of hers by her view alone
+-- the bytes of a candidate's connection, by their view only
 abbrev pub her_output : ℕ → View → List Item → List ℕ
 her_output s view [] = []
 her_output s view (fails fault form ∷ items) =

@@ -1,4 +1,4 @@
--- What the office replies to a request.
+-- The office's reply to a request.
 use Rattle.std.specs.Prelude.{◌≡◌, ◌⊎◌, ℕ, true, Option, Some, None, Result, Ok, Err}
 use Rattle.sqlite.specs.Held.{Held, state}
 use Rattle.sqlite.specs.State.{HasCleanDisk}
@@ -24,20 +24,20 @@ use Rattle.office_model.specs.Views.{View, view_of}
 use Rattle.office_replies.specs.Replies.{reply_to, view_text}
 use Rattle.office_store.specs.Running.{IsAwake, Now}
 
--- what a message asks for is one step of the office, whose answer is the reply; what asks for
--- nothing is refused, and the office stays
+-- a message that asks for a command is one step of the office, whose answer is the reply; any other
+-- message is refused, and the office is unchanged
 abbrev pub RepliesTo : Result PlainAsked Refusal → OfficeState → PlainReply → OfficeState → Type 0
 RepliesTo (Ok asked) old reply new =
     (answer : PlainAnswer) × Steps old asked.caller asked.command answer new
     × (reply ≡ reply_to answer)
 RepliesTo (Err refusal) old reply new = (new ≡ old) × (reply ≡ refusal_reply refusal)
 
--- the office replies so to a request, and goes on to the other
+-- the office replies so to a request, and goes from the first state to the second
 abbrev pub Replies : OfficeState → PlainRequest → PlainReply → OfficeState → Type 0
 Replies old request reply new =
     RepliesTo (reading request.method request.target request.caller request.body) old reply new
 
--- the reply of an answer; where memory for what is to be shown runs out, the reply that says so
+-- the reply to an answer, or `unavailable` if memory runs out for an answer that shows something
 abbrev pub IsReplyOf : PlainAnswer → PlainReply → Type 0
 IsReplyOf answer reply = (reply ≡ reply_to answer) ⊎ ((shows answer ≡ true) × (reply ≡ unavailable))
 
@@ -47,8 +47,8 @@ IsDone status.Done = Unit {0}
 IsDone status.Created = Unit {0}
 IsDone other = ⊥
 
--- over a disk that returns what was written, the office that a file represents replies so; if the
--- request was done, the store is open and all that was written is committed
+-- assuming the disk returns what was written, the office that a file represents replies so; if the
+-- request was done, the store is open and all writes are committed
 pub record Answered {S : Type 0} (store : Ghosts S) (old : Held S) (request : PlainRequest)
     (reply : PlainReply) (new : Held S) : Type 0 where
   pub clean : HasCleanDisk (state store new) → HasCleanDisk (state store old)
@@ -58,13 +58,13 @@ pub record Answered {S : Type 0} (store : Ghosts S) (old : Held S) (request : Pl
 
 -- ---- candidates
 
--- the text of her view that a command asks for; where her message asks for none of her pages, the
--- denial
+-- the text of a candidate's view that a command asks for; the denial if the message asks for none
+-- of their pages
 abbrev pub her_text : ℕ → Option PlainCommand → View → PlainReply
 her_text s (Some command) view = view_text s command view
 her_text s None view = error_reply (Denied P1)
 
--- a candidate's message is replied the text of her view in the office, or that it is unavailable
+-- a candidate's message is replied the text of their view in the office, or that it is unavailable
 abbrev pub TellsCandidate : OfficeState → PlainRequest → PlainReply → Type 0
 TellsCandidate office request reply =
     (s : ℕ) → caller_in request.caller ≡ Some (Cand s)

@@ -12,8 +12,8 @@ use Rattle.office_model.specs.Office.{OfficeState}
 use Rattle.office_http.specs.Replying.{Replies}
 use Rattle.office_store.specs.Running.{Now}
 
--- a front of the stream's messages was answered: the replies are those of the office; where the
--- writer failed all but the last went out whole, and the last command stands too
+-- the first messages of the stream were answered, with the replies of the office; if the writer
+-- failed, all replies but the last were written whole, and the last command is done too
 abbrev pub AnswersFront : Option (List ℕ) → Option (List ℕ) → Option (List ℕ) → ServeFault
     → OfficeState → OfficeState → Type 0
 AnswersFront input before after Write old new =
@@ -23,8 +23,8 @@ AnswersFront input before after fault old new =
     (items : List Item) × (output : List ℕ) × IfSome input (Begins items 0)
     × Told Replies items old output new × Appends before after output
 
--- whatever office stands before, one that it leads to stands afterwards, over a disk that returns
--- what was written
+-- assuming the disk returns what was written: for any office that the file represents before, it
+-- represents one afterwards that this office leads to
 abbrev pub LeadsOffice : {S : Type 0} → Ghosts S → (OfficeState → OfficeState → Type 0)
     → Held S → Held S → Type 0
 LeadsOffice store LeadsTo old new =

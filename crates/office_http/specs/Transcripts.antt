@@ -1,4 +1,4 @@
--- What a run of messages leaves behind: each message with its reply, in the office that it came to.
+-- The transcript of a run of messages: each message with its reply, in the office that received it.
 use Rattle.std.specs.Prelude.{ℕ, List, [], ◌∷◌, All, Option, Some, None, Result, Ok, Err}
 use Rattle.office_messages.specs.Reply.{PlainReply}
 use Rattle.office_messages.specs.Messages.{Item, asks, fails}
@@ -11,8 +11,8 @@ use Rattle.office_model.specs.Office.{OfficeState}
 use Rattle.office_model.specs.Runs.{Exchange}
 use Rattle.office_http.specs.Replying.{Replies, RepliesTo, TellsCandidate}
 
--- a message with its reply, in the office that it came to; a message that isn't refused unread asks
--- for a command, and is answered
+-- a message with its reply, in the office that received it; the command and its answer are there
+-- unless the message is refused unread
 pub record Entry : Type 0 where
   pub office : OfficeState
   pub request : PlainRequest
@@ -26,7 +26,7 @@ asked_in (Ok asked) old reply new told =
     Some (record { caller = asked.caller; command = asked.command; answer = told.0 })
 asked_in (Err refusal) old reply new told = None
 
--- what a transcript keeps of one message that was replied to
+-- the entry of one message that was replied to
 abbrev pub entry : (old : OfficeState) (request : PlainRequest) (reply : PlainReply)
     (new : OfficeState) → Replies old request reply new → Entry
 entry old request reply new told = record {
@@ -37,7 +37,8 @@ entry old request reply new told = record {
   reply = reply;
 }
 
--- the messages of a run in their order; those that are faulty in head or framing come to no office
+-- the messages of a run in their order, without those that are faulty in head or framing, which no
+-- office receives
 abbrev pub transcript : (items : List Item) (old : OfficeState) (output : List ℕ)
     (new : OfficeState) → Told Replies items old output new → List Entry
 transcript [] old output new told = []
@@ -46,7 +47,7 @@ transcript (fails fault form ∷ items) old output new (rest, is, told) =
 transcript (asks request ∷ items) old output new (mid, reply, rest, step, is, told) =
     entry old request reply mid step ∷ transcript items mid rest new told
 
--- those of a connection
+-- the messages of a connection
 abbrev pub entries : {input before after : Option (List ℕ)} {old new : OfficeState}
     {served : Served} → Serves Replies input before after old new served → List Entry
 entries {input} {before} {after} {old} {new} {served} run =
@@ -56,12 +57,12 @@ entries {input} {before} {after} {old} {new} {served} run =
 abbrev pub said_in : Entry → PlainRequest × PlainReply
 said_in e = (e.request, e.reply)
 
--- whoever the candidate is that a message comes from, she is told the text of her view in the
--- office that it came to, or that the office is unavailable
+-- if a candidate sent the message, they are replied the text of their view in the office that
+-- received it, or that the office is unavailable
 abbrev pub TellsHerView : Entry → Type 0
 TellsHerView e = TellsCandidate e.office e.request e.reply
 
--- a connection is served, and each candidate is told so in it
+-- a connection is served, and each candidate's message in it is replied so
 abbrev pub ServesByView : (input before after : Option (List ℕ)) (old new : OfficeState)
     (served : Served) → Type 0
 ServesByView input before after old new served =

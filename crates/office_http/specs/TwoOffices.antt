@@ -13,7 +13,7 @@ use Rattle.office_model.specs.Views.{view_of}
 use Rattle.office_store.specs.Publications.{AddUpIn, shares_in}
 use Rattle.office_http.specs.HerMessages.{IsFrom, bytes_of, her_reply}
 
--- the office after what a request asks for; a request that asks for nothing leaves it
+-- the office after the command of a request; a request without one leaves it unchanged
 abbrev pub office_after_asked : OfficeState → Result PlainAsked Refusal → OfficeState
 office_after_asked office (Ok asked) = (step office asked.caller asked.command).0
 office_after_asked office (Err refusal) = office

@@ -16,8 +16,9 @@ use office_replies::{
 use office_requests::FixedError;
 use std::alloc::{AllocError, Global};
 
-/// The reply of an answer. What a change says goes into the room, so that no memory is asked for
-/// after it; where memory for what is shown is refused, the reply says that it is unavailable.
+/// Returns the reply to an answer. The text of a change goes into `room`, so that no memory is
+/// allocated after it. If memory is refused for an answer that shows something, the reply says that
+/// the office is unavailable.
 pub(crate) fn answer_reply(alloc: Global, room: Vec<u8>, answer: Answer) -> Reply
     requires { REPLY_ROOM ≤ vec_capacity room }
     ensures { IsReplyOf (plain_answer answer) (plain_reply result) }
@@ -47,7 +48,7 @@ pub(crate) fn answer_reply(alloc: Global, room: Vec<u8>, answer: Answer) -> Repl
     }
 }
 
-// The reply that shows something, or the one that says that it is unavailable.
+// Returns the reply that shows something, or the one that says that the office is unavailable.
 fn shown(made: Result<Reply, AllocError>) -> Reply
     ensures { (answer : PlainAnswer) → shows answer ≡ true
         → IfOk made (λ reply. plain_reply reply ≡ reply_to answer)

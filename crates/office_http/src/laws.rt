@@ -15,18 +15,18 @@ ghost use Rattle.office_http.specs.Isolation.{AreAvailable, AreToldAlike, AreTol
 ghost use Rattle.office_http.specs.Transcripts.{TellsHerView, entries, entry, said_in, transcript};
 ghost use Rattle.office_http.specs.Replying.{Replies, TellsCandidate};
 
-/// A message that is replied with a 503 leaves the office as it was, whoever sent it and whatever
+/// A message that is replied with a 503 leaves the office unchanged, whoever sent it and whatever
 /// it asked for.
 pub fn unavailable_changes_nothing()
     ensures { (office next : OfficeState) (request : PlainRequest) (reply : PlainReply)
         → Replies office request reply next → code_of reply.status ≡ 503 → next ≡ office }
 {}
 
-/// A candidate's message is replied the text of her view in the office that it comes to, or that
+/// A candidate's message is replied the text of their view in the office that receives it, or that
 /// the office is unavailable. It changes nothing.
 ///
-/// No page of hers tells of another's enrolments, seats, exams or drafts. That a reply is a 503,
-/// or how long it takes, may depend on anything.
+/// A candidate's pages say nothing about others' enrolments, seats, exams or drafts. Whether a
+/// reply is a 503, and how long it takes, may depend on anything.
 pub fn told_by_view()
     ensures told { (office next : OfficeState) (request : PlainRequest) (reply : PlainReply)
         → Replies office request reply next → TellsCandidate office request reply }
@@ -35,10 +35,10 @@ pub fn told_by_view()
         → next ≡ office }
 {}
 
-/// Two offices that agree on a candidate's view give her message the same bytes, unless one of them
-/// is unavailable.
+/// Two offices that agree on a candidate's view reply to their message with the same bytes, unless
+/// one of the offices is unavailable.
 ///
-/// Nothing beyond her view need agree: other candidates, exams not hers, drafts, owners, batches.
+/// Nothing outside the view has to agree: other candidates, other exams, drafts, owners, batches.
 pub fn same_view_same_bytes()
     ensures { (s : ℕ) (one other next last : OfficeState) (request : PlainRequest)
         (reply answer : PlainReply) → view_of s one ≡ view_of s other → IsFrom s request
@@ -46,24 +46,27 @@ pub fn same_view_same_bytes()
         → AreAlike (request, reply) (request, answer) }
 {}
 
-/// A message that is quiet for a candidate leaves her view as it was: any but an accepted load, an
-/// accepted publication, and a batch that is newly accepted and names her.
+/// A message that is quiet for a candidate leaves their view unchanged. Quiet is any message but an
+/// accepted load, an accepted publication, and a batch that is newly accepted and names the
+/// candidate.
 pub fn quiet_message()
     ensures { (s : ℕ) (old new : OfficeState) (request : PlainRequest) (reply : PlainReply)
         → (told : Replies old request reply new) → IsQuietFor s (entry old request reply new told)
         → view_of s new ≡ view_of s old }
 {}
 
-/// Over a whole connection, and over any messages one after another, each candidate is told the
-/// text of her view in the office that her message came to, whatever others ask before and between.
+/// Over a whole connection, and over any messages one after another, each candidate is replied the
+/// text of their view in the office that received their message, whatever others ask before and
+/// between.
 pub fn each_told_by_view()
     ensures { (items : List Item) (old new : OfficeState) (output : List ℕ)
         → (told : Told Replies items old output new)
         → All TellsHerView (transcript items old output new told) }
 {}
 
-/// Where all others' messages are quiet for a candidate, each message, and what comes after the
-/// last, finds her view as it was before the first, and her own are replied its text.
+/// If all others' messages are quiet for a candidate, each message finds the candidate's view as it
+/// was before the first, the view is the same after the last, and the candidate is replied its
+/// text, or that the office is unavailable.
 pub fn quiet_messages()
     ensures end { (s : ℕ) (items : List Item) (old new : OfficeState) (output : List ℕ)
         → (told : Told Replies items old output new)
@@ -79,12 +82,12 @@ pub fn quiet_messages()
         → All (RepliesView s (view_of s old)) (transcript items old output new told) }
 {}
 
-/// Two connections to two offices: where the offices that a candidate's two messages come to agree
-/// on her view, she gets the same bytes for the same question, unless one of the replies is that
-/// the office is unavailable. They do so throughout if they agree at the start, and others'
-/// messages are quiet for her.
+/// Two connections to two offices: if the offices that receive a candidate's two messages agree on
+/// the candidate's view, the candidate gets the same bytes for the same question, unless one of the
+/// replies is that the office is unavailable. All such offices agree if they agree at the start and
+/// others' messages are quiet for the candidate.
 ///
-/// It is not promised that a connection stays open, or that two of the same messages are both
+/// The law doesn't promise that a connection stays open, or that two equal messages are both
 /// answered: another's message may end a connection, and a hundred messages do.
 pub fn same_view_same_replies()
     ensures agree { (s : ℕ) (input before after : Option (List ℕ)) (one next : OfficeState)
@@ -101,9 +104,9 @@ pub fn same_view_same_replies()
         → AreToldAlike s (entries first) (entries second) }
 {}
 
-/// A connection of a candidate's messages alone, none of whose replies is that the office is
-/// unavailable: what is written is the text of her view, and the office stays. So two of them, with
-/// the same messages, to two offices that agree on her view, are written the same bytes.
+/// If a connection has only a candidate's messages, and no reply is that the office is unavailable,
+/// the bytes written are the text of the candidate's view, and the office is unchanged. So two such
+/// connections with the same messages, to two offices that agree on the view, get the same bytes.
 pub fn same_view_same_output()
     ensures written { (s : ℕ) (input before after : Option (List ℕ)) (office next : OfficeState)
         (served : Served) → (run : Serves Replies input before after office next served)
@@ -121,11 +124,12 @@ pub fn same_view_same_output()
         → first.output ≡ second.output }
 {}
 
-/// Two lists of messages start from one office and hold no accepted load or publication. If what
-/// their newly accepted batches change of a candidate is the same, in order, then so is her view at
-/// the end, and her messages get the same bytes.
+/// Two lists of messages start from one office and hold no accepted load or publication. If their
+/// newly accepted batches make the same changes to a candidate, in the same order, then the
+/// candidate's view at the end is the same, and the candidate's messages get the same bytes.
 ///
 /// Which batches are newly accepted may depend on others' requests (a number that is taken, too
+/// many pairs), so the law is about the changes that were made.
 /// many pairs), so the law speaks of the changes that were made.
 pub fn same_changes_same_view()
     ensures view { (s : ℕ) (old one other : OfficeState) (items others : List Item)
@@ -148,8 +152,8 @@ pub fn same_changes_same_view()
         → AreAlike (request, reply) (request, answer) }
 {}
 
-/// Over clients one after another, connections that end with a fault among them, each candidate is
-/// replied the text of their view in the office that their message came to, whatever others ask
+/// Over clients one after another, including connections that end with a fault, each candidate is
+/// replied the text of their view in the office that received their message, whatever others ask
 /// before and between.
 pub fn each_client_told_by_view()
     ensures { (visits : List Visit) (old new : OfficeState) → (run : ServesAll visits old new)
@@ -157,8 +161,9 @@ pub fn each_client_told_by_view()
 {}
 
 /// If all others' messages are quiet for a candidate, then over clients one after another,
-/// connections that end with a fault among them, each message, and what comes after the last, finds
-/// the candidate's view as it was before the first, and their own are replied its text.
+/// including connections that end with a fault, each message finds the candidate's view as it was
+/// before the first, the view is the same after the last, and the candidate is replied its text, or
+/// that the office is unavailable.
 pub fn quiet_clients()
     ensures end { (s : ℕ) (visits : List Visit) (old new : OfficeState)
         → (run : ServesAll visits old new)
@@ -174,11 +179,11 @@ pub fn quiet_clients()
         → All (RepliesView s (view_of s old)) (all_entries visits old new run) }
 {}
 
-/// Two offices, each with clients one after another, connections that end with a fault among them:
-/// if the offices that a candidate's two messages come to agree on the candidate's view, they get
-/// the same bytes for the same question, unless one of the replies is that the office is
-/// unavailable. They do so throughout if they agree at the start, and others' messages are quiet
-/// for the candidate.
+/// Two offices, each with clients one after another, including connections that end with a fault:
+/// if the offices that receive a candidate's two messages agree on the candidate's view, the
+/// candidate gets the same bytes for the same question, unless one of the replies is that the
+/// office is unavailable. All such offices agree if they agree at the start and others' messages
+/// are quiet for the candidate.
 pub fn same_view_same_clients()
     ensures agree { (s : ℕ) (visits others : List Visit) (one next other last : OfficeState)
         → (first : ServesAll visits one next) → (second : ServesAll others other last)

@@ -1,4 +1,4 @@
-//! The office over messages: requests are answered by the desk, connection by connection.
+//! The office over messages: the desk answers requests, connection by connection.
 #![tactic(auto)]
 
 mod answers;

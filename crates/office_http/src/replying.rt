@@ -1,4 +1,4 @@
-// One request.
+// The reply to one request.
 ghost use Rattle.std.specs.Prelude.{Ok};
 ghost use Rattle.sqlite.specs.Held.{state};
 ghost use Rattle.sqlite.specs.State.{HasCleanDisk};
@@ -18,21 +18,21 @@ use office_requests::{Asked, Routes, read_request};
 use sqlite::Alter;
 use std::alloc::Global;
 
-/// Replies to a request: it is read, the desk runs its command, and the answer is put into words.
-/// Where memory runs out nothing is done, and the reply says that the office is unavailable; a
-/// change that was made is never answered so.
+/// Replies to a request: reads it, runs its command at the desk, and puts the answer into words. If
+/// memory runs out, nothing is done and the reply says that the office is unavailable; a change
+/// that was made never gets this reply.
 pub fn reply<S: Alter>(
     alloc: Global,
     routes: &Routes,
     desk: &mut Desk<S>,
     request: &Request<'_>,
 ) -> Reply
-    // One step of the office that the file represents, with its answer's reply; or a refusal that
-    // needs nothing stored; or a 503, and nothing was done. After a 200 or a 201 the store is open,
-    // and all that was written is committed.
+    // This is one step of the office that the file represents, with its answer's reply; or a
+    // refusal that depends on nothing stored; or a 503, and nothing was done. After a 200 or a 201
+    // the store is open, and all writes are committed.
     ensures answered { Answered S.Store desk.old (plain_request request.now) (plain_reply result)
         desk.new }
-    // A candidate is replied the text of her view, and nothing else that is stored.
+    // A candidate is replied the text of their view, and nothing else that is stored.
     ensures told { HasCleanDisk (state S.Store desk.new) → (office : OfficeState)
         → Now (state S.Store desk.old) office
         → TellsCandidate office (plain_request request.now) (plain_reply result) }
@@ -43,7 +43,7 @@ pub fn reply<S: Alter>(
     }
 }
 
-// The reply to what is asked for. The room for it is there before anything is done.
+// Returns the reply to a command. The room for it is allocated before anything is done.
 fn asked_reply<S: Alter>(alloc: Global, desk: &mut Desk<S>, asked: &Asked<'_>) -> Reply
     requires { HasSmallNumbers (plain_command asked.now.command) }
     ensures step { HasCleanDisk (state S.Store desk.new) → (office : OfficeState)

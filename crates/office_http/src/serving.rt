@@ -1,4 +1,4 @@
-// One connection.
+// Serving one connection.
 ghost use Rattle.std.specs.Prelude.{◌≡◌, ◌≤◌, IfErr, IfOk};
 ghost use Rattle.sqlite.specs.Held.{state};
 ghost use Rattle.sqlite.specs.State.{HasCleanDisk};
@@ -35,8 +35,8 @@ impl<S: Alter> Machine for AnsweringDesk<'_, S> {
     }
 }
 
-/// Serves a connection to the office: its messages are answered one after another, each before the
-/// next is read. A turn is one call of `read`; those used are taken from `turns`.
+/// Serves a connection to the office. Each message is answered before the next is read. A turn is
+/// one call of `read`; the turns used are subtracted from `turns`.
 pub fn serve<R: Read, W: Write, S: Alter>(
     alloc: Global,
     reader: &mut R,
@@ -44,18 +44,18 @@ pub fn serve<R: Read, W: Write, S: Alter>(
     desk: &mut Desk<S>,
     turns: &mut u64,
 ) -> Result<Served, ServeFault>
-    // The bytes are those of the office on the messages of the whole stream, in whatever pieces it
-    // came, and the file stands for the office after them.
+    // The bytes written are the office's replies to the messages of the whole stream, in whatever
+    // pieces it came, and the file represents the office after them.
     ensures ok { IfOk result (λ served. LeadsOffice S.Store
         (λ office next. Serves Replies (R.remaining reader.old) (W.contents writer.old)
         (W.contents writer.new) office next served) desk.old desk.new) }
-    // In it each candidate is told the text of her view in the office that her message came to, and
-    // nothing else that is stored.
+    // Each candidate in it is replied the text of their view in the office that received their
+    // message, and nothing else that is stored.
     ensures told { IfOk result (λ served. LeadsOffice S.Store
         (λ office next. ServesByView (R.remaining reader.old) (W.contents writer.old)
         (W.contents writer.new) office next served) desk.old desk.new) }
-    // The same of the first of the messages. If the writer failed, all replies but the last went
-    // out whole, and the last command is done too.
+    // The same holds for the first messages, up to the fault. If the writer failed, all replies but
+    // the last were written whole, and the last command is done too.
     ensures err { IfErr result (λ fault. LeadsOffice S.Store
         (AnswersFront (R.remaining reader.old) (W.contents writer.old) (W.contents writer.new)
         fault) desk.old desk.new) }

@@ -16,7 +16,7 @@ use office_requests::Routes;
 use sqlite::{Connection, MemStore};
 use std::alloc::Global;
 
-/// What an office says.
+/// An office's reply to a request, and its stored shares.
 #[derive(Drop)]
 pub struct ReplyAndShares {
     /// Its reply to a request.
@@ -37,7 +37,7 @@ pub enum AskFault {
 }
 
 /// Creates two offices, each in an empty database in memory, sends each its list of requests, from
-/// any callers, and then asks both the same.
+/// any callers, and then sends the same request to both.
 pub fn ask_two_offices(
     alloc: Global,
     first: &[Request<'_>],
@@ -66,7 +66,7 @@ pub fn ask_two_offices(
     Ok((said, answered))
 }
 
-// The office in memory that these requests lead to.
+// Returns the office in memory that these requests lead to.
 fn office_of(
     alloc: Global,
     routes: &Routes,
@@ -81,7 +81,7 @@ fn office_of(
     Ok(desk.into_office())
 }
 
-// The office in an empty database in memory.
+// Returns the office in an empty database in memory.
 fn new_office(alloc: Global) -> Result<Office<MemStore>, AskFault>
     ensures { IfOk result (λ office. Now (state over_memory office) None) }
 {
@@ -94,7 +94,7 @@ fn new_office(alloc: Global) -> Result<Office<MemStore>, AskFault>
     }
 }
 
-// Reads the stored shares, then asks the office.
+// Reads the stored shares, then sends the request to the office.
 fn ask(
     alloc: Global,
     routes: &Routes,
@@ -134,7 +134,7 @@ fn available_reply(
     Ok(reply)
 }
 
-// Whether it is the status of a reply that the office is unavailable.
+// Returns whether a reply has the status that says that the office is unavailable.
 fn is_unavailable(status: Status) -> bool
     ensures { IsTrue result ↔ (status ≡ Status.ServiceUnavailable) }
 {

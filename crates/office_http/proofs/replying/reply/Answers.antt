@@ -9,7 +9,7 @@ use Rattle.office_http.proofs.CandidateLemmas.{tells}
 use Rattle.office_http.proofs.DoneLemmas.{not_unread}
 use Rattle.office_http.proofs.replying.reply.Goals as goal
 
--- what is refused unread changes nothing
+-- a request that is refused unread changes nothing
 pub returns-in-Err-clause-answered : goal.returns-in-Err-clause-answered
 returns-in-Err-clause-answered g c =
     let request = c.args.request.now in
