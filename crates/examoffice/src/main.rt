@@ -22,8 +22,8 @@ fn main(rt: HostRuntime) -> ExitCode {
     ExitCode::from(ending.status)
 }
 
-// Opens /dev/null in the place of a standard stream that is closed, so that no other file takes it.
-// It can only be read: what is printed to a closed stream still fails.
+// Opens /dev/null for a standard stream that is closed, so that no other file gets its file
+// descriptor. It is opened only for reading, so printing to a closed stream still fails.
 fn fill(rt: &HostRuntime) -> Option<File> {
     let null = fs::open(rt, "/dev/null").ok()?;
     if null.as_raw_fd() <= 2 {
