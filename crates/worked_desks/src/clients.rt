@@ -1,4 +1,4 @@
-// Clients of an office, one after another: what each is replied, and what a fault leaves.
+// Clients of an office, one after another: the replies to each, and the state after a fault.
 use crate::connections::{carry_out, new_desk};
 use crate::sides::{Calls, HandClock, Side};
 use office_connections::{MayShut, Plan, serve_clients};
@@ -10,7 +10,7 @@ use std::process::Abort;
 use std::test::Fail;
 use std::time::Duration;
 
-// The smallest session is loaded, and a draft made in which nothing is placed.
+// Loads the smallest session, and makes a draft without any placed exam.
 const DRAFTED: &[u8] = b"PUT /instance HTTP/1.1\r\nHost: office\r\nX-Caller: office\r\n\
 Content-Length: 134\r\n\r\n\
 [Exams:1]\n0\n[Periods:1]\n01:01:2000,00:00:00,0,0\n[Rooms:1]\n0,0\n\
@@ -28,7 +28,7 @@ Content-Length: 11\r\n\r\n{\"draft\":1}";
 const SHOWN: &[u8] = b"HTTP/1.1 200 OK\r\nContent-Type: application/json\r\n\
 Content-Length: 38\r\n\r\n{\"candidate\":1,\"exams\":[],\"penalty\":0}";
 
-// What the next client asks, and what it is replied if the draft is there, and if it isn't.
+// The request of the next client, and its reply if the draft exists, and if it doesn't.
 const DRAFT: &[u8] = b"GET /drafts/1 HTTP/1.1\r\nHost:o\r\nX-Caller:office\r\n\r\n";
 
 const THERE: &[u8] = b"HTTP/1.1 200 OK\r\nContent-Type: application/json\r\n\
@@ -42,7 +42,7 @@ const READ_FAULT: &[u8] = b"examoffice: connection fault 1\n";
 
 const WRITE_FAULT: &[u8] = b"examoffice: connection fault 2\n";
 
-// A client, and what is expected of it.
+// A client, and what the test expects of it.
 #[derive(Clone, Copy)]
 struct Case<'a> {
     asked: &'a [u8],
@@ -51,11 +51,11 @@ struct Case<'a> {
     patience: u64,
     replied: &'a [u8],
     line: &'a [u8],
-    // Whether the draft is there afterwards.
+    // Whether the draft exists afterwards.
     is_there: bool,
 }
 
-// A case as a line of a table.
+// A case as a row of a table.
 type Row<'a> = (&'a [u8], Calls, Calls, u64, &'a [u8], &'a [u8], bool);
 
 impl<'a> Case<'a> {
@@ -73,7 +73,7 @@ impl<'a> Case<'a> {
     }
 }
 
-// What came of three clients, and the lines of their faults.
+// The bytes that three clients got, and the lines of their faults.
 #[derive(Drop)]
 struct Outcome {
     first: Vec<u8>,
@@ -82,7 +82,7 @@ struct Outcome {
     lines: Vec<u8>,
 }
 
-// A desk that is never shut.
+// A desk whose store is never shut.
 #[derive(Drop)]
 struct OpenDesk<'a> {
     answering: AnsweringDesk<'a, MemStore>,
@@ -108,7 +108,7 @@ impl MayShut for OpenDesk<'_> {
     }
 }
 
-// Calls that move this many bytes, and take this many seconds.
+// Calls that move this many bytes and take this many seconds.
 fn calls(piece: usize, seconds: u64) -> Calls {
     Calls {
         piece,
@@ -117,7 +117,7 @@ fn calls(piece: usize, seconds: u64) -> Calls {
     }
 }
 
-// Calls that move this many bytes, and one of which fails.
+// Calls that move this many bytes, one of which fails.
 fn failing(piece: usize, failing: u32) -> Calls {
     Calls {
         piece,
@@ -132,7 +132,7 @@ const AT_ONCE: Calls = Calls {
     failing: 0,
 };
 
-// Neither pieces nor pauses change what a client is replied, until their time is over.
+// Until the timeout, neither pieces nor pauses change the replies to a client.
 #[test]
 fn clients_in_pieces_and_at_a_pace(rt: HostRuntime) -> Result<(), Fail> {
     let alloc = rt.alloc();
@@ -143,7 +143,7 @@ fn clients_in_pieces_and_at_a_pace(rt: HostRuntime) -> Result<(), Fail> {
     );
     let (asked, turned) = (asked.as_slice(), turned.as_slice());
     let (all, all_turned) = (all.as_slice(), all_turned.as_slice());
-    // what is asked, reads, writes, the timeout, replies, the line, and whether the draft is there
+    // the messages, reads, writes, the timeout, replies, the line, and whether the draft exists
     let cases = [
         (asked, AT_ONCE, AT_ONCE, 30, all, b"".as_slice(), false),
         (asked, calls(1, 0), calls(1, 0), 30, all, b"", false),
@@ -174,13 +174,13 @@ fn clients_in_pieces_and_at_a_pace(rt: HostRuntime) -> Result<(), Fail> {
     Ok(())
 }
 
-// Only the messages before a read that fails are carried out and answered. The last read is the
-// one that would find the end.
+// Only the messages before a read that fails are carried out and answered. The last read is the one
+// that would find the end.
 #[test]
 fn each_read_of_a_byte_fails(rt: HostRuntime) -> Result<(), Fail> {
     let alloc = rt.alloc();
     let (asked, all) = (joined(alloc, DROP, PAGE)?, joined(alloc, DROPPED, SHOWN)?);
-    // the first k and the last, replies, and whether the draft is there
+    // the first k and the last, replies, and whether the draft exists
     let ranges = [
         (1u32, 54u32, b"".as_slice(), true),
         (55, 99, DROPPED, false),
@@ -203,7 +203,7 @@ fn each_read_of_a_byte_fails(rt: HostRuntime) -> Result<(), Fail> {
     Ok(())
 }
 
-// What was written before a write that fails has arrived, and the message is carried out.
+// The bytes written before a write that fails have arrived, and the message is carried out.
 #[test]
 fn each_write_of_seven_bytes_fails(rt: HostRuntime) -> Result<(), Fail> {
     let alloc = rt.alloc();
@@ -292,7 +292,7 @@ fn serve_three(alloc: Global, case: &Case<'_>) -> Result<Outcome, Fail> {
     })
 }
 
-// A side whose calls move all bytes, and take no time.
+// A side whose calls move all bytes and take no time.
 fn at_once<T: Drop>(inner: T, clock: &HandClock) -> Side<'_, T> {
     Side::new(inner, AT_ONCE, clock)
 }

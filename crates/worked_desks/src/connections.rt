@@ -5,7 +5,7 @@ use sqlite::{Connection, MemStore};
 use std::alloc::Global;
 use std::test::Fail;
 
-// The smallest session is loaded, its exam gets an owner, and a candidate asks for her page.
+// Loads the smallest session, gives its exam an owner, and requests a candidate's page.
 const ASKED: &[u8] = b"PUT /instance HTTP/1.1\r\nHost: office\r\nX-Caller: office\r\n\
 Content-Length: 134\r\n\r\n\
 [Exams:1]\n0\n[Periods:1]\n01:01:2000,00:00:00,0,0\n[Rooms:1]\n0,0\n\
@@ -30,7 +30,7 @@ pub(crate) fn new_desk(alloc: Global) -> Result<Desk<MemStore>, Fail> {
     }
 }
 
-// Has the messages of a connection carried out at the desk.
+// Runs the messages of a connection at the desk.
 pub(crate) fn carry_out(
     alloc: Global,
     desk: &mut Desk<MemStore>,

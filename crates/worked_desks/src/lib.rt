@@ -1,4 +1,4 @@
-//! An office at its desk, over a database in memory, is served a connection.
+//! Serves connections to an office at its desk, over a database in memory.
 #![tactic(auto)]
 
 #[cfg(test)]

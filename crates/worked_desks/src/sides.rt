@@ -1,11 +1,11 @@
-// The two sides of a connection in memory, and the clock by which they go.
+// The two sides of a connection in memory, and their clock.
 use office_connections::Timed;
 use std::cell::Cell;
 use std::io;
 use std::io::{ErrorKind, Read, Write};
 use std::time::{Clock, Duration};
 
-// A clock that is moved by hand.
+// A clock that only `move_on` advances.
 #[derive(Drop)]
 pub(crate) struct HandClock {
     time: Cell<Duration>,
@@ -33,23 +33,23 @@ impl Clock for HandClock {
     }
 }
 
-// What the calls of one side do.
+// The behaviour of the calls of one side.
 #[derive(Clone, Copy, Debug)]
 pub(crate) struct Calls {
     // The most bytes that a call moves.
     pub(crate) piece: usize,
     // How long a call takes.
     pub(crate) seconds: u64,
-    // Which call fails: 1 is the first, 0 is none.
+    // The number of the call that fails: 1 is the first, 0 is none.
     pub(crate) failing: u32,
 }
 
-// One side of a connection: the bytes that are read, or the place to which they are written.
+// One side of a connection: the bytes that are read, or the buffer that is written to.
 #[derive(Drop)]
 pub(crate) struct Side<'a, T: Drop> {
     inner: T,
     calls: Calls,
-    // How many calls there were.
+    // The number of calls so far.
     count: u32,
     // The timeout of a call.
     limit: Cell<Duration>,
@@ -67,7 +67,7 @@ impl<'a, T: Drop> Side<'a, T> {
         }
     }
 
-    // Begins a call; returns whether it goes on, within its timeout.
+    // Begins a call: moves the clock, and fails after the timeout or if this is the failing call.
     fn begin(&mut self) -> io::Result<()> {
         let (time, limit) = (Duration::from_secs(self.calls.seconds), self.limit.get());
         self.clock.move_on(time.min(limit));

@@ -1,4 +1,4 @@
-// A published office that a candidate asks over a socket of this machine.
+// A published office, which a candidate asks over a socket of this machine.
 use crate::connections::{carry_out, new_desk};
 use office_http::{End, Served, serve};
 use std::io::{Read, Write};
@@ -21,7 +21,7 @@ POST /drafts/1/publish HTTP/1.1\r\nHost: office\r\nX-Caller: office\r\n\r\n";
 const REQUEST: &[u8] =
     b"GET /me HTTP/1.1\r\nHost: office\r\nX-Caller: cand:2\r\nConnection: close\r\n\r\n";
 
-// Candidate 2 has exams 0 and 1, two in a row on one day: 7 and 1.
+// Candidate 2 has exams 0 and 1, two in a row on one day: penalties 7 and 1.
 const REPLY: &[u8] = b"HTTP/1.1 200 OK\r\nContent-Type: application/json\r\n\
 Content-Length: 229\r\n\r\n\
 {\"candidate\":2,\"exams\":[\

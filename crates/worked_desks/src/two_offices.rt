@@ -1,4 +1,4 @@
-// Two offices in memory, which a candidate asks the same.
+// Two offices in memory, to which a candidate sends the same request.
 use office_http::{ReplyAndShares, Request, ask_two_offices};
 use std::process::Abort;
 use std::test::Fail;
@@ -12,7 +12,7 @@ const SMALL: &[u8] = b"[Exams:4]\n120, 1, 2\n90, 2, 3\n120, 3\n60, 1\n[Periods:4
 
 const SOLUTION: &[u8] = b"0, 0\n1, 0\n3, 1\n2, 0\n";
 
-// Candidate 2 has exams 0 and 1, two in a row on one day: 7 and 1.
+// Candidate 2 has exams 0 and 1, two in a row on one day: penalties 7 and 1.
 const PAGE: &[u8] = b"{\"candidate\":2,\"exams\":[\
 {\"date\":\"2005-04-15\",\"exam\":0,\"period\":0,\"room\":0,\"seat\":2,\"start\":\"09:30:00\",\"state\":\"seated\"},\
 {\"date\":\"2005-04-15\",\"exam\":1,\"period\":1,\"room\":0,\"seat\":1,\"start\":\"14:00:00\",\"state\":\"seated\"}\
@@ -28,7 +28,7 @@ fn by_office(method: &'static str, target: &'static str, body: &'static [u8]) ->
     }
 }
 
-// Fails unless the page of candidate 2 was replied, and the shares make this penalty.
+// Fails unless the reply is the page of candidate 2, and the shares add up to this penalty.
 fn assert_said<R: Abort>(rt: &R, said: &ReplyAndShares, penalty: u64) {
     assert_eq!(rt; said.reply.body.bytes(), PAGE);
     let total = match &said.shares {

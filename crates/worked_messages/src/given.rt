@@ -1,8 +1,8 @@
-// How a found value is compared with the wanted one.
+// The comparison of a found value with the wanted one.
 use std::fmt::Debug;
 use std::process::Abort;
 
-/// Ends the test where the two differ, and says in which case.
+/// Ends the test if the two differ, and says in which case.
 pub(crate) fn assert_same<T: PartialEq + Debug + Drop, C: Debug + Drop>(
     rt: &impl Abort,
     found: T,

@@ -1,4 +1,4 @@
-//! Worked examples of the messages and of what may be asked, by subject, with values from outside.
+//! Worked examples of the messages and of the policy, by subject, with values from outside.
 #![tactic(auto)]
 
 #[cfg(test)]

@@ -1,4 +1,4 @@
-// Who asks, and who may ask for what.
+// Callers, and the commands that each may run.
 use crate::given::assert_same;
 use exam_terms::{DeptNo, ExamNo, PeriodNo, Place, RoomNo, StudentNo};
 use office_policy::{Body, Caller, Command, Denial, allowed, read_number};
@@ -78,10 +78,10 @@ fn swap() -> Command<'static> {
     Command::Swap(1, ExamNo::new(0), ExamNo::new(1))
 }
 
-// A command, the owners of its exams, and what the policy says of it.
+// A command, the owners of its exams, and the policy's decision.
 type Case = (Command<'static>, (u32, u32), Result<(), Denial>);
 
-// Ends the test where this caller is answered otherwise.
+// Ends the test if the policy decides otherwise for this caller.
 fn judges(rt: &impl Abort, caller: &Caller, cases: &[Case]) {
     for (row, (command, (first, other), wanted)) in cases.iter().enumerate() {
         let found = allowed(*caller, command, *first, *other);
@@ -89,7 +89,7 @@ fn judges(rt: &impl Abort, caller: &Caller, cases: &[Case]) {
     }
 }
 
-// Exam 0 is owned by department 3, exam 1 by nobody; exam 9 isn't there.
+// Department 3 owns exam 0, nobody owns exam 1, and exam 9 doesn't exist.
 #[test]
 fn departments_edit_their_exams(rt: HostRuntime) -> Result<(), Fail> {
     let cases = [

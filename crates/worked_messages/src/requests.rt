@@ -1,4 +1,4 @@
-// What requests ask for, and what their bodies say.
+// The commands of requests, and the values of their bodies.
 use crate::given::assert_same;
 use office_policy::{Body, Command, Denial};
 use office_requests::{
@@ -47,7 +47,7 @@ fn paths_lead_to_pages(rt: HostRuntime) -> Result<(), Fail> {
     Ok(())
 }
 
-// Why the request of this caller is refused, if it is.
+// Returns why the request of this caller is refused, if it is.
 fn refusal<'a>(
     alloc: Global,
     routes: &Routes,
@@ -116,7 +116,7 @@ fn refusals_in_order(rt: HostRuntime) -> Result<(), Fail> {
     Ok(())
 }
 
-// What a command's body says, in numbers: of a place both, of a department one.
+// Returns the period and the room of a place's body; `None` if the body is faulty.
 fn place(alloc: Global, text: &str) -> Result<Option<(u32, u32)>, AllocError> {
     match place_body(alloc, text.as_bytes())? {
         Body::Given(place) => Ok(Some((place.period.get(), place.room.get()))),
@@ -170,7 +170,7 @@ fn departments_in_bodies(rt: HostRuntime) -> Result<(), Fail> {
     Ok(())
 }
 
-// Whether a request gives the text of an instance.
+// Returns whether a request loads the text of an instance.
 fn loads(alloc: Global, routes: &Routes, request: &Request<'_>) -> bool {
     match read_request(alloc, routes, request) {
         Ok(asked) => matches!(asked.command, Command::Load(Body::Given(_))),

@@ -1,4 +1,4 @@
-// Connections over memory: what is replied, how they end, and how many reads they take.
+// Connections over memory: their replies, how they end, and how many reads they take.
 use crate::given::assert_same;
 use crate::tally::{Tally, serve_tally};
 use office_requests::{End, ServeFault, Served, drain};
@@ -18,11 +18,11 @@ fn ended(answered: u32, end: End) -> Result<Served, ServeFault> {
     Ok(Served { answered, end })
 }
 
-// Each read takes a turn, also the one that finds the end.
+// Each read takes a turn, including the one that finds the end.
 #[test]
 fn a_connection_is_served_within_its_turns(rt: HostRuntime) {
     let too_many = Err(ServeFault::TooMany);
-    // a stream, the turns, how the connection ends, and what is written
+    // a stream, the turns, how the connection ends, and the bytes that are written
     let cases = [
         (b"".as_slice(), 0, too_many, b"".as_slice()),
         (b"", 1, ended(0, End::Closed), b""),

@@ -1,4 +1,4 @@
-//! A machine that lends what it counts with, and a call that says what becomes of that.
+//! A machine that borrows its counter, and a call whose contract is about that counter.
 ghost use Rattle.std.specs.Prelude.{◌≡◌, ◌+◌, ◌≤◌, min, IfOk, IfErr};
 ghost use Rattle.office_messages.specs.Serve.{Serves, ServesFront};
 ghost use Rattle.worked_messages.specs.Tallies.{Tallies};
@@ -7,13 +7,13 @@ use office_messages::{Machine, Reply, Request, ServeFault, Served, Status, fixed
 use std::alloc::Global;
 use std::io::{Read, Write};
 
-/// How many requests were answered.
+/// The number of requests that were answered.
 #[derive(Drop)]
 pub struct Tally {
     pub answered: u32,
 }
 
-/// A machine that counts on a tally of another's.
+/// A machine that counts on a borrowed tally.
 #[derive(Drop)]
 struct Lent<'a> {
     tally: &'a mut Tally,

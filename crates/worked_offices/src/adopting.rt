@@ -1,12 +1,13 @@
 // Offices that are created, released and adopted again.
+use crate::files::to_version_1;
 use crate::given::assert_same;
 use crate::showing::{Command, run, shown};
 use Command::{DropDraft, Enrol, Load, Move, NewDraft, Publish, SetOwner};
-use office_store::{Office, StoreFault};
+use office_store::{Office, StoreFault, is_of_version_1};
 use sqlite::{Alter, Connection};
 use std::test::Fail;
 
-/// An office, or the fault with the connection that came back.
+/// An office, or the fault with the returned connection.
 type Made<S> = Result<Office<S>, (StoreFault, Connection<S>)>;
 
 fn office_of<S: Alter + Drop>(made: Made<S>) -> Result<Office<S>, Fail> {
@@ -38,7 +39,28 @@ fn adopt_wants_tables_and_create_none(rt: HostRuntime) -> Result<(), Fail> {
     Ok(())
 }
 
-// All that an office shows is what it showed before it was released.
+// An office of version 1 shows the same in version 2, which is then the version of its file.
+#[test]
+fn tables_of_version_1_are_taken_over(rt: HostRuntime) -> Result<(), Fail> {
+    let mut office = office_of(Office::create(Connection::open_in_memory(rt.alloc())?))?;
+    for command in [Load, SetOwner, NewDraft, Publish, Enrol] {
+        let _answer = run(&mut office, rt.alloc(), command)?;
+    }
+    let before = shown(&mut office, rt.alloc())?;
+    let mut conn = office.release();
+    to_version_1(&mut conn)?;
+    assert_same(&rt, is_of_version_1(rt.alloc(), &conn)?, true, "version 1");
+    let mut office = office_of(Office::adopt(rt.alloc(), conn))?;
+    let after = shown(&mut office, rt.alloc())?;
+    assert_same(&rt, after.as_str(), before.as_str(), "taken over");
+    let mut conn = office.release();
+    let row = conn.query_row("SELECT version FROM meta", &[])?;
+    assert_same(&rt, row.get::<u64>(0)?, 2, "version");
+    assert_same(&rt, is_of_version_1(rt.alloc(), &conn)?, false, "version 2");
+    Ok(())
+}
+
+// The office shows all that it showed before it was released.
 #[test]
 fn an_office_is_adopted_as_it_was(rt: HostRuntime) -> Result<(), Fail> {
     let mut office = office_of(Office::create(Connection::open_in_memory(rt.alloc())?))?;

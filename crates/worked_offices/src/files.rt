@@ -1,4 +1,4 @@
-// Offices in files in memory that stop after some calls.
+// Offices in files in memory that stop after a number of calls.
 use crate::showing::{Command, run, shown};
 use office_store::{Office, StoreFault};
 use office_tables::is_bare;
@@ -7,7 +7,7 @@ use sqlite_disk::{Crash, Disk, Fuse, Memory};
 use std::alloc::Global;
 use std::test::Fail;
 
-/// A file of known bytes. It stops after some calls, until the machine crashes.
+/// A file of known bytes. After a number of calls it stops, until the machine crashes.
 pub(crate) trait StoppingFile: Crash + Drop + Sized {
     fn with_bytes(alloc: Global, bytes: &[u8], calls: u64) -> Result<Self, Fail>;
 
@@ -27,7 +27,7 @@ impl StoppingFile for Fuse<Memory> {
     }
 }
 
-/// After how many calls each file stops.
+/// The number of calls after which each file stops.
 #[derive(Clone, Copy)]
 pub(crate) struct Stop {
     pub(crate) log: u64,
@@ -38,6 +38,17 @@ pub(crate) const NO_STOP: Stop = Stop {
     log: u64::MAX,
     db: u64::MAX,
 };
+
+/// An action to try in two files.
+#[derive(Clone, Copy)]
+pub(crate) enum Tried {
+    /// Creating an office.
+    Creation,
+    /// Migrating tables of version 1.
+    Migration,
+    /// Running a command in an office.
+    Command(Command),
+}
 
 /// The answer; `None` if the office was not opened.
 pub(crate) type Answer = Option<Result<u64, StoreFault>>;
@@ -57,7 +68,19 @@ fn connection_after<S: Alter + Drop>(
     Ok(office.release())
 }
 
-// Returns all that the office of a connection shows; nothing if there are no tables.
+/// Makes the tables of an office those of version 1.
+pub(crate) fn to_version_1<S: Alter + Drop>(conn: &mut Connection<S>) -> Result<(), Fail> {
+    for sql in [
+        "DROP TABLE night_share",
+        "DROP TABLE night_draft",
+        "UPDATE meta SET version = 1",
+    ] {
+        let _count = conn.execute(sql, &[])?;
+    }
+    Ok(())
+}
+
+// Returns everything that the office of a connection shows; empty if there are no tables.
 fn text_of_office<S: Alter + Drop>(alloc: Global, conn: Connection<S>) -> Result<String, Fail> {
     if is_bare(&conn) {
         return Ok(String::new(alloc));
@@ -68,7 +91,7 @@ fn text_of_office<S: Alter + Drop>(alloc: Global, conn: Connection<S>) -> Result
     }
 }
 
-// Returns all that an office over a database in memory shows after some commands.
+// Returns everything that an office over a database in memory shows after some commands.
 pub(crate) fn text_after(alloc: Global, commands: &[Command]) -> Result<String, Fail> {
     let conn = Connection::open_in_memory(alloc)?;
     text_of_office(alloc, connection_after(alloc, conn, commands)?)
@@ -76,6 +99,13 @@ pub(crate) fn text_after(alloc: Global, commands: &[Command]) -> Result<String, 
 
 fn create<S: Alter + Drop>(conn: Connection<S>) -> (Answer, Connection<S>) {
     match Office::create(conn) {
+        Ok(office) => (Some(Ok(0)), office.release()),
+        Err((fault, conn)) => (Some(Err(fault)), conn),
+    }
+}
+
+fn take_over<S: Alter + Drop>(alloc: Global, conn: Connection<S>) -> (Answer, Connection<S>) {
+    match Office::adopt(alloc, conn) {
         Ok(office) => (Some(Ok(0)), office.release()),
         Err((fault, conn)) => (Some(Err(fault)), conn),
     }
@@ -92,7 +122,7 @@ fn carry_out<S: Alter + Drop>(
     }
 }
 
-// Lets each command copy the log of the one before it into the database, so that it calls both
+// Makes each command copy the log of the one before it into the database, so that it calls both
 // files.
 fn options() -> Options {
     Options {
@@ -102,7 +132,7 @@ fn options() -> Options {
     }
 }
 
-// Returns a connection to these files, or the files again.
+// Returns a connection to these files, or the files if it fails.
 fn connect<D: Disk + Drop>(
     alloc: Global,
     files: Files<D>,
@@ -116,7 +146,7 @@ fn connect<D: Disk + Drop>(
     }
 }
 
-// Returns all that the office of these files shows.
+// Returns everything that the office of these files shows.
 pub(crate) fn text_of_files<D: Disk + Drop>(
     alloc: Global,
     files: Files<D>,
@@ -127,17 +157,18 @@ pub(crate) fn text_of_files<D: Disk + Drop>(
     text_of_office(alloc, conn)
 }
 
-// Carries out a command, or creates an office, in these files: the answer, and the files.
+/// Tries the action in these files. Returns the answer and the files.
 pub(crate) fn attempt<D: Disk + Drop>(
     alloc: Global,
     files: Files<D>,
-    command: Option<Command>,
+    tried: Tried,
 ) -> (Answer, Files<D>) {
     match connect(alloc, files) {
         Ok(conn) => {
-            let (answer, conn) = match command {
-                None => create(conn),
-                Some(command) => carry_out(alloc, conn, command),
+            let (answer, conn) = match tried {
+                Tried::Creation => create(conn),
+                Tried::Migration => take_over(alloc, conn),
+                Tried::Command(command) => carry_out(alloc, conn, command),
             };
             (answer, conn.into_store().close())
         }
@@ -163,7 +194,7 @@ pub(crate) fn files_of<D: StoppingFile>(
     })
 }
 
-// Returns the files of a new office after some commands.
+/// Returns the files of a new office after some commands.
 pub(crate) fn files_after<D: StoppingFile>(
     alloc: Global,
     commands: &[Command],
@@ -172,5 +203,17 @@ pub(crate) fn files_after<D: StoppingFile>(
         return Err("not opened")?;
     };
     let conn = connection_after(alloc, conn, commands)?;
+    Ok(conn.into_store().close())
+}
+
+/// Returns the files of version 1 of a new office after some commands.
+pub(crate) fn files_of_version_1<D: StoppingFile>(
+    alloc: Global,
+    commands: &[Command],
+) -> Result<Files<D>, Fail> {
+    let Ok(mut conn) = connect(alloc, files_after::<D>(alloc, commands)?) else {
+        return Err("not opened")?;
+    };
+    to_version_1(&mut conn)?;
     Ok(conn.into_store().close())
 }

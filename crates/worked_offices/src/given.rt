@@ -1,8 +1,8 @@
-// What the examples share.
+// What the examples have in common.
 use std::fmt::Debug;
 use std::process::Abort;
 
-/// Ends the test where the two differ, and says in which case.
+/// Ends the test if the two differ, and says in which case.
 pub(crate) fn assert_same<T: PartialEq + Debug + Drop, C: Debug + Drop>(
     rt: &impl Abort,
     found: T,

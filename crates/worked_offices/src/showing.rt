@@ -1,4 +1,4 @@
-// Commands of an office of the small session, and all that such an office shows.
+// Commands of an office of the small session, and everything that such an office shows.
 use crate::given::{SMALL, SOLUTION};
 use exam_model::{ExamNo, PeriodNo, Place, RoomNo, StudentNo};
 use office_store::{Edit, Office, StoreFault};
@@ -7,7 +7,7 @@ use std::alloc::{AllocError, Global};
 use std::fmt::Debug;
 use std::test::Fail;
 
-/// A command; drafts are of number 1.
+/// A command; its draft is number 1.
 #[derive(Clone, Copy)]
 pub(crate) enum Command {
     Load,
@@ -19,10 +19,10 @@ pub(crate) enum Command {
     Publish,
 }
 
-// Candidate 3 takes exam 0 late.
+// Candidate 3 is enrolled in exam 0 late.
 const BATCH: &[u8] = b"student,exam,action\n3,0,add\n";
 
-/// Carries out a command: the number that it answers (pairs, a penalty, pairs that are added), or 0.
+/// Runs a command. Returns the number in its answer (pairs, a penalty, added pairs), or 0.
 pub(crate) fn run<S: Alter>(
     office: &mut Office<S>,
     alloc: Global,
@@ -60,7 +60,7 @@ pub(crate) fn run<S: Alter>(
     }
 }
 
-/// All that an office of the small session shows, as a text.
+/// Returns everything that an office of the small session shows, as a text.
 pub(crate) fn shown<S: Alter>(office: &mut Office<S>, alloc: Global) -> Result<String, Fail> {
     let mut text = String::new(alloc);
     show_session(office, alloc, &mut text)?;
@@ -73,8 +73,8 @@ pub(crate) fn shown<S: Alter>(office: &mut Office<S>, alloc: Global) -> Result<S
     Ok(text)
 }
 
-// The session, the owners, and whether a batch is kept: other bytes under its number are refused
-// with that, else for an exam that isn't there.
+// The session, the owners, and whether a batch is kept: if it is, other bytes under its number are
+// refused for that reason, else for an exam that doesn't exist.
 fn show_session<S: Alter>(
     office: &mut Office<S>,
     alloc: Global,

@@ -1,7 +1,7 @@
-// Files that stop during each command, after some calls; then the machine crashes.
+// Files that stop during each command, after a number of calls; then the machine crashes.
 use crate::files::{
-    Answer, NO_STOP, Stop, StoppingFile, attempt, files_after, files_of, is_stopped, text_after,
-    text_of_files,
+    Answer, NO_STOP, Stop, StoppingFile, Tried, attempt, files_after, files_of, files_of_version_1,
+    is_stopped, text_after, text_of_files,
 };
 use crate::given::assert_same;
 use crate::showing::Command;
@@ -13,21 +13,20 @@ use std::alloc::Global;
 use std::process::Abort;
 use std::test::Fail;
 
-/// A command in the office of two files, or the creation of an office in them.
+/// An action to try in two files.
 #[derive(Drop)]
 struct Trial {
     log: Vec<u8>,
     db: Vec<u8>,
-    /// `None`: an office is created.
-    command: Option<Command>,
+    tried: Tried,
     /// The answer if no file stops.
     answer: u64,
-    /// All that the office shows before and after; nothing if there is no office.
+    /// Everything that the office shows before and after; empty if there is no office.
     before: String,
     after: String,
 }
 
-/// The answer, whether a file stopped, and all that the office shows after a crash.
+/// The answer, whether a file stopped, and everything that the office shows after a crash.
 #[derive(Drop)]
 struct Outcome {
     answer: Answer,
@@ -39,7 +38,7 @@ fn trial_of_creation(alloc: Global) -> Result<Trial, Fail> {
     Ok(Trial {
         log: Vec::new(alloc),
         db: Vec::new(alloc),
-        command: None,
+        tried: Tried::Creation,
         answer: 0,
         before: String::new(alloc),
         after: text_after(alloc, &[])?,
@@ -59,18 +58,31 @@ fn trial_of_command<D: StoppingFile>(
     Ok(Trial {
         log: Vec::from_slice(alloc, files.log.bytes())?,
         db: Vec::from_slice(alloc, files.db.bytes())?,
-        command: Some(command),
+        tried: Tried::Command(command),
         answer,
         before: text_after(alloc, earlier)?,
         after: text_after(alloc, &commands)?,
     })
 }
 
-// Tries it with a stop. Then the machine crashes, which loses what was not synced, and the files
-// are opened again.
+// Returns the trial of a migration after some commands; the office shows the same in both versions.
+fn trial_of_migration<D: StoppingFile>(alloc: Global, earlier: &[Command]) -> Result<Trial, Fail> {
+    let files = files_of_version_1::<D>(alloc, earlier)?;
+    Ok(Trial {
+        log: Vec::from_slice(alloc, files.log.bytes())?,
+        db: Vec::from_slice(alloc, files.db.bytes())?,
+        tried: Tried::Migration,
+        answer: 0,
+        before: text_after(alloc, earlier)?,
+        after: text_after(alloc, earlier)?,
+    })
+}
+
+// Tries the action with a stop. Then the machine crashes, which loses unsynced writes, and the
+// files are opened again.
 fn outcome_of<D: StoppingFile>(alloc: Global, trial: &Trial, stop: Stop) -> Result<Outcome, Fail> {
     let files: Files<D> = files_of(alloc, &trial.log, &trial.db, stop)?;
-    let (answer, mut files) = attempt(alloc, files, trial.command);
+    let (answer, mut files) = attempt(alloc, files, trial.tried);
     let is_stopped = is_stopped(&mut files.log) || is_stopped(&mut files.db);
     files.log.crash();
     files.db.crash();
@@ -93,14 +105,14 @@ fn stop_after(calls: u64, is_log: bool) -> Stop {
     stop
 }
 
-// Returns whether the office is opened in spite of a stop.
+// Returns whether the office can be opened in spite of a stop.
 fn is_opened<D: StoppingFile>(alloc: Global, trial: &Trial, stop: Stop) -> Result<bool, Fail> {
     let files: Files<D> = files_of(alloc, &trial.log, &trial.db, stop)?;
-    let (answer, _files) = attempt(alloc, files, trial.command);
+    let (answer, _files) = attempt(alloc, files, trial.tried);
     Ok(answer.is_some())
 }
 
-// Returns the fewest calls, from 1 to 256, with which the office is opened.
+// Returns the fewest calls, from 1 to 256, with which the office can be opened.
 fn calls_of_opening<D: StoppingFile>(
     alloc: Global,
     trial: &Trial,
@@ -116,8 +128,9 @@ fn calls_of_opening<D: StoppingFile>(
     Ok(too_few.saturating_add(1))
 }
 
-// Returns whether the office is the one after an answer, and the one before the command or after it
-// if the command was refused or the office not opened, for which a file has to stop.
+// Returns whether the office is the expected one: after an answer, the office after the command;
+// after a refusal or a failed opening, for which a file must have stopped, that one or the one
+// before.
 fn is_allowed(trial: &Trial, outcome: &Outcome) -> bool {
     let is_after = outcome.found.as_str() == trial.after.as_str();
     let is_before = outcome.found.as_str() == trial.before.as_str();
@@ -128,8 +141,8 @@ fn is_allowed(trial: &Trial, outcome: &Outcome) -> bool {
     }
 }
 
-// Stops one file after each number of calls in turn, from the first on, until a run meets no stop.
-// Returns how many runs were not answered.
+// Stops one file after each number of calls in turn, starting at the first, until a run meets no
+// stop. Returns how many runs were not answered.
 fn count_refusals<D: StoppingFile, R: Abort>(
     rt: &R,
     alloc: Global,
@@ -152,17 +165,17 @@ fn count_refusals<D: StoppingFile, R: Abort>(
     Err("a file that stops each time")?
 }
 
-// Stops the log and then the database, from the end of opening on; a creation from its first call.
-// Each of the two refuses something when it stops.
+// Stops the log and then the database, starting at the end of opening; for a creation at its first
+// call. Each of the two files makes some run fail.
 fn try_each_stop<D: StoppingFile, R: Abort>(
     rt: &R,
     alloc: Global,
     trial: &Trial,
 ) -> Result<(), Fail> {
     for is_log in [true, false] {
-        let first = match trial.command {
-            None => 0,
-            Some(_) => calls_of_opening::<D>(alloc, trial, is_log)?,
+        let first = match trial.tried {
+            Tried::Creation => 0,
+            _ => calls_of_opening::<D>(alloc, trial, is_log)?,
         };
         let refusals = count_refusals::<D, R>(rt, alloc, trial, is_log, first)?;
         assert_same(rt, refusals > 0, true, (is_log, "refuses"));
@@ -184,6 +197,14 @@ fn try_command<R: Abort>(
 #[test]
 fn stops_of_create(rt: HostRuntime) -> Result<(), Fail> {
     let trial = trial_of_creation(rt.alloc())?;
+    try_each_stop::<Fuse<Memory>, HostRuntime>(&rt, rt.alloc(), &trial)
+}
+
+// With a draft, a publication and a kept batch.
+#[test]
+fn stops_of_migration(rt: HostRuntime) -> Result<(), Fail> {
+    let earlier = [Load, NewDraft, Publish, Enrol];
+    let trial = trial_of_migration::<Fuse<Memory>>(rt.alloc(), &earlier)?;
     try_each_stop::<Fuse<Memory>, HostRuntime>(&rt, rt.alloc(), &trial)
 }
 
@@ -212,14 +233,14 @@ fn stops_of_edit(rt: HostRuntime) -> Result<(), Fail> {
     try_command(&rt, rt.alloc(), &[Load, NewDraft], Move, 44)
 }
 
-// Candidate 3 is pending in what is published, and the draft is rescored.
+// Candidate 3 is pending in the publication, and the draft is rescored.
 #[test]
 fn stops_of_enrol_batch(rt: HostRuntime) -> Result<(), Fail> {
     let earlier = [Load, NewDraft, Publish];
     try_command(&rt, rt.alloc(), &earlier, Enrol, 1)
 }
 
-// A publication takes the place of another one.
+// A publication replaces another one.
 #[test]
 fn stops_of_publish(rt: HostRuntime) -> Result<(), Fail> {
     let earlier = [Load, NewDraft, Publish, Move];

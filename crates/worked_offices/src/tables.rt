@@ -6,11 +6,11 @@ use crate::given::assert_same;
 use office_tables::{
     Alteration, Both, DeleteDraft, DeleteMeta, DeleteOwner, DeletePartShares, DeletePlacements,
     DeleteSlot, DeleteSlots, DeleteStudentSeats, DeleteStudentShare, DraftRow, Each, EnrolRow,
-    InsertDraft, InsertEnrol, InsertMeta, InsertOwner, InsertPartShare, InsertPlacement,
-    InsertSeat, InsertSlot, InsertStudentShare, OwnerRow, PartShareRow, PlacedRow, SeatRow,
-    SlotRow, StudentShareRow, adopt_tables, create_tables, enrols_of, find_enrols_of, is_bare,
-    look, owners_of, part_shares, placements, placements_of, seats, seats_of, student_shares,
-    student_shares_of, transact,
+    InsertDraft, InsertEnrol, InsertEnrols, InsertMeta, InsertOwner, InsertPartShare,
+    InsertPlacement, InsertPlacements, InsertSeat, InsertSeats, InsertSlot, InsertSlots,
+    InsertStudentShare, OwnerRow, PartShareRow, PlacedRow, SeatRow, SlotRow, StudentShareRow,
+    adopt_tables, create_tables, enrols_of, find_enrols_of, is_bare, look, owners_of, part_shares,
+    placements, placements_of, seats, seats_of, student_shares, student_shares_of, transact,
 };
 use sqlite::{Connection, Error, MemStore, Transaction};
 use std::alloc::Global;
@@ -25,6 +25,7 @@ const DRAFT: DraftRow = DraftRow {
     front: 0,
     period: 15,
     room: 7,
+    night: 9,
 };
 
 const OWNER: OwnerRow = OwnerRow { exam: 0, dept: 3 };
@@ -60,6 +61,7 @@ fn cost(student: u32, in_row: u32) -> StudentShareRow
         in_row: u64::from(in_row),
         in_day: 5,
         spread: 1,
+        night: u64::from(student),
     }
 }
 
@@ -74,7 +76,7 @@ fn part(kind: u32, no: u32) -> PartShareRow
     }
 }
 
-// A session, its owner, and the places of two drafts, of which one has its row.
+// A session, its owner, and the places of two drafts, one of which has its row.
 fn put_session(tx: &mut Transaction<'_, MemStore>) -> Result<(), Error> {
     let meta = Both {
         first: DeleteMeta,
@@ -155,7 +157,72 @@ fn rows_come_back_in_order(rt: HostRuntime) -> Result<(), Fail> {
     Ok(())
 }
 
-// A number of 33 bits is no student's exam.
+fn pair(exam: u32) -> EnrolRow {
+    EnrolRow { student: 9, exam }
+}
+
+// Of each kind the rows of one statement, and one row more.
+fn put_many(alloc: Global, conn: &mut Connection<MemStore>) -> Result<(), Fail> {
+    if !conn.is_autocommit() {
+        return Err("a transaction is open")?;
+    }
+    let pairs: Vec<InsertEnrol> = (0..33)
+        .map(|exam| InsertEnrol { row: pair(exam) })
+        .collect(alloc)?;
+    let slots: Vec<InsertSlot> = (0..17)
+        .map(|exam| InsertSlot {
+            row: slot(3, exam, 0, 0),
+        })
+        .collect(alloc)?;
+    let places: Vec<InsertPlacement> = (3..20)
+        .map(|exam| InsertPlacement {
+            row: place(exam, 0, 0),
+        })
+        .collect(alloc)?;
+    let seats: Vec<InsertSeat> = (3..20)
+        .map(|exam| InsertSeat {
+            row: seated(9, exam, 1),
+        })
+        .collect(alloc)?;
+    let session = Both {
+        first: InsertEnrols { rows: &pairs },
+        second: InsertSlots { rows: &slots },
+    };
+    let publication = Both {
+        first: InsertPlacements { rows: &places },
+        second: InsertSeats { rows: &seats },
+    };
+    let all = Both {
+        first: session,
+        second: publication,
+    };
+    Ok(transact(conn, &all)?)
+}
+
+#[test]
+fn many_rows_go_in(rt: HostRuntime) -> Result<(), Fail> {
+    let (alloc, mut conn) = (rt.alloc(), filled(rt.alloc())?);
+    put_many(alloc, &mut conn)?;
+    let Some(found) = adopt_tables(alloc, &mut conn)? else {
+        return Err("no tables")?;
+    };
+    let counts = [
+        found.enrols.len(),
+        found.slots.len(),
+        found.placements.len(),
+        seats(alloc, &mut conn)?.len(),
+    ];
+    assert_same(&rt, counts, [36, 20, 20, 20], "counts");
+    let enrolled = enrols_of(alloc, &mut conn, 9)?;
+    let wanted: Vec<EnrolRow> = (0..33).map(pair).collect(alloc)?;
+    assert_same(&rt, enrolled.as_slice(), wanted.as_slice(), "enrolments");
+    let own_seats = seats_of(alloc, &mut conn, 9)?;
+    let wanted: Vec<SeatRow> = (3..20).map(|exam| seated(9, exam, 1)).collect(alloc)?;
+    assert_same(&rt, own_seats.as_slice(), wanted.as_slice(), "seats");
+    Ok(())
+}
+
+// A number of 33 bits is not an exam of a student.
 #[test]
 fn a_student_has_rows(rt: HostRuntime) -> Result<(), Fail> {
     let (alloc, mut conn) = (rt.alloc(), filled(rt.alloc())?);
@@ -176,7 +243,7 @@ fn a_student_has_rows(rt: HostRuntime) -> Result<(), Fail> {
     Ok(())
 }
 
-// Deletes the owner, the draft, all slots but one, and what is published but for student 1.
+// Deletes the owner, the draft, all slots but one, and the publication except for student 1.
 fn delete_most(conn: &mut Connection<MemStore>) -> Result<(), Fail> {
     if !conn.is_autocommit() {
         return Err("a transaction is open")?;
