@@ -1,6 +1,9 @@
 """The sweeps of run_refused.py in which a socket's reads or writes fail, or calls of the disk."""
+import contextlib
 import errno
 import itertools
+import pathlib
+import sqlite3
 
 import run_serve
 from refusing import (
@@ -13,6 +16,8 @@ SESSION = ((message("PUT", "/instance", SMALL),
             reply(201, '{"exams":4,"pairs":6,"periods":4,"rooms":2}')), *PUBLISHED)
 ASKED = b"".join(question for question, _ in SESSION)
 CANNOT_OPEN = b"examoffice: cannot open database\n"
+# An office of the small session as an earlier release left it, in version 1 of the file.
+VERSION_1 = pathlib.Path(__file__).with_name("before") / "published_twice.sqlite"
 
 
 # ---- Sockets
@@ -169,4 +174,36 @@ def load(run):
                                       then in may_find or then))
             if not refused:
                 run.judge("load, calls of the disk", True, k > 1)
+                break
+
+
+def version_of(run, path):
+    """Returns the version of a file as sqlite3 finds it in a copy."""
+    copied = run.folder / "copied.db"
+    copy_database(path, copied)
+    with contextlib.closing(sqlite3.connect(copied)) as database:
+        return database.execute("SELECT version FROM meta").fetchall()
+
+
+def migration(run):
+    """An export from a file of version 1, likewise. The file is then of version 1 or 2, and the next
+    process finds the same office."""
+    path = run.folder / "old.db"
+    copy_database(VERSION_1, path)
+    words = "export", "--db", path
+    shown, ample = found(run, VERSION_1), run.ending(*words)
+    faults = [(1, b"", line) for line in (STORE_FAULT, CANNOT_OPEN)]
+    for how in refusals():
+        for k in itertools.count(1):
+            copy_database(VERSION_1, path)
+            run.refuse(DISK, k, *how)
+            ending = run.ending(*words)
+            refused, version = run.stop_refusing(DISK), version_of(run, path)
+            outcome = f"{'exported' if ending == ample else 'refused'} and of version {version[0][0]}"
+            may_be = [[(2,)]] if ending == ample else [[(1,)], [(2,)]]
+            run.record(outcome, f"migration, {call(k, *how)}", (True, True, shown),
+                       (ending == ample or refused and ending in faults or ending,
+                        version in may_be or version, found(run, path)))
+            if not refused:
+                run.judge("migration, calls of the disk", True, k > 1)
                 break

@@ -90,6 +90,7 @@ def sweeps(states, folder):
                           ("export", "--db", "FILE"))
     yield from sliced("loads into a new file, allocations", memory.load)
     yield Sweep("loads into a new file, calls of the disk", devices.load, ())
+    yield Sweep("exports from a file of version 1, calls of the disk", devices.migration, ())
     for number in sorted(range(len(CASES)), key=lambda number: -len(CASES[number].asked)):
         yield Sweep("messages of the examples, allocations", memory.messages, (number,))
     for state, name in itertools.product(states.items(), COMMANDS):

@@ -2,9 +2,9 @@
 """run_sqlite3.py PROGRAM: the databases of the program beside the stock command sqlite3.
 
 What was loaded is read by sqlite3, and held against docs/FORMATS.md and the small example; what
-sqlite3 wrote as drafted and published is found and exported, and so is what a program before this
-one left; a database that sqlite3 made, or changed so that it stands for no office, is refused, and
-its dump by sqlite3 is then as it was. A failing case is printed with what was expected and what
+sqlite3 wrote as drafted and published is found and exported; what a program before this one left
+becomes version 2 of the same office; a database that sqlite3 made, or changed so that it represents
+no office, is refused, and its dump by sqlite3 is then as it was. A failing case is printed with what was expected and what
 came, and the last line counts the cases.
 """
 import pathlib
@@ -12,7 +12,9 @@ import subprocess
 import sys
 import tempfile
 
+import run_serve
 from cases import Cases
+from serve_cases import SHOWN, report, text
 
 TOP = pathlib.Path(__file__).resolve().parent.parent
 FORMATS, SMALL = TOP / "docs" / "FORMATS.md", TOP / "examples" / "small.exam"
@@ -29,6 +31,7 @@ PAIRS = ("1|0", "1|3", "2|0", "2|1", "3|1", "3|2")
 # What other commands store: an owner of exam 2, and the small solution as draft 3.
 DRAFTED = ("INSERT INTO owner VALUES (2, 999)",
            "INSERT INTO draft VALUES (3, 7, 5, 3, 0, 0, 15, 7)",
+           "INSERT INTO night_draft VALUES (3, 0)",
            "INSERT INTO slot VALUES (3, 0, 0, 0), (3, 1, 1, 0), (3, 2, 3, 1), (3, 3, 2, 0)")
 # An office is found, and has a session already; or what is found is no office's.
 FOUND, REFUSED = ((1, b"", b"examoffice: store fault %d\n" % fault) for fault in (1, 9))
@@ -43,6 +46,7 @@ CHANGES = {
     "INSERT INTO placed VALUES (0, 0, 0)": REFUSED,
     "INSERT INTO seat (exam, student, period, room, seat) VALUES (0, 1, 0, 0, 1)": REFUSED,
     "INSERT INTO share_student VALUES (1, 0, 0, 0)": REFUSED,
+    "INSERT INTO night_share VALUES (1, 0)": REFUSED,
     "INSERT INTO share_part VALUES (0, 0, 0, 0)": REFUSED,
     "UPDATE meta SET instance = X'00'": REFUSED,
     "UPDATE meta SET published = 2": REFUSED,
@@ -50,11 +54,18 @@ CHANGES = {
     "INSERT INTO enrol (student, exam) VALUES (-1, 0)": REFUSED,
     "INSERT INTO enrol (student, exam) VALUES (9, 3)": FOUND,
     "UPDATE draft SET mixed = mixed + 1": REFUSED,
-    "UPDATE draft SET no = 9": REFUSED,
+    "UPDATE draft SET no = 9; UPDATE night_draft SET no = 9": REFUSED,
+    "UPDATE night_draft SET no = 4": REFUSED,
+    "UPDATE night_draft SET night = 1": REFUSED,
+    "INSERT INTO night_draft VALUES (4, 0)": REFUSED,
+    "DELETE FROM night_draft": REFUSED,
     "UPDATE slot SET period = 4 WHERE exam = 0": REFUSED,
     "UPDATE slot SET rowid = -5 WHERE exam = 0": FOUND,
     "DELETE FROM draft": REFUSED,
     "DROP TABLE batch": REFUSED,
+    "DROP TABLE night_share": REFUSED,
+    "UPDATE meta SET version = 1": REFUSED,
+    "UPDATE meta SET version = 3": REFUSED,
     "CREATE TABLE more (x INTEGER)": REFUSED,
     "INSERT INTO batch (no, bytes, added, dropped, unchanged) VALUES (1, x'', 0, 0, 0)": FOUND,
     "INSERT INTO batch VALUES (999999999, zeroblob(1048576), 1, 2, 3), (0, x'00', 0, 0, 0)": FOUND,
@@ -74,6 +85,7 @@ PUBLISHED = ("UPDATE meta SET published = 1",
              " (0, 2, 0, 0, 2), (1, 2, 1, 0, 1), (1, 3, 1, 0, 2), (2, 3, 3, 1, 1), (3, 1, 2, 0, 1)",
              "INSERT INTO share_student (student, in_row, in_day, spread)"
              " VALUES (1, 0, 5, 1), (2, 7, 0, 1), (3, 0, 0, 1)",
+             "INSERT INTO night_share (student, night) VALUES (1, 0), (2, 0), (3, 0)",
              "INSERT INTO share_part (kind, no, penalty, mixed) VALUES (0, 0, 0, 0), (0, 1, 0, 0),"
              " (0, 2, 0, 0), (0, 3, 0, 0), (1, 0, 0, 0), (1, 1, 0, 0), (1, 2, 10, 0), (1, 3, 5, 0),"
              " (2, 0, 0, 0), (2, 1, 7, 0)")
@@ -84,6 +96,19 @@ NO_PUBLICATION = (1, b"", b"examoffice: no publication\n")
 # batch; two of 27 November 2026, the second after two publications.
 BEFORE = {"everything": EXPORTED, "loaded": NO_PUBLICATION,
           "published_twice": (0, b"0, 0\r\n1, 0\r\n3, 1\r\n3, 1\r\n", b"")}
+PENALTY_OF_SECOND = report(7, 0, 3, 10, 0, 10, 14, 44)
+# What makes version 2 of their tables, after the statements of docs/FORMATS.md for the two new ones.
+FILLED = ("INSERT INTO night_draft SELECT no, 0 FROM draft",
+          "INSERT INTO night_share SELECT student, 0 FROM share_student",
+          "UPDATE meta SET version = 2")
+# What makes tables of no office of version 1.
+OF_NEITHER = (
+    "CREATE TABLE night_draft (no INTEGER NOT NULL PRIMARY KEY, night INTEGER NOT NULL) STRICT",
+    "UPDATE meta SET version = 2",
+    "UPDATE meta SET version = 3",
+    "UPDATE meta SET instance = CAST(instance || 'OVERNIGHT,6' || x'0D0A' AS BLOB)",
+    "DROP TABLE batch",
+)
 # What a statement makes of that office.
 PUBLISHED_CHANGES = {
     "UPDATE seat SET seat = 3 WHERE exam = 3": FOUND,
@@ -98,31 +123,39 @@ PUBLISHED_CHANGES = {
     "DELETE FROM seat WHERE exam = 3": REFUSED,
     "UPDATE share_student SET spread = spread + 1 WHERE student = 3": REFUSED,
     "UPDATE share_student SET in_day = in_day - 1 WHERE student = 1": REFUSED,
-    "UPDATE share_student SET student = -1 WHERE student = 3": REFUSED,
+    "UPDATE share_student SET student = -1 WHERE student = 3;"
+    " UPDATE night_share SET student = -1 WHERE student = 3": REFUSED,
     "DELETE FROM share_student WHERE student = 2": REFUSED,
-    "INSERT INTO share_student (student, in_row, in_day, spread) VALUES (9, 0, 0, 0)": REFUSED,
+    "DELETE FROM share_student WHERE student = 2;"
+    " DELETE FROM night_share WHERE student = 2": REFUSED,
+    "INSERT INTO share_student (student, in_row, in_day, spread) VALUES (9, 0, 0, 0);"
+    " INSERT INTO night_share VALUES (9, 0)": REFUSED,
+    "UPDATE night_share SET night = 1 WHERE student = 2": REFUSED,
+    "DELETE FROM night_share WHERE student = 2": REFUSED,
     "UPDATE share_part SET penalty = penalty + 1 WHERE kind = 0 AND no = 2": REFUSED,
     "UPDATE share_part SET penalty = penalty - 1 WHERE kind = 1 AND no = 2": REFUSED,
     "UPDATE share_part SET mixed = 1 WHERE kind = 2 AND no = 0": REFUSED,
     "DELETE FROM share_part WHERE kind = 0 AND no = 3": REFUSED,
     "INSERT INTO share_part (kind, no, penalty, mixed) VALUES (3, 0, 0, 0)": REFUSED,
-    "DELETE FROM share_student; DELETE FROM share_part": REFUSED,
+    "DELETE FROM share_student; DELETE FROM night_share; DELETE FROM share_part": REFUSED,
 }
 # Another draft of the small solution; and what makes of an office with both drafts and a publication
 # tables that no office has.
 SECOND_DRAFT = ("INSERT INTO draft VALUES (5, 7, 5, 3, 0, 0, 15, 7)",
+                "INSERT INTO night_draft VALUES (5, 0)",
                 "INSERT INTO slot VALUES (5, 0, 0, 0), (5, 1, 1, 0), (5, 2, 3, 1), (5, 3, 2, 0)")
 FOR_NOTHING = (
     "UPDATE meta SET version = 0",
     "DELETE FROM meta",
     "UPDATE meta SET instance = CAST(replace(instance, x'0D0A', x'0A') AS BLOB)",
     "INSERT INTO seat (exam, student, period, room, seat) VALUES (4, 1, 0, 1, 1)",
-    "INSERT INTO share_student VALUES (9, 0, 0, 0)",
+    "INSERT INTO share_student VALUES (9, 0, 0, 0); INSERT INTO night_share VALUES (9, 0)",
     "UPDATE slot SET period = 4 WHERE draft = 5 AND exam = 3",
     "INSERT INTO enrol (student, exam) VALUES (1000000000, 0)",
     "UPDATE draft SET in_day = 6 WHERE no = 3",
 )
-EMPTY = ("owner", "draft", "slot", "placed", "seat", "share_student", "share_part", "batch")
+EMPTY = ("owner", "draft", "slot", "placed", "seat", "share_student", "share_part", "batch",
+         "night_draft", "night_share")
 
 
 def ended(*words):
@@ -164,7 +197,7 @@ def cases(program, folder):
     status, schema, errors = asked(".schema")
     yield "the tables", (0, documented(), b""), (status, statements(schema.decode()), errors)
     yield "the file is sound", lines("ok"), asked("PRAGMA integrity_check")
-    yield "meta", lines("0|1|0"), asked("SELECT id, version, published FROM meta")
+    yield "meta", lines("0|2|0"), asked("SELECT id, version, published FROM meta")
     text = "".join(f"{line}\r\n" for line in INSTANCE).encode()
     yield "the instance", lines(text.hex().upper()), asked("SELECT hex(instance) FROM meta")
     yield "enrol", lines(*PAIRS), asked("SELECT student, exam FROM enrol ORDER BY student, exam")
@@ -239,15 +272,30 @@ def tables_that_stand_for_nothing(program, folder):
 
 
 def made_before(program, folder):
-    """What an earlier release left is an office of this one, which leaves it as it is."""
-    office = folder / "before.db"
+    """What an earlier release left becomes version 2 of the same office, and is then left as it is."""
+    office, wanted = folder / "before.db", folder / "wanted.db"
+    new_tables = [text for text in documented() if text.startswith("CREATE TABLE night_")]
     for name, exported in BEFORE.items():
-        office.write_bytes((TOP / "tests" / "before" / f"{name}.sqlite").read_bytes())
-        before = 0, dumped(office)[1], b""
-        yield f"before, {name}: an export", exported, ended(program, "export", "--db", str(office))
-        yield f"before, {name}: its session", FOUND, ended(
-            program, "load", "--db", str(office), str(SMALL))
-        yield f"before, {name}: its file", before, dumped(office)
+        before = (TOP / "tests" / "before" / f"{name}.sqlite").read_bytes()
+        wanted.write_bytes(before)
+        ended("sqlite3", str(wanted), ";".join((*new_tables, *FILLED)))
+        for words in (("export", "--db", str(office)), ("load", "--db", str(office), str(SMALL))):
+            office.write_bytes(before)
+            for time in "first", "second":
+                expected = exported if words[0] == "export" else FOUND
+                yield f"before, {name}: {words[0]}, {time}", expected, ended(program, *words)
+                yield f"before, {name}: after {words[0]}, {time}", dumped(wanted), dumped(office)
+    office.write_bytes(before)
+    server = run_serve.Office(program, office, connections=1)
+    with server.connect() as client:
+        penalty = run_serve.told(client, SHOWN[1])
+    yield "before, published_twice: its penalty", text(PENALTY_OF_SECOND), penalty
+    yield "before, published_twice: the server's end", (0, b""), server.ended()
+    yield "before, published_twice: after serving", dumped(wanted), dumped(office)
+    for text in OF_NEITHER:
+        office.write_bytes(before)
+        yield from found_or_refused(office, text, REFUSED,
+                                    (program, "load", "--db", str(office), str(SMALL)))
 
 
 def main():

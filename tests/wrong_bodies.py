@@ -67,7 +67,8 @@ def say_current(crates):
     judged, late = Cases("wrong bodies"), [name for name in crates if untried(name)]
     for name in crates:
         judged.add(len(edits_of(name)),
-                   [f"{name}: {at.stem} has to be tried" for at in untried(name)])
+                   [f"{name}: {at.stem} has to be tried" for at in untried(name)]
+                   + [f"{name}: {at.stem}: {file} has no such text: {old}" for at, file, old in misplaced(name)])
     if late:
         print(f"wrong bodies: run ./test wrong {' '.join(late)}", file=sys.stderr)
     return judged.end("edits")
@@ -292,6 +293,12 @@ def untried(name):
     """The edits of a crate that were not refused with the sources as they are."""
     now, noted = hashes(name), tried(name)
     return [at for at in edits_of(name) if noted.get(at.name) != now[at.name]]
+
+
+def misplaced(name):
+    """The edits of a crate that replace what isn't in the file that they name."""
+    return [(at, file, old) for at in edits_of(name) for file, old, _ in Edit(name, at).places
+            if old not in (ROOT / "crates" / name / file).read_text()]
 
 
 def heads_of(at):
