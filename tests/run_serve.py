@@ -308,6 +308,7 @@ PAIRED = "".join(f"{line}\n" for line in [
     "[PeriodHardConstraints]", "[RoomHardConstraints]", "[InstitutionalWeightings]",
     "TWOINAROW,7"]).encode()
 PAIRED_DRAFT = ("INSERT INTO draft VALUES (1, 700000, 0, 0, 0, 0, 0, 0);"
+                "INSERT INTO night_draft VALUES (1, 0);"
                 "INSERT INTO slot VALUES (1, 0, 0, 0), (1, 1, 1, 0)")
 
 

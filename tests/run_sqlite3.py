@@ -14,7 +14,8 @@ import tempfile
 
 import run_serve
 from cases import Cases
-from serve_cases import SHOWN, report, text
+from serve_cases import SHOWN, report
+from serve_cases import text as reply_with
 
 TOP = pathlib.Path(__file__).resolve().parent.parent
 FORMATS, SMALL = TOP / "docs" / "FORMATS.md", TOP / "examples" / "small.exam"
@@ -289,7 +290,7 @@ def made_before(program, folder):
     server = run_serve.Office(program, office, connections=1)
     with server.connect() as client:
         penalty = run_serve.told(client, SHOWN[1])
-    yield "before, published_twice: its penalty", text(PENALTY_OF_SECOND), penalty
+    yield "before, published_twice: its penalty", reply_with(PENALTY_OF_SECOND), penalty
     yield "before, published_twice: the server's end", (0, b""), server.ended()
     yield "before, published_twice: after serving", dumped(wanted), dumped(office)
     for text in OF_NEITHER:
