@@ -15,7 +15,8 @@ refused if a goal of any function stays open, that of a caller, say; the rest is
 
 wrong-bodies/TRIED has a line for each edit that was refused: a hash of the crate's sources and of the
 edit without its two head lines, and the edit's name. So an edit that is added or changed is tried by itself, and a change of the
-sources makes all edits of the crate to be tried again."""
+sources makes all edits of the crate to be tried again. Those in wrong-bodies/waiting/ are new, or were refused with earlier sources, and
+wait for a longer run: `current` counts them, and `try` takes them back."""
 import hashlib
 import os
 import re
@@ -60,7 +61,16 @@ def main(words):
 
 
 def crates_with_edits():
-    return sorted(at.parent.name for at in ROOT.glob("crates/*/wrong-bodies") if any(at.glob("*.edit")))
+    return sorted(at.parent.name for at in ROOT.glob("crates/*/wrong-bodies") if any(at.rglob("*.edit")))
+
+
+def waiting(name):
+    return sorted((ROOT / "crates" / name / "wrong-bodies" / "waiting").glob("*.edit"))
+
+
+def take_back(name):
+    for at in waiting(name):
+        at.rename(at.parent.parent / at.name)
 
 
 def say_current(crates):
@@ -71,11 +81,15 @@ def say_current(crates):
                    + [f"{name}: {at.stem}: {file} has no such text: {old}" for at, file, old in misplaced(name)])
     if late:
         print(f"wrong bodies: run ./test wrong {' '.join(late)}", file=sys.stderr)
+    for name in filter(waiting, crates):
+        print(f"wrong bodies: {len(waiting(name))} wait: ./test wrong {name} tries them", file=sys.stderr)
     return judged.end("edits")
 
 
 def try_all(names):
     begun = time.monotonic()
+    for name in names:
+        take_back(name)
     names = [name for name in names if untried(name)]
     wanted = sum(len(untried(name)) for name in names)
     if not are_proved(names):
