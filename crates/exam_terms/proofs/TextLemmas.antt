@@ -1,4 +1,4 @@
--- What trimming leaves.
+-- The result of trimming a text.
 use Rattle.std.proofs.Common.{◌≡◌, ℕ, Bool, true, false, List, [], ◌∷◌, ◌++◌, refl, ap, ◌∙◌}
 use Rattle.exam_terms.specs.Texts.{is_blank, before_end, trim_start, trim_end}
 
@@ -12,13 +12,13 @@ before_some : (b c : ℕ) (cs : List ℕ) → before_end b (cs ++ c ∷ []) ≡ 
 before_some b c [] = refl
 before_some b c (d ∷ cs) = refl
 
--- a blank at the end goes
+-- a blank at the end is trimmed
 pub trim_end-blank : (xs : List ℕ) (b : ℕ) → is_blank b ≡ true →
     trim_end (xs ++ b ∷ []) ≡ trim_end xs
 trim_end-blank [] b e = blank_alone b e
 trim_end-blank (x ∷ xs) b e = ap (before_end x) (trim_end-blank xs b e)
 
--- any other byte stays
+-- any other byte at the end is kept
 pub trim_end-kept : (xs : List ℕ) (b : ℕ) → is_blank b ≡ false →
     trim_end (xs ++ b ∷ []) ≡ xs ++ b ∷ []
 trim_end-kept [] b e = kept_alone b e

@@ -1,4 +1,4 @@
--- A text without the blanks around it.
+-- A text without its leading and trailing blanks.
 use Rattle.std.specs.Prelude.{ℕ, Bool, ◌||◌, ◌==◌, if◌then◌else◌, List, [], ◌∷◌}
 
 -- a space or a tab
@@ -10,7 +10,7 @@ abbrev pub trim_start : List ℕ → List ℕ
 trim_start [] = []
 trim_start (b ∷ bs) = if is_blank b then trim_start bs else b ∷ bs
 
--- a byte before a text from whose end the blanks are gone
+-- a byte in front of a text that has no blanks at its end
 abbrev pub before_end : ℕ → List ℕ → List ℕ
 before_end b [] = if is_blank b then [] else b ∷ []
 before_end b (c ∷ cs) = b ∷ c ∷ cs
@@ -20,6 +20,6 @@ abbrev pub trim_end : List ℕ → List ℕ
 trim_end [] = []
 trim_end (b ∷ bs) = before_end b (trim_end bs)
 
--- a text without the blanks around it
+-- a text without its leading and trailing blanks
 abbrev pub trimmed : List ℕ → List ℕ
 trimmed text = trim_end (trim_start text)

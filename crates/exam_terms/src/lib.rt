@@ -1,5 +1,5 @@
-//! The terms that all crates speak in: the numbers of exams, periods, rooms, students and
-//! departments, places, limits, and texts without the blanks around them.
+//! The terms that all crates use: the numbers of exams, periods, rooms, students and departments,
+//! places, limits, and texts without leading and trailing blanks.
 #![tactic(auto)]
 
 pub mod limits;

@@ -1,7 +1,7 @@
-// Where an exam stands.
+// Places of exams.
 use crate::numbers::{PeriodNo, RoomNo};
 
-/// Where an exam stands. Several exams may share a place.
+/// The period and room of an exam. Several exams may have the same place.
 #[derive(Clone, Copy, Debug, PartialEq, Eq)]
 pub struct Place {
     pub period: PeriodNo,

@@ -1,10 +1,10 @@
-// The blanks around a text, and texts of digits: each once, for whoever reads.
+// The leading and trailing blanks of a text, and texts of digits: each once, for all readers.
 ghost use Rattle.std.specs.Prelude.{◌≡◌, ◌≤◌, length};
 ghost use Rattle.std.specs.List.{list_all};
 ghost use Rattle.std.specs.Char.{is_ascii_digit};
 ghost use Rattle.exam_terms.specs.Texts.{is_blank, trim_start, trim_end, trimmed};
 
-/// The text without the blanks around it: spaces and tabs.
+/// Returns the text without its leading and trailing blanks: spaces and tabs.
 #[inline]
 pub fn trimmed(text: &[u8]) -> &[u8]
     ensures { result.now ≡ trimmed text.now }
@@ -12,7 +12,7 @@ pub fn trimmed(text: &[u8]) -> &[u8]
     trim_end(trim_start(text))
 }
 
-/// The text without the blanks at its start.
+/// Returns the text without its leading blanks.
 #[inline]
 #[tactic(auto, using(crate::proofs::TextLemmas::trim_facts))]
 pub fn trim_start(text: &[u8]) -> &[u8]
@@ -29,7 +29,7 @@ pub fn trim_start(text: &[u8]) -> &[u8]
     left
 }
 
-/// The text without the blanks at its end.
+/// Returns the text without its trailing blanks.
 #[inline]
 #[tactic(auto, using(crate::proofs::TextLemmas::trim_facts))]
 pub fn trim_end(text: &[u8]) -> &[u8]
@@ -53,7 +53,7 @@ fn is_blank(byte: u8) -> bool
     byte == b' ' || byte == b'\t'
 }
 
-/// Whether the text holds nothing but digits, or nothing.
+/// Returns whether all bytes of the text are digits; an empty text passes.
 pub fn are_digits(text: &[u8]) -> bool
     ensures { result ≡ list_all is_ascii_digit text.now }
 {
