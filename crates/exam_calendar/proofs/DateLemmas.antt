@@ -1,4 +1,4 @@
--- The ranges of the numbers of a date that the calendar has.
+-- The ranges of the numbers in a date that exists.
 use Rattle.std.proofs.Common.{◌≡◌, ℕ, ℤ, pos, ◌≤◌, Bool, true, false, arith}
 use Rattle.std.specs.Prelude.{◌&&◌, ◌||◌, ◌==◌, if◌then◌else◌, nat_le}
 use Rattle.std.specs.Int.{IsInRange}

@@ -1,4 +1,4 @@
-//! Dates: jiff says which of them the calendar has.
+//! Dates: the crate jiff says which of them exist.
 #![tactic(auto)]
 
 mod date;
