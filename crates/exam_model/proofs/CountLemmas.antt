@@ -1,4 +1,4 @@
--- What the lists and the count of pairs keep where the list of one exam changes.
+-- What stays true of the lists and the count of pairs if the list of one exam changes.
 use Rattle.std.proofs.Common.{◌≡◌, ◌∙◌, ℕ, ◌+◌, ◌-◌, ◌<◌, ◌≤◌, Bool, true, false, List, [], length, set, refl, sym, ap, subst, arith, slice_index_or, Fits, w32, Result, Ok, Err, OnErr}
 use Rattle.std.specs.Prelude.{not}
 use Rattle.std.proofs.lemmas.List.{get_or_read, set-get_or}
@@ -9,15 +9,15 @@ use Rattle.exam_model.proofs.StudentLemmas.{entered, left}
 use Rattle.exam_model.proofs.EnrolmentLemmas.{adds_set, enrolments_set, removes_set, enrolments_left}
 use Rattle.exam_model.proofs.EnrolLemmas.{pair_count-enrol, enrolments_enrol}
 
--- what every value of the type keeps
+-- the invariant of the type
 abbrev pub IsCounted : Enrolled → ℕ → Type 0
 IsCounted E p = AreEnrolments E × (p ≡ pair_count E)
 
--- an exam of the view is one of the lists behind it
+-- an exam of the view is one of the stored lists
 pub exam_within : {E T : Enrolled} {e f : ℕ} → E ≡ T → e ≡ f → f < length T → e < length E
 exam_within view is lt = rw (view, is) lt
 
--- a list put back where it was changes nothing
+-- storing a list where it was changes nothing
 pub set_again : (E : Enrolled) (e : ℕ) (roll : List ℕ) → e < length E
     → roll ≡ slice_index_or E e roll → set E e roll ≡ E
 set_again E e roll lt is = ap (set E e) (get_or_read E e roll lt is []) ∙ set-get_or E e []
@@ -27,11 +27,11 @@ pub counted_again : (E : Enrolled) (e p : ℕ) (roll : List ℕ) → e < length 
 counted_again E e p roll lt is was =
     subst (λ (F : Enrolled). IsCounted F p) (sym (set_again E e roll lt is)) was
 
--- one more pair has a number too
+-- the count plus one fits its type
 pub one_more_fits : (E : Enrolled) (p : ℕ) → IsCounted E p → Fits w32 (p + 1)
 one_more_fits E p was = let count : p ≡ pair_count E = was.1 in omega (arith, was.0.pairs)
 
--- a student who is new wasn't there, and one who isn't was
+-- a student who is new wasn't there, and a student who isn't new was
 pub new_absent : (new there : Bool) → new ≡ not there → new ≡ true → there ≡ false
 new_absent new true is yes' = absurd (cc)
 new_absent new false is yes' = refl
@@ -40,13 +40,13 @@ pub old_present : (new there : Bool) → new ≡ not there → new ≡ false →
 old_present new true is no' = refl
 old_present new false is no' = absurd (cc)
 
--- a student is in the exam's list where the pair is in the set
+-- a student is in the exam's list exactly if the pair is in the set
 pub is_has : (E : Enrolled) (e s : ℕ) (roll : List ℕ) → e < length E
     → roll ≡ slice_index_or E e roll → has_number roll s ≡ has E s e
 is_has E e s roll lt is =
     ap (λ (r : List ℕ). has_number r s) (get_or_read E e roll lt is [])
 
--- a new pair is refused where no more may come
+-- a new pair is refused if the set is full
 pub full_refuses : (E : Enrolled) (e s p : ℕ) (roll : List ℕ) → e < length E
     → roll ≡ slice_index_or E e roll → false ≡ has_number roll s → 200000 ≤ p → IsCounted E p
     → (e < length E) × (has E s e ≡ false) × (pair_count E ≡ 200000)
@@ -54,7 +54,7 @@ full_refuses E e s p roll lt is absent full was =
     let count : p ≡ pair_count E = was.1 in
     (lt, sym (is_has E e s roll lt is) ∙ sym absent, omega (arith, was.0.pairs))
 
--- a student put into the exam's list is a pair added
+-- a student added to the exam's list is a pair added
 pub adds_entered : (E : Enrolled) (e s : ℕ) (roll new : List ℕ) → e < length E
     → roll ≡ slice_index_or E e roll → Enters roll new s → Adds E (set E e new) s e
 adds_entered E e s roll new lt is enters =
@@ -68,7 +68,7 @@ pair_entered E e s p roll new lt is enters was =
     ap (set E e) (entered s (students E e) new (was.0.ascending e lt)
     (subst (λ (r : List ℕ). Enters r new s) (get_or_read E e roll lt is []) enters))
 
--- and the count goes up for one who is new, and stays for one who isn't
+-- the count rises by one for a new student, and stays for one who was there
 pub counted_new : (E : Enrolled) (e s p : ℕ) (roll new : List ℕ) → e < length E
     → s ≤ 999999999 → roll ≡ slice_index_or E e roll → Enters roll new s → has_number roll s ≡ false
     → p < 200000 → IsCounted E p → IsCounted (set E e new) (p + 1)
@@ -88,7 +88,7 @@ counted_old E e s p roll new lt known is enters present was =
     let same = rw there at ((adds_set E e s new lt here).pairs) in
     (enrolments_set E e s new lt known here (λ x. absurd (cc)) was.0, was.1 ∙ sym same)
 
--- a student taken out of the exam's list is a pair taken out
+-- a student removed from the exam's list is a pair removed
 pub removes_left : (E : Enrolled) (e s : ℕ) (roll new : List ℕ) → e < length E
     → roll ≡ slice_index_or E e roll → Leaves roll new s → Removes E (set E e new) s e
 removes_left E e s roll new lt is leaves =
@@ -109,7 +109,7 @@ kept_left E e s roll new lt is leaves was =
     enrolments_left E e s new lt
     (subst (λ (r : List ℕ). Leaves r new s) (get_or_read E e roll lt is []) leaves) was
 
--- so many pairs were there where one is taken out
+-- the count falls by one if a pair is removed
 pub count_less : (E : Enrolled) (e s p : ℕ) (roll new : List ℕ) → e < length E
     → roll ≡ slice_index_or E e roll → Leaves roll new s → has_number roll s ≡ true
     → p ≡ pair_count E → p ≡ pair_count (set E e new) + 1
@@ -124,7 +124,7 @@ count_same E e s p roll new lt is leaves absent was =
     let none = sym (is_has E e s roll lt is) ∙ absent in
     was ∙ rw none at ((removes_left E e s roll new lt is leaves).pairs)
 
--- students put into an exam that has none are so many pairs more
+-- students put into an empty exam add as many pairs
 pub counted_filled : (E : Enrolled) (e p : ℕ) (xs : List ℕ) → e < length E → students E e ≡ []
     → IsAscending xs → AreNumbers xs → length xs ≤ 200000 - p → IsCounted E p
     → IsCounted (set E e xs) (p + length xs)
@@ -133,7 +133,7 @@ counted_filled E e p xs lt none up known fits was =
     let sum = pair_count-enrol E e xs lt none in
     (enrolments_enrol E e xs lt none up known (omega (arith, was.0.pairs)) was.0, omega arith)
 
--- more students than there is room for are refused, and so many as there is room for have a number
+-- more students than there is room for are refused, and the number of those there is room for fits
 pub more_refuse : (E : Enrolled) (p n : ℕ) → 200000 - p < n → IsCounted E p
     → 200000 < pair_count E + n
 more_refuse E p n more was = let count : p ≡ pair_count E = was.1 in omega (arith, was.0.pairs)

@@ -1,4 +1,4 @@
--- What an exam's list of students leaves where another takes its place.
+-- The enrolments after one exam's list of students is replaced.
 use Rattle.std.proofs.Common.{◌≡◌, ℕ, ◌+◌, ◌<◌, ◌≤◌, List, [], length, set, ap, inl, inr, arith}
 use Rattle.std.proofs.Common.{get_or-set_other, get_or-set_same}
 use Rattle.std.proofs.lemmas.Bool.{cases_eq}
@@ -6,7 +6,7 @@ use Rattle.std.proofs.lemmas.List.{length-set}
 use Rattle.std.proofs.lemmas.List.Sums.{sum_by-set}
 use Rattle.exam_model.specs.Enrolments.{Enrolled, AreEnrolments, AreNumbers, IsAscending, students, pair_count}
 
--- so many pairs are there with these students in an exam that had none
+-- the number of pairs after these students are put into an empty exam
 pub pair_count-enrol : (E : Enrolled) (e : ℕ) (xs : List ℕ) → e < length E → students E e ≡ [] →
     pair_count (set E e xs) ≡ pair_count E + length xs
 pair_count-enrol E e xs lt none =
@@ -14,7 +14,7 @@ pair_count-enrol E e xs lt none =
     let empty : length (students E e) ≡ 0 = ap length none in
     omega arith
 
--- and they stay what every value of the type keeps
+-- the invariant of the type holds after it
 pub enrolments_enrol : (E : Enrolled) (e : ℕ) (xs : List ℕ) → e < length E → students E e ≡ [] →
     IsAscending xs → AreNumbers xs → pair_count E + length xs ≤ 200000 → AreEnrolments E →
     AreEnrolments (set E e xs)

@@ -1,4 +1,4 @@
--- What the lists of students are after a change, and with no pair.
+-- The lists of students after a change, and those of no pairs.
 use mathlib.Core.Bool.{true≢false}
 use Rattle.std.proofs.Common.{◌≡◌, ◌∙◌, eqb, ℕ, zero, suc, ◌+◌, ◌<◌, ◌≤◌, Bool, true, false, List, [], length, set, refl, subst, sym, inl, inr, arith, if◌then◌else◌}
 use Rattle.std.specs.Prelude.{◌==◌, ◌||◌, ◌&&◌, not, replicate}
@@ -26,7 +26,7 @@ students-none (suc n) (suc e) = students-none n e
 pub pair_count-none : (n : ℕ) → pair_count (replicate n []) ≡ 0
 pair_count-none n = let sums = sum_by-replicate {X = List ℕ} length n [] in omega arith
 
--- no pairs are enrolments
+-- the empty set of pairs satisfies the invariant
 pub enrolments_none : (n : ℕ) → 1 ≤ n → n ≤ 2000 → AreEnrolments (no_pairs n)
 enrolments_none n low high = record {
   exams = omega (arith, length-none n);
@@ -43,7 +43,7 @@ pub and-false : (a : Bool) → (a && false) ≡ false
 and-false true = refl
 and-false false = refl
 
--- the pairs after one exam's list is another one
+-- the number of pairs after one exam's list is replaced
 count_set : (E : Enrolled) (e s : ℕ) (new : List ℕ) → e < length E → Enters (students E e) new s
     → pair_count (set E e new) ≡ (if has E s e then pair_count E else pair_count E + 1)
 count_set E e s new lt enters =
@@ -56,7 +56,7 @@ count_set E e s new lt enters =
       | false ↦ λ e. let more = rw e at size in omega arith
     ] refl
 
--- a student put into one exam's list is a pair added
+-- a student added to one exam's list is a pair added
 pub adds_set : (E : Enrolled) (e s : ℕ) (new : List ℕ) → e < length E → Enters (students E e) new s
     → Adds E (set E e new) s e
 adds_set E e s new lt enters = record {
@@ -79,7 +79,7 @@ adds_set E e s new lt enters = record {
       let back : f ≡ e → ⊥ = λ q. other (sym q) in
       rw (ne_eqb e f other, get_or-set_other E e f new [] back, and-false (s == t)) refl
 
--- a number comes in, and one goes
+-- all numbers are in their range after one was added
 numbers_entered : (old new : List ℕ) (s : ℕ) → s ≤ 999999999 → Enters old new s → AreNumbers old
     → AreNumbers new
 numbers_entered old new s known enters was t is =
@@ -97,7 +97,7 @@ numbers_left : (old new : List ℕ) (s : ℕ) → Leaves old new s → AreNumber
 numbers_left old new s leaves was t is =
     was t (and_right (not (eqb s t)) (has_number old t) (sym (leaves.members t) ∙ is))
 
--- and keeps what every value of the type keeps, where there is room for a new pair
+-- the invariant of the type holds after it, if there is room for a new pair
 pub enrolments_set : (E : Enrolled) (e s : ℕ) (new : List ℕ) → e < length E → s ≤ 999999999
     → Enters (students E e) new s → (has E s e ≡ false → pair_count E < 200000) → AreEnrolments E
     → AreEnrolments (set E e new)
@@ -122,7 +122,7 @@ enrolments_set E e s new lt known enters room was = record {
     | false ↦ λ e'. let more = rw e' at (count_set E e s new lt enters) in omega (arith, room e')
   ] refl
 
--- a student taken out of one exam's list is a pair taken out
+-- a student removed from one exam's list is a pair removed
 pub removes_set : (E : Enrolled) (e s : ℕ) (new : List ℕ) → e < length E
     → Leaves (students E e) new s → Removes E (set E e new) s e
 removes_set E e s new lt leaves = record {
@@ -157,7 +157,7 @@ removes_set E e s new lt leaves = record {
         | false ↦ λ e. let more = rw e at size in omega arith
       ] refl
 
--- and keeps what every value of the type keeps
+-- the invariant of the type holds after it
 pub enrolments_left : (E : Enrolled) (e s : ℕ) (new : List ℕ) → e < length E
     → Leaves (students E e) new s → AreEnrolments E → AreEnrolments (set E e new)
 enrolments_left E e s new lt leaves was = record {

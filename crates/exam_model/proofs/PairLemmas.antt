@@ -1,4 +1,4 @@
--- What holds of the list of a set's pairs: by induction over the exams, from any number on.
+-- Facts about the list of a set's pairs: by induction over the exams, from any number on.
 use Rattle.std.proofs.Common.{◌≡◌, ℕ, zero, suc, ◌+◌, ◌<◌, ◌≤◌, Bool, true, false, List, [], ◌∷◌, ◌++◌, length, map, count_by, refl, ap, ap₂, sym, ◌∙◌, inl, inr, arith, if◌then◌else◌}
 use Rattle.std.specs.Prelude.{◌==◌, ◌||◌, ◌&&◌, All}
 use Rattle.std.specs.List.{list_any}
@@ -34,7 +34,7 @@ any_and p true (x ∷ xs) = ap₂ (λ a b. a || b) (and-true (p x)) (any_and p t
 any_and p false [] = refl
 any_and p false (x ∷ xs) = ap₂ (λ a b. a || b) (and-false (p x)) (any_and p false xs)
 
--- a pair is among an exam's if it is of that exam and of one of its students
+-- a pair is among an exam's if it has that exam and one of its students
 any_at : (s e f : ℕ) (xs : List ℕ)
     → list_any (is_pair s e) (pairs_at f xs) ≡ ((f == e) && has_number xs s)
 any_at s e f xs = any_map (is_pair s e) (λ t. pair f t) xs ∙ any_and (λ t. t == s) (f == e) xs
@@ -48,7 +48,7 @@ any_first s e f xs rest =
     list_any-append (is_pair s e) (pairs_at f xs) others
     ∙ ap (λ b. b || list_any (is_pair s e) others) (any_at s e f xs)
 
--- no pair is of an exam below the first
+-- no pair has an exam below the first
 any_below : (s e f : ℕ) (E : Enrolled) → e < f → list_any (is_pair s e) (pairs_from f E) ≡ false
 any_below s e f [] lt = refl
 any_below s e f (xs ∷ rest) lt =
@@ -75,8 +75,8 @@ count_all : (xs : List ℕ) → count_by (λ s. true) xs ≡ length xs
 count_all [] = refl
 count_all (x ∷ xs) = omega (arith, sum_by-cons (λ (s : ℕ). 1) x xs, count_all xs)
 
--- how many pairs of the exam have a student who passes the test: written out in the statements,
--- so that they are about the very counts of the law
+-- how many pairs of the exam have a student who passes the test: written out in the statements, so
+-- that they are about exactly the counts of the law
 count_at : (e f : ℕ) (t : ℕ → Bool) (xs : List ℕ)
     → count_by (λ p. (p.exam == e) && t p.student) (pairs_at f xs)
     ≡ count_by (λ s. (f == e) && t s) xs
@@ -93,7 +93,7 @@ count_first e f t xs rest =
     sum_by-append (λ p. if is p then 1 else 0) (pairs_at f xs) others
     ∙ ap (λ n. n + count_by is others) (count_at e f t xs)
 
--- none is of an exam below the first
+-- no pair of an exam below the first is counted
 count_below : (e f : ℕ) (t : ℕ → Bool) (E : Enrolled) → e < f
     → count_by (λ p. (p.exam == e) && t p.student) (pairs_from f E) ≡ 0
 count_below e f t [] lt = refl
@@ -128,7 +128,7 @@ above_first : (x : ℕ) (xs : List ℕ) → IsAscending (x ∷ xs) → All (λ y
 above_first x xs up =
     All-from_get_or (λ y. x < y) xs 0 (λ i lt. up 0 (suc i) (omega arith) (omega arith))
 
--- one exam's pairs, with pairs of greater exams behind them
+-- one exam's pairs, followed by pairs of greater exams
 ordered_at : (e : ℕ) (xs : List ℕ) (later : List Pair) → IsAscending xs
     → All (λ q. e < q.exam) later → AreInOrder later → AreInOrder (pairs_at e xs ++ later)
 ordered_at e [] later up above order = order
@@ -171,7 +171,7 @@ size_from e E =
     = λ i. count_by (λ p. and-true (p.exam == e) i) (pairs_of E) in
     sym same ∙ count_from e 0 e (λ s. true) E (omega arith) ∙ count_all (students E e)
 
--- the list of a set's pairs says of the set what it should
+-- the list of a set's pairs represents the set
 pub are_pairs : (E : Enrolled) → AreEnrolments E → ArePairsOf E (pairs_of E)
 are_pairs E is = record {
   members = λ s e. any_from s e 0 e E (omega arith);

@@ -1,4 +1,4 @@
--- What a search finds among ascending numbers, and what an insert at that place leaves.
+-- The results of a search among ascending numbers, and of an insert at the place found.
 use Rattle.std.proofs.Common.{◌≡◌, ℕ, suc, ◌+◌, ◌-◌, ◌<◌, ◌≤◌, Bool, true, false, List, [], ◌∷◌, ◌++◌, length, Result, Ok, Err, IfOk, IfErr, refl, ap, subst, sym, ◌∙◌, inl, inr, arith, take, drop}
 use Rattle.std.specs.Prelude.{◌==◌, ◌||◌, ◌&&◌, not, is_ok, slice_index}
 use Rattle.std.specs.List.{insert, remove, list_any}
@@ -19,7 +19,7 @@ pub rise : (xs : List ℕ) → IsAscending xs → (i j : ℕ) → i ≤ j → j 
     → slice_index xs i ≤ slice_index xs j
 rise xs up i j le lt = grind (arith, up i j, λ (same : i ≡ j). ap (slice_index xs) same)
 
--- what a binary search among ascending numbers answers
+-- the result of a binary search among ascending numbers
 pub searched_roll : (xs : List ℕ) (x : ℕ) (r : Result ℕ ℕ) → IsAscending xs
     → IsBinarySearchResult (λ y. nat_cmp y x) xs r
     → record { found : IfOk r (IsAt xs x); absent : IfErr r (IsGap xs x) }
@@ -40,7 +40,7 @@ has_gap xs x i gap = list_any_none _ xs (λ k d lt.
       | inr above ↦ ne_eqb _ _ (omega (arith, gap.after k above lt))
     ]))
 
--- a search tells whether a student is there
+-- a search finds a student exactly if the list has them
 pub has_searched : (xs : List ℕ) (x : ℕ) (r : Result ℕ ℕ) → IfOk r (IsAt xs x)
     → IfErr r (IsGap xs x) → is_ok r ≡ has_number xs x
 has_searched xs x (Ok at) found absent = sym (has_at xs x at found)
@@ -110,7 +110,7 @@ enters_again xs x i at up = record {
   ascending = up;
 }
 
--- the place of a student taken out is her gap
+-- the place of a removed student is the gap where they would go
 gap_remove : (xs : List ℕ) (x i : ℕ) → IsAt xs x i → IsAscending xs → IsGap (remove xs i) x i
 gap_remove xs x i at up = record {
   within = omega (arith, length-remove xs i at.within, at.within);
@@ -144,7 +144,7 @@ ascending_remove xs i lt up j k less within =
       up (j + 1) (k + 1),
     )
 
--- what was there is the one student, or is left
+-- each old element is the removed student or is left
 has_remove : (xs : List ℕ) (x i t : ℕ) → IsAt xs x i
     → has_number xs t ≡ ((x == t) || has_number (remove xs i) t)
 has_remove xs x i t at =
@@ -156,7 +156,7 @@ has_remove xs x i t at =
     ∙ or_middle (list_any p (take i xs)) (x == t) (list_any p (drop (suc i) xs))
     ∙ ap (λ b. (x == t) || b) (sym (list_any-append p (take i xs) (drop (suc i) xs)))
 
--- taking out a student who is there
+-- removing a student who is there
 pub leaves_remove : (xs : List ℕ) (x i : ℕ) → IsAt xs x i → IsAscending xs
     → Leaves xs (remove xs i) x
 leaves_remove xs x i at up = record {
@@ -170,7 +170,7 @@ leaves_remove xs x i at up = record {
   ascending = ascending_remove xs i at.within up;
 }
 
--- taking out a student who is not there changes nothing
+-- removing a student who is not there changes nothing
 pub leaves_again : (xs : List ℕ) (x i : ℕ) → IsGap xs x i → IsAscending xs → Leaves xs xs x
 leaves_again xs x i gap up = record {
   members = λ t. elim (x == t) as (λ b. (x == t) ≡ b

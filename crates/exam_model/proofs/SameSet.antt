@@ -8,7 +8,7 @@ use Rattle.exam_model.proofs.RollLemmas.{rise, has_gap}
 pub tail_ascends : (x : ℕ) (xs : List ℕ) → IsAscending (x ∷ xs) → IsAscending xs
 tail_ascends x xs up i j lt within = up (suc i) (suc j) (omega arith) (omega arith)
 
--- what is below the first is no member
+-- a number below the first is no member
 below_first : (x y : ℕ) (ys : List ℕ) → IsAscending (y ∷ ys) → x < y → has_number (y ∷ ys) x
     ≡ false
 below_first x y ys up lt = has_gap (y ∷ ys) x 0 (record {
@@ -17,7 +17,7 @@ below_first x y ys up lt = has_gap (y ∷ ys) x 0 (record {
   after = λ k le within. omega (arith, rise (y ∷ ys) up 0 k le within);
 })
 
--- nor is the first among the others
+-- the first is not among the others
 first_once : (x : ℕ) (xs : List ℕ) → IsAscending (x ∷ xs) → has_number xs x ≡ false
 first_once x [] up = refl
 first_once x (y ∷ ys) up =
@@ -62,7 +62,7 @@ same_list (x ∷ xs) (y ∷ ys) up up' same =
     (same_tails x xs ys up up2 same2) in
     ap (λ (zs : List ℕ). x ∷ zs) tails ∙ ap (λ (z : ℕ). z ∷ ys) head
 
--- as many exams and the same pairs: the same set
+-- equal numbers of exams and the same pairs: the same set
 pub same_set : (E F : Enrolled) → length E ≡ length F
     → ((e : ℕ) → e < length E → IsAscending (students E e))
     → ((e : ℕ) → e < length F → IsAscending (students F e)) → ((s e : ℕ) → has E s e ≡ has F s e)

@@ -1,4 +1,4 @@
--- What it leaves to put a student into an ascending list, or to take one out.
+-- The results of adding a student to an ascending list, and of removing one.
 use Rattle.std.proofs.Common.{◌≡◌, ◌≢◌, ◌∙◌, ℕ, zero, suc, ◌<◌, Bool, true, false, List, [], ◌∷◌, length, set, refl, ap, sym, inl, inr, arith, if◌then◌else◌}
 use Rattle.std.proofs.Common.{get_or-set_other, get_or-set_same}
 use Rattle.std.specs.Prelude.{◌==◌, ◌||◌, ◌&&◌, not, nat_lt, slice_index}
@@ -20,7 +20,7 @@ or_middle true true r = refl
 or_middle true false r = refl
 or_middle false b r = refl
 
--- the student goes before the first, or she is the first, or she goes behind her
+-- the student is less than the first, equal to the first, or greater than the first
 pub with_cases : (s u : ℕ) (us : List ℕ) (P : List ℕ → Type 0) →
     (s < u → P (s ∷ u ∷ us)) → (s ≡ u → P (u ∷ us)) → (u < s → P (u ∷ with_student s us)) →
     P (with_student s (u ∷ us))
@@ -38,7 +38,7 @@ with_cases s u us P before same behind =
           ] refl
     ] refl
 
--- she is a member, beside those from before
+-- the student is a member, and the old members stay
 pub has-with : (s : ℕ) (xs : List ℕ) (t : ℕ) →
     has_number (with_student s xs) t ≡ ((s == t) || has_number xs t)
 has-with s [] t = refl
@@ -49,7 +49,7 @@ has-with s (u ∷ us) t =
     (λ above. ap (λ b. (u == t) || b) (has-with s us t)
     ∙ or_middle (u == t) (s == t) (has_number us t))
 
--- what holds of her and of each member holds of all
+-- a fact about the student and about each member holds for all
 pub each_with : (P : ℕ → Type 0) (s : ℕ) (xs : List ℕ) → P s → AllByRecursion P xs →
     AllByRecursion P (with_student s xs)
 each_with P s [] own each = (own, tt)
@@ -59,7 +59,7 @@ each_with P s (u ∷ us) own each =
     (λ same. each)
     (λ behind. (each.0, each_with P s us own each.1))
 
--- every member is above x
+-- every member is greater than x
 abbrev pub Above : ℕ → List ℕ → Type 0
 Above x xs = (k : ℕ) → k < length xs → x < slice_index xs k
 
@@ -153,7 +153,7 @@ ascending-without s (u ∷ us) up =
           (above_without u s us (above_first u us up)) others
     ]
 
--- the list that she has entered, and the one that she has left
+-- the list that the student has entered, and the one that they have left
 pub entered : (s : ℕ) (old new : List ℕ) → IsAscending old → Enters old new s
     → new ≡ with_student s old
 entered s old new up enters =
@@ -166,7 +166,7 @@ left s old new up leaves =
     same_list new (without_student s old) leaves.ascending (ascending-without s old up)
     (λ t. leaves.members t ∙ sym (has-without s old t))
 
--- another student sits an exam as before, whatever its list becomes, where the list says so of her
+-- if a new list of an exam has a student as before, the student sits each exam as before
 has_in : (E : Enrolled) (e t : ℕ) (new : List ℕ) → has_number new t ≡ has_number (students E e) t →
     (f : ℕ) → has (set E e new) t f ≡ has E t f
 has_in E e t new same f = elim (cases_lt e (length E)) [
@@ -177,7 +177,7 @@ has_in E e t new same f = elim (cases_lt e (length E)) [
   | inr past ↦ rw (set_past E e new past) refl
 ]
 
--- so she sits the same exams
+-- the student then sits the same exams
 sat_in : (E : Enrolled) (e t : ℕ) (new : List ℕ) → has_number new t ≡ has_number (students E e) t →
     exams_sat (set E e new) t ≡ exams_sat E t
 sat_in E e t new same =

@@ -17,7 +17,7 @@ pub sum_by-same : {X : Type 0} (f g : X → ℕ) → ((x : X) → f x ≡ g x) �
     → sum_by f xs ≡ sum_by g xs
 sum_by-same f g h xs = λ i. sum_by (λ x. h x i) xs
 
--- term by term over the list alone
+-- two sums over a list with equal terms
 pub sum_by-agree : {X : Type 0} (f g : X → ℕ) → (xs : List X) → AllByRecursion (λ x. f x ≡ g x) xs
     → sum_by f xs ≡ sum_by g xs
 sum_by-agree f g [] h = refl
@@ -187,7 +187,7 @@ sum_pairs-le g m small (x ∷ xs) =
     let rest = sum_pairs-le g m small xs in
     omega arith
 
--- where the order in a pair is free, all pairs of places, in both orders
+-- if the order in a pair doesn't matter, all pairs of places, in both orders
 pub sum_pairs-twice : {X : Type 0} (g : X → X → ℕ) → ((x : X) → g x x ≡ 0)
     → ((x y : X) → g x y ≡ g y x) → (xs : List X)
     → sum_by (λ x. sum_by (g x) xs) xs ≡ sum_pairs g xs + sum_pairs g xs
@@ -202,7 +202,7 @@ sum_pairs-twice g none either (x ∷ xs) =
     let more = sum_pairs-twice g none either xs in
     omega arith
 
--- and the order of the list is free too
+-- the order of the list doesn't matter either
 pub sum_pairs-IsPermutation : {X : Type 0} (g : X → X → ℕ) → ((x : X) → g x x ≡ 0)
     → ((x y : X) → g x y ≡ g y x) → (xs ys : List X) → IsPermutation xs ys
     → sum_pairs g ys ≡ sum_pairs g xs
@@ -239,6 +239,6 @@ sum_below-le f m (suc n) h =
     let product = suc-mul n m in
     omega arith
 
--- one number more
+-- a sum with one more number
 pub sum_below_more : (f : ℕ → ℕ) (n : ℕ) → sum_below (n + 1) f ≡ sum_below n f + f n
 sum_below_more f n = rw add-one refl

@@ -17,11 +17,11 @@ has_number numbers n = list_any (λ k. k == n) numbers
 abbrev pub IsAscending : List ℕ → Type 0
 IsAscending xs = (i j : ℕ) → i < j → j < length xs → slice_index xs i < slice_index xs j
 
--- each is a number that a student can have
+-- each number is within the limit of students' numbers
 abbrev pub AreNumbers : List ℕ → Type 0
 AreNumbers xs = (s : ℕ) → has_number xs s ≡ true → s ≤ MAX_STUDENT
 
--- the students of an exam, and none where there is no such exam
+-- the students of an exam; none if there is no such exam
 abbrev pub students : Enrolled → ℕ → List ℕ
 students E e = slice_index_or E e []
 
@@ -41,14 +41,14 @@ shared E e f = count_by (λ s. has E s f) (students E e)
 abbrev pub pair_count : Enrolled → ℕ
 pair_count E = sum_by length E
 
--- what every value of the type keeps
+-- the invariant of the type
 pub record AreEnrolments (E : Enrolled) : Type 0 where
   pub exams : (1 ≤ length E) × (length E ≤ MAX_EXAMS)
   pub ascending : (e : ℕ) → e < length E → IsAscending (students E e)
   pub pairs : pair_count E ≤ MAX_PAIRS
   pub numbers : (e : ℕ) → AreNumbers (students E e)
 
--- no pairs, for so many exams
+-- no pairs, for this number of exams
 abbrev pub no_pairs : ℕ → Enrolled
 no_pairs exams = replicate exams []
 
@@ -64,13 +64,13 @@ pub record Removes (old new : Enrolled) (s e : ℕ) : Type 0 where
   pub exams : length new ≡ length old
   pub pairs : pair_count old ≡ (if has old s e then pair_count new + 1 else pair_count new)
 
--- why a pair is not added: no such exam, then no room for a pair that is new
+-- why a pair is not added: first, there is no such exam; then, there is no room for a new pair
 abbrev pub RefusesPair : Enrolled → ℕ → ℕ → ModelFault → Type 0
 RefusesPair E s e NoSuch = length E ≤ e
 RefusesPair E s e Range = (e < length E) × (has E s e ≡ false) × (pair_count E ≡ MAX_PAIRS)
 RefusesPair E s e NoMemory = Unit {0}
 
--- why students are not put into an exam that has none: there is no room for so many pairs
+-- why students are not put into an empty exam: there is no room for that many pairs
 abbrev pub RefusesAll : Enrolled → List ℕ → ModelFault → Type 0
 RefusesAll E xs NoSuch = ⊥
 RefusesAll E xs Range = MAX_PAIRS < pair_count E + length xs

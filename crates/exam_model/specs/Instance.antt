@@ -1,4 +1,4 @@
--- What an instance is: its exams, periods, rooms, rules and weights.
+-- The parts of an instance: its exams, periods, rooms, rules and weights.
 use Rattle.std.specs.Prelude.{ℕ, ◌<◌, List, length, All}
 use Rattle.exam_model.specs.Limits.{AreCounted, ExamInLimits, PeriodInLimits, RoomInLimits, WeightsInLimits}
 use Rattle.exam_model.specs.declared.parts.Exam.{Exam}
@@ -41,13 +41,13 @@ pub record InLimits (I : Session) : Type 0 where
   pub rooms : All RoomInLimits I.rooms
   pub weights : WeightsInLimits I.weights
 
--- both exams of a rule are among so many
+-- both exams of a rule are below a number of exams
 abbrev pub PeriodRuleExists : ℕ → PeriodRule → Type 0
 PeriodRuleExists n (After a b) = (a < n) × (b < n)
 PeriodRuleExists n (Coincidence a b) = (a < n) × (b < n)
 PeriodRuleExists n (Exclusion a b) = (a < n) × (b < n)
 
--- the exam of a rule is among so many
+-- the exam of a rule is below a number of exams
 abbrev pub RoomRuleExists : ℕ → RoomRule → Type 0
 RoomRuleExists n r = r.0 < n
 
@@ -56,12 +56,12 @@ pub record NumbersExist (I : Session) : Type 0 where
   pub period_rules : All (PeriodRuleExists (length I.exams)) I.period_rules
   pub room_rules : All (RoomRuleExists (length I.exams)) I.room_rules
 
--- what every instance keeps
+-- the invariant of every instance
 pub record IsInstance (I : Session) : Type 0 where
   pub limits : InLimits I
   pub numbers : NumbersExist I
 
--- why parts make no instance: a limit first, then a number
+-- why parts are not an instance: first, a limit fails; then, an exam doesn't exist
 abbrev pub RefusesSession : Session → ModelFault → Type 0
 RefusesSession I Range = InLimits I → ⊥
 RefusesSession I NoSuch = InLimits I × (NumbersExist I → ⊥)

@@ -11,35 +11,35 @@ use Rattle.exam_model.specs.declared.parts.Weights.{Weights}
 abbrev pub IsAmount : ℕ → Type 0
 IsAmount n = n ≤ MAX_AMOUNT
 
--- a length of time within one day
+-- a duration within one day
 abbrev pub IsMinutes : ℕ → Type 0
 IsMinutes n = n ≤ MAX_MINUTES
 
--- how long it lasts
+-- the duration is within the limit
 abbrev pub ExamInLimits : Exam → Type 0
 ExamInLimits e = IsMinutes e.minutes
 
--- a date of the calendar, a time of day, a length and a penalty
+-- the date, the time of day, the duration and the penalty are within their limits
 abbrev pub PeriodInLimits : Period → Type 0
 PeriodInLimits p =
     IsTrue (is_civil p.date) × (p.hour ≤ 23) × (p.minute ≤ 59) × (p.second ≤ 59)
     × IsMinutes p.length × IsAmount p.penalty
 
--- how many students it holds, and a penalty
+-- the capacity and the penalty are within their limits
 abbrev pub RoomInLimits : Room → Type 0
 RoomInLimits r = IsAmount r.capacity × IsAmount r.penalty
 
--- each weight, and each number of things that is weighed
+-- each weight, and each other number of the weighting, is within the limit
 abbrev pub WeightsInLimits : Weights → Type 0
 WeightsInLimits w =
     IsAmount w.row × IsAmount w.day × IsAmount w.spread × IsAmount w.mixed
-    × IsAmount w.front_exams × IsAmount w.front_periods × IsAmount w.front
+    × IsAmount w.front_exams × IsAmount w.front_periods × IsAmount w.front × IsAmount w.night
 
--- a number of things, at least one and at most the limit
+-- a count of at least one and at most the limit
 abbrev pub IsCount : ℕ → ℕ → Type 0
 IsCount limit n = (1 ≤ n) × (n ≤ limit)
 
--- so many exams, periods, rooms, rules on periods and rules on rooms
+-- the numbers of exams, periods, rooms, rules on periods and rules on rooms are within their limits
 abbrev pub AreCounted : ℕ → ℕ → ℕ → ℕ → ℕ → Type 0
 AreCounted exams periods rooms period_rules room_rules =
     IsCount MAX_EXAMS exams × IsCount MAX_PERIODS periods × IsCount MAX_ROOMS rooms

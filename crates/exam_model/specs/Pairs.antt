@@ -3,7 +3,7 @@ use Rattle.std.specs.Prelude.{◌≡◌, ℕ, ◌+◌, ◌<◌, ◌⊎◌, Bool,
 use Rattle.std.specs.List.{list_any}
 use Rattle.exam_model.specs.Enrolments.{Enrolled, has, size_of, shared, pair_count}
 
--- a student and an exam that she sits
+-- a student and an exam that they sit
 pub record Pair : Type 0 where
   pub exam : ℕ
   pub student : ℕ
@@ -25,15 +25,15 @@ pairs_of E = pairs_from 0 E
 abbrev pub is_pair : ℕ → ℕ → Pair → Bool
 is_pair s e p = (p.student == s) && (p.exam == e)
 
--- of a smaller exam, or of the same exam and a smaller student
+-- p has a smaller exam than q, or the same exam and a smaller student
 abbrev pub ComesBefore : Pair → Pair → Type 0
 ComesBefore p q = (p.exam < q.exam) ⊎ ((p.exam ≡ q.exam) × (p.student < q.student))
 
--- each pair comes before all later ones, so none is there twice
+-- each pair comes before all later ones, so no pair is there twice
 abbrev pub AreInOrder : List Pair → Type 0
 AreInOrder pairs = AllPairs ComesBefore pairs
 
--- what the list of pairs says of the set
+-- the list of pairs represents the set
 pub record ArePairsOf (E : Enrolled) (pairs : List Pair) : Type 0 where
   pub members : (s e : ℕ) → list_any (is_pair s e) pairs ≡ has E s e
   pub count : length pairs ≡ pair_count E

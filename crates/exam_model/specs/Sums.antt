@@ -1,4 +1,4 @@
--- Sums over numbers, over pairs of numbers, and over pairs of places of a list.
+-- Sums over numbers, over pairs of numbers, and over pairs of indexes of a list.
 use Rattle.std.specs.Prelude.{ℕ, zero, suc, ◌+◌, Bool, if◌then◌else◌, List, [], ◌∷◌, sum_by}
 
 -- g summed over the numbers below n
@@ -10,7 +10,7 @@ sum_below (suc n) g = sum_below n g + g n
 abbrev pub sum_pairs_below : ℕ → (ℕ → ℕ → ℕ) → ℕ
 sum_pairs_below n g = sum_below n (λ f. sum_below f (λ e. g e f))
 
--- g summed over all pairs of places of a list, the earlier place first
+-- g summed over all pairs of elements of a list, the earlier one first
 abbrev pub sum_pairs : {X : Type 0} → (X → X → ℕ) → List X → ℕ
 sum_pairs g [] = 0
 sum_pairs g (x ∷ xs) = sum_by (g x) xs + sum_pairs g xs

@@ -3,7 +3,7 @@ use Rattle.std.specs.Prelude.{◌≡◌, ℕ, ◌<◌, ◌≤◌, List, length, 
 use Rattle.exam_terms.specs.declared.limits.TheConstants.{MAX_EXAMS}
 use Rattle.exam_terms.specs.declared.place.Place.{Place}
 
--- at each exam's number its place, if it has one
+-- each exam's place, if it has one, at the exam's number
 abbrev pub Placing : Type 0
 Placing = List (Option Place)
 
@@ -11,11 +11,11 @@ Placing = List (Option Place)
 abbrev pub place_of : Placing → ℕ → Option Place
 place_of T e = slice_index_or T e None
 
--- a timetable of so many exams, none of which is placed
+-- a timetable of this many exams, none of which is placed
 abbrev pub unplaced : ℕ → Placing
 unplaced exams = replicate exams None
 
--- a number of exams that a timetable may have
+-- the number of exams is within the limits of a timetable
 abbrev pub HasExams : Placing → Type 0
 HasExams T = (1 ≤ length T) × (length T ≤ MAX_EXAMS)
 

@@ -27,7 +27,7 @@ impl Model for Enrolments {
 }
 
 impl Enrolments {
-    /// The empty set of pairs, for so many exams. Only memory can be refused.
+    /// Returns the empty set of pairs, for this many exams. `Err` is only `NoMemory`.
     pub fn new(alloc: Global, exams: u32) -> Result<Enrolments, ModelFault>
         requires at_least { 1 ≤ exams }
         requires at_most { exams ≤ MAX_EXAMS }
@@ -44,7 +44,7 @@ impl Enrolments {
         Ok(Enrolments { rolls, pairs: 0 })
     }
 
-    /// The same pairs once more.
+    /// Returns a copy with the same pairs.
     pub fn copy(&self, alloc: Global) -> Result<Enrolments, AllocError>
         ensures same { IfOk result (λ made. made ≡ self.now) }
         ensures kept { IfOk result AreEnrolments }
@@ -59,7 +59,7 @@ impl Enrolments {
         })
     }
 
-    /// How many exams there are, as `new` was told.
+    /// Returns how many exams there are, as passed to `new`.
     pub fn exams(&self) -> u32
         ensures count { result ≡ length self.now }
         ensures kept { AreEnrolments self.now }
@@ -67,7 +67,7 @@ impl Enrolments {
         self.rolls.len() as u32
     }
 
-    /// How many pairs there are.
+    /// Returns how many pairs there are.
     pub fn pairs(&self) -> u32
         ensures count { result ≡ pair_count self.now }
         ensures kept { AreEnrolments self.now }
@@ -75,7 +75,7 @@ impl Enrolments {
         self.pairs // counted by `add`
     }
 
-    /// The students of an exam, ascending.
+    /// Returns the students of an exam, ascending.
     pub fn students(&self, exam: ExamNo) -> &[StudentNo]
         requires exists { exam < length self.now }
         ensures all { result.now ≡ students self.now exam }
@@ -84,7 +84,7 @@ impl Enrolments {
         self.rolls[exam.get() as usize].as_slice()
     }
 
-    /// Whether the student sits the exam.
+    /// Returns whether the student sits the exam.
     pub fn has(&self, student: StudentNo, exam: ExamNo) -> bool
         requires exists { exam < length self.now }
         ensures { result ≡ has self.now student exam }
@@ -92,7 +92,7 @@ impl Enrolments {
         self.rolls[exam.get() as usize].has(student)
     }
 
-    /// How many students sit the exam.
+    /// Returns how many students sit the exam.
     #[tactic(auto, using(crate::proofs::EnrolmentLemmas::size_facts))]
     pub fn size(&self, exam: ExamNo) -> u32
         requires exists { exam < length self.now }
@@ -103,7 +103,7 @@ impl Enrolments {
         self.students(exam).len() as u32
     }
 
-    /// How many students sit both exams.
+    /// Returns how many students sit both exams.
     #[tactic(auto, using(crate::proofs::EnrolmentLemmas::size_facts))]
     pub fn shared(&self, exam: ExamNo, other: ExamNo) -> u32
         requires exists { exam < length self.now }
@@ -121,9 +121,9 @@ impl Enrolments {
         both as u32
     }
 
-    /// Adds a pair, and answers whether it is new. `NoSuch` comes where there is no such exam,
-    /// else `Range` for a new pair where 200,000 are there, else `NoMemory`. A student moves all
-    /// greater ones of the exam, so it is quick where they come in ascending order.
+    /// Adds a pair, and returns whether it is new. `NoSuch`: there is no such exam; then `Range`:
+    /// the pair is new and there are 200,000; then `NoMemory`. Adding moves all greater students of
+    /// the exam, so it is fast if they come in ascending order.
     pub fn add(&mut self, student: StudentNo, exam: ExamNo) -> Result<bool, ModelFault>
         ensures fresh { IfOk result (λ fresh. fresh ≡ not (has self.old student exam)) }
         ensures exists { OnOk result (exam < length self.old) }
@@ -148,7 +148,8 @@ impl Enrolments {
         Ok(fresh)
     }
 
-    /// Takes a pair out, and answers whether it was there; the exam's greater students move.
+    /// Removes a pair, and returns whether it was there. Removing moves the exam's greater
+    /// students.
     pub fn remove(&mut self, student: StudentNo, exam: ExamNo) -> bool
         requires exists { exam < length self.old }
         ensures removed { result ≡ has self.old student exam }
@@ -163,8 +164,8 @@ impl Enrolments {
         removed
     }
 
-    /// Puts ascending students into an exam that has none. `Range` comes where more than 200,000
-    /// pairs would be there, else `NoMemory`.
+    /// Puts ascending students into an exam that has none. `Range`: there would be more than
+    /// 200,000 pairs; then `NoMemory`.
     pub fn enrol(&mut self, sitters: &[StudentNo], exam: ExamNo) -> Result<(), ModelFault>
         requires exists { exam < length self.old }
         requires empty { students self.old exam ≡ [] }

@@ -1,4 +1,4 @@
-// Why a value of a session is refused.
+// Why a part of a session is refused.
 ghost use Rattle.std.specs.Prelude.{◌≡◌};
 ghost use Rattle.exam_model.specs.declared.fault.ModelFault.TheVariants.{NoMemory};
 
@@ -7,11 +7,11 @@ use std::alloc::AllocError;
 /// Why a part of the model is refused.
 #[derive(Clone, Copy, Debug, PartialEq, Eq)]
 pub enum ModelFault {
-    /// A number or a count is beyond its limit, or there is no such date.
+    /// A number or a count is beyond its limit, or a date doesn't exist.
     Range = 1,
-    /// A number names nothing that exists.
+    /// A number refers to nothing that exists.
     NoSuch = 2,
-    /// Memory was refused.
+    /// Out of memory.
     NoMemory = 3,
 }
 

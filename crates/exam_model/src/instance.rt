@@ -34,8 +34,8 @@ impl Model for Instance {
 }
 
 impl Instance {
-    /// The instance of these lists, which are copied. `Range` comes where a limit doesn't hold,
-    /// and else `NoSuch` where a rule names an exam that doesn't exist, and else `NoMemory`.
+    /// Returns the instance of these lists, which are copied. `Range`: a limit doesn't hold; then
+    /// `NoSuch`: a rule names an exam that doesn't exist; then `NoMemory`.
     pub fn new(
         alloc: Global,
         exams: &[Exam],
@@ -67,8 +67,8 @@ impl Instance {
         })
     }
 
-    /// The instance of these lists, whose limits were judged before, and whose rules name exams
-    /// that exist.
+    /// Returns the instance of these lists. Their limits are already checked, and their rules name
+    /// only exams that exist.
     pub fn of(
         exams: Vec<Exam>,
         periods: Vec<Period>,
@@ -92,7 +92,7 @@ impl Instance {
         }
     }
 
-    /// The exam of that number, as it was given.
+    /// Returns the exam with that number, as it was passed.
     pub fn exam(&self, exam: ExamNo) -> Exam
         requires exists { exam < length self.now.exams }
         ensures { slice_get self.now.exams exam ≡ Some result }
@@ -100,7 +100,7 @@ impl Instance {
         self.exams[exam.get() as usize]
     }
 
-    /// The period of that number, as it was given.
+    /// Returns the period with that number, as it was passed.
     pub fn period(&self, period: PeriodNo) -> Period
         requires exists { period < length self.now.periods }
         ensures { slice_get self.now.periods period ≡ Some result }
@@ -108,7 +108,7 @@ impl Instance {
         self.periods[period.get() as usize]
     }
 
-    /// The room of that number, as it was given.
+    /// Returns the room with that number, as it was passed.
     pub fn room(&self, room: RoomNo) -> Room
         requires exists { room < length self.now.rooms }
         ensures { slice_get self.now.rooms room ≡ Some result }
@@ -116,7 +116,7 @@ impl Instance {
         self.rooms[room.get() as usize]
     }
 
-    /// How many exams there are, 1 to 2,000.
+    /// Returns how many exams there are, 1 to 2,000.
     pub fn exams(&self) -> u32
         ensures count { result ≡ length self.now.exams }
         ensures kept { IsInstance self.now }
@@ -124,7 +124,7 @@ impl Instance {
         self.exams.len() as u32
     }
 
-    /// How many periods there are, 1 to 200.
+    /// Returns how many periods there are, 1 to 200.
     pub fn periods(&self) -> u32
         ensures count { result ≡ length self.now.periods }
         ensures kept { IsInstance self.now }
@@ -132,7 +132,7 @@ impl Instance {
         self.periods.len() as u32
     }
 
-    /// How many rooms there are, 1 to 200.
+    /// Returns how many rooms there are, 1 to 200.
     pub fn rooms(&self) -> u32
         ensures count { result ≡ length self.now.rooms }
         ensures kept { IsInstance self.now }
@@ -140,7 +140,7 @@ impl Instance {
         self.rooms.len() as u32
     }
 
-    /// A place's entry in a table with a line of rooms for each period.
+    /// Returns the index of a place in a table with a row of rooms for each period.
     pub fn slot_of(&self, place: Place) -> usize
         requires period { place.period < length self.now.periods }
         requires room { place.room < length self.now.rooms }
@@ -153,7 +153,7 @@ impl Instance {
         period * self.rooms() as usize + room
     }
 
-    /// The rules on periods in the order in which they were given; at most 5,000.
+    /// Returns the rules on periods in the order in which they were passed; at most 5,000.
     pub fn period_rules(&self) -> &[PeriodRule]
         ensures rules { result.now ≡ self.now.period_rules }
         ensures kept { IsInstance self.now }
@@ -161,7 +161,7 @@ impl Instance {
         &self.period_rules
     }
 
-    /// The rules on rooms in the order in which they were given; at most 5,000.
+    /// Returns the rules on rooms in the order in which they were passed; at most 5,000.
     pub fn room_rules(&self) -> &[RoomRule]
         ensures rules { result.now ≡ self.now.room_rules }
         ensures kept { IsInstance self.now }
@@ -169,7 +169,7 @@ impl Instance {
         &self.room_rules
     }
 
-    /// What the institution weighs, each 0 to 100,000.
+    /// Returns the weights of the institution, each 0 to 100,000.
     pub fn weights(&self) -> Weights
         ensures weights { result ≡ self.now.weights }
         ensures kept { IsInstance self.now }

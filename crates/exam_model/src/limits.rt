@@ -1,4 +1,4 @@
-// The tests behind `Instance::new`.
+// The checks of `Instance::new`.
 ghost use Rattle.std.specs.Prelude.{◌↔◌, ◌≤◌, length, IsTrue, All};
 ghost use Rattle.exam_model.specs.Limits.{AreCounted, IsCount, ExamInLimits, PeriodInLimits, RoomInLimits, WeightsInLimits};
 ghost use Rattle.exam_model.specs.Instance.{session, InLimits, PeriodRuleExists, RoomRuleExists};
@@ -31,6 +31,7 @@ impl Weights {
             && self.front_exams <= MAX_AMOUNT
             && self.front_periods <= MAX_AMOUNT
             && self.front <= MAX_AMOUNT
+            && self.night <= MAX_AMOUNT
     }
 }
 
@@ -45,7 +46,7 @@ impl PeriodRule {
     }
 }
 
-/// Whether every limit holds of the parts of a session.
+/// Returns whether the parts of a session are within all limits.
 pub(crate) fn in_limits(
     exams: &[Exam],
     periods: &[Period],
@@ -96,7 +97,7 @@ fn each_in_limits(exams: &[Exam], periods: &[Period], rooms: &[Room]) -> bool
             .all(|r| r.capacity <= MAX_AMOUNT && r.penalty <= MAX_AMOUNT)
 }
 
-/// Whether every exam that a rule names is one of so many.
+/// Returns whether every exam that a rule names is below the number of exams.
 pub(crate) fn numbers_exist(
     exams: usize,
     period_rules: &[PeriodRule],

@@ -1,14 +1,14 @@
 // Exams, periods, rooms and weights (ITC 2007, input format).
 use exam_calendar::Date;
 
-/// An exam: how long it lasts, 0 to 1,440 minutes.
+/// An exam: its duration, 0 to 1,440 minutes.
 #[derive(Clone, Copy, Debug, PartialEq, Eq)]
 pub struct Exam {
     pub minutes: u32,
 }
 
-/// A period: when it begins, how many minutes it has (0 to 1,440), and what an exam in it
-/// costs (0 to 100,000). Its date exists. Periods needn't stand in the order of time.
+/// A period: its start, its length (0 to 1,440 minutes), and what an exam in it costs (0 to
+/// 100,000). Its date exists. Periods needn't be in chronological order.
 #[derive(Clone, Copy, Debug, PartialEq, Eq)]
 pub struct Period {
     pub date: Date,
@@ -26,14 +26,14 @@ pub struct Room {
     pub penalty: u32,
 }
 
-/// What the institution weighs (ITC 2007, institutional model index); each 0 to 100,000.
+/// The weights of the institution (ITC 2007, institutional model index); each 0 to 100,000.
 #[derive(Clone, Copy, Debug, PartialEq, Eq)]
 pub struct Weights {
     /// For two exams in a row.
     pub row: u32,
     /// For two exams in a day.
     pub day: u32,
-    /// Over how many periods a student's exams are to be spread.
+    /// The number of periods over which a student's exams are to be spread.
     pub spread: u32,
     /// For each further duration in a room and period.
     pub mixed: u32,
@@ -43,4 +43,6 @@ pub struct Weights {
     pub front_periods: u32,
     /// For each of the largest exams in a late period.
     pub front: u32,
+    /// For two exams in adjacent periods whose dates are one day apart.
+    pub night: u32,
 }

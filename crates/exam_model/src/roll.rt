@@ -43,7 +43,7 @@ impl Roll {
         &self.students
     }
 
-    // Puts ascending students into a roll that has none.
+    // Puts ascending students into an empty roll.
     pub(crate) fn fill(&mut self, students: &[StudentNo]) -> Result<(), AllocError>
         requires empty { self.old ≡ [] }
         requires ascending { IsAscending students.now }
@@ -62,7 +62,7 @@ impl Roll {
         self.search(student).is_ok()
     }
 
-    // Puts a student in, and answers whether she is new.
+    // Adds a student, and returns whether they are new.
     #[tactic(auto, using(crate::proofs::RollLemmas::roll_facts))]
     pub(crate) fn add(&mut self, student: StudentNo) -> Result<bool, AllocError>
         ensures fresh { IfOk result (λ fresh. fresh ≡ not (has_number self.old student)) }
@@ -76,7 +76,7 @@ impl Roll {
         Ok(true)
     }
 
-    // Takes a student out, and answers whether she was there.
+    // Removes a student, and returns whether they were there.
     #[tactic(auto, using(crate::proofs::RollLemmas::roll_facts))]
     pub(crate) fn remove(&mut self, student: StudentNo) -> bool
         ensures removed { result ≡ has_number self.old student }
@@ -91,7 +91,7 @@ impl Roll {
         }
     }
 
-    // Where the student is, or where she would go.
+    // Returns the index of the student, or the index where they would go.
     fn search(&self, student: StudentNo) -> Result<usize, usize>
         ensures found { IfOk result (IsAt self.now student) }
         ensures absent { IfErr result (IsGap self.now student) }

@@ -12,6 +12,6 @@ pub enum PeriodRule {
     Exclusion(ExamNo, ExamNo),
 }
 
-/// The exam that wants its room for itself.
+/// An exam that must have its room to itself.
 #[derive(Clone, Copy, Debug, PartialEq, Eq)]
 pub struct RoomRule(pub ExamNo);

@@ -7,7 +7,7 @@ use exam_terms::{ExamNo, Place};
 use std::alloc::{AllocError, Global};
 use std::marker::Model;
 
-/// Where each of 1 to 2,000 exams stands, if it stands anywhere.
+/// The place of each of 1 to 2,000 exams, if it has one.
 #[derive(Debug, Drop)]
 pub struct Timetable {
     places: Vec<Option<Place>>,
@@ -22,7 +22,7 @@ impl Model for Timetable {
 }
 
 impl Timetable {
-    /// The timetable of so many exams in which none is placed.
+    /// Returns the timetable of this many exams, none of which is placed.
     pub fn new(alloc: Global, exams: u32) -> Result<Timetable, AllocError>
         requires at_least { 1 ≤ exams }
         requires at_most { exams ≤ MAX_EXAMS }
@@ -32,7 +32,7 @@ impl Timetable {
         Ok(Timetable { places })
     }
 
-    /// The same timetable once more.
+    /// Returns a copy of the timetable.
     pub fn copy(&self, alloc: Global) -> Result<Timetable, AllocError>
         ensures same { IfOk result (λ made. made ≡ self.now) }
         ensures kept { IfOk result HasExams }
@@ -41,7 +41,7 @@ impl Timetable {
         Ok(Timetable { places })
     }
 
-    /// How many exams there are, placed or not.
+    /// Returns how many exams there are, placed or not.
     pub fn exams(&self) -> u32
         ensures count { result ≡ length self.now }
         ensures kept { HasExams self.now }
@@ -49,7 +49,7 @@ impl Timetable {
         self.places.len() as u32
     }
 
-    /// Where the exam stands.
+    /// Returns the exam's place, if it has one.
     pub fn get(&self, exam: ExamNo) -> Option<Place>
         requires exists { exam < length self.now }
         ensures { result ≡ place_of self.now exam }
@@ -57,7 +57,7 @@ impl Timetable {
         self.places[exam.get() as usize]
     }
 
-    /// Places the exam, wherever it stood before.
+    /// Places the exam, whether or not it had a place.
     pub fn set(&mut self, exam: ExamNo, place: Place)
         requires exists { exam < length self.old }
         ensures { self.new ≡ slice_set self.old exam (Some place) }
@@ -66,7 +66,7 @@ impl Timetable {
         self.places[at] = Some(place);
     }
 
-    /// Takes the exam's place away, if it has one.
+    /// Removes the exam's place, if it has one.
     pub fn clear(&mut self, exam: ExamNo)
         requires exists { exam < length self.old }
         ensures { self.new ≡ slice_set self.old exam None }
@@ -75,7 +75,7 @@ impl Timetable {
         self.places[cleared] = None;
     }
 
-    /// The smallest exam without a place; none where each exam has one.
+    /// Returns the smallest exam without a place; `None` if each exam has one.
     pub fn complete(&self) -> Option<ExamNo>
         ensures none { IfNone result ((e : ℕ) → e < length self.now
             → IsSome (place_of self.now e)) }

@@ -54,7 +54,7 @@ returns-in_err-fresh-clause-kept c = (invariant_of-self-in_err-fresh c).0
 pub overflow_add-self : goal.overflow_add-self
 overflow_add-self c = one_more_fits c.self.inside.rolls.items c.self.inside.pairs c.self.invariant
 
--- no pair is added where 200,000 are there: the student would have to be there too
+-- no pair is added if there are 200,000: the student would have to be there too
 pub invariant_of-self-then-fresh : goal.invariant_of-self-then-fresh
 invariant_of-self-then-fresh c =
     let absent : has_number c.in-Some.roll.now c.args.student ≡ false =
