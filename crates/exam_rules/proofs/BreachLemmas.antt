@@ -1,4 +1,4 @@
--- The list of all breaches: it is in order, and has just the breaches.
+-- The list of all breaches: it is in order, and has exactly the breaches.
 use Rattle.std.specs.List.{AllByRecursion, flat_map}
 use Rattle.std.specs.List.Sorted.{IsStrictlySortedBy}
 use Rattle.std.specs.Ordering.{nat_cmp, ordering_then}
@@ -32,7 +32,7 @@ each_all P h (x ∷ xs) = (h x, each_all P h xs)
 
 -- ---- the order
 
--- two breaches of one rule stand as their exams do
+-- two breaches of one rule are in the order of their exams
 same_rule : (r : BreachRule) (p q : ExamPair) → exam_pair_cmp p q ≡ Less
     → breach_cmp (breach r p) (breach r q) ≡ Less
 same_rule r p q less = ap (λ o. ordering_then o (exam_pair_cmp p q)) (equal (rank_of r)) ∙ less
@@ -40,7 +40,7 @@ same_rule r p q less = ap (λ o. ordering_then o (exam_pair_cmp p q)) (equal (ra
     equal : (n : ℕ) → nat_cmp n n ≡ Equal
     equal n = grind (arith, nat_tests)
 
--- of two rules the earlier comes first
+-- the breach of the earlier rule comes first
 earlier_rule : (a b : Breach) → rank_of a.rule < rank_of b.rule → breach_cmp a b ≡ Less
 earlier_rule a b lt =
     ap (λ o. ordering_then o (ordering_then (nat_cmp a.exam b.exam) (nat_cmp a.other b.other)))
@@ -60,12 +60,12 @@ block_sorted r (p ∷ ps) up = (
   block_sorted r ps up.1,
 )
 
--- the rules rise, from a rank on
+-- the ranks of the rules rise, from a rank on
 abbrev Rise : ℕ → List BreachRule → Type 0
 Rise n [] = Unit {0}
 Rise n (r ∷ rs) = (n ≤ rank_of r) × Rise (rank_of r + 1) rs
 
--- the breaches that a function gives for each of some rules
+-- the breaches that a function returns for each of some rules
 abbrev blocks : (BreachRule → List ExamPair) → List BreachRule → List Breach
 blocks f rs = flat_map (λ r. map (breach r) (f r)) rs
 
@@ -172,7 +172,7 @@ breaches_have I E T same b = (
       (breaking_exist I E T b.rule (length I.exams) same b.exam b.other h) h)),
 )
 
--- one rule more
+-- the list with one more rule
 pub next_rule : (f : BreachRule → List ExamPair) (done : List BreachRule)
     (r : BreachRule) {x y : List Breach} {ps : List ExamPair}
     → x ≡ flat_map (λ r. map (breach r) (f r)) done → y ≡ x ++ map (breach r) ps → ps ≡ f r

@@ -32,7 +32,7 @@ pass_right x y (z ∷ zs) ys lt up =
     ap₂ (λ a b. (a || has_number ys x) || b) (ne_eqb y x (omega arith))
     (pass_right z y zs ys (omega arith) (tail_up x (z ∷ zs) up))
 
--- students are shared where one of the first exam's is in the second
+-- two exams share students exactly if some student of the first is in the second
 pub shared_any : (p : ℕ → Bool) (xs : List ℕ) → nat_lt 0 (count_by p xs) ≡ list_any p xs
 shared_any p [] = refl
 shared_any p (x ∷ xs) =
@@ -43,7 +43,7 @@ shared_any p (x ∷ xs) =
     go true n = grind (arith, nat_tests)
     go false n = grind (arith, nat_tests)
 
--- what a walk keeps: whether students are common, and both lists ascending
+-- the invariant of a walk: whether students are common, and both lists ascending
 pub record IsWalked (left right : List ℕ) (common : Bool) : Type 0 where
   pub same : list_any (λ s. has_number right s) left ≡ common
   pub left_rises : IsAscending left
@@ -81,12 +81,12 @@ step_right left right xs ys x y common l r lt was =
       right_rises = tail_up y ys down;
     }
 
--- nobody is common with an empty list
+-- no student is common with an empty list
 pub none_common : (left : List ℕ) → list_any (λ s. has_number [] s) left ≡ false
 none_common [] = refl
 none_common (x ∷ xs) = none_common xs
 
--- a list of no length is empty
+-- a list of length 0 is empty
 pub empty_list : (xs : List ℕ) → length xs ≡ 0 → xs ≡ []
 empty_list [] e = refl
 empty_list (x ∷ xs) e = absurd (omega arith)

@@ -1,4 +1,4 @@
--- All pairs of exams in order, and the list that a test leaves of them.
+-- All pairs of exams in order, and the list of those that pass a test.
 use Rattle.std.specs.List.{AllByRecursion, list_any, flat_map, range_with_len}
 use Rattle.std.specs.List.Sorted.{IsStrictlySortedBy}
 use Rattle.std.proofs.Common.{◌≡◌, ℕ, zero, suc, ◌+◌, ◌<◌, ◌≤◌, Bool, true, false, cond, ◌&&◌, nat_lt, List, [], ◌∷◌, map, filter, Contains, Less, inl, inr, refl, sym, ◌∙◌, ap, ap₂, subst, arith}
@@ -95,7 +95,7 @@ passing_sorted test n =
     IsStrictlySortedBy-filter exam_pair_cmp (λ p. test p.exam p.other) (exam_pairs n)
     (rows_sorted n 0 n)
 
--- they do pass
+-- each of them passes
 pub passing_only : (test : ℕ → ℕ → Bool) (n : ℕ) (p : ExamPair) → Contains (passing test n) p
     → test p.exam p.other ≡ true
 passing_only test n p h =
@@ -103,7 +103,7 @@ passing_only test n p h =
     All-contains (λ q. pass q ≡ true) (filter pass (exam_pairs n)) p
     (filter_passes pass (exam_pairs n)) h
 
--- and all that pass are there
+-- each pair that passes is in the list
 pub passing_all : (test : ℕ → ℕ → Bool) (n : ℕ) (p : ExamPair) → (p.exam < n) × (p.other < n)
     → test p.exam p.other ≡ true → Contains (passing test n) p
 passing_all test n p exist passes =
@@ -113,7 +113,7 @@ passing_all test n p exist passes =
     kept (λ (q : ExamPair). test q.exam q.other) (exam_pairs n) p
     (contains_from_any p.exam p.other (exam_pairs n) there) passes
 
--- a strictly sorted list with the members of one that has just the pairs that pass
+-- a strictly sorted list with the members of a list that has exactly the pairs that pass
 pub passing_is : (test : ℕ → ℕ → Bool) (n : ℕ) (found sorted : List ExamPair) → HasJust test n found
     → IsStrictlySortedBy exam_pair_cmp sorted
     → ((p : ExamPair) → Contains found p → Contains sorted p)

@@ -1,4 +1,4 @@
--- What a walk along a list has found so far.
+-- The pairs that a walk along a list has found so far.
 use Rattle.std.specs.List.{list_any}
 use Rattle.std.proofs.Common.{◌≡◌, ℕ, ◌+◌, ◌<◌, ◌≤◌, Bool, true, false, ◌&&◌, ◌||◌, ◌==◌, nat_lt, List, [], length, take, get_or, refl, sym, ◌∙◌, ap, ap₂, arith}
 use Rattle.std.proofs.lemmas.Bool.{and_from, lt-ltb}
@@ -9,8 +9,7 @@ use Rattle.exam_rules.specs.Breach.{is_pair, HasJust}
 use Rattle.exam_rules.specs.Lines.{are_both}
 use Rattle.exam_rules.specs.declared.exam_pair.ExamPair.{ExamPair}
 
--- what was there before, and along the first i elements the pairs that one of them names and
--- that pass a test
+-- the pairs from before, and those that one of the first i elements names and that pass a test
 pub record AreFound {X : Type 0} (names : ℕ → ℕ → X → Bool) (test : ℕ → ℕ → Bool)
     (before : List ExamPair) (xs : List X) (i : ℕ) (found : List ExamPair) : Type 0 where
   pub members : (e f : ℕ) → list_any (is_pair e f) found
@@ -79,7 +78,7 @@ pub smaller_first : (a b : ℕ) (test : ℕ → ℕ → Bool) (e f : ℕ) → a 
     → (((a == e) && (b == f)) && test a b) ≡ (are_both e f a b && (nat_lt e f && test e f))
 smaller_first a b test e f lt = grind (arith, nat_tests)
 
--- for the exams below i: the pairs of them that pass a test
+-- the pairs of exams below i that pass a test
 pub record AreFoundBelow (test : ℕ → ℕ → Bool) (i : ℕ) (found : List ExamPair) : Type 0 where
   pub members : (e f : ℕ) → list_any (is_pair e f) found ≡ (nat_lt e i && test e f)
 

@@ -15,7 +15,7 @@ use Rattle.exam_rules.proofs.MemberLemmas.{and_false, same_tests}
 use Rattle.exam_rules.proofs.NamingLemmas.{and_swap}
 use Rattle.exam_rules.proofs.PlaceLemmas.{placed_exists, its_place_exists}
 
--- a complete group has just the exams that stand in its period
+-- a complete group has exactly the exams that are in its period
 pub in_group : {T : Placing} {periods n : ℕ} {groups : List (List ℕ)}
     → AreGroups T periods n groups → length T ≡ n
     → (p f : ℕ) → p < periods → has_number (get_or groups p []) f ≡ stands_in T p f
@@ -39,7 +39,7 @@ group_exists {T} {periods} {n} {groups} are p within k d lt =
     let there = list_any_at (λ y. y == x) group k d lt (eq-eqb x x refl) in
     ltb-true x n (and_parts (nat_lt x n) (stands_in T p x) (sym (are.members p x within) ∙ there)).0
 
--- the pairs with an exam's group, as the rule on rooms says it
+-- the pairs with an exam's group, as the rule on rooms names them
 pub one_place_group : {T : Placing} {periods n : ℕ} {groups : List (List ℕ)}
     → AreGroups T periods n groups → length T ≡ n
     → (k : ℕ) (q : Place) → place_of T k ≡ Some q → q.period < periods → (e f : ℕ)
@@ -51,7 +51,7 @@ one_place_group {T} {periods} {n} {groups} are same k q placed within e f =
     (in_group are same q.period f within)
     ∙ at (k == e) refl
   where
-    -- one room and period is one period
+    -- the same room and period means the same period
     place_period : (o : Option Place) → where_both is_one_place (Some q) o
         ≡ (where_placed (λ x. q.period == x.period) o && where_both is_one_place (Some q) o)
     place_period None = refl
@@ -77,7 +77,7 @@ one_place_group {T} {periods} {n} {groups} are same k q placed within e f =
         (eqb-true k e is) here))
     at false is = and_false (stands_in T q.period f)
 
--- an exam without a place stands in no room with another
+-- an exam without a place is in no room with another
 pub no_place : (T : Placing) (k : ℕ) → place_of T k ≡ None → (e f : ℕ)
     → false ≡ ((k == e) && (not (e == f) && in_one_place T e f))
 no_place T k unplaced e f = at (k == e) refl
@@ -89,7 +89,7 @@ no_place T k unplaced e f = at (k == e) refl
         ∙ and_false (not (e == f)))
     at false is = refl
 
--- exams that stand in period k stand in one period
+-- exams that are in period k are in one period
 one_period : (k : ℕ) (p q : Option Place) → where_placed (λ x. k == x.period) p ≡ true
     → where_placed (λ x. k == x.period) q ≡ true
     → where_both (λ x y. x.period == y.period) p q ≡ true
@@ -98,7 +98,7 @@ one_period k (Some p) None h g = g
 one_period k (Some p) (Some q) h g =
     eq-eqb p.period q.period (sym (eqb-true k p.period h) ∙ eqb-true k q.period g)
 
--- two exams are in one of the groups where they stand in one period
+-- two exams are in one of the groups exactly if they are in one period
 pub in_one_group : {T : Placing} {periods n : ℕ} {groups : List (List ℕ)} (I : Session)
     → AreGroups T periods n groups → length T ≡ n
     → periods ≡ length I.periods → All (PlaceExists I) T → (e f : ℕ)

@@ -1,4 +1,4 @@
--- What is found first in a list in order is the least of all that could be found.
+-- The first hit in a list in order is the least of all possible hits.
 use Rattle.std.specs.List.{find}
 use Rattle.std.specs.List.Sorted.{IsStrictlySortedBy}
 use Rattle.std.proofs.Common.{◌≡◌, ℕ, Bool, true, false, cond, List, [], ◌∷◌, Option, Some, None, Contains, Ordering, Less, length, ◌⊎◌, inl, inr, refl, sym, ◌∙◌, ap, subst}
@@ -12,7 +12,7 @@ use Rattle.exam_rules.specs.declared.breach.Breach.{Breach}
 use Rattle.exam_rules.proofs.BreachLemmas.{breaches_have, breaches_sorted}
 use Rattle.exam_rules.proofs.OrderLemmas.{contains_head, contains_later, first_or_later, none_in_nil}
 
--- what is found in the list: nothing passes, or this passes and comes before all others that do
+-- the hit in the list: no element passes, or this one passes and comes before all others that do
 abbrev IsFirst : {X : Type 0} → (X → X → Ordering) → (X → Bool) → List X → Option X → Type 0
 IsFirst R p xs None = (y : _) → Contains xs y → p y ≡ false
 IsFirst R p xs (Some x) =
@@ -56,7 +56,7 @@ is_first {X} R p (x ∷ xs) up = here (is_first R p xs up.1) (p x) refl
             no : false ≡ true → ⊥
             no e = cc
 
--- the first breach in the list of all that names one of these exams is the least that does
+-- the first breach in the list of all that names one of these exams is the least of these
 pub least_found : (I : Session) (E : Enrolled) (T : Placing) (exams : List ℕ)
     → length T ≡ length I.exams
     → (found : Option Breach) → found ≡ least_breach_of I E T exams

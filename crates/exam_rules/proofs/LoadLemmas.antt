@@ -11,20 +11,20 @@ use Rattle.exam_rules.specs.Places.{where_placed, is_one_place, load_below}
 use Rattle.exam_rules.specs.Loads.{AreLoads}
 use Rattle.exam_model.proofs.PlaceLemmas.{slot_within}
 
--- an exam that does not stand at p
+-- an exam that is not placed at p
 other_place : (E : Enrolled) (T : Placing) (p : Place) (i : ℕ)
     → where_placed (is_one_place p) (place_of T i) ≡ false
     → load_below E T p (i + 1) ≡ load_below E T p i
 other_place E T p i elsewhere =
     rw add-one (ap (λ b. load_below E T p i + cond b (size_of E i) 0) elsewhere ∙ omega arith)
 
--- an exam that stands at p
+-- an exam that is placed at p
 this_place : (E : Enrolled) (T : Placing) (p : Place) (i : ℕ)
     → where_placed (is_one_place p) (place_of T i) ≡ true
     → load_below E T p (i + 1) ≡ load_below E T p i + size_of E i
 this_place E T p i here = rw add-one (ap (λ b. load_below E T p i + cond b (size_of E i) 0) here)
 
--- an exam at place q
+-- an exam that is placed at q
 pub loads_more : {E : Enrolled} {T : Placing} {periods rooms i : ℕ} {loads : List ℕ}
     {q : Place} {load : ℕ}
     → AreLoads E T periods rooms i loads → place_of T i ≡ Some q → q.period < periods

@@ -10,7 +10,7 @@ use Rattle.std.proofs.lemmas.Nat.Bits.{bit_at_or, bit_at-lt, bit_at_set_same}
 use Rattle.exam_model.specs.Enrolments.{has_number}
 use Rattle.exam_rules.specs.Marks.{marks_of, slot_of, Has}
 
--- of what is one of the first students
+-- a student among the first i + 1 is among the first i, or is the next one
 pub before_or_here : (students : List ℕ) (i x s : ℕ) → i < length students → x ≡ get_or students i x
     → has_number (take (i + 1) students) s ≡ true
     → (has_number (take i students) s ≡ true) ⊎ (x ≡ s)
@@ -35,7 +35,7 @@ more_left a b i h = bit_at_or a b i ∙ omega (arith, h, bit_at-lt b i)
 more_right : (a b i : ℕ) → bit_at b i ≡ 1 → bit_at (bit_or a b) i ≡ 1
 more_right a b i h = bit_at_or a b i ∙ omega (arith, h, bit_at-lt a i)
 
--- a student has one of the slots
+-- a student's slot exists
 pub slot_within : (slots s : ℕ) → 0 < slots → slot_of slots s < slots
 slot_within slots s some = omega (arith, some, and_le_r s (slots - 1))
 
@@ -89,7 +89,7 @@ marked_more {old} {students} {exam} {i} {slots} x so_far within here = record {
         ∙ ap (λ m. bit_at m (exam % 64)) (get_or-set_same slots at marks 0 slot)
         ∙ bit_at_set_same w64 (get_or slots at 0) (exam % 64) (omega arith)
 
--- the first i students have no marks, nor has one who had none before
+-- the first i students have no marks, nor does a student who had none before
 pub record AreCleared (old students : List ℕ) (i : ℕ) (slots : List ℕ) : Type 0 where
   pub some : 0 < length slots
   pub cleared : (s : ℕ) → has_number (take i students) s ≡ true → marks_of slots s ≡ 0
@@ -129,7 +129,7 @@ cleared_more {old} {students} {i} {slots} x so_far within here = record {
         ap (λ t. get_or after (slot_of (length slots) t) 0) (sym same)
         ∙ get_or-set_same slots at 0 0 slot
 
--- what is marked for one of the first i students
+-- the exams that are marked for one of the first i students
 pub record AreOf (slots students : List ℕ) (i all : ℕ) : Type 0 where
   pub each : (s e : ℕ) → has_number (take i students) s ≡ true
       → Has (marks_of slots s) e → Has all e

@@ -1,4 +1,4 @@
--- Whether any element of a list passes a test, along the ways in which lists are made.
+-- Whether any element of a list passes a test, for each way to make a list.
 use Rattle.std.specs.List.{list_any, flat_map, range_with_len, dedup}
 use Rattle.std.specs.Prelude.{nat_eq}
 use Rattle.std.proofs.lemmas.List.Kept.{Contains-dedup_nat, Contains-from_dedup}
@@ -48,7 +48,7 @@ any_and p false (x ∷ xs) =
     ap₂ (λ a b. a || b) (and_false (p x)) (any_and p false xs ∙ and_false (list_any p xs))
     ∙ sym (and_false (p x || list_any p xs))
 
--- of the elements that are e, it is e that counts
+-- of the elements, only e counts
 pub any_at : (e : ℕ) (t : ℕ → Bool) (xs : List ℕ)
     → list_any (λ k. (k == e) && t k) xs ≡ (list_any (λ k. k == e) xs && t e)
 any_at e t xs =
@@ -120,13 +120,13 @@ any_rows e f others exams =
     (λ k. (k == e) && list_any (λ x. x == f) (others k)) (λ k. any_row e f k (others k)) exams
     ∙ any_at e (λ k. list_any (λ x. x == f) (others k)) exams
 
--- two tests that follow from one another
+-- two tests that imply each other
 pub same_tests : (a b : Bool) → (a ≡ true → b ≡ true) → (b ≡ true → a ≡ true) → a ≡ b
 same_tests true b h k = sym (h refl)
 same_tests false true h k = k refl
 same_tests false false h k = refl
 
--- what is left of a list without its repeats passes where the list does
+-- an element of a list without its repeats passes exactly if one of the list does
 pub any_dedup : (p : ℕ → Bool) (xs : List ℕ) → list_any p (dedup nat_eq xs) ≡ list_any p xs
 any_dedup p xs =
     same_tests (list_any p (dedup nat_eq xs)) (list_any p xs)

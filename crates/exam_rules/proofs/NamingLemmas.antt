@@ -19,7 +19,7 @@ use Rattle.exam_rules.specs.declared.exam_pair.ExamPair.{ExamPair}
 
 -- ---- lines
 
--- of the exams of a line it names either or none
+-- a line on e and f names exam a exactly if a is e or f
 pub named_after : (a e f : ℕ) (line : PeriodRule) (b : Bool)
     → (is_after e f line && (is_one_of a e f && b))
     ≡ (is_after e f line && (line_names line a && b))
@@ -41,7 +41,7 @@ named_exclusion a e f (After x y) b = refl
 named_exclusion a e f (Coincidence x y) b = refl
 named_exclusion a e f (Exclusion x y) b = grind (arith, nat_tests)
 
--- what is said of the lines of a rule, so that each names just its own exams
+-- each line of a rule names only its own exams
 abbrev pub AreNamed : (ℕ → ℕ → PeriodRule → Bool) → Type 0
 AreNamed names = (a e f : ℕ) (line : PeriodRule) (b : Bool)
     → (names e f line && (is_one_of a e f && b)) ≡ (names e f line && (line_names line a && b))
@@ -53,7 +53,7 @@ pub line_skipped : (names : ℕ → ℕ → PeriodRule → Bool) → AreNamed na
 line_skipped names are a e f line b none =
     sym (are a e f line b ∙ ap (λ c. names e f line && (c && b)) none ∙ and_false (names e f line))
 
--- a line that does has pairs with it alone
+-- each pair of a line that names the exam is with that exam
 pub line_taken : (names : ℕ → ℕ → PeriodRule → Bool) → AreNamed names
     → (a e f : ℕ) (line : PeriodRule) (b : Bool)
     → line_names line a ≡ true → (names e f line && b) ≡ (names e f line && (is_one_of a e f && b))
@@ -68,17 +68,17 @@ and_swap false false c = refl
 
 -- ---- an exam and all others
 
--- the exams are a and one below i
+-- one exam is a, and the other is below i
 abbrev pub is_with : ℕ → ℕ → ℕ → ℕ → Bool
 is_with a i e f = ((a == e) && nat_lt f i) || ((a == f) && nat_lt e i)
 
--- what was there before, and the pairs of exam a and one below i that pass a test
+-- the pairs from before, and those of exam a and one below i that pass a test
 pub record AreFoundWith (a : ℕ) (test : ℕ → ℕ → Bool) (before : List ExamPair) (i : ℕ)
     (found : List ExamPair) : Type 0 where
   pub members : (e f : ℕ) → list_any (is_pair e f) found
       ≡ (list_any (is_pair e f) before || (is_with a i e f && test e f))
 
--- one more exam, before a and behind it
+-- the pairs with one more exam, before a and after it
 pub with_more : {a : ℕ} {test : ℕ → ℕ → Bool} {before : List ExamPair} {i : ℕ}
     {found two : List ExamPair}
     (one : List ExamPair) {first second : ℕ → ℕ → Bool}
@@ -118,7 +118,7 @@ with_more {a} {test} {before} {i} {found} {two} one {first} {second} so_far adds
         (is_second e f ∙ at_second e f)
         ∙ joined e f (list_any (is_pair e f) before) (test e f)
 
--- with all exams
+-- the pairs with all exams
 pub with_all : {a : ℕ} {test : ℕ → ℕ → Bool} {before : List ExamPair} {i n : ℕ}
     {found : List ExamPair}
     → AreFoundWith a test before i found → i ≡ n → ((e f : ℕ) → test e f ≡ true → (e < n) × (f < n))
@@ -169,7 +169,7 @@ first_of_rule named test r (p ∷ ps) =
     go false true is more = more
     go false false is more = more
 
--- the first breach that passes, of those of some rules
+-- the first breach of some rules that passes
 abbrev pub first_in : (Breach → Bool) → (BreachRule → List ExamPair)
     → List BreachRule → Option Breach
 first_in named f rs = find named (flat_map (λ r. map (breach r) (f r)) rs)
@@ -186,7 +186,7 @@ rule_and_rest named f rs i d within =
     ∙ find-append named (map (breach r) (f r))
     (flat_map (λ r. map (breach r) (f r)) (drop (i + 1) rs))
 
--- a rule without such a breach
+-- a rule without such a breach is passed over
 pub rule_passed : (named : Breach → Bool) (f : BreachRule → List ExamPair) (rs : List BreachRule)
     (i : ℕ) (d : BreachRule)
     → i < length rs → find named (map (breach (get_or rs i d)) (f (get_or rs i d))) ≡ None
@@ -195,7 +195,7 @@ rule_passed named f rs i d within none =
     rule_and_rest named f rs i d within
     ∙ ap (λ o. option_or o (first_in named f (drop (i + 1) rs))) none
 
--- the first rule with one
+-- the first rule with such a breach ends the search
 pub rule_broken : (named : Breach → Bool) (f : BreachRule → List ExamPair) (rs : List BreachRule)
     (i : ℕ) (d : BreachRule) (b : Breach)
     → i < length rs → find named (map (breach (get_or rs i d)) (f (get_or rs i d))) ≡ Some b

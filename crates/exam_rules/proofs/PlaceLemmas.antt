@@ -1,4 +1,4 @@
--- A rule is broken only by exams that are placed, and so exist.
+-- Only placed exams break a rule, so they exist.
 use Rattle.std.specs.List.{list_any}
 use Rattle.std.specs.Prelude.{All}
 use Rattle.std.proofs.Common.{◌≡◌, ℕ, ◌<◌, inl, inr, Bool, true, not, ◌&&◌, ◌==◌, nat_lt, length, Option, Some, None, refl, sym, ◌∙◌, ap, subst, arith, eqb-true}

@@ -1,4 +1,4 @@
--- Whom two exams share, either of them first.
+-- The students whom two exams share, in either order of the exams.
 use Rattle.std.specs.List.{list_any}
 use Rattle.std.proofs.Common.{◌≡◌, ℕ, true, ◌==◌, List, sym, ◌∙◌, ap, eq-eqb, eqb-true}
 use Rattle.std.proofs.lemmas.List.Folds.{Any-from_list_any, list_any_at}
@@ -7,7 +7,7 @@ use Rattle.exam_rules.specs.Places.{share_student}
 use Rattle.exam_rules.proofs.CommonLemmas.{shared_any}
 use Rattle.exam_rules.proofs.MemberLemmas.{same_tests}
 
--- what two lists have in common is in the other one too
+-- a common element of two lists is common in either order
 any_turned : (xs ys : List ℕ) → list_any (λ s. has_number ys s) xs ≡ true
     → list_any (λ s. has_number xs s) ys ≡ true
 any_turned xs ys h =

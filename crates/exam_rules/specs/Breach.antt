@@ -23,13 +23,13 @@ rank_of Coincidence = 4
 rank_of Exclusion = 5
 rank_of RoomExclusive = 6
 
--- by rule, then by exam, then by the other exam
+-- the order of breaches: by rule, then by exam, then by the other exam
 abbrev pub breach_cmp : Breach → Breach → Ordering
 breach_cmp a b =
     ordering_then (nat_cmp (rank_of a.rule) (rank_of b.rule))
     (ordering_then (nat_cmp a.exam b.exam) (nat_cmp a.other b.other))
 
--- by exam, and then by the other exam
+-- the order of pairs: by exam, then by the other exam
 abbrev pub exam_pair_cmp : ExamPair → ExamPair → Ordering
 exam_pair_cmp a b = ordering_then (nat_cmp a.exam b.exam) (nat_cmp a.other b.other)
 
@@ -37,16 +37,16 @@ exam_pair_cmp a b = ordering_then (nat_cmp a.exam b.exam) (nat_cmp a.other b.oth
 abbrev pub pair : ℕ → ℕ → ExamPair
 pair e f = record { exam = e; other = f }
 
--- whether it is the pair of e and f
+-- whether a pair is that of e and f
 abbrev pub is_pair : ℕ → ℕ → ExamPair → Bool
 is_pair e f p = (p.exam == e) && (p.other == f)
 
--- whether there is a pair, and it is the pair of e and f
+-- whether there is a pair, and it is that of e and f
 abbrev pub is_some_pair : ℕ → ℕ → Option ExamPair → Bool
 is_some_pair e f None = false
 is_some_pair e f (Some p) = is_pair e f p
 
--- all pairs of so many exams, in order
+-- all pairs of the exams below a number, in order
 abbrev pub exam_pairs : ℕ → List ExamPair
 exam_pairs n = flat_map (λ e. map (pair e) (range_with_len 0 n)) (range_with_len 0 n)
 
@@ -54,11 +54,11 @@ exam_pairs n = flat_map (λ e. map (pair e) (range_with_len 0 n)) (range_with_le
 abbrev pub passing : (ℕ → ℕ → Bool) → ℕ → List ExamPair
 passing test n = filter (λ p. test p.exam p.other) (exam_pairs n)
 
--- the list has just the pairs that pass a test, in any order and with repeats
+-- the list has exactly the pairs that pass a test, in any order and with repeats
 pub record HasJust (test : ℕ → ℕ → Bool) (n : ℕ) (found : List ExamPair) : Type 0 where
   pub members : (e f : ℕ) → list_any (is_pair e f) found ≡ test e f
   pub exist : (e f : ℕ) → test e f ≡ true → (e < n) × (f < n)
 
--- a pair as a breach of a rule
+-- a pair of exams as a breach of a rule
 abbrev pub breach : BreachRule → ExamPair → Breach
 breach r p = record { rule = r; exam = p.exam; other = p.other }

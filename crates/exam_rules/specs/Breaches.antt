@@ -31,7 +31,7 @@ is_one_of a e f = (a == e) || (a == f)
 abbrev pub name_one : List ℕ → ℕ → ℕ → Bool
 name_one exams e f = list_any (λ a. is_one_of a e f) exams
 
--- of the breaches that name any of these exams, the least
+-- the least of the breaches that name any of these exams
 abbrev pub least_breach_of : Session → Enrolled → Placing → List ℕ → Option Breach
 least_breach_of I E T exams = find (λ b. name_one exams b.exam b.other) (breaches_of I E T)
 
@@ -41,7 +41,7 @@ pub record IsBreachOf (I : Session) (E : Enrolled) (T : Placing) (exams : List �
   pub broken : is_breach I E T b ≡ true
   pub names : name_one exams b.exam b.other ≡ true
 
--- the least of the breaches that name one of these exams, or none where there is none
+-- the least of the breaches that name one of these exams; none if there are none
 abbrev pub IsLeastBreachOf : Session → Enrolled → Placing → List ℕ → Option Breach → Type 0
 IsLeastBreachOf I E T exams None = (b : Breach) → IsBreachOf I E T exams b → ⊥
 IsLeastBreachOf I E T exams (Some least) =

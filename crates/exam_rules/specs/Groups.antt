@@ -4,11 +4,11 @@ use Rattle.exam_model.specs.Enrolments.{has_number}
 use Rattle.exam_model.specs.Timetable.{Placing, place_of}
 use Rattle.exam_rules.specs.Places.{where_placed}
 
--- whether the exam stands in period p
+-- whether the exam is in period p
 abbrev pub stands_in : Placing → ℕ → ℕ → Bool
 stands_in T p e = where_placed (λ q. p == q.period) (place_of T e)
 
--- the lists hold, period by period, the exams below i that stand there
+-- the lists have, period by period, the exams below i that are in it
 pub record AreGroups (T : Placing) (periods i : ℕ) (groups : List (List ℕ)) : Type 0 where
   pub count : length groups ≡ periods
   pub members : (p e : ℕ) → p < periods

@@ -24,7 +24,7 @@ outlasts I T e =
     where_placed (λ p. is_longer (slice_get I.exams e) (slice_get I.periods p.period))
     (place_of T e)
 
--- whether so many students are more than the room's capacity
+-- whether the room's capacity is below this number of students
 abbrev pub is_too_small : Option Room → ℕ → Bool
 is_too_small None students = false
 is_too_small (Some room) students = nat_lt room.capacity students
@@ -34,25 +34,25 @@ abbrev pub is_overfull : Session → Enrolled → Placing → ℕ → Bool
 is_overfull I E T e =
     where_placed (λ p. is_too_small (slice_get I.rooms p.room) (load_at E T p)) (place_of T e)
 
--- whether the exams e and f break a rule; a rule over an exam without a place is not broken, nor
--- is a line that names one exam twice
+-- whether the exams e and f break a rule; an exam without a place breaks no rule, and a line that
+-- names one exam twice is never broken
 abbrev pub breaks : Session → Enrolled → Placing → BreachRule → ℕ → ℕ → Bool
--- an exam lasts longer than its period: it, twice
+-- an exam lasts longer than its period: the exam, twice
 breaks I E T Duration e f = (e == f) && outlasts I T e
--- two exams share a student and stand in one period: the smaller first
+-- two exams share a student and are in one period: the smaller first
 breaks I E T Clash e f = nat_lt e f && (in_one_period T e f && share_student E e f)
--- the exams in a room and period have more students than it has places: each of them, twice
+-- the exams in a room and period have more students than the room holds: each of them, twice
 breaks I E T Capacity e f = (e == f) && is_overfull I E T e
--- a line says that e comes after f, and the period of e is not greater
+-- a line puts e after f, and the period of e is not greater
 breaks I E T After e f =
     list_any (is_after e f) I.period_rules && (not (e == f) && is_not_after T e f)
--- a line wants both in one period, nobody sits both, but they stand in two: the smaller first
+-- a line puts both in one period, no student sits both, but their periods differ: the smaller first
 breaks I E T Coincidence e f =
     list_any (is_coincidence e f) I.period_rules
     && (nat_lt e f && (not (share_student E e f) && in_two_periods T e f))
--- a line wants both in different periods, and their periods are equal: the smaller first
+-- a line puts both in different periods, and their periods are equal: the smaller first
 breaks I E T Exclusion e f =
     list_any (is_exclusion e f) I.period_rules && (nat_lt e f && in_one_period T e f)
--- a line wants the room of e for e alone, and f stands in its room and period
+-- a line gives e its room to itself, and f is in its room and period
 breaks I E T RoomExclusive e f =
     list_any (is_exclusive e) I.room_rules && (not (e == f) && in_one_place T e f)

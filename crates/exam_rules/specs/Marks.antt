@@ -1,16 +1,16 @@
--- Marks for students: which exams a student may sit, where that is all that has to be known.
+-- Marks for students: the exams that a student may sit, as far as they must be known.
 use Rattle.std.specs.Prelude.{◌≡◌, ℕ, ◌-◌, ◌%◌, List, length, slice_index}
 use Rattle.std.specs.Int.{bit_at}
 use Rattle.std.specs.Int.RustNames.{bit_and}
 
--- the slot of a student, of so many
+-- the slot of a student, out of this many
 abbrev pub slot_of : ℕ → ℕ → ℕ
 slot_of slots s = bit_and s (slots - 1)
 
--- a student's marks, which they may share with other students
+-- the marks of a student, who may share them with other students
 abbrev pub marks_of : List ℕ → ℕ → ℕ
 marks_of slots s = slice_index slots (slot_of (length slots) s)
 
--- the exam is among the marked ones, or one that has the same mark
+-- the exam is marked, or another exam with the same mark is
 abbrev pub Has : ℕ → ℕ → Type 0
 Has marks e = bit_at marks (e % 64) ≡ 1

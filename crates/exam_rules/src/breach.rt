@@ -1,4 +1,4 @@
-// What a hard rule's breach says (ITC 2007, hard constraints).
+// Breaches of the hard rules (ITC 2007, hard constraints).
 ghost use Rattle.std.specs.Prelude.{◌≡◌};
 ghost use Rattle.exam_rules.specs.Breach.{all_rules};
 
@@ -9,21 +9,21 @@ use exam_model::ExamNo;
 pub enum BreachRule {
     /// An exam lasts longer than its period.
     Duration,
-    /// Two exams share a student and stand in one period.
+    /// Two exams share a student and are in one period.
     Clash,
     /// The exams in a room and period have more students than the room holds.
     Capacity,
-    /// An exam doesn't stand after one that it is to come after.
+    /// An exam isn't after one that it must come after.
     After,
-    /// Two exams that are to stand in one period, and share no student, stand in two.
+    /// Two exams that must be in one period, and share no student, are in different periods.
     Coincidence,
-    /// Two exams that are to stand in two periods stand in one.
+    /// Two exams that must be in different periods are in one.
     Exclusion,
-    /// Another exam stands in the room and period of one that wants its room for itself.
+    /// Another exam is in the room and period of one that must have its room to itself.
     RoomExclusive,
 }
 
-/// The rules, in the order of their breaches.
+/// Returns the rules, in the order of their breaches.
 pub(crate) fn rules() -> [BreachRule; 7]
     ensures { result ≡ all_rules }
 {
@@ -39,8 +39,8 @@ pub(crate) fn rules() -> [BreachRule; 7]
 }
 
 /// A rule that two exams break. `Duration` and `Capacity` name one exam twice; `Clash`,
-/// `Coincidence` and `Exclusion` name the smaller exam first; `After` and `RoomExclusive` first
-/// name the first exam of their line.
+/// `Coincidence` and `Exclusion` name the smaller exam first; `After` and `RoomExclusive` name the
+/// first exam of their line first.
 #[derive(Clone, Copy, Debug, PartialEq, Eq)]
 pub struct Breach {
     pub rule: BreachRule,

@@ -1,11 +1,11 @@
-// Lists of exams, one for each period, say, or for each room and period.
+// Lists of exams, for example one for each period, or for each room and period.
 ghost use Rattle.std.specs.Prelude.{◌≡◌, ◌++◌, ◌∷◌, [], replicate, IfOk, OnErr, OnOk};
 
 use exam_model::ExamNo;
 use std::alloc::{AllocError, Global};
 use std::marker::Model;
 
-/// Exams, in the order in which they came.
+/// Exams, in the order in which they were added.
 #[derive(Drop)]
 pub struct ExamList {
     exams: Vec<ExamNo>,
@@ -28,7 +28,7 @@ impl ExamList {
         }
     }
 
-    /// The exams.
+    /// Returns the exams.
     pub fn as_slice(&self) -> &[ExamNo]
         ensures { result.now ≡ self.now }
     {
@@ -45,7 +45,7 @@ impl ExamList {
     }
 }
 
-/// So many lists without exams.
+/// Returns this many empty lists.
 pub fn empty_lists(alloc: Global, count: usize) -> Result<Vec<ExamList>, AllocError>
     ensures { IfOk result (λ lists. lists.items ≡ replicate count []) }
 {

@@ -1,4 +1,4 @@
-// Pairs of exams, as a rule finds them.
+// The pairs of exams that a rule finds.
 ghost use Rattle.std.specs.Prelude.{◌≡◌, ℕ, Bool, ◌&&◌, ◌||◌, ◌==◌, OnOk};
 ghost use Rattle.std.specs.List.{list_any};
 ghost use Rattle.exam_rules.specs.Breach.{HasJust, passing, is_pair, is_some_pair};
@@ -12,7 +12,7 @@ pub(crate) struct ExamPair {
     pub other: ExamNo,
 }
 
-/// The pair of two exams that break a rule.
+/// Returns the pair of two exams, if they break a rule.
 pub(crate) fn pair_if(broken: bool, exam: ExamNo, other: ExamNo) -> Option<ExamPair>
     ensures { (e f : ℕ) → is_some_pair e f result ≡ (((exam == e) && (other == f)) && broken) }
 {
@@ -34,7 +34,7 @@ pub(crate) fn push_some(found: &mut Vec<ExamPair>, pair: Option<ExamPair>) -> Re
     Ok(())
 }
 
-/// The pairs in order, each once.
+/// Returns the pairs in order, each once.
 pub(crate) fn in_order(mut found: Vec<ExamPair>) -> Vec<ExamPair>
     ensures { (test : ℕ → ℕ → Bool) (n : ℕ) → HasJust test n found.items
         → result.items ≡ passing test n }

@@ -1,4 +1,4 @@
-// The first breach that names one of some exams, found among the pairs that these exams are in.
+// The first breach that names one of some exams, found among the pairs with these exams.
 ghost use Rattle.std.specs.Prelude.{◌≡◌, ◌<◌, ℕ, ◌&&◌, ◌||◌, length, All, IfOk, OnOk};
 ghost use Rattle.std.specs.List.{list_any};
 ghost use Rattle.exam_rules.specs.Breach.{is_pair, passing};
@@ -15,9 +15,9 @@ use crate::site::Site;
 use exam_model::{Enrolments, ExamNo, Instance, Timetable};
 use std::alloc::{AllocError, Global};
 
-/// The first of all breaches, in their order, that names one of these exams; none where each
-/// breach names other exams alone. The rules are judged in their order, and none beyond the first
-/// that one of these exams breaks.
+/// Returns the first of all breaches, in their order, that names one of these exams; `None` if no
+/// breach names any of them. The rules are judged in their order, up to the first that one of these
+/// exams breaks.
 pub fn first_breach_of(
     alloc: Global,
     instance: &Instance,
@@ -29,8 +29,8 @@ pub fn first_breach_of(
     requires exist { All (λ e. e < length instance.now.exams) edited.now }
     ensures first { IfOk result (λ found. found
         ≡ least_breach_of instance.now enrolments.now timetable.now edited.now) }
-    // A breach that names one of the exams, and each other such breach comes after it; none if
-    // there is none.
+    // The breach names one of the exams, and each other such breach comes after it; `None` if there
+    // is none.
     ensures least { IfOk result (IsLeastBreachOf instance.now enrolments.now timetable.now
         edited.now) }
 {
@@ -52,7 +52,7 @@ pub fn first_breach_of(
     Ok(None)
 }
 
-// The pairs that name one of the exams and break the rule.
+// Returns the pairs that name one of the exams and break the rule.
 fn broken_pairs(
     alloc: Global,
     rule: BreachRule,

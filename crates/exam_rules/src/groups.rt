@@ -1,4 +1,4 @@
-// The exams of each period, grouped once for all rules that look for exams of one period.
+// The exams of each period, grouped once for all rules that search one period.
 ghost use Rattle.std.specs.Prelude.{◌≡◌, ◌<◌, [], length, slice_index_or, All, IfOk};
 ghost use Rattle.exam_rules.specs.Groups.{AreGroups};
 ghost use Rattle.exam_rules.specs.Places.{PlaceExists};
@@ -7,7 +7,7 @@ use crate::exam_list::{ExamList, empty_lists};
 use exam_model::{ExamNo, Instance, PeriodNo, Timetable};
 use std::alloc::{AllocError, Global};
 
-/// The exams of each period, by the period's number.
+/// Returns the exams of each period, by the period's number.
 pub(crate) fn by_period(
     alloc: Global,
     instance: &Instance,
@@ -28,7 +28,7 @@ pub(crate) fn by_period(
     Ok(groups)
 }
 
-/// The exams of a period, of those grouped by `by_period`.
+/// Returns the exams of a period from the groups of `by_period`.
 pub(crate) fn group_of(groups: &[ExamList], period: PeriodNo) -> &[ExamNo]
     requires { period < length groups.now }
     ensures { result.now ≡ slice_index_or groups.now period [] }

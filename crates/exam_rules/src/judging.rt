@@ -18,8 +18,8 @@ use crate::site::Site;
 use exam_model::{Enrolments, Instance, Timetable};
 use std::alloc::{AllocError, Global};
 
-/// All breaches of the hard rules: by rule, then by exam, then by the other exam. A rule over an
-/// exam without a place isn't broken, nor is a line that names one exam twice.
+/// Returns all breaches of the hard rules: by rule, then by exam, then by the other exam. An exam
+/// without a place breaks no rule, and a line that names one exam twice is never broken.
 pub fn breaches(
     alloc: Global,
     instance: &Instance,
@@ -32,7 +32,7 @@ pub fn breaches(
         ↔ IsTrue (is_breach instance.now enrolments.now timetable.now b))) }
     // By rule, then exam, then the other exam; so each breach comes once.
     ensures in_order { IfOk result (λ found. IsStrictlySortedBy breach_cmp found.items) }
-    // The list that the layers above compute with.
+    // The list that the crates above compute with.
     ensures listed { IfOk result (λ found. found.items
         ≡ breaches_of instance.now enrolments.now timetable.now) }
 {
@@ -50,7 +50,7 @@ pub fn breaches(
     Ok(found)
 }
 
-// The pairs of exams that break a rule.
+// Returns the pairs of exams that break a rule.
 fn pairs_of(
     alloc: Global,
     rule: BreachRule,

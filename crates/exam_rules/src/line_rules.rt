@@ -1,4 +1,4 @@
-// The rules that lines on two exams state: After, Coincidence and Exclusion.
+// The rules of lines on two exams: After, Coincidence and Exclusion.
 ghost use Rattle.std.specs.Prelude.{◌≡◌, ℕ, Bool, ◌&&◌, ◌==◌, not, ◌||◌, nat_lt, length, IfOk, OnOk};
 ghost use Rattle.std.specs.List.{list_any};
 ghost use Rattle.exam_model.specs.Instance.{PeriodRuleExists};
@@ -16,7 +16,7 @@ use crate::standing::{are_strangers_apart, in_one_period, is_not_after};
 use exam_model::{Enrolments, ExamNo, Instance, PeriodRule, Timetable};
 use std::alloc::{AllocError, Global};
 
-/// The lines `After` that are broken: the first exam doesn't stand in a greater period.
+/// Returns the broken `After` lines: the first exam's period isn't greater than the second's.
 pub(crate) fn after_pairs(
     alloc: Global,
     instance: &Instance,
@@ -33,7 +33,7 @@ pub(crate) fn after_pairs(
     Ok(in_order(found))
 }
 
-// The pair that breaks the line, if it is an `After`.
+// Returns the pair of exams, if the line is an `After` and they break it.
 fn broken_after(line: &PeriodRule, timetable: &Timetable) -> Option<ExamPair>
     requires exists { PeriodRuleExists (length timetable.now) line.now }
     ensures { (e f : ℕ) → is_some_pair e f result
@@ -47,7 +47,7 @@ fn broken_after(line: &PeriodRule, timetable: &Timetable) -> Option<ExamPair>
     }
 }
 
-/// The lines `Coincidence` that are broken: the exams share no student and their periods differ.
+/// Returns the broken `Coincidence` lines: the exams share no student and their periods differ.
 pub(crate) fn coincidence_pairs(
     alloc: Global,
     instance: &Instance,
@@ -65,7 +65,7 @@ pub(crate) fn coincidence_pairs(
     Ok(in_order(found))
 }
 
-// The pair that breaks the line, if it is a `Coincidence`.
+// Returns the pair of exams, if the line is a `Coincidence` and they break it.
 fn broken_coincidence(
     line: &PeriodRule,
     enrolments: &Enrolments,
@@ -88,7 +88,7 @@ fn broken_coincidence(
     }
 }
 
-/// The lines `Exclusion` that are broken: the exams stand in one period.
+/// Returns the broken `Exclusion` lines: the exams are in one period.
 pub(crate) fn exclusion_pairs(
     alloc: Global,
     instance: &Instance,
@@ -105,7 +105,7 @@ pub(crate) fn exclusion_pairs(
     Ok(in_order(found))
 }
 
-// The pair that breaks the line, if it is an `Exclusion`.
+// Returns the pair of exams, if the line is an `Exclusion` and they break it.
 fn broken_exclusion(line: &PeriodRule, timetable: &Timetable) -> Option<ExamPair>
     requires exists { PeriodRuleExists (length timetable.now) line.now }
     ensures { (e f : ℕ) → is_some_pair e f result
@@ -118,7 +118,7 @@ fn broken_exclusion(line: &PeriodRule, timetable: &Timetable) -> Option<ExamPair
     }
 }
 
-/// Adds the broken lines `After` that name the exam.
+/// Adds the broken `After` lines that name the exam.
 pub(crate) fn push_afters(
     found: &mut Vec<ExamPair>,
     exam: ExamNo,
@@ -139,7 +139,7 @@ pub(crate) fn push_afters(
     Ok(())
 }
 
-// Whether the line names the exam.
+// Returns whether the line names the exam.
 fn names(line: &PeriodRule, exam: ExamNo) -> bool
     ensures { result ≡ line_names line.now exam }
 {
@@ -151,7 +151,7 @@ fn names(line: &PeriodRule, exam: ExamNo) -> bool
     exam == first || exam == second
 }
 
-/// Adds the broken lines `Coincidence` that name the exam.
+/// Adds the broken `Coincidence` lines that name the exam.
 pub(crate) fn push_coincidences(
     found: &mut Vec<ExamPair>,
     exam: ExamNo,
@@ -175,7 +175,7 @@ pub(crate) fn push_coincidences(
     Ok(())
 }
 
-/// Adds the broken lines `Exclusion` that name the exam.
+/// Adds the broken `Exclusion` lines that name the exam.
 pub(crate) fn push_exclusions(
     found: &mut Vec<ExamPair>,
     exam: ExamNo,

@@ -10,7 +10,7 @@ ghost use Rattle.exam_rules.specs.HardRules.{is_too_small};
 use exam_model::{Enrolments, ExamNo, Instance, Place, Timetable};
 use std::alloc::{AllocError, Global};
 
-/// The students of each room and period, over all exams that stand there.
+/// Returns the number of students in each room and period, over all exams there.
 pub(crate) fn loads_of(
     alloc: Global,
     instance: &Instance,
@@ -36,7 +36,7 @@ pub(crate) fn loads_of(
     Ok(loads)
 }
 
-/// Whether a place's room holds fewer students than its entry in the table.
+/// Returns whether a place's room holds fewer students than its entry in the table.
 pub(crate) fn is_too_small(instance: &Instance, loads: &[u64], place: Place) -> bool
     requires period { place.period < length instance.now.periods }
     requires room { place.room < length instance.now.rooms }
@@ -48,7 +48,7 @@ pub(crate) fn is_too_small(instance: &Instance, loads: &[u64], place: Place) -> 
     u64::from(room.capacity) < loads[instance.slot_of(place)]
 }
 
-/// The students of one room and period, over all exams that stand there.
+/// Returns the number of students in one room and period, over all exams there.
 pub(crate) fn load_at(enrolments: &Enrolments, timetable: &Timetable, place: &Place) -> u64
     requires fits { length timetable.now ≡ length enrolments.now }
     ensures { result ≡ load_at enrolments.now timetable.now place.now }
@@ -60,7 +60,7 @@ pub(crate) fn load_at(enrolments: &Enrolments, timetable: &Timetable, place: &Pl
     load
 }
 
-// The students of an exam, if it stands at the place.
+// Returns the number of an exam's students if the exam is at the place, else 0.
 fn size_at(enrolments: &Enrolments, timetable: &Timetable, exam: ExamNo, place: &Place) -> u64
     requires exists { exam < length timetable.now }
     requires fits { length timetable.now ≡ length enrolments.now }

@@ -1,4 +1,4 @@
-// Marks for students, by which most exams of a period are told apart without a look at the lists.
+// Marks for students, which rule out most pairs of exams of a period without reading their lists.
 ghost use Rattle.std.specs.Prelude.{◌≡◌, ℕ, true, ◌%◌, ◌<◌, ◌==◌, length, replicate, IfOk};
 ghost use Rattle.std.specs.Int.{bit_at};
 ghost use Rattle.exam_model.specs.Enrolments.{has_number};
@@ -8,8 +8,8 @@ use exam_model::{ExamNo, StudentNo};
 use std::alloc::{AllocError, Global};
 use std::marker::Model;
 
-// An exam is one of 64 bits, and a student one of many numbers: so a mark may stand for others
-// too, but none is missing.
+// 64 bits mark exams, and a slot is shared by many students: so a mark may also be another exam's
+// or another student's, but none is missing.
 #[derive(Drop)]
 pub(crate) struct Marks {
     slots: Vec<u64>,
@@ -26,7 +26,7 @@ impl Model for Marks {
 }
 
 impl Marks {
-    /// No marks, for the students of so many enrolments.
+    /// Returns no marks, for the students of this many enrolments.
     pub(crate) fn new(alloc: Global, pairs: u32) -> Result<Marks, AllocError>
         ensures { IfOk result (λ marks. marks ≡ replicate (length marks) 0) }
     {
@@ -48,7 +48,7 @@ impl Marks {
         }
     }
 
-    /// The exams that are marked for one of these students.
+    /// Returns the exams that are marked for one of these students.
     pub(crate) fn of(&self, students: &[StudentNo]) -> u64
         ensures { (s e : ℕ) → has_number students.now s ≡ true
             → Has (marks_of self.now s) e → Has result e }
@@ -61,7 +61,7 @@ impl Marks {
         all
     }
 
-    /// The exams that are marked for a student, or for another one of the same slot.
+    /// Returns the exams that are marked for a student, or for another one of the same slot.
     #[inline(always)]
     pub(crate) fn of_student(&self, student: StudentNo) -> u64
         ensures { result ≡ marks_of self.now student }
@@ -69,7 +69,7 @@ impl Marks {
         self.slots[slot_in(&self.slots, student)]
     }
 
-    /// Takes all marks of these students away, so that the next period begins with few.
+    /// Deletes all marks of these students, so that the next period begins with few.
     pub(crate) fn clear(&mut self, students: &[StudentNo])
         ensures cleared { (s : ℕ) → has_number students.now s ≡ true → marks_of self.new s ≡ 0 }
         ensures kept { (s : ℕ) → marks_of self.old s ≡ 0 → marks_of self.new s ≡ 0 }
@@ -81,8 +81,8 @@ impl Marks {
     }
 }
 
-// A power of two, and one slot for at most four enrolments up to 131,072 of them: so few students of
-// one period share one, and a small session takes little memory.
+// Returns a power of two, with one slot for at most four enrolments up to 131,072 of them: so few
+// students of one period share a slot, and a small session takes little memory.
 fn slots_for(pairs: u32) -> usize
     ensures { 0 < result }
 {
@@ -96,7 +96,7 @@ fn slots_for(pairs: u32) -> usize
     }
 }
 
-// The slot of a student, by the last bits of their number.
+// Returns the slot of a student, by the last bits of their number.
 #[inline(always)]
 fn slot_in(slots: &[u64], student: StudentNo) -> usize
     requires some { 0 < length slots.now }
@@ -106,7 +106,7 @@ fn slot_in(slots: &[u64], student: StudentNo) -> usize
     student.get() as usize & (slots.len() - 1)
 }
 
-/// Whether the exam is among the marked ones.
+/// Returns whether the exam is among the marked ones.
 pub(crate) fn has(marks: u64, exam: ExamNo) -> bool
     ensures { result ≡ (bit_at marks (exam % 64) == 1) }
 {

@@ -1,4 +1,4 @@
-// The rules that ask only for the exams' periods: Duration and Clash.
+// The rules that depend only on the exams' periods: Duration and Clash.
 ghost use Rattle.std.specs.Prelude.{◌≡◌, ◌<◌, ℕ, Bool, true, ◌&&◌, ◌||◌, ◌==◌, nat_lt, length, All, IfOk, OnOk};
 ghost use Rattle.std.specs.List.{list_any};
 ghost use Rattle.exam_model.specs.Enrolments.{Enrolled};
@@ -20,7 +20,7 @@ use crate::standing::{in_one_period, share_student};
 use exam_model::{Enrolments, ExamNo, Instance, StudentNo, Timetable};
 use std::alloc::{AllocError, Global};
 
-/// The exams that last longer than their periods, each with itself.
+/// Returns the exams that last longer than their periods, each with itself.
 pub(crate) fn duration_pairs(
     alloc: Global,
     instance: &Instance,
@@ -39,7 +39,7 @@ pub(crate) fn duration_pairs(
     Ok(in_order(found))
 }
 
-/// Whether the exam lasts longer than its period.
+/// Returns whether the exam lasts longer than its period.
 #[tactic(auto, using(crate::proofs::PlaceLemmas::place_exists))]
 pub(crate) fn outlasts(instance: &Instance, timetable: &Timetable, exam: ExamNo) -> bool
     requires exists { exam < length timetable.now }
@@ -52,7 +52,7 @@ pub(crate) fn outlasts(instance: &Instance, timetable: &Timetable, exam: ExamNo)
     }
 }
 
-/// The exams that share a student and stand in one period, the smaller of them first.
+/// Returns the exams that share a student and are in one period, the smaller of them first.
 pub(crate) fn clash_pairs(
     alloc: Global,
     instance: &Instance,
@@ -105,7 +105,7 @@ fn mark(marks: &mut Marks, group: &[ExamNo], enrolments: &Enrolments)
     }
 }
 
-// The marked exams of an exam's students.
+// Returns the marked exams of an exam's students.
 #[tactic(auto, using(crate::proofs::CommonLemmas::shared_any))]
 fn near_of(marks: &Marks, enrolments: &Enrolments, exam: ExamNo) -> u64
     requires exists { exam < length enrolments.now }
@@ -115,7 +115,7 @@ fn near_of(marks: &Marks, enrolments: &Enrolments, exam: ExamNo) -> u64
     marks.of(enrolments.students(exam))
 }
 
-// Adds an exam's clashes with greater exams of its group, whose exams are marked.
+// Adds an exam's clashes with greater exams of its group, which is marked.
 fn add_clashes(
     found: &mut Vec<ExamPair>,
     marks: &Marks,
@@ -140,8 +140,8 @@ fn add_clashes(
     Ok(())
 }
 
-// Whether two marked exams share a student, the smaller of them first; one that isn't near shares
-// none.
+// Returns whether two marked exams share a student, the smaller of them first; they share none if
+// the other one isn't near.
 fn is_clash(near: u64, marks: &Marks, enrolments: &Enrolments, exam: ExamNo, other: ExamNo) -> bool
     requires exists { exam < length enrolments.now }
     requires other_exists { other < length enrolments.now }
@@ -155,7 +155,8 @@ fn is_clash(near: u64, marks: &Marks, enrolments: &Enrolments, exam: ExamNo, oth
     exam < other && has(near, other) && share_marked(marks, enrolments, exam, other)
 }
 
-// Whether two marked exams share a student: one of the students of the smaller sits the other.
+// Returns whether two marked exams share a student: one of the students of the smaller sits the
+// other.
 #[tactic(auto, using(crate::proofs::SharingLemmas::share_turned))]
 fn share_marked(marks: &Marks, enrolments: &Enrolments, exam: ExamNo, other: ExamNo) -> bool
     requires exists { exam < length enrolments.now }
@@ -172,8 +173,8 @@ fn share_marked(marks: &Marks, enrolments: &Enrolments, exam: ExamNo, other: Exa
     one_sits(marks, enrolments, exam, other)
 }
 
-// Whether one of an exam's students sits another one, which is marked: only students who have its
-// mark are looked for in its list.
+// Returns whether one of an exam's students sits another one, which is marked: only students with
+// its mark are searched for in its list.
 fn one_sits(marks: &Marks, enrolments: &Enrolments, exam: ExamNo, other: ExamNo) -> bool
     requires exists { exam < length enrolments.now }
     requires other_exists { other < length enrolments.now }
@@ -189,7 +190,7 @@ fn one_sits(marks: &Marks, enrolments: &Enrolments, exam: ExamNo, other: ExamNo)
     false
 }
 
-// Whether the student sits a marked exam.
+// Returns whether the student sits a marked exam.
 #[inline(always)]
 fn sits(marks: &Marks, enrolments: &Enrolments, student: StudentNo, exam: ExamNo) -> bool
     requires exists { exam < length enrolments.now }
@@ -200,7 +201,7 @@ fn sits(marks: &Marks, enrolments: &Enrolments, student: StudentNo, exam: ExamNo
     has(marks.of_student(student), exam) && enrolments.has(student, exam)
 }
 
-// Takes the marks of a group away.
+// Deletes the marks of a group.
 fn unmark(marks: &mut Marks, group: &[ExamNo], enrolments: &Enrolments)
     requires exist { All (λ e. e < length enrolments.now) group.now }
     ensures { (e s : ℕ) → has_number group.now e ≡ true → has enrolments.now s e ≡ true
@@ -234,7 +235,7 @@ pub(crate) fn push_clashes(
     Ok(())
 }
 
-// Whether two exams share a student and stand in one period, the smaller of them first.
+// Returns whether two exams share a student and are in one period, the smaller of them first.
 fn clashes(site: &Site, exam: ExamNo, other: ExamNo) -> bool
     requires fits { Fits site.now.instance.now site.now.enrolments.now site.now.timetable.now }
     requires exists { exam < length site.now.timetable.now }

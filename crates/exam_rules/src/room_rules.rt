@@ -20,7 +20,8 @@ use crate::standing::in_one_place;
 use exam_model::{Enrolments, ExamNo, Instance, RoomRule, Timetable};
 use std::alloc::{AllocError, Global};
 
-/// The exams in a room and period that have more students than the room holds, each with itself.
+/// Returns the exams whose room and period have more students than the room holds, each with
+/// itself.
 pub(crate) fn capacity_pairs(
     alloc: Global,
     instance: &Instance,
@@ -44,7 +45,7 @@ pub(crate) fn capacity_pairs(
     Ok(in_order(found))
 }
 
-/// The exams that want their rooms for themselves, each with every other exam there.
+/// Returns the exams that must have their rooms to themselves, each with every other exam there.
 pub(crate) fn exclusive_pairs(
     alloc: Global,
     instance: &Instance,
@@ -68,7 +69,7 @@ pub(crate) fn exclusive_pairs(
     Ok(in_order(found))
 }
 
-// The exams that want their rooms for themselves, each once.
+// Returns the exams that must have their rooms to themselves, each once.
 fn exclusive_exams(alloc: Global, instance: &Instance) -> Result<Vec<ExamNo>, AllocError>
     ensures members { IfOk result (λ exams. (e : ℕ) → has_number exams.items e
         ≡ list_any (is_exclusive e) instance.now.room_rules) }
@@ -80,14 +81,14 @@ fn exclusive_exams(alloc: Global, instance: &Instance) -> Result<Vec<ExamNo>, Al
     Ok(exams)
 }
 
-// The exam of each line.
+// Returns the exam of each line.
 fn named_exams(alloc: Global, lines: &[RoomRule]) -> Result<Vec<ExamNo>, AllocError>
     ensures { IfOk result (λ exams. exams.items ≡ map (λ line. line.0) lines.now) }
 {
     lines.iter().map(|line| line.0).collect(alloc)
 }
 
-// Adds the pairs of an exam with others of its group that stand in its room.
+// Adds the pairs of an exam and the others of its group in its room.
 fn add_intruders(
     found: &mut Vec<ExamPair>,
     exam: ExamNo,
@@ -107,7 +108,7 @@ fn add_intruders(
     Ok(())
 }
 
-// Whether another exam stands in the room and period of an exam.
+// Returns whether another exam is in the room and period of an exam.
 fn is_intruder(timetable: &Timetable, exam: ExamNo, other: ExamNo) -> bool
     requires exists { exam < length timetable.now }
     requires other_exists { other < length timetable.now }
@@ -116,7 +117,7 @@ fn is_intruder(timetable: &Timetable, exam: ExamNo, other: ExamNo) -> bool
     exam != other && in_one_place(timetable, exam, other)
 }
 
-/// Whether the exam's room is too small for all exams there in its period.
+/// Returns whether the exam's room is too small for all exams there in its period.
 #[tactic(auto, using(crate::proofs::PlaceLemmas::place_exists))]
 pub(crate) fn is_overfull(site: &Site, exam: ExamNo) -> bool
     requires fits { Fits site.now.instance.now site.now.enrolments.now site.now.timetable.now }
@@ -133,7 +134,7 @@ pub(crate) fn is_overfull(site: &Site, exam: ExamNo) -> bool
     }
 }
 
-/// Adds the pairs of an exam and another one there, where either wants the room for itself.
+/// Adds the pairs of an exam and another one there, if either must have the room to itself.
 pub(crate) fn push_exclusives(
     found: &mut Vec<ExamPair>,
     exam: ExamNo,
@@ -156,7 +157,7 @@ pub(crate) fn push_exclusives(
     Ok(())
 }
 
-// Whether another exam stands in the room and period of one that wants its room for itself.
+// Returns whether another exam is in the room and period of one that must have its room to itself.
 fn intrudes(site: &Site, exam: ExamNo, other: ExamNo) -> bool
     requires exists { exam < length site.now.timetable.now }
     requires other_exists { other < length site.now.timetable.now }
@@ -166,7 +167,7 @@ fn intrudes(site: &Site, exam: ExamNo, other: ExamNo) -> bool
     is_intruder(site.timetable, exam, other) && is_exclusive(site.instance, exam)
 }
 
-// Whether a line wants the exam's room for it alone.
+// Returns whether a line gives the exam its room to itself.
 fn is_exclusive(instance: &Instance, exam: ExamNo) -> bool
     ensures { result ≡ list_any (is_exclusive exam) instance.now.room_rules }
 {

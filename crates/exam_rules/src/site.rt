@@ -1,7 +1,7 @@
-// What a rule is judged by.
+// The arguments of a rule.
 use exam_model::{Enrolments, Instance, Timetable};
 
-/// A session, who sits which exam, and where the exams stand.
+/// A session, its enrolments, and a timetable.
 #[derive(Clone, Copy)]
 pub(crate) struct Site<'a> {
     pub instance: &'a Instance,

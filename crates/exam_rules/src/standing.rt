@@ -1,4 +1,4 @@
-// How two exams stand to each other.
+// Relations of two exams.
 ghost use Rattle.std.specs.Prelude.{◌≡◌, ◌<◌, ◌&&◌, not, length};
 ghost use Rattle.std.specs.List.{list_any};
 ghost use Rattle.exam_model.specs.Enrolments.{IsAscending, has_number};
@@ -39,7 +39,7 @@ pub(crate) fn in_one_place(timetable: &Timetable, exam: ExamNo, other: ExamNo) -
     }
 }
 
-/// Whether two exams share no student and stand in different periods.
+/// Returns whether two exams share no student and are in different periods.
 pub(crate) fn are_strangers_apart(
     enrolments: &Enrolments,
     timetable: &Timetable,
@@ -75,7 +75,7 @@ pub(crate) fn share_student(enrolments: &Enrolments, exam: ExamNo, other: ExamNo
     have_common(enrolments.students(exam), enrolments.students(other))
 }
 
-// Whether two ascending lists of students have one in common, in one walk along both.
+// Returns whether two ascending lists of students have one in common, in one walk along both.
 fn have_common(first: &[StudentNo], second: &[StudentNo]) -> bool
     requires first { IsAscending first.now }
     requires second { IsAscending second.now }

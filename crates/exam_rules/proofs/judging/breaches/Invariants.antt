@@ -4,7 +4,7 @@ use Rattle.exam_rules.specs.Breach.{breach}
 use Rattle.exam_rules.specs.Breaches.{pairs_breaking}
 use Rattle.exam_rules.proofs.judging.breaches.Given as goal
 
--- the breaches of the rules so far
+-- the breaches of the rules judged so far
 abbrev pub invariant-rules : goal.invariant-rules
 invariant-rules l =
     l.found.items
