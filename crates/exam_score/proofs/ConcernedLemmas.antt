@@ -1,4 +1,4 @@
--- The enrolments of an edit's students, in order, and folded one after the other.
+-- The enrolments of an edit's students, in order, folded one by one.
 use Rattle.std.specs.List.{AllByRecursion}
 use Rattle.std.specs.Ordering.{is_lt, nat_cmp, ordering_then}
 use Rattle.std.specs.Cmp.{then_total, on_total, nat_cmp_total, IsTotalOrder}
@@ -41,7 +41,7 @@ other_sitter s e x y before is =
     elim before as (λ _. is_sitter s e y ≡ false)
     [ inl less ↦ grind (arith, nat_tests) | inr same ↦ grind (arith, nat_tests) ]
 
--- pairs in order have none twice
+-- pairs in order have no repeats
 once : (s e : ℕ) (xs : List Sitter) → IsChain (λ x y. ComesBefore (pair_of x) (pair_of y)) xs
     → count_by (is_sitter s e) xs ≤ 1
 once s e [] h = omega arith
@@ -194,7 +194,7 @@ each_earlier xs i d lt order =
     subst (λ x. IsSooner x (get_or xs i d)) (sym (get_or-take i xs k e within))
     (subst (λ y. IsSooner (get_or xs k e) y) (get_or_default xs i e d lt) (order k i e within lt))))
 
--- the last part of what holds for all
+-- a fact about all elements holds for those of the last part
 each_last : {X : Type 0} (P : X → Type 0) (xs ys : List X) → AllByRecursion P (xs ++ ys)
     → AllByRecursion P ys
 each_last P [] ys h = h
@@ -215,7 +215,7 @@ pub fold_few : (fold : Folded) (xs : List Sitter) (i : ℕ) → i < length xs �
 fold_few fold xs i lt few h =
     omega (arith, h.count, length-map (take i xs) pair_of, length-take i xs, lt, few)
 
--- one more is folded
+-- one more pair is folded
 pub stands_next : (fold : Folded) (xs : List Sitter) (i : ℕ) (d : Sitter) → i < length xs
     → StandsFor fold (map pair_of (take i xs) ++ pair_of (get_or xs i d) ∷ [])
     → StandsFor fold (map pair_of (take (i + 1) xs))
@@ -225,7 +225,7 @@ stands_next fold xs i d lt h =
     ∙ map_push pair_of (take i xs) (get_or xs i d)))
     h
 
--- what is told of the edit is told of the fold
+-- facts about the edit are facts about the fold
 pub edit_is : (fold : Folded) (I : Session) (E : Enrolled) (old new : Placing) (edited : List ℕ)
     (pairs : List Pair) (sizes : List ℕ) (parts : Penalty)
     → IsFoldOf fold I old new edited
@@ -244,7 +244,7 @@ edit_is fold I E old new edited pairs sizes parts is known fits moved sized same
   scored = scored ∙ (λ i. track (sym is.session i) E (sym is.before i));
 }
 
--- so what the fold gives is of the edit
+-- so the result of the fold is that of the edit
 pub track_is : (fold : Folded) (I : Session) (E : Enrolled) (old new : Placing) (edited : List ℕ)
     (r : Option Penalty)
     → IsFoldOf fold I old new edited

@@ -1,10 +1,14 @@
--- In an instance the cap on a cost changes nothing.
-use Rattle.std.proofs.Common.{◌≡◌, ℕ, ◌≤◌, Bool, true, false, List, arith, Fits, w32}
-use Rattle.std.specs.Prelude.{min, if◌then◌else◌, ◌&&◌, ◌==◌, nat_le}
+-- In an instance the cap of a cost changes nothing, and each date exists.
+use Rattle.std.proofs.Common.{◌≡◌, ℕ, ◌≤◌, Bool, true, false, Some, subst, arith, Fits, w32}
+use Rattle.std.specs.Prelude.{min, if◌then◌else◌, ◌&&◌, ◌==◌, nat_le, slice_get, IsTrue}
+use Rattle.std.proofs.lemmas.List.Elements.{All-get_or}
+use Rattle.std.proofs.lemmas.Option.{get_or_from_slice_get, slice_get_within}
+use Rattle.exam_calendar.specs.Dates.{is_civil}
 use Rattle.exam_model.specs.Instance.{Session, IsInstance}
-use Rattle.exam_model.specs.Distances.{gap, same_day}
-use Rattle.exam_score.specs.Cost.{row_cost, day_cost}
-use Rattle.exam_score.specs.Regrouping.{candidate_cost}
+use Rattle.exam_model.specs.Limits.{PeriodInLimits}
+use Rattle.exam_model.specs.declared.parts.Period.{Period}
+use Rattle.exam_model.specs.Distances.{gap, next_day, same_day}
+use Rattle.exam_score.specs.Cost.{row_cost, day_cost, night_cost}
 
 picked : (b : Bool) (w : ℕ) → w ≤ 100000 → (if b then w else 0) ≤ 100000
 picked true w h = h
@@ -20,38 +24,30 @@ pub day_cost-small : (I : Session) → IsInstance I → (p q : ℕ)
 day_cost-small I known p q =
     picked (same_day I.periods p q && nat_le 2 (gap p q)) I.weights.day known.limits.weights.1
 
+pub night_cost-small : (I : Session) → IsInstance I → (p q : ℕ)
+    → night_cost I.periods I.weights p q ≤ 100000
+night_cost-small I known p q =
+    picked (next_day I.periods p q && (gap p q == 1)) I.weights.night known.limits.weights.7
+
 min-small : (n : ℕ) → n ≤ 100000 → min n 100000 ≡ n
 min-small n h = omega arith
 
--- a cost fits where it is written down
+-- a cost fits its type
 pub capped_fits : (n cost : ℕ) → n ≡ min cost 100000 → Fits w32 n
 capped_fits n cost is = omega arith
 
 pub one_fits : (n cost : ℕ) → n ≡ cost → cost ≤ 1 → Fits w32 n
 one_fits n cost is small = omega arith
 
-pub row_uncapped : (I : Session) → IsInstance I
-    → ◌≡◌ {A = ℕ → ℕ → ℕ} (λ p q. min (row_cost I.periods I.weights p q) 100000)
-    (row_cost I.periods I.weights)
-row_uncapped I known =
-    λ i p q. min-small (row_cost I.periods I.weights p q) (row_cost-small I known p q) i
+pub uncapped : (cost : ℕ → ℕ → ℕ) → ((p q : ℕ) → cost p q ≤ 100000)
+    → ◌≡◌ {A = ℕ → ℕ → ℕ} (λ p q. min (cost p q) 100000) cost
+uncapped cost small = λ i p q. min-small (cost p q) (small p q) i
 
-pub day_uncapped : (I : Session) → IsInstance I
-    → ◌≡◌ {A = ℕ → ℕ → ℕ} (λ p q. min (day_cost I.periods I.weights p q) 100000)
-    (day_cost I.periods I.weights)
-day_uncapped I known =
-    λ i p q. min-small (day_cost I.periods I.weights p q) (day_cost-small I known p q) i
-
-pub row_known : (I : Session) → IsInstance I → (xs : List ℕ)
-    → candidate_cost (λ p q. min (row_cost I.periods I.weights p q) 100000) xs
-    ≡ candidate_cost (row_cost I.periods I.weights) xs
-row_known I known xs =
-    λ i. candidate_cost
-    (λ p q. min-small (row_cost I.periods I.weights p q) (row_cost-small I known p q) i) xs
-
-pub day_known : (I : Session) → IsInstance I → (xs : List ℕ)
-    → candidate_cost (λ p q. min (day_cost I.periods I.weights p q) 100000) xs
-    ≡ candidate_cost (day_cost I.periods I.weights) xs
-day_known I known xs =
-    λ i. candidate_cost
-    (λ p q. min-small (day_cost I.periods I.weights p q) (day_cost-small I known p q) i) xs
+-- the date of a period exists
+pub date_exists : (I : Session) → IsInstance I → (p : ℕ) (x : Period)
+    → slice_get I.periods p ≡ Some x → IsTrue (is_civil x.date)
+date_exists I known p x at =
+    let here = subst PeriodInLimits (get_or_from_slice_get I.periods p x x at)
+    (All-get_or PeriodInLimits I.periods p x (slice_get_within I.periods p x at)
+    known.limits.periods) in
+    here.0

@@ -1,4 +1,4 @@
--- The pairs of a student's exams in which an edited one stands, each counted once.
+-- The pairs of a student's exams with an edited one, each counted once.
 use Rattle.std.specs.Prelude.{nat_le}
 use Rattle.std.proofs.Common.{◌≡◌, ℕ, ◌+◌, Bool, true, false, cond, ◌&&◌, ◌||◌, List, [], ◌∷◌, sum_by, Option, Some, None, refl, sym, ◌∙◌, ap, arith}
 use Rattle.std.proofs.lemmas.Bool.Decides.{nat_tests}
@@ -27,12 +27,12 @@ between_none cost nothing (Some p) = nothing p
 
 -- ---- once
 
--- an exam beside all of these, if it is edited
+-- the cost of an exam with all of these, if it is edited
 abbrev pub edited_beside : (ℕ → ℕ → ℕ) → Placing → List ℕ → List ℕ → ℕ → ℕ
 edited_beside cost T edited exams e =
     cond (has_number edited e) (sum_by (cost_at cost T edited e) exams) 0
 
--- all pairs of places in both orders, where no place makes anything with itself
+-- all pairs of places in both orders, if no place costs anything with itself
 square_by_pairs : {X : Type 0} (u : X → X → ℕ) → ((x : X) → u x x ≡ 0) → (xs : List X)
     → sum_by (λ x. sum_by (u x) xs) xs ≡ sum_pairs (λ x y. u x y + u y x) xs
 square_by_pairs u none [] = refl

@@ -1,4 +1,4 @@
--- What an edit exchanges makes the new penalty of the old one.
+-- Replacing the old amounts of an edit by the new ones turns the old penalty into the new one.
 use Rattle.std.specs.List.{AllByRecursion, list_any}
 use Rattle.std.proofs.Common.{◌≡◌, ℕ, zero, suc, ◌+◌, ◌-◌, ◌*◌, ◌^◌, ◌<◌, Bool, true, false, cond, not, ◌&&◌, ◌||◌, eqb, List, [], ◌∷◌, ◌++◌, length, filter, sum_by, Option, Some, None, IfSome, IfNone, IsPermutation, refl, sym, ◌∙◌, ap, ap₂, arith, ne_eqb, eq-eqb, eqb-true, true≢false}
 use Rattle.std.specs.Prelude.{nat_lt, slice_get}
@@ -15,8 +15,8 @@ use Rattle.exam_model.specs.Timetable.{Placing, place_of}
 use Rattle.exam_model.proofs.PairLemmas.{are_pairs}
 use Rattle.exam_model.proofs.SumLemmas.{IsChain, sum_by-none, sum_pairs-agree, sum_pairs-IsPermutation, each_weaker, sum_by-add, sum_by-same, sum_below-same, sum_below-within, sum_below-add}
 use Rattle.exam_score.specs.Changes.{DiffersAtMost}
-use Rattle.exam_score.specs.Cost.{row_cost, day_cost, spread_cost}
-use Rattle.exam_score.specs.CostOrder.{row_cost-swap, day_cost-swap, spread_cost-swap, row_cost-none, day_cost-none, spread_cost-none}
+use Rattle.exam_score.specs.Cost.{row_cost, day_cost, spread_cost, night_cost}
+use Rattle.exam_score.specs.CostOrder.{row_cost-swap, day_cost-swap, spread_cost-swap, night_cost-swap, row_cost-none, day_cost-none, spread_cost-none, night_cost-none}
 use Rattle.exam_score.specs.Exchanges.{CannotExchange, IsExchanged, IsOfEdit, coming, going, pairs_concerned, sits_among}
 use Rattle.exam_score.specs.Touched.{is_touched, mixed_where, room_mixed_where, sum_among}
 use Rattle.exam_score.specs.Folds.{Folded, StandsFor}
@@ -40,7 +40,7 @@ flip : (b : Bool) → not b ≡ true → b ≡ false
 flip true e = sym e
 flip false e = refl
 
--- what fails for all of a list fails for each of it
+-- if no element of a list passes a test, each element fails it
 fails_among : (test : ℕ → Bool) (exams : List ℕ) (e : ℕ) → list_any test exams ≡ false
     → has_number exams e ≡ true → test e ≡ false
 fails_among test [] e none among = absurd (true≢false (sym among))
@@ -53,7 +53,7 @@ fails_among test (k ∷ ks) e none among =
         ap test (sym (eqb-true k e is)) ∙ (or_parts (test k) (list_any test ks) none).0
     go false is h more = more h
 
--- an exam that a student sits is none of those that she doesn't sit
+-- an exam that a student sits is not among exams that they don't sit
 not_among : (E : Enrolled) (s e : ℕ) (exams : List ℕ) → has E s e ≡ true
     → sits_among E exams s ≡ false → has_number exams e ≡ false
 not_among E s e exams sits none = go (has_number exams e) refl
@@ -90,7 +90,7 @@ chain_of_each P R h [] a = tt
 chain_of_each P R h (x ∷ xs) a =
     (each_weaker P (R x) (λ y k. h x y a.0 k) xs a.1, chain_of_each P R h xs a.1)
 
--- a student's pairs make nothing with the pairs of the others
+-- a student's pairs add nothing with the pairs of other students
 apart : (w : ℕ → ℕ → ℕ) (t : ℕ → Bool) (b : Bool) (p q : Pair) → t p.student ≡ b
     → t q.student ≡ not b → later_cost w p q ≡ 0
 apart w t b p q hp hq =
@@ -101,7 +101,7 @@ apart w t b p q hp hq =
     clash true e = true≢false e
     clash false e = true≢false (sym e)
 
--- the sum over all pairs, by the students that pass a test and the others
+-- the sum over all pairs is the sum over the students that pass a test and over the others
 by_test : (w : ℕ → ℕ → ℕ) (t : ℕ → Bool) (ps : List Pair)
     → sum_pairs (later_cost w) ps ≡ sum_pairs (later_cost w) (filter (λ p. t p.student) ps)
     + sum_pairs (later_cost w) (filter (λ p. not (t p.student)) ps)
@@ -138,7 +138,7 @@ by_test w t (p ∷ ps) = go (t p.student) refl (by_test w t ps)
         (kept_pass (λ p. t p.student) ps)) in
         omega arith
 
--- each pair of a list is there
+-- each pair of a list is in the list
 there_each : (ps : List Pair)
     → AllByRecursion (λ p. list_any (is_pair p.student p.exam) ps ≡ true) ps
 there_each [] = tt
@@ -169,7 +169,7 @@ picked_none : (b : Bool) (n : ℕ) → n ≡ 0 → cond b n 0 ≡ 0
 picked_none true n h = h
 picked_none false n h = refl
 
--- in any order
+-- the sum over pairs doesn't depend on their order
 any_order : (cost : ℕ → ℕ → ℕ) (at : ℕ → Option ℕ) → ((p q : ℕ) → cost p q ≡ cost q p)
     → ((p : ℕ) → cost p p ≡ 0) → (xs ys : List Pair) → IsPermutation xs ys
     → sum_pairs (later_cost (λ e f. cost_between cost (at e) (at f))) xs
@@ -192,7 +192,7 @@ sums_with g h k m same (x ∷ xs) =
     let more = sums_with g h k m same xs in
     omega arith
 
--- the part of all pairs, and what the edited exams cost those who are concerned
+-- the part of all pairs, and the costs of the edited exams for the students concerned
 part_exchanged : (cost : ℕ → ℕ → ℕ) (E : Enrolled) (old new : Placing) (edited : List ℕ)
     (pairs : List Pair)
     → ((p q : ℕ) → cost p q ≡ cost q p) → ((p : ℕ) → cost p p ≡ 0)
@@ -264,7 +264,7 @@ part_exchanged cost E old new edited pairs either nothing known moved same =
 
 -- ---- sums over numbers
 
--- where only the terms that pass a test differ
+-- sums that differ only in the terms that pass a test
 sums_exchanged : (f g : ℕ → ℕ) (test : ℕ → Bool) → ((e : ℕ) → test e ≡ false → g e ≡ f e) → (n : ℕ)
     → sum_below n g + sum_below n (λ e. cond (test e) (f e) 0)
     ≡ sum_below n f + sum_below n (λ e. cond (test e) (g e) 0)
@@ -278,7 +278,7 @@ sums_exchanged f g test same (suc n) =
     one true e = omega arith
     one false e = omega (arith, same n e)
 
--- an untouched place has its exams from before
+-- an untouched place has the same exams as before
 untouched : (I : Session) (edited : List ℕ) (old new : Placing) (p r : ℕ)
     → DiffersAtMost edited old new → is_touched edited old new p r ≡ false
     → durations I new p r ≡ durations I old p r
@@ -337,7 +337,7 @@ front_exchanged I E old new edited sizes are exams same =
 
 -- ---- the whole
 
--- what the fold's sums and its open student make
+-- the total of the fold's sums and its open student
 sums_of_all : (I : Session) (T : Placing) (edited : List ℕ) (sum : PersonalPenalty)
     (closed current pairs : List Pair)
     → sum ≡ personal_sum I T edited closed → pairs ≡ closed ++ current
@@ -370,6 +370,9 @@ track_exchanged fold E pairs sizes old h is =
     part_exchanged (spread_cost I.periods I.weights) E fold.earlier fold.later fold.edited pairs
     (spread_cost-swap I.periods I.weights)
     (spread_cost-none I.periods I.weights) is.enrolments is.concerned is.others in
+    let night = part_exchanged (night_cost I.periods I.weights) E fold.earlier fold.later fold.edited
+    pairs (night_cost-swap I.periods I.weights)
+    (night_cost-none I.periods I.weights) is.enrolments is.concerned is.others in
     record {
       row = ap (λ p. pair_part (row_cost I.periods I.weights) E (period_of fold.later) + p.row)
           before
@@ -384,6 +387,11 @@ track_exchanged fold E pairs sizes old h is =
           before
           ∙ spread ∙ ap₂ (λ a b. a + b) (ap (λ p. p.spread) (sym is.scored))
           (ap (λ p. p.spread) (sym after));
+      night = ap (λ p. pair_part (night_cost I.periods I.weights) E
+          (period_of fold.later) + p.night)
+          before
+          ∙ night ∙ ap₂ (λ a b. a + b) (ap (λ p. p.night) (sym is.scored))
+          (ap (λ p. p.night) (sym after));
       mixed = mixed_exchanged I fold.edited fold.earlier fold.later is.others
           ∙ ap (λ p. p.mixed + (coming fold sizes).mixed) (sym is.scored);
       front = front_exchanged I E fold.earlier fold.later fold.edited sizes is.sized
@@ -399,7 +407,7 @@ track_exchanged fold E pairs sizes old h is =
           ∙ ap (λ p. p.room + (coming fold sizes).room) (sym is.scored);
     }
 
--- an exchange has one outcome
+-- an exchange has one result
 pub exchange_is : (old goes comes new : Penalty) (r : Option Penalty)
     → IfSome r (IsExchanged old goes comes) → IfNone r (CannotExchange old goes comes)
     → IsExchanged old goes comes new → total_of new < 2 ^ 62 → r ≡ Some new
@@ -409,13 +417,14 @@ exchange_is old goes comes new (Some x) made none is small =
     let row : x.row ≡ new.row = omega (arith, made.row, is.row) in
     let day : x.day ≡ new.day = omega (arith, made.day, is.day) in
     let spread : x.spread ≡ new.spread = omega (arith, made.spread, is.spread) in
+    let night : x.night ≡ new.night = omega (arith, made.night, is.night) in
     let mixed : x.mixed ≡ new.mixed = omega (arith, made.mixed, is.mixed) in
     let front : x.front ≡ new.front = omega (arith, made.front, is.front) in
     let period : x.period ≡ new.period = omega (arith, made.period, is.period) in
     let room : x.room ≡ new.room = omega (arith, made.room, is.room) in
-    λ i. Some (record { row = row i; day = day i; spread = spread i; mixed = mixed i; front = front i; period = period i; room = room i })
+    λ i. Some (record { row = row i; day = day i; spread = spread i; night = night i; mixed = mixed i; front = front i; period = period i; room = room i })
 
--- so it gives the new penalty
+-- so its result is the new penalty
 pub exchange_scores : (fold : Folded) (E : Enrolled) (pairs : List Pair) (sizes : List ℕ)
     (old : Penalty) (r : Option Penalty)
     → IsInstance fold.instance

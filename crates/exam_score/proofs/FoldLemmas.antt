@@ -1,4 +1,4 @@
--- One pair more in a fold.
+-- A fold with one more pair.
 use Rattle.std.specs.List.{AllByRecursion}
 use Rattle.std.proofs.Common.{◌≡◌, ◌≢◌, ℕ, zero, suc, ◌+◌, ◌<◌, inl, inr, cond, List, [], ◌∷◌, ◌++◌, length, map, sum_by, Option, Some, None, All, AllPairs, refl, sym, ◌∙◌, ap, ap₂, subst, arith, ne_eqb, eq-eqb, append_assoc, length-append, zero-add}
 use Rattle.std.proofs.lemmas.List.Elements.{All-from_recursion, recursion_from_All}
@@ -8,7 +8,7 @@ use Rattle.exam_model.specs.Pairs.{Pair}
 use Rattle.exam_model.specs.Sums.{sum_pairs}
 use Rattle.exam_model.specs.Timetable.{Placing}
 use Rattle.exam_model.proofs.SumLemmas.{IsChain, chain_from_index, sum_by-none, each_weaker}
-use Rattle.exam_score.specs.Cost.{row_cost, day_cost, spread_cost}
+use Rattle.exam_score.specs.Cost.{row_cost, day_cost, spread_cost, night_cost}
 use Rattle.exam_score.specs.Folds.{Folded, StandsFor, CanFollow, ComesEarlier, pairs_sat}
 use Rattle.exam_score.specs.EditedCosts.{edited_cost, exams_cost, personal_at, personal_sum, students_cost}
 use Rattle.exam_score.specs.Penalty.{PersonalPenalty, plus}
@@ -16,7 +16,7 @@ use Rattle.exam_score.proofs.RegroupingLemmas.{later_cost}
 
 -- ---- lists
 
--- a chain, by places
+-- a chain, by indexes
 pub index_from_chain : {X : Type 0} (R : X → X → Type 0) (xs : List X) → IsChain R xs
     → AllPairs R xs
 index_from_chain R [] h i j d l m = absurd (let k : j < 0 = m in omega arith)
@@ -47,9 +47,9 @@ pub map_push : {X Y : Type 0} (f : X → Y) (xs : List X) (x : X)
 map_push f [] x = refl
 map_push f (y ∷ ys) x = ap (λ zs. f y ∷ zs) (map_push f ys x)
 
--- ---- what pairs cost
+-- ---- the costs of pairs
 
--- two parts of pairs that share no student
+-- two lists of pairs that share no student
 apart_cost : (w : ℕ → ℕ → ℕ) (ps qs : List Pair)
     → AllByRecursion (λ p. AllByRecursion (λ q. p.student < q.student) qs) ps
     → sum_pairs (later_cost w) (ps ++ qs)
@@ -78,6 +78,7 @@ sum_apart I T edited ps qs h = λ i. record {
   row = cost_apart (row_cost I.periods I.weights) T edited ps qs h i;
   day = cost_apart (day_cost I.periods I.weights) T edited ps qs h i;
   spread = cost_apart (spread_cost I.periods I.weights) T edited ps qs h i;
+  night = cost_apart (night_cost I.periods I.weights) T edited ps qs h i;
 }
 
 -- the pairs of one student
@@ -102,7 +103,7 @@ cost_of_student : (cost : ℕ → ℕ → ℕ) (T : Placing) (edited : List ℕ)
 cost_of_student cost T edited None es none = ap (exams_cost cost T edited) (none refl)
 cost_of_student cost T edited (Some s) es none = sym (own_cost (edited_cost cost T edited) s es)
 
--- what the open student pays
+-- the costs of the open student
 pub sum_of_student : (I : Session) (T : Placing) (edited : List ℕ) (student : Option ℕ)
     (es : List ℕ) → (student ≡ None → es ≡ [])
     → personal_at I T edited es ≡ personal_sum I T edited (pairs_sat student es)
@@ -110,6 +111,7 @@ sum_of_student I T edited student es none = λ i. record {
   row = cost_of_student (row_cost I.periods I.weights) T edited student es none i;
   day = cost_of_student (day_cost I.periods I.weights) T edited student es none i;
   spread = cost_of_student (spread_cost I.periods I.weights) T edited student es none i;
+  night = cost_of_student (night_cost I.periods I.weights) T edited student es none i;
 }
 
 -- ---- the student of a pair
@@ -124,7 +126,7 @@ other_each None es s other = tt
 other_each (Some x) [] s other = tt
 other_each (Some x) (e ∷ es) s other = (λ k. other (ap Some k), other_each (Some x) es s other)
 
--- ---- one pair more
+-- ---- one more pair
 
 closed_before : (count : ℕ) (closed current : List Pair) (pair : Pair) → (current ≡ [] → count ≡ 0)
     → count ≡ length (closed ++ current)
@@ -142,7 +144,7 @@ closed_before count (p ∷ ps) (q ∷ qs) pair none n follows others =
     below p l later = elim later as (λ _. p.student < pair.student)
         [ inl m ↦ omega (arith, l, m) | inr same ↦ omega (arith, l, same.0) ]
 
--- the facts on others, along the lists
+-- facts about the other students, along the lists
 pub others_each : (closed current : List Pair)
     → All (λ p. All (λ q. p.student < q.student) current) closed
     → AllByRecursion (λ p. AllByRecursion (λ q. p.student < q.student) current) closed
@@ -173,7 +175,7 @@ in_order_push closed current pairs pair parts order below follows =
     (each_weaker (λ p. p.student < pair.student) (λ p. ComesEarlier p pair)
     (λ p l. inl l) closed below) follows)))
 
--- of the open student
+-- one more pair of the open student
 pub stands_on : (fold : Folded) (pairs : List Pair) (s e : ℕ) (exams : List ℕ)
     → StandsFor fold pairs → fold.current ≡ pairs_sat (Some s) exams
     → (fold.current ≡ [] → fold.count ≡ 0) → CanFollow fold (record { exam = e; student = s })
@@ -211,7 +213,7 @@ stands_on fold pairs s e exams h own started follows =
     both (p ∷ ps) qs y a b =
         (each_push (λ q. p.student < q.student) qs y a.0 b.0, both ps qs y a.1 b.1)
 
--- of the next student
+-- the first pair of the next student
 pub stands_turn : (fold : Folded) (pairs : List Pair) (s e : ℕ) (student : Option ℕ)
     (exams : List ℕ) (b a : PersonalPenalty) → StandsFor fold pairs
     → fold.current ≡ pairs_sat student exams → (student ≡ Some s → ⊥)

@@ -1,4 +1,4 @@
--- How many exams are larger, by the list of their sizes.
+-- The number of larger exams, by the list of sizes.
 use Rattle.std.proofs.Common.{◌≡◌, ℕ, zero, suc, ◌+◌, ◌-◌, ◌<◌, ◌≤◌, take_all, Bool, cond, List, length, take, drop, count_by, refl, sym, ◌∙◌, ap, ap₂, arith, add-one, [], ◌∷◌, ◌++◌, subst}
 use Rattle.std.specs.Prelude.{slice_index, nat_lt, nat_le, ◌==◌, ◌&&◌, ◌||◌, if◌then◌else◌}
 use Rattle.std.proofs.lemmas.Bool.Decides.{nat_tests}
@@ -13,7 +13,7 @@ use Rattle.exam_model.proofs.SumLemmas.{sum_below-within, sum_below_more}
 use Rattle.exam_score.specs.Front.{AreSizes, is_larger_by, front_by}
 use Rattle.exam_score.specs.FrontLoad.{is_larger, is_late, exam_front}
 
--- a count over the first elements, by their places
+-- a count over the first elements, by their indexes
 counted : (p : ℕ → Bool) (xs : List ℕ) (n : ℕ) → n ≤ length xs
     → count_by p (take n xs) ≡ count_below n (λ f. p (slice_index xs f))
 counted p xs zero h = refl
@@ -22,7 +22,7 @@ counted p xs (suc n) h =
     ∙ sum_by_more (λ x. cond (p x) 1 0) xs n 0 (omega arith)
     ∙ ap (λ k. k + cond (p (slice_index xs n)) 1 0) (counted p xs n (omega arith))
 
--- a test that is one test below e, and another from e on
+-- a test that equals one test below e, and another from e on
 split : (r p q : ℕ → Bool) (e k n : ℕ) → n ≡ e + k → ((f : ℕ) → f < e → r f ≡ p f)
     → ((f : ℕ) → e ≤ f → r f ≡ q f)
     → count_below n r + count_below e q ≡ count_below e p + count_below n q
@@ -46,7 +46,7 @@ larger_before a b f e h = grind (arith, nat_tests)
 larger_after : (a b f e : ℕ) → e ≤ f → (nat_lt a b || ((b == a) && nat_lt f e)) ≡ nat_lt a b
 larger_after a b f e h = grind (arith, nat_tests)
 
--- of the exams before it those that are as large, and of the others those that are larger
+-- the exams before it that are at least as large, and the others that are larger
 pub larger_count : (sizes : List ℕ) (e : ℕ) → e < length sizes
     → count_below (length sizes) (λ f. is_larger_by sizes f e)
     ≡ count_by (λ x. nat_le (slice_index sizes e) x) (take e sizes)
@@ -66,7 +66,7 @@ larger_count sizes e h =
     let rest = sum_by-take-drop (λ x. cond (nat_lt a x) 1 0) sizes e in
     omega arith
 
--- by the sizes or by the enrolments
+-- the front load by the sizes is that by the enrolments
 pub front_by_sizes : (I : Session) (E : Enrolled) (T : Placing) (sizes : List ℕ) (e : ℕ)
     → AreSizes E sizes → length E ≡ length I.exams → e < length E
     → front_by I sizes (place_of T e) e ≡ exam_front I E T e
@@ -89,7 +89,7 @@ sizes_push : (E : Enrolled) (xs : List ℕ) (n e : ℕ)
     → e < length (xs ++ n ∷ []) → slice_index (xs ++ n ∷ []) e ≡ size_of E e
 sizes_push E xs n e each is within = grind (arith, common_steps)
 
--- the sizes of the exams before one, and its own after them
+-- the sizes of the exams before one, followed by its own
 pub sizes_more : (E : Enrolled) (xs ys : List ℕ) (n e : ℕ) → ys ≡ xs ++ n ∷ [] → n ≡ size_of E e
     → length xs ≡ e → ((f : ℕ) → f < length xs → slice_index xs f ≡ size_of E f)
     → record { count : length ys ≡ e + 1; each : (f : ℕ) → f < length ys → slice_index ys f ≡ size_of E f }

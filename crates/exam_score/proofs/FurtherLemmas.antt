@@ -1,4 +1,4 @@
--- One place more in the mixed part of the periods and rooms that pass.
+-- The mixed part of the periods and rooms that pass, with one more place.
 use Rattle.std.proofs.Common.{◌≡◌, ℕ, ◌+◌, ◌-◌, ◌*◌, Bool, true, false, cond, not, ◌&&◌, ◌||◌, eqb, ltb, List, ◌∷◌, length, Option, None, Some, refl, sym, ◌∙◌, ap, arith, add-zero}
 use Rattle.exam_terms.specs.declared.place.Place.{Place}
 use Rattle.exam_model.specs.Instance.{Session}
@@ -8,11 +8,11 @@ use Rattle.exam_model.proofs.SumLemmas.{sum_below-same, sum_below-add, sum_below
 use Rattle.exam_score.specs.Touched.{further_mixed, is_touched, mixed_where, room_mixed_where}
 use Rattle.exam_score.specs.MixedDurations.{durations, is_at}
 
--- what a period and room make of the mixed part
+-- the share of a period and room in the mixed part
 abbrev mixed : Session → Placing → ℕ → ℕ → ℕ
 mixed I T p r = (durations I T p r - 1) * I.weights.mixed
 
--- whether a period and room pass, or an exam's place is there
+-- whether a period and room pass, or are an exam's place
 abbrev or_at : (ℕ → ℕ → Bool) → Option Place → ℕ → ℕ → Bool
 or_at f o p r = f p r || is_at p r o
 
@@ -29,13 +29,13 @@ mixed_none I T =
     sum_below-same _ _ (λ r. sum_below-zeros (length I.periods)) (length I.rooms)
     ∙ sum_below-zeros (length I.rooms)
 
--- a sum of which all terms pass or none
+-- a sum whose terms all pass or all fail
 sum_if : (b : Bool) (g : ℕ → ℕ) (n : ℕ) → sum_below n (λ e. cond b (g e) 0)
     ≡ cond b (sum_below n g) 0
 sum_if true g n = refl
 sum_if false g n = sum_below-zeros n
 
--- ---- one place more
+-- ---- one more place
 
 one_term : (passes at_period at_room : Bool) (n : ℕ)
     → cond (passes || (at_period && at_room)) n 0
@@ -57,7 +57,7 @@ in_order true true false n = refl
 in_order true false passes n = refl
 in_order false has_period passes n = refl
 
--- it makes what the place makes, if it exists and did not pass
+-- the sum grows by the place's share, if the place exists and did not pass
 one_place : (I : Session) (T : Placing) (f : ℕ → ℕ → Bool) (o : Option Place)
     → mixed_where I T (or_at f o) ≡ mixed_where I T f + further_mixed I T f o
 one_place I T f None =
@@ -93,7 +93,7 @@ one_place I T f (Some at) =
         (sum_if (eqb at.room r) (λ p. cond (eqb at.period p) (term r p) 0) (length I.periods)
         ∙ ap (λ n. cond (eqb at.room r) n 0) (sum_below-at (term r) at.period (length I.periods)))
 
--- beside another place it makes as much, or nothing where it is the same one
+-- with another place it grows by as much, or by nothing if the two are the same
 beside : (I : Session) (T : Placing) (f : ℕ → ℕ → Bool) (o : Option Place) (at : Place) (b : Bool)
     → b ≡ is_at at.period at.room o
     → further_mixed I T (or_at f o) (Some at) ≡ cond b 0 (further_mixed I T f (Some at))
@@ -114,7 +114,7 @@ beside I T f o at b is =
     by_case false passes true n = refl
     by_case false passes false n = refl
 
--- ---- the two places of one exam more
+-- ---- the two places of one more exam
 
 turned : (others earlier later : Bool) → ((others || earlier) || later)
     ≡ ((earlier || later) || others)
@@ -125,7 +125,7 @@ turned false true later = refl
 turned false false true = refl
 turned false false false = refl
 
--- the earlier place and then the later one
+-- the earlier place, followed by the later one
 both_places : (I : Session) (T : Placing) (e : ℕ) (edited : List ℕ) (old new : Placing)
     → mixed_where I T (is_touched edited old new)
     + (further_mixed I T (is_touched edited old new) (place_of old e)
@@ -140,7 +140,7 @@ both_places I T e edited old new =
     (λ p r. turned (f p r) (is_at p r (place_of old e)) (is_at p r (place_of new e))) in
     omega arith
 
--- where there is no later place
+-- the exam has no later place
 pub earlier_place : (I : Session) (T : Placing) (e : ℕ) (edited : List ℕ) (old new : Placing)
     → place_of new e ≡ None
     → mixed_where I T (is_touched edited old new)
@@ -153,7 +153,7 @@ earlier_place I T e edited old new none =
     = ap (further_mixed I T (or_at f (place_of old e))) none in
     omega arith
 
--- where there is one, which may be the earlier one
+-- the exam has a later place, which may equal the earlier one
 pub later_place : (I : Session) (T : Placing) (e : ℕ) (edited : List ℕ) (old new : Placing)
     (at : Place) (b : Bool)
     → place_of new e ≡ Some at → b ≡ is_at at.period at.room (place_of old e)

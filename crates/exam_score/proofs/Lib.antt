@@ -4,6 +4,7 @@ pub mod RowLemmas
 pub mod SittingLemmas
 pub mod TallyLemmas
 pub mod WalkLemmas
+pub mod NightLemmas
 pub mod PairsLemmas
 pub mod FrontLemmas
 pub mod FurtherLemmas

@@ -22,7 +22,7 @@ use Rattle.exam_score.specs.Stays.{is_stay, StayExists, AreStays, NotAfter, next
 use Rattle.exam_score.specs.declared.mixed.Stay.{Stay}
 use Rattle.exam_score.proofs.WalkLemmas.{none_or}
 
--- ---- one exam more
+-- ---- one more exam
 
 pub counts_more_some : (I : Session) (T : Placing) (e : ℕ) (stays : List Stay)
     (at : Place) (x : Exam)
@@ -55,7 +55,7 @@ counts_more_none I T e stays unplaced known p r m =
 abbrev pub stay_durations : List Stay → ℕ → ℕ → ℕ
 stay_durations xs p r = count_below duration_count (λ m. nat_lt 0 (count_by (is_stay p r m) xs))
 
--- 1 where there is none yet
+-- 1 if there is none yet, else 0
 abbrev fresh : ℕ → ℕ
 fresh n = cond (nat_lt 0 n) 0 1
 
@@ -65,7 +65,7 @@ one_term : (b : Bool) (n : ℕ)
 one_term true n = grind (arith, nat_tests)
 one_term false n = ap (λ k. cond (nat_lt 0 k) 1 0) (zero-add n) ∙ sym (add-zero _)
 
--- one more that lasts k
+-- the number of durations with one more that lasts k
 one_more : (h : ℕ → ℕ) (k n : ℕ) → k < n → count_below n (λ m. nat_lt 0 (cond (eqb k m) 1 0 + h m))
     ≡ count_below n (λ m. nat_lt 0 (h m)) + fresh (h k)
 one_more h k n lt =
@@ -74,11 +74,11 @@ one_more h k n lt =
     ∙ ap (λ j. count_below n (λ m. nat_lt 0 (h m)) + j)
     (sum_below-at (λ m. fresh (h m)) k n ∙ cond-true (ltb k n) (fresh (h k)) 0 (lt-ltb k n lt))
 
--- what one more makes of all durations but one
+-- the number of durations but one, after one more
 less_one : (d n : ℕ) → (d + fresh n) - 1 ≡ (d - 1) + cond (nat_lt 0 d) (fresh n) 0
 less_one d n = grind (arith, nat_tests)
 
--- at one place: one more stay
+-- one more stay at one place
 place_more : (x : Stay) (xs : List Stay) (b : Bool) (p r n : ℕ) → x.minutes < n
     → ((x.period == p) && (x.room == r)) ≡ b
     → count_below n (λ m. nat_lt 0 (count_by (is_stay p r m) (x ∷ xs))) - 1
@@ -107,7 +107,7 @@ place_more x xs b p r n lt is =
         (λ m. ap (λ k. cond (nat_lt 0 k) 1 0) (zero-add (count_by (is_stay p r m) xs))) n)
         ∙ sym (add-zero _)
 
--- over all places: what stands at one place
+-- a sum over all places whose terms differ from 0 only at one place
 one_place : (u : ℕ → ℕ → ℕ) (a b periods rooms : ℕ) → a < periods → b < rooms
     → sum_below rooms (λ r. sum_below periods (λ p. cond ((a == p) && (b == r)) (u p r) 0)) ≡ u a b
 one_place u a b periods rooms ha hb =
@@ -142,13 +142,13 @@ more_stays x xs periods rooms hp hr hm =
     (λ r. sum_below periods (λ p. cond ((x.period == p) && (x.room == r)) (u p r) 0)) rooms
     ∙ ap (λ k. all_but_one xs periods rooms + k) (one_place u x.period x.room periods rooms hp hr)
 
--- ---- what comes next
+-- ---- the next stay
 
 and-none : (c d : Bool) → ((c && false) && d) ≡ false
 and-none true d = refl
 and-none false d = refl
 
--- a stay elsewhere, or of another duration
+-- a stay at another place, or of another duration
 elsewhere : (p r m : ℕ) (z : Stay) → (z.period ≡ p → z.room ≡ r → ⊥) → is_stay p r m z ≡ false
 elsewhere p r m z other = elim (cases_eq z.period p) as (λ _. is_stay p r m z ≡ false) [
   | inl here ↦ elim (cases_eq z.room r) as (λ _. is_stay p r m z ≡ false) [
@@ -196,7 +196,7 @@ at_least f k (suc n) lt = elim (cases_lt k n) as (λ _. f k ≤ sum_below n f + 
   | inr last ↦ (let same : k ≡ n = omega arith in let h : f k ≡ f n = ap f same in omega arith)
 ]
 
--- from x over y to z: what is back at the place of x was never away
+-- three stays in order: if the first and the third have the same place, so has the second
 back_place : (x y z : Stay) → NotAfter x y → NotAfter y z → z.period ≡ x.period → z.room ≡ x.room
     → (y.period ≡ x.period) × (y.room ≡ x.room)
 back_place x y z xy yz zp zr =
@@ -220,7 +220,7 @@ self_after : (x : Stay) → NotAfter x x
 self_after x =
     record { periods = omega arith; rooms = λ _. omega arith; minutes = λ _ _. omega arith }
 
--- the next one is of another place: then so are all
+-- the next stay has another place: then so have all later ones
 next_elsewhere : (x y : Stay) (ys : List Stay) → NotAfter x y → AllByRecursion (NotAfter y) ys
     → (y.period ≡ x.period → y.room ≡ x.room → ⊥)
     → cond (nat_lt 0 (stay_durations (y ∷ ys) x.period x.room))
@@ -235,7 +235,7 @@ next_elsewhere x y ys xy later other =
           ys later,
     )))
 
--- of one place and duration: then there is no further duration
+-- the next stay has the same place and duration: then there is no further duration
 next_same : (x y : Stay) (ys : List Stay) → y.period ≡ x.period → y.room ≡ x.room
     → y.minutes ≡ x.minutes
     → cond (nat_lt 0 (stay_durations (y ∷ ys) x.period x.room))
@@ -249,7 +249,7 @@ next_same x y ys a b c =
     (lt-ltb 0 _ some)
     ∙ none_or (nat_lt 0 (stay_durations (y ∷ ys) x.period x.room))
 
--- of one place and another duration: then it is a further one
+-- the next stay has the same place and another duration: then it is a further one
 next_further : (x y : Stay) (ys : List Stay) → NotAfter x y → AllByRecursion (NotAfter y) ys
     → y.minutes < duration_count → y.period ≡ x.period → y.room ≡ x.room → y.minutes ≢ x.minutes
     → cond (nat_lt 0 (stay_durations (y ∷ ys) x.period x.room))
@@ -400,7 +400,7 @@ mixed_is I T stays sorted are moved order =
     (length I.periods))
     (length I.rooms)
 
--- what a placed exam's stay has exists
+-- the place and the duration of a placed exam's stay exist
 pub stay_exists : (I : Session) (T : Placing) (e : ℕ) (at : Place) (x : Exam) → IsInstance I
     → Suits I T → e < length T → place_of T e ≡ Some at → slice_get I.exams e ≡ Some x
     → StayExists I (record { period = at.period; room = at.room; minutes = x.minutes })

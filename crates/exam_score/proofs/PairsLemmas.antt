@@ -1,10 +1,11 @@
--- The sum over pairs of exams is the sum over rows of placed exams, and over tallies of them.
+-- The sum over pairs of exams is the sum over rows of placed exams, and over their tallies.
 use Rattle.std.specs.List.{cons_option}
 use Rattle.std.proofs.Common.{◌≡◌, ℕ, ◌+◌, ◌*◌, ◌≤◌, cond, eqb, List, [], ◌∷◌, length, Some, None, option_map, sum_by, filter_map, refl, sym, ◌∙◌, ap, ap₂, arith, zero-add, mul-zero, zero-mul}
 use Rattle.std.proofs.Math.Nat.{mul_comm, mul_assoc}
 use Rattle.std.proofs.lemmas.List.Sums.{sum_by-cons}
 use Rattle.std.proofs.lemmas.Bool.Decides.{nat_tests}
 use Rattle.exam_model.specs.Enrolments.{Enrolled, AreEnrolments, students, size_of}
+use Rattle.exam_model.specs.Instance.{Session, IsInstance}
 use Rattle.exam_model.specs.PairCost.{cost_between}
 use Rattle.exam_model.specs.Pairs.{Pair, pairs_of}
 use Rattle.exam_model.specs.Sums.{sum_pairs, sum_below}
@@ -12,6 +13,10 @@ use Rattle.exam_model.specs.Timetable.{Placing}
 use Rattle.exam_model.specs.Fits.{period_of}
 use Rattle.exam_model.proofs.PairLemmas.{are_pairs}
 use Rattle.exam_model.proofs.SumLemmas.{sum_by-same, sum_by-times, sum_by-zeros, sum_pairs-twice}
+use Rattle.exam_score.specs.Cost.{row_cost, day_cost, spread_cost, night_cost}
+use Rattle.exam_score.specs.CostOrder.{row_cost-swap, day_cost-swap, spread_cost-swap, night_cost-swap, row_cost-none, day_cost-none, spread_cost-none, night_cost-none, spread_cost-small}
+use Rattle.exam_score.specs.PairSums.{ArePairParts}
+use Rattle.exam_score.specs.Penalty.{PersonalPenalty}
 use Rattle.exam_score.specs.Regrouping.{pair_part}
 use Rattle.exam_score.specs.Rows.{row_at, row_of}
 use Rattle.exam_score.specs.Tallies.{if_placed, tally_sum, tally_pair, tally_cost, row_count, AreCounted}
@@ -19,6 +24,7 @@ use Rattle.exam_score.specs.Walk.{row_pair, cost_with}
 use Rattle.exam_score.specs.declared.rows.Row.{Row}
 use Rattle.exam_score.specs.declared.sittings.Sitting.{Sitting}
 use Rattle.exam_score.specs.declared.tallies.Tally.{Tally}
+use Rattle.exam_score.proofs.CostLemmas.{row_cost-small, day_cost-small, night_cost-small}
 use Rattle.exam_score.proofs.RegroupingLemmas.{later_cost, part_by_rows}
 use Rattle.exam_score.proofs.RowLemmas.{rows_few}
 use Rattle.exam_score.proofs.SittingLemmas.{rows_by_exam}
@@ -91,7 +97,7 @@ part_of_rows cost E T known = sym (by_placed cost T (pairs_of E))
 turned_product : (a b c : ℕ) → a * b * c ≡ c * b * a
 turned_product a b c = mul_comm (a * b) c ∙ ap (λ n. c * n) (mul_comm a b) ∙ sym (mul_assoc c b a)
 
--- the cost over pairs of tallies is that over pairs of the rows that they count
+-- the cost over pairs of tallies is the cost over pairs of the rows that they count
 tallied_cost : (cost : ℕ → ℕ → ℕ) (rows : List Row) (tallies : List Tally)
     → ((p q : ℕ) → cost p q ≡ cost q p) → ((p : ℕ) → cost p p ≡ 0)
     → ((f : Row → ℕ) → sum_by f rows ≡ sum_by (tally_sum f) tallies)
@@ -145,7 +151,7 @@ tallied_rows E T sittings tallies long all counted f =
     ∙ sym (all (λ e p. sum_by (λ s. f (row_at p s)) (students E e)))
     ∙ counted f
 
--- ---- how many
+-- ---- the number of rows
 
 sum_ones : {X : Type 0} (xs : List X) → sum_by (λ x. 1) xs ≡ length xs
 sum_ones {X} [] = refl
@@ -159,7 +165,7 @@ few_rows E T known =
     let most = known.pairs in
     omega arith
 
--- no more students sit the sittings than there are pairs
+-- the sittings have at most as many students as there are pairs
 pub few_seats : (E : Enrolled) (T : Placing) (sittings : List Sitting) → AreEnrolments E
     → length T ≡ length E
     → ((g : ℕ → ℕ → ℕ) → sum_by (λ x. g x.exam x.period) sittings
@@ -178,7 +184,7 @@ few_seats E T sittings known long all =
     let few = few_rows E T known in
     omega arith
 
--- nor do tallies count more rows
+-- the tallies count at most as many rows
 pub few_tallied : (E : Enrolled) (T : Placing) (tallies : List Tally) → AreEnrolments E
     → ((f : Row → ℕ) → sum_by f (filter_map (row_of T) (pairs_of E)) ≡ sum_by (tally_sum f) tallies)
     → row_count tallies ≤ 200000
@@ -198,11 +204,11 @@ part_small cost E T known small =
     let bound = cost_with-small cost rows small (few_rows E T known) in
     omega arith
 
-pub record IsPart (cost : ℕ → ℕ → ℕ) (E : Enrolled) (T : Placing) (n : ℕ) : Type 0 where
+record IsPart (cost : ℕ → ℕ → ℕ) (E : Enrolled) (T : Placing) (n : ℕ) : Type 0 where
   pub sum : n ≡ pair_part cost E (period_of T)
   pub small : n ≤ 4000000000000000
 
-pub is_part : (cost : ℕ → ℕ → ℕ) (E : Enrolled) (T : Placing) (n : ℕ) (tallies : List Tally)
+is_part : (cost : ℕ → ℕ → ℕ) (E : Enrolled) (T : Placing) (n : ℕ) (tallies : List Tally)
     → AreEnrolments E
     → ((p q : ℕ) → cost p q ≡ cost q p) → ((p : ℕ) → cost p p ≡ 0) → ((p q : ℕ) → cost p q ≤ 100000)
     → ((f : Row → ℕ) → sum_by f (filter_map (row_of T) (pairs_of E)) ≡ sum_by (tally_sum f) tallies)
@@ -213,3 +219,42 @@ is_part cost E T n tallies known either nothing small counted is =
     is ∙ tallied_cost cost rows tallies either nothing counted in
     let bound = cost_with-small cost rows small (few_rows E T known) in
     record { sum = total ∙ part_of_rows cost E T known; small = omega arith }
+
+-- the four parts of the pairs, by the tallies
+pub pair_parts_tallied : (I : Session) (E : Enrolled) (T : Placing) (sittings : List Sitting)
+    (tallies : List Tally) (sums : PersonalPenalty)
+    → IsInstance I → AreEnrolments E → length T ≡ length E
+    → ((g : ℕ → ℕ → ℕ) → sum_by (λ x. g x.exam x.period) sittings
+    ≡ sum_below (length T) (λ e. if_placed (g e) (period_of T e)))
+    → AreCounted E sittings tallies
+    → sums.row ≡ tally_cost (row_cost I.periods I.weights) tallies
+    → sums.day ≡ tally_cost (day_cost I.periods I.weights) tallies
+    → sums.spread ≡ tally_cost (spread_cost I.periods I.weights) tallies
+    → sums.night ≡ tally_cost (night_cost I.periods I.weights) tallies → ArePairParts I E T sums
+pair_parts_tallied I E T sittings tallies sums known enrolled long all counted row_is day_is
+    spread_is night_is =
+    let rows = tallied_rows E T sittings tallies long all counted in
+    let one : (p q : ℕ) → spread_cost I.periods I.weights p q ≤ 100000 =
+    λ p q. omega (arith, spread_cost-small I.periods I.weights p q) in
+    let row = is_part (row_cost I.periods I.weights) E T sums.row tallies enrolled
+    (row_cost-swap I.periods I.weights) (row_cost-none I.periods I.weights)
+    (row_cost-small I known) rows row_is in
+    let day = is_part (day_cost I.periods I.weights) E T sums.day tallies enrolled
+    (day_cost-swap I.periods I.weights) (day_cost-none I.periods I.weights)
+    (day_cost-small I known) rows day_is in
+    let spread = is_part (spread_cost I.periods I.weights) E T sums.spread tallies enrolled
+    (spread_cost-swap I.periods I.weights) (spread_cost-none I.periods I.weights) one rows
+    spread_is in
+    let night = is_part (night_cost I.periods I.weights) E T sums.night tallies enrolled
+    (night_cost-swap I.periods I.weights) (night_cost-none I.periods I.weights)
+    (night_cost-small I known) rows night_is in
+    record {
+      row = row.sum;
+      day = day.sum;
+      spread = spread.sum;
+      night = night.sum;
+      few_rows = row.small;
+      few_days = day.small;
+      few_spread = spread.small;
+      few_nights = night.small;
+    }

@@ -13,27 +13,27 @@ use Rattle.exam_model.specs.Pairs.{Pair, pairs_at, pairs_from, pairs_of, is_pair
 use Rattle.exam_score.specs.Regrouping.{pair_part, exams_of, periods_of, candidate_cost, AreStudentsOf}
 use Rattle.exam_model.proofs.SumLemmas.{IsChain, chain_from_index, sum_by-same, sum_by-agree, sum_by-zeros, sum_by-add, sum_by-times, sum_below-same, sum_below-turned, sum_below-at, cond-sum_by, cond_and, sum_by-once, sum_pairs-square, sum_pairs-agree, each_weaker, chain_weaker}
 
--- ---- words of this page
+-- ---- definitions
 
 -- how many students are in pairs with both exams
 abbrev pub shared_in : List Pair → ℕ → ℕ → ℕ
 shared_in pairs e f = count_by (λ p. (p.exam == e) && list_any (is_pair p.student f) pairs) pairs
 
--- pairs of exams below a number, in order, none twice
+-- pairs of exams below a number, in order and without repeats
 pub record AreOrdered (exams : ℕ) (pairs : List Pair) : Type 0 where
   pub in_order : IsChain ComesBefore pairs
   pub exist : AllByRecursion (λ p. p.exam < exams) pairs
 
--- a list that has each student of the pairs, and none twice
+-- a list of all students of the pairs, without repeats
 pub record AreStudents (pairs : List Pair) (students : List ℕ) : Type 0 where
   pub once : IsChain (λ s t. s ≢ t) students
   pub all : AllByRecursion (λ p. list_any (λ s. s == p.student) students ≡ true) pairs
 
--- what two pairs of one student cost, the lesser exam first
+-- the cost of two pairs of one student, the lesser exam first
 abbrev pub pair_cost : (ℕ → ℕ → ℕ) → Pair → Pair → ℕ
 pair_cost w p q = cond (ltb p.exam q.exam) (cond (eqb q.student p.student) (w p.exam q.exam) 0) 0
 
--- the same, where the order of the pairs is that of the exams
+-- the same, if the pairs are in the order of the exams
 abbrev pub later_cost : (ℕ → ℕ → ℕ) → Pair → Pair → ℕ
 later_cost w p q = cond (eqb q.student p.student) (w p.exam q.exam) 0
 
@@ -48,7 +48,7 @@ other_pair s e p q before is =
     elim before as (λ _. is_pair s e q ≡ false)
     [ inl less ↦ grind (arith, nat_tests) | inr same ↦ grind (arith, nat_tests) ]
 
--- one pair of exams: its shared students, as pairs of pairs
+-- one pair of exams: their shared students, as pairs of pairs
 shared_as_pairs : (w : ℕ) (pairs : List Pair) (e f : ℕ) → IsChain ComesBefore pairs
     → shared_in pairs e f * w
     ≡ sum_by (λ p. sum_by (λ q. cond (eqb p.exam e) (cond (is_pair p.student f q) w 0) 0) pairs)
@@ -76,7 +76,7 @@ turn_tests a b c n =
           [ true ↦ refl | false ↦ no_cost c ]
     ]
 
--- two pairs: the one pair of exams that they are of
+-- two pairs: the one pair of exams that they have
 one_term : (w : ℕ → ℕ → ℕ) (n : ℕ) (p q : Pair) → q.exam < n
     → sum_pairs_below n (λ e f. cond (eqb p.exam e) (cond (is_pair p.student f q) (w e f) 0) 0)
     ≡ pair_cost w p q
@@ -88,7 +88,7 @@ one_term w n p q within =
     (λ f. cond (ltb p.exam f) (cond (eqb q.student p.student) (w p.exam f) 0) 0) q.exam n
     ∙ cond-true (ltb q.exam n) (pair_cost w p q) 0 (lt-ltb q.exam n within)
 
--- over all pairs of exams, and over all pairs of pairs
+-- the sum over all pairs of exams is the sum over all pairs of pairs
 pub by_pairs : (w : ℕ → ℕ → ℕ) (n : ℕ) (pairs : List Pair) → AreOrdered n pairs
     → sum_pairs_below n (λ e f. shared_in pairs e f * w e f)
     ≡ sum_by (λ p. sum_by (λ q. pair_cost w p q) pairs) pairs
@@ -121,7 +121,7 @@ in_order_cost w p q before =
     elim before as (λ _. pair_cost w p q ≡ later_cost w p q)
     [ inl less ↦ cond-true (ltb p.exam q.exam) _ 0 (lt-ltb p.exam q.exam less) | inr same ↦ grind (arith, nat_tests) ]
 
--- over all pairs of exams, and over the pairs in order
+-- the sum over all pairs of exams is the sum over the pairs in order
 pub by_rows : (w : ℕ → ℕ → ℕ) (n : ℕ) (pairs : List Pair) → AreOrdered n pairs
     → sum_pairs_below n (λ e f. shared_in pairs e f * w e f) ≡ sum_pairs (later_cost w) pairs
 by_rows w n pairs h =
@@ -175,7 +175,7 @@ sum_pairs-exams_of w p ps s =
     ≡ cond b (sum_by (w p.exam) (exams_of ps s)) 0 + sum_pairs w (exams_of ps s))
     [ true ↦ refl | false ↦ sym (zero-add _) ]
 
--- over the pairs of a list, and over the students
+-- the sum over the pairs of a list is the sum over the students
 pub by_students : (w : ℕ → ℕ → ℕ) (pairs : List Pair) (students : List ℕ)
     → AreStudents pairs students
     → sum_pairs (later_cost w) pairs ≡ sum_by (λ s. sum_pairs w (exams_of pairs s)) students
@@ -233,7 +233,7 @@ at_within : (n f : ℕ) (xs : List ℕ) (later : List Pair) → f < n
 at_within n f [] later lt h = h
 at_within n f (x ∷ xs) later lt h = (lt, at_within n f xs later lt h)
 
--- each exam is one of those that are there
+-- each exam of a pair exists
 from_within : (n f : ℕ) (E : Enrolled) → f + length E ≤ n
     → AllByRecursion (λ p. p.exam < n) (pairs_from f E)
 from_within n f [] h = tt
@@ -252,7 +252,7 @@ pub shared_pairs : (E : Enrolled) → ArePairsOf E (pairs_of E) → (e f : ℕ)
 shared_pairs E is e f =
     (λ i. count_by (λ p. (p.exam == e) && is.members p.student f i) (pairs_of E)) ∙ is.sharing e f
 
--- over all pairs of exams, and over the pairs in order
+-- the sum over all pairs of exams is the sum over the pairs in order
 pub part_by_rows : (cost : ℕ → ℕ → ℕ) (E : Enrolled) (at : ℕ → Option ℕ) → ArePairsOf E (pairs_of E)
     → pair_part cost E at ≡ sum_pairs
     (later_cost (λ e f. cost_between cost (at e) (at f))) (pairs_of E)
@@ -261,7 +261,7 @@ part_by_rows cost E at is =
     (λ e f. sym (shared_pairs E is e f) i * cost_between cost (at e) (at f)))
     ∙ by_rows (λ e f. cost_between cost (at e) (at f)) (length E) (pairs_of E) (are_ordered E is)
 
--- over all pairs of exams, and over the students
+-- the sum over all pairs of exams is the sum over the students
 pub regrouped_by_students : (cost : ℕ → ℕ → ℕ) (E : Enrolled) (at : ℕ → Option ℕ)
     (students : List ℕ)
     → ArePairsOf E (pairs_of E) → AreStudentsOf E students

@@ -1,4 +1,4 @@
--- The rows of a timetable, one exam more.
+-- The rows of a timetable, with one more exam.
 use Rattle.std.specs.List.{cons_option}
 use Rattle.std.proofs.Common.{◌≡◌, ℕ, ◌+◌, ◌<◌, ◌≤◌, List, [], ◌∷◌, ◌++◌, length, take, map, filter_map, Some, None, option_map, refl, sym, ◌∙◌, ap, arith, append-nil, append_assoc, length-take}
 use Rattle.std.proofs.lemmas.List.{take_more}
@@ -43,7 +43,7 @@ rows_at_none T e is (x ∷ xs) =
     is
     ∙ rows_at_none T e is xs
 
--- the rows of a placed exam come behind those before it
+-- the rows of a placed exam come after those of the exams before it
 pub rows_more_some : (E : Enrolled) (T : Placing) (e p : ℕ) → e < length E → period_of T e ≡ Some p
     → filter_map (row_of T) (pairs_of (take (e + 1) E))
     ≡ filter_map (row_of T) (pairs_of (take e E)) ++ map (row_at p) (students E e)
@@ -53,7 +53,7 @@ rows_more_some E T e p lt is =
     ∙ ap (λ rows. filter_map (row_of T) (pairs_of (take e E)) ++ rows)
     (rows_at_some T e p is (students E e))
 
--- an exam that is not placed has none
+-- an exam that is not placed has no rows
 pub rows_more_none : (E : Enrolled) (T : Placing) (e : ℕ) → e < length E → period_of T e ≡ None
     → filter_map (row_of T) (pairs_of (take (e + 1) E))
     ≡ filter_map (row_of T) (pairs_of (take e E))
@@ -64,7 +64,7 @@ rows_more_none E T e lt is =
     (rows_at_none T e is (students E e))
     ∙ append-nil (filter_map (row_of T) (pairs_of (take e E)))
 
--- no more rows than pairs
+-- there are at most as many rows as pairs
 pub rows_few : (T : Placing) (pairs : List Pair)
     → length (filter_map (row_of T) pairs) ≤ length pairs
 rows_few T [] = omega arith

@@ -1,4 +1,5 @@
--- The rows of sittings, and those of a set's pairs: every sum over the one is that over the other.
+-- The rows of sittings, and those of a set's pairs: each sum over the ones equals that over the
+-- others.
 use Rattle.std.specs.Ordering.{is_lt, nat_cmp, ordering_then}
 use Rattle.std.specs.Cmp.{then_total, on_total, nat_cmp_total, IsTotalOrder}
 use Rattle.std.proofs.Common.{◌≡◌, ℕ, zero, suc, ◌+◌, ◌<◌, ◌≤◌, inl, inr, false, List, [], ◌∷◌, ◌++◌, length, take, take_all, get_or, map, filter_map, Option, Some, None, sum_by, AllPairs, IsSorted, Ordering, refl, sym, ◌∙◌, ap, ap₂, arith, add-one, add-zero}
@@ -18,7 +19,7 @@ use Rattle.exam_score.specs.declared.rows.Row.{Row}
 use Rattle.exam_score.specs.declared.sittings.Sitting.{Sitting}
 use Rattle.exam_score.proofs.RowLemmas.{rows_more_some, rows_more_none}
 
--- ---- one exam more
+-- ---- one more exam
 
 pub sittings_more_some : (g : ℕ → ℕ → ℕ) (T : Placing) (e p : ℕ) (xs : List Sitting)
     → period_of T e ≡ Some p

@@ -14,14 +14,14 @@ use Rattle.exam_model.specs.declared.parts.Period.{Period}
 use Rattle.exam_model.specs.declared.parts.Room.{Room}
 use Rattle.exam_terms.specs.declared.place.Place.{Place}
 use Rattle.exam_model.proofs.SumLemmas.{sum_below-le}
-use Rattle.exam_score.specs.Cost.{row_cost, day_cost, spread_cost}
+use Rattle.exam_score.specs.Cost.{row_cost, day_cost, spread_cost, night_cost}
 use Rattle.exam_score.specs.CostOrder.{spread_cost-small}
 use Rattle.exam_score.specs.Touched.{mixed_where, room_mixed_where}
 use Rattle.exam_score.specs.Penalty.{total_of}
 use Rattle.exam_score.specs.Track.{period_penalty, room_penalty, exam_period, exam_room, track}
 use Rattle.exam_score.specs.FrontLoad.{is_largest, is_late, exam_front}
 use Rattle.exam_score.specs.MixedDurations.{duration_count, lasting, durations}
-use Rattle.exam_score.proofs.CostLemmas.{row_cost-small, day_cost-small}
+use Rattle.exam_score.proofs.CostLemmas.{row_cost-small, day_cost-small, night_cost-small}
 use Rattle.exam_score.proofs.PairsLemmas.{part_small}
 
 picked : (b : Bool) (w : ℕ) → w ≤ 100000 → cond b w 0 ≤ 100000
@@ -68,7 +68,7 @@ durations_small I T p r =
     subst (λ n. durations I T p r ≤ n) most_durations
     (counted_few duration_count (λ m. nat_lt 0 (lasting I T p r m)))
 
--- of the periods and rooms that pass
+-- the mixed part of the periods and rooms that pass
 pub mixed_where_small : (I : Session) (T : Placing) (touched : ℕ → ℕ → Bool) → IsInstance I
     → mixed_where I T touched ≤ 5764000000000
 mixed_where_small I T touched known =
@@ -98,6 +98,7 @@ penalty_small I E T known enrolled fits =
     let one : (p q : ℕ) → spread_cost I.periods I.weights p q ≤ 100000 =
     λ p q. omega (arith, spread_cost-small I.periods I.weights p q) in
     let spread = part_small (spread_cost I.periods I.weights) E T enrolled one in
+    let night = part_small (night_cost I.periods I.weights) E T enrolled (night_cost-small I known) in
     let mixed = mixed_where_small I T (λ p r. true) known in
     let exams : length I.exams ≤ 2000 = known.limits.counts.0.1 in
     let front = sum_below-le (exam_front I E T) 100000 (length I.exams)

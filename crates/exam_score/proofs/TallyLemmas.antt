@@ -25,7 +25,7 @@ last_same m xs ys slot n k same h = record {
       h.none j d from below (ap (λ s. slot_of_student m s) (same j d below) ∙ is);
 }
 
--- one more of another slot
+-- one more tally, of another slot
 last_more : (m : ℕ) (xs : List Tally) (slot n k : ℕ)
     → ((d : Tally) → slot_of_student m (get_or xs k d).student ≢ slot) → IsLast xs m slot n k
     → IsLast xs m slot n (k + 1)
@@ -39,7 +39,7 @@ last_more m xs slot n k other h = record {
   ];
 }
 
--- one more of this slot
+-- one more tally, of this slot
 last_new : (m : ℕ) (xs : List Tally) (slot k : ℕ)
     → ((d : Tally) → slot_of_student m (get_or xs k d).student ≡ slot)
     → IsLast xs m slot (k + 1) (k + 1)
@@ -51,7 +51,7 @@ last_new m xs slot k own = record {
   none = λ j d from below. absurd (omega arith);
 }
 
--- ---- a tally changed in its count alone
+-- ---- only the count of a tally changes
 
 pub record AreAlike (xs ys : List Tally) : Type 0 where
   pub count : length ys ≡ length xs
@@ -256,7 +256,7 @@ grown_more xs ys zs p n a b = record {
   ];
 }
 
--- where all old tallies are no later, neither are the new ones
+-- if no old tally is later, no new one is
 pub grown_no_later : (xs ys : List Tally) (p q n : ℕ) → Grows xs ys p n → All (λ x. x.period ≤ q) xs
     → p ≤ q → All (λ x. x.period ≤ q) ys
 grown_no_later xs ys p q n h old le k d lt = elim (cases_lt k (length xs)) [
@@ -282,7 +282,7 @@ grown_none xs p = record {
   added = λ k d from lt. absurd (omega arith);
 }
 
--- no slot has a tally where there is none
+-- no slot has a tally if there are none
 pub filed_none : (m : ℕ) (xs : List Tally) (last : List ℕ) → xs ≡ [] → length last ≡ m
     → ((slot : ℕ) → slot < length last → get_or last slot 0 ≡ 0) → AreFiled xs last m
 filed_none m xs last none long clear = record {
@@ -305,7 +305,7 @@ crowd_none sizes slots n long zeros = record {
   all = omega arith;
 }
 
--- one more in a slot
+-- one more tally in a slot
 pub crowd_more : (sizes : List ℕ) (steps slots n slot : ℕ) → slot < slots → n < 200000
     → AreCrowded sizes steps slots n
     → AreCrowded (set sizes slot (get_or sizes slot 0 + 1))

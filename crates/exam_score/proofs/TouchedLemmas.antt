@@ -1,4 +1,4 @@
--- How many durations there are in a place, one exam more.
+-- The number of durations at a place, with one more exam.
 use Rattle.std.proofs.Common.{◌≡◌, ◌≢◌, ℕ, zero, suc, ◌+◌, ◌<◌, ◌≤◌, Bool, true, false, cond, not, ◌&&◌, eqb, List, [], ◌∷◌, length, get_or, set, refl, sym, ◌∙◌, ap, arith, add-zero}
 use Rattle.std.specs.Prelude.{slice_get, nat_lt}
 use Rattle.std.specs.List.{AllByRecursion}
@@ -36,7 +36,7 @@ flipped (suc n) f g k lt off on same = go (eqb k n) refl (λ less. flipped n f g
         ap (λ b. cond b 1 0) (same n other) in
         omega arith
 
--- one more of them at x, if it is here
+-- one more of them at x, if the exam is here
 one_more : (here : Bool) (x n : ℕ) (counts : ℕ → ℕ) → x < n
     → count_below n (λ m. nat_lt 0 (counts m + cond (here && eqb x m) 1 0))
     ≡ count_below n (λ m. nat_lt 0 (counts m)) + cond (here && not (nat_lt 0 (counts x))) 1 0
@@ -82,7 +82,7 @@ minutes_short I e known =
     let h = of_exam I.exams (recursion_from_All ExamInLimits I.exams known.limits.exams) e in
     omega arith
 
--- an exam more
+-- one more exam
 pub durations_more : (I : Session) (T : Placing) (p r e : ℕ)
     → minutes_of (slice_get I.exams e) < duration_count
     → count_below duration_count (λ m. nat_lt 0 (count_below (e + 1) (lasts I T p r m)))
@@ -108,7 +108,7 @@ durations_none I T p r = none duration_count
 
 -- ---- the durations that are marked
 
--- one duration more is marked
+-- one more duration is marked
 marked_step : (before : List Bool) (k m n : ℕ) → k < length before
     → get_or before m false ≡ nat_lt 0 n
     → get_or (set before k true) m false ≡ nat_lt 0 (n + cond (eqb k m) 1 0)
@@ -124,7 +124,7 @@ marked_step before k m n lt known = go (eqb k m) refl
         let other : m ≢ k = grind (arith, nat_tests) in
         get_or-set_other before k m true false other ∙ known ∙ ap (nat_lt 0) (sym (add-zero n))
 
--- an exam that stands here marks its duration
+-- an exam that is placed here marks its duration
 pub marked_here : (I : Session) (T : Placing) (p r e m : ℕ) (before : List Bool)
     → minutes_of (slice_get I.exams e) < length before → is_at p r (place_of T e) ≡ true
     → get_or before m false ≡ nat_lt 0 (count_below e (lasts I T p r m))
@@ -139,7 +139,7 @@ marked_here I T p r e m before lt here known =
     (sym here)
     ∙ ap (nat_lt 0) (sym (sum_below_more (λ e. cond (lasts I T p r m e) 1 0) e))
 
--- one that stands elsewhere marks none
+-- an exam that is placed elsewhere marks none
 pub marked_elsewhere : (I : Session) (T : Placing) (p r e m : ℕ) (before : List Bool)
     → is_at p r (place_of T e) ≡ false
     → get_or before m false ≡ nat_lt 0 (count_below e (lasts I T p r m))

@@ -12,7 +12,7 @@ use Rattle.exam_score.specs.Walk.{row_pair, cost_with}
 use Rattle.exam_score.specs.declared.rows.Row.{Row}
 use Rattle.exam_score.specs.declared.tallies.Tally.{Tally}
 
--- ---- what costs nothing
+-- ---- tallies and periods that cost nothing
 
 pub none_or : (b : Bool) → ◌≡◌ {A = ℕ} (cond b 0 0) 0
 none_or true = refl
@@ -27,7 +27,7 @@ other_student cost y x differ =
     ∙ mul-zero x.exams
 
 -- a tally of a period that costs nothing
-free_period : (cost : ℕ → ℕ → ℕ) (y x : Tally) → cost x.period y.period ≡ 0
+pub free_period : (cost : ℕ → ℕ → ℕ) (y x : Tally) → cost x.period y.period ≡ 0
     → tally_beside cost y x ≡ 0
 free_period cost y x none = ap (λ n. x.exams * cond (eqb y.student x.student) n 0) none
     ∙ ap (λ n. x.exams * n) (none_or (eqb y.student x.student)) ∙ mul-zero x.exams
@@ -74,7 +74,7 @@ pub walk_starts : (m : ℕ) (cost : ℕ → ℕ → ℕ) (xs : List Tally) (y : 
 walk_starts m cost xs y k linked within here =
     sym (skipped m cost xs y y.before k (link_of m xs y k linked within here) (omega arith))
 
--- a tally of the slot, and on to the one before it
+-- a tally of the slot, followed by the one before it
 pub walk_on : (m : ℕ) (cost : ℕ → ℕ → ℕ) (xs : List Tally) (y x : Tally) (n : ℕ) → AreLinkedIn xs m
     → 0 < n → n ≤ length xs → ((d : Tally) → get_or xs (n - 1) d ≡ x)
     → slot_of_student m x.student ≡ slot_of_student m y.student
@@ -92,7 +92,7 @@ walk_on m cost xs y x n linked some le here slot =
     ap (λ m. sum_by f (take m xs)) (let e : n ≡ n - 1 + 1 = omega arith in e) in
     omega arith
 
--- and the next one is of the slot too
+-- the next tally is of the slot too
 pub slot_on : (m : ℕ) (xs : List Tally) (x : Tally) (n s : ℕ) → AreLinkedIn xs m → 0 < n
     → n ≤ length xs → ((d : Tally) → get_or xs (n - 1) d ≡ x) → slot_of_student m x.student ≡ s
     → (d : Tally) → 0 < x.before → slot_of_student m (get_or xs (x.before - 1) d).student ≡ s
@@ -106,7 +106,7 @@ link_below m xs x n linked some le here =
 
 -- ---- the end
 
--- from a tally on whose period is below the first that costs anything
+-- at a tally whose period is below the first that costs anything
 pub walk_ends : (m : ℕ) (cost : ℕ → ℕ → ℕ) (xs : List Tally) (y : Tally) (n first : ℕ)
     → AreLinkedIn xs m → n ≤ length xs
     → ((q : ℕ) → q < first → cost q y.period ≡ 0)
@@ -131,7 +131,7 @@ walk_ends m cost xs y n first linked le free below =
         ap (tally_beside cost y) (get_or-take n xs j d within)
         ∙ free_period cost y (get_or xs j d) (free (get_or xs j d).period less)
 
--- a period that costs nothing with any
+-- a period that costs nothing with any period
 pub beyond_tallies : (cost : ℕ → ℕ → ℕ) (xs : List Tally) (y : Tally)
     → ((q : ℕ) → cost q y.period ≡ 0) → sum_by (tally_beside cost y) xs ≡ 0
 beyond_tallies cost xs y none =
@@ -165,7 +165,7 @@ pub exams_few : (xs : List Tally) (k : ℕ) (d : Tally) → k < length xs → ro
 exams_few xs k d within few = let h = get_or-le-sum_by (tally_sum (λ r. 1)) xs k d within in
     omega arith
 
--- ---- one tally more
+-- ---- one more tally
 
 pub pairs_more : (cost : ℕ → ℕ → ℕ) (xs : List Tally) (k total more : ℕ) (y : Tally) → k < length xs
     → y ≡ get_or xs k y

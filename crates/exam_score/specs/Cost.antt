@@ -1,6 +1,6 @@
--- What two exams of one student cost by their periods (ITC 2007, soft constraints).
+-- The cost of two exams of one student by their periods (ITC 2007, soft constraints).
 use Rattle.std.specs.Prelude.{ℕ, Bool, ◌&&◌, ◌==◌, nat_lt, nat_le, List, length, if◌then◌else◌}
-use Rattle.exam_model.specs.Distances.{gap, same_day}
+use Rattle.exam_model.specs.Distances.{gap, next_day, same_day}
 use Rattle.exam_model.specs.declared.parts.Period.{Period}
 use Rattle.exam_model.specs.declared.parts.Weights.{Weights}
 
@@ -18,6 +18,10 @@ is_within_spread periods weights p q =
     (nat_lt p (length periods) && nat_lt q (length periods))
     && (nat_le 1 (gap p q) && nat_le (gap p q) weights.spread)
 
--- 1 for each such pair, over nights too, and beside row and day
+-- 1 for each such pair, also over nights, and also if it costs a row or a day
 abbrev pub spread_cost : List Period → Weights → ℕ → ℕ → ℕ
 spread_cost periods weights p q = if is_within_spread periods weights p q then 1 else 0
+
+-- over night: adjacent periods whose dates are one day apart, in either order
+abbrev pub night_cost : List Period → Weights → ℕ → ℕ → ℕ
+night_cost periods weights p q = if next_day periods p q && (gap p q == 1) then weights.night else 0

@@ -1,13 +1,13 @@
--- The three costs are the same in either order, and none within one period: the laws of the trait
--- follow from it, and what proves a law of a trait stands in specs/.
+-- The four costs don't depend on the order, and are 0 within one period: the laws of the trait
+-- follow, and proofs of a trait's laws must be in specs/.
 use Rattle.std.specs.Prelude.{◌≡◌, ℕ, ◌≤◌, Bool, true, false, ◌&&◌, ◌==◌, nat_lt, nat_le, List, length, if◌then◌else◌}
 use Rattle.std.proofs.Common.{refl, ap, ◌∙◌, arith}
 use Rattle.std.proofs.lemmas.Bool.Decides.{nat_tests}
-use Rattle.exam_model.specs.Distances.{gap, same_day}
-use Rattle.exam_model.proofs.DayLemmas.{same_day-swap}
+use Rattle.exam_model.specs.Distances.{gap, next_day, same_day}
+use Rattle.exam_model.proofs.DayLemmas.{next_day-swap, same_day-swap}
 use Rattle.exam_model.specs.declared.parts.Period.{Period}
 use Rattle.exam_model.specs.declared.parts.Weights.{Weights}
-use Rattle.exam_score.specs.Cost.{row_cost, day_cost, spread_cost}
+use Rattle.exam_score.specs.Cost.{row_cost, day_cost, spread_cost, night_cost}
 
 -- two periods are as far apart in either order
 gap-swap : (p q : ℕ) → gap p q ≡ gap q p
@@ -17,15 +17,15 @@ gap-swap p q = omega arith
 gap-none : (p : ℕ) → gap p p ≡ 0
 gap-none p = omega arith
 
--- two tests may be asked in either order
+-- the order of two tests doesn't matter
 and-swap : (a b : Bool) → (a && b) ≡ (b && a)
 and-swap true true = refl
 and-swap true false = refl
 and-swap false true = refl
 and-swap false false = refl
 
--- where a test fails, nothing is to be paid
-pick-none : (a : Bool) (n : ℕ) → (if a && false then n else 0) ≡ 0
+-- the cost is 0 if a test fails
+pub pick-none : (a : Bool) (n : ℕ) → (if a && false then n else 0) ≡ 0
 pick-none true n = refl
 pick-none false n = refl
 
@@ -48,6 +48,12 @@ spread_cost-swap periods weights p q =
     λ i. if and-swap (nat_lt p (length periods)) (nat_lt q (length periods)) i
     && (nat_le 1 (gap-swap p q i) && nat_le (gap-swap p q i) weights.spread) then 1 else 0
 
+-- over night
+pub night_cost-swap : (periods : List Period) (weights : Weights) (p q : ℕ)
+    → night_cost periods weights p q ≡ night_cost periods weights q p
+night_cost-swap periods weights p q =
+    λ i. if next_day-swap periods p q i && (gap-swap p q i == 1) then weights.night else 0
+
 -- two in a row, within one period
 pub row_cost-none : (periods : List Period) (weights : Weights) (p : ℕ)
     → row_cost periods weights p p ≡ 0
@@ -69,6 +75,13 @@ spread_cost-none periods weights p =
     ap (λ g. if (nat_lt p (length periods) && nat_lt p (length periods))
     && (nat_le 1 g && nat_le g weights.spread) then 1 else 0) (gap-none p)
     ∙ pick-none (nat_lt p (length periods) && nat_lt p (length periods)) 1
+
+-- over night
+pub night_cost-none : (periods : List Period) (weights : Weights) (p : ℕ)
+    → night_cost periods weights p p ≡ 0
+night_cost-none periods weights p =
+    ap (λ g. if next_day periods p p && (g == 1) then weights.night else 0) (gap-none p)
+    ∙ pick-none (next_day periods p p) weights.night
 
 -- a spread costs at most 1
 pub spread_cost-small : (periods : List Period) (weights : Weights) (p q : ℕ)

@@ -1,4 +1,4 @@
--- What edited exams cost their students, by pairs of exams in which an edited one stands.
+-- The cost of edited exams for their students, by pairs of exams with an edited one.
 use Rattle.std.specs.Prelude.{ℕ, ◌==◌, ◌||◌, ◌&&◌, nat_le, if◌then◌else◌, List}
 use Rattle.exam_model.specs.Fits.{period_of}
 use Rattle.exam_model.specs.Instance.{Session}
@@ -7,43 +7,45 @@ use Rattle.exam_model.specs.Pairs.{Pair}
 use Rattle.exam_model.specs.Sums.{sum_pairs}
 use Rattle.exam_model.specs.Timetable.{Placing}
 use Rattle.exam_model.specs.Enrolments.{has_number}
-use Rattle.exam_score.specs.Cost.{row_cost, day_cost, spread_cost}
+use Rattle.exam_score.specs.Cost.{row_cost, day_cost, spread_cost, night_cost}
 use Rattle.exam_score.specs.Penalty.{PersonalPenalty}
 
--- what two exams of a student cost where one of them is edited: any other two cost after an edit
--- what they did before
+-- the cost of two exams of a student if one of them is edited, else 0: an edit doesn't change the
+-- cost of any other two
 abbrev pub edited_cost : (ℕ → ℕ → ℕ) → Placing → List ℕ → ℕ → ℕ → ℕ
 edited_cost cost T edited e f =
     if has_number edited e || has_number edited f
     then cost_between cost (period_of T e) (period_of T f) else 0
 
--- over all pairs of exams of one student
+-- its sum over all pairs of exams of one student
 abbrev pub students_cost : (ℕ → ℕ → ℕ) → Placing → List ℕ → List Pair → ℕ
 students_cost cost T edited pairs = sum_pairs (λ p q.
     if q.student == p.student then edited_cost cost T edited p.exam q.exam else 0) pairs
 
--- what the edited exams make of the personal penalties of all students of these pairs, added up
+-- the share of the edited exams in the personal penalties of all students of these pairs, added up
 abbrev pub personal_sum : Session → Placing → List ℕ → List Pair → PersonalPenalty
 personal_sum I T edited pairs = record {
   row = students_cost (row_cost I.periods I.weights) T edited pairs;
   day = students_cost (day_cost I.periods I.weights) T edited pairs;
   spread = students_cost (spread_cost I.periods I.weights) T edited pairs;
+  night = students_cost (night_cost I.periods I.weights) T edited pairs;
 }
 
--- what the pairs of these exams cost in which an edited one stands
+-- the cost of the pairs of these exams that have an edited one
 abbrev pub exams_cost : (ℕ → ℕ → ℕ) → Placing → List ℕ → List ℕ → ℕ
 exams_cost cost T edited exams = sum_pairs (edited_cost cost T edited) exams
 
--- what an edited exam costs beside another one: two edited ones cost it at the smaller
+-- the cost of an edited exam with another one: two edited ones cost it at the smaller
 abbrev pub cost_at : (ℕ → ℕ → ℕ) → Placing → List ℕ → ℕ → ℕ → ℕ
 cost_at cost T edited e f =
     if has_number edited f && nat_le f e then 0
     else cost_between cost (period_of T e) (period_of T f)
 
--- what the edited exams make of the personal penalty of a student who sits these exams
+-- the share of the edited exams in the personal penalty of a student who sits these exams
 abbrev pub personal_at : Session → Placing → List ℕ → List ℕ → PersonalPenalty
 personal_at I T edited exams = record {
   row = exams_cost (row_cost I.periods I.weights) T edited exams;
   day = exams_cost (day_cost I.periods I.weights) T edited exams;
   spread = exams_cost (spread_cost I.periods I.weights) T edited exams;
+  night = exams_cost (night_cost I.periods I.weights) T edited exams;
 }

@@ -1,4 +1,4 @@
--- What an edit takes from a penalty, and what it brings.
+-- The old and the new amounts of an edit in a penalty.
 use Rattle.std.specs.Prelude.{◌≡◌, ℕ, ◌+◌, ◌^◌, ◌≤◌, Bool, List, filter, IsPermutation}
 use Rattle.std.specs.List.{list_any}
 use Rattle.exam_model.specs.Enrolments.{Enrolled, AreEnrolments, has}
@@ -14,52 +14,54 @@ use Rattle.exam_score.specs.Penalty.{Penalty, PersonalPenalty, plus, total_of}
 use Rattle.exam_score.specs.Track.{exam_period, exam_room, track}
 use Rattle.exam_score.specs.Touched.{is_touched, mixed_where, sum_among}
 
--- ---- what is exchanged
+-- ---- the exchange
 
--- the penalty in a timetable of the students of an edit, all together, of its periods and rooms,
--- and of its exams
+-- the share of an edit in the penalty of a timetable: that of its students, all together, of its
+-- periods and rooms, and of its exams
 abbrev pub edit_share : Session → Placing → List ℕ → (ℕ → ℕ → Bool) → List ℕ → PersonalPenalty
     → Penalty
 edit_share I T edited touched sizes students = record {
   row = students.row;
   day = students.day;
   spread = students.spread;
+  night = students.night;
   mixed = mixed_where I T touched;
   front = sum_among I edited (λ e. front_by I sizes (place_of T e) e);
   period = sum_among I edited (λ e. exam_period I (place_of T e));
   room = sum_among I edited (λ e. exam_room I (place_of T e));
 }
 
--- what goes
+-- the old amounts
 abbrev pub going : Folded → List ℕ → Penalty
 going fold sizes =
     edit_share fold.instance fold.earlier fold.edited
     (is_touched fold.edited fold.earlier fold.later) sizes
     (plus fold.before (personal_sum fold.instance fold.earlier fold.edited fold.current))
 
--- what comes
+-- the new amounts
 abbrev pub coming : Folded → List ℕ → Penalty
 coming fold sizes =
     edit_share fold.instance fold.later fold.edited
     (is_touched fold.edited fold.earlier fold.later) sizes
     (plus fold.after (personal_sum fold.instance fold.later fold.edited fold.current))
 
--- the new penalty is the old one less what goes and with what comes, in each part
+-- the new penalty is the old one with the old amounts replaced by the new ones, in each part
 pub record IsExchanged (old goes comes new : Penalty) : Type 0 where
   pub row : new.row + goes.row ≡ old.row + comes.row
   pub day : new.day + goes.day ≡ old.day + comes.day
   pub spread : new.spread + goes.spread ≡ old.spread + comes.spread
+  pub night : new.night + goes.night ≡ old.night + comes.night
   pub mixed : new.mixed + goes.mixed ≡ old.mixed + comes.mixed
   pub front : new.front + goes.front ≡ old.front + comes.front
   pub period : new.period + goes.period ≡ old.period + comes.period
   pub room : new.room + goes.room ≡ old.room + comes.room
 
--- there is no such penalty, since a part would be negative, or its total reaches 2^62
+-- there is no such penalty, because a part would be negative, or the total reaches 2^62
 abbrev pub CannotExchange : Penalty → Penalty → Penalty → Type 0
 CannotExchange old goes comes =
     (new : Penalty) → IsExchanged old goes comes new → 2 ^ 62 ≤ total_of new
 
--- ---- what an edit is folded over
+-- ---- the fold of an edit
 
 -- whether a student sits one of these exams
 abbrev pub sits_among : Enrolled → List ℕ → ℕ → Bool
@@ -69,7 +71,8 @@ sits_among E exams s = list_any (λ e. has E s e) exams
 abbrev pub pairs_concerned : Enrolled → List ℕ → List Pair
 pairs_concerned E exams = filter (λ p. sits_among E exams p.student) (pairs_of E)
 
--- the fold took just the pairs of the students who sit an edited exam, and what it is told is true
+-- the fold took exactly the pairs of the students who sit an edited exam, and its arguments are
+-- true
 pub record IsOfEdit (fold : Folded) (E : Enrolled) (pairs : List Pair) (sizes : List ℕ)
     (old : Penalty) : Type 0 where
   pub enrolments : AreEnrolments E

@@ -1,4 +1,4 @@
--- A fold over the pairs of the students whom an edit concerns, as contracts see it.
+-- A fold over the pairs of the students concerned by an edit, as contracts see it.
 use Rattle.std.specs.Prelude.{◌≡◌, ℕ, ◌+◌, ◌*◌, ◌<◌, ◌≤◌, ◌⊎◌, List, [], ◌++◌, length, map, Option, Some, None, All, AllPairs}
 use Rattle.exam_terms.specs.declared.limits.TheConstants.{MAX_AMOUNT, MAX_PAIRS}
 use Rattle.exam_model.specs.Instance.{Session}
@@ -7,15 +7,15 @@ use Rattle.exam_model.specs.Timetable.{Placing}
 use Rattle.exam_score.specs.Penalty.{PersonalPenalty}
 use Rattle.exam_score.specs.EditedCosts.{personal_sum}
 
--- ---- what is folded
+-- ---- the order of the pairs
 
--- of a smaller student, or of the same student and a smaller exam
+-- p has a smaller student than q, or the same student and a smaller exam
 abbrev pub ComesEarlier : Pair → Pair → Type 0
 ComesEarlier p q = (p.student < q.student) ⊎ ((p.student ≡ q.student) × (p.exam < q.exam))
 
--- ---- what is kept
+-- ---- the state
 
--- the arguments of a fold, how many pairs it took, what the edited exams make of the closed
+-- the arguments of a fold, how many pairs it took, the share of the edited exams in the closed
 -- students' personal penalties in either timetable, and the pairs of the open student
 pub record Folded : Type 0 where
   pub instance : Session
@@ -27,7 +27,7 @@ pub record Folded : Type 0 where
   pub after : PersonalPenalty
   pub current : List Pair
 
--- of these arguments
+-- a fold with these arguments
 pub record IsFoldOf (fold : Folded) (I : Session) (old new : Placing)
     (edited : List ℕ) : Type 0 where
   pub session : fold.instance ≡ I
@@ -35,7 +35,7 @@ pub record IsFoldOf (fold : Folded) (I : Session) (old new : Placing)
   pub after : fold.later ≡ new
   pub exams : fold.edited ≡ edited
 
--- the list of pairs that made a fold's count, its sums and its open pairs
+-- the list of pairs represented by a fold's count, its sums and its open pairs
 pub record StandsFor (fold : Folded) (pairs : List Pair) : Type 0 where
   pub closed : List Pair
   pub parts : pairs ≡ closed ++ fold.current
@@ -56,19 +56,21 @@ pairs_sat (Some s) exams = map (λ e. record { exam = e; student = s }) exams
 
 -- ---- bounds
 
--- each part of what a student makes is small, by the number of her exams
+-- each part of a student's share is small, by the number of their exams
 pub record IsSmall (p : PersonalPenalty) (exams : ℕ) : Type 0 where
   pub row : p.row ≤ exams * (MAX_PAIRS * MAX_AMOUNT)
   pub day : p.day ≤ exams * (MAX_PAIRS * MAX_AMOUNT)
   pub spread : p.spread ≤ exams * (MAX_PAIRS * MAX_AMOUNT)
+  pub night : p.night ≤ exams * (MAX_PAIRS * MAX_AMOUNT)
 
--- after so many pairs, so many of them open, each part leaves room for what the open ones cost
+-- after that many pairs, each part leaves room for the cost of the open student's exams
 pub record LeavesRoom (p : PersonalPenalty) (exams count : ℕ) : Type 0 where
   pub row : p.row + exams * (MAX_PAIRS * MAX_AMOUNT) ≤ count * (MAX_PAIRS * MAX_AMOUNT)
   pub day : p.day + exams * (MAX_PAIRS * MAX_AMOUNT) ≤ count * (MAX_PAIRS * MAX_AMOUNT)
   pub spread : p.spread + exams * (MAX_PAIRS * MAX_AMOUNT) ≤ count * (MAX_PAIRS * MAX_AMOUNT)
+  pub night : p.night + exams * (MAX_PAIRS * MAX_AMOUNT) ≤ count * (MAX_PAIRS * MAX_AMOUNT)
 
--- what every fold keeps
+-- the invariant of every fold
 pub record IsBounded (count : ℕ) (before after : PersonalPenalty) (student : Option ℕ)
     (exams : List ℕ) : Type 0 where
   pub few : count ≤ MAX_PAIRS

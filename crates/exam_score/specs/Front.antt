@@ -11,13 +11,13 @@ pub record AreSizes (E : Enrolled) (sizes : List ℕ) : Type 0 where
   pub count : length sizes ≡ length E
   pub each : (e : ℕ) → e < length sizes → slice_index sizes e ≡ size_of E e
 
--- more students, or as many and a smaller number
+-- exam f is larger than e: more students, or equally many and a smaller number
 abbrev pub is_larger_by : List ℕ → ℕ → ℕ → Bool
 is_larger_by sizes f e =
     nat_lt (slice_index sizes e) (slice_index sizes f)
     || ((slice_index sizes f == slice_index sizes e) && nat_lt f e)
 
--- what an exam makes of the front load, by the sizes
+-- the share of an exam in the front load, by the sizes
 abbrev pub front_by : Session → List ℕ → Option Place → ℕ → ℕ
 front_by I sizes at e =
     if nat_lt (count_below (length sizes) (λ f. is_larger_by sizes f e)) I.weights.front_exams

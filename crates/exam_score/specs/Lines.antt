@@ -5,7 +5,7 @@ use Rattle.exam_score.specs.Cost.{row_cost, day_cost, spread_cost}
 use Rattle.exam_score.specs.declared.lines.PairCosts.{PairCosts}
 use Rattle.exam_score.specs.declared.lines.Line.{Line}
 
--- what two periods cost, for row, day and spread
+-- the cost of two periods, for row, day and spread
 abbrev pub costs_of : Session → ℕ → ℕ → PairCosts
 costs_of I p q = record {
   row = row_cost I.periods I.weights q p;
@@ -22,7 +22,7 @@ pub record IsLine (I : Session) (p : ℕ) (line : List PairCosts) : Type 0 where
 pub record IsFree (I : Session) (p n : ℕ) : Type 0 where
   pub each : (q : ℕ) → q < n → costs_of I p q ≡ record { row = 0; day = 0; spread = 0 }
 
--- period n is the first that costs anything with period p; n is their number where none does
+-- period n is the first that costs anything with period p; the number of periods if none does
 pub record IsFirstCost (I : Session) (p n : ℕ) : Type 0 where
   pub free : IsFree I p n
   pub within : n ≤ length I.periods

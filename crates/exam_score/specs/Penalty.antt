@@ -1,30 +1,37 @@
 -- Penalties as numbers.
 use Rattle.std.specs.Prelude.{ℕ, ◌+◌}
 
--- what the pairs of one student's exams cost
+-- the cost of the pairs of one student's exams
 pub record PersonalPenalty : Type 0 where
   pub row : ℕ
   pub day : ℕ
   pub spread : ℕ
+  pub night : ℕ
 
--- all three together
+-- all four together
 abbrev pub personal_total : PersonalPenalty → ℕ
-personal_total p = p.row + p.day + p.spread
+personal_total p = p.row + p.day + p.spread + p.night
 
 -- two of them together, part by part
 abbrev pub plus : PersonalPenalty → PersonalPenalty → PersonalPenalty
-plus a b = record { row = a.row + b.row; day = a.day + b.day; spread = a.spread + b.spread }
+plus a b = record {
+  row = a.row + b.row;
+  day = a.day + b.day;
+  spread = a.spread + b.spread;
+  night = a.night + b.night;
+}
 
--- the seven parts of a timetable's penalty
+-- the eight parts of a timetable's penalty
 pub record Penalty : Type 0 where
   pub row : ℕ
   pub day : ℕ
   pub spread : ℕ
+  pub night : ℕ
   pub mixed : ℕ
   pub front : ℕ
   pub period : ℕ
   pub room : ℕ
 
--- all seven together
+-- all eight together
 abbrev pub total_of : Penalty → ℕ
-total_of p = p.row + p.day + p.spread + p.mixed + p.front + p.period + p.room
+total_of p = p.row + p.day + p.spread + p.night + p.mixed + p.front + p.period + p.room

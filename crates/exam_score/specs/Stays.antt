@@ -6,35 +6,35 @@ use Rattle.exam_model.specs.Timetable.{Placing}
 use Rattle.exam_score.specs.MixedDurations.{lasting}
 use Rattle.exam_score.specs.declared.mixed.Stay.{Stay}
 
--- in this period and room, and so long
+-- whether a stay has this period, room and duration
 abbrev pub is_stay : ℕ → ℕ → ℕ → Stay → Bool
 is_stay p r m x = ((x.period == p) && (x.room == r)) && (x.minutes == m)
 
--- its period, room and duration exist
+-- the period, the room and the duration of a stay exist
 pub record StayExists (I : Session) (x : Stay) : Type 0 where
   pub period : x.period < length I.periods
   pub room : x.room < length I.rooms
   pub minutes : x.minutes ≤ MAX_MINUTES
 
--- one for each placed exam
+-- one stay for each placed exam
 pub record AreStays (I : Session) (T : Placing) (stays : List Stay) : Type 0 where
   pub counts : (p r m : ℕ) → count_by (is_stay p r m) stays ≡ lasting I T p r m
   pub few : length stays ≤ MAX_EXAMS
   pub exist : All (StayExists I) stays
 
--- not after it by period, then room, then minutes
+-- x is not after y by period, then room, then minutes
 pub record NotAfter (x y : Stay) : Type 0 where
   pub periods : x.period ≤ y.period
   pub rooms : x.period ≡ y.period → x.room ≤ y.room
   pub minutes : x.period ≡ y.period → x.room ≡ y.room → x.minutes ≤ y.minutes
 
--- 1 where the next one is at the same place and lasts another time
+-- 1 if the next stay has the same place and another duration, else 0
 abbrev pub next_differs : Stay → List Stay → ℕ
 next_differs x [] = 0
 next_differs x (y ∷ ys) =
     if ((y.period == x.period) && (y.room == x.room)) && not (y.minutes == x.minutes) then 1 else 0
 
--- how often that is so along a list
+-- how many stays of a list are followed by one with the same place and another duration
 abbrev pub further : List Stay → ℕ
 further [] = 0
 further (x ∷ xs) = next_differs x xs + further xs

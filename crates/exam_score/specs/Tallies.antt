@@ -1,4 +1,4 @@
--- How many exams each student has in each period: what tallies count.
+-- The exams of each student in each period, as counted by tallies.
 use Rattle.std.specs.Prelude.{◌≡◌, ℕ, ◌*◌, List, Option, Some, None, sum_by}
 use Rattle.exam_model.specs.Enrolments.{Enrolled, students}
 use Rattle.exam_model.specs.Sums.{sum_pairs}
@@ -8,7 +8,7 @@ use Rattle.exam_score.specs.declared.rows.Row.{Row}
 use Rattle.exam_score.specs.declared.sittings.Sitting.{Sitting}
 use Rattle.exam_score.specs.declared.tallies.Tally.{Tally}
 
--- g of the period where an exam stands, and 0 where it stands in none
+-- g of the period of an exam; 0 if it is not placed
 abbrev pub if_placed : (ℕ → ℕ) → Option ℕ → ℕ
 if_placed g None = 0
 if_placed g (Some p) = g p
@@ -21,7 +21,7 @@ sitting_sum E f x = sum_by (λ s. f (row_at x.period s)) (students E x.exam)
 abbrev pub tally_sum : (Row → ℕ) → Tally → ℕ
 tally_sum f x = x.exams * f (row_at x.period x.student)
 
--- the tallies count just the rows of the sittings: every sum says so
+-- the tallies count exactly the rows of the sittings: every sum agrees
 abbrev pub AreCounted : Enrolled → List Sitting → List Tally → Type 0
 AreCounted E sittings tallies =
     (f : Row → ℕ) → sum_by (sitting_sum E f) sittings ≡ sum_by (tally_sum f) tallies
@@ -30,14 +30,14 @@ AreCounted E sittings tallies =
 abbrev pub row_count : List Tally → ℕ
 row_count tallies = sum_by (tally_sum (λ r. 1)) tallies
 
--- what one exam of tally y costs beside those of x: nothing where they are of two students
+-- the cost of one exam of tally y with those of x; 0 if they are of different students
 abbrev pub tally_beside : (ℕ → ℕ → ℕ) → Tally → Tally → ℕ
 tally_beside cost y x = tally_sum (λ r. row_pair cost r (row_at y.period y.student)) x
 
--- what the exams of two tallies cost
+-- the cost of the exams of two tallies
 abbrev pub tally_pair : (ℕ → ℕ → ℕ) → Tally → Tally → ℕ
 tally_pair cost x y = tally_beside cost y x * y.exams
 
--- over all pairs of tallies
+-- the sum over all pairs of tallies
 abbrev pub tally_cost : (ℕ → ℕ → ℕ) → List Tally → ℕ
 tally_cost cost tallies = sum_pairs (tally_pair cost) tallies

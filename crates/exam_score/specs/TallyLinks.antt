@@ -1,13 +1,13 @@
--- How the tallies of students are linked: each leads to the one before it in its slot.
+-- The links of students' tallies: each leads to the one before it in its slot.
 use Rattle.std.specs.Prelude.{◌≡◌, ◌≢◌, ℕ, ◌+◌, ◌-◌, ◌*◌, ◌%◌, ◌^◌, ◌<◌, ◌≤◌, List, length, slice_index, slice_index_or, AllPairs}
 use Rattle.exam_terms.specs.declared.limits.TheConstants.{MAX_PAIRS}
 use Rattle.exam_score.specs.declared.tallies.Tally.{Tally}
 
--- the one of so many slots where a student's tallies are filed
+-- the slot of a student's tallies, out of this many
 abbrev pub slot_of_student : ℕ → ℕ → ℕ
 slot_of_student slots student = student % slots
 
--- of the first k tallies the last one in a slot stands just before place n, and none where n is 0
+-- the last of the first k tallies in a slot has index n - 1; there is none if n is 0
 pub record IsLast (tallies : List Tally) (slots slot n k : ℕ) : Type 0 where
   pub within : n ≤ k
   pub here : (d : Tally) → 0 < n
@@ -22,38 +22,38 @@ pub record AreLinkedIn (tallies : List Tally) (slots : ℕ) : Type 0 where
       (slice_index_or tallies k d).before k
   pub ascending : AllPairs (λ x y. x.period ≤ y.period) tallies
 
--- for some number of slots
+-- the same for some number of slots
 pub record AreLinked (tallies : List Tally) : Type 0 where
   pub slots : ℕ
   pub links : AreLinkedIn tallies slots
 
--- and the last tally of each slot is known
+-- the same, and the last tally of each slot is known
 pub record AreFiled (tallies : List Tally) (last : List ℕ) (slots : ℕ) : Type 0 where
   pub count : length last ≡ slots
   pub lasts : (slot : ℕ) → slot < length last
       → IsLast tallies slots slot (slice_index last slot) (length tallies)
   pub linked : AreLinkedIn tallies slots
 
--- how far so many tallies crowd so many slots: none has more of them, and from each tally no more
--- steps lead back along its slot than there may be pairs
+-- bounds on the crowding of the slots by this many tallies: no slot has more than all of them, and
+-- there are at most 200,000 steps back along the slots for each tally
 pub record AreCrowded (sizes : List ℕ) (steps slots tallies : ℕ) : Type 0 where
   pub count : length sizes ≡ slots
   pub each : (slot : ℕ) → slot < length sizes → slice_index sizes slot ≤ tallies
   pub all : steps ≤ tallies * MAX_PAIRS
 
--- the tally just before place n is x
+-- the tally with index n - 1 is x
 pub record IsReached (tallies : List Tally) (n : ℕ) (x : Tally) : Type 0 where
   pub some : 0 < n
   pub here : (d : Tally) → slice_index_or tallies (n - 1) d ≡ x
 
--- the tally just before place n is of student s and period p, and can count one more
+-- the tally with index n - 1 is of student s and period p, and can count one more
 pub record Extends (tallies : List Tally) (n s p : ℕ) : Type 0 where
   pub some : 0 < n
   pub student : (d : Tally) → (slice_index_or tallies (n - 1) d).student ≡ s
   pub period : (d : Tally) → (slice_index_or tallies (n - 1) d).period ≡ p
   pub room : (d : Tally) → (slice_index_or tallies (n - 1) d).exams + 1 < 2 ^ 32
 
--- new tallies, at most so many, are of period p, and the old ones keep theirs
+-- the new tallies are of period p and limited in number, and the old ones keep their values
 pub record Grows (old new : List Tally) (p most : ℕ) : Type 0 where
   pub longer : length old ≤ length new
   pub few : length new ≤ length old + most

@@ -1,4 +1,4 @@
--- The periods and rooms that an edit touches, with their mixed part, and sums over edited exams.
+-- The mixed part of the periods and rooms touched by an edit, and sums over edited exams.
 use Rattle.std.specs.Prelude.{ℕ, ◌-◌, ◌*◌, Bool, not, ◌&&◌, ◌||◌, if◌then◌else◌, nat_lt, Option, None, Some, List, length}
 use Rattle.std.specs.List.{list_any}
 use Rattle.exam_terms.specs.declared.place.Place.{Place}
@@ -8,7 +8,7 @@ use Rattle.exam_model.specs.Sums.{sum_below}
 use Rattle.exam_model.specs.Timetable.{Placing, place_of}
 use Rattle.exam_score.specs.MixedDurations.{durations, is_at}
 
--- whether an edited exam stands in this period and room, before the edit or after it
+-- whether an edited exam is in this period and room, before the edit or after it
 abbrev pub is_touched : List ℕ → Placing → Placing → ℕ → ℕ → Bool
 is_touched edited old new p r =
     list_any (λ e. is_at p r (place_of old e) || is_at p r (place_of new e)) edited
@@ -23,8 +23,8 @@ room_mixed_where I T touched r =
 abbrev pub mixed_where : Session → Placing → (ℕ → ℕ → Bool) → ℕ
 mixed_where I T touched = sum_below (length I.rooms) (room_mixed_where I T touched)
 
--- what one place more makes of the mixed part of the periods and rooms that pass: nothing where it
--- is no period and room of the session, or passes already
+-- the share of one more place in the mixed part of the periods and rooms that pass: 0 if its period
+-- or room doesn't exist, or if it passes already
 abbrev pub further_mixed : Session → Placing → (ℕ → ℕ → Bool) → Option Place → ℕ
 further_mixed I T touched None = 0
 further_mixed I T touched (Some at) =

@@ -8,7 +8,7 @@ use Rattle.exam_model.specs.Sums.{sum_below}
 use Rattle.exam_model.specs.declared.parts.Period.{Period}
 use Rattle.exam_model.specs.declared.parts.Room.{Room}
 use Rattle.exam_terms.specs.declared.place.Place.{Place}
-use Rattle.exam_score.specs.Cost.{row_cost, day_cost, spread_cost}
+use Rattle.exam_score.specs.Cost.{row_cost, day_cost, spread_cost, night_cost}
 use Rattle.exam_score.specs.Regrouping.{pair_part}
 use Rattle.exam_score.specs.Penalty.{Penalty}
 use Rattle.exam_score.specs.MixedDurations.{mixed_part}
@@ -26,32 +26,33 @@ abbrev pub room_penalty : Option Room → ℕ
 room_penalty None = 0
 room_penalty (Some r) = r.penalty
 
--- what its period costs an exam, once for each exam that stands there
+-- the penalty of an exam's period, once for each exam that is in it
 abbrev pub exam_period : Session → Option Place → ℕ
 exam_period I None = 0
 exam_period I (Some at) = period_penalty (slice_get I.periods at.period)
 
--- what its room costs an exam, once for each exam that stands there
+-- the penalty of an exam's room, once for each exam that is in it
 abbrev pub exam_room : Session → Option Place → ℕ
 exam_room I None = 0
 exam_room I (Some at) = room_penalty (slice_get I.rooms at.room)
 
--- the period part: what their periods cost all exams of the session together
+-- the period part: the penalties of the periods of all exams of the session
 abbrev pub period_part : Session → Placing → ℕ
 period_part I T = sum_below (length I.exams) (λ e. exam_period I (place_of T e))
 
--- the room part: what their rooms cost all exams of the session together
+-- the room part: the penalties of the rooms of all exams of the session
 abbrev pub room_part : Session → Placing → ℕ
 room_part I T = sum_below (length I.exams) (λ e. exam_room I (place_of T e))
 
 -- ---- the whole
 
--- all seven parts
+-- all eight parts
 abbrev pub track : Session → Enrolled → Placing → Penalty
 track I E T = record {
   row = pair_part (row_cost I.periods I.weights) E (period_of T);
   day = pair_part (day_cost I.periods I.weights) E (period_of T);
   spread = pair_part (spread_cost I.periods I.weights) E (period_of T);
+  night = pair_part (night_cost I.periods I.weights) E (period_of T);
   mixed = mixed_part I T;
   front = front_part I E T;
   period = period_part I T;

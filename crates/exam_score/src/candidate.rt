@@ -4,12 +4,12 @@ ghost use Rattle.exam_terms.specs.declared.limits.TheConstants.{MAX_AMOUNT, MAX_
 ghost use Rattle.exam_score.specs.Personal.{personal_of};
 ghost use Rattle.exam_score.specs.Regrouping.{candidate_cost};
 
-use crate::pair_costs::{DayCost, RowCost, SpreadCost};
+use crate::pair_costs::{DayCost, NightCost, RowCost, SpreadCost};
 use crate::personal_parts::PersonalParts;
 use exam_model::{Instance, PairCost, PeriodNo};
 
-/// What one candidate's exams cost her, by the periods where they stand: row, day and spread over
-/// all pairs of places in the list. A period beyond the instance costs nothing.
+/// Returns the cost of one candidate's exams, by their periods: row, day, spread and night over all
+/// pairs of places in the list. A period that doesn't exist costs nothing.
 pub fn personal(instance: &Instance, periods: &[PeriodNo]) -> PersonalParts
     requires { length periods.now ≤ MAX_EXAMS }
     ensures { result ≡ personal_of instance.now.periods instance.now.weights periods.now }
@@ -19,10 +19,11 @@ pub fn personal(instance: &Instance, periods: &[PeriodNo]) -> PersonalParts
     let row = cost_of_pairs(&RowCost(instance), periods);
     let day = cost_of_pairs(&DayCost(instance), periods);
     let spread = cost_of_pairs(&SpreadCost(instance), periods);
-    PersonalParts::of(row, day, spread)
+    let night = cost_of_pairs(&NightCost(instance), periods);
+    PersonalParts::of(row, day, spread, night)
 }
 
-// The cost of all pairs of places.
+// Returns the cost of all pairs of places.
 fn cost_of_pairs<C: PairCost>(cost: &C, periods: &[PeriodNo]) -> u64
     requires { length periods.now ≤ MAX_EXAMS }
     ensures cost { result ≡ candidate_cost (C.cost_of cost.now) periods.now }
@@ -37,7 +38,7 @@ fn cost_of_pairs<C: PairCost>(cost: &C, periods: &[PeriodNo]) -> u64
     total
 }
 
-// What one exam costs beside the others.
+// Returns the cost of one exam with the others.
 fn cost_beside<C: PairCost>(cost: &C, period: PeriodNo, others: &[PeriodNo]) -> u64
     requires { length others.now ≤ MAX_EXAMS }
     ensures sum { result ≡ sum_by (C.cost_of cost.now period) others.now }

@@ -14,8 +14,8 @@ use crate::parts::Parts;
 use exam_model::{Enrolments, ExamNo, Instance, Timetable};
 use std::alloc::{AllocError, Global};
 
-/// The penalty of the new timetable, by that of the old one. The edited exams may come in any
-/// order, more than once, and may stand where they stood. It fails only where memory runs out.
+/// Returns the penalty of the new timetable, by that of the old one. The edited exams may come in
+/// any order, with repeats, and may keep their places. `Err`: out of memory.
 pub fn difference(
     alloc: Global,
     instance: &Instance,

@@ -16,7 +16,7 @@ pub(crate) struct Sitter {
     pub exam: ExamNo,
 }
 
-// One for each exam of each of these students, by student and then by exam.
+// Returns one sitter for each exam of each of these students, by student and then by exam.
 pub(crate) fn sitters_of(
     alloc: Global,
     enrolments: &Enrolments,
@@ -34,7 +34,7 @@ pub(crate) fn sitters_of(
     Ok(sitters)
 }
 
-// The same by exam and then by student.
+// Returns the same by exam and then by student.
 fn sitters_by_exam(
     alloc: Global,
     enrolments: &Enrolments,
@@ -51,7 +51,7 @@ fn sitters_by_exam(
     Ok(sitters)
 }
 
-// Adds those of one exam.
+// Adds the sitters of one exam.
 fn add_sitters(
     sitters: &mut Vec<Sitter>,
     enrolments: &Enrolments,

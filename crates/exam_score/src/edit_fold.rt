@@ -1,4 +1,4 @@
-// The penalty after an edit, by the students whom it concerns: contracts see what is kept.
+// The penalty after an edit, by the students whom it concerns: contracts see the fold's state.
 ghost use Rattle.std.specs.Prelude.{◌≡◌, ◌<◌, ◌≤◌, ◌*◌, ◌↔◌, IsTrue, [], ◌∷◌, ◌++◌, List, length, Some, IfOk, IfSome, IfNone, OnOk, OnErr};
 ghost use Rattle.exam_terms.specs.declared.limits.TheConstants.{MAX_AMOUNT, MAX_PAIRS};
 ghost use Rattle.exam_model.specs.Enrolments.{Enrolled};
@@ -18,8 +18,8 @@ use exam_model::{ExamNo, Instance, StudentNo, Timetable};
 use std::alloc::{AllocError, Global};
 use std::marker::Model;
 
-/// What an edit makes of a penalty, from the pairs of the students who sit an edited exam: they
-/// come one by one, by student and then by exam, and no more than one student's are kept.
+/// The change of a penalty by an edit, from the pairs of the students who sit an edited exam: the
+/// pairs are added one by one, by student and then by exam, and only one student's are kept.
 #[derive(Drop)]
 pub struct EditFold<'a> {
     alloc: Global,
@@ -30,7 +30,7 @@ pub struct EditFold<'a> {
     count: u32,
     before: PersonalParts,
     after: PersonalParts,
-    // The open student, and her exams so far.
+    // The open student, and their exams so far.
     student: Option<StudentNo>,
     exams: Vec<ExamNo>,
 }
@@ -57,7 +57,7 @@ impl<'a> Model for EditFold<'a> {
 }
 
 impl<'a> EditFold<'a> {
-    /// The fold of no pairs, for an edit that makes `new` of `old`.
+    /// Returns the fold of no pairs, for an edit that turns `old` into `new`.
     pub fn new(
         alloc: Global,
         instance: &'a Instance,
@@ -71,8 +71,8 @@ impl<'a> EditFold<'a> {
           later = new.now;
           edited = edited.now;
           count = 0;
-          before = record { row = 0; day = 0; spread = 0 };
-          after = record { row = 0; day = 0; spread = 0 };
+          before = record { row = 0; day = 0; spread = 0; night = 0 };
+          after = record { row = 0; day = 0; spread = 0; night = 0 };
           current = [];
         }) }
         // It represents no pairs.
@@ -86,14 +86,14 @@ impl<'a> EditFold<'a> {
             later: new,
             edited,
             count: 0,
-            before: PersonalParts::of(0, 0, 0),
-            after: PersonalParts::of(0, 0, 0),
+            before: PersonalParts::of(0, 0, 0, 0),
+            after: PersonalParts::of(0, 0, 0, 0),
             student: None,
             exams,
         })
     }
 
-    /// One pair more. It fails only where memory runs out, and then leaves the fold as it was.
+    /// Adds one pair. On `Err`, memory ran out and the fold is unchanged.
     pub fn row(&mut self, student: StudentNo, exam: ExamNo) -> Result<(), AllocError>
         requires few { self.old.count < MAX_PAIRS }
         requires follows { CanFollow self.old (record { exam = exam; student = student }) }
@@ -123,9 +123,9 @@ impl<'a> EditFold<'a> {
         Ok(())
     }
 
-    /// The new penalty by the old one, where the fold took the pairs of all students with an edited
-    /// exam, and no others. `sizes` says how many students each exam has. It takes no memory. The
-    /// answer is None only where a part would fall below zero, or the total reach 2^62.
+    /// Returns the new penalty by the old one, if the fold took exactly the pairs of all students
+    /// with an edited exam. `sizes` has the number of each exam's students. It takes no memory.
+    /// `None`: a part would be negative, or the total would reach 2^62.
     pub fn finish(self, sizes: &[u32], old_parts: Parts) -> Option<Parts>
         requires sizes { length sizes.now ≡ length self.instance.exams }
         // If the fold took exactly the pairs of the students who sit an edited exam, this is the
@@ -156,7 +156,7 @@ impl<'a> EditFold<'a> {
     }
 }
 
-// What the students, places and exams of the edit make of the penalty in one timetable.
+// Returns the share of the edit's students, places and exams in the penalty of one timetable.
 fn edit_share(
     instance: &Instance,
     timetable: &Timetable,
@@ -165,7 +165,7 @@ fn edit_share(
     students: PersonalParts,
 ) -> Parts
     requires sizes { length sizes.now ≡ length instance.now.exams }
-    requires small { personal_total students ≤ 3 * (MAX_PAIRS * MAX_PAIRS * MAX_AMOUNT) }
+    requires small { personal_total students ≤ 4 * (MAX_PAIRS * MAX_PAIRS * MAX_AMOUNT) }
     ensures { result ≡ edit_share instance.now timetable.now touched.now.edited.now
         (is_touched touched.now.edited.now touched.now.earlier.now touched.now.later.now)
         sizes.now students }

@@ -1,4 +1,4 @@
-// What the edited exams make of a penalty in one of the timetables, each exam once.
+// The share of the edited exams in the penalty of one of the timetables, each exam once.
 ghost use Rattle.std.specs.Prelude.{◌≡◌, ◌≤◌, ◌*◌, length};
 ghost use Rattle.exam_terms.specs.declared.limits.TheConstants.{MAX_AMOUNT, MAX_EXAMS};
 ghost use Rattle.exam_model.specs.Timetable.{place_of};
@@ -12,7 +12,7 @@ use crate::places::{PlaceSums, penalty_of_period, penalty_of_room};
 use crate::sat_exams::place_in;
 use exam_model::{ExamNo, Instance, Place, Timetable};
 
-// The penalties of their periods and rooms.
+// Returns the penalties of their periods and rooms.
 #[tactic(auto, using(exam_model::proofs::SumLemmas::sum_below_more))]
 pub(crate) fn edited_places(
     instance: &Instance,
@@ -40,7 +40,7 @@ pub(crate) fn edited_places(
     sums
 }
 
-// Their front load, by the number of each exam's students.
+// Returns their front load, by the number of each exam's students.
 #[tactic(auto, using(exam_model::proofs::SumLemmas::sum_below_more))]
 pub(crate) fn edited_front(
     instance: &Instance,
@@ -69,7 +69,7 @@ pub(crate) fn is_among(exams: &[ExamNo], exam: ExamNo) -> bool
     exams.iter().any(|other| *other == exam)
 }
 
-// What its period costs an exam at this place; a period that doesn't exist costs nothing.
+// Returns the penalty of an exam's period at this place; a period that doesn't exist costs nothing.
 fn cost_of_period(instance: &Instance, place: Option<Place>) -> u64
     ensures cost { result ≡ exam_period instance.now place }
     ensures small { result ≤ MAX_AMOUNT }
@@ -82,7 +82,7 @@ fn cost_of_period(instance: &Instance, place: Option<Place>) -> u64
     }
 }
 
-// What its room costs it.
+// Returns the penalty of an exam's room at this place.
 fn cost_of_room(instance: &Instance, place: Option<Place>) -> u64
     ensures cost { result ≡ exam_room instance.now place }
     ensures small { result ≤ MAX_AMOUNT }

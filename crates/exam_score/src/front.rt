@@ -10,7 +10,7 @@ ghost use Rattle.exam_score.specs.FrontLoad.{front_part, is_late};
 use exam_model::{Enrolments, ExamNo, Instance, Place, Timetable};
 use std::alloc::{AllocError, Global};
 
-// The weight for each of the largest exams that stands in one of the last periods.
+// Returns the weight for each of the largest exams in one of the last periods.
 #[tactic(auto, using(crate::proofs::FrontLemmas::front_facts))]
 pub(crate) fn front_load(
     alloc: Global,
@@ -32,7 +32,7 @@ pub(crate) fn front_load(
     Ok(total)
 }
 
-/// What one exam makes of the front load where it stands at this place, by the number of each
+/// Returns the share of one exam in the front load, if it has this place, by the number of each
 /// exam's students.
 pub fn front_share(instance: &Instance, sizes: &[u32], exam: ExamNo, place: Option<Place>) -> u64
     requires few { length sizes.now ≤ MAX_EXAMS }
@@ -48,7 +48,7 @@ pub fn front_share(instance: &Instance, sizes: &[u32], exam: ExamNo, place: Opti
     }
 }
 
-// Whether the place is in one of the last periods.
+// Returns whether the place is in one of the last periods.
 fn is_late(instance: &Instance, place: Option<Place>) -> bool
     ensures { result ≡ is_late instance.now place }
 {
@@ -61,8 +61,8 @@ fn is_late(instance: &Instance, place: Option<Place>) -> bool
     }
 }
 
-// Whether fewer exams than so many come before this one, the greater first, and then the smaller
-// number.
+// Returns whether fewer than `most` exams come before this one, by more students, and then by
+// smaller number.
 fn is_largest(sizes: &[u32], exam: u32, most: u32) -> bool
     requires few { length sizes.now ≤ MAX_EXAMS }
     requires exists { exam < length sizes.now }
@@ -98,7 +98,7 @@ fn count_larger(sizes: &[u32], size: u32) -> u32
     count
 }
 
-/// The number of each exam's students.
+/// Returns the number of each exam's students.
 pub fn sizes_of(alloc: Global, enrolments: &Enrolments) -> Result<Vec<u32>, AllocError>
     ensures { IfOk result (λ sizes. AreSizes enrolments.now sizes.items) }
 {

@@ -6,7 +6,7 @@ use crate::pair_costs::{DayCost, RowCost, SpreadCost};
 use exam_model::{Instance, PairCost, PeriodNo};
 use std::alloc::{AllocError, Global};
 
-// What two periods cost.
+// The costs of two periods.
 #[derive(Clone, Copy)]
 pub(crate) struct PairCosts {
     pub row: u32,
@@ -21,7 +21,7 @@ pub(crate) struct Line {
     pub first: u32,
 }
 
-// A line for each period.
+// Returns a line for each period.
 pub(crate) fn table_of(alloc: Global, instance: &Instance) -> Result<Vec<Line>, AllocError>
     ensures { IfOk result (λ lines. IsTable instance.now lines.items) }
 {
@@ -35,7 +35,7 @@ pub(crate) fn table_of(alloc: Global, instance: &Instance) -> Result<Vec<Line>, 
     Ok(lines)
 }
 
-// The costs of a period with each period.
+// Returns the costs of a period with each period.
 fn line_of(
     alloc: Global,
     instance: &Instance,
@@ -60,7 +60,8 @@ fn costs_between(instance: &Instance, period: PeriodNo, other: PeriodNo) -> Pair
     }
 }
 
-// The first period that costs anything with a period, by its line; none is the number of periods.
+// Returns the first period that costs anything with a period, by its line; if there is none, the
+// number of periods.
 fn first_cost(instance: &Instance, line: &[PairCosts], period: PeriodNo) -> u32
     requires { IsLine instance.now period line.now }
     ensures { IsFirstCost instance.now period result }
@@ -80,7 +81,7 @@ fn is_free(costs: PairCosts) -> bool
     costs.row == 0 && costs.day == 0 && costs.spread == 0
 }
 
-// The costs of a period with another one, by its line.
+// Returns the costs of a period with another one, by its line.
 #[tactic(auto, using(crate::proofs::LineLemmas::beyond_costs))]
 pub(crate) fn costs_in(
     instance: &Instance,

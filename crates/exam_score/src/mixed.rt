@@ -8,7 +8,7 @@ ghost use Rattle.exam_score.specs.MixedDurations.{mixed_part};
 use exam_model::{ExamNo, Instance, PeriodNo, RoomNo, Timetable};
 use std::alloc::{AllocError, Global};
 
-/// Where an exam stands and how long it lasts; ordered by period, then room, then minutes.
+/// The place and the duration of an exam; ordered by period, then room, then minutes.
 #[derive(Clone, Copy, PartialEq, Eq, PartialOrd, Ord)]
 pub struct Stay {
     pub period: PeriodNo,
@@ -16,7 +16,7 @@ pub struct Stay {
     pub minutes: u32,
 }
 
-// The weight for each duration but one of each used room and period.
+// Returns the weight for each duration but one of each used room and period.
 pub(crate) fn mixed_durations(
     alloc: Global,
     instance: &Instance,
@@ -31,7 +31,7 @@ pub(crate) fn mixed_durations(
     Ok(count_further(&stays) * u64::from(instance.weights().mixed))
 }
 
-// How many stays have the place of the next one, and another duration.
+// Returns how many stays are followed by one with the same place and another duration.
 fn count_further(stays: &[Stay]) -> u64
     requires { length stays.now ≤ MAX_EXAMS }
     ensures count { result ≡ further stays.now }
@@ -61,7 +61,7 @@ fn differs_from_next(stay: Stay, others: &[Stay]) -> u64
     }
 }
 
-/// The stays of all placed exams, in the order of the exams.
+/// Returns the stays of all placed exams, in the order of the exams.
 #[tactic(auto, using(exam_model::proofs::SumLemmas::sum_below_more))]
 pub fn stays_of(
     alloc: Global,

@@ -1,31 +1,35 @@
-// The parts that pairs of exams make: row, day and spread.
+// The parts of pairs of exams: row, day, spread and night.
 ghost use Rattle.std.specs.Prelude.{◌≡◌, ◌≤◌, length, IfOk};
 ghost use Rattle.exam_model.specs.Fits.{period_of};
-ghost use Rattle.exam_score.specs.Cost.{row_cost, day_cost, spread_cost};
 ghost use Rattle.exam_score.specs.PairSums.{ArePairParts};
 
 use crate::lines::table_of;
+use crate::nights::nights_of_pairs;
+use crate::personal_parts::PersonalParts;
 use crate::sittings::sittings_of;
 use crate::tallies::tallies_of;
-use crate::walk::{PairSums, sums_of_pairs};
+use crate::walk::sums_of_pairs;
 use exam_model::{Enrolments, Instance, Timetable};
 use std::alloc::{AllocError, Global};
 
-// Over all pairs of exams, the students whom both share, times what their periods cost.
+// Returns the sums over all pairs of exams: the number of students who sit both, times the cost of
+// their periods.
 pub(crate) fn pair_parts(
     alloc: Global,
     instance: &Instance,
     enrolments: &Enrolments,
     timetable: &Timetable,
-) -> Result<PairSums, AllocError>
+) -> Result<PersonalParts, AllocError>
     requires exams { length timetable.now ≡ length enrolments.now }
     ensures { IfOk result (ArePairParts instance.now enrolments.now timetable.now) }
 {
-    // Read for what each keeps: pairs in order, and weights within their limits.
+    // Read for their invariants: pairs in order, and weights within their limits.
     let _kept = enrolments.pairs();
     let _known = instance.periods();
     let sittings = sittings_of(alloc, timetable)?;
     let tallies = tallies_of(alloc, enrolments, &sittings)?;
     let lines = table_of(alloc, instance)?;
-    Ok(sums_of_pairs(instance, &lines, &tallies))
+    let sums = sums_of_pairs(instance, &lines, &tallies);
+    let night = nights_of_pairs(instance, &tallies);
+    Ok(PersonalParts::of(sums.row, sums.day, sums.spread, night))
 }

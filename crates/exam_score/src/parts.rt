@@ -7,15 +7,17 @@ use crate::personal_parts::PersonalParts;
 use crate::places::PlaceSums;
 use std::marker::Model;
 
-// Totals stay below it.
+// Totals are below this number.
 pub(crate) const TOTAL_LIMIT: u64 = 1 << 62;
 
-/// The seven parts of a timetable's penalty (ITC 2007, soft constraints). The total is below 2^62.
+/// The eight parts of a timetable's penalty: seven by ITC 2007 (soft constraints), and our own over
+/// night. The total is below 2^62.
 #[derive(Clone, Copy, Debug, PartialEq, Eq)]
 pub struct Parts {
     row: u64,
     day: u64,
     spread: u64,
+    night: u64,
     mixed: u64,
     front: u64,
     period: u64,
@@ -29,6 +31,7 @@ impl Model for Parts {
       row = a.row;
       day = a.day;
       spread = a.spread;
+      night = a.night;
       mixed = a.mixed;
       front = a.front;
       period = a.period;
@@ -36,12 +39,13 @@ impl Model for Parts {
     } };
 
     ghost invariant = { λ a.
-        a.row + a.day + a.spread + a.mixed + a.front + a.period + a.room < 2 ^ 62 };
+        a.row + a.day + a.spread + a.night + a.mixed + a.front + a.period + a.room < 2 ^ 62 };
 
     ghost inverse = { λ p. record {
       row = p.row;
       day = p.day;
       spread = p.spread;
+      night = p.night;
       mixed = p.mixed;
       front = p.front;
       period = p.period;
@@ -50,11 +54,12 @@ impl Model for Parts {
 }
 
 impl Parts {
-    /// The parts of these numbers, unless their total reaches 2^62.
+    /// Returns the parts with these numbers, unless their total reaches 2^62.
     pub fn new(
         row: u64,
         day: u64,
         spread: u64,
+        night: u64,
         mixed: u64,
         front: u64,
         period: u64,
@@ -64,6 +69,7 @@ impl Parts {
           row = row;
           day = day;
           spread = spread;
+          night = night;
           mixed = mixed;
           front = front;
           period = period;
@@ -71,10 +77,11 @@ impl Parts {
         }) }
         ensures within { IfSome result (λ parts. total_of parts < 2 ^ 62) }
         ensures beyond { IfNone result
-            (2 ^ 62 ≤ row + day + spread + mixed + front + period + room) }
+            (2 ^ 62 ≤ row + day + spread + night + mixed + front + period + room) }
     {
-        // A sum beyond u64 stays at its greatest number, which is beyond the limit too.
+        // A sum beyond u64 becomes the greatest u64, which is beyond the limit too.
         let pairs = row.saturating_add(day).saturating_add(spread);
+        let pairs = pairs.saturating_add(night);
         let exams = pairs.saturating_add(mixed).saturating_add(front);
         let total = exams.saturating_add(period).saturating_add(room);
         if total < TOTAL_LIMIT {
@@ -82,6 +89,7 @@ impl Parts {
                 row,
                 day,
                 spread,
+                night,
                 mixed,
                 front,
                 period,
@@ -92,14 +100,15 @@ impl Parts {
         }
     }
 
-    // The same, where the total is known to be within the limit.
+    // Returns the same, if the total is known to be within the limit.
     pub(crate) fn of(pairs: PersonalParts, mixed: u64, front: u64, places: PlaceSums) -> Parts
-        requires { pairs.row + pairs.day + pairs.spread + mixed + front + places.periods
-            + places.rooms < 2 ^ 62 }
+        requires { pairs.row + pairs.day + pairs.spread + pairs.night + mixed + front
+            + places.periods + places.rooms < 2 ^ 62 }
         ensures { result ≡ record {
           row = pairs.row;
           day = pairs.day;
           spread = pairs.spread;
+          night = pairs.night;
           mixed = mixed;
           front = front;
           period = places.periods;
@@ -110,6 +119,7 @@ impl Parts {
             row: pairs.row(),
             day: pairs.day(),
             spread: pairs.spread(),
+            night: pairs.night(),
             mixed,
             front,
             period: places.periods,
@@ -117,8 +127,8 @@ impl Parts {
         }
     }
 
-    // These less what goes and with what comes, unless a part would be negative or the total
-    // reach the limit.
+    // Replaces the old amounts by the new ones. `None`: a part would be negative, or the total
+    // would reach the limit.
     pub(crate) fn exchange(self, goes: Parts, comes: Parts) -> Option<Parts>
         ensures made { IfSome result (IsExchanged self goes comes) }
         ensures none { IfNone result (CannotExchange self goes comes) }
@@ -127,6 +137,7 @@ impl Parts {
             exchanged(self.row, goes.row, comes.row)?,
             exchanged(self.day, goes.day, comes.day)?,
             exchanged(self.spread, goes.spread, comes.spread)?,
+            exchanged(self.night, goes.night, comes.night)?,
             exchanged(self.mixed, goes.mixed, comes.mixed)?,
             exchanged(self.front, goes.front, comes.front)?,
             exchanged(self.period, goes.period, comes.period)?,
@@ -134,61 +145,68 @@ impl Parts {
         )
     }
 
-    /// For exams in a row.
+    /// Returns the part for exams in a row.
     pub fn row(&self) -> u64
         ensures { result ≡ self.now.row }
     {
         self.row
     }
 
-    /// For exams in a day.
+    /// Returns the part for exams in a day.
     pub fn day(&self) -> u64
         ensures { result ≡ self.now.day }
     {
         self.day
     }
 
-    /// For exams within the period spread.
+    /// Returns the part for exams within the period spread.
     pub fn spread(&self) -> u64
         ensures { result ≡ self.now.spread }
     {
         self.spread
     }
 
-    /// For mixed durations.
+    /// Returns the part for exams over night.
+    pub fn night(&self) -> u64
+        ensures { result ≡ self.now.night }
+    {
+        self.night
+    }
+
+    /// Returns the part for mixed durations.
     pub fn mixed(&self) -> u64
         ensures { result ≡ self.now.mixed }
     {
         self.mixed
     }
 
-    /// For front load.
+    /// Returns the part for front load.
     pub fn front(&self) -> u64
         ensures { result ≡ self.now.front }
     {
         self.front
     }
 
-    /// For the exams' periods.
+    /// Returns the part for the exams' periods.
     pub fn period(&self) -> u64
         ensures { result ≡ self.now.period }
     {
         self.period
     }
 
-    /// For the exams' rooms.
+    /// Returns the part for the exams' rooms.
     pub fn room(&self) -> u64
         ensures { result ≡ self.now.room }
     {
         self.room
     }
 
-    /// All seven together.
+    /// Returns the sum of all eight parts.
     pub fn total(&self) -> u64
         ensures total { result ≡ total_of self.now }
         ensures within { result < 2 ^ 62 }
     {
-        let pairs = self.row + self.day + self.spread;
+        let pairs = self.row + self.day + self.spread + self.night;
         let exams = self.mixed + self.front;
         pairs + exams + self.period + self.room
     }

@@ -1,4 +1,4 @@
-// What periods and rooms cost.
+// The penalties of periods and rooms.
 ghost use Rattle.std.specs.Prelude.{◌≡◌, ◌<◌, ◌≤◌, ◌*◌, length, slice_get};
 ghost use Rattle.exam_terms.specs.declared.limits.TheConstants.{MAX_AMOUNT, MAX_EXAMS};
 ghost use Rattle.exam_model.specs.Fits.{Suits};
@@ -13,7 +13,7 @@ pub(crate) struct PlaceSums {
     pub rooms: u64,
 }
 
-// Each placed exam costs what its period and its room cost.
+// Returns the penalties of the periods and rooms of all placed exams.
 #[tactic(auto, using(exam_model::proofs::SumLemmas::sum_below_more))]
 pub(crate) fn place_penalties(instance: &Instance, timetable: &Timetable) -> PlaceSums
     requires fits { Suits instance.now timetable.now }

@@ -1,4 +1,4 @@
-// What edited exams cost a student in a timetable, by her exams alone.
+// The cost of edited exams for a student in a timetable, by the student's exams only.
 ghost use Rattle.std.specs.Prelude.{◌≡◌, ◌≤◌, ◌*◌, length, sum_by};
 ghost use Rattle.exam_terms.specs.declared.limits.TheConstants.{MAX_AMOUNT, MAX_PAIRS};
 ghost use Rattle.exam_model.specs.Timetable.{place_of};
@@ -6,12 +6,13 @@ ghost use Rattle.exam_score.specs.Folds.{IsSmall};
 ghost use Rattle.exam_score.specs.EditedCosts.{cost_at, exams_cost, personal_at};
 
 use crate::edited_exams::is_among;
-use crate::pair_costs::{DayCost, RowCost, SpreadCost};
+use crate::pair_costs::{DayCost, NightCost, RowCost, SpreadCost};
 use crate::personal_parts::PersonalParts;
 use exam_model::{ExamNo, Instance, PairCost, Place, Timetable};
 
-// What the edited exams make of the personal penalty of a student who sits these exams. It takes
-// no memory, and the time of her exams times the edited ones among them.
+// Returns the share of the edited exams in the personal penalty of a student who sits these exams.
+// It takes no memory, and time in proportion to the student's exams times the edited ones among
+// them.
 pub(crate) fn personal_at(
     instance: &Instance,
     timetable: &Timetable,
@@ -27,10 +28,11 @@ pub(crate) fn personal_at(
     let row = cost_of_exams(&RowCost(instance), timetable, edited, exams);
     let day = cost_of_exams(&DayCost(instance), timetable, edited, exams);
     let spread = cost_of_exams(&SpreadCost(instance), timetable, edited, exams);
-    PersonalParts::of(row, day, spread)
+    let night = cost_of_exams(&NightCost(instance), timetable, edited, exams);
+    PersonalParts::of(row, day, spread, night)
 }
 
-// The cost of all pairs of exams in which an edited one stands.
+// Returns the cost of all pairs of exams with an edited one.
 fn cost_of_exams<C: PairCost>(
     cost: &C,
     timetable: &Timetable,
@@ -50,7 +52,7 @@ fn cost_of_exams<C: PairCost>(
     total
 }
 
-// What an edited exam costs beside all of these.
+// Returns the cost of an edited exam with all of these.
 fn cost_beside<C: PairCost>(
     cost: &C,
     timetable: &Timetable,
@@ -70,7 +72,8 @@ fn cost_beside<C: PairCost>(
     total
 }
 
-// What an edited exam costs beside another one; two edited ones cost it once, at the smaller.
+// Returns the cost of an edited exam with another one; two edited ones cost it once, at the
+// smaller.
 fn cost_at<C: PairCost>(
     cost: &C,
     timetable: &Timetable,
@@ -90,7 +93,7 @@ fn cost_at<C: PairCost>(
     }
 }
 
-// Where the exam stands; nowhere if the timetable has no such exam.
+// Returns the exam's place; `None` if it has none or the timetable has no such exam.
 pub(crate) fn place_in(timetable: &Timetable, exam: ExamNo) -> Option<Place>
     ensures { result ≡ place_of timetable.now exam }
 {

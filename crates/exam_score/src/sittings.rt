@@ -7,14 +7,14 @@ ghost use Rattle.exam_score.specs.Tallies.{if_placed};
 use exam_model::{ExamNo, PeriodNo, Timetable};
 use std::alloc::{AllocError, Global};
 
-// An exam in its period; ordered by period, and then by exam.
+// An exam and its period; ordered by period, and then by exam.
 #[derive(Clone, Copy, PartialEq, Eq, PartialOrd, Ord)]
 pub(crate) struct Sitting {
     pub period: PeriodNo,
     pub exam: ExamNo,
 }
 
-// One for each placed exam, the periods ascending.
+// Returns a sitting for each placed exam, the periods ascending.
 pub(crate) fn sittings_of(alloc: Global, timetable: &Timetable) -> Result<Vec<Sitting>, AllocError>
     ensures all { IfOk result (λ sittings. (g : ℕ → ℕ → ℕ)
         → sum_by (λ x. g x.exam x.period) sittings.items
@@ -29,7 +29,7 @@ pub(crate) fn sittings_of(alloc: Global, timetable: &Timetable) -> Result<Vec<Si
     Ok(sittings)
 }
 
-// The same in the order of the exams.
+// Returns the same in the order of the exams.
 fn placed_exams(alloc: Global, timetable: &Timetable) -> Result<Vec<Sitting>, AllocError>
     ensures all { IfOk result (λ sittings. (g : ℕ → ℕ → ℕ)
         → sum_by (λ x. g x.exam x.period) sittings.items

@@ -1,4 +1,4 @@
-// How many exams each student has in each period.
+// The number of exams of each student in each period.
 ghost use Rattle.std.specs.Prelude.{◌≡◌, ℕ, ◌+◌, ◌-◌, ◌*◌, ◌≤◌, ◌<◌, ◌↔◌, IsTrue, length, slice_index, slice_index_or, slice_set, sum_by, All, AllPairs, IfOk, OnOk};
 ghost use Rattle.exam_terms.specs.declared.limits.TheConstants.{MAX_PAIRS};
 ghost use Rattle.exam_model.specs.Enrolments.{size_of};
@@ -11,20 +11,20 @@ use crate::sittings::Sitting;
 use exam_model::{Enrolments, PeriodNo, StudentNo};
 use std::alloc::{AllocError, Global};
 
-// How many larger slot counts to try when too many students share a slot. Student numbers have nine
-// digits, so two of them share a slot under at most two of that many counts in a row.
+// How many larger numbers of slots to try if too many students share a slot. Student numbers have
+// nine digits, so two of them share a slot under at most two of that many numbers in a row.
 const MORE: u32 = 31;
 
-// Up to so many steps back along the slots, students do not crowd.
+// The slots are not crowded if there are at most this many steps back along them.
 const FEW_STEPS: u64 = 30_000_000;
 
-// So many exams of one student in one period.
+// A number of exams of one student in one period.
 #[derive(Clone, Copy)]
 pub(crate) struct Tally {
     pub student: StudentNo,
     pub period: PeriodNo,
     pub exams: u32,
-    // One more than the place of the tally before this one in its slot; 0 where it is the first.
+    // One more than the index of the previous tally in its slot; 0 for the first.
     pub before: u32,
 }
 
@@ -42,7 +42,7 @@ struct Crowd {
     steps: u64,
 }
 
-// The tallies of all students of the sittings, the periods ascending.
+// Returns the tallies of all students of the sittings, the periods ascending.
 pub(crate) fn tallies_of(
     alloc: Global,
     enrolments: &Enrolments,
@@ -68,8 +68,8 @@ pub(crate) fn tallies_of(
     Ok(best.tallies)
 }
 
-// How many slots students are filed in, one for some four pairs: a prime, so that numbers in steps
-// spread over all of them.
+// Returns the number of slots, about one for four pairs: a prime, so that numbers with a common
+// step spread over all of them.
 fn slots_for(pairs: u32) -> u32
     ensures some { 0 < result }
     ensures few { result ≤ 65521 }
@@ -82,7 +82,7 @@ fn slots_for(pairs: u32) -> u32
     }
 }
 
-// The tallies by so many slots.
+// Returns the tallies, filed in this many slots.
 fn file_all(
     alloc: Global,
     enrolments: &Enrolments,
@@ -116,7 +116,7 @@ fn file_all(
     Ok(Filing { tallies, steps })
 }
 
-// That no slot has a tally.
+// Returns the last tallies of slots that have none.
 fn no_tallies(alloc: Global, slots: usize) -> Result<Vec<u32>, AllocError>
     ensures long { IfOk result (λ last. length last.items ≡ slots) }
     ensures zero { IfOk result (λ last. (slot : ℕ) → slot < length last.items
@@ -197,7 +197,7 @@ fn count_one(
     Ok(())
 }
 
-// Notes a new tally in this slot, and the steps from it to those before it.
+// Counts a new tally in this slot, and the steps from it to those before it.
 fn note(crowd: &mut Crowd, slot: usize)
     requires exists { slot < length crowd.old.sizes.items }
     requires few { slice_index crowd.old.sizes.items slot < MAX_PAIRS }
@@ -220,7 +220,7 @@ fn slot_of_student(student: StudentNo, slots: u32) -> usize
     (student.get() % slots) as usize
 }
 
-// Whether the tally before this place is one of that student in that period, and not full.
+// Returns whether the tally before this index is of that student and period, and not full.
 fn extends(tallies: &[Tally], before: u32, student: StudentNo, period: PeriodNo) -> bool
     requires within { before ≤ length tallies.now }
     ensures { IsTrue result ↔ Extends tallies.now before student period }

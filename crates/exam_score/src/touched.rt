@@ -9,7 +9,7 @@ use crate::sat_exams::place_in;
 use exam_model::{ExamNo, Instance, Place, Timetable};
 use exam_terms::limits::MAX_MINUTES;
 
-// The durations that there are, 0 minutes among them.
+// The number of possible durations, 0 minutes among them.
 const DURATIONS: usize = MAX_MINUTES as usize + 1;
 
 // The exams of an edit, and the timetables before and after it.
@@ -20,8 +20,8 @@ pub(crate) struct Touched<'a> {
     pub later: &'a Timetable,
 }
 
-// The weight for each duration but one of each room and period where an edited exam stands,
-// before the edit or after it.
+// Returns the weight for each duration but one of each room and period with an edited exam, before
+// the edit or after it.
 pub(crate) fn touched_mixed(instance: &Instance, timetable: &Timetable, touched: &Touched) -> u64
     ensures part { result ≡ mixed_where instance.now timetable.now
         (is_touched touched.now.edited.now touched.now.earlier.now touched.now.later.now) }
@@ -38,7 +38,7 @@ pub(crate) fn touched_mixed(instance: &Instance, timetable: &Timetable, touched:
     total
 }
 
-// What the places of one edited exam more make of it, but those that the others touch.
+// Returns the share of the places of one more edited exam, except those that the others touch.
 fn exam_mixed(instance: &Instance, timetable: &Timetable, others: &Touched, exam: ExamNo) -> u64
     ensures further { mixed_where instance.now timetable.now
         (is_touched others.now.edited.now others.now.earlier.now others.now.later.now) + result
@@ -57,7 +57,7 @@ fn exam_mixed(instance: &Instance, timetable: &Timetable, others: &Touched, exam
     first + place_mixed(instance, timetable, others, Some(later))
 }
 
-// What a place makes of it, if it exists and no edited exam touches it.
+// Returns the share of a place, if it exists and no edited exam touches it.
 fn place_mixed(
     instance: &Instance,
     timetable: &Timetable,
@@ -105,7 +105,7 @@ fn stands_at(timetable: &Timetable, exam: ExamNo, place: &Place) -> bool
     }
 }
 
-// The weight for each duration but one.
+// Returns the weight for each duration but one.
 fn mixed_at(instance: &Instance, timetable: &Timetable, place: &Place) -> u64
     ensures part { result
         ≡ (durations instance.now timetable.now place.now.period place.now.room - 1)
@@ -116,7 +116,7 @@ fn mixed_at(instance: &Instance, timetable: &Timetable, place: &Place) -> u64
     further * u64::from(instance.weights().mixed)
 }
 
-// How many different durations there are in a period and room, in one pass over the exams.
+// Returns the number of different durations in a period and room, in one pass over the exams.
 fn durations_at(instance: &Instance, timetable: &Timetable, place: &Place) -> u64
     ensures count { result ≡ durations instance.now timetable.now place.now.period place.now.room }
     ensures small { result ≤ MAX_EXAMS }
@@ -132,7 +132,7 @@ fn durations_at(instance: &Instance, timetable: &Timetable, place: &Place) -> u6
     count
 }
 
-// One where the duration was not marked, and else none; now it is.
+// Marks the duration. Returns 1 if it was not marked before, else 0.
 fn mark(marked: &mut [bool; DURATIONS], minutes: u32) -> u64
     requires within { minutes ≤ MAX_MINUTES }
     ensures fresh { result ≡ (if slice_index_or marked.old minutes false then 0 else 1) }

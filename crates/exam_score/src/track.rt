@@ -7,13 +7,12 @@ use crate::front::front_load;
 use crate::mixed::mixed_durations;
 use crate::pairs::pair_parts;
 use crate::parts::Parts;
-use crate::personal_parts::PersonalParts;
 use crate::places::place_penalties;
 use exam_model::{Enrolments, Instance, Timetable};
 use std::alloc::{AllocError, Global};
 
-/// The penalty of a timetable, which may be partial: only placed exams cost anything. It fails
-/// only where memory runs out.
+/// Returns the penalty of a timetable, which may be partial: only placed exams cost anything.
+/// `Err`: out of memory.
 pub fn score(
     alloc: Global,
     instance: &Instance,
@@ -23,8 +22,7 @@ pub fn score(
     requires { Fits instance.now enrolments.now timetable.now }
     ensures { IfOk result (λ parts. parts ≡ track instance.now enrolments.now timetable.now) }
 {
-    let sums = pair_parts(alloc, instance, enrolments, timetable)?;
-    let pairs = PersonalParts::of(sums.row, sums.day, sums.spread);
+    let pairs = pair_parts(alloc, instance, enrolments, timetable)?;
     let mixed = mixed_durations(alloc, instance, timetable)?;
     let front = front_load(alloc, instance, enrolments, timetable)?;
     let places = place_penalties(instance, timetable);

@@ -1,4 +1,4 @@
-// Row, day and spread: each tally beside the earlier ones of its student.
+// Row, day and spread: each tally with the earlier ones of its student.
 ghost use Rattle.std.specs.Prelude.{◌≡◌, ℕ, ◌-◌, ◌≤◌, ◌<◌, length, take, slice_index_or, sum_by, IfSome, IfNone};
 ghost use Rattle.exam_terms.specs.declared.limits.TheConstants.{MAX_PAIRS};
 ghost use Rattle.exam_score.specs.Cost.{row_cost, day_cost, spread_cost};
@@ -11,7 +11,7 @@ use crate::lines::{Line, PairCosts, costs_in};
 use crate::tallies::Tally;
 use exam_model::Instance;
 
-// What pairs of exams cost.
+// The costs of pairs of exams.
 #[derive(Clone, Copy)]
 pub(crate) struct PairSums {
     pub row: u64,
@@ -25,7 +25,7 @@ const NOTHING: PairSums = PairSums {
     spread: 0,
 };
 
-// The cost over all pairs of tallies.
+// Returns the cost over all pairs of tallies.
 pub(crate) fn sums_of_pairs(instance: &Instance, lines: &[Line], tallies: &[Tally]) -> PairSums
     requires table { IsTable instance.now lines.now }
     requires linked { AreLinked tallies.now }
@@ -49,7 +49,7 @@ pub(crate) fn sums_of_pairs(instance: &Instance, lines: &[Line], tallies: &[Tall
     sums
 }
 
-// What one exam of the tally at a place costs beside the earlier tallies.
+// Returns the cost of one exam of the tally at an index with the earlier tallies.
 fn beside(
     instance: &Instance,
     lines: &[Line],
@@ -78,7 +78,7 @@ fn beside(
     }
 }
 
-// The same by the line of its period.
+// Returns the same by the line of its period.
 fn along(instance: &Instance, line: &Line, tallies: &[Tally], at: usize, tally: &Tally) -> PairSums
     requires within { at < length tallies.now }
     requires here { (d : Tally) → slice_index_or tallies.now at d ≡ tally.now }
@@ -110,9 +110,9 @@ fn along(instance: &Instance, line: &Line, tallies: &[Tally], at: usize, tally: 
     sums
 }
 
-// The tally just before this place. None once its period is too early to cost anything; all
-// before it are earlier still.
-fn reached(tallies: &[Tally], next: u32, first: u32) -> Option<Tally>
+// Returns the tally just before this index. `None` once its period is too early to cost anything;
+// all tallies before it are earlier still.
+pub(crate) fn reached(tallies: &[Tally], next: u32, first: u32) -> Option<Tally>
     requires within { next ≤ length tallies.now }
     ensures some { IfSome result (IsReached tallies.now next) }
     ensures useful { IfSome result (λ other. first ≤ other.period) }
@@ -129,7 +129,7 @@ fn reached(tallies: &[Tally], next: u32, first: u32) -> Option<Tally>
     Some(tally)
 }
 
-// What one exam of a tally costs beside those of another one.
+// Returns the cost of one exam of a tally with those of another one.
 fn between(instance: &Instance, line: &[PairCosts], tally: &Tally, other: &Tally) -> PairSums
     requires line { IsLine instance.now tally.now.period line.now }
     ensures row { result.row

@@ -2,7 +2,7 @@ use Rattle.std.proofs.Common.{◌≡◌, ◌≤◌, ◌+◌, ◌*◌, length}
 use Rattle.exam_score.specs.Regrouping.{candidate_cost}
 use Rattle.exam_score.proofs.candidate.cost_of_pairs.Given as goal
 
--- what is counted and what is left make the whole, and the rest is no longer
+-- the counted part and the rest add up to the whole, and the rest is no longer than the list
 abbrev pub invariant-loop-period : goal.invariant-loop-period
 invariant-loop-period g l = record {
   whole : l.total + candidate_cost (g.C.PairCost.cost_of l.cost) l.rest

@@ -27,7 +27,7 @@ finish-parts-requires c = record {
       ∙ ap (λ (I : Session). length I.exams) (sym c.in_ok-fold.ensures.of.session);
 }
 
--- what the fold gives
+-- the result of the fold
 scored : (c : goal.After-finish-parts) → c.finish-parts.result
     ≡ Some (track c.args.instance.now c.args.enrolments.now c.args.new.now)
 scored c =
@@ -45,7 +45,7 @@ scored c =
     (sym c.deref-2.ensures.value) c.in_ok-sizes.ensures)
     c.requires.others c.requires.scored))
 
--- and again, when its result is taken
+-- the same, after its result is taken
 scored_last : (c : goal.After-drop-sitters-2)
     → c.finish-parts.result ≡ Some (track c.args.instance.now c.args.enrolments.now c.args.new.now)
 scored_last c =

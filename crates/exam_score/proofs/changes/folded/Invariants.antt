@@ -3,7 +3,7 @@ use Rattle.exam_score.specs.Concerned.{pair_of}
 use Rattle.exam_score.specs.Folds.{IsFoldOf, StandsFor}
 use Rattle.exam_score.proofs.changes.folded.Given as goal
 
--- those so far are folded
+-- the sitters so far are folded
 abbrev pub invariant-loop-sitter : goal.invariant-loop-sitter
 invariant-loop-sitter l = record {
   stands : StandsFor l.fold (map pair_of (take l.sitter-index l.sitters));

@@ -5,7 +5,7 @@ use Rattle.exam_score.specs.Concerned.{pair_of}
 use Rattle.exam_score.specs.Exchanges.{sits_among}
 use Rattle.exam_score.proofs.concerned.add_sitters.Given as goal
 
--- those of the students so far
+-- the sitters of the students so far
 abbrev pub invariant-loop-student : goal.invariant-loop-student
 invariant-loop-student l =
     map pair_of l.sitters.items ≡ map pair_of l.fn.sitters.items

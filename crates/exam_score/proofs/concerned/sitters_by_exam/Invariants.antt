@@ -4,7 +4,7 @@ use Rattle.exam_score.specs.Concerned.{pair_of}
 use Rattle.exam_score.specs.Exchanges.{sits_among}
 use Rattle.exam_score.proofs.concerned.sitters_by_exam.Given as goal
 
--- those of the exams so far
+-- the sitters of the exams so far
 abbrev pub invariant-loop-exam : goal.invariant-loop-exam
 invariant-loop-exam l =
     map pair_of l.sitters.items

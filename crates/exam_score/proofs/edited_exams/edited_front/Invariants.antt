@@ -5,7 +5,7 @@ use Rattle.exam_model.specs.Enrolments.{has_number}
 use Rattle.exam_score.specs.Front.{front_by}
 use Rattle.exam_score.proofs.edited_exams.edited_front.Given as goal
 
--- what the exams before this one make, and a bound on it
+-- the share of the exams before this one, and a bound on it
 abbrev pub invariant-loop-exam : goal.invariant-loop-exam
 invariant-loop-exam l = record {
   total : l.total

@@ -3,7 +3,7 @@ use Rattle.exam_model.specs.Sums.{sum_below}
 use Rattle.exam_score.specs.FrontLoad.{exam_front}
 use Rattle.exam_score.proofs.front.front_load.Given as goal
 
--- what the exams before this one make, and a bound on it
+-- the share of the exams before this one, and a bound on it
 abbrev pub invariant-loop-exam : goal.invariant-loop-exam
 invariant-loop-exam l = record {
   total : l.total ≡ sum_below l.exam (exam_front l.instance l.enrolments l.timetable);

@@ -2,7 +2,7 @@ use Rattle.std.proofs.Common.{◌≡◌, ◌≤◌, ◌+◌, length}
 use Rattle.exam_score.specs.Stays.{further}
 use Rattle.exam_score.proofs.mixed.count_further.Given as goal
 
--- what is counted and what is left make the whole
+-- the counted part and the rest add up to the whole
 abbrev pub invariant-loop-stay : goal.invariant-loop-stay
 invariant-loop-stay l = record {
   whole : l.count + further l.rest ≡ further l.stays;

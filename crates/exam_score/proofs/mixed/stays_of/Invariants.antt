@@ -4,7 +4,7 @@ use Rattle.exam_score.specs.MixedDurations.{lasts}
 use Rattle.exam_score.specs.Stays.{is_stay, StayExists}
 use Rattle.exam_score.proofs.mixed.stays_of.Given as goal
 
--- one for each placed exam before this one
+-- one stay for each placed exam before this one
 abbrev pub invariant-loop-exam : goal.invariant-loop-exam
 invariant-loop-exam l = record {
   counts : (p r m : ℕ) → count_by (is_stay p r m) l.stays.items

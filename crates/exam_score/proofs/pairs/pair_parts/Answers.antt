@@ -1,9 +1,7 @@
-use Rattle.std.proofs.Common.{◌≤◌, ℕ, arith, ◌∙◌, ap, subst}
-use Rattle.exam_score.specs.Cost.{row_cost, day_cost, spread_cost}
-use Rattle.exam_score.specs.CostOrder.{spread_cost-small, row_cost-swap, row_cost-none, day_cost-swap, day_cost-none, spread_cost-swap, spread_cost-none}
+use Rattle.std.proofs.Common.{arith, ◌∙◌, ap, subst}
+use Rattle.exam_score.specs.Cost.{row_cost, day_cost, spread_cost, night_cost}
 use Rattle.exam_score.specs.Tallies.{tally_cost, AreCounted}
-use Rattle.exam_score.proofs.CostLemmas.{row_cost-small, day_cost-small}
-use Rattle.exam_score.proofs.PairsLemmas.{is_part, tallied_rows, few_seats, few_tallied}
+use Rattle.exam_score.proofs.PairsLemmas.{pair_parts_tallied, tallied_rows, few_seats, few_tallied}
 use Rattle.exam_score.proofs.pairs.pair_parts.Goals as goal
 
 pub tallies_of-requires : goal.tallies_of-requires
@@ -21,8 +19,8 @@ tallies_of-requires c =
       ascending = rw same c.in_ok-sittings.ensures.ascending;
     }
 
-pub sums_of_pairs-requires : goal.sums_of_pairs-requires
-sums_of_pairs-requires c =
+pub sums_of_pairs-sums-requires : goal.sums_of_pairs-sums-requires
+sums_of_pairs-sums-requires c =
     let E = c.args.enrolments.now in
     let T = c.args.timetable.now in
     let tallies = c.in_ok-tallies.tallies.items in
@@ -37,41 +35,71 @@ sums_of_pairs-requires c =
       few = rw c.deref-3.ensures.value (few_tallied E T tallies c.pairs-kept.ensures.kept rows);
     }
 
-pub returns : goal.returns
-returns c =
-    let I = c.args.instance.now in
+pub nights_of_pairs-night-requires : goal.nights_of_pairs-night-requires
+nights_of_pairs-night-requires c =
     let E = c.args.enrolments.now in
     let T = c.args.timetable.now in
-    let known = c.periods-known.ensures.kept in
-    let enrolled = c.pairs-kept.ensures.kept in
     let tallies = c.in_ok-tallies.tallies.items in
     let counted : AreCounted E c.in_ok-sittings.sittings.items tallies =
     subst (λ xs. AreCounted E xs tallies) c.deref.ensures.value
     c.in_ok-tallies.ensures.counted in
     let rows = tallied_rows E T c.in_ok-sittings.sittings.items tallies c.requires.exams
     c.in_ok-sittings.ensures.all counted in
-    let one : (p q : ℕ) → spread_cost I.periods I.weights p q ≤ 100000 =
-    λ p q. omega (arith, spread_cost-small I.periods I.weights p q) in
-    let row = is_part (row_cost I.periods I.weights) E T _ tallies enrolled
-    (row_cost-swap I.periods I.weights) (row_cost-none I.periods I.weights)
-    (row_cost-small I known) rows
-    (c.sums_of_pairs.ensures.row
-    ∙ ap (tally_cost (row_cost I.periods I.weights)) c.deref-3.ensures.value) in
-    let day = is_part (day_cost I.periods I.weights) E T _ tallies enrolled
-    (day_cost-swap I.periods I.weights) (day_cost-none I.periods I.weights)
-    (day_cost-small I known) rows
-    (c.sums_of_pairs.ensures.day
-    ∙ ap (tally_cost (day_cost I.periods I.weights)) c.deref-3.ensures.value) in
-    let spread =
-    is_part (spread_cost I.periods I.weights) E T _ tallies enrolled
-    (spread_cost-swap I.periods I.weights) (spread_cost-none I.periods I.weights) one rows
-    (c.sums_of_pairs.ensures.spread
-    ∙ ap (tally_cost (spread_cost I.periods I.weights)) c.deref-3.ensures.value) in
     record {
-      row = row.sum;
-      day = day.sum;
-      spread = spread.sum;
-      few_rows = row.small;
-      few_days = day.small;
-      few_spread = spread.small;
+      linked = rw c.deref-4.ensures.value c.in_ok-tallies.ensures.linked;
+      few = rw c.deref-4.ensures.value (few_tallied E T tallies c.pairs-kept.ensures.kept rows);
     }
+
+pub of-requires : goal.of-requires
+of-requires c =
+    let I = c.args.instance.now in
+    let E = c.args.enrolments.now in
+    let tallies = c.in_ok-tallies.tallies.items in
+    let counted : AreCounted E c.in_ok-sittings.sittings.items tallies =
+    subst (λ xs. AreCounted E xs tallies) c.deref.ensures.value
+    c.in_ok-tallies.ensures.counted in
+    let parts = pair_parts_tallied I E c.args.timetable.now c.in_ok-sittings.sittings.items tallies
+    (record {
+      row = c.sums_of_pairs-sums.result.row;
+      day = c.sums_of_pairs-sums.result.day;
+      spread = c.sums_of_pairs-sums.result.spread;
+      night = c.nights_of_pairs-night.result;
+    })
+    c.periods-known.ensures.kept c.pairs-kept.ensures.kept c.requires.exams
+    c.in_ok-sittings.ensures.all counted
+    (c.sums_of_pairs-sums.ensures.row
+    ∙ ap (tally_cost (row_cost I.periods I.weights)) c.deref-3.ensures.value)
+    (c.sums_of_pairs-sums.ensures.day
+    ∙ ap (tally_cost (day_cost I.periods I.weights)) c.deref-3.ensures.value)
+    (c.sums_of_pairs-sums.ensures.spread
+    ∙ ap (tally_cost (spread_cost I.periods I.weights)) c.deref-3.ensures.value)
+    (c.nights_of_pairs-night.ensures
+    ∙ ap (tally_cost (night_cost I.periods I.weights)) c.deref-4.ensures.value) in
+    omega (arith, parts.few_rows, parts.few_days, parts.few_spread, parts.few_nights)
+
+pub returns : goal.returns
+returns c =
+    let I = c.args.instance.now in
+    let E = c.args.enrolments.now in
+    let tallies = c.in_ok-tallies.tallies.items in
+    let counted : AreCounted E c.in_ok-sittings.sittings.items tallies =
+    subst (λ xs. AreCounted E xs tallies) c.deref.ensures.value
+    c.in_ok-tallies.ensures.counted in
+    let parts = pair_parts_tallied I E c.args.timetable.now c.in_ok-sittings.sittings.items tallies
+    (record {
+      row = c.sums_of_pairs-sums.result.row;
+      day = c.sums_of_pairs-sums.result.day;
+      spread = c.sums_of_pairs-sums.result.spread;
+      night = c.nights_of_pairs-night.result;
+    })
+    c.periods-known.ensures.kept c.pairs-kept.ensures.kept c.requires.exams
+    c.in_ok-sittings.ensures.all counted
+    (c.sums_of_pairs-sums.ensures.row
+    ∙ ap (tally_cost (row_cost I.periods I.weights)) c.deref-3.ensures.value)
+    (c.sums_of_pairs-sums.ensures.day
+    ∙ ap (tally_cost (day_cost I.periods I.weights)) c.deref-3.ensures.value)
+    (c.sums_of_pairs-sums.ensures.spread
+    ∙ ap (tally_cost (spread_cost I.periods I.weights)) c.deref-3.ensures.value)
+    (c.nights_of_pairs-night.ensures
+    ∙ ap (tally_cost (night_cost I.periods I.weights)) c.deref-4.ensures.value) in
+    rw c.of.ensures parts

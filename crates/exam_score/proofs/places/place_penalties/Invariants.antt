@@ -4,7 +4,7 @@ use Rattle.exam_model.specs.Timetable.{place_of}
 use Rattle.exam_score.specs.Track.{exam_period, exam_room}
 use Rattle.exam_score.proofs.places.place_penalties.Given as goal
 
--- what the exams before this one make, and a bound on it
+-- the share of the exams before this one, and a bound on it
 abbrev pub invariant-loop-exam : goal.invariant-loop-exam
 invariant-loop-exam l = record {
   periods : l.sums.periods

@@ -2,7 +2,7 @@ use Rattle.std.proofs.Common.{◌≡◌, ◌+◌, length}
 use Rattle.exam_score.specs.Touched.{is_touched, mixed_where}
 use Rattle.exam_score.proofs.touched.touched_mixed.Given as goal
 
--- what is counted, and what the exams that are left touch, make the whole
+-- the counted part and the share of the exams that are left add up to the whole
 abbrev pub invariant-loop-exam : goal.invariant-loop-exam
 invariant-loop-exam l =
     l.total + mixed_where l.instance l.timetable

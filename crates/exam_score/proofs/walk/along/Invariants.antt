@@ -5,7 +5,7 @@ use Rattle.exam_score.specs.TallyLinks.{slot_of_student, AreLinked}
 use Rattle.exam_score.specs.declared.tallies.Tally.{Tally}
 use Rattle.exam_score.proofs.walk.along.Given as goal
 
--- the sums and what is left of the slot make the whole
+-- the sums and the rest of the slot add up to the whole
 abbrev pub invariant-loop-other : goal.invariant-loop-other
 invariant-loop-other l = record {
   within : l.next ≤ l.at;

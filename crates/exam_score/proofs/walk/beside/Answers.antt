@@ -33,7 +33,7 @@ returns-in-None-clause-spread c =
     sym (beyond_tallies (spread_cost I.periods I.weights) (take c.args.at c.args.tallies.now) y
     (λ q. spread_beyond I y.period q past))
 
--- the line of its period, as the table has it
+-- the line of its period in the table
 pub along-requires-clause-first : goal.along-requires-clause-first
 along-requires-clause-first c =
     let lines = c.args.lines.now in
