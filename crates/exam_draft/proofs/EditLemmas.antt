@@ -7,7 +7,7 @@ use Rattle.exam_model.specs.Timetable.{Placing, place_of}
 use Rattle.exam_terms.specs.declared.place.Place.{Place}
 use Rattle.exam_draft.specs.Edits.{exam_exists, after_swap, if_unbroken}
 
--- two placed exams stand in each other's place, unless a breach names one of them there
+-- two placed exams get each other's place, unless a breach names one of them there
 pub swap_goes_on : (I : Session) (E : Enrolled) (T : Placing) (a b : ℕ) (p q : Place)
     → exam_exists I a ≡ true → exam_exists I b ≡ true
     → place_of T a ≡ Some p → place_of T b ≡ Some q → (a == b) ≡ false

@@ -7,13 +7,14 @@ use Rattle.exam_model.specs.Fits.{Fits}
 use Rattle.exam_score.specs.Penalty.{Penalty}
 use Rattle.exam_score.specs.Track.{track}
 
--- what a draft is of; its penalty follows from it
+-- the parts of a draft that determine its penalty
 pub record DraftState : Type 0 where
   pub instance : Session
   pub enrolments : Enrolled
   pub timetable : Placing
 
--- what every draft keeps: all of it fits together, and the parts are the timetable's penalty
+-- the invariant of every draft: its parts fit together, and the parts of its penalty are the
+-- timetable's
 pub record IsScored (I : Session) (E : Enrolled) (T : Placing) (parts : Penalty) : Type 0 where
   pub fits : Fits I E T
   pub score : parts ≡ track I E T

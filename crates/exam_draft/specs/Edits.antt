@@ -1,4 +1,4 @@
--- What an edit makes of a timetable, or why it is refused: the first reason that holds.
+-- The result of an edit: an edited timetable, or the first reason that applies for refusing it.
 use Rattle.std.specs.Prelude.{ℕ, Bool, not, ◌&&◌, ◌==◌, nat_lt, List, [], ◌∷◌, length, Option, Some, None, is_some, Result, Ok, Err, slice_set}
 use Rattle.exam_terms.specs.Refusing.{◌>>=◌, unless}
 use Rattle.exam_model.specs.Instance.{Session}
@@ -16,15 +16,15 @@ use Rattle.exam_draft.specs.declared.fault.EditFault.TheVariants.{NoSuch, Alread
 abbrev pub Edited : Type 0
 Edited = Result Placing EditFault
 
--- whether there is such an exam
+-- whether the exam exists
 abbrev pub exam_exists : Session → ℕ → Bool
 exam_exists I e = nat_lt e (length I.exams)
 
--- whether there are such a period and such a room
+-- whether the period and the room exist
 abbrev pub place_exists : Session → Place → Bool
 place_exists I at = nat_lt at.period (length I.periods) && nat_lt at.room (length I.rooms)
 
--- whether the exam stands anywhere
+-- whether the exam is placed
 abbrev pub is_placed : Placing → ℕ → Bool
 is_placed T e = is_some (place_of T e)
 
@@ -37,11 +37,11 @@ unless_broken (Some breach) T = Err (Broken breach)
 abbrev pub if_unbroken : Session → Enrolled → List ℕ → Placing → Edited
 if_unbroken I E edited T = unless_broken (least_breach_of I E T edited) T
 
--- an exam stands at this place, wherever it stood
+-- an exam gets this place, whether or not it had one
 abbrev pub after_put : Session → Enrolled → Placing → ℕ → Place → Edited
 after_put I E T e at = if_unbroken I E (e ∷ []) (slice_set T e (Some at))
 
--- an exam that stood nowhere gets a place
+-- an unplaced exam gets a place
 abbrev pub after_place : Session → Enrolled → Placing → ℕ → Place → Edited
 after_place I E T e at = do
   _ ← unless (exam_exists I e && place_exists I at) NoSuch
@@ -70,7 +70,7 @@ after_clear I T e = do
   _ ← unless (is_placed T e) NotPlaced
   Ok (slice_set T e None)
 
--- what any edit makes of it
+-- the result of any edit
 abbrev pub edited : Session → Enrolled → Placing → Edit → Edited
 edited I E T (edit.Place e at) = after_place I E T e at
 edited I E T (edit.Move e at) = after_move I E T e at

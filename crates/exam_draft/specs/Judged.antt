@@ -1,5 +1,4 @@
--- An edit once it is judged: its exams, what holds where it is accepted, and the fault where it is
--- refused.
+-- A judged edit: its exams, what holds if it is accepted, and the fault if it is refused.
 use Rattle.std.specs.Prelude.{◌≡◌, ℕ, ◌<◌, ◌⊎◌, List, [], ◌∷◌, length, All, Err}
 use Rattle.exam_model.specs.Instance.{Session}
 use Rattle.exam_model.specs.Enrolments.{Enrolled}
@@ -19,14 +18,14 @@ edited_exams (edit.Move e at) = e ∷ []
 edited_exams (edit.Swap a b) = a ∷ (b ∷ [])
 edited_exams (edit.Clear e) = e ∷ []
 
--- what an edit of these exams keeps: they exist, all of it fits together, and every other exam
--- stands where it stood
+-- what holds of an edit of these exams: they exist, all parts fit together, and every other exam
+-- keeps its place
 pub record IsEditedAt (I : Session) (E : Enrolled) (old : Placing) (exams : List ℕ)
     (new : Placing) : Type 0 where
   pub exist : All (λ e. e < length I.exams) exams
   pub fits : Fits I E new
   pub others : DiffersAtMost exams old new
 
--- a call answers this fault for such an edit: its refusal, or out of memory in its place
+-- a call returns this fault for such an edit: its refusal, or out of memory instead
 abbrev pub Refuses : Edited → EditFault → Type 0
 Refuses edited fault = (edited ≡ Err fault) ⊎ (fault ≡ NoMemory)

@@ -15,7 +15,7 @@ use exam_score::{Parts, difference, score};
 use std::alloc::{AllocError, Global};
 use std::marker::Model;
 
-/// A timetable in the making, with its penalty. It may be partial, and may break rules: an edit is
+/// A timetable in progress, with its penalty. It may be partial, and may break rules: an edit is
 /// refused only for a breach that names an edited exam.
 #[derive(Drop)]
 pub struct Draft<'a> {
@@ -42,7 +42,7 @@ impl<'a> Model for Draft<'a> {
 }
 
 impl<'a> Draft<'a> {
-    /// The draft in which no exam is placed. It fails only where memory runs out.
+    /// Returns the draft in which no exam is placed. `Err`: out of memory.
     pub fn new(
         alloc: Global,
         instance: &'a Instance,
@@ -60,7 +60,7 @@ impl<'a> Draft<'a> {
         Ok(Draft::resume(instance, enrolments, timetable, parts))
     }
 
-    /// The draft of a timetable whose penalty is known; it may break rules.
+    /// Returns the draft of a timetable whose penalty is known; it may break rules.
     pub fn resume(
         instance: &'a Instance,
         enrolments: &'a Enrolments,
@@ -83,7 +83,7 @@ impl<'a> Draft<'a> {
         }
     }
 
-    /// The timetable as it stands.
+    /// Returns the current timetable.
     pub fn timetable(&self) -> &Timetable
         ensures timetable { result.now ≡ self.now.timetable }
         ensures fits { Fits self.now.instance self.now.enrolments self.now.timetable }
@@ -91,14 +91,14 @@ impl<'a> Draft<'a> {
         &self.timetable
     }
 
-    /// Its penalty.
+    /// Returns its penalty.
     pub fn parts(&self) -> Parts
         ensures { result ≡ track self.now.instance self.now.enrolments self.now.timetable }
     {
         self.parts
     }
 
-    /// The timetable and its penalty.
+    /// Returns the timetable and its penalty.
     pub fn into_parts(self) -> (Timetable, Parts)
         ensures timetable { result.0 ≡ self.entry.timetable }
         ensures parts { result.1
@@ -108,8 +108,8 @@ impl<'a> Draft<'a> {
         (self.timetable, self.parts)
     }
 
-    /// The same timetable with other enrolments, scored anew. Where memory is refused, the draft
-    /// comes back as it was.
+    /// Returns the same timetable with other enrolments, scored again. `Err`: out of memory; it has
+    /// the unchanged draft.
     pub fn enrol(self, alloc: Global, enrolments: &'a Enrolments) -> Result<Draft<'a>, Draft<'a>>
         requires exams { length enrolments.now ≡ length self.instance.exams }
         ensures ok { IfOk result (λ new. new
@@ -126,7 +126,7 @@ impl<'a> Draft<'a> {
         }
     }
 
-    // The edited timetable, or why the edit is refused.
+    // Returns the edited timetable, or why the edit is refused.
     pub(crate) fn judged(&self, alloc: Global, edit: Edit) -> Result<Timetable, EditFault>
         ensures ok { IfOk result (λ next. edited self.now.instance self.now.enrolments
             self.now.timetable edit ≡ Ok next) }
@@ -138,7 +138,7 @@ impl<'a> Draft<'a> {
         judge(alloc, self.instance, self.enrolments, &self.timetable, edit)
     }
 
-    // Takes a timetable on, and its penalty.
+    // Replaces the timetable and its penalty.
     pub(crate) fn accept(
         &mut self,
         alloc: Global,

@@ -11,7 +11,7 @@ use std::alloc::{AllocError, Global};
 /// An edit of a draft.
 #[derive(Clone, Copy, Debug, PartialEq, Eq)]
 pub enum Edit {
-    /// An exam that stood nowhere gets a place.
+    /// An unplaced exam gets a place.
     Place(ExamNo, Place),
     /// A placed exam gets another place.
     Move(ExamNo, Place),
@@ -22,7 +22,7 @@ pub enum Edit {
 }
 
 impl Edit {
-    /// The exams that get or lose a place.
+    /// Returns the exams that get or lose a place.
     pub fn exams(&self, alloc: Global) -> Result<Vec<ExamNo>, AllocError>
         ensures { IfOk result (λ exams. exams.items ≡ edited_exams self.now) }
     {
@@ -35,11 +35,11 @@ impl Edit {
 }
 
 impl<'a> Draft<'a> {
-    /// Makes the edit, or answers why it is refused.
+    /// Makes the edit, or returns why it is refused.
     pub fn apply(&mut self, alloc: Global, edit: Edit) -> Result<(), EditFault>
         ensures ok { OnOk result (edited self.old.instance self.old.enrolments
             self.old.timetable edit ≡ Ok self.new.timetable) }
-        // The first refusal that holds, or out of memory in its place.
+        // The first refusal that applies, or out of memory instead.
         ensures refused { IfErr result (Refuses (edited self.old.instance self.old.enrolments
             self.old.timetable edit)) }
         ensures same { self.new ≡ record self.old { timetable = self.new.timetable } }

@@ -1,4 +1,4 @@
-// The edits of a draft: each is judged first, and changes nothing where it is refused.
+// The edits of a draft: each is judged first, and a refused edit changes nothing.
 ghost use Rattle.std.specs.Prelude.{◌≡◌, Ok, IfErr, OnOk, OnErr};
 ghost use Rattle.exam_draft.specs.Edits.{after_place, after_move, after_swap, after_clear};
 ghost use Rattle.exam_draft.specs.Judged.{Refuses};
@@ -10,11 +10,11 @@ use exam_model::{ExamNo, Place};
 use std::alloc::Global;
 
 impl<'a> Draft<'a> {
-    /// Places an exam that stands nowhere. `NoSuch`, `AlreadyPlaced`, `Broken` and `NoMemory` come.
+    /// Places an unplaced exam. `Err` is `NoSuch`, `AlreadyPlaced`, `Broken` or `NoMemory`.
     pub fn place(&mut self, alloc: Global, exam: ExamNo, place: Place) -> Result<(), EditFault>
         ensures ok { OnOk result (after_place self.old.instance self.old.enrolments
             self.old.timetable exam place ≡ Ok self.new.timetable) }
-        // The first refusal that holds, or out of memory in its place.
+        // The first refusal that applies, or out of memory instead.
         ensures refused { IfErr result (Refuses (after_place self.old.instance
             self.old.enrolments self.old.timetable exam place)) }
         ensures same { self.new ≡ record self.old { timetable = self.new.timetable } }
@@ -23,12 +23,12 @@ impl<'a> Draft<'a> {
         self.apply(alloc, Edit::Place(exam, place))
     }
 
-    /// Moves a placed exam, maybe to where it stands. `NoSuch`, `NotPlaced`, `Broken` and
-    /// `NoMemory` come.
+    /// Moves a placed exam; the new place may be the old one. `Err` is `NoSuch`, `NotPlaced`,
+    /// `Broken` or `NoMemory`.
     pub fn move_to(&mut self, alloc: Global, exam: ExamNo, to: Place) -> Result<(), EditFault>
         ensures ok { OnOk result (after_move self.old.instance self.old.enrolments
             self.old.timetable exam to ≡ Ok self.new.timetable) }
-        // The first refusal that holds, or out of memory in its place.
+        // The first refusal that applies, or out of memory instead.
         ensures refused { IfErr result (Refuses (after_move self.old.instance
             self.old.enrolments self.old.timetable exam to)) }
         ensures same { self.new ≡ record self.old { timetable = self.new.timetable } }
@@ -37,12 +37,12 @@ impl<'a> Draft<'a> {
         self.apply(alloc, Edit::Move(exam, to))
     }
 
-    /// Exchanges the places of two exams, period and room. `NoSuch`, `NotPlaced`, `SameExam`,
-    /// `Broken` and `NoMemory` come.
+    /// Exchanges the places of two exams, period and room. `Err` is `NoSuch`, `NotPlaced`,
+    /// `SameExam`, `Broken` or `NoMemory`.
     pub fn swap(&mut self, alloc: Global, one: ExamNo, other: ExamNo) -> Result<(), EditFault>
         ensures ok { OnOk result (after_swap self.old.instance self.old.enrolments
             self.old.timetable one other ≡ Ok self.new.timetable) }
-        // The first refusal that holds, or out of memory in its place.
+        // The first refusal that applies, or out of memory instead.
         ensures refused { IfErr result (Refuses (after_swap self.old.instance
             self.old.enrolments self.old.timetable one other)) }
         ensures same { self.new ≡ record self.old { timetable = self.new.timetable } }
@@ -51,11 +51,12 @@ impl<'a> Draft<'a> {
         self.apply(alloc, Edit::Swap(one, other))
     }
 
-    /// Takes an exam's place away, whatever is broken. `NoSuch`, `NotPlaced` and `NoMemory` come.
+    /// Removes an exam's place, even if rules are broken. `Err` is `NoSuch`, `NotPlaced` or
+    /// `NoMemory`.
     pub fn clear(&mut self, alloc: Global, exam: ExamNo) -> Result<(), EditFault>
         ensures ok { OnOk result (after_clear self.old.instance self.old.timetable exam
             ≡ Ok self.new.timetable) }
-        // The first refusal that holds, or out of memory in its place.
+        // The first refusal that applies, or out of memory instead.
         ensures refused { IfErr result (Refuses (after_clear self.old.instance
             self.old.timetable exam)) }
         ensures same { self.new ≡ record self.old { timetable = self.new.timetable } }

@@ -2,21 +2,21 @@
 use exam_rules::Breach;
 use std::alloc::AllocError;
 
-/// Why an edit is refused. Where several hold, the first of them is named; out of memory may come
-/// in the place of any other.
+/// Why an edit is refused. If several reasons apply, the first is named; out of memory may be named
+/// instead of any other.
 #[derive(Clone, Copy, Debug, PartialEq, Eq)]
 pub enum EditFault {
     /// An exam, a period or a room doesn't exist.
     NoSuch,
-    /// The exam to be placed stands somewhere.
+    /// The exam to be placed already has a place.
     AlreadyPlaced,
-    /// An exam to be moved, swapped or cleared stands nowhere.
+    /// An exam to be moved, swapped or cleared has no place.
     NotPlaced,
-    /// An exam is to be swapped with itself.
+    /// An exam would be swapped with itself.
     SameExam,
-    /// After the edit its exams would stand in breaches, of which this is the least.
+    /// After the edit its exams would break rules; this is the least such breach.
     Broken(Breach),
-    /// Memory was refused.
+    /// Out of memory.
     NoMemory,
 }
 

@@ -1,4 +1,4 @@
-// Edits of a timetable, judged and not scored.
+// Edits of a timetable, judged without scoring.
 ghost use Rattle.std.specs.Prelude.{◌≡◌, ◌<◌, ◌&&◌, [], ◌∷◌, length, All, Ok, Some, IfErr, IfOk, OnOk};
 ghost use Rattle.exam_model.specs.Fits.{Fits, PlaceExists};
 ghost use Rattle.exam_draft.specs.Edits.{after_place, after_move, after_swap, after_clear};
@@ -12,9 +12,9 @@ use exam_model::{Enrolments, ExamNo, Instance, Place, Timetable};
 use exam_rules::first_breach_of;
 use std::alloc::Global;
 
-/// The edited timetable, or why the edit is refused. The timetable's places are gone over, and of
-/// the enrolments those in the edited exams, in exams that stand in their periods, and in exams
-/// that a coincidence line names beside them.
+/// Returns the edited timetable, or why the edit is refused. It reads all places of the timetable,
+/// and the enrolments of the edited exams, of the exams in their periods, and of the exams that a
+/// coincidence line names together with them.
 pub fn judge(
     alloc: Global,
     instance: &Instance,
@@ -25,7 +25,7 @@ pub fn judge(
     requires fits { Fits instance.now enrolments.now timetable.now }
     ensures ok { IfOk result (λ next. edited instance.now enrolments.now timetable.now edit
         ≡ Ok next) }
-    // The first refusal that holds, or out of memory in its place.
+    // The first refusal that applies, or out of memory instead.
     ensures refused { IfErr result (Refuses (edited instance.now enrolments.now timetable.now
         edit)) }
     ensures kept { IfOk result (IsEditedAt instance.now enrolments.now timetable.now
@@ -39,7 +39,7 @@ pub fn judge(
     }
 }
 
-// An exam that stands nowhere is to be placed.
+// Places an unplaced exam.
 fn judge_place(
     alloc: Global,
     instance: &Instance,
@@ -65,7 +65,7 @@ fn judge_place(
     put(alloc, instance, enrolments, timetable, exam, place)
 }
 
-// A placed exam is to stand elsewhere.
+// Moves a placed exam.
 fn judge_move(
     alloc: Global,
     instance: &Instance,
@@ -91,7 +91,7 @@ fn judge_move(
     put(alloc, instance, enrolments, timetable, exam, to)
 }
 
-// Lets an exam stand at this place, unless a breach names it there.
+// Puts an exam at this place, unless a breach names it there.
 fn put(
     alloc: Global,
     instance: &Instance,
@@ -116,7 +116,7 @@ fn put(
     Ok(next)
 }
 
-// Two placed exams are to exchange their places.
+// Exchanges the places of two placed exams.
 fn judge_swap(
     alloc: Global,
     instance: &Instance,
@@ -152,7 +152,7 @@ fn judge_swap(
     Ok(next)
 }
 
-// A placed exam is to stand nowhere, whatever is broken.
+// Removes the place of a placed exam, even if rules are broken.
 fn judge_clear(
     alloc: Global,
     instance: &Instance,
@@ -177,7 +177,7 @@ fn judge_clear(
     Ok(next)
 }
 
-// Refuses a timetable in which a breach names an edited exam, by the least one that does.
+// Refuses a timetable in which a breach names an edited exam; the fault has the least such breach.
 fn refuse_broken(
     alloc: Global,
     instance: &Instance,
@@ -204,7 +204,7 @@ fn has_exam(instance: &Instance, exam: ExamNo) -> bool
     exam.get() < instance.exams()
 }
 
-// Whether the exam, the period and the room exist.
+// Returns whether the exam, the period and the room exist.
 fn knows(instance: &Instance, exam: ExamNo, place: &Place) -> bool
     ensures { result ≡ (exam_exists instance.now exam && place_exists instance.now place.now) }
 {

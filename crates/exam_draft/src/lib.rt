@@ -1,4 +1,4 @@
-//! Drafts of a timetable, whose edits are judged by the hard rules and scored at once.
+//! Drafts of a timetable: each edit is judged by the hard rules and scored at once.
 #![tactic(auto)]
 
 mod draft;

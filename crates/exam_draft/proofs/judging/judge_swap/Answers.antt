@@ -8,7 +8,7 @@ use Rattle.exam_draft.proofs.EditLemmas.{swap_goes_on}
 use Rattle.exam_draft.proofs.judging.judge_swap.Goals as goal
 use Rattle.exam_draft.proofs.judging.judge_swap.Goals.{After-refuse_broken}
 
--- the timetable that is judged has each exam in the other's place
+-- in the judged timetable each exam has the other's place
 next_is : (c : After-refuse_broken)
     → c.set-2.new.self
     ≡ slice_set (slice_set c.args.timetable.now c.args.one (Some c.in-Some-get.second))

@@ -7,7 +7,7 @@ use Rattle.exam_draft.specs.Judged.{Refuses}
 use Rattle.exam_draft.proofs.judging.put.Goals as goal
 use Rattle.exam_draft.proofs.judging.put.Goals.{After-refuse_broken}
 
--- the timetable that is judged has the exam at its place
+-- in the judged timetable the exam has its new place
 next_is : (c : After-refuse_broken)
     → c.set.new.self ≡ slice_set c.args.timetable.now c.args.exam (Some c.args.place)
 next_is c =
