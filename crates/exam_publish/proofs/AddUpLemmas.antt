@@ -15,7 +15,7 @@ use Rattle.exam_model.specs.Timetable.{Placing, place_of}
 use Rattle.exam_terms.specs.declared.place.Place.{Place}
 use Rattle.exam_model.proofs.PairLemmas.{are_pairs}
 use Rattle.exam_model.proofs.SumLemmas.{chain_from_index, sum_by-same, sum_by-add, sum_by-times, sum_below-same, sum_below-zeros, sum_below-turned, sum_below-at}
-use Rattle.exam_score.specs.Cost.{row_cost, day_cost, spread_cost}
+use Rattle.exam_score.specs.Cost.{row_cost, day_cost, spread_cost, night_cost}
 use Rattle.exam_score.specs.Penalty.{PersonalPenalty}
 use Rattle.exam_score.specs.Regrouping.{pair_part, candidate_cost, periods_of}
 use Rattle.exam_score.specs.Track.{track, exam_period, exam_room, period_penalty, room_penalty, period_part, room_part}
@@ -65,7 +65,7 @@ times_test : (b : Bool) (w : ℕ) → cond b 1 0 * w ≡ cond b w 0
 times_test true w = one-mul w
 times_test false w = zero-mul w
 
--- an amount for each number, once for each exam there: over all exams what they cost
+-- amounts by number, once for each exam there, add up to the costs of all exams
 by_places : (amount : ℕ → ℕ) (test : ℕ → Option Place → Bool) (cost : Option Place → ℕ)
     (n : ℕ) (T : Placing)
     → ((o : Option Place) → sum_below n (λ k. cond (test k o) (amount k) 0) ≡ cost o)
@@ -129,7 +129,7 @@ room_sum I T same =
 abbrev sittings : List SeatRow → ℕ → List ℕ
 sittings rows s = map (λ row. row.period) (rows_of s rows)
 
--- what students' rows cost is the part of the penalty that pairs of exams make
+-- the costs of the students' rows add up to the part of the penalty for pairs of exams
 student_sum : (cost : ℕ → ℕ → ℕ) (I : Session) (rows : List SeatRow) (T : Placing) → IsInstance I
     → ArePublishedRows I rows T → AreNumbered rows
     → sum_by (λ s. candidate_cost cost (sittings rows s)) (students_of rows)
@@ -175,6 +175,11 @@ adds_up I rows T known are numbered =
     = sum_by_map (λ (share : ℕ × PersonalPenalty). share.1.spread)
     (λ s. (s, share_of I.periods I.weights (rows_of s rows))) students
     ∙ student_sum (spread_cost I.periods I.weights) I rows T known are numbered in
+    let night : sum_by (λ share. share.1.night) (student_shares I rows)
+    ≡ pair_part (night_cost I.periods I.weights) E (period_of T)
+    = sum_by_map (λ (share : ℕ × PersonalPenalty). share.1.night)
+    (λ s. (s, share_of I.periods I.weights (rows_of s rows))) students
+    ∙ student_sum (night_cost I.periods I.weights) I rows T known are numbered in
     let mixed : sum_by (λ share. share.mixed) (room_shares I T)
     ≡ sum_below (length I.rooms) (room_mixed I T)
     = range_sum (λ (share : RoomShare). share.mixed) (room_share I T) (length I.rooms) in
@@ -183,6 +188,9 @@ adds_up I rows T known are numbered =
     let period = period_sum I T are.exams in
     let room = room_sum I T are.exams in
     let personal =
+    sum_by-add (λ (share : ℕ × PersonalPenalty). share.1.row + share.1.day + share.1.spread)
+    (λ share. share.1.night) (student_shares I rows) in
+    let by_periods =
     sum_by-add (λ (share : ℕ × PersonalPenalty). share.1.row + share.1.day)
     (λ share. share.1.spread) (student_shares I rows) in
     let same_day =
@@ -195,6 +203,7 @@ adds_up I rows T known are numbered =
       row = row;
       day = day;
       spread = spread;
+      night = night;
       mixed = mixed;
       front = front;
       period = period;

@@ -20,7 +20,7 @@ before_from_test p q h = grind (arith, nat_tests, h)
 before_trans : (p q r : Pair) → ComesBefore p q → ComesBefore q r → ComesBefore p r
 before_trans p q r h k = grind (arith, h, k)
 
--- a row before the first of a list is before all of it
+-- a row before the first of a list is before the whole list
 before_all : (r q : SeatRow) (qs : List SeatRow) → RowBefore r q → AllByRecursion (RowBefore q) qs
     → AllByRecursion (RowBefore r) (q ∷ qs)
 before_all r q qs h a =
@@ -34,7 +34,7 @@ not_same_turned : (r q : SeatRow) → RowBefore r q → same_row q r ≡ false
 not_same_turned r q h = elim h as (λ _. same_row q r ≡ false)
     [ inl less ↦ grind (arith, nat_tests) | inr same ↦ grind (arith, nat_tests) ]
 
--- ---- one row, or two rows of one pair, taken away
+-- ---- one row, or two rows of one pair, removed
 
 first_alone : (r : SeatRow) (xs ys : List SeatRow) → AllByRecursion (RowBefore r) ys
     → same_rows (r ∷ xs) ys ≡ false
@@ -68,7 +68,7 @@ right_step q rs qs above s = go (eqb q.student s)
         (each_filter (RowBefore q) (λ row. eqb row.student s) rs above)))
     go false = refl
 
--- ---- one list alone
+-- ---- only one list is left
 
 pub left_alone : (rows : List SeatRow) (s : ℕ) → is_changed rows [] s ≡ has_row rows s
 left_alone [] s = refl
@@ -111,7 +111,7 @@ or_false : (a : Bool) → (a || false) ≡ a
 or_false true = refl
 or_false false = refl
 
--- a student more
+-- one more student
 pub has_push : (found : List ℕ) (t s : ℕ)
     → has_number (found ++ t ∷ []) s ≡ (has_number found s || eqb t s)
 has_push found t s = list_any-append (λ x. eqb x s) found (t ∷ [])

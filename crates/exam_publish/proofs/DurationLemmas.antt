@@ -1,4 +1,4 @@
--- The different durations of a room and period, by stays of which none is there twice.
+-- The different durations of a room and period, by stays without repeats.
 use Rattle.std.specs.List.{list_any, dedup}
 use Rattle.std.specs.List.Sorted.{IsStrictlySortedBy}
 use Rattle.std.specs.Ordering.{nat_cmp, ordering_then, eq_by_cmp}
@@ -40,7 +40,7 @@ stay_cmp_total =
     (then_total (on_total (λ (x : Stay). x.room) nat_cmp_total)
     (on_total (λ (x : Stay). x.minutes) nat_cmp_total))
 
--- what `==` of two stays computes
+-- the value of `==` for two stays
 abbrev pub stay_eq : Stay → Stay → Bool
 stay_eq a b = eqb a.period b.period && (eqb a.room b.room && eqb a.minutes b.minutes)
 
@@ -103,7 +103,7 @@ any_dedup p xs =
         let there = keeps any.1 (any.0, any.2, any.3) in
         list_any_at p ys there.0 any.1 there.1 (ap p there.2 ∙ any.4)
 
--- stays of which none is there twice, and each that any exam has
+-- stays without repeats, one for each stay that some exam has
 pub record AreKinds (I : Session) (T : Placing) (kinds : List Stay) : Type 0 where
   pub members : (p r m : ℕ) → list_any (is_stay p r m) kinds ≡ nat_lt 0 (lasting I T p r m)
   pub once : IsChain (λ x y. stay_cmp x y ≡ Less) kinds

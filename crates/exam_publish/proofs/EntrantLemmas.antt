@@ -1,4 +1,4 @@
--- The entrants of one exam more, and what all of them keep.
+-- The entrants of one more exam, and the invariant of all entrants.
 use Rattle.std.specs.Prelude.{IfSome, slice_get}
 use Rattle.std.specs.List.{AllByRecursion, cons_option}
 use Rattle.std.proofs.Common.{◌≡◌, ℕ, zero, suc, ◌+◌, ◌<◌, ◌≤◌, List, [], ◌∷◌, ◌++◌, length, map, take, Option, Some, None, option_map, All, Contains, refl, sym, ◌∙◌, ap, ap₂, subst, arith, append-nil}

@@ -29,7 +29,7 @@ any_turned : (k : ℕ) (xs : List ℕ) → list_any (eqb k) xs ≡ has_number xs
 any_turned k [] = refl
 any_turned k (x ∷ xs) = ap₂ (λ a b. a || b) (turned k x) (any_turned k xs)
 
--- so many numbers take so many places
+-- a list with all numbers from 1 to n has at least n elements
 pub le_taken : (n : ℕ) (xs : List ℕ)
     → ((k : ℕ) → 1 ≤ k → k ≤ n → has_number xs k ≡ true) → n ≤ length xs
 le_taken n xs h =
@@ -152,9 +152,9 @@ still_taken at r rs n h =
     has_seats at r rs n
     ∙ or_right (is_one_place at (row_place r) && eqb r.seat n) (has_number (seats_at at rs) n) h
 
--- ---- the last seat given
+-- ---- the last assigned seat
 
--- n is the next seat behind the last one that no kept row has
+-- n is the first seat after the last one that no kept row has
 pub record IsNext (kept : List SeatRow) (at : Place) (last n : ℕ) : Type 0 where
   pub beyond : last < n
   pub free : has_number (seats_at at kept) n ≡ false

@@ -1,4 +1,4 @@
--- Seats given out along the entrants: what is done, and what is left beside the rows that stand.
+-- Seats assigned to the entrants one by one: the rows so far, and those still to come.
 use Rattle.std.specs.Prelude.{slice_set, slice_index, replicate, unwrap_or, is_some}
 use Rattle.std.proofs.Common.{◌≡◌, ℕ, ◌+◌, ◌*◌, ◌<◌, ◌≤◌, ◌⊎◌, inl, inr, Bool, true, false, cond, eqb, List, [], ◌∷◌, ◌++◌, length, drop, get_or, None, Some, refl, sym, ◌∙◌, ap, ap₂, subst, arith, append_assoc, eqb-true}
 use Rattle.std.proofs.lemmas.Bool.{cases_eq, and_parts, false_from_ne_true}
@@ -19,7 +19,7 @@ use Rattle.exam_publish.proofs.FreeLemmas.{IsNext, is_next, last_here, last_ther
 use Rattle.exam_publish.proofs.SeatLemmas.{same_place, length_filter_map}
 use Rattle.exam_publish.proofs.TallyLemmas.{zeros}
 
--- the rows of the first i entrants, and the rows that stand for those behind them
+-- the rows of the first i entrants, and the rows that are present for the later ones
 pub record AreGiven (xs : List Entrant) (periods rooms i : ℕ) (last : List ℕ)
     (rows : List SeatRow) : Type 0 where
   pub standing : List SeatRow

@@ -1,4 +1,4 @@
--- The seats that entrants keep, as they stand in the list of those that are held.
+-- The kept seats of entrants in the list of held seats.
 use Rattle.std.specs.Prelude.{IfSome}
 use Rattle.std.specs.List.{AllByRecursion, cons_option, list_any}
 use Rattle.std.proofs.Common.{◌≡◌, ℕ, ◌+◌, ◌<◌, ◌≤◌, ◌&&◌, ◌||◌, eqb, List, [], ◌∷◌, ◌++◌, length, map, take, get_or, Option, Some, None, All, IsPermutation, IsSorted, refl, sym, ◌∙◌, ap, ap₂, subst, arith, append-nil}

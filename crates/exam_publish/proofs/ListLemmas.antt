@@ -60,7 +60,7 @@ any_cond : (b : Bool) (t x : ℕ) (xs : List ℕ)
 any_cond true t x xs = refl
 any_cond false t x xs = refl
 
--- a number is left by a filter that it passes
+-- a number stays in a filtered list exactly if it passes
 pub has_filter : (p : ℕ → Bool) (xs : List ℕ) (t : ℕ)
     → has_number (filter p xs) t ≡ (p t && has_number xs t)
 has_filter p [] t = none (p t)
@@ -126,7 +126,7 @@ alike true b h k = sym (h refl)
 alike false true h k = k refl
 alike false false h k = refl
 
--- what is left without repeats has each number
+-- a list without its repeats has the same numbers
 pub has_dedup : (xs : List ℕ) (t : ℕ) → has_number (dedup nat_eq xs) t ≡ has_number xs t
 has_dedup xs t =
     alike (has_number (dedup nat_eq xs) t) (has_number xs t)

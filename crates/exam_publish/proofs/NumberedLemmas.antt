@@ -1,4 +1,4 @@
--- Where no seat is kept, each pair has the next number of its room and period.
+-- If no seat is kept, each pair has the next number of its room and period.
 use Rattle.std.specs.List.{cons_option}
 use Rattle.std.proofs.Common.{◌≡◌, ℕ, ◌+◌, Bool, true, false, cond, List, [], ◌∷◌, ◌++◌, Option, None, Some, option_map, count_by, refl, sym, ◌∙◌, ap, ap₂, subst, arith}
 use Rattle.std.proofs.lemmas.List.Sums.{sum_by_push}

@@ -1,4 +1,4 @@
--- The first exam without a place, and what a refusal says.
+-- The first exam without a place, and the meaning of a refusal.
 use Rattle.std.proofs.Common.{true, false, List, [], ◌∷◌, Contains, ◌≡◌, ℕ, ◌<◌, ◌≤◌, inl, inr, cond, not, Option, Some, None, length, refl, sym, ◌∙◌, ap, arith, lt-ltb, le-ltb}
 use Rattle.std.specs.Prelude.{slice_get, IsSome, is_some, is_none, nat_lt}
 use Rattle.std.specs.List.{position_or_len}
@@ -28,7 +28,7 @@ none_unplaced T all =
     (first_is T (length T) (omega arith) all (λ l. absurd (omega arith)))
     ∙ ap (λ b. cond b (Some (length T)) None) (le-ltb (length T) (length T) (omega arith))
 
--- an exam has none
+-- some exam has no place
 pub some_unplaced : (T : Placing) (e : ℕ) → IsFirstUnplaced T e → first_unplaced T ≡ Some e
 some_unplaced T e h =
     let within = h.exists in
@@ -48,14 +48,14 @@ all_placed T none e within =
           not-false (is_some (place_of T e)) (fails_before_first is_none T e None (omega arith))
     ]
 
--- without a refusal there is neither an exam without a place nor a breach
+-- without a refusal each exam has a place and no rule is broken
 pub neither : (e : Option ℕ) (b : Option Breach) → publish_fault e b ≡ None
     → (e ≡ None) × (b ≡ None)
 neither None None h = (refl, refl)
 neither None (Some b) h = absurd (none-some (Broken b) (sym h))
 neither (Some e) b h = absurd (none-some (Unplaced e) (sym h))
 
--- where there is no first breach, there is none
+-- if there is no first breach, there are no breaches
 pub none_broken : (I : Session) (E : Enrolled) (T : Placing) → length T ≡ length I.exams
     → slice_get (breaches_of I E T) 0 ≡ None → (b : Breach) → is_breach I E T b ≡ false
 none_broken I E T same none b =

@@ -1,4 +1,4 @@
--- Rows stand where their exams do, and so their exams and places exist.
+-- Rows have the places of their exams, so their exams and places exist.
 use Rattle.std.specs.List.{AllByRecursion}
 use Rattle.std.proofs.Common.{◌<◌, inl, inr, length, None, List, sym, ◌∙◌, subst}
 use Rattle.std.proofs.lemmas.Bool.{cases_lt}

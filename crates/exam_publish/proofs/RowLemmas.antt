@@ -19,7 +19,7 @@ use Rattle.exam_publish.specs.Changed.{rows_of, has_row, students_of}
 use Rattle.exam_publish.proofs.ListLemmas.{any_map, has_ascending, chain_ascending, ascending_from_chain, index_from_chain, each_map}
 use Rattle.exam_publish.proofs.SeatingLemmas.{length_pairs}
 
--- ---- one row more
+-- ---- one more row
 
 not_of : (r : SeatRow) (rs : List SeatRow) (e : ℕ) → (r.exam ≡ e → ⊥)
     → students_in (r ∷ rs) e ≡ students_in rs e
@@ -40,7 +40,7 @@ none_of [] e a = refl
 none_of (q ∷ qs) e a = not_of q qs e (λ same. let h : e < q.exam = a.0 in absurd (omega arith))
     ∙ none_of qs e a.1
 
--- exams behind that of the row are as they were
+-- the lists of exams after that of the row don't change
 others : (r : SeatRow) (rs : List SeatRow) (a n : ℕ) → r.exam < a
     → map (students_in (r ∷ rs)) (range_with_len a n) ≡ map (students_in rs) (range_with_len a n)
 others r rs a zero lt = refl

@@ -1,4 +1,4 @@
--- What a binary search finds among rows in order, and among seats in order.
+-- The results of a binary search among rows in order, and among seats in order.
 use Rattle.std.specs.List.{list_any, find}
 use Rattle.std.specs.List.Sorted.{IsBinarySearchResult, IsSearchInRange, IsSortedBy}
 use Rattle.std.specs.Ordering.{nat_cmp, ordering_then, is_eq, is_lt}
@@ -19,7 +19,7 @@ use Rattle.exam_publish.specs.Rows.{row_place, RowBefore, RowsInOrder}
 use Rattle.exam_publish.specs.Seating.{held_cmp, is_held}
 use Rattle.exam_publish.specs.Entrants.{is_row_at}
 
--- a search tells whether an equal element is there
+-- a search finds an equal element exactly if there is one
 found : {X K : Type 0} (R : K → K → Ordering) (o : IsTotalOrder R) (key : X → K) (xs : List X)
     (x : K) (d : X) (r : Result ℕ ℕ)
     → IsSortedBy (λ a b. is_lt (R (key a) (key b))) xs
@@ -59,7 +59,7 @@ held_found xs x r sorted bound is =
     ∙ any_same (λ y. is_eq (held_cmp y x))
     (is_held (record { period = x.period; room = x.room }) x.seat) (is_this x) xs
 
--- a seat that is held is no greater than all that are
+-- a held seat has a number of at most 100,000
 pub held_small : (xs : List Held) (at : Place) (n : ℕ) → All (λ (h : Held). h.seat ≤ 100000) xs
     → list_any (is_held at n) xs ≡ true → n ≤ 100000
 held_small xs at n small any =
@@ -167,7 +167,7 @@ other_pair p at q row mine apart =
           [ inl less ↦ absurd (omega arith) | inr tie ↦ absurd (omega (arith, tie.1)) ]
     ]
 
--- what a search by the pair says of the row that is looked for
+-- the row found by a search for a pair
 pub row_found : (xs : List SeatRow) (p : Pair) (at : Place) (i : ℕ) (row : SeatRow) → RowsInOrder xs
     → i < length xs → row ≡ get_or xs i row
     → ordering_then (nat_cmp row.exam p.exam) (nat_cmp row.student p.student) ≡ Equal

@@ -1,4 +1,4 @@
--- What holds of all seats: each is one of its room, none is given twice, and rows are in order.
+-- Facts about all seats: each exists in its room, no seat is assigned twice, and rows are in order.
 use Rattle.std.specs.List.{AllByRecursion, cons_option, find}
 use Rattle.std.specs.Prelude.{IfSome, IsSome, is_some, is_none, slice_get, nat_lt, unwrap_or}
 use Rattle.std.proofs.Common.{◌≡◌, ℕ, zero, suc, ◌+◌, ◌<◌, ◌≤◌, inl, inr, Bool, true, false, cond, ◌&&◌, eqb, ltb, List, [], ◌∷◌, ◌++◌, length, map, get_or, Option, None, Some, option_map, count_by, filter_map, AllPairs, Contains, refl, sym, ◌∙◌, ap, ap₂, subst, arith, lt-ltb, eqb-true}
@@ -37,7 +37,7 @@ use Rattle.exam_publish.proofs.ListLemmas.{index_from_chain}
 use Rattle.exam_publish.proofs.PermitLemmas.{neither, all_placed}
 use Rattle.exam_publish.proofs.SeatingLemmas.{length_pairs}
 
--- ---- along a list of what may be missing
+-- ---- along a list whose elements may be missing
 
 each_filter_map : {X Y : Type 0} (P : Y → Type 0) (f : X → Option Y) (xs : List X)
     → AllByRecursion (λ x. IfSome (f x) P) xs → AllByRecursion P (filter_map f xs)
@@ -76,7 +76,7 @@ length_filter_map f (x ∷ xs) =
     elim (f x) as (λ o. length (cons_option o (filter_map f xs)) ≤ length (x ∷ xs))
     [ None ↦ omega arith | Some y ↦ omega arith ]
 
--- a chain whose elements all keep something
+-- a chain whose elements all satisfy a condition
 chain_with_each : {X : Type 0} (P : X → Type 0) (R : X → X → Type 0) (xs : List X)
     → AllByRecursion P xs → IsChain R xs
     → IsChain (λ x y. P x × (P y × R x y)) xs
@@ -99,7 +99,7 @@ some_weaker : {X : Type 0} (P Q : X → Type 0) → ((x : X) → P x → Q x) �
 some_weaker P Q h None k = tt
 some_weaker P Q h (Some x) k = h x k
 
--- what is found is one that passes, and keeps what all keep
+-- the element found passes, and satisfies the condition of all elements
 find_keeps : {X : Type 0} (P : X → Type 0) (t : X → Bool) (xs : List X) → AllByRecursion P xs
     → IfSome (find t xs) (λ x. P x × (t x ≡ true))
 find_keeps P t [] a = tt
@@ -112,7 +112,7 @@ find_keeps {X} P t (x ∷ xs) a = go (t x) refl (find_keeps P t xs a.1)
 
 -- ---- entrants
 
--- an entrant at her exam's place, who keeps a row of her own there
+-- an entrant at the exam's place, whose kept row is their own and at that place
 pub record IsFair (T : Placing) (old : List SeatRow) (x : Entrant) : Type 0 where
   pub at_exam : place_of T x.exam ≡ Some x.place
   pub pair : IfSome x.kept (λ row. row_pair row ≡ record { exam = x.exam; student = x.student })
@@ -155,7 +155,7 @@ fair T old p at here =
           (λ row k. k.0) (find (is_row_at p at) old) found;
     }
 
--- what holds of each pair's entrant holds of all
+-- a fact about each pair's entrant holds for all entrants
 pub each_entrant : (P : Entrant → Type 0) (T : Placing) (old : List SeatRow) (pairs : List Pair)
     → AllByRecursion (λ p. (at : Place) → place_of T p.exam ≡ Some at → P (entrant old p at)) pairs
     → AllByRecursion P (entrants pairs T old)
@@ -179,7 +179,7 @@ all_fair T old pairs =
     → place_of T p.exam ≡ Some at → IsFair T old (entrant old p at))
     (λ p at here. fair T old p at here) pairs)
 
--- where each exam has a place, each pair has its entrant
+-- if each exam has a place, each pair has its entrant
 pub entrant_pairs : (T : Placing) (old : List SeatRow) (pairs : List Pair)
     → AllByRecursion (λ p. IsSome (place_of T p.exam)) pairs
     → map (λ (x : Entrant). record { exam = x.exam; student = x.student }) (entrants pairs T old)
@@ -237,11 +237,11 @@ same_place at =
     and_from (eqb at.period at.period) (eqb at.room at.room) (eq-eqb at.period at.period refl)
     (eq-eqb at.room at.room refl)
 
--- seats that a room has, where there are no more rows than it has seats
+-- each row's seat exists in its room
 abbrev Has : Session → List SeatRow → Type 0
 Has I rows = AllByRecursion (HasSeat I) rows
 
--- as many as stand there and are still to come
+-- the room holds the rows that are there and those still to come
 abbrev IsRoomFor : (Place → ℕ) → List SeatRow → List Entrant → Type 0
 IsRoomFor most standing xs =
     (at : Place) → length (seats_at at standing) + count_by (is_new_at at) xs ≤ most at
@@ -289,11 +289,11 @@ rows_within I most standing (x ∷ xs) room kept fits =
 
 -- ---- no seat twice
 
--- a row's seat is one of those that stand
+-- a row's seat is taken by one of these rows
 abbrev IsTaken : List SeatRow → SeatRow → Type 0
 IsTaken standing r = has_number (seats_at (row_place r) standing) r.seat ≡ true
 
--- a row that stands shares its seat with no row of entrants who keep other seats
+-- a present row shares its seat with no row of entrants who keep other seats
 apart : (r : SeatRow) (standing : List SeatRow) (xs : List Entrant) → IsTaken standing r
     → AllByRecursion (HaveOwnSeats r) (kept_rows xs)
     → AllByRecursion (HaveOwnSeats r) (rows_beside standing xs)
@@ -352,7 +352,7 @@ own_rows standing (x ∷ xs) chain taken = step x.kept chain taken (λ s c t. ow
               (λ r t. still_taken (row_place r) row standing r.seat t) (kept_rows xs) taken),
         )
 
--- rows that stand are taken
+-- the seats of present rows are taken
 taken_itself : (rows : List SeatRow) → AllByRecursion (IsTaken rows) rows
 taken_itself [] = tt
 taken_itself (r ∷ rs) =
@@ -430,7 +430,7 @@ at_within : (n f : ℕ) (xs : List ℕ) (later : List Pair) → f < n
 at_within n f [] later lt h = h
 at_within n f (x ∷ xs) later lt h = (lt, at_within n f xs later lt h)
 
--- each exam is one of those that are there
+-- each exam of a pair exists
 pub from_within : (n f : ℕ) (E : Enrolled) → f + length E ≤ n
     → AllByRecursion (λ p. p.exam < n) (pairs_from f E)
 from_within n f [] h = tt
@@ -491,7 +491,7 @@ within_room (x ∷ xs) zero n load l h low high = let most = not_more x.capacity
     (low, omega arith)
 within_room (x ∷ xs) (suc r) n load l h low high = within_room xs r n load (omega arith) h low high
 
--- kept seats and seats to come are no more than entrants
+-- kept seats and seats still to come are at most as many as entrants
 counted_entrants : (T : Placing) (old : List SeatRow) (at : Place) (xs : List Entrant)
     → AllByRecursion (IsFair T old) xs
     → length (seats_at at (kept_rows xs)) + count_by (is_new_at at) xs

@@ -13,7 +13,7 @@ use Rattle.exam_publish.specs.declared.seat_row.SeatRow.{SeatRow}
 use Rattle.exam_publish.specs.Numbered.{sits_at, seat_number, row_with, seat_row}
 use Rattle.exam_publish.specs.Rows.{comes_before}
 
--- ---- one exam more
+-- ---- one more exam
 
 pairs_from-push : (k : ℕ) (E : Enrolled) (xs : List ℕ)
     → pairs_from k (E ++ xs ∷ []) ≡ pairs_from k E ++ pairs_at (k + length E) xs
@@ -47,7 +47,7 @@ length_pairs k (xs ∷ rest) =
 
 -- ---- numbers along the pairs
 
--- the rows of pairs behind those that were seen, each with the next seat of its place
+-- the rows of the pairs after those seen, each with the next seat of its place
 abbrev pub rows_after : Placing → List Pair → List Pair → List SeatRow
 rows_after T seen [] = []
 rows_after T seen (p ∷ ps) =
@@ -81,7 +81,7 @@ part_after : {X : Type 0} (R : X → X → Type 0) (xs : List X) (y : X) (ys : L
 part_after R [] y ys h = h.0
 part_after R (x ∷ xs) y ys h = part_after R xs y ys h.1
 
--- the pairs before y are those that stand before it
+-- the pairs that come before y are those in front of it in the list
 counted_before : (t : Pair → Bool) (xs : List Pair) (y : Pair) (ys : List Pair)
     → IsChain ComesBefore (xs ++ y ∷ ys)
     → count_by (λ q. comes_before q y && t q) (xs ++ y ∷ ys) ≡ count_by t xs
@@ -100,7 +100,7 @@ counted_before t xs y ys h =
     let rest = sum_by-cons (λ (q : Pair). cond (comes_before q y && t q) 1 0) y ys in
     omega arith
 
--- a pair's seat is the next behind the pairs before it
+-- a pair's seat is the next one after those of the pairs before it
 pub numbered : (T : Placing) (all seen ps : List Pair) → all ≡ seen ++ ps → IsChain ComesBefore all
     → filter_map (seat_row all T) ps ≡ rows_after T seen ps
 numbered T all seen [] split order = refl

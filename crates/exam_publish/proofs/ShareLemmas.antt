@@ -1,4 +1,4 @@
--- Shares are small and those of the rows' students, and stay where rows do.
+-- Shares are small, belong to the students of the rows, and don't change if the rows don't.
 use Rattle.std.specs.List.{AllByRecursion}
 use Rattle.std.proofs.Common.{◌≡◌, ℕ, ◌+◌, ◌<◌, ◌≤◌, ◌^◌, true, false, ◌&&◌, eqb, List, [], ◌∷◌, length, map, sum_by, All, refl, sym, ◌∙◌, ap, ap₂, subst, arith, eqb-true}
 use Rattle.std.proofs.lemmas.Bool.{and_parts, not-false}
@@ -56,7 +56,7 @@ same_share I old new s h =
     (equal_rows (rows_of s old) (rows_of s new)
     (not-false (same_rows (rows_of s old) (rows_of s new)) h))
 
--- ---- whose shares
+-- ---- the students with a share
 
 firsts : (f : ℕ → PersonalPenalty) (xs : List ℕ)
     → map (λ (share : ℕ × PersonalPenalty). share.0) (map (λ s. (s, f s)) xs) ≡ xs

@@ -1,4 +1,4 @@
--- The sizes of exams by their rows, and which exam is larger.
+-- The sizes of exams by their rows, and the order of exams by size.
 use Rattle.std.proofs.Common.{◌≡◌, ℕ, ◌<◌, cond, List, length, count_by, filter, sym, ◌∙◌, ap, ap₂, one-mul}
 use Rattle.std.specs.Prelude.{slice_index, nat_lt, ◌==◌, ◌&&◌, ◌||◌, if◌then◌else◌}
 use Rattle.std.proofs.lemmas.List.{length-map}

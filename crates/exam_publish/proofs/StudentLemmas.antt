@@ -172,7 +172,7 @@ start I rows sorted shares none are = record {
   whole = λ s h. are.same s;
 }
 
--- the first student's rows are all that she has
+-- the first run of rows has all rows of its student
 pub own_is : (I : Session) (rows rest : List SeatRow) (shares : List (ℕ × PersonalPenalty))
     (r : SeatRow) (n : ℕ)
     → IsShared I rows shares rest
@@ -203,7 +203,7 @@ no_row : (s : ℕ) (xs : List SeatRow) → AllByRecursion (λ row. row.student �
 no_row s [] a = refl
 no_row s (x ∷ xs) a = ap₂ (λ a b. a || b) (ne_eqb x.student s a.0) (no_row s xs a.1)
 
--- one student more
+-- one more student
 pub shared_more : (I : Session) (rows rest : List SeatRow)
     (shares more : List (ℕ × PersonalPenalty)) (r : SeatRow) (n : ℕ)
     → IsShared I rows shares rest
@@ -258,7 +258,7 @@ shared_more I rows rest shares more r n was is some run added =
         clash : true ≡ false → ⊥
         clash e = cc
 
--- ---- nobody has more rows than there are exams
+-- ---- no student has more rows than there are exams
 
 bounded : (a n : ℕ) (xs : List ℕ) → a ≤ n → IsChain (λ x y. x < y) xs
     → AllByRecursion (λ x. a ≤ x) xs → AllByRecursion (λ x. x < n) xs → length xs + a ≤ n

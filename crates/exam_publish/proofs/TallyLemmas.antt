@@ -1,4 +1,4 @@
--- Sums in a table: one element more, and the whole table as a list.
+-- Sums in a table: with one more element, and the whole table as a list.
 use Rattle.std.specs.List.{range_with_len}
 use Rattle.std.proofs.Common.{◌≡◌, ℕ, zero, suc, ◌+◌, ◌*◌, ◌<◌, ◌≤◌, ◌⊎◌, inl, inr, Bool, false, cond, eqb, List, [], ◌∷◌, ◌++◌, length, get_or, map, count_by, refl, sym, ◌∙◌, ap, arith, length-append}
 use Rattle.std.specs.Prelude.{slice_set, slice_index, replicate}
@@ -65,7 +65,7 @@ tally_more {X} amount test n xs sums x key new was lt is few put = record {
         let here = get_or-set_other sums key k new 0 other in
         let h = was.small k in let l = length-append xs (x ∷ []) in omega arith
 
--- of no elements the table of zeros
+-- the sums of an empty list are a table of zeros
 pub untallied : {X : Type 0} (amount : ℕ → ℕ) (test : ℕ → X → Bool) (n m : ℕ) (sums : List ℕ)
     → sums ≡ replicate m 0 → m ≡ n → AreTallied amount test n [] sums
 untallied amount test n m sums is same = record {

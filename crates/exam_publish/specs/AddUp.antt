@@ -17,6 +17,7 @@ added_up shares = record {
   row = sum_by (λ share. share.1.row) shares.students;
   day = sum_by (λ share. share.1.day) shares.students;
   spread = sum_by (λ share. share.1.spread) shares.students;
+  night = sum_by (λ share. share.1.night) shares.students;
   mixed = sum_by (λ share. share.mixed) shares.rooms;
   front = sum shares.exams;
   period = sum shares.periods;
@@ -28,13 +29,14 @@ pub record AddUpTo (penalty : Penalty) (shares : Sharing) : Type 0 where
   pub row : sum_by (λ share. share.1.row) shares.students ≡ penalty.row
   pub day : sum_by (λ share. share.1.day) shares.students ≡ penalty.day
   pub spread : sum_by (λ share. share.1.spread) shares.students ≡ penalty.spread
+  pub night : sum_by (λ share. share.1.night) shares.students ≡ penalty.night
   pub mixed : sum_by (λ share. share.mixed) shares.rooms ≡ penalty.mixed
   pub front : sum shares.exams ≡ penalty.front
   pub period : sum shares.periods ≡ penalty.period
   pub room : sum_by (λ share. share.penalty) shares.rooms ≡ penalty.room
   pub total : share_total shares ≡ total_of penalty
 
--- no share reaches 2^62, nor do all together
+-- each share is below 2^62, and so is their sum
 pub record AreSmall (shares : Sharing) : Type 0 where
   pub students : All (λ share. personal_total share.1 < 2 ^ 62) shares.students
   pub exams : All (λ share. share < 2 ^ 62) shares.exams

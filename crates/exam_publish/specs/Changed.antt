@@ -38,6 +38,6 @@ ascending (s ∷ ss) = with_student s (ascending ss)
 abbrev pub students_of : List SeatRow → List ℕ
 students_of rows = ascending (map (λ row. row.student) rows)
 
--- of all candidates in either list those whose rows differ
+-- the candidates in either list whose rows differ
 abbrev pub changed_students : List SeatRow → List SeatRow → List ℕ
 changed_students old new = filter (is_changed old new) (students_of (old ++ new))

@@ -12,7 +12,7 @@ use Rattle.exam_score.specs.declared.mixed.Stay.{Stay}
 abbrev pub stay_place : Stay → Place
 stay_place x = record { period = x.period; room = x.room }
 
--- whether a stay's place has this entry in a table
+-- whether a stay's place has this index in a table
 abbrev pub is_in_slot : Session → ℕ → Stay → Bool
 is_in_slot I k x = slot_of (length I.rooms) (stay_place x) == k
 

@@ -1,4 +1,5 @@
--- Who is to have a seat, and who keeps an old one: where the exam stands as before.
+-- The entrants, who need a seat, and the old rows that are kept: those whose exam has the same
+-- place.
 use Rattle.std.specs.Prelude.{Bool, ◌&&◌, List, filter_map, option_map}
 use Rattle.std.specs.List.{find}
 use Rattle.exam_terms.specs.declared.place.Place.{Place}
@@ -13,7 +14,7 @@ use Rattle.exam_publish.specs.Rows.{row_place}
 abbrev pub is_row_at : Pair → Place → SeatRow → Bool
 is_row_at p at row = is_pair row.student row.exam p && is_one_place at (row_place row)
 
--- a pair, where its exam stands now, and its old row if that is there
+-- a pair, the exam's current place, and the pair's old row if it is at that place
 abbrev pub entrant : List SeatRow → Pair → Place → Entrant
 entrant old p at = record {
   student = p.student;

@@ -21,7 +21,7 @@ abbrev pub shares_in : Session → List SeatRow → List ℕ → List (ℕ × Pe
 shares_in I rows students =
     map (λ s. (s, share_of I.periods I.weights (rows_of s rows))) students
 
--- the first n rows are of a student, and the one behind them is not
+-- the first n rows are of a student, and the next one is not
 pub record IsRun (rows : List SeatRow) (s n : ℕ) : Type 0 where
   pub within : n ≤ length rows
   pub own : (k : ℕ) (d : SeatRow) → k < n → (slice_index_or rows k d).student ≡ s

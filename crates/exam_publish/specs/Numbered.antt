@@ -1,5 +1,4 @@
--- Where no seat is kept, seats are numbered through each room and period, by exam and then by
--- student.
+-- If no seat is kept, seats are numbered through each room and period, by exam and then by student.
 use Rattle.std.specs.Prelude.{ℕ, ◌+◌, Bool, ◌&&◌, List, Option, count_by, filter_map, option_map}
 use Rattle.exam_terms.specs.declared.place.Place.{Place}
 use Rattle.exam_model.specs.Pairs.{Pair}
@@ -8,11 +7,11 @@ use Rattle.exam_rules.specs.Places.{where_placed, is_one_place}
 use Rattle.exam_publish.specs.declared.seat_row.SeatRow.{SeatRow}
 use Rattle.exam_publish.specs.Rows.{comes_before}
 
--- whether a pair's exam stands in this room and period
+-- whether a pair's exam is in this room and period
 abbrev pub sits_at : Placing → Place → Pair → Bool
 sits_at T at q = where_placed (is_one_place at) (place_of T q.exam)
 
--- one more than the number of pairs in this room and period that come before
+-- one more than the number of earlier pairs in this room and period
 abbrev pub seat_number : List Pair → Placing → Place → Pair → ℕ
 seat_number pairs T at p = count_by (λ q. comes_before q p && sits_at T at q) pairs + 1
 

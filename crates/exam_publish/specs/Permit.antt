@@ -1,4 +1,4 @@
--- When a timetable may be published: each exam has a place, and no hard rule is broken.
+-- The timetables that may be published: each exam has a place, and no hard rule is broken.
 use Rattle.std.specs.Prelude.{◌≡◌, ℕ, ◌<◌, true, length, Option, Some, None, IsSome, position, slice_get}
 use Rattle.std.specs.Option.{is_none}
 use Rattle.exam_model.specs.Instance.{Session}
@@ -17,7 +17,7 @@ first_unplaced T = position is_none T
 abbrev pub least_breach : Session → Enrolled → Placing → Option Breach
 least_breach I E T = slice_get (breaches_of I E T) 0
 
--- an exam without a place comes before any breach
+-- an exam without a place is named before any breach
 abbrev pub publish_fault : Option ℕ → Option Breach → Option PublishFault
 publish_fault None None = None
 publish_fault None (Some b) = Some (Broken b)
@@ -37,8 +37,8 @@ RefusesPublication I E T NoMemory = first_unplaced T ≡ None
 abbrev pub IsComplete : Placing → Type 0
 IsComplete T = (e : ℕ) → e < length T → IsSome (place_of T e)
 
--- what a refusal names is so: an exam without a place, the first of them, or a breach where each
--- exam has one
+-- the cause named by a refusal is true: the first exam without a place, or a breach if each exam
+-- has one
 abbrev pub NamesCause : Session → Enrolled → Placing → PublishFault → Type 0
 NamesCause I E T (Unplaced e) = IsFirstUnplaced T e
 NamesCause I E T (Broken b) = IsComplete T × (is_breach I E T b ≡ true)

@@ -8,7 +8,7 @@ use Rattle.exam_publish.specs.declared.seat_row.SeatRow.{SeatRow}
 use Rattle.exam_publish.specs.Rows.{ArePublishedRows, row_pair}
 use Rattle.exam_publish.specs.Seats.{AreSeated}
 
--- a row for each enrolment, with a seat of its room that nobody else has, where its exam stands
+-- a row for each enrolment, at its exam's place, with a seat of the room that no other row has
 pub record AreSeats (I : Session) (E : Enrolled) (T : Placing) (rows : List SeatRow) : Type 0 where
   pub pairs : map row_pair rows ≡ pairs_of E
   pub seated : AreSeated I rows

@@ -1,4 +1,4 @@
--- Seat rows: whose they are, and in which order they stand.
+-- Seat rows: their students, exams and places, and their order.
 use Rattle.std.specs.Prelude.{◌≡◌, ℕ, ◌<◌, ◌≤◌, Bool, ◌&&◌, ◌||◌, ◌==◌, nat_lt, List, length, Some, All, AllPairs, IsSome, map, filter}
 use Rattle.std.specs.List.{range_with_len}
 use Rattle.exam_terms.specs.declared.limits.TheConstants.{MAX_PAIRS, MAX_STUDENT}
@@ -14,7 +14,7 @@ use Rattle.exam_publish.specs.declared.seat_row.SeatRow.{SeatRow}
 abbrev pub row_pair : SeatRow → Pair
 row_pair row = record { exam = row.exam; student = row.student }
 
--- the place where a row is
+-- the place of a row
 abbrev pub row_place : SeatRow → Place
 row_place row = record { period = row.period; room = row.room }
 
@@ -22,11 +22,11 @@ row_place row = record { period = row.period; room = row.room }
 abbrev pub students_in : List SeatRow → ℕ → List ℕ
 students_in rows e = map (λ row. row.student) (filter (λ row. row.exam == e) rows)
 
--- the enrolments that rows are, for so many exams
+-- the enrolments represented by rows, for this many exams
 abbrev pub enrolled_in : ℕ → List SeatRow → Enrolled
 enrolled_in exams rows = map (students_in rows) (range_with_len 0 exams)
 
--- whether a pair's exam is smaller, or the same and her number smaller
+-- whether a pair has a smaller exam, or the same exam and a smaller student
 abbrev pub comes_before : Pair → Pair → Bool
 comes_before p q = nat_lt p.exam q.exam || ((p.exam == q.exam) && nat_lt p.student q.student)
 
@@ -38,11 +38,11 @@ RowBefore row other = ComesBefore (row_pair row) (row_pair other)
 abbrev pub RowsInOrder : List SeatRow → Type 0
 RowsInOrder rows = AllPairs RowBefore rows
 
--- the row is where its exam stands
+-- the row has its exam's place
 abbrev pub IsAtExam : Placing → SeatRow → Type 0
 IsAtExam T row = place_of T row.exam ≡ Some (row_place row)
 
--- each row's student has a number that a student can have
+-- each row's student number is within its limit
 abbrev pub AreNumbered : List SeatRow → Type 0
 AreNumbered rows = All (λ row. row.student ≤ MAX_STUDENT) rows
 

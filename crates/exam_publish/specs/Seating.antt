@@ -1,4 +1,4 @@
--- How seats are given out along the entrants.
+-- How seats are assigned to the entrants one by one.
 use Rattle.std.specs.Prelude.{◌≡◌, ℕ, ◌*◌, ◌<◌, ◌≤◌, Bool, true, false, ◌&&◌, ◌==◌, List, length, All, IfSome, slice_index}
 use Rattle.std.specs.List.{list_any}
 use Rattle.std.specs.List.Sorted.{IsSorted}
@@ -19,11 +19,11 @@ pub record EntrantExists (I : Session) (x : Entrant) : Type 0 where
   pub period : x.place.period < length I.periods
   pub room : x.place.room < length I.rooms
 
--- a row that is kept has a seat that a room can have
+-- a kept row has a seat number that a room can have
 abbrev pub KeepsSmallSeat : Entrant → Type 0
 KeepsSmallSeat x = IfSome x.kept (λ row. row.seat ≤ MAX_AMOUNT)
 
--- whether it is this seat in this room and period
+-- whether a held seat is this one in this room and period
 abbrev pub is_held : Place → ℕ → Held → Bool
 is_held at n h = (h.period == at.period) && ((h.room == at.room) && (h.seat == n))
 
@@ -46,13 +46,13 @@ pub record IsNextFree (held : List Held) (at : Place) (from n : ℕ) : Type 0 wh
   pub free : list_any (is_held at n) held ≡ false
   pub between : (k : ℕ) → from ≤ k → k < n → list_any (is_held at k) held ≡ true
 
--- up to this seat all are taken, and beyond it only those that are kept
+-- all seats up to this one are taken, and beyond it only kept ones
 pub record IsLast (kept standing : List SeatRow) (at : Place) (n : ℕ) : Type 0 where
   pub all : (k : ℕ) → 1 ≤ k → k ≤ n → has_number (seats_at at standing) k ≡ true
   pub beyond : (k : ℕ) → n < k
       → has_number (seats_at at standing) k ≡ has_number (seats_at at kept) k
 
--- each place's entry is the last seat that was given there
+-- each place's entry is the last seat that was assigned there
 pub record AreLast (kept standing : List SeatRow) (periods rooms : ℕ) (last : List ℕ) : Type 0 where
   pub count : length last ≡ periods * rooms
   pub each : (at : Place) → at.period < periods → at.room < rooms

@@ -1,5 +1,5 @@
--- Who sits where: an old seat stays where its exam stands as before, and the others are seated
--- around the seats that stay.
+-- Seats: an old seat is kept if its exam has the same place, and the other students get the seats
+-- between the kept ones.
 use Rattle.std.specs.Prelude.{◌≡◌, ◌≤◌, ℕ, ◌+◌, not, if◌then◌else◌, List, [], ◌∷◌, length, map, filter, Option, None, Some, All, AllPairs, unwrap_or, is_some, slice_get}
 use Rattle.std.specs.List.{position_or_len, range_with_len}
 use Rattle.exam_terms.specs.declared.place.Place.{Place}
@@ -30,7 +30,7 @@ abbrev pub HaveOwnSeats : SeatRow → SeatRow → Type 0
 HaveOwnSeats row other =
     row.period ≡ other.period → row.room ≡ other.room → row.seat ≡ other.seat → ⊥
 
--- rows in order, each with a seat of its room, and none with the seat of another
+-- rows in order, each with a seat of its room, and no two with the same seat
 pub record AreSeated (I : Session) (rows : List SeatRow) : Type 0 where
   pub in_order : RowsInOrder rows
   pub within : All (HasSeat I) rows
@@ -42,12 +42,12 @@ pub record AreSeated (I : Session) (rows : List SeatRow) : Type 0 where
 abbrev pub seats_at : Place → List SeatRow → List ℕ
 seats_at at rows = map (λ row. row.seat) (filter (λ row. is_one_place at (row_place row)) rows)
 
--- the least number from 1 that is none of these
+-- the least number from 1 that is not among these
 abbrev pub least_free : List ℕ → ℕ
 least_free taken =
     position_or_len (λ n. not (has_number taken n)) (range_with_len 1 (length taken)) + 1
 
--- the row of an entrant who keeps none: its seat is the least one there that no row has
+-- the row of an entrant who keeps none: with the least seat there that no row has
 abbrev pub new_row : List SeatRow → Entrant → SeatRow
 new_row standing x = record {
   student = x.student;
@@ -57,21 +57,21 @@ new_row standing x = record {
   seat = least_free (seats_at x.place standing);
 }
 
--- an entrant's row beside the rows that stand: the one that is kept, or a new one
+-- an entrant's row, given the rows that are there: the kept one, or a new one
 abbrev pub entrant_row : List SeatRow → Entrant → SeatRow
 entrant_row standing x = unwrap_or x.kept (new_row standing x)
 
--- a new row stands from then on; a kept one has stood before
+-- a new row is added to those that are there; a kept one is there already
 abbrev pub standing_with : List SeatRow → Entrant → List SeatRow
 standing_with standing x = if is_some x.kept then standing else new_row standing x ∷ standing
 
--- the rows of entrants one after another, beside the rows that stand
+-- the rows of entrants one after another, given the rows that are there
 abbrev pub rows_beside : List SeatRow → List Entrant → List SeatRow
 rows_beside standing [] = []
 rows_beside standing (x ∷ xs) =
     entrant_row standing x ∷ rows_beside (standing_with standing x) xs
 
--- the rows of all entrants: those that are kept stand before any other is given
+-- the rows of all entrants: the kept ones are there before any new one is assigned
 abbrev pub rows_for : List Entrant → List SeatRow
 rows_for xs = rows_beside (kept_rows xs) xs
 

@@ -17,11 +17,11 @@ use Rattle.exam_publish.specs.declared.share_lists.RoomShare.{RoomShare}
 use Rattle.exam_publish.specs.Changed.{rows_of, students_of}
 use Rattle.exam_publish.specs.Rows.{enrolled_in}
 
--- what the periods of a candidate's rows cost her
+-- the personal penalty of a candidate's rows
 abbrev pub share_of : List Period → Weights → List SeatRow → PersonalPenalty
 share_of periods weights own = personal_of periods weights (map (λ row. row.period) own)
 
--- each candidate with rows, ascending, and her share
+-- each candidate with rows, ascending, and their share
 abbrev pub student_shares : Session → List SeatRow → List (ℕ × PersonalPenalty)
 student_shares I rows =
     map (λ s. (s, share_of I.periods I.weights (rows_of s rows))) (students_of rows)
@@ -39,7 +39,7 @@ is_in_period p at = where_placed (λ at. at.period == p) at
 abbrev pub is_in_room : ℕ → Option Place → Bool
 is_in_room r at = where_placed (λ at. at.room == r) at
 
--- a period's penalty, once for each exam that stands in it
+-- a period's penalty, once for each exam that is in it
 abbrev pub period_share : Session → Placing → ℕ → ℕ
 period_share I T p = period_penalty (slice_get I.periods p) * count_by (is_in_period p) T
 
@@ -47,11 +47,11 @@ period_share I T p = period_penalty (slice_get I.periods p) * count_by (is_in_pe
 abbrev pub period_shares : Session → Placing → List ℕ
 period_shares I T = map (period_share I T) (range_with_len 0 (length I.periods))
 
--- a room's penalty, once for each exam that stands in it
+-- a room's penalty, once for each exam that is in it
 abbrev pub penalty_in : Session → Placing → ℕ → ℕ
 penalty_in I T r = room_penalty (slice_get I.rooms r) * count_by (is_in_room r) T
 
--- a room's penalties, and beside them its mixed durations over all periods
+-- a room's penalties, and separately its mixed durations over all periods
 abbrev pub room_share : Session → Placing → ℕ → RoomShare
 room_share I T r = record { penalty = penalty_in I T r; mixed = room_mixed I T r }
 

@@ -1,4 +1,4 @@
--- Sums kept in a table while a list is walked along.
+-- Sums in a table, updated along a list.
 use Rattle.std.specs.Prelude.{◌≡◌, ℕ, ◌*◌, ◌<◌, ◌≤◌, Bool, List, length, count_by, slice_index}
 use Rattle.exam_terms.specs.declared.limits.TheConstants.{MAX_AMOUNT}
 

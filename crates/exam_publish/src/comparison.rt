@@ -1,4 +1,4 @@
-// Whose rows differ between two publications.
+// The candidates whose rows differ between two publications.
 ghost use Rattle.std.specs.Prelude.{◌≡◌, ℕ, ◌&&◌, ◌||◌, ◌==◌, IfOk, OnOk};
 ghost use Rattle.exam_model.specs.Enrolments.{IsAscending, has_number};
 ghost use Rattle.exam_publish.specs.Rows.{RowsInOrder, comes_before, row_pair};
@@ -8,7 +8,7 @@ use crate::seat_row::SeatRow;
 use exam_model::StudentNo;
 use std::alloc::{AllocError, Global};
 
-/// The candidates whose rows differ between two lists of rows, ascending, each once.
+/// Returns the candidates whose rows differ between two lists of rows, ascending, each once.
 pub fn changed(
     alloc: Global,
     old: &[SeatRow],
@@ -25,7 +25,7 @@ pub fn changed(
     Ok(in_order(found))
 }
 
-// The candidates of rows that stand in one list only or differ, in one walk along both.
+// Returns the candidates of rows that are in one list only or differ, in one walk along both.
 fn differing(alloc: Global, old: &[SeatRow], new: &[SeatRow]) -> Result<Vec<StudentNo>, AllocError>
     requires old_in_order { RowsInOrder old.now }
     requires new_in_order { RowsInOrder new.now }
@@ -56,14 +56,14 @@ fn differing(alloc: Global, old: &[SeatRow], new: &[SeatRow]) -> Result<Vec<Stud
     Ok(found)
 }
 
-/// Whether a row's exam is smaller, or the same and its student smaller.
+/// Returns whether a row has a smaller exam, or the same exam and a smaller student.
 pub fn is_before(row: &SeatRow, other: &SeatRow) -> bool
     ensures { result ≡ comes_before (row_pair row.now) (row_pair other.now) }
 {
     row.exam < other.exam || row.exam == other.exam && row.student < other.student
 }
 
-// Adds a student, if her rows differ.
+// Adds a student, if their rows differ.
 fn push_if(found: &mut Vec<StudentNo>, differs: bool, student: StudentNo) -> Result<(), AllocError>
     ensures { OnOk result ((s : ℕ) → has_number found.new.items s
         ≡ (has_number found.old.items s || ((student == s) && differs))) }
@@ -85,7 +85,7 @@ fn push_students(found: &mut Vec<StudentNo>, rows: &[SeatRow]) -> Result<(), All
     Ok(())
 }
 
-/// The students in order, each once.
+/// Returns the students in order, each once.
 pub fn in_order(mut found: Vec<StudentNo>) -> Vec<StudentNo>
     ensures { result.items ≡ ascending found.items }
 {

@@ -1,4 +1,4 @@
-// Mixed durations: how many different durations the exams of each room and period have.
+// Mixed durations: the number of different durations of the exams in each room and period.
 ghost use Rattle.std.specs.Prelude.{◌≡◌, ◌<◌, ◌≤◌, ◌+◌, ◌-◌, ◌*◌, ℕ, length, IfOk, slice_index};
 ghost use Rattle.exam_terms.specs.declared.limits.TheConstants.{MAX_EXAMS};
 ghost use Rattle.exam_model.specs.Fits.{Suits};
@@ -9,7 +9,7 @@ use exam_model::{Instance, PeriodNo, Place, RoomNo, Timetable};
 use exam_score::stays_of;
 use std::alloc::{AllocError, Global};
 
-/// The number of different durations in each room and period.
+/// Returns the number of different durations in each room and period.
 pub(crate) fn durations(
     alloc: Global,
     instance: &Instance,
@@ -34,7 +34,7 @@ pub(crate) fn durations(
     Ok(kinds)
 }
 
-/// A room's mixed durations: its weight for each duration but one, over all periods.
+/// Returns a room's mixed durations: its weight for each duration but one, over all periods.
 pub(crate) fn mixed_in(instance: &Instance, kinds: &[u32], room: RoomNo) -> u64
     requires room { room < length instance.now.rooms }
     requires table { length kinds.now ≡ length instance.now.periods * length instance.now.rooms }

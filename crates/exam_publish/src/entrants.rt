@@ -1,4 +1,4 @@
-// Who comes to be seated, and which old rows are kept.
+// The entrants, who need a seat, and the old rows that are kept.
 ghost use Rattle.std.specs.Prelude.{◌≡◌, ◌++◌, length, map, IfOk, OnOk};
 ghost use Rattle.std.specs.List.{find};
 ghost use Rattle.exam_model.specs.Pairs.{pairs_of};
@@ -10,7 +10,7 @@ use crate::seat_row::SeatRow;
 use exam_model::{Enrolments, ExamNo, Place, StudentNo, Timetable};
 use std::alloc::{AllocError, Global};
 
-/// A student of an exam, where the exam stands now, and her old row if that is there.
+/// A student of an exam, the exam's current place, and the student's old row if it is there.
 #[derive(Clone, Copy)]
 pub(crate) struct Entrant {
     pub student: StudentNo,
@@ -19,7 +19,7 @@ pub(crate) struct Entrant {
     pub kept: Option<SeatRow>,
 }
 
-/// The entrants of all exams that have a place, in order.
+/// Returns the entrants of all exams that have a place, in order.
 pub(crate) fn entrants_of(
     alloc: Global,
     enrolments: &Enrolments,
@@ -68,7 +68,7 @@ fn add_entrants(
     Ok(())
 }
 
-// The old row of a student's exam, if it is at this place.
+// Returns the old row of a student's exam, if it is at this place.
 fn kept_row(old: &[SeatRow], exam: ExamNo, student: StudentNo, place: &Place) -> Option<SeatRow>
     requires { RowsInOrder old.now }
     ensures { result
@@ -82,7 +82,7 @@ fn kept_row(old: &[SeatRow], exam: ExamNo, student: StudentNo, place: &Place) ->
     if is_at(row, place) { Some(*row) } else { None }
 }
 
-// Whether a row is in a room and period.
+// Returns whether a row is in a room and period.
 fn is_at(row: &SeatRow, place: &Place) -> bool
     ensures { result ≡ is_one_place place.now (row_place row.now) }
 {

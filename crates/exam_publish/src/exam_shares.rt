@@ -1,4 +1,4 @@
-// The shares of exams: what each makes of the front load, sizes by the rows.
+// The shares of exams in the front load, with sizes by the rows.
 ghost use Rattle.std.specs.Prelude.{◌≡◌, length, IfOk};
 ghost use Rattle.exam_publish.specs.Rows.{ArePublishedRows};
 ghost use Rattle.exam_publish.specs.Shares.{exam_shares};
@@ -10,7 +10,7 @@ use exam_model::{ExamNo, Instance, Timetable};
 use exam_score::front_share;
 use std::alloc::{AllocError, Global};
 
-/// What each exam makes of the front load.
+/// Returns the share of each exam in the front load.
 pub(crate) fn exam_shares(
     alloc: Global,
     instance: &Instance,
@@ -31,7 +31,7 @@ pub(crate) fn exam_shares(
     Ok(shares)
 }
 
-// How many rows each exam has.
+// Returns how many rows each exam has.
 fn sizes_of(
     alloc: Global,
     instance: &Instance,

@@ -3,14 +3,14 @@ use exam_model::ExamNo;
 use exam_rules::Breach;
 use std::alloc::AllocError;
 
-/// Why a timetable may not be published, in the order in which it is judged.
+/// Why a timetable may not be published, in the order of the checks.
 #[derive(Clone, Copy, Debug, PartialEq, Eq)]
 pub enum PublishFault {
     /// The smallest exam that has no place.
     Unplaced(ExamNo),
     /// The least breach of a hard rule: by rule, then by exam, then by the other exam.
     Broken(Breach),
-    /// Memory was refused.
+    /// Out of memory.
     NoMemory,
 }
 

@@ -1,4 +1,4 @@
-// The seats that are kept, and the free ones between them.
+// The kept seats, and the free ones between them.
 ghost use Rattle.std.specs.Prelude.{◌≡◌, ◌≤◌, All, IfOk};
 ghost use Rattle.std.specs.List.{list_any};
 ghost use Rattle.std.specs.List.Sorted.{IsSorted};
@@ -10,7 +10,7 @@ use crate::entrants::Entrant;
 use exam_model::{PeriodNo, Place, RoomNo};
 use std::alloc::{AllocError, Global};
 
-/// A seat that is kept; ordered by period, then room, then seat.
+/// A kept seat; ordered by period, then room, then seat.
 #[derive(Clone, Copy, PartialEq, Eq, PartialOrd, Ord)]
 pub(crate) struct Held {
     pub period: PeriodNo,
@@ -18,7 +18,7 @@ pub(crate) struct Held {
     pub seat: u32,
 }
 
-/// The seats that entrants keep, in order.
+/// Returns the seats that entrants keep, in order.
 pub(crate) fn held_seats(alloc: Global, entrants: &[Entrant]) -> Result<Vec<Held>, AllocError>
     requires { All KeepsSmallSeat entrants.now }
     ensures { IfOk result (λ held. AreHeld (kept_rows entrants.now) held.items) }
@@ -38,7 +38,7 @@ pub(crate) fn held_seats(alloc: Global, entrants: &[Entrant]) -> Result<Vec<Held
     Ok(held)
 }
 
-/// The least seat from this one on that nobody keeps in a room and period.
+/// Returns the least seat, from this one on, that no entrant keeps in a room and period.
 pub(crate) fn next_free(held: &[Held], place: &Place, from: u32) -> u32
     requires sorted { IsSorted held_cmp held.now }
     requires small { All (λ h. h.seat ≤ MAX_AMOUNT) held.now }
@@ -51,7 +51,7 @@ pub(crate) fn next_free(held: &[Held], place: &Place, from: u32) -> u32
     seat
 }
 
-// Whether somebody keeps this seat.
+// Returns whether an entrant keeps this seat.
 fn is_held(held: &[Held], place: &Place, seat: u32) -> bool
     requires { IsSorted held_cmp held.now }
     ensures { result ≡ list_any (is_held place.now seat) held.now }

@@ -16,39 +16,38 @@ ghost use Rattle.exam_publish.specs.Seats.{AreSeated, seat_rows};
 ghost use Rattle.exam_publish.specs.Shares.{share_of, shares_of};
 ghost use Rattle.exam_score.specs.Track.{track};
 
-/// The shares of a timetable add up to its penalty, with the enrolments that the rows are: in
-/// all, and part by part.
+/// The shares of a timetable add up to its penalty, in total and part by part, with the enrolments
+/// that the rows represent.
 pub fn shares_add_up()
     ensures { (I : Session) (rows : List SeatRow) (T : Placing) → IsInstance I
         → ArePublishedRows I rows T → AreNumbered rows
         → AddUpTo (track I (enrolled_in (length I.exams) rows) T) (shares_of I rows T) }
 {}
 
-/// No share of a timetable reaches 2^62, nor do all together.
+/// Each share of a timetable is below 2^62, and so is their sum.
 pub fn shares_are_small()
     ensures { (I : Session) (rows : List SeatRow) (T : Placing) → IsInstance I
         → ArePublishedRows I rows T → AreNumbered rows → AreSmall (shares_of I rows T) }
 {}
 
-/// The seats of a timetable that may be published are a publication's rows: one for each enrolment,
-/// at its exam's place, in a seat of the room that nobody else has, whatever rows there were
-/// before.
+/// The seats of a timetable that may be published are the rows of a publication, for any old rows:
+/// one for each enrolment, at its exam's place, with a seat of the room that no other row has.
 pub fn seats_are_rows()
     ensures { (I : Session) (E : Enrolled) (T : Placing) (old : List SeatRow) → AreEnrolments E
         → Fits I E T → publish_refusal I E T ≡ None → AreSeated I old
         → AreSeats I E T (seat_rows (pairs_of E) T old) }
 {}
 
-/// The rows of a timetable that may be published are the enrolments that it was published with,
-/// whatever rows there were before.
+/// The rows of a timetable that may be published represent the enrolments at its publication, for
+/// any old rows.
 pub fn seated_as_enrolled()
     ensures { (I : Session) (E : Enrolled) (T : Placing) (old : List SeatRow) → IsInstance I
         → AreEnrolments E → Fits I E T → publish_refusal I E T ≡ None → AreSeated I old
         → enrolled_in (length I.exams) (seat_rows (pairs_of E) T old) ≡ E }
 {}
 
-/// Where there are no old rows, seats are numbered from 1 in each room and period, by exam and
-/// then by student.
+/// If there are no old rows, seats are numbered from 1 in each room and period, by exam and then by
+/// student.
 pub fn numbered_at_first()
     ensures { (E : Enrolled) (T : Placing) → AreEnrolments E
         → seat_rows (pairs_of E) T [] ≡ numbered_rows (pairs_of E) T }

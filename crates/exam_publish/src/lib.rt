@@ -1,4 +1,5 @@
-//! What a publication shows: seats, shares of the penalty, and whose seats changed.
+//! The parts of a publication: seats, shares of the penalty, and the candidates whose seats
+//! changed.
 #![tactic(auto)]
 
 mod comparison;

@@ -10,7 +10,7 @@ use exam_model::{Enrolments, Instance, Timetable};
 use exam_rules::breaches;
 use std::alloc::Global;
 
-/// Whether a timetable may be published: each exam has a place, and no hard rule is broken.
+/// Returns `Ok` if a timetable may be published: each exam has a place, and no hard rule is broken.
 pub fn permit(
     alloc: Global,
     instance: &Instance,
@@ -23,7 +23,7 @@ pub fn permit(
     ensures unbroken { OnOk result ((b : Breach)
         → is_breach instance.now enrolments.now timetable.now b ≡ false) }
 
-    // An exam without a place is judged before any breach.
+    // An exam without a place is named before any breach.
     ensures refused { IfErr result
         (RefusesPublication instance.now enrolments.now timetable.now) }
     ensures cause { IfErr result (NamesCause instance.now enrolments.now timetable.now) }

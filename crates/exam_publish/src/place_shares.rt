@@ -9,7 +9,7 @@ use crate::share_lists::RoomShare;
 use exam_model::{ExamNo, Instance, RoomNo, Timetable};
 use std::alloc::{AllocError, Global};
 
-/// Each period's penalty, once for each exam that stands in it.
+/// Returns each period's penalty, once for each exam that is in it.
 pub(crate) fn period_shares(
     alloc: Global,
     instance: &Instance,
@@ -30,7 +30,7 @@ pub(crate) fn period_shares(
     Ok(shares)
 }
 
-/// Each room's share: its penalties, and its mixed durations over all periods.
+/// Returns each room's share: its penalties, and its mixed durations over all periods.
 pub(crate) fn room_shares(
     alloc: Global,
     instance: &Instance,
@@ -52,7 +52,7 @@ pub(crate) fn room_shares(
     Ok(shares)
 }
 
-// Each room's penalty, once for each exam that stands in it.
+// Returns each room's penalty, once for each exam that is in it.
 fn room_penalties(
     alloc: Global,
     instance: &Instance,

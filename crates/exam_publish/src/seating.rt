@@ -1,5 +1,5 @@
-// Seats: kept ones first, and the others in one pass, with the last seat given in each room and
-// period.
+// Seats: the kept ones first, and the others in one pass, with the last assigned seat of each room
+// and period.
 ghost use Rattle.std.specs.Prelude.{◌≡◌, ◌≤◌, None, length, map, All, IfOk};
 ghost use Rattle.exam_terms.specs.declared.limits.TheConstants.{MAX_PAIRS};
 ghost use Rattle.exam_model.specs.Fits.{Fits};
@@ -16,9 +16,9 @@ use crate::seat_row::SeatRow;
 use exam_model::{Enrolments, Instance, Timetable};
 use std::alloc::{AllocError, Global};
 
-/// A seat for each enrolment of a timetable that may be published, as `permit` says. Who has an old
-/// row in the room and period of now keeps its seat. The others come by exam, then by student: each
-/// takes the lowest seat there, counted from 1, that nobody keeps and nobody took before.
+/// Returns a seat for each enrolment of a timetable that `permit` accepts. A student with an old
+/// row in the exam's current room and period keeps its seat. The others come by exam, then by
+/// student: each gets the lowest seat there, from 1, that is neither kept nor assigned yet.
 pub fn seats(
     alloc: Global,
     instance: &Instance,
@@ -43,7 +43,7 @@ pub fn seats(
     Ok(rows)
 }
 
-// The rows of all entrants.
+// Returns the rows of all entrants.
 fn seat_all(
     alloc: Global,
     instance: &Instance,
@@ -72,7 +72,7 @@ fn seat_all(
     Ok(rows)
 }
 
-// An entrant's row with a seat.
+// Returns an entrant's row with a seat.
 fn new_row(entrant: Entrant, seat: u32) -> SeatRow
     ensures { result ≡ record {
       student = entrant.student;

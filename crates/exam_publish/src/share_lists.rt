@@ -8,8 +8,8 @@ use exam_model::StudentNo;
 use exam_score::{Parts, PersonalParts};
 use std::marker::Model;
 
-/// A room's share: what its penalty makes over all exams that stand in it, and beside it its mixed
-/// durations over all periods.
+/// A room's share: its penalty over all exams that are in it, and separately its mixed durations
+/// over all periods.
 #[derive(Clone, Copy, Debug, PartialEq, Eq)]
 pub struct RoomShare {
     pub penalty: u64,
@@ -39,7 +39,7 @@ impl Model for Shares {
 }
 
 impl Shares {
-    /// The shares of these lists.
+    /// Returns the shares of these lists.
     pub fn of(
         students: Vec<(StudentNo, PersonalParts)>,
         exams: Vec<u64>,
@@ -61,13 +61,13 @@ impl Shares {
         }
     }
 
-    /// The penalty that all shares make together, part by part, unless it reaches 2^62.
+    /// Returns the sum of all shares, part by part, as a penalty; `None` if it reaches 2^62.
     pub fn parts(&self) -> Option<Parts>
         ensures some { IfSome result (λ parts. parts ≡ added_up self.now) }
         ensures within { IfSome result (λ parts. total_of parts < 2 ^ 62) }
         ensures none { IfNone result (2 ^ 62 ≤ total_of (added_up self.now)) }
 
-        // The shares of a timetable make its penalty.
+        // The shares of a timetable add up to its penalty.
         ensures penalty { (penalty : Penalty) → AddUpTo penalty self.now
             → IfSome result (λ parts. parts ≡ penalty) }
     {
@@ -79,6 +79,7 @@ impl Shares {
             students.row,
             students.day,
             students.spread,
+            students.night,
             rooms.mixed,
             front,
             period,
@@ -86,28 +87,29 @@ impl Shares {
         )
     }
 
-    /// What the exams of each candidate with a seat cost her; candidates ascending.
+    /// Returns the share of each candidate with a seat: the cost of their exams; candidates
+    /// ascending.
     pub fn students(&self) -> &[(StudentNo, PersonalParts)]
         ensures { result.now ≡ self.now.students }
     {
         &self.students
     }
 
-    /// What each exam makes of the front load, by its number.
+    /// Returns the share of each exam in the front load, by its number.
     pub fn exams(&self) -> &[u64]
         ensures { result.now ≡ self.now.exams }
     {
         &self.exams
     }
 
-    /// What each period costs over all exams in it, by its number.
+    /// Returns the cost of each period over all exams in it, by its number.
     pub fn periods(&self) -> &[u64]
         ensures { result.now ≡ self.now.periods }
     {
         &self.periods
     }
 
-    /// What each room costs, by its number.
+    /// Returns the share of each room, by its number.
     pub fn rooms(&self) -> &[RoomShare]
         ensures { result.now ≡ self.now.rooms }
     {

@@ -1,4 +1,4 @@
-// Who has which share of the penalty.
+// The shares of the penalty.
 ghost use Rattle.std.specs.Prelude.{◌≡◌, ℕ, length, map, IfOk};
 ghost use Rattle.exam_model.specs.Enrolments.{IsAscending, has_number};
 ghost use Rattle.exam_publish.specs.AddUp.{AddUpTo, AreSmall};
@@ -15,9 +15,9 @@ use crate::student_shares::student_shares;
 use exam_model::{Instance, Timetable};
 use std::alloc::{AllocError, Global};
 
-/// The shares of a timetable in which each exam has a place, by seat rows: a student's share is
-/// her personal penalty, an exam's what it makes of the front load, a period's and a room's its
-/// penalties, and beside a room's its mixed durations.
+/// Returns the shares of a timetable in which each exam has a place, by seat rows: a student's
+/// share is their personal penalty, an exam's is that in the front load, a period's and a room's
+/// are its penalties, and a room also has its mixed durations.
 pub fn shares(
     alloc: Global,
     instance: &Instance,

@@ -9,7 +9,7 @@ use exam_model::{Instance, PeriodNo, StudentNo, Timetable};
 use exam_score::{PersonalParts, personal};
 use std::alloc::{AllocError, Global};
 
-/// What each student's exams cost her; students ascending.
+/// Returns the cost of each student's exams; students ascending.
 pub(crate) fn student_shares(
     alloc: Global,
     instance: &Instance,
@@ -32,7 +32,7 @@ pub(crate) fn student_shares(
     Ok(shares)
 }
 
-// The rows in the order of their students, those of one student in the order that they had.
+// Returns the rows in the order of their students; the rows of one student keep their order.
 fn by_student(alloc: Global, rows: &[SeatRow]) -> Result<Vec<SeatRow>, AllocError>
     ensures { IfOk result (λ sorted. AreSorted rows.now sorted.items) }
 {
@@ -41,7 +41,7 @@ fn by_student(alloc: Global, rows: &[SeatRow]) -> Result<Vec<SeatRow>, AllocErro
     Ok(sorted)
 }
 
-// How many rows of the first student there are before those of others.
+// Returns how many rows of the first student there are before those of others.
 fn count_own(rows: &[SeatRow], student: StudentNo) -> usize
     ensures { IsRun rows.now student result }
 {
@@ -53,7 +53,7 @@ fn count_own(rows: &[SeatRow], student: StudentNo) -> usize
     rows.len()
 }
 
-// The periods of rows.
+// Returns the periods of rows.
 fn periods_of(alloc: Global, rows: &[SeatRow]) -> Result<Vec<PeriodNo>, AllocError>
     ensures { IfOk result (λ periods. periods.items ≡ map (λ row. row.period) rows.now) }
 {
