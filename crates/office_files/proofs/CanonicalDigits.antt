@@ -38,7 +38,7 @@ thousands n least most =
       last,
     ) refl
 
--- what `{:02}` writes
+-- the text written for `{:02}`
 pub two_padded : (n : ℕ) → n < 100 →
     padded_integral (format_spec 32 0 4 2 (2 ^ 64 - 1)) false [] (decimal n) ≡ two_digits n
 unfolding padded_integral char_count
@@ -50,7 +50,7 @@ two_padded n most = elim (cases_lt n 10) [
   | inr two ↦ rw (tens n two most) refl
 ]
 
--- what `{:04}` writes
+-- the text written for `{:04}`
 pub four_padded : (n : ℕ) → n ≤ 9999 →
     padded_integral (format_spec 32 0 4 4 (2 ^ 64 - 1)) false [] (decimal n)
     ≡ two_digits (n / 100) ++ two_digits (n % 100)

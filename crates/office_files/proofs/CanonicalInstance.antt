@@ -1,5 +1,5 @@
 -- The canonical text of an instance spells it.
-use Rattle.std.proofs.Common.{◌≡◌, ℕ, suc, ◌+◌, ◌*◌, ◌<◌, ◌≤◌, ◌/◌, false, List, [], ◌∷◌, ◌++◌, length}
+use Rattle.std.proofs.Common.{◌≡◌, ℕ, zero, suc, ◌+◌, ◌*◌, ◌<◌, ◌≤◌, ◌/◌, false, List, [], ◌∷◌, ◌++◌, length}
 use Rattle.std.proofs.Common.{Ok, eqb, refl, sym, ap, subst, ◌∙◌, arith, append-nil, length-append}
 use Rattle.std.specs.Prelude.{map, decimal, codes, All, nat_lt, not, ◌==◌}
 use Rattle.std.specs.List.{flat_map, AllByRecursion}
@@ -23,7 +23,7 @@ use Rattle.office_files.specs.CanonicalLines.{line_of, before, exam_text, period
 use Rattle.office_files.specs.CanonicalLines.{date_text, time_text}
 use Rattle.office_files.specs.CanonicalText.{header_text, section_text}
 use Rattle.office_files.specs.CanonicalLines.{period_rule_text, room_rule_text, weighting_text}
-use Rattle.office_files.specs.CanonicalText.{weightings_of, exam_lines_of, canonical_instance}
+use Rattle.office_files.specs.CanonicalText.{nights_of, weightings_of, exam_lines_of, canonical_instance}
 use Rattle.office_files.specs.ExamLines.{ExamLine, exam_line, exam_of, pairs_on}
 use Rattle.office_files.specs.Spelled.{exams_heading, periods_heading, rooms_heading}
 use Rattle.office_files.specs.Spelled.{period_rules_heading}
@@ -33,6 +33,7 @@ use Rattle.office_files.specs.ItemLines.{period_line, room_line, period_rule_lin
 use Rattle.office_files.specs.Lines.{is_header}
 use Rattle.office_files.specs.Sections.{IsSection}
 use Rattle.office_files.specs.Weightings.{weighting_line}
+use Rattle.office_files.specs.Weights.{with_weightings, no_weights}
 use Rattle.office_files.specs.declared.counts.Counts.{Counts}
 use Rattle.office_files.proofs.CanonicalItems.{exam_fields, exam_written, exam_back, period_fields, period_written, period_back, room_fields, room_written, room_back}
 use Rattle.office_files.proofs.CanonicalItems.{period_rule_fields, period_rule_written, period_rule_back, room_rule_fields, room_rule_written, room_rule_back, weighting_fields, weightings_written, weightings_back}
@@ -248,6 +249,11 @@ module _ (counts : Counts) where
         [] rs (omega (arith, most)) all;
   }
 
+  nights_none : (n : ℕ)
+      → AllByRecursion (λ s. is_header (weighting_text s) ≡ false) (nights_of n)
+  nights_none zero = tt
+  nights_none (suc n) = (refl, tt)
+
   weightings_whole : (w : Weights) → WeightsInLimits w
       → IsWritten weightings_heading (weighting_line counts) weighting_text weighting_fields
       (weightings_of w)
@@ -255,7 +261,7 @@ module _ (counts : Counts) where
     headed = plain_said (codes "InstitutionalWeightings") is_weightings;
     header = plain_field (codes "InstitutionalWeightings") is_weightings;
     lines = weightings_written w is;
-    none = (refl, (refl, (refl, (refl, (refl, tt)))));
+    none = (refl, (refl, (refl, (refl, (refl, nights_none w.night)))));
     back = weightings_back counts w is;
   }
 
@@ -361,6 +367,16 @@ weighed_short word n le short =
     let one = amount n le in
     omega arith
 
+nights_short : (n : ℕ) → n ≤ 100000
+    → AllByRecursion (λ s. length (line_of (weighting_text s)) ≤ 36) (nights_of n)
+nights_short zero le = tt
+nights_short (suc n) le = (weighed_short (codes "OVERNIGHT") (suc n) le (omega arith), tt)
+
+-- at most one line
+nights_few : (n : ℕ) → length (nights_of n) ≤ 1
+nights_few zero = omega arith
+nights_few (suc n) = omega arith
+
 weightings_short : (w : Weights) → WeightsInLimits w
     → AllByRecursion (λ s. length (line_of (weighting_text s)) ≤ 36) (weightings_of w)
 weightings_short w is = (
@@ -373,7 +389,7 @@ weightings_short w is = (
         weighed_short (codes "NONMIXEDDURATIONS") w.mixed is.3 (omega arith),
         (
           front_short w.front_exams w.front_periods w.front is.4 is.5 is.6,
-          tt,
+          nights_short w.night is.7,
         ),
       ),
     ),
@@ -429,7 +445,20 @@ numbers_all (ss ∷ E) all = (numbers_each ss (all 0), numbers_all E (λ e. all 
 abbrev with_exams : Session → List Exam → Session
 with_exams I xs = record I { exams = xs }
 
--- what is written spells the instance and its enrolments
+abbrev with_weights : Session → Weights → Session
+with_weights I w = record I { weights = w }
+
+-- the line of nights sets the last weight
+nights_weighed : (w : Weights) (n : ℕ)
+    → with_weightings (record w { night = 0 }) (nights_of n) ≡ record w { night = n }
+nights_weighed w zero = refl
+nights_weighed w (suc n) = refl
+
+-- the weights that are written are those that are read
+weights_back : (w : Weights) → with_weightings no_weights (weightings_of w) ≡ w
+weights_back w = nights_weighed w w.night
+
+-- the written text describes the instance and its enrolments
 pub instance_spelled : (I : Session) (E : Enrolled) → IsInstance I → AreEnrolments E
     → length E ≡ length I.exams → InstanceText (canonical_instance I E) I E
 instance_spelled I E is kept fits =
@@ -513,6 +542,7 @@ instance_spelled I E is kept fits =
     (weighting_line counts) weighting_text weighting_fields 36 ws
     (plain_short (codes "InstitutionalWeightings") is_weightings)
     (weightings_short I.weights limits.weights) in
+    let few = nights_few I.weights.night in
     record {
       within = omega
           (arith, kept.pairs, counted.0.1, counted.1.1, counted.2.1, counted.3, counted.4);
@@ -537,7 +567,9 @@ instance_spelled I E is kept fits =
       period_rules = a4.2;
       room_rules = a5.2;
       weightings = a6.2;
-      session = ap (λ (xs : List Exam). with_exams I xs) (sym (exams_back I.exams E fits));
+      session = ap (λ (xs : List Exam). with_exams I xs) (sym (exams_back I.exams E fits))
+          ∙ ap (λ (w : Weights). with_weights (with_exams I (map exam_of es)) w)
+          (sym (weights_back I.weights));
       enrolled = sym (enrolled_back I.exams E fits);
     }
 

@@ -1,5 +1,5 @@
--- What is written for an item reads as the item.
-use Rattle.std.proofs.Common.{◌≡◌, ◌≢◌, ℕ, ◌+◌, ◌-◌, ◌*◌, ◌/◌, ◌%◌, ◌<◌, ◌≤◌, true, false}
+-- The line written for an item reads back as the item.
+use Rattle.std.proofs.Common.{◌≡◌, ◌≢◌, ℕ, zero, suc, ◌+◌, ◌-◌, ◌*◌, ◌/◌, ◌%◌, ◌<◌, ◌≤◌, true, false}
 use Rattle.std.proofs.Common.{List, [], ◌∷◌, ◌++◌, length, Some, None, Ok, refl, sym, subst, ◌∙◌, arith, append-nil}
 use Rattle.std.specs.Prelude.{map, decimal, codes, Bool, ◌||◌}
 use Rattle.std.specs.List.{flat_map, AllByRecursion}
@@ -22,7 +22,7 @@ use Rattle.office_files.specs.CanonicalLines.{before, two_digits, date_text, tim
 use Rattle.office_files.specs.CanonicalLines.{period_text}
 use Rattle.office_files.specs.CanonicalLines.{room_text, period_rule_text, room_rule_text}
 use Rattle.office_files.specs.CanonicalLines.{weighting_text}
-use Rattle.office_files.specs.CanonicalText.{weightings_of}
+use Rattle.office_files.specs.CanonicalText.{nights_of, weightings_of}
 use Rattle.office_files.specs.Dates.{date_of, time_of}
 use Rattle.office_files.specs.ExamStudents.{with_students, named_in, fault_in}
 use Rattle.office_files.specs.ExamLines.{ExamLine, exam_behind}
@@ -32,7 +32,7 @@ use Rattle.office_files.specs.Numbers.{number}
 use Rattle.office_files.specs.Weightings.{weighting_line}
 use Rattle.office_files.specs.declared.counts.Counts.{Counts}
 use Rattle.office_files.specs.declared.weightings.Weighting.{Weighting}
-use Rattle.office_files.specs.declared.weightings.Weighting.TheVariants.{Row, Day, Spread, Mixed, Front}
+use Rattle.office_files.specs.declared.weightings.Weighting.TheVariants.{Row, Day, Spread, Mixed, Front, Night}
 use Rattle.office_files.proofs.CanonicalLines.{IsField, IsLine, plain_byte, plain_digit, line_alone, line_before, line_comma, field_decimal, number_decimal, AreRead}
 use Rattle.exam_model.proofs.StudentLemmas.{ascending-none}
 use Rattle.office_files.proofs.ExamLineLemmas.{ascending-students, has-students}
@@ -124,12 +124,21 @@ weighting_fields (Day n) = codes "TWOINADAY" ∷ decimal n ∷ []
 weighting_fields (Spread n) = codes "PERIODSPREAD" ∷ decimal n ∷ []
 weighting_fields (Mixed n) = codes "NONMIXEDDURATIONS" ∷ decimal n ∷ []
 weighting_fields (Front n k w) = codes "FRONTLOAD" ∷ decimal n ∷ decimal k ∷ decimal w ∷ []
+weighting_fields (Night n) = codes "OVERNIGHT" ∷ decimal n ∷ []
 
 weighed_written : (word : List ℕ) (n : ℕ) → IsField word → n ≤ 100000
     → IsLine (word ++ 44 ∷ decimal n) (word ∷ decimal n ∷ [])
 weighed_written word n is le =
     line_comma word (decimal n) (decimal n ∷ []) is
     (line_alone (decimal n) (field_decimal n (omega arith)))
+
+nights_written : (n : ℕ) → n ≤ 100000
+    → AllByRecursion (λ s. IsLine (weighting_text s) (weighting_fields s)) (nights_of n)
+nights_written zero le = tt
+nights_written (suc n) le = (
+  weighed_written (codes "OVERNIGHT") (suc n) (record { some = omega arith; plain = refl }) le,
+  tt,
+)
 
 pub weightings_written : (w : Weights) → WeightsInLimits w
     → AllByRecursion (λ s. IsLine (weighting_text s) (weighting_fields s)) (weightings_of w)
@@ -145,7 +154,7 @@ weightings_written w is = (
             (record { some = omega arith; plain = refl }) is.3,
         (
           front_written w.front_exams w.front_periods w.front is.4 is.5 is.6,
-          tt,
+          nights_written w.night is.7,
         ),
       ),
     ),
@@ -164,6 +173,15 @@ weightings_written w is = (
         line_comma (codes "FRONTLOAD") (decimal n ++ 44 ∷ (decimal k ++ 44 ∷ decimal v))
         (decimal n ∷ decimal k ∷ decimal v ∷ []) (record { some = omega arith; plain = refl }) three
 
+-- after the other five
+nights_back : (counts : Counts) (w : Weights) (n : ℕ) → n ≤ 100000
+    → AreRead weighting_text weighting_fields (weighting_line counts)
+    (Row w.row ∷ Day w.day ∷ Spread w.spread ∷ Mixed w.mixed
+    ∷ Front w.front_exams w.front_periods w.front ∷ []) (nights_of n)
+nights_back counts w zero le = tt
+nights_back counts w (suc n) le =
+    (rw (number_decimal 100000 (suc n) le (omega arith)) refl, tt)
+
 pub weightings_back : (counts : Counts) (w : Weights) → WeightsInLimits w
     → AreRead weighting_text weighting_fields (weighting_line counts) [] (weightings_of w)
 weightings_back counts w is = (
@@ -180,7 +198,7 @@ weightings_back counts w is = (
             number_decimal 100000 w.front_periods is.5 (omega arith),
             number_decimal 100000 w.front is.6 (omega arith),
           ) refl,
-          tt,
+          nights_back counts w w.night is.7,
         ),
       ),
     ),

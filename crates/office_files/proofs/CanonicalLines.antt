@@ -30,7 +30,7 @@ use Rattle.office_files.proofs.ReadOnLemmas.{fields_behind_space, is_digit}
 abbrev pub plain_byte : ℕ → Bool
 plain_byte b = nat_lt 32 b && not (b == 44)
 
--- a field that is written: some bytes, none of which ends it
+-- a written field: one or more bytes, none of which ends it
 pub record IsField (f : List ℕ) : Type 0 where
   pub some : 0 < length f
   pub plain : list_all plain_byte f ≡ true
@@ -105,7 +105,7 @@ start_plain (x ∷ xs) ys is =
 
 -- ---- lines
 
--- what stands on a line has no line end in it and no blanks around it, and says these fields
+-- the text of a line has no line end in it and no blanks around it, and has these fields
 pub record IsLine (text : List ℕ) (fields : List (List ℕ)) : Type 0 where
   pub some : 0 < length text
   pub whole : AllByRecursion (λ b. b ≢ 10) text
@@ -125,7 +125,7 @@ field_alone (x ∷ xs) is =
         ap trim_end (ap trim_start (sym (append-nil f)) ∙ start_plain f [] is ∙ append-nil f)
         ∙ end_plain f is.plain
 
--- one field alone
+-- a line with one field
 pub line_alone : (f : List ℕ) → IsField f → IsLine f (f ∷ [])
 line_alone f is = record {
   some = is.some;
@@ -142,7 +142,7 @@ field_first f ys is =
     (ap trim_end (ap trim_start (sym (append-nil f)) ∙ start_plain f [] is ∙ append-nil f)
     ∙ end_plain f is.plain)
 
--- a field before others, behind it a comma alone
+-- a field in front of others, with only a comma between
 pub line_comma : (f ys : List ℕ) (fields : List (List ℕ)) → IsField f → IsLine ys fields
     → IsLine (f ++ 44 ∷ ys) (f ∷ fields)
 line_comma f ys fields is line = record {
@@ -221,13 +221,13 @@ number_decimal limit n le lt =
     let is = is_decimal n (small n (omega arith)) in
     rw (lt-ltb 0 (length (decimal n)) is.some, is.digits, is.value, le-leb n limit le) refl
 
--- none of its bytes is one that is no digit
+-- a byte that is no digit isn't in a decimal
 pub decimal_apart : (c n : ℕ) → is_ascii_digit c ≡ false → n < 2000000000
     → AllByRecursion (λ b. b ≢ c) (decimal n)
 decimal_apart c n other lt =
     apart is_ascii_digit c other (decimal n) (is_decimal n (small n lt)).digits
 
--- a line that begins with it is no header
+-- a line that begins with a decimal is no header
 pub decimal_first : (n : ℕ) (ys : List ℕ) → n < 2000000000 → is_header (decimal n ++ ys) ≡ false
 decimal_first n ys lt =
     first (decimal n) (is_decimal n (small n lt)).some (decimal_apart 91 n refl lt)
@@ -242,7 +242,7 @@ trimmed_field f is =
     ap trim_end (ap trim_start (sym (append-nil f)) ∙ start_plain f [] is ∙ append-nil f)
     ∙ end_plain f is.plain
 
--- of so many digits at most
+-- a decimal has at most this many digits
 pub length_decimal : (k n : ℕ) → 0 < k → n < 10 ^ k → n < 2000000000 → length (decimal n) ≤ k
 length_decimal k n some lt fits = length-decimal-le k n some lt (small n fits)
 
@@ -254,7 +254,7 @@ each_of P Q weaker [] all = tt
 each_of P Q weaker (x ∷ xs) all =
     (weaker x (All-head P x xs all), each_of P Q weaker xs (All-tail P x xs all))
 
--- texts of at most so many bytes, one behind the other
+-- texts of at most this many bytes, one after the other
 pub length_flat : {X : Type 0} (f : X → List ℕ) (k : ℕ) (xs : List X)
     → AllByRecursion (λ x. length (f x) ≤ k) xs → length (flat_map f xs) ≤ length xs * k
 length_flat f k [] short = omega arith
@@ -266,7 +266,7 @@ length_flat f k (x ∷ xs) short =
     let times : suc (length xs) * k ≡ length xs * k + k = suc-mul (length xs) k in
     omega arith
 
--- ---- one line behind another
+-- ---- one line after another
 
 -- the lines of a text, from a line's number and its place on
 abbrev pub rows : ℕ → ℕ → List ℕ → List Located
@@ -280,7 +280,7 @@ row_kept : (row : Located) (others : List Located) → 0 < length row.text
     → unless_blank row others ≡ row ∷ others
 row_kept row others some = rw (ne_eqb (length row.text) 0 (λ none. omega arith)) refl
 
--- the first line, and the others behind it
+-- the first line, followed by the others
 pub row_first : (text : List ℕ) (fields : List (List ℕ)) → IsLine text fields
     → (line at : ℕ) (ys : List ℕ) → (row : Located) × (next : ℕ)
     × (rows line at (line_of text ++ ys) ≡ row ∷ rows (line + 1) next ys) × (row.text ≡ text)
@@ -308,7 +308,7 @@ module _ {A : Type 0} (text : A → List ℕ) (fields : A → List (List ℕ)) w
       ap (λ (zs : List ℕ). zs ++ ys) (flat_map-cons (λ x. line_of (text x)) x xs)
       ∙ append_assoc (line_of (text x)) (flat_map (λ x. line_of (text x)) xs) ys
 
-  -- a line for each of a list, and the others behind them
+  -- a line for each element of a list, followed by the others
   pub row_each : (xs : List A) → AllByRecursion (λ x. IsLine (text x) (fields x)) xs
       → (line at : ℕ) (ys : List ℕ) → (found : List Located) × (line' : ℕ) × (next : ℕ)
       × (rows line at (flat_map (λ x. line_of (text x)) xs ++ ys) ≡ found ++ rows line' next ys)
@@ -326,13 +326,13 @@ module _ {A : Type 0} (text : A → List ℕ) (fields : A → List (List ℕ)) w
         ap₂ (λ (t : List ℕ) (ts : List (List ℕ)). t ∷ ts) head.3 tail.4,
       )
 
-  -- each of a list is read of its own line, behind those before it
+  -- each element of a list is read from its own line, after the elements before it
   abbrev pub AreRead : (List A → List (List ℕ) → Result A FaultKind) → List A → List A → Type 0
   AreRead read done [] = Unit {0}
   AreRead read done (x ∷ xs) =
       (read done (fields x) ≡ Ok x) × AreRead read (done ++ x ∷ []) xs
 
-  -- so all of them are read
+  -- then all of them are read
   pub read_each : (read : List A → List (List ℕ) → Result A FaultKind) (done xs : List A)
       (found : List Located) → AllByRecursion (λ x. IsLine (text x) (fields x)) xs
       → map (λ row. row.text) found ≡ map text xs → AreRead read done xs

@@ -119,7 +119,7 @@ module _ {A : Type 0} (heading : Heading) (read : List A → List (List ℕ) →
     pub none : AllByRecursion (λ x. is_header (text x) ≡ false) xs
     pub back : AreRead text fields read [] xs
 
-  -- a section with others behind it
+  -- a section followed by others
   pub section_written : (xs : List A) → IsWritten xs → (line at : ℕ) (ys : List ℕ)
       → ((line at : ℕ) → AtHeader (rows line at ys)) → (line' : ℕ) × (next : ℕ)
       × IsSection heading read (rows line at (section_text heading text xs ++ ys)) xs
@@ -147,7 +147,7 @@ module _ {A : Type 0} (heading : Heading) (read : List A → List (List ℕ) →
         },
       )
 
-  -- where the lines before don't matter, but for their number
+  -- of the lines before it, only their number matters
   pub reads_within : (P : A → Type 0) (n : ℕ)
       → ((done : List A) (x : A) → P x → length done < n → read done (fields x) ≡ Ok x)
       → (done xs : List A) → length done + length xs ≤ n → All P xs

@@ -24,7 +24,7 @@ use Rattle.office_files.proofs.CanonicalLines.{IsLine, field_decimal, line_alone
 use Rattle.office_files.proofs.ReadingLaws.{items_spelled}
 use Rattle.office_files.proofs.SolutionLaws.{text_is_solution}
 
--- a place among so many periods and rooms
+-- the place's period and room are below these counts
 record IsAmong (counts : Counts) (p : Place) : Type 0 where
   period : p.period < counts.periods
   room : p.room < counts.rooms
@@ -94,7 +94,7 @@ text_of : (places : List Place)
     → canonical_solution (map Some places) ≡ flat_map (λ p. line_of (place_text p)) places
 text_of places = flat_map-map slot_text Some places
 
--- what is written spells the timetable
+-- the written text describes the timetable
 pub solution_spelled : (I : Session) (T : Placing) → SuitsTimetable I T
     → ((e : ℕ) → e < length T → IsSome (place_of T e)) → SolutionText (canonical_solution T) I T
 solution_spelled I T suits complete =

@@ -1,4 +1,4 @@
--- Lines added one behind another.
+-- Lines added one after another.
 use Rattle.std.proofs.Common.{◌≡◌, ℕ, zero, suc, ◌+◌, ◌<◌, ◌≤◌, List, [], ◌∷◌, ◌++◌, length, take}
 use Rattle.std.proofs.Common.{refl, sym, ap, ◌∙◌, arith, inl, inr, append_assoc, append-nil}
 use Rattle.std.specs.Prelude.{Some, None, slice_get}
@@ -7,8 +7,9 @@ use Rattle.std.proofs.lemmas.List.{take_all, take_more, flat_map_more}
 use Rattle.std.proofs.lemmas.Option.{get_or_from_slice_get, slice_get_cases}
 use Rattle.exam_model.specs.Enrolments.{Enrolled, students}
 use Rattle.exam_model.specs.declared.parts.Exam.{Exam}
-use Rattle.office_files.specs.CanonicalLines.{line_of, before}
-use Rattle.office_files.specs.CanonicalText.{exam_lines_of}
+use Rattle.office_files.specs.CanonicalLines.{line_of, before, weighting_text}
+use Rattle.office_files.specs.CanonicalText.{exam_lines_of, nights_of}
+use Rattle.office_files.specs.declared.weightings.Weighting.TheVariants.{Night}
 
 within : {A : Type 0} (xs : List A) (i : ℕ) (x : A) → slice_get xs i ≡ Some x → i < length xs
 within xs i x at = elim (slice_get_cases xs i).1 [
@@ -16,7 +17,7 @@ within xs i x at = elim (slice_get_cases xs i).1 [
   | inr none ↦ let no : Some x ≡ None = sym at ∙ none.1 in cc
 ]
 
--- one item more
+-- one more item
 pub step : {A : Type 0} (f : A → List ℕ) (start t t' : List ℕ) (xs : List A) (i : ℕ) (x : A)
     → slice_get xs i ≡ Some x → t ≡ start ++ flat_map f (take i xs) → t' ≡ t ++ f x
     → t' ≡ start ++ flat_map f (take (i + 1) xs)
@@ -49,12 +50,21 @@ pub six_written : (t0 t1 t2 t3 t4 t5 t6 a b c d e f : List ℕ) → t0 ≡ [] �
 six_written t0 t1 t2 t3 t4 t5 t6 a b c d e f e0 e1 e2 e3 e4 e5 e6 =
     rw (e6, e5, e4, e3, e2, e1, e0) refl
 
--- five lines behind a header
-pub five_written : (h t0 t1 t2 t3 t4 t5 t6 a b c d e : List ℕ) → t1 ≡ t0 ++ h → t2 ≡ t1 ++ a
-    → t3 ≡ t2 ++ b → t4 ≡ t3 ++ c → t5 ≡ t4 ++ d → t6 ≡ t5 ++ e
-    → t6 ≡ t0 ++ (h ++ (a ++ (b ++ (c ++ (d ++ (e ++ []))))))
-five_written h t0 t1 t2 t3 t4 t5 t6 a b c d e e1 e2 e3 e4 e5 e6 =
-    rw (append-nil e, e6, e5, e4, e3, e2, e1) (simp append_assoc)
+-- five lines after a header, followed by other lines
+pub five_written : (h t0 t1 t2 t3 t4 t5 t6 t7 a b c d e f : List ℕ) → t1 ≡ t0 ++ h → t2 ≡ t1 ++ a
+    → t3 ≡ t2 ++ b → t4 ≡ t3 ++ c → t5 ≡ t4 ++ d → t6 ≡ t5 ++ e → t7 ≡ t6 ++ f
+    → t7 ≡ t0 ++ (h ++ (a ++ (b ++ (c ++ (d ++ (e ++ f))))))
+five_written h t0 t1 t2 t3 t4 t5 t6 t7 a b c d e f e1 e2 e3 e4 e5 e6 e7 =
+    rw (e7, e6, e5, e4, e3, e2, e1) (simp append_assoc)
+
+-- the line of nights, if there is one
+pub night_line : (n : ℕ) → 0 < n
+    → flat_map (λ s. line_of (weighting_text s)) (nights_of n) ≡ line_of (weighting_text (Night n))
+night_line zero some = absurd (omega arith)
+night_line (suc n) some = append-nil (line_of (weighting_text (Night (suc n))))
+
+pub no_night_line : (n : ℕ) → n ≡ 0 → flat_map (λ s. line_of (weighting_text s)) (nights_of n) ≡ []
+no_night_line n none = ap (λ k. flat_map (λ s. line_of (weighting_text s)) (nights_of k)) none
 
 -- ---- exams with their students
 

@@ -10,14 +10,14 @@ use Rattle.office_files.specs.Numbers.{read_on}
 use Rattle.office_files.specs.declared.fault.FaultKind.{FaultKind}
 use Rattle.office_files.specs.declared.fault.FaultKind.TheVariants.{BadNumber, OutOfRange}
 
--- what a field says whose front says the number n, and that goes on so
+-- the value of a field that begins with the digits of n and continues with this text
 abbrev pub goes_on : ℕ → ℕ → List ℕ → Result ℕ FaultKind
 goes_on limit n ds =
     if list_all is_ascii_digit ds
     then (if nat_le (read_on n ds) limit then Ok (read_on n ds) else Err OutOfRange)
     else Err BadNumber
 
--- further digits make no number smaller
+-- more digits make no number smaller
 le-read_on : (n : ℕ) (ds : List ℕ) → n ≤ read_on n ds
 le-read_on n [] = omega arith
 le-read_on n (d ∷ ds) = omega (arith, le-read_on (10 * n + (d - 48)) ds)
@@ -34,7 +34,7 @@ pub goes_on-alike : (limit n m : ℕ) (ds : List ℕ) → limit < n → limit < 
 goes_on-alike limit n m ds past also = goes_on-past limit n ds past
     ∙ sym (goes_on-past limit m ds also)
 
--- one digit more
+-- one more digit
 pub goes_on-digit : (limit n : ℕ) (text : List ℕ) (i : ℕ) → i < length text →
     is_ascii_digit (get_or text i 0) ≡ true →
     goes_on limit n (drop i text) ≡ goes_on limit (10 * n + (get_or text i 0 - 48))

@@ -1,4 +1,4 @@
--- What it leaves to put students into an ascending list.
+-- The ascending list after students are added.
 use Rattle.std.proofs.Common.{◌≡◌, ℕ, zero, suc, ◌+◌, ◌<◌, ◌≤◌, Bool, true, false, cond}
 use Rattle.std.proofs.Common.{List, [], ◌∷◌, length}
 use Rattle.std.proofs.Common.{add-one, refl, ap, sym, subst, ◌∙◌, inl, inr, arith}
@@ -24,7 +24,7 @@ or_along true true r = refl
 or_along true false r = refl
 or_along false b r = refl
 
--- it gets no shorter, and longer by at most one
+-- the list gets longer by at most one
 pub length-with : (s : ℕ) (xs : List ℕ) →
     (length xs ≤ length (with_student s xs)) × (length (with_student s xs) ≤ length xs + 1)
 length-with s [] = (omega arith, omega arith)
@@ -81,14 +81,14 @@ length-students (s ∷ ss) seen =
     let one = length-with s seen in
     omega (arith, length-students ss (with_student s seen))
 
--- the ascending list of the same students is the students put in one by one
+-- the ascending list of the same students is the list of the students added one by one
 pub students-same : (names xs : List ℕ) → IsAscending xs →
     ((t : ℕ) → has_number xs t ≡ has_number names t) → xs ≡ with_students names []
 students-same names xs up same =
     same_list xs (with_students names []) up (ascending-students names [] ascending-none)
     (λ t. same t ∙ sym (or-false (has_number names t)) ∙ sym (has-students names [] t))
 
--- where they come in ascending order, they are that list
+-- students in ascending order are that list
 pub students-ascending : (names : List ℕ) → IsAscending names → names ≡ with_students names []
 students-ascending names up = students-same names names up (λ t. refl)
 
@@ -107,7 +107,7 @@ ascending-increasing xs up i (suc j) lt within =
       | inr same ↦ let is : i ≡ j = omega arith in rw is next
     ]
 
--- without its repeats a sorted list has the same members
+-- a sorted list without its repeats has the same members
 has-dedup : (xs : List ℕ) (t : ℕ) → has_number (dedup nat_eq xs) t ≡ has_number xs t
 has-dedup [] t = refl
 has-dedup (x ∷ xs) t = from x xs
@@ -124,7 +124,7 @@ has-dedup (x ∷ xs) t = from x xs
           | false ↦ λ e. ap (λ b. (x == t) || b) (from y ys)
         ] refl
 
--- students who are sorted, each kept once, are those put in one by one
+-- sorted students, each kept once, are the list of the students added one by one
 pub students-sorted : (names sorted kept : List ℕ) → IsPermutation names sorted →
     IsSorted nat_cmp sorted → kept ≡ dedup nat_eq sorted →
     (kept ≡ with_students names []) × IsAscending kept

@@ -1,4 +1,4 @@
--- How the limit of the pairs judges the students of a line, and what the set is with them.
+-- How the limit of the pairs judges the students of a line, and the set with these students.
 use Rattle.std.proofs.Common.{◌≡◌, ℕ, ◌+◌, ◌<◌, ◌≤◌, Bool, true, false, List, [], ◌∷◌}
 use Rattle.std.proofs.Common.{length, set, Result, Ok, Err, Option, Some, None}
 use Rattle.std.proofs.Common.{refl, ap, ◌∙◌, arith}
@@ -26,11 +26,11 @@ abbrev pub judged : Option FaultKind → List ℕ → Result (List ℕ) FaultKin
 judged None names = Ok names
 judged (Some what) names = Err what
 
--- she is there, or a pair is left for her
+-- the student is there, or there is room for one more pair
 abbrev has_room : ℕ → List ℕ → ℕ → Bool
 has_room pairs seen s = has_number seen s || nat_lt (pairs + length seen) 200000
 
--- the reading of fields of which the first was read
+-- the reading of fields after the first was read
 abbrev goes_on : ℕ → List ℕ → List (List ℕ) → Result ℕ FaultKind → Result (List ℕ) FaultKind
 goes_on pairs seen fields field = do
   s ← field
@@ -46,7 +46,7 @@ goes_on-full : (pairs : ℕ) (seen : List ℕ) (fields : List (List ℕ)) (s : �
     has_room pairs seen s ≡ false → goes_on pairs seen fields (Ok s) ≡ Err OutOfRange
 goes_on-full pairs seen fields s full = rw full refl
 
--- where the pairs with her stay within their limit, she has room
+-- if the pairs with the student are within their limit, there is room
 room_for : (pairs : ℕ) (seen : List ℕ) (s : ℕ) →
     pairs + length (with_student s seen) ≤ 200000 → has_room pairs seen s ≡ true
 room_for pairs seen s within =
@@ -58,7 +58,7 @@ room_for pairs seen s within =
           lt-ltb (pairs + length seen) 200000 (omega arith)
     ] refl
 
--- where she has room, the pairs with her stay within their limit
+-- if there is room, the pairs with the student are within their limit
 pub room_left : (pairs : ℕ) (seen : List ℕ) (s : ℕ) → IsAscending seen →
     pairs + length seen ≤ 200000 → has_room pairs seen s ≡ true →
     pairs + length (with_student s seen) ≤ 200000
@@ -73,7 +73,7 @@ room_left pairs seen s up within =
           omega arith
     ] refl
 
--- so many pairs there are with those whom the good fields name
+-- the number of pairs with the students whom the good fields name
 abbrev pub pairs_with : ℕ → List ℕ → List ℕ → ℕ
 pairs_with pairs seen names = pairs + length (with_students names seen)
 
@@ -94,7 +94,7 @@ within_by pairs seen fields (Ok s) later within =
     goes_on-room pairs seen fields s (room_for pairs seen s (omega arith)) ∙ later s within
 within_by pairs seen fields (Err what) later within = refl
 
--- where there is room for all whom the good fields name, they are the line's students
+-- if there is room for all students whom the good fields name, these are the line's students
 pub students_in-within : (pairs : ℕ) (seen : List ℕ) (fields : List (List ℕ)) →
     pairs_with pairs seen (named_in fields) ≤ 200000 → IsJudged pairs seen fields
 students_in-within pairs seen [] within = refl
@@ -119,7 +119,7 @@ past_by pairs seen fields (Ok s) up within later past =
     ] refl
 past_by pairs seen fields (Err what) up within later past = absurd (omega arith)
 
--- where there is none, a field is out of range
+-- if there isn't, a field is out of range
 pub students_in-past : (pairs : ℕ) (seen : List ℕ) (fields : List (List ℕ)) →
     IsAscending seen → pairs + length seen ≤ 200000 →
     200000 < pairs_with pairs seen (named_in fields) →
@@ -129,7 +129,7 @@ students_in-past pairs seen (field ∷ fields) up within past =
     past_by pairs seen fields (number 999999999 field) up within
     (λ s. students_in-past pairs (with_student s seen) fields (ascending-with s seen up)) past
 
--- so many pairs are there with these students in an exam that had none
+-- the number of pairs with these students in an exam that had none
 pub pair_count-enrolled : (E : Enrolled) (e : ℕ) (sitters : List ℕ) → IsEmptyExam E e →
     pair_count (set E e sitters) ≡ pair_count E + length sitters
 pair_count-enrolled E e sitters empty =
@@ -137,7 +137,7 @@ pair_count-enrolled E e sitters empty =
     let none : length (students E e) ≡ 0 = ap length empty.none in
     omega arith
 
--- students who are refused, though there is memory, are too many
+-- if students are refused and memory didn't run out, they are too many
 pub too_many : (E : Enrolled) (sitters : List ℕ) (fault : ModelFault) →
     RefusesAll E sitters fault → fault ≢ NoMemory → 200000 < pair_count E + length sitters
 too_many E sitters Range refuses other = refuses

@@ -1,4 +1,4 @@
--- What a line of the section of exams says, and the lines so far.
+-- The values of a line of the section of exams, and the lines so far.
 use Rattle.std.proofs.Common.{◌≡◌, ℕ, suc, ◌+◌, ◌-◌, ◌<◌, List, [], ◌∷◌, ◌++◌, length, set, take}
 use Rattle.std.proofs.Common.{Result, Ok, Err, Option, Some, None, refl, ap, sym, ◌∙◌, arith}
 use Rattle.std.proofs.Common.{append_assoc}
@@ -23,20 +23,20 @@ use Rattle.exam_model.proofs.StudentLemmas.{ascending-none}
 use Rattle.office_files.proofs.ExamLinePairs.{judged, students_in-within, students_in-past}
 use Rattle.office_files.proofs.ExamLinePairs.{pair_count-enrolled}
 
--- a line with these minutes says what its students' fields say
+-- a line with these minutes has the values of its students' fields
 behind_minutes : (pairs minutes : ℕ) (fields : List (List ℕ)) (r : Result (List ℕ) FaultKind) →
     number 1440 (first fields) ≡ Ok minutes → students_in pairs [] (rest fields) ≡ r →
     exam_behind pairs fields ≡ (r >>= λ names. Ok (record { minutes = minutes; students = names }))
 behind_minutes pairs minutes fields r is said = rw (is, said) refl
 
--- what was read of a line: its minutes, and the students up to the first fault in ascending order
+-- the part of a line that was read: its minutes, and the students up to the first fault, ascending
 pub record IsReadOf (fields : List (List ℕ)) (minutes : ℕ) (sitters : List ℕ)
     (fault : Option FaultKind) : Type 0 where
   pub minutes_are : number 1440 (first fields) ≡ Ok minutes
   pub students_are : sitters ≡ with_students (named_in (rest fields)) []
   pub fault_is : fault ≡ fault_in (rest fields)
 
--- what the calls on a line tell of it
+-- the results of the calls on a line
 pub read_of : (fields now tail : List (List ℕ)) (minutes : ℕ) (named ordered sitters : List ℕ)
     (fault : Option FaultKind) →
     now ≡ fields → Ok minutes ≡ number 1440 (first now) → tail ≡ rest now →
@@ -56,7 +56,7 @@ read_of fields now tail minutes named ordered sitters fault all is others names 
 module _ (E : Enrolled) (e : ℕ) (fields : List (List ℕ)) (minutes : ℕ) (sitters : List ℕ)
     (fault : Option FaultKind) (empty : IsEmptyExam E e)
     (is : IsReadOf fields minutes sitters fault) where
-  -- where all students are in, a field of the line alone may be faulty
+  -- if all students are added, only a field of the line can be faulty
   line_within : (new : Enrolled) → new ≡ set E e sitters → AreEnrolments new →
       exam_behind (pair_count E) fields
       ≡ (judged fault sitters >>= λ xs. Ok (record { minutes = minutes; students = xs }))
@@ -82,7 +82,7 @@ module _ (E : Enrolled) (e : ℕ) (fields : List (List ℕ)) (minutes : ℕ) (si
     kept = kept;
   }
 
-  -- a line of which a field is faulty
+  -- a line with a faulty field
   pub line_faulty : (new : Enrolled) (what : FaultKind) → fault ≡ Some what →
       new ≡ set E e sitters → AreEnrolments new → exam_behind (pair_count E) fields ≡ Err what
   line_faulty new what bad changed kept = rw bad at (line_within new changed kept)
@@ -106,7 +106,7 @@ sum_by-students (line ∷ lines) =
     ∙ ap (λ n. length line.students + n) (sum_by-students lines)
     ∙ sym (sum_by-cons (λ line. length line.students) line lines)
 
--- a line that is read goes behind those before it
+-- the item of a line is added after those of the lines before it
 items-more : (before : List ExamLine) (said : ExamLine) (row : Located) (rows : List Located)
     (n : ℕ) → exam_line before (fields_of row.text) ≡ Ok said →
     items_of exam_line before (take (suc n) (row ∷ rows))
@@ -120,7 +120,7 @@ items-fault : (before : List ExamLine) (what : FaultKind) (row : Located) (rows 
     ≡ Err (record { line = row.line; what = what })
 items-fault before what row rows n is = rw is refl
 
--- so many of the lines were read, and say these exams and pairs; the exams of the others have none
+-- this many of the lines were read, with these exams and pairs; the exams of the others have none
 pub record IsSoFar (all left : List Located) (count done : ℕ) (exams : List Exam)
     (E : Enrolled) : Type 0 where
   pub before : List ExamLine
@@ -142,7 +142,7 @@ module _ (all left : List Located) (count done : ℕ) (exams : List Exam) (E : E
   abbrev enrolled : List (List ℕ)
   enrolled = map (λ line. line.students) so_far.before
 
-  -- so many pairs are there as stand on the lines
+  -- the number of pairs is that on the lines
   pairs_are : pair_count E ≡ pairs_on so_far.before
   pairs_are =
       let both = sum_by-append length enrolled (no_pairs (count - done)) in
@@ -169,7 +169,7 @@ module _ (all left : List Located) (count done : ℕ) (exams : List Exam) (E : E
   so_far_fault what bad =
       sym whole ∙ items-fault so_far.before what row rows others (said_so ∙ bad)
 
-  -- an exam's students are put in behind those of the exams before it
+  -- an exam's students are added after those of the exams before it
   enrolled-more : (sitters : List ℕ) →
       set E done sitters ≡ (enrolled ++ sitters ∷ []) ++ no_pairs others
   enrolled-more sitters =
@@ -180,7 +180,7 @@ module _ (all left : List Located) (count done : ℕ) (exams : List Exam) (E : E
       ∙ set_at enrolled [] (no_pairs others) sitters done front
       ∙ sym (append_assoc enrolled (sitters ∷ []) (no_pairs others))
 
-  -- one line more
+  -- one more line
   pub so_far_more : (made : Exam) (new : Enrolled) →
       EntersLine E new done (fields_of row.text) made →
       IsSoFar all rows count (done + 1) (exams ++ made ∷ []) new

@@ -1,4 +1,4 @@
--- The fault of a reading of several lines: that of the first of them which has one.
+-- The fault of a reading of several lines: that of the first faulty line.
 use Rattle.std.proofs.Common.{◌≡◌, ℕ, ◌+◌, true, false, List, [], ◌∷◌, ◌++◌, length, take, drop}
 use Rattle.std.proofs.Common.{Option, Some, None, Result, Ok, Err, refl, sym, ◌∙◌, add-one, inl}
 use Rattle.std.proofs.Common.{inr}
@@ -20,12 +20,12 @@ use Rattle.office_files.proofs.LineLemmas.{size_head, size_line}
 use Rattle.office_files.proofs.ReadingLaws.{bind_ok, items_length}
 use Rattle.office_files.proofs.SectionLaws.{section_is}
 
--- the fault of a reading, or else that of what comes behind it
+-- the fault of a reading, or else that of the rest
 abbrev pub fault_or : {A : Type 0} → Result A FileFault → (A → Option FileFault) → Option FileFault
 fault_or (Ok x) next = next x
 fault_or (Err fault) next = Some fault
 
--- where nothing comes behind, it is the fault of the reading
+-- if nothing follows, it is the fault of the reading
 pub fault_alone : {A : Type 0} (r : Result A FileFault) → fault_or r (λ _. None) ≡ fault_of r
 fault_alone (Ok x) = refl
 fault_alone (Err fault) = refl
@@ -38,7 +38,7 @@ pub first_step : {A B : Type 0} (r : Result A FileFault) (next : A → Option Fi
 first_step (Ok x) next f later same = same x refl
 first_step (Err fault) next f later same = refl
 
--- the same where the first of them is that of a line
+-- the same if the first of them is that of a line
 pub first_line : {A B : Type 0} (line : ℕ) (r : Result A FaultKind) (next : Option FileFault)
     (f : A → Result B FileFault) (later : B → Option FileFault) →
     ((x : A) → r ≡ Ok x → next ≡ fault_or (f x) later) →
@@ -46,7 +46,7 @@ pub first_line : {A B : Type 0} (line : ℕ) (r : Result A FaultKind) (next : Op
 first_line line (Ok x) next f later same = same x refl
 first_line line (Err what) next f later same = refl
 
--- one line more is read behind the items of those before it
+-- one more line is read after the items of those before it
 pub items_push : {A : Type 0} (read : List A → List (List ℕ) → Result A FaultKind)
     (before all : List A) (lines : List Located) (line : Located) (x : A) →
     items_of read before lines ≡ Ok all → read all (fields_of line.text) ≡ Ok x →
@@ -58,17 +58,17 @@ items_push read before all (l ∷ lines) line x e is =
     let head = bind_ok (at_line l.line (read before (fields_of l.text))) _ all e in
     rw head.1 (items_push read (before ++ head.0 ∷ []) all lines line x head.2 is)
 
--- where the line behind these of a section stands
+-- the position of the line after these of a section
 abbrev pub here : ℕ → (ℕ → ℕ) → List Located → Standing
 here headers exams since =
     record { headers = headers + 1; since = since; exams = exams (length since) }
 
--- where a header stands, or the end
+-- the position of a header, or of the end
 abbrev pub at_header : ℕ → ℕ → Standing
 at_header headers exams = record { headers = headers; since = []; exams = exams }
 
--- the section behind so many headers is judged by this heading and this reading, and there are
--- `exams n` exams behind n of its lines
+-- the section after this many headers is judged by this heading and this reading, and there are
+-- `exams n` exams after n of its lines
 pub record Judges {A : Type 0} (heading : Heading)
     (read : List A → List (List ℕ) → Result A FaultKind) (headers : ℕ)
     (exams : ℕ → ℕ) : Type 0 where
@@ -83,13 +83,13 @@ pub record Judges {A : Type 0} (heading : Heading)
 
 module _ {A : Type 0} (heading : Heading) (read : List A → List (List ℕ) → Result A FaultKind)
     (headers : ℕ) (exams : ℕ → ℕ) (judges : Judges heading read headers exams) where
-  -- one line more of the section
+  -- one more line of the section
   here_more : (since : List Located) (line : Located) → is_header line.text ≡ false →
       behind (here headers exams since) line ≡ here headers exams (since ++ line ∷ [])
   here_more since line e =
       rw (e, length-append since (line ∷ []), judges.more (length since)) refl
 
-  -- the fault of a line is that of its reading behind the items of those before it
+  -- the fault of a line is that of its reading after the items of those before it
   here_fault : (since : List Located) (items : List A) (line : Located) (size : ℕ) →
       is_header line.text ≡ false → items_of read [] since ≡ Ok items →
       line_fault (here headers exams since) line size
@@ -97,7 +97,7 @@ module _ {A : Type 0} (heading : Heading) (read : List A → List (List ℕ) →
   here_fault since items line size e is =
       rw (e, judges.line (length since) since line, is) refl
 
-  -- the lines up to the next header have the fault of their reading, or else that behind them
+  -- the lines up to the next header have the fault of their reading, or else that of the rest
   body_fault : (end : ℕ) (since : List Located) (items : List A) (lines : List Located) →
       items_of read [] since ≡ Ok items →
       first_from end (here headers exams since) lines
@@ -123,7 +123,7 @@ module _ {A : Type 0} (heading : Heading) (read : List A → List (List ℕ) →
   behind_body end n since [] at e = refl
   behind_body end n since (line ∷ lines) at e = rw (at, e) refl
 
-  -- the lines behind a section's header have the fault of their reading, or else that behind them
+  -- the lines after a section's header have the fault of their reading, or else that of the rest
   section_behind : (end : ℕ) (line : Located) (lines : List Located) →
       header_in heading (section_size lines) line.text ≡ Ok tt →
       first_from end (here headers exams []) lines
@@ -139,7 +139,7 @@ module _ {A : Type 0} (heading : Heading) (read : List A → List (List ℕ) →
       (section_is heading read end (line ∷ lines) items others (rw (headed, is) refl)).up_to
       (sym (items_length read body items is)))
 
-  -- a section has the fault of its reading, or else that behind it
+  -- a section has the fault of its reading, or else that of the rest
   pub section_first : (end : ℕ) (lines : List Located) → AtHeader lines →
       first_from end (at_header headers (exams 0)) lines
       ≡ fault_or (section_in heading read end lines) (λ got.

@@ -1,4 +1,4 @@
--- What cutting and trimming leave.
+-- The results of cutting and trimming.
 use Rattle.std.proofs.Common.{◌≡◌, ℕ, zero, suc, ◌+◌, ◌<◌, Bool, true, false, List, [], ◌∷◌}
 use Rattle.std.proofs.Common.{length, get_or, take, drop, refl, ap, sym, ◌∙◌, arith, if◌then◌else◌}
 use Rattle.std.proofs.Common.{add-one}
@@ -9,7 +9,7 @@ use mathlib.Core.Bool.{true≢false}
 use Rattle.exam_terms.specs.Texts.{trimmed}
 use Rattle.office_files.specs.Fields.{ended_parts, fields_of}
 
--- where no byte is the mark, the whole text is one part
+-- a text without the mark is one part
 pub parts_none : (c : ℕ) (bs : List ℕ) → 0 < length bs →
     ((k : ℕ) → k < length bs → get_or bs k 0 ≡ c → ⊥) → ended_parts c bs ≡ bs ∷ []
 parts_none c [] some other = absurd (omega arith)
@@ -51,7 +51,7 @@ length-map : (xs : List (List ℕ)) → length (map trimmed xs) ≡ length xs
 length-map [] = refl
 length-map (x ∷ xs) = omega (arith, length-map xs)
 
--- no field is left only behind the end
+-- only an empty line has no fields
 pub fields_none : (line : List ℕ) → fields_of line ≡ [] → line ≡ []
 fields_none [] e = refl
 fields_none (b ∷ bs) e =
@@ -60,7 +60,7 @@ fields_none (b ∷ bs) e =
     let zero_of : length (fields_of (b ∷ bs)) ≡ 0 = ap length e in
     absurd (omega arith)
 
--- a test of the length says whether a field is left
+-- a test of the length tells whether a field is left
 pub fields_test : (line : List ℕ) (b : Bool) → b ≡ (length line == 0) →
     (b ≡ true → fields_of line ≡ []) × (fields_of line ≡ [] → b ≡ true)
 fields_test [] b e = (λ _. refl, λ _. e)

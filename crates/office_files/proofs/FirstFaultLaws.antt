@@ -1,4 +1,4 @@
--- What a reading refuses is the first fault of the file, and it refuses where there is one.
+-- A reading is refused with the first fault of the file, and exactly if there is one.
 use Rattle.std.proofs.Common.{◌≡◌, ◌≢◌, ℕ, ◌+◌, ◌<◌, ◌≤◌, Bool, true, false, List, [], ◌∷◌, ◌++◌}
 use Rattle.std.proofs.Common.{length, map, IfOk, IfErr, Option, Some, None, Result, Ok, Err, refl}
 use Rattle.std.proofs.Common.{ap, sym, ◌∙◌, arith, inl, inr}
@@ -66,7 +66,7 @@ weightings_judge : (n : ℕ) → Judges weightings_heading (weighting_line (amon
 weightings_judge n =
     record { few = refl; header = λ _ _. refl; line = λ _ _ _. refl; more = λ _. refl }
 
--- behind the sixth section stands a fault, or nothing
+-- after the sixth section comes a fault, or nothing
 none_behind : {A : Type 0} (end n : ℕ) (lines : List Located) (x : A) → AtHeader lines →
     first_from end (at_header 6 n) lines
     ≡ fault_or (no_more lines >>= λ _. Ok x) (λ _. None)
@@ -86,7 +86,7 @@ later_fault end exams lines at =
     section_step _ _ 5 _ (weightings_judge n) end on_rooms.1 at4 _ _ (λ weighed at5.
     none_behind end n weighed.1 _ at5)))))
 
--- the section of exams has the fault of its reading, or else that behind it
+-- the section of exams has the fault of its reading, or else that of the rest
 exams_first : (end : ℕ) (lines : List Located) →
     first_from end at_start lines
     ≡ fault_or (section_in exams_heading exam_line end lines) (λ got.
@@ -111,7 +111,7 @@ lines_fault end lines =
     (section_is exams_heading exam_line end lines exams.0 exams.1 is).up_to
     ∙ first_step (later_sections end exams.0 exams.1) _ _ _ (λ said is. refl))
 
--- a file that is too long has that fault, and another one that of its lines
+-- a file that is too long has that fault, and any other file that of its lines
 within_first : {A : Type 0} (within : Bool) (later : Option FileFault) (r : Result A FileFault) →
     later ≡ fault_or r (λ _. None) →
     (if within then later else Some (record { line = 0; what = TooLong }))
@@ -124,17 +124,17 @@ pub instance_fault : (b : List ℕ) → first_fault b ≡ fault_of (instance_in 
 instance_fault b =
     within_first (nat_le (length b) 4194304) _ _ (lines_fault (line_count b + 1) (lines_of b))
 
--- what the reading of an instance refuses is the first fault of the file
+-- the fault of the reading of an instance is the first fault of the file
 pub first_of_instance : (b : List ℕ) (f : FileFault) → instance_in b ≡ Err f →
     first_fault b ≡ Some f
 first_of_instance b f e = instance_fault b ∙ ap fault_of e
 
--- and a file that is read has none
+-- a file that is read has no fault
 pub no_fault_of_instance : (b : List ℕ) (r : Session × Enrolled) → instance_in b ≡ Ok r →
     first_fault b ≡ None
 no_fault_of_instance b r e = instance_fault b ∙ ap fault_of e
 
--- a place is read only where there is an exam for it
+-- a place is read only if there is an exam for it
 place_has_exam : (counts : Counts) (before : List Place) (fields : List (List ℕ)) (p : Place) →
     place_line counts before fields ≡ Ok p → length before < counts.exams
 place_has_exam counts before fields p e =
@@ -142,7 +142,7 @@ place_has_exam counts before fields p e =
     let some = bind_ok (unless room CountMismatch) _ p e in
     ltb-true (length before) counts.exams (unless_ok room CountMismatch some.0 some.1)
 
--- behind the last place others are missing, or none
+-- after the last place, others are missing, or none
 none_missing : (places exams end : ℕ) (x : Placing) → places ≤ exams →
     (if nat_lt places exams then Some (record { line = end; what = CountMismatch }) else None)
     ≡ fault_or (at_line end (unless (places == exams) CountMismatch) >>= λ _. Ok x) (λ _. None)
@@ -185,12 +185,12 @@ solution_fault I b =
     within_first (nat_le (length b) 1048576) _ _
     (places_fault (counts_in I) (line_count b + 1) (lines_of b))
 
--- what the reading of a solution refuses is the first fault of the file
+-- the fault of the reading of a solution is the first fault of the file
 pub first_of_solution : (I : Session) (b : List ℕ) (f : FileFault) → solution_in I b ≡ Err f →
     first_solution_fault I b ≡ Some f
 first_of_solution I b f e = solution_fault I b ∙ ap fault_of e
 
--- and a file that is read has none
+-- a file that is read has no fault
 pub no_fault_of_solution : (I : Session) (b : List ℕ) (T : Placing) → solution_in I b ≡ Ok T →
     first_solution_fault I b ≡ None
 no_fault_of_solution I b T e = solution_fault I b ∙ ap fault_of e
@@ -202,7 +202,7 @@ module _ {X : Type 0} (view : X → Session × Enrolled) (b : List ℕ) where
   instance_first (Ok x) is = tt
   instance_first (Err f) is = λ other. first_of_instance b f (is other)
 
-  -- and a file that gave one has none
+  -- a file with a reading has no fault
   pub instance_faultless : (r : Result X FileFault) → AnswersReading view r (instance_in b) →
       IfOk r (λ _. first_fault b ≡ None)
   instance_faultless (Ok x) is = no_fault_of_instance b (view x) is
@@ -215,7 +215,7 @@ module _ {X : Type 0} (view : X → Placing) (I : Session) (b : List ℕ) where
   solution_first (Ok x) is = tt
   solution_first (Err f) is = λ other. first_of_solution I b f (is other)
 
-  -- and a file that gave one has none
+  -- a file with a reading has no fault
   pub solution_faultless : (r : Result X FileFault) → AnswersReading view r (solution_in I b) →
       IfOk r (λ _. first_solution_fault I b ≡ None)
   solution_faultless (Ok x) is = no_fault_of_solution I b (view x) is

@@ -31,7 +31,7 @@ use Rattle.office_files.proofs.ItemLaws.{SaysAmounts, exam_line_within, period_w
 use Rattle.office_files.proofs.ReadingLaws.{bind_ok, ok_bind, at_line_ok, ok_at_line, ok_same, same_pair, unless_ok, ok_unless, spelled_items, items_all, items_within}
 use Rattle.office_files.proofs.SectionLaws.{section_is, is_section, counted_section}
 
--- the sections behind that of the exams, each with the lines behind it
+-- the sections after that of the exams, each with the lines after it
 abbrev pub ArePeriods : List ExamLine → List Located → List Period → List Located → Type 0
 ArePeriods exams = IsSection periods_heading (period_line (counts_of exams))
 
@@ -66,7 +66,7 @@ room_rules_in exams = section_in room_rules_heading (room_rule_line (counts_of e
 abbrev pub weightings_in : Read Weighting
 weightings_in exams = section_in weightings_heading (weighting_line (counts_of exams))
 
--- the later sections, one behind the other, with nothing behind them
+-- the later sections, one after the other, followed by nothing
 pub record AreLater (lines : List Located) (s : Spelled) : Type 0 where
   pub behind_periods : List Located
   pub behind_rooms : List Located
@@ -82,7 +82,7 @@ none_left : (lines : List Located) (u : Unit {0}) → no_more lines ≡ Ok u →
 none_left [] u e = refl
 none_left (line ∷ lines) u e = cc
 
--- later sections that were read are there, behind these exams
+-- later sections that were read are there, after these exams
 later_are : (end : ℕ) (exams : List ExamLine) (lines : List Located) (said : Spelled) →
     later_sections end exams lines ≡ Ok said → (said.exams ≡ exams) × AreLater lines said
 later_are end exams lines said e =
@@ -109,7 +109,7 @@ later_are end exams lines said e =
       },
     )
 
--- and later sections that are there are read
+-- later sections that are there are read
 are_later : (end : ℕ) (lines : List Located) (said : Spelled) → AreLater lines said →
     later_sections end said.exams lines ≡ Ok said
 are_later end lines said s =
@@ -127,7 +127,7 @@ are_later end lines said s =
     (ok_bind (weightings_in exams end s.behind_room_rules) _ (said.weightings, []) said
     (is_section _ _ end s.behind_room_rules said.weightings [] s.weightings) refl))))
 
--- what was read is spelled
+-- the text describes the result of its reading
 pub read_is_text : (b : List ℕ) (I : Session) (E : Enrolled) → instance_in b ≡ Ok (I, E) →
     InstanceText b I E
 read_is_text b I E e =
@@ -175,7 +175,7 @@ sections_are_read b exams behind said within first later =
     (ok_bind (section_in exams_heading exam_line end (lines_of b)) _ (exams, behind) read first
     (ok_bind (later_sections end exams behind) _ said read later refl))
 
--- and what is spelled is read
+-- a session that a text describes is read from it
 pub text_is_read : (b : List ℕ) (I : Session) (E : Enrolled) → InstanceText b I E →
     instance_in b ≡ Ok (I, E)
 text_is_read b I E t =
@@ -203,7 +203,7 @@ one_reading b I J E F one other =
     same_pair (instance_in b) I J E F first (text_is_read b J F other)
 
 module _ {A : Type 0} (heading : Heading) (read : List A → List (List ℕ) → Result A FaultKind) where
-  -- what each line of a section gives, each of its items has
+  -- a fact about the result of each line of a section holds for each of its items
   section_all : (P : A → Type 0) →
       ((before : List A) (fields : List (List ℕ)) (x : A) → read before fields ≡ Ok x → P x) →
       (lines : List Located) (items : List A) (behind : List Located) →
@@ -211,7 +211,7 @@ module _ {A : Type 0} (heading : Heading) (read : List A → List (List ℕ) →
   section_all P says lines items behind s =
       items_all read P says s.body items (spelled_items read s.body items s.spelled)
 
-  -- where a line is refused behind so many items, the section has no more
+  -- if a line is refused after this many items, the section has no more
   section_within : (n : ℕ) →
       ((before : List A) (fields : List (List ℕ)) (x : A) → read before fields ≡ Ok x →
       length before < n) →
@@ -220,7 +220,7 @@ module _ {A : Type 0} (heading : Heading) (read : List A → List (List ℕ) →
   section_within n says lines items behind s =
       items_within read n says s.body items (spelled_items read s.body items s.spelled)
 
--- what the sections say together is an instance
+-- the values of the sections together are an instance
 pub sections_are_instance : (said : Spelled) (lines b1 b2 b3 b4 b5 b6 : List Located) →
     IsSection exams_heading exam_line lines said.exams b1 →
     ArePeriods said.exams b1 said.periods b2 →
@@ -268,7 +268,7 @@ sections_are_instance said lines b1 b2 b3 b4 b5 b6 exams periods rooms on_period
       };
     }
 
--- what the exams and the later sections said is an instance
+-- the values of the exams and the later sections are an instance
 pub later_is_instance : (said : Spelled) (end : ℕ) (lines behind : List Located)
     (exams : List ExamLine) →
     section_in exams_heading exam_line end lines ≡ Ok (exams, behind) →

@@ -1,4 +1,4 @@
--- What a line says stays within the limits of an instance.
+-- The values of a line are within the limits of an instance.
 use Rattle.std.proofs.Common.{◌≡◌, ℕ, ◌-◌, ◌<◌, ◌≤◌, Bool, true, false, List, [], ◌∷◌, length, Option, Some, None, Result, Ok, Err, refl, subst, arith}
 use Rattle.std.specs.Prelude.{All, nat_le, nat_lt, not, codes, if◌then◌else◌, ◌&&◌}
 use Rattle.std.specs.List.{list_any}
@@ -48,7 +48,7 @@ exam_line_within before fields x e =
     let same = ok_same _ _ x refl students.2 in
     subst (λ y. ExamInLimits (exam_of y)) same (number_le 1440 (first fields) minutes.0 minutes.1)
 
--- what was read in the place of a fault
+-- the result of a reading with its fault replaced
 or_fault_ok : {A : Type 0} (fault : FaultKind) (r : Result A FaultKind) (x : A) →
     or_fault fault r ≡ Ok x → r ≡ Ok x
 or_fault_ok fault (Ok y) x e = cc
@@ -145,7 +145,7 @@ rule_exists n rule.After a b one other = (one, other)
 rule_exists n rule.Coincidence a b one other = (one, other)
 rule_exists n rule.Exclusion a b one other = (one, other)
 
--- a number of at most the last one is among so many
+-- a number of at most n - 1 is below n
 among : (n : ℕ) (text : List ℕ) (k : ℕ) → 1 ≤ n → number (n - 1) text ≡ Ok k → k < n
 among n text k some e = let within = number_le (n - 1) text k e in omega arith
 
@@ -169,7 +169,7 @@ period_rule_within counts before fields r some e =
           (among n (first two) b.0 some b.1)),
     )
 
--- and so does the exam of a rule on its room
+-- the exam of a rule on its room exists, and there is room for the rule
 pub room_rule_within : (counts : Counts) (before : List RoomRule) (fields : List (List ℕ))
     (r : RoomRule) →
     1 ≤ counts.exams → room_rule_line counts before fields ≡ Ok r →
@@ -193,6 +193,7 @@ SaysAmounts (said.Day n) = IsAmount n
 SaysAmounts (said.Spread n) = IsAmount n
 SaysAmounts (said.Mixed n) = IsAmount n
 SaysAmounts (said.Front n k w) = IsAmount n × IsAmount k × IsAmount w
+SaysAmounts (said.Night n) = IsAmount n
 
 amount_within : (fields : List (List ℕ)) (n : ℕ) → amount_in fields ≡ Ok n → IsAmount n
 amount_within fields n e =
@@ -213,7 +214,7 @@ front_within fields s e =
       number_le 100000 (first two) weight.0 weight.1,
     )
 
--- one number, said by a word
+-- one number after a word
 one_within : (make : ℕ → Weighting) (fields : List (List ℕ)) (s : Weighting) →
     ((n : ℕ) → IsAmount n → SaysAmounts (make n)) →
     (amount_in fields >>= λ n. Ok (make n)) ≡ Ok s → SaysAmounts s
@@ -229,6 +230,7 @@ weighting_within word.Day fields s e = one_within said.Day fields s (λ n is. is
 weighting_within word.Spread fields s e = one_within said.Spread fields s (λ n is. is) e
 weighting_within word.Mixed fields s e = one_within said.Mixed fields s (λ n is. is) e
 weighting_within word.Front fields s e = front_within fields s e
+weighting_within word.Night fields s e = one_within said.Night fields s (λ n is. is) e
 
 -- a weighting's numbers
 pub weighting_line_within : (counts : Counts) (before : List Weighting) (fields : List (List ℕ))
@@ -239,19 +241,21 @@ weighting_line_within counts before fields s e =
     let new = bind_ok (unless (not (list_any (has_word w.0) before)) Repeated) _ s w.2 in
     weighting_within w.0 (rest fields) s new.2
 
--- a weighting leaves the weights in their limits
+-- a weighting keeps the weights within their limits
 with_within : (w : Weights) (s : Weighting) → SaysAmounts s → WeightsInLimits w →
     WeightsInLimits (with_weighting w s)
 with_within w (said.Row n) is limits =
-    (is, limits.1, limits.2, limits.3, limits.4, limits.5, limits.6)
+    (is, limits.1, limits.2, limits.3, limits.4, limits.5, limits.6, limits.7)
 with_within w (said.Day n) is limits =
-    (limits.0, is, limits.2, limits.3, limits.4, limits.5, limits.6)
+    (limits.0, is, limits.2, limits.3, limits.4, limits.5, limits.6, limits.7)
 with_within w (said.Spread n) is limits =
-    (limits.0, limits.1, is, limits.3, limits.4, limits.5, limits.6)
+    (limits.0, limits.1, is, limits.3, limits.4, limits.5, limits.6, limits.7)
 with_within w (said.Mixed n) is limits =
-    (limits.0, limits.1, limits.2, is, limits.4, limits.5, limits.6)
+    (limits.0, limits.1, limits.2, is, limits.4, limits.5, limits.6, limits.7)
 with_within w (said.Front n k v) is limits =
-    (limits.0, limits.1, limits.2, limits.3, is.0, is.1, is.2)
+    (limits.0, limits.1, limits.2, limits.3, is.0, is.1, is.2, limits.7)
+with_within w (said.Night n) is limits =
+    (limits.0, limits.1, limits.2, limits.3, limits.4, limits.5, limits.6, is)
 
 all_with_within : (w : Weights) (ss : List Weighting) → All SaysAmounts ss → WeightsInLimits w →
     WeightsInLimits (with_weightings w ss)
@@ -264,10 +268,18 @@ all_with_within w (s ∷ ss) all limits =
 pub weights_within : (ss : List Weighting) → All SaysAmounts ss →
     WeightsInLimits (with_weightings no_weights ss)
 weights_within ss all =
-    all_with_within no_weights ss all
-    (omega arith, omega arith, omega arith, omega arith, omega arith, omega arith, omega arith)
+    all_with_within no_weights ss all (
+      omega arith,
+      omega arith,
+      omega arith,
+      omega arith,
+      omega arith,
+      omega arith,
+      omega arith,
+      omega arith,
+    )
 
--- a place that is among so many periods and rooms
+-- the place's period and room are below these counts
 abbrev pub PlaceExists : Counts → Place → Type 0
 PlaceExists counts p = (p.period < counts.periods) × (p.room < counts.rooms)
 

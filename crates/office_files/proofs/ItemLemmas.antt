@@ -1,4 +1,4 @@
--- What one line adds to the reading of lines.
+-- The effect of one line on the reading of lines.
 use Rattle.std.proofs.Common.{◌≡◌, ℕ, suc, ◌+◌, ◌-◌, ◌<◌, List, ◌∷◌, take, Result, Err, ap, sym, ◌∙◌, arith}
 use Rattle.office_files.specs.Lines.{Located}
 use Rattle.office_files.specs.Reading.{items_of}
@@ -6,7 +6,7 @@ use Rattle.office_files.specs.declared.fault.FaultKind.{FaultKind}
 use Rattle.office_files.specs.declared.fault.FileFault.{FileFault}
 
 module _ {A : Type 0} (read : List A → List (List ℕ) → Result A FaultKind) where
-  -- the first of the lines of which so many are left
+  -- the first of the lines, of which this many are left
   first_left : (before : List A) (line : Located) (now lines : List Located) (count counter : ℕ)
       → counter < count → now ≡ line ∷ lines
       → items_of read before (line ∷ take (count - (counter + 1)) lines)
@@ -17,7 +17,7 @@ module _ {A : Type 0} (read : List A → List (List ℕ) → Result A FaultKind)
       ap (λ ls. items_of read before (take (suc n) ls)) (sym now_is)
       ∙ ap (λ k. items_of read before (take k now)) e
 
-  -- one turn of a loop over so many lines
+  -- one turn of a loop over this many lines
   pub line_step : (before after : List A) (line : Located) (now lines : List Located)
       (count counter : ℕ) (whole : Result (List A) FileFault)
       → counter < count → now ≡ line ∷ lines

@@ -1,4 +1,4 @@
--- The sections behind that of the exams, read one after another.
+-- The sections after that of the exams, read one after another.
 use Rattle.std.proofs.Common.{◌≡◌, ℕ, List, length, Ok, Err, refl}
 use Rattle.exam_model.specs.declared.parts.Period.{Period}
 use Rattle.exam_model.specs.declared.parts.Room.{Room}
@@ -16,7 +16,7 @@ use Rattle.office_files.specs.declared.counts.Counts.{Counts}
 use Rattle.office_files.specs.declared.weightings.Weighting.{Weighting}
 use Rattle.office_files.specs.declared.fault.FileFault.{FileFault}
 
--- what the lines are judged by, where there are so many exams
+-- the counts by which lines are judged, with this many exams
 abbrev pub among : ℕ → Counts
 among n = record { exams = n; periods = 0; rooms = 0 }
 
@@ -51,7 +51,7 @@ module _ (end n : ℕ) (exams : List ExamLine) (same : length exams ≡ n)
         (are_weightings : section_in weightings_heading
         (weighting_line (among n)) end behind_room_rules
         ≡ Ok (weightings, behind)) where
-      -- a line behind the last section
+      -- a line after the last section
       pub faulty_end : (fault : FileFault) → no_more behind ≡ Err fault
           → later_sections end exams lines ≡ Err fault
       faulty_end fault is =

@@ -1,5 +1,5 @@
--- What a text spells is in its limits: an instance, its enrolments, a timetable of places that
--- exist.
+-- The values that a text describes are within their limits: an instance, its enrolments, and a
+-- timetable of places that exist.
 use Rattle.std.proofs.Common.{◌≡◌, ℕ, zero, suc, ◌+◌, ◌<◌, ◌≤◌, true, false, List, [], ◌∷◌, length, take, map, Some, Ok, get_or, add-one, inl, inr, refl, ap, sym, subst, ◌∙◌, arith}
 use Rattle.std.specs.Prelude.{◌==◌, ◌||◌, nat_le, nat_lt, option_map}
 use Rattle.std.proofs.lemmas.Bool.{cases_lt, eqb-true}
@@ -32,7 +32,7 @@ use Rattle.office_files.proofs.SolutionLaws.{text_is_solution}
 
 -- ---- the students of a line
 
--- ascending numbers of students, with whom the pairs stay within their limit
+-- ascending numbers of students, with whom the pairs are within their limit
 record AreSitters (pairs : ℕ) (xs : List ℕ) : Type 0 where
   pub ascending : IsAscending xs
   pub numbers : AreNumbers xs

@@ -1,4 +1,4 @@
--- What the end of a line and a line's place leave.
+-- The results of dropping the end of a line, and the position of a line.
 use Rattle.std.specs.Prelude.{◌==◌, if◌then◌else◌}
 use Rattle.std.specs.List.{onto_first}
 use Rattle.office_files.specs.Fields.{ended_parts}
@@ -82,14 +82,14 @@ pub size_line : (r : Located) (rs : List Located) → is_header r.text ≡ false
     section_size (r ∷ rs) ≡ section_size rs + 1
 size_line r rs e = rw e refl
 
--- the first byte tells a header
+-- the first byte tells whether a line is a header
 pub header_first : (bs : List ℕ) → 0 < length bs → is_header bs ≡ (get_or bs 0 0 == 91)
 header_first [] some = absurd (omega arith)
 header_first (b ∷ bs) some = refl
 
 pub ruleset size_facts = (rows-le, size_head, size_line, header_first)
 
--- behind the first of what is left is the rest
+-- after the first of the elements left is the rest
 pub drop_next : {A : Type 0} (xs : List A) (n : ℕ) (y : A) (ys : List A) → drop n xs ≡ y ∷ ys →
     drop (n + 1) xs ≡ ys
 drop_next [] zero y ys e = cc

@@ -1,4 +1,4 @@
--- Who sits an exam is whom the fields of its line name.
+-- The students who sit an exam are those whom the fields of its line name.
 use Rattle.std.proofs.Common.{◌≡◌, ℕ, suc, ◌+◌, ◌<◌, Bool, true, false, List, [], ◌∷◌, ◌++◌, length, take, map, Some, Ok, get_or, refl, ap, sym, ◌∙◌, add-one, arith}
 use Rattle.std.specs.Prelude.{◌==◌, ◌||◌, nat_lt, option_map, slice_get, slice_index_or}
 use Rattle.std.proofs.lemmas.List.{get_or_append_left, length-map}
@@ -54,7 +54,7 @@ line_named before fields item t is =
     ap (λ (x : ExamLine). has_number x.students t) (sym made)
     ∙ named (pairs_on before) [] (rest fields) students.0 students.1 t
 
--- a line behind the first is one of the others
+-- a line after the first is one of the others
 line_behind : (x : Located) (body behind : List Located) (e : ℕ) (line : Located) → e < length body
     → slice_get (x ∷ (body ++ behind)) (e + 1) ≡ Some line → slice_get body e ≡ Some line
 line_behind x body behind e line lt is =

@@ -1,4 +1,4 @@
--- The tokens of a text stand one behind another.
+-- The tokens of a text come one after another.
 use Rattle.std.proofs.Common.{◌≡◌, ℕ, suc, ◌+◌, ◌-◌, ◌<◌, ◌≤◌, true, false, List, []}
 use Rattle.std.proofs.Common.{◌∷◌, ◌++◌, length, refl, arith, length-append}
 use Rattle.std.specs.Prelude.{◌==◌, if◌then◌else◌, map}
@@ -20,7 +20,7 @@ joined : (low mid high : ℕ) (xs ys : List Located) → LieInRow low xs mid →
 joined low mid high [] ys a b = lower low mid high ys a b
 joined low mid high (x ∷ xs) ys a b = (a.0, a.1, joined x.end mid high xs ys a.2 b)
 
--- how far so many parts reach, each with the byte behind it
+-- the length of these parts, each with the byte after it
 extent : List (List ℕ) → ℕ
 extent [] = 0
 extent (x ∷ xs) = length x + 1 + extent xs

@@ -1,4 +1,4 @@
--- Digits at the front of a line, and what a field of few digits says.
+-- Digits at the front of a line, and the value of a field of few digits.
 use Rattle.std.proofs.Common.{◌≡◌, ◌≢◌, ℕ, zero, suc, ◌+◌, ◌-◌, ◌*◌, ◌^◌, ◌<◌, ◌≤◌}
 use Rattle.std.proofs.Common.{Bool, true, false, List, [], ◌∷◌, ◌++◌, length, get_or, take, drop}
 use Rattle.std.proofs.Common.{add-one, Some, None, refl, sym, ap, subst, eqb-true, ◌∙◌, inl, inr, arith, le-ltb}
@@ -27,7 +27,7 @@ use Rattle.office_files.proofs.FieldLemmas.{parts_some}
 abbrev AllDigits : List ℕ → Type 0
 AllDigits xs = list_all is_ascii_digit xs ≡ true
 
--- one digit more
+-- one more digit
 pub read_on-more : (n : ℕ) (xs : List ℕ) (i : ℕ) → i < length xs →
     read_on n (take (i + 1) xs) ≡ 10 * read_on n (take i xs) + (get_or xs i 0 - 48)
 read_on-more n [] i lt = absurd (omega arith)
@@ -36,7 +36,7 @@ read_on-more n (d ∷ ds) (suc i) lt =
     let next = read_on-more (10 * n + (d - 48)) ds i (omega arith) in
     rw (add-one (suc i)) (rw (add-one i) at next)
 
--- a number of eight digits or less has room for one more
+-- a number of eight digits or fewer has room for one more
 pub small_room : (n i : ℕ) → i < 9 → n < 10 ^ i → n < 100000000
 small_room n i lt small =
     let most : 10 ^ i ≤ 10 ^ 8 =
@@ -100,7 +100,7 @@ digit_no_blank b e =
     let range = digit_range b e in
     rw (ne_eqb b 32 (λ same. omega arith), ne_eqb b 9 (λ same. omega arith))
 
--- a digit more at the front
+-- one more digit at the front
 pub says-more : (text : List ℕ) (value count digit : ℕ) → count < length text →
     is_ascii_digit (get_or text count 0) ≡ true → digit ≡ get_or text count 0 - 48 →
     Says text value count → Says text (10 * value + digit) (count + 1)
@@ -113,7 +113,7 @@ says-more text value count digit lt is same says =
       small = small_more value count digit says.small (omega arith);
     }
 
--- what the front of a text says, the text says
+-- the digits at the front of a text's first bytes are those of the text
 pub says_front : (most : ℕ) (text : List ℕ) (value count : ℕ) → Says (take most text) value count →
     Says text value count
 says_front most text value count says =
@@ -140,7 +140,7 @@ part-byte : (b : ℕ) (bs : List ℕ) → b ≢ 44 →
     first (ended_parts 44 (b ∷ bs)) ≡ b ∷ first (ended_parts 44 bs)
 part-byte b bs other = rw (ne_eqb b 44 other) (first-onto b (ended_parts 44 bs))
 
--- and has no part in the others
+-- such a byte is not in the other parts
 others-byte : (b : ℕ) (bs : List ℕ) → b ≢ 44 →
     rest (ended_parts 44 (b ∷ bs)) ≡ rest (ended_parts 44 bs)
 others-byte b bs other = rw (ne_eqb b 44 other) (rest-onto b (ended_parts 44 bs))
@@ -151,7 +151,7 @@ digit_no_comma d ds all same =
     let range = digit_range d both.0 in
     absurd (omega arith)
 
--- digits stand before what goes on in the same part
+-- digits come first in their part, followed by the rest of it
 part-digits : (ds behind : List ℕ) → AllDigits ds →
     first (ended_parts 44 (ds ++ behind)) ≡ ds ++ first (ended_parts 44 behind)
 part-digits [] behind all = refl
@@ -187,7 +187,7 @@ all-other : (ds : List ℕ) (b : ℕ) (bs : List ℕ) → is_ascii_digit b ≡ f
 all-other [] b bs other = rw other refl
 all-other (d ∷ ds) b bs other = rw (all-other ds b bs other) (and-false (is_ascii_digit d))
 
--- what is left of a text begins with the byte at that place
+-- the rest of a text begins with the byte at that index
 head_at : (text : List ℕ) (i b : ℕ) (bs : List ℕ) → drop i text ≡ b ∷ bs →
     (i < length text) × (get_or text i 0 ≡ b)
 head_at [] zero b bs e = cc
@@ -195,7 +195,7 @@ head_at [] (suc i) b bs e = cc
 head_at (x ∷ xs) zero b bs e = (omega arith, cc)
 head_at (x ∷ xs) (suc i) b bs e = let next = head_at xs i b bs e in (omega arith, next.1)
 
--- a part that begins with no digit says no number
+-- a part that doesn't begin with a digit is no number
 pub no_digit : (line : List ℕ) → NoDigitAt line 0 →
     few_digits (first (ended_parts 44 line)) ≡ None
 no_digit [] other = refl
@@ -208,7 +208,7 @@ no_digit (b ∷ bs) other =
           ∙ few_digits-other (b ∷ more) (all-other [] b more (other (omega arith)))
     ]
 
--- what digits write is what they say
+-- the number that digits write is their value
 written : (n : ℕ) (ds : List ℕ) → AllDigits ds → digits_value_after 10 n ds ≡ read_on n ds
 written n [] all = refl
 written n (d ∷ ds) all =
@@ -234,7 +234,7 @@ front_says text (suc i) le =
     ≡ 10 * read_on 0 (take i text) + (get_or text i 0 - 48) = read_on-more 0 text i lt in
     rw (← add-one i) (subst (λ n. Says text n (i + 1)) (sym all) more)
 
--- what the digits at the front of eight bytes say
+-- the value of the digits at the front of eight bytes
 pub eight_say : (text : List ℕ) (end value : ℕ) → length text ≤ 8 → end ≡ digits_len text
     → value ≡ digits_value 10 (take end text)
     → Says text value end × NoDigitAt text end × (value < 100000000)
@@ -263,7 +263,7 @@ few_front line value count long less says whole =
           ap is_ascii_digit (sym (get_or-take 8 line count 0 less)) ∙ whole (omega arith);
     }
 
--- as many digits as there are bytes
+-- all of these bytes are digits
 eight_are : (line : List ℕ) (value count : ℕ) → 8 < length line → 8 ≤ count
     → Says (take 8 line) value count → count ≡ 8
 eight_are line value count long most says =
@@ -324,7 +324,7 @@ module _ (line : List ℕ) (value count : ℕ) (is : IsFront line value count) w
       ∙ few_digits-all front (omega (arith, size)) (omega (arith, size)) is.says.digits
       ∙ ap Some is.says.same
 
-  -- the line ends behind them
+  -- the line ends after them
   pub at_end : left ≡ [] → 0 < count →
       (few_digits (first (ended_parts 44 line)) ≡ Some value)
       × (ended_parts 44 left ≡ rest (ended_parts 44 line))
@@ -361,7 +361,7 @@ module _ (line : List ℕ) (value count : ℕ) (is : IsFront line value count) w
             (omega (arith, size, length-append front (b ∷ more)))
       ]
 
-  -- no digit is there
+  -- there is no digit
   pub at_start : count ≡ 0 → few_digits (first (ended_parts 44 line)) ≡ None
   at_start none =
       no_digit line (λ lt.
@@ -415,11 +415,11 @@ onto_space : (parts : List (List ℕ)) → 0 < length parts →
 onto_space [] some = absurd (omega arith)
 onto_space (x ∷ xs) some = refl
 
--- a space before a line changes no field
+-- a space in front of a line changes no field
 pub fields_behind_space : (line : List ℕ) → 0 < length line → fields_of line ≡ fields_of (32 ∷ line)
 fields_behind_space line some = sym (onto_space (ended_parts 44 line) (parts_some 44 line some))
 
--- a space at the start of a line that goes on changes no field
+-- a space at the start of a line with more text changes no field
 fields_space : (line : List ℕ) → 0 < length (without_space line) →
     fields_of (without_space line) ≡ fields_of line
 fields_space [] some = refl
@@ -453,7 +453,7 @@ module _ (line : List ℕ) (value : ℕ)
       ∙ ap (number limit) (first-trimmed (ended_parts 44 other))
       ∙ number-few (first (ended_parts 44 other)) value limit said
 
-  -- and the others are those behind it
+  -- the other fields are those after it
   pub rest_first : (behind : List ℕ) → ended_parts 44 behind ≡ rest (ended_parts 44 other) →
       fields_of behind ≡ rest (fields_of line)
   rest_first behind are =

@@ -1,4 +1,4 @@
--- What the answers of the two readers say by the relations of text and item.
+-- The results of the two readers, by the relations of text and item.
 use Rattle.std.proofs.Common.{◌≡◌, ◌≢◌, ℕ, ◌+◌, ◌≤◌, ◌==◌, List, [], length, map, Some}
 use Rattle.std.proofs.Common.{Result, Ok, Err, IfOk, IfErr, sym, ap, ◌∙◌, refl, subst, arith}
 use Rattle.std.proofs.lemmas.List.{length-map}
@@ -24,7 +24,7 @@ use Rattle.office_files.proofs.ReadingLaws.{bind_ok, ok_same}
 use Rattle.office_files.proofs.SolutionLaws.{solution_is_text, text_is_solution, places_exist}
 
 module _ {X : Type 0} (view : X → Session × Enrolled) (b : List ℕ) where
-  -- what is answered is spelled so
+  -- the text describes the result
   pub instance_reading : (r : Result X FileFault) → AnswersReading view r (instance_in b)
       → IfOk r (λ x. InstanceText b (view x).0 (view x).1)
   instance_reading (Ok x) is = read_is_text b (view x).0 (view x).1 is
@@ -58,7 +58,7 @@ module _ {X : Type 0} (view : X → Session × Enrolled) (b : List ℕ) where
   instance_fits (Err f) is = tt
 
 module _ {X : Type 0} (view : X → Placing) (I : Session) (b : List ℕ) where
-  -- what is answered is spelled so
+  -- the text describes the result
   pub solution_reading : (r : Result X FileFault) → AnswersReading view r (solution_in I b)
       → IfOk r (λ x. SolutionText b I (view x))
   solution_reading (Ok x) is = solution_is_text I b (view x) is

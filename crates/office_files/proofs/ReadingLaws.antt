@@ -1,4 +1,4 @@
--- What lines that were read say, one by one, and that they are read so.
+-- The values of lines that were read, one by one, and the reading of lines with these values.
 use Rattle.std.proofs.Common.{◌≡◌, ℕ, zero, suc, ◌<◌, ◌≤◌, Bool, true, false, List, [], ◌∷◌, ◌++◌, length, take, Some, Result, Ok, Err, refl, ap, sym, ◌∙◌, subst, arith}
 use Rattle.std.specs.Prelude.{All, slice_get, nat_le, if◌then◌else◌}
 use Rattle.std.proofs.lemmas.Bool.{leb-true}
@@ -18,12 +18,12 @@ pub bind_ok : {A B F : Type 0} (r : Result A F) (f : A → Result B F) (y : B) �
 bind_ok (Ok x) f y e = (x, refl, e)
 bind_ok (Err d) f y e = cc
 
--- and goes on where there is something
+-- a result is passed on to the next reading
 pub ok_bind : {A B F : Type 0} (r : Result A F) (f : A → Result B F) (x : A) (y : B) → r ≡ Ok x →
     f x ≡ Ok y → (r >>= f) ≡ Ok y
 ok_bind r f x y is more = rw is more
 
--- a judgement gives one thing
+-- a reading has one result
 pub ok_same : {A F : Type 0} (r : Result A F) (x y : A) → r ≡ Ok x → r ≡ Ok y → x ≡ y
 ok_same r x y one other = cc
 
@@ -34,24 +34,24 @@ same_pair r x v y w one other =
     let both = ok_same r (x, y) (v, w) one other in
     (ap (λ p. p.0) both, ap (λ p. p.1) both)
 
--- what a line says is what its text says
+-- the value of a line is that of its text
 pub at_line_ok : {A : Type 0} (line : ℕ) (r : Result A FaultKind) (x : A) → at_line line r ≡ Ok x →
     r ≡ Ok x
 at_line_ok line (Ok y) x e = cc
 at_line_ok line (Err d) x e = cc
 
--- and what a text says is what its line says
+-- the value of a text is that of its line
 pub ok_at_line : {A : Type 0} (line : ℕ) (r : Result A FaultKind) (x : A) → r ≡ Ok x →
     at_line line r ≡ Ok x
 ok_at_line line r x is = rw is refl
 
--- what was not refused holds
+-- a condition holds if it is not refused
 pub unless_ok : {F : Type 0} (b : Bool) (fault : F) (u : Unit {0}) → unless b fault ≡ Ok u →
     b ≡ true
 unless_ok true fault u e = refl
 unless_ok false fault u e = cc
 
--- and what holds is not refused
+-- a condition is not refused if it holds
 pub ok_unless : {F : Type 0} (b : Bool) (fault : F) → b ≡ true → unless b fault ≡ Ok tt
 ok_unless b fault holds = rw holds refl
 
@@ -70,7 +70,7 @@ number_le limit text n e =
     omega (arith, leb-true (read_on 0 text) limit by.0)
 
 module _ {A : Type 0} (read : List A → List (List ℕ) → Result A FaultKind) where
-  -- lines spell items behind others
+  -- lines describe items that follow others
   record SpellBehind (before : List A) (lines : List Located) (items : List A) : Type 0 where
     pub as_many : length items ≡ length lines
     pub each : (i : ℕ) (line : Located) (item : A) → slice_get lines i ≡ Some line
@@ -92,7 +92,7 @@ module _ {A : Type 0} (read : List A → List (List ℕ) → Result A FaultKind)
   no_lines : (before all : List A) → items_of read before [] ≡ Ok all → before ≡ all
   no_lines before all e = cc
 
-  -- what was read is what stood before, and what the lines spell
+  -- the items read are those from before, and those that the lines describe
   read_behind : (before : List A) (lines : List Located) (all : List A) →
       items_of read before lines ≡ Ok all →
       (items : List A) × (all ≡ before ++ items) × SpellBehind before lines items
@@ -110,7 +110,7 @@ module _ {A : Type 0} (read : List A → List (List ℕ) → Result A FaultKind)
         },
       )
 
-  -- what lines spell behind others is read so
+  -- the items that lines describe after others are read
   behind_read : (before : List A) (lines : List Located) (items : List A) →
       SpellBehind before lines items → items_of read before lines ≡ Ok (before ++ items)
   behind_read before [] [] s = rw append-nil refl
@@ -125,14 +125,14 @@ module _ {A : Type 0} (read : List A → List (List ℕ) → Result A FaultKind)
       }) in
       rw head (tail ∙ rw append_assoc refl)
 
-  -- what was read is spelled
+  -- the lines describe the items read
   pub items_spelled : (lines : List Located) (items : List A) → items_of read [] lines ≡ Ok items →
       Spell read lines items
   items_spelled lines items e =
       let found = read_behind [] lines items e in
       rw found.1 (record { as_many = found.2.as_many; each = found.2.each })
 
-  -- what is spelled is read
+  -- the items that the lines describe are read
   pub spelled_items : (lines : List Located) (items : List A) → Spell read lines items →
       items_of read [] lines ≡ Ok items
   spelled_items lines items s =
@@ -149,7 +149,7 @@ module _ {A : Type 0} (read : List A → List (List ℕ) → Result A FaultKind)
       let one = says before (fields_of line.text) head.0 is in
       all_behind P says (before ++ head.0 ∷ []) lines all (All-push P before head.0 held one) head.2
 
-  -- what each line gives, each item has
+  -- a fact about the result of each line holds for each item
   pub items_all : (P : A → Type 0) →
       ((before : List A) (fields : List (List ℕ)) (x : A) → read before fields ≡ Ok x → P x) →
       (lines : List Located) (items : List A) → items_of read [] lines ≡ Ok items → All P items
@@ -169,14 +169,14 @@ module _ {A : Type 0} (read : List A → List (List ℕ) → Result A FaultKind)
       within_behind n says (before ++ head.0 ∷ []) lines all
       (omega (arith, length-append before (head.0 ∷ []))) head.2
 
-  -- where a line is refused behind so many items, there are no more
+  -- if a line is refused after this many items, there are no more
   pub items_within : (n : ℕ) →
       ((before : List A) (fields : List (List ℕ)) (x : A) → read before fields ≡ Ok x →
       length before < n) →
       (lines : List Located) (items : List A) → items_of read [] lines ≡ Ok items → length items ≤ n
   items_within n says lines items e = within_behind n says [] lines items (omega arith) e
 
-  -- each line gives one item
+  -- there is one item for each line
   pub items_length : (lines : List Located) (items : List A) → items_of read [] lines ≡ Ok items →
       length items ≡ length lines
   items_length lines items e = (items_spelled lines items e).as_many

@@ -22,7 +22,7 @@ use Rattle.office_files.proofs.ReadingLaws.{bind_ok, at_line_ok, ok_at_line, sam
 abbrev NoHeader : Located → Type 0
 NoHeader line = is_header line.text ≡ false
 
--- there are as many lines before the next header as that says
+-- this is the number of lines before the next header
 length-size : (rows : List Located) → length (take (section_size rows) rows) ≡ section_size rows
 length-size [] = refl
 length-size (row ∷ rows) = elim (cases_Bool (is_header row.text)) [
@@ -39,7 +39,7 @@ no_header-size (row ∷ rows) = elim (cases_Bool (is_header row.text)) [
       (All-cons NoHeader row (take (section_size rows) rows) e (no_header-size rows))
 ]
 
--- and behind them is one, or nothing
+-- they are followed by a header, or by nothing
 at_header-size : (rows : List Located) → AtHeader (drop (section_size rows) rows)
 at_header-size [] = tt
 at_header-size (row ∷ rows) = elim (cases_Bool (is_header row.text)) [
@@ -60,7 +60,7 @@ size-body (line ∷ body) behind none at =
     let others = size-body body behind (All-tail NoHeader line body none) at in
     rw (other, others) (add-one (length body))
 
--- a header with a number has that of the lines, at least one and at most the limit
+-- a header with a number has that of the lines, from one to the limit
 counted_lines : (word : List ℕ) (limit lines : ℕ) (text : List ℕ) →
     counted_header word limit lines text ≡ Ok tt → (1 ≤ lines) × (lines ≤ limit)
 counted_lines word limit lines text e =
@@ -107,7 +107,7 @@ module _ {A : Type 0} (heading : Heading) (read : List A → List (List ℕ) →
       subst (λ xs. IsSection heading read (line ∷ lines) items xs) both.1
       (subst (λ xs. IsSection heading read (line ∷ lines) xs (drop size lines)) both.0 is)
 
-  -- and one that is there is read so
+  -- a section that is there is read
   pub is_section : (end : ℕ) (lines : List Located) (items : List A) (behind : List Located) →
       IsSection heading read lines items behind →
       section_in heading read end lines ≡ Ok (items, behind)
@@ -119,7 +119,7 @@ module _ {A : Type 0} (heading : Heading) (read : List A → List (List ℕ) →
       let left = drop_at s.body behind (length s.body) refl in
       rw (s.cut, size, headed, taken, left, spelled_items read s.body items s.spelled) refl
 
-  -- a section with a number has at least one item, and at most as many as its limit
+  -- a section with a number has at least one item, and at most its limit
   pub counted_section : (limit : ℕ) (lines : List Located) (items : List A)
       (behind : List Located) →
       heading.limit ≡ Some limit → IsSection heading read lines items behind →

@@ -1,4 +1,4 @@
--- Each piece of a text lies in it where its place says.
+-- Each piece of a text is at its recorded place in it.
 use Rattle.std.proofs.Common.{◌≡◌, ℕ, suc, ◌+◌, ◌-◌, ◌<◌, ◌≤◌, true, false, List, [], ◌∷◌, ◌++◌}
 use Rattle.std.proofs.Common.{length, drop, refl, ap, subst, sym, ◌∙◌, arith, append_assoc}
 use Rattle.std.proofs.Common.{length-append, length-drop, append-nil}
@@ -12,7 +12,7 @@ use Rattle.office_files.specs.Lines.{lines_from, lines_of, is_header}
 use Rattle.office_files.specs.Tokens.{tokens_in, tokens_of, IsSliceOf}
 use Rattle.office_files.proofs.LineLemmas.{drop_next}
 
--- the text stands in the source from the place on
+-- the source has the text from this index on
 pub record Lies (source : List ℕ) (start : ℕ) (text : List ℕ) : Type 0 where
   pub within : start ≤ length source
   pub tail : List ℕ
@@ -22,7 +22,7 @@ some_within : (source : List ℕ) (at b : ℕ) (xs : List ℕ) → drop at sourc
     at < length source
 some_within source at b xs e = let len = ap length e in omega (arith, length-drop at source)
 
--- a text that lies there is that slice
+-- a text at this place is that slice
 pub lies_slice : (source : List ℕ) (line : ℕ) (start end : ℕ) (text : List ℕ) →
     end ≡ start + length text → Lies source start text →
     IsSliceOf source (record { line = line; start = start; end = end; text = text })
@@ -40,7 +40,7 @@ lies_slice source line start end text e l =
 abbrev pub AllLie : List ℕ → List Piece → Type 0
 AllLie source = AllByRecursion (λ (p : Piece). Lies source p.start p.text)
 
--- a byte more at the front of the first part
+-- one more byte at the front of the first part
 onto_lie : (source : List ℕ) (at b : ℕ) (bs tail : List ℕ) (parts : List (List ℕ)) →
     drop at source ≡ b ∷ (bs ++ tail) → AllLie source (placed (at + 1) parts) →
     AllLie source (placed at (onto_first b parts))
@@ -59,7 +59,7 @@ onto_lie source at b bs tail (x ∷ xs) e all =
       subst (λ k. AllLie source (placed k xs)) same all.1,
     )
 
--- the parts of a text that lies in the source lie there
+-- the parts of a text in the source are in the source
 pub parts_lie : (c : ℕ) (text : List ℕ) (source : List ℕ) (at : ℕ) (tail : List ℕ) →
     drop at source ≡ text ++ tail → AllLie source (placed at (ended_parts c text))
 parts_lie c [] source at tail e = tt
@@ -139,7 +139,7 @@ return_front (b ∷ []) =
     ]
 return_front (b ∷ c ∷ cs) = let f = return_front (c ∷ cs) in (f.0, ap (λ (xs : List ℕ). b ∷ xs) f.1)
 
--- what a located text says
+-- the facts about a located text
 pub record Stands (source : List ℕ) (s : Located) : Type 0 where
   pub lies : Lies source s.start s.text
   pub end : s.end ≡ s.start + length s.text

@@ -15,7 +15,7 @@ use Rattle.office_files.specs.declared.fault.FaultKind.TheVariants.{TooLong, Cou
 use Rattle.office_files.proofs.ItemLaws.{PlaceExists, place_within}
 use Rattle.office_files.proofs.ReadingLaws.{bind_ok, ok_bind, at_line_ok, ok_at_line, ok_same, unless_ok, ok_unless, items_spelled, spelled_items, items_all}
 
--- what was read is spelled
+-- the text describes the result of its reading
 pub solution_is_text : (I : Session) (b : List ℕ) (T : Placing) → solution_in I b ≡ Ok T →
     SolutionText b I T
 solution_is_text I b T e =
@@ -36,7 +36,7 @@ solution_is_text I b T e =
       timetable = ok_same _ T (map Some places.0) refl (sym all.2);
     }
 
--- what is spelled is read
+-- a timetable that a text describes is read from it
 pub text_is_solution : (I : Session) (b : List ℕ) (T : Placing) → SolutionText b I T →
     solution_in I b ≡ Ok T
 text_is_solution I b T t =

@@ -1,10 +1,10 @@
--- A timetable whose exams stand at these places.
+-- A timetable with these places.
 use Rattle.std.proofs.Common.{◌≡◌, ℕ, suc, ◌<◌, List, [], ◌∷◌, length, Some, refl, arith}
 use Rattle.std.specs.Prelude.{map, slice_get}
 use Rattle.exam_model.specs.Timetable.{Placing, place_of}
 use Rattle.exam_terms.specs.declared.place.Place.{Place}
 
--- each exam stands at its place of the list
+-- each exam has its place from the list
 pub all_placed : (T : Placing) (places : List Place) → length T ≡ length places
     → ((k : ℕ) → k < length places → place_of T k ≡ slice_get places k) → T ≡ map Some places
 all_placed [] [] same at = refl

@@ -1,4 +1,4 @@
--- Where a text is cut once.
+-- The first cut of a text.
 use Rattle.std.proofs.Common.{◌≡◌, ℕ, zero, suc, ◌+◌, ◌<◌, List, [], ◌∷◌, length, get_or, take}
 use Rattle.std.proofs.Common.{drop, Some, None, refl, arith, add-one}
 use Rattle.std.proofs.lemmas.Bool.{eq-eqb, ne_eqb}

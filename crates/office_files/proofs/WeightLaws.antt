@@ -35,7 +35,7 @@ use Rattle.office_files.proofs.WeightLemmas.{one_more}
 
 -- ---- one word among the lines of a section
 
--- a weight by its word, and behind how many numbers of the line it stands
+-- a weight by its word, and how many numbers of the line come before it
 record IsWeight (w : WeightWord) (place : ℕ) (get : Weights → ℕ) : Type 0 where
   pub none : get no_weights ≡ 0
   pub hit : (fields : List (List ℕ)) (s : Weighting) (x : Weights) → weighting_by w fields ≡ Ok s
@@ -45,14 +45,14 @@ record IsWeight (w : WeightWord) (place : ℕ) (get : Weights → ℕ) : Type 0 
 
 module _ (w : WeightWord) (place : ℕ) (get : Weights → ℕ) (is : IsWeight w place get)
     (counts : Counts) where
-  -- how a line is read, and the weight that so many lines say
+  -- the reading of a line, and the weight by this many lines
   abbrev reads : List Weighting → List (List ℕ) → Result Weighting FaultKind
   reads = weighting_line counts
 
   abbrev weight : List Weighting → ℕ
   weight ss = get (with_weightings no_weights ss)
 
-  -- a line of another word; one of the word, with the weight; of two, only the first has the word
+  -- the line doesn't begin with the word
   abbrev Lacks : Located → Type 0
   Lacks line = begins_with (text_of w) line ≡ false
 
@@ -63,7 +63,7 @@ module _ (w : WeightWord) (place : ℕ) (get : Weights → ℕ) (is : IsWeight w
   abbrev Alone : Located → Located → Type 0
   Alone line other = begins_with (text_of w) line ≡ true → begins_with (text_of w) other ≡ false
 
-  -- a line begins with the word just where what it says has it
+  -- a line begins with the word exactly if its weighting has it
   begun : (before : List Weighting) (line : Located) (s : Weighting)
       → WasRead before (fields_of line.text) s → has_word w s ≡ true
       → begins_with (text_of w) line ≡ true
@@ -81,7 +81,7 @@ module _ (w : WeightWord) (place : ℕ) (get : Weights → ℕ) (is : IsWeight w
   passed before s other =
       ap get (one_more no_weights before s) ∙ is.miss s (with_weightings no_weights before) other
 
-  -- once the word has come, no line has it, and its weight stays
+  -- after the line of the word, no line has it, and its weight doesn't change
   come : (before : List Weighting) (lines : List Located) (all : List Weighting)
       → list_any (has_word w) before ≡ true → items_of reads before lines ≡ Ok all
       → All Lacks lines × (weight all ≡ weight before)
@@ -109,7 +109,7 @@ module _ (w : WeightWord) (place : ℕ) (get : Weights → ℕ) (is : IsWeight w
       (list_any-append (has_word w) before (head.0 ∷ []) ∙ rw there refl) head.2 in
       (All-cons Lacks line lines lacks more.0, more.1 ∙ passed before head.0 other)
 
-  -- before the word has come, the lines say its weight
+  -- before the line of the word, the lines have its weight
   says_behind : (before : List Weighting) (lines : List Located) (all : List Weighting)
       → list_any (has_word w) before ≡ false → weight before ≡ 0
       → items_of reads before lines ≡ Ok all
@@ -163,15 +163,16 @@ module _ (w : WeightWord) (place : ℕ) (get : Weights → ℕ) (is : IsWeight w
 
 -- ---- each weight by its word
 
--- the numbers that stand behind a word, zero in the place of one that is not there
+-- the numbers after a word; 0 for a missing one
 abbrev numbers_of : WeightWord → Weights → ℕ × ℕ × ℕ
 numbers_of word.Row w = (w.row, 0, 0)
 numbers_of word.Day w = (w.day, 0, 0)
 numbers_of word.Spread w = (w.spread, 0, 0)
 numbers_of word.Mixed w = (w.mixed, 0, 0)
 numbers_of word.Front w = (w.front_exams, w.front_periods, w.front)
+numbers_of word.Night w = (w.night, 0, 0)
 
--- a line of another word leaves them
+-- a line of another word doesn't change them
 missed : (w : WeightWord) (s : Weighting) (x : Weights) → has_word w s ≡ false
     → numbers_of w (with_weighting x s) ≡ numbers_of w x
 missed word.Row (said.Row n) x other = absurd (true≢false other)
@@ -179,6 +180,7 @@ missed word.Day (said.Day n) x other = absurd (true≢false other)
 missed word.Spread (said.Spread n) x other = absurd (true≢false other)
 missed word.Mixed (said.Mixed n) x other = absurd (true≢false other)
 missed word.Front (said.Front n k v) x other = absurd (true≢false other)
+missed word.Night (said.Night n) x other = absurd (true≢false other)
 missed _ _ x other = refl
 
 is_row : IsWeight word.Row 0 (λ x. x.row)
@@ -244,6 +246,15 @@ is_front = record {
   miss = λ s x other. ap (λ n. n.2) (missed word.Front s x other);
 }
 
+is_night : IsWeight word.Night 0 (λ x. x.night)
+is_night = record {
+  none = refl;
+  hit = λ fields s x is.
+      let one = one_read said.Night fields s is in
+      one.1 ∙ ap (λ t. Ok (with_weighting x t).night) one.2;
+  miss = λ s x other. ap (λ n. n.0) (missed word.Night s x other);
+}
+
 module _ (counts : Counts) (lines : List Located) (ss : List Weighting)
     (read : items_of (weighting_line counts) [] lines ≡ Ok ss) where
   says : (w : WeightWord) (place : ℕ) (get : Weights → ℕ) → IsWeight w place get
@@ -259,6 +270,7 @@ module _ (counts : Counts) (lines : List Located) (ss : List Weighting)
     front_exams = says word.Front 0 (λ x. x.front_exams) is_front_exams;
     front_periods = says word.Front 1 (λ x. x.front_periods) is_front_periods;
     front = says word.Front 2 (λ x. x.front) is_front;
+    night = says word.Night 0 (λ x. x.night) is_night;
   }
 
 -- ---- the last section
@@ -282,18 +294,18 @@ skipped (x ∷ xs) ys there =
 module _ {A : Type 0} (heading : Heading) (read : List A → List (List ℕ) → Result A FaultKind)
     (lines : List Located) (items : List A) (behind : List Located)
     (s : IsSection heading read lines items behind) where
-  -- a section that begins at a header has it
+  -- a section that begins at a header has a header
   section_headed : AtHeader lines → has_header lines ≡ true
   section_headed at =
       let headed : is_header s.header.text ≡ true = subst AtHeader s.cut at in
       rw (s.cut, headed) refl
 
-  -- behind it the last section is that of the lines behind
+  -- then the last section is that of the lines after it
   section_skipped : has_header behind ≡ true → last_section lines ≡ last_section behind
   section_skipped there =
       ap last_section s.cut ∙ (skipped (s.header ∷ s.body) behind there).1
 
--- the last section has nothing behind it
+-- the last section is followed by nothing
 section_last : {A : Type 0} (heading : Heading) (read : List A → List (List ℕ) → Result A FaultKind)
     (lines : List Located) (items : List A) (s : IsSection heading read lines items [])
     → AtHeader lines → last_section lines ≡ s.body

@@ -1,4 +1,4 @@
--- What one line of the weightings says: its word, and the numbers behind it.
+-- The values of one line of the weightings: its word, and the numbers after it.
 use Rattle.std.proofs.Common.{◌≡◌, ℕ, Bool, true, false, List, [], ◌∷◌, ◌++◌, Result, Ok, Err, refl, ap, sym, subst, ◌∙◌}
 use Rattle.std.specs.Prelude.{not, codes, if◌then◌else◌}
 use Rattle.std.specs.List.{list_any}
@@ -31,12 +31,13 @@ text_of word.Day = codes "TWOINADAY"
 text_of word.Spread = codes "PERIODSPREAD"
 text_of word.Mixed = codes "NONMIXEDDURATIONS"
 text_of word.Front = codes "FRONTLOAD"
+text_of word.Night = codes "OVERNIGHT"
 
 -- whether a text is a word, in large or small letters
 abbrev is_word : WeightWord → List ℕ → Bool
 is_word w text = str_eq_ignore_ascii_case text (text_of w)
 
--- a text that is one word is no other
+-- a text is at most one word
 no_other : (w v : WeightWord) (text : List ℕ) → is_word w text ≡ true
     → is_word v (text_of w) ≡ false → is_word v text ≡ false
 no_other w v text is differ =
@@ -69,52 +70,66 @@ word_read word.Front text is =
       no_other word.Front word.Mixed text is refl,
       is,
     ) refl
+word_read word.Night text is =
+    rw (
+      no_other word.Night word.Row text is refl,
+      no_other word.Night word.Day text is refl,
+      no_other word.Night word.Spread text is refl,
+      no_other word.Night word.Mixed text is refl,
+      no_other word.Night word.Front text is refl,
+      is,
+    ) refl
 
--- one of five tests, that of the word
-abbrev test_of : WeightWord → Bool → Bool → Bool → Bool → Bool → Bool
-test_of word.Row a b c d e = a
-test_of word.Day a b c d e = b
-test_of word.Spread a b c d e = c
-test_of word.Mixed a b c d e = d
-test_of word.Front a b c d e = e
+-- one of six tests, that of the word
+abbrev test_of : WeightWord → Bool → Bool → Bool → Bool → Bool → Bool → Bool
+test_of word.Row a b c d e f = a
+test_of word.Day a b c d e f = b
+test_of word.Spread a b c d e f = c
+test_of word.Mixed a b c d e f = d
+test_of word.Front a b c d e f = e
+test_of word.Night a b c d e f = f
 
-test_held : (a b c d e : Bool) (w : WeightWord) →
+test_held : (a b c d e f : Bool) (w : WeightWord) →
     ◌≡◌ {A = Result WeightWord FaultKind}
     (if a then Ok word.Row else (if b then Ok word.Day else (if c then Ok word.Spread
-    else (if d then Ok word.Mixed else (if e then Ok word.Front else Err BadWord))))) (Ok w) →
-    test_of w a b c d e ≡ true
-test_held true b c d e word.Row is = refl
-test_held false true c d e word.Day is = refl
-test_held false false true d e word.Spread is = refl
-test_held false false false true e word.Mixed is = refl
-test_held false false false false true word.Front is = refl
-test_held _ _ _ _ _ _ is = cc
+    else (if d then Ok word.Mixed else (if e then Ok word.Front
+    else (if f then Ok word.Night else Err BadWord)))))) (Ok w) →
+    test_of w a b c d e f ≡ true
+test_held true b c d e f word.Row is = refl
+test_held false true c d e f word.Day is = refl
+test_held false false true d e f word.Spread is = refl
+test_held false false false true e f word.Mixed is = refl
+test_held false false false false true f word.Front is = refl
+test_held false false false false false true word.Night is = refl
+test_held _ _ _ _ _ _ _ is = cc
 
 tested : (w : WeightWord) (text : List ℕ) → test_of w (is_word word.Row text)
     (is_word word.Day text) (is_word word.Spread text) (is_word word.Mixed text)
-    (is_word word.Front text) ≡ is_word w text
+    (is_word word.Front text) (is_word word.Night text) ≡ is_word w text
 tested word.Row text = refl
 tested word.Day text = refl
 tested word.Spread text = refl
 tested word.Mixed text = refl
 tested word.Front text = refl
+tested word.Night text = refl
 
 -- a text that is read as a word is that word
 pub read_word : (w : WeightWord) (text : List ℕ) → weight_word text ≡ Ok w → is_word w text ≡ true
 read_word w text is =
     sym (tested w text)
     ∙ test_held (is_word word.Row text) (is_word word.Day text) (is_word word.Spread text)
-    (is_word word.Mixed text) (is_word word.Front text) w is
+    (is_word word.Mixed text) (is_word word.Front text) (is_word word.Night text) w is
 
--- ---- what one line says
+-- ---- the values of one line
 
--- the word of what a line says
+-- the word of a weighting
 abbrev pub word_of : Weighting → WeightWord
 word_of (said.Row n) = word.Row
 word_of (said.Day n) = word.Day
 word_of (said.Spread n) = word.Spread
 word_of (said.Mixed n) = word.Mixed
 word_of (said.Front n k v) = word.Front
+word_of (said.Night n) = word.Night
 
 pub has_its_word : (s : Weighting) → has_word (word_of s) s ≡ true
 has_its_word (said.Row n) = refl
@@ -122,6 +137,7 @@ has_its_word (said.Day n) = refl
 has_its_word (said.Spread n) = refl
 has_its_word (said.Mixed n) = refl
 has_its_word (said.Front n k v) = refl
+has_its_word (said.Night n) = refl
 
 pub its_word : (w : WeightWord) (s : Weighting) → has_word w s ≡ true → word_of s ≡ w
 its_word word.Row (said.Row n) has = refl
@@ -129,6 +145,7 @@ its_word word.Day (said.Day n) has = refl
 its_word word.Spread (said.Spread n) has = refl
 its_word word.Mixed (said.Mixed n) has = refl
 its_word word.Front (said.Front n k v) has = refl
+its_word word.Night (said.Night n) has = refl
 its_word _ _ has = cc
 
 amount_read : (fields : List (List ℕ)) (n : ℕ) → amount_in fields ≡ Ok n
@@ -138,7 +155,7 @@ amount_read fields n is =
     let end = bind_ok (ended (rest fields)) _ n amount.2 in
     amount.1 ∙ end.2
 
--- one number, said by a word
+-- one number after a word
 pub one_read : (make : ℕ → Weighting) (fields : List (List ℕ)) (s : Weighting)
     → (amount_in fields >>= λ n. Ok (make n)) ≡ Ok s
     → (n : ℕ) × (number MAX_AMOUNT (first fields) ≡ Ok n) × (make n ≡ s)
@@ -158,7 +175,7 @@ front_read fields s is =
     let end = bind_ok (ended (rest (rest (rest fields)))) _ s weight.2 in
     (exams.0, periods.0, weight.0, exams.1, periods.1, weight.1, ok_same _ _ s refl end.2)
 
--- what is read by a word has that word
+-- a weighting read by a word has that word
 by_word : (w : WeightWord) (fields : List (List ℕ)) (s : Weighting) → weighting_by w fields ≡ Ok s
     → w ≡ word_of s
 by_word word.Row fields s is = ap word_of (one_read said.Row fields s is).2
@@ -166,8 +183,9 @@ by_word word.Day fields s is = ap word_of (one_read said.Day fields s is).2
 by_word word.Spread fields s is = ap word_of (one_read said.Spread fields s is).2
 by_word word.Mixed fields s is = ap word_of (one_read said.Mixed fields s is).2
 by_word word.Front fields s is = ap word_of (front_read fields s is).6
+by_word word.Night fields s is = ap word_of (one_read said.Night fields s is).2
 
--- a line that was read: its word, which no line before it has, and its numbers
+-- a line that was read: its word, which no earlier line has, and its numbers
 pub record WasRead (before : List Weighting) (fields : List (List ℕ)) (s : Weighting) : Type 0 where
   pub word : weight_word (first fields) ≡ Ok (word_of s)
   pub new : list_any (has_word (word_of s)) before ≡ false
@@ -190,7 +208,7 @@ was_read counts before fields s is =
       by = subst (λ v. weighting_by v (rest fields) ≡ Ok s) same new.2;
     }
 
--- what one more line says comes on top
+-- the weight of one more line is added to the others
 pub one_more : (w : Weights) (ss : List Weighting) (s : Weighting)
     → with_weightings w (ss ++ s ∷ []) ≡ with_weighting (with_weightings w ss) s
 one_more w [] s = refl

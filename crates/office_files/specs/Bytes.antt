@@ -5,26 +5,26 @@ use Rattle.std.specs.Prelude.{ℕ}
 abbrev pub space : ℕ
 space = 32
 
--- what stands between the fields of a line
+-- the byte between the fields of a line
 abbrev pub comma : ℕ
 comma = 44
 
--- what stands in dates and times, and before the number of lines in a header
+-- the byte in dates and times, and before the number of lines in a header
 abbrev pub colon : ℕ
 colon = 58
 
--- what ends a line
+-- the byte at the end of a line
 abbrev pub line_feed : ℕ
 line_feed = 10
 
--- what may stand before it
+-- the byte that may precede it
 abbrev pub carriage_return : ℕ
 carriage_return = 13
 
--- what a header begins with
+-- the first byte of a header
 abbrev pub opening_bracket : ℕ
 opening_bracket = 91
 
--- what it ends with
+-- the last byte of a header
 abbrev pub closing_bracket : ℕ
 closing_bracket = 93

@@ -10,13 +10,13 @@ use Rattle.exam_calendar.specs.declared.date.Date.{Date}
 use Rattle.office_files.specs.Bytes.{space, comma, colon, line_feed, carriage_return}
 use Rattle.office_files.specs.ExamLines.{ExamLine}
 use Rattle.office_files.specs.declared.weightings.Weighting.{Weighting}
-use Rattle.office_files.specs.declared.weightings.Weighting.TheVariants.{Row, Day, Spread, Mixed, Front}
+use Rattle.office_files.specs.declared.weightings.Weighting.TheVariants.{Row, Day, Spread, Mixed, Front, Night}
 
 -- a line and its end, a carriage return and a line feed
 abbrev pub line_of : List ℕ → List ℕ
 line_of text = text ++ carriage_return ∷ line_feed ∷ []
 
--- a field before the others of a line: a comma and a space stand between
+-- a field in front of the others of a line, with a comma and a space between
 abbrev pub before : List ℕ → List ℕ → List ℕ
 before field others = field ++ comma ∷ space ∷ others
 
@@ -59,11 +59,11 @@ period_rule_text (Exclusion a b) = before (decimal a) (before (codes "EXCLUSION"
 abbrev pub room_rule_text : RoomRule → List ℕ
 room_rule_text r = before (decimal r.0) (codes "ROOM_EXCLUSIVE")
 
--- a word and its number, a comma alone between them
+-- a word and its number, with only a comma between
 abbrev pub weighed : List ℕ → ℕ → List ℕ
 weighed word n = word ++ comma ∷ decimal n
 
--- a weighting; a comma alone stands between its fields
+-- a weighting, with only commas between its fields
 abbrev pub weighting_text : Weighting → List ℕ
 weighting_text (Row w) = weighed (codes "TWOINAROW") w
 weighting_text (Day w) = weighed (codes "TWOINADAY") w
@@ -71,3 +71,4 @@ weighting_text (Spread g) = weighed (codes "PERIODSPREAD") g
 weighting_text (Mixed w) = weighed (codes "NONMIXEDDURATIONS") w
 weighting_text (Front n k w) =
     weighed (codes "FRONTLOAD") n ++ comma ∷ (decimal k ++ comma ∷ decimal w)
+weighting_text (Night w) = weighed (codes "OVERNIGHT") w

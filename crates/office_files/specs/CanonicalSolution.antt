@@ -13,7 +13,7 @@ use Rattle.office_files.specs.declared.fault.FileFault.{FileFault}
 abbrev pub place_text : Place → List ℕ
 place_text p = before (decimal p.period) (decimal p.room)
 
--- the line of an exam that stands somewhere
+-- the line of an exam, if it is placed
 abbrev pub slot_text : Option Place → List ℕ
 slot_text None = []
 slot_text (Some p) = line_of (place_text p)
@@ -28,7 +28,7 @@ pub record SuitsTimetable (I : Session) (T : Placing) : Type 0 where
   pub exams : length T ≡ length I.exams
   pub places : All (PlaceExists I) T
 
--- the fault of a timetable in which an exam is not placed: the smallest one's line, counted from 1
+-- the fault of a timetable in which an exam is not placed: the line of the smallest one, from 1
 pub record IsIncomplete (T : Placing) (fault : FileFault) : Type 0 where
   pub exam : ℕ
   pub first : IsFirstUnplaced T exam

@@ -1,5 +1,5 @@
 -- The canonical text of an instance: the one text of it that is written.
-use Rattle.std.specs.Prelude.{ℕ, ◌++◌, List, [], ◌∷◌, length, Option, Some, None, decimal}
+use Rattle.std.specs.Prelude.{ℕ, zero, suc, ◌++◌, List, [], ◌∷◌, length, Option, Some, None, decimal}
 use Rattle.std.specs.List.{flat_map}
 use Rattle.exam_model.specs.Instance.{Session}
 use Rattle.exam_model.specs.Enrolments.{Enrolled}
@@ -13,13 +13,18 @@ use Rattle.office_files.specs.Headers.{Heading}
 use Rattle.office_files.specs.CanonicalLines.{line_of, exam_text, period_text, room_text}
 use Rattle.office_files.specs.CanonicalLines.{period_rule_text, room_rule_text, weighting_text}
 use Rattle.office_files.specs.declared.weightings.Weighting.{Weighting}
-use Rattle.office_files.specs.declared.weightings.Weighting.TheVariants.{Row, Day, Spread, Mixed, Front}
+use Rattle.office_files.specs.declared.weightings.Weighting.TheVariants.{Row, Day, Spread, Mixed, Front, Night}
 
--- all five weightings
+-- the weighting of nights, if it isn't 0
+abbrev pub nights_of : ℕ → List Weighting
+nights_of zero = []
+nights_of (suc n) = Night (suc n) ∷ []
+
+-- the five weightings of ITC 2007, and that of nights, if it isn't 0
 abbrev pub weightings_of : Weights → List Weighting
 weightings_of w =
     Row w.row ∷ Day w.day ∷ Spread w.spread ∷ Mixed w.mixed
-    ∷ Front w.front_exams w.front_periods w.front ∷ []
+    ∷ Front w.front_exams w.front_periods w.front ∷ nights_of w.night
 
 -- the exams with their students
 abbrev pub exam_lines_of : List Exam → Enrolled → List ExamLine
@@ -28,12 +33,12 @@ exam_lines_of (e ∷ es) [] = []
 exam_lines_of (e ∷ es) (students ∷ E) =
     record { minutes = e.minutes; students = students } ∷ exam_lines_of es E
 
--- what stands behind a header's word
+-- the text after a header's word
 abbrev pub count_text : Option ℕ → ℕ → List ℕ
 count_text None n = closing_bracket ∷ []
 count_text (Some limit) n = colon ∷ (decimal n ++ closing_bracket ∷ [])
 
--- a header: its word, and where the section has a limit the number of its lines
+-- a header: its word and, if the section has a limit, the number of its lines
 abbrev pub header_text : Heading → ℕ → List ℕ
 header_text h n = opening_bracket ∷ (h.word ++ count_text h.limit n)
 

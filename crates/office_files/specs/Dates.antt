@@ -9,18 +9,18 @@ use Rattle.office_files.specs.Numbers.{number}
 use Rattle.office_files.specs.declared.fault.FaultKind.{FaultKind}
 use Rattle.office_files.specs.declared.fault.FaultKind.TheVariants.{BadDate, BadTime}
 
--- what was read, or this fault in the place of any
+-- the result of a reading, with this fault instead of any other
 abbrev pub or_fault : {A : Type 0} → FaultKind → Result A FaultKind → Result A FaultKind
 or_fault fault (Ok x) = Ok x
 or_fault fault (Err e) = Err fault
 
--- a number of at least so many digits and at most so many, within the limit
+-- a number with a least and a most number of digits, within the limit
 abbrev pub digits_of : FaultKind → ℕ → ℕ → ℕ → List ℕ → Result ℕ FaultKind
 digits_of fault least most limit text =
     if nat_le least (length text) && nat_le (length text) most
     then or_fault fault (number limit text) else Err fault
 
--- the date of these numbers, if the calendar has it, in the years 1 to 9999
+-- the date with these numbers, if it exists in the calendar, in the years 1 to 9999
 abbrev pub date_if_any : ℕ → ℕ → ℕ → Option Date
 date_if_any year month day =
     let d : Date = record {

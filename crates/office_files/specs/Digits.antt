@@ -1,4 +1,4 @@
--- What digits at the front of a text say.
+-- The value of digits at the front of a text.
 use Rattle.std.specs.Prelude.{◌≡◌, ℕ, ◌≤◌, ◌<◌, ◌^◌, true, false, ◌&&◌, ◌==◌, nat_le, if◌then◌else◌}
 use Rattle.std.specs.Prelude.{List, [], ◌∷◌, length, take, slice_index, Option, Some, None}
 use Rattle.std.specs.List.{list_all}
@@ -6,24 +6,25 @@ use Rattle.std.specs.Char.{is_ascii_digit}
 use Rattle.office_files.specs.Bytes.{space}
 use Rattle.office_files.specs.Numbers.{read_on, is_number}
 
--- so many digits at the front of a text say that number
+-- this many digits at the front of a text have that value
 pub record Says (text : List ℕ) (value count : ℕ) : Type 0 where
   pub within : count ≤ length text
   pub digits : list_all is_ascii_digit (take count text) ≡ true
   pub same : read_on 0 (take count text) ≡ value
   pub small : value < 10 ^ count
 
--- no digit follows the first so many bytes of a text
+-- the byte after this many bytes of a text is no digit
 abbrev pub NoDigitAt : List ℕ → ℕ → Type 0
 NoDigitAt text count = count < length text → is_ascii_digit (slice_index text count) ≡ false
 
--- up to nine digits at the front of a line say that number, and no digit follows fewer than nine
+-- up to nine digits at the front of a line have that value, and if fewer than nine, no digit
+-- follows
 pub record IsFront (line : List ℕ) (value count : ℕ) : Type 0 where
   pub says : Says line value count
   pub few : count ≤ 9
   pub whole : count < 9 → NoDigitAt line count
 
--- the number that one to nine digits say, and no other text says
+-- the value of one to nine digits; no other text has one
 abbrev pub few_digits : List ℕ → Option ℕ
 few_digits text =
     if is_number text && nat_le (length text) 9 then Some (read_on 0 text) else None

@@ -1,4 +1,4 @@
--- What the lines of the section of exams say: a duration, and the students who sit the exam.
+-- The values of the lines of the section of exams: a duration, and the students who sit the exam.
 use Rattle.std.specs.Prelude.{◌≡◌, ℕ, ◌<◌, List, [], length, map, sum_by, slice_set, Result, Ok}
 use Rattle.exam_terms.specs.declared.limits.TheConstants.{MAX_MINUTES}
 use Rattle.exam_terms.specs.Refusing.{◌>>=◌}
@@ -16,11 +16,11 @@ pub record ExamLine : Type 0 where
   pub minutes : ℕ
   pub students : List ℕ
 
--- how many pairs stand on lines
+-- the number of pairs on lines
 abbrev pub pairs_on : List ExamLine → ℕ
 pairs_on lines = sum_by (λ line. length line.students) lines
 
--- a line of the section of exams behind so many pairs
+-- a line of the section of exams, after this many pairs
 abbrev pub exam_behind : ℕ → List (List ℕ) → Result ExamLine FaultKind
 exam_behind pairs fields = do
   minutes ← number MAX_MINUTES (first fields)
@@ -35,14 +35,14 @@ exam_line before fields = exam_behind (pairs_on before) fields
 abbrev pub exam_of : ExamLine → Exam
 exam_of line = record { minutes = line.minutes }
 
--- what lines of the section of exams say: their exams in order, and who sits each
+-- the values of lines of the section of exams: their exams in order, and the students who sit each
 pub record SaysExams (lines : List Located) (exams : List Exam) (E : Enrolled) : Type 0 where
   pub said : List ExamLine
   pub read : items_of exam_line [] lines ≡ Ok said
   pub are_exams : exams ≡ map exam_of said
   pub are_students : E ≡ map (λ line. line.students) said
 
--- an exam is among those of the set, and has no students yet
+-- an exam of the set that has no students yet
 pub record IsEmptyExam (E : Enrolled) (exam : ℕ) : Type 0 where
   pub exists : exam < length E
   pub none : students E exam ≡ []

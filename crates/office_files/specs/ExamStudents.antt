@@ -9,8 +9,8 @@ use Rattle.office_files.specs.Numbers.{number}
 use Rattle.office_files.specs.declared.fault.FaultKind.{FaultKind}
 use Rattle.office_files.specs.declared.fault.FaultKind.TheVariants.{OutOfRange}
 
--- the students of a line behind those seen on it, where so many pairs stand on the lines before it:
--- the field of a student who is new is out of range where 200,000 pairs are there
+-- the students of a line, after those seen on it and this many pairs on the lines before it: the
+-- field of a new student is out of range if there are 200,000 pairs
 abbrev pub students_in : ℕ → List ℕ → List (List ℕ) → Result (List ℕ) FaultKind
 students_in pairs seen [] = Ok seen
 students_in pairs seen (field ∷ fields) = do
@@ -18,17 +18,17 @@ students_in pairs seen (field ∷ fields) = do
   _ ← unless (has_number seen s || nat_lt (pairs + length seen) MAX_PAIRS) OutOfRange
   students_in pairs (with_student s seen) fields
 
--- an ascending list with students put in, each once
+-- an ascending list with students added, each once
 abbrev pub with_students : List ℕ → List ℕ → List ℕ
 with_students [] seen = seen
 with_students (s ∷ ss) seen = with_students ss (with_student s seen)
 
--- a student before others, where a field names one
+-- a student in front of others, if a field names one
 abbrev pub named_first : Result ℕ FaultKind → List ℕ → List ℕ
 named_first (Ok s) names = s ∷ names
 named_first (Err what) names = []
 
--- the students whom fields name, up to the first field that names none
+-- the students that fields name, up to the first field that names none
 abbrev pub named_in : List (List ℕ) → List ℕ
 named_in [] = []
 named_in (field ∷ fields) = named_first (number MAX_STUDENT field) (named_in fields)

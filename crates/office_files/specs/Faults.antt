@@ -1,4 +1,4 @@
--- Which faults are no line's.
+-- Faults of a whole file.
 use Rattle.std.specs.Prelude.{◌≡◌}
 use Rattle.office_files.specs.declared.fault.FaultKind.TheVariants.{NoMemory}
 use Rattle.office_files.specs.declared.fault.FileFault.{FileFault}

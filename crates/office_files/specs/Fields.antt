@@ -12,22 +12,22 @@ abbrev pub ended_parts : ℕ → List ℕ → List (List ℕ)
 ended_parts c [] = []
 ended_parts c (b ∷ bs) = if b == c then [] ∷ ended_parts c bs else onto_first b (ended_parts c bs)
 
--- a text up to the first byte c, and what is behind that byte
+-- a text up to the first byte c, and the rest after that byte
 abbrev pub split_once : ℕ → List ℕ → Option (List ℕ × List ℕ)
 split_once c [] = None
 split_once c (b ∷ bs) =
     if b == c then Some ([], bs) else option_map (λ p. (b ∷ p.0, p.1)) (split_once c bs)
 
--- the fields of a line, trimmed; behind a last comma there is none
+-- the fields of a line, trimmed; there is none after a comma at its end
 abbrev pub fields_of : List ℕ → List (List ℕ)
 fields_of line = map trimmed (ended_parts comma line)
 
--- the first of the fields; empty where there is none
+-- the first of the fields; empty if there is none
 abbrev pub first : List (List ℕ) → List ℕ
 first [] = []
 first (x ∷ xs) = x
 
--- the fields behind the first
+-- the fields after the first
 abbrev pub rest : List (List ℕ) → List (List ℕ)
 rest [] = []
 rest (x ∷ xs) = xs

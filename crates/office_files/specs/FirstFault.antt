@@ -1,4 +1,4 @@
--- The first fault of a file: that of the first of its lines that has one.
+-- The first fault of a file: that of the first of its faulty lines.
 use Rattle.std.specs.Prelude.{ℕ, ◌+◌, nat_lt, nat_le, if◌then◌else◌, List, [], ◌∷◌}
 use Rattle.std.specs.Prelude.{◌++◌, length, Option, None, Some}
 use Rattle.exam_terms.specs.declared.limits.TheConstants.{INSTANCE_BYTES, TEXT_BYTES}
@@ -14,12 +14,12 @@ use Rattle.office_files.specs.declared.fault.FaultKind.TheVariants.{TooLong, Mis
 use Rattle.office_files.specs.declared.fault.FaultKind.TheVariants.{CountMismatch}
 use Rattle.office_files.specs.declared.fault.FileFault.{FileFault}
 
--- a fault at its line, or else what comes behind
+-- a fault at its line, or else that of the rest
 abbrev pub at_line_or : ℕ → Option FaultKind → Option FileFault → Option FileFault
 at_line_or line (Some what) later = Some (record { line = line; what = what })
 at_line_or line None later = later
 
--- the first fault of lines from where they stand; the end of the file counts as one line more
+-- the first fault of lines from their position on; the end of the file counts as one more line
 abbrev pub first_from : ℕ → Standing → List Located → Option FileFault
 first_from end s [] =
     if nat_lt s.headers 6 then Some (record { line = end; what = MissingSection }) else None
@@ -33,7 +33,7 @@ first_fault b =
     if nat_le (length b) INSTANCE_BYTES then first_from (line_count b + 1) at_start (lines_of b)
     else Some (record { line = 0; what = TooLong })
 
--- the first fault of the lines of a solution behind those before them
+-- the first fault of the lines of a solution that follow others
 abbrev pub first_place_fault : Counts → ℕ → List Located → List Located → Option FileFault
 first_place_fault counts end before [] =
     if nat_lt (length before) counts.exams

@@ -11,17 +11,17 @@ use Rattle.office_files.specs.declared.fault.FaultKind.{FaultKind}
 use Rattle.office_files.specs.declared.fault.FaultKind.TheVariants.{MissingSection, CountMismatch}
 use Rattle.office_files.specs.declared.fault.FaultKind.TheVariants.{OutOfRange, StrayText}
 
--- what stands between a header's brackets, and what behind them
+-- the text between a header's brackets, and the text after them
 abbrev pub inside_of : List ℕ → Result (List ℕ × List ℕ) FaultKind
 inside_of text = do
   _ ← unless (is_header text) MissingSection
   else_err MissingSection (split_once closing_bracket (drop 1 text))
 
--- nothing stands behind the closing bracket
+-- the closing bracket is followed by nothing
 abbrev pub closed : List ℕ → Result (Unit {0}) FaultKind
 closed behind = unless (length (trimmed behind) == 0) StrayText
 
--- a header with its word alone
+-- a header with only its word
 abbrev pub plain_header : List ℕ → List ℕ → Result (Unit {0}) FaultKind
 plain_header word text = do
   inside ← inside_of text
@@ -39,7 +39,7 @@ counted_header word limit lines text = do
   _ ← unless (count == lines) CountMismatch
   closed inside.1
 
--- how a section begins: its word, and where its lines are counted the limit of their number
+-- the start of a section: its word and, if its lines are counted, the limit of their number
 pub record Heading : Type 0 where
   pub word : List ℕ
   pub limit : Option ℕ
@@ -49,6 +49,6 @@ abbrev pub header_by : List ℕ → Option ℕ → ℕ → List ℕ → Result (
 header_by word None lines text = plain_header word text
 header_by word (Some limit) lines text = counted_header word limit lines text
 
--- what a header says, where so many lines stand before the next one
+-- the result of reading a header with this many lines before the next one
 abbrev pub header_in : Heading → ℕ → List ℕ → Result (Unit {0}) FaultKind
 header_in heading lines text = header_by heading.word heading.limit lines text

@@ -1,4 +1,4 @@
--- What is taken of an input, and why it gives nothing.
+-- The bytes read from an input, and why it has no text.
 use Rattle.std.specs.Prelude.{◌≡◌, ◌≢◌, ◌≤◌, ◌<◌, ℕ, List, length, Option, Some, IfSome}
 use Rattle.std.specs.Io.KnownBytes.{Consumes}
 use Rattle.office_files.specs.declared.fault.FileFault.{FileFault}
@@ -8,26 +8,26 @@ use Rattle.office_files.specs.declared.inputs.Unread.TheVariants as why
 use Rattle.office_files.specs.declared.inputs.InputFault.{InputFault}
 use Rattle.office_files.specs.declared.inputs.InputFault.TheVariants.{Read, File, NoMemory}
 
--- of the known bytes, at most so many are taken from the front
+-- at most this many of the known bytes are read from the front
 pub record TakesAtMost (most : ℕ) (old new : Option (List ℕ)) : Type 0 where
   pub bytes : List ℕ
   pub taken : Consumes old new bytes
   pub few : length bytes ≤ most
 
--- out of memory in the reading of a file is no fault of the file
+-- out of memory while a file is read is no fault of the file
 abbrev pub ComesOf : FileFault → InputFault → Type 0
 ComesOf fault Read = ⊥
 ComesOf fault (File f) = (f ≡ fault) × (fault.what ≢ kind.NoMemory)
 ComesOf fault NoMemory = fault.what ≡ kind.NoMemory
 
--- what comes of a reader's text that is not taken whole
+-- the fault for a reader's text that is not read whole
 abbrev pub ComesOfReads : Unread → InputFault → Type 0
 ComesOfReads why.Failed fault = fault ≡ Read
 ComesOfReads why.Spent fault = fault ≡ Read
 ComesOfReads why.TooLong fault = fault ≡ File (record { line = 0; what = kind.TooLong })
 ComesOfReads why.NoMemory fault = fault ≡ NoMemory
 
--- why a reader's text is not taken whole: with so many reads left, of known bytes
+-- why a reader's text is not read whole: with this many reads left, of known bytes
 abbrev pub StaysUnread : ℕ → ℕ → Option (List ℕ) → Unread → Type 0
 StaysUnread limit left known why.Failed = Unit {0}
 StaysUnread limit left known why.Spent = left ≡ 0
@@ -40,7 +40,7 @@ RefusesText limit input (File fault) =
     (fault ≡ record { line = 0; what = kind.TooLong }) × (limit < length input)
 RefusesText limit input _ = Unit {0}
 
--- a file's fault is the first one of its text, if that has one
+-- a file's fault is the first one of its text, if there is one
 abbrev pub RefusesFile : Option FileFault → InputFault → Type 0
 RefusesFile first (File fault) = first ≡ Some fault
 RefusesFile first _ = Unit {0}

@@ -1,4 +1,5 @@
--- What an instance file spells, and how it is read (ITC 2007, input format).
+-- The session and enrolments that an instance file describes, and its reading (ITC 2007, input
+-- format).
 use Rattle.std.specs.Prelude.{◌≡◌, ℕ, ◌+◌, ◌≤◌, nat_le, List, [], ◌∷◌, length, Result, Ok, Err}
 use Rattle.exam_terms.specs.declared.limits.TheConstants.{INSTANCE_BYTES}
 use Rattle.exam_terms.specs.Refusing.{◌>>=◌, unless}
@@ -16,8 +17,8 @@ use Rattle.office_files.specs.Spelled.{counts_of, Spelled, session_of, enrolled_
 use Rattle.office_files.specs.declared.fault.FaultKind.TheVariants.{TooLong, StrayText}
 use Rattle.office_files.specs.declared.fault.FileFault.{FileFault}
 
--- a text that is short enough spells a session and enrolments: its lines are the six sections in
--- their order, and nothing behind them
+-- a text within the limit of bytes describes a session and enrolments: its lines are exactly the
+-- six sections in their order
 pub record InstanceText (b : List ℕ) (I : Session) (E : Enrolled) : Type 0 where
   pub within : length b ≤ INSTANCE_BYTES
   pub said : Spelled
@@ -40,12 +41,12 @@ pub record InstanceText (b : List ℕ) (I : Session) (E : Enrolled) : Type 0 whe
   pub session : I ≡ session_of said
   pub enrolled : E ≡ enrolled_of said
 
--- nothing stands behind the sixth section
+-- the sixth section is followed by nothing
 abbrev pub no_more : List Located → Result (Unit {0}) FileFault
 no_more [] = Ok tt
 no_more (line ∷ lines) = Err (record { line = line.line; what = StrayText })
 
--- the sections behind that of the exams, read in their order
+-- the sections after that of the exams, read in their order
 abbrev pub later_sections : ℕ → List ExamLine → List Located → Result Spelled FileFault
 later_sections end exams lines = do
   let counts = counts_of exams
@@ -64,7 +65,7 @@ later_sections end exams lines = do
     weightings = weightings.0;
   })
 
--- the reading of an instance file: what it spells, or its first fault
+-- the reading of an instance file: the result, or its first fault
 abbrev pub instance_in : List ℕ → Result (Session × Enrolled) FileFault
 instance_in b = do
   _ ← at_line 0 (unless (nat_le (length b) INSTANCE_BYTES) TooLong)

@@ -1,4 +1,4 @@
--- The lines of each section behind those before them, and how many there may be.
+-- The lines of each section after those before them, and their limits.
 use Rattle.std.specs.Prelude.{ℕ, nat_lt, List, length, Result}
 use Rattle.exam_terms.specs.declared.limits.TheConstants.{MAX_RULES}
 use Rattle.exam_terms.specs.Refusing.{◌>>=◌, unless}
@@ -20,19 +20,19 @@ period_line counts before fields = period_in fields
 abbrev pub room_line : Counts → List Room → List (List ℕ) → Result Room FaultKind
 room_line counts before fields = room_in fields
 
--- a line of the rules on periods, of which there are at most so many
+-- a line of the rules on periods, which are limited in number
 abbrev pub period_rule_line : Counts → List PeriodRule → List (List ℕ) → Result PeriodRule FaultKind
 period_rule_line counts before fields = do
   _ ← unless (nat_lt (length before) MAX_RULES) OutOfRange
   period_rule_in counts.exams fields
 
--- a line of the rules on rooms, of which there are at most as many
+-- a line of the rules on rooms, with the same limit
 abbrev pub room_rule_line : Counts → List RoomRule → List (List ℕ) → Result RoomRule FaultKind
 room_rule_line counts before fields = do
   _ ← unless (nat_lt (length before) MAX_RULES) OutOfRange
   room_rule_in counts.exams fields
 
--- a line of a solution: the place of the next exam, where there is one
+-- a line of a solution: the place of the next exam, if there is one
 abbrev pub place_line : Counts → List Place → List (List ℕ) → Result Place FaultKind
 place_line counts before fields = do
   _ ← unless (nat_lt (length before) counts.exams) CountMismatch

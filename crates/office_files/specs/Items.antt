@@ -1,4 +1,4 @@
--- What the fields of a line say (ITC 2007, input format), and those of a line of a solution.
+-- The values of the fields of a line (ITC 2007, input format), and of a line of a solution.
 use Rattle.std.specs.Prelude.{ℕ, ◌-◌, List, codes, Result, Ok}
 use Rattle.std.specs.Str.{str_eq_ignore_ascii_case}
 use Rattle.exam_terms.specs.declared.limits.TheConstants.{MAX_AMOUNT, MAX_MINUTES}
@@ -41,7 +41,7 @@ room_in fields = do
   _ ← ended (rest (rest fields))
   Ok (record { capacity = capacity; penalty = penalty })
 
--- exam, word, exam; both exams are among so many
+-- exam, word, exam; both exams are below this number
 abbrev pub period_rule_in : ℕ → List (List ℕ) → Result PeriodRule FaultKind
 period_rule_in exams fields = do
   a ← number (exams - 1) (first fields)
@@ -58,7 +58,7 @@ room_rule_in exams fields = do
   _ ← ended (rest (rest fields))
   Ok (record { 0 = a })
 
--- period, room; both are among so many
+-- period, room; both are below their counts
 abbrev pub place_in : Counts → List (List ℕ) → Result Place FaultKind
 place_in counts fields = do
   period ← number (counts.periods - 1) (first fields)

@@ -1,4 +1,4 @@
--- The fault of each line of an instance file, where no line before it has one.
+-- The fault of each line of an instance file, if no line before it has one.
 use Rattle.std.specs.Prelude.{ℕ, zero, suc, ◌+◌, ◌==◌, if◌then◌else◌, List, [], ◌∷◌}
 use Rattle.std.specs.Prelude.{◌++◌, Option, Some}
 use Rattle.office_files.specs.ExamLines.{exam_line}
@@ -13,18 +13,18 @@ use Rattle.office_files.specs.declared.counts.Counts.{Counts}
 use Rattle.office_files.specs.declared.fault.FaultKind.{FaultKind}
 use Rattle.office_files.specs.declared.fault.FaultKind.TheVariants.{MissingSection, StrayText}
 
--- where a line stands: how many headers are before it, the lines since the last of them, and how
+-- the position of a line: how many headers are before it, the lines after the last of them, and how
 -- many lines the section of exams has so far
 pub record Standing : Type 0 where
   pub headers : ℕ
   pub since : List Located
   pub exams : ℕ
 
--- where the first line stands
+-- the position of the first line
 abbrev pub at_start : Standing
 at_start = record { headers = 0; since = []; exams = 0 }
 
--- where the line behind this one stands
+-- the position of the line after this one
 abbrev pub behind : Standing → Located → Standing
 behind s line =
     if is_header line.text then record { headers = s.headers + 1; since = []; exams = s.exams }
@@ -34,7 +34,7 @@ behind s line =
       exams = if s.headers == 1 then s.exams + 1 else s.exams;
     }
 
--- the fault of a header behind so many others, where so many lines stand before the next one
+-- the fault of a header after this many others, with this many lines before the next one
 abbrev pub header_fault : ℕ → ℕ → Located → Option FaultKind
 header_fault zero size line = fault_of (header_in exams_heading size line.text)
 header_fault (suc zero) size line = fault_of (header_in periods_heading size line.text)
@@ -47,7 +47,7 @@ header_fault (suc (suc (suc (suc (suc zero))))) size line =
     fault_of (header_in weightings_heading size line.text)
 header_fault (suc (suc (suc (suc (suc (suc n)))))) size line = Some StrayText
 
--- the fault of a line that is no header, in the section of the last of so many headers
+-- the fault of a line that is no header, in the section of the last of this many headers
 abbrev pub item_fault : ℕ → Counts → List Located → Located → Option FaultKind
 item_fault zero counts since line = Some MissingSection
 item_fault (suc zero) counts since line = fault_behind exam_line since line
@@ -60,7 +60,7 @@ item_fault (suc (suc (suc (suc (suc zero))))) counts since line =
 item_fault (suc (suc (suc (suc (suc (suc n)))))) counts since line =
     fault_behind (weighting_line counts) since line
 
--- the fault of a line of an instance file, before so many lines up to the next header
+-- the fault of a line of an instance file, with this many lines up to the next header
 abbrev pub line_fault : Standing → Located → ℕ → Option FaultKind
 line_fault s line size =
     if is_header line.text then header_fault s.headers size line

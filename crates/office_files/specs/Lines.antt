@@ -6,11 +6,11 @@ use Rattle.exam_terms.specs.Texts.{trim_start, trimmed}
 use Rattle.office_files.specs.Bytes.{line_feed, carriage_return, opening_bracket}
 use Rattle.office_files.specs.Fields.{ended_parts}
 
--- how many lines a text has; behind a last line feed there is none
+-- the number of lines of a text; there is none after a line feed at its end
 abbrev pub line_count : List ℕ → ℕ
 line_count text = length (ended_parts line_feed text)
 
--- a part of a text, and the place where it starts
+-- a part of a text, and the index of its start
 pub record Piece : Type 0 where
   pub start : ℕ
   pub text : List ℕ
@@ -26,14 +26,14 @@ without_return [] = []
 without_return (b ∷ []) = if b == carriage_return then [] else b ∷ []
 without_return (b ∷ c ∷ cs) = b ∷ without_return (c ∷ cs)
 
--- what stands on a line of the file, or in a field of it, from one place up to another
+-- the text of a line of the file, or of a field in it, and the indexes of its start and its end
 pub record Located : Type 0 where
   pub line : ℕ
   pub start : ℕ
   pub end : ℕ
   pub text : List ℕ
 
--- where a piece begins without the blanks before it
+-- the start of a piece without the blanks before it
 abbrev pub inner_start : Piece → ℕ
 inner_start p = p.start + (length p.text - length (trim_start p.text))
 
@@ -46,7 +46,7 @@ located line p = record {
   text = trimmed p.text;
 }
 
--- a line before others, where it isn't blank
+-- a line in front of others, unless it is blank
 abbrev pub unless_blank : Located → List Located → List Located
 unless_blank row rows = if length row.text == 0 then rows else row ∷ rows
 
@@ -66,12 +66,12 @@ abbrev pub is_header : List ℕ → Bool
 is_header [] = false
 is_header (b ∷ bs) = b == opening_bracket
 
--- how many lines stand before the next header
+-- the number of lines before the next header
 abbrev pub section_size : List Located → ℕ
 section_size [] = 0
 section_size (row ∷ rows) = if is_header row.text then 0 else section_size rows + 1
 
--- the place and the line of what is left of a text stay within its limit
+-- the index and the line of the rest of a text are within their limit
 pub record HasPlaces (line at : ℕ) (left : List ℕ) : Type 0 where
   pub at_most : at ≤ INSTANCE_BYTES + 1
   pub within : 0 < length left → at + length left ≤ INSTANCE_BYTES

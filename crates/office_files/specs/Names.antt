@@ -5,7 +5,7 @@ use Rattle.exam_terms.specs.declared.limits.TheConstants.{MAX_STUDENT}
 use Rattle.office_files.specs.Numbers.{number}
 use Rattle.office_files.specs.declared.fault.FaultKind.{FaultKind}
 
--- whether a field that was read is the number of this student
+-- whether a field's number is that of this student
 abbrev pub named_as : Result ℕ FaultKind → ℕ → Bool
 named_as (Ok t) s = t == s
 named_as (Err what) s = false

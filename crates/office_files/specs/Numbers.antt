@@ -1,4 +1,4 @@
--- What a field says as a number.
+-- The number of a field.
 use Rattle.std.specs.Prelude.{ℕ, ◌+◌, ◌*◌, ◌-◌, Bool, ◌&&◌, nat_lt, nat_le, if◌then◌else◌}
 use Rattle.std.specs.Prelude.{List, [], ◌∷◌, length, Result, Ok, Err}
 use Rattle.std.specs.List.{list_all}
@@ -6,7 +6,7 @@ use Rattle.std.specs.Char.{is_ascii_digit}
 use Rattle.office_files.specs.declared.fault.FaultKind.{FaultKind}
 use Rattle.office_files.specs.declared.fault.FaultKind.TheVariants.{BadNumber, OutOfRange}
 
--- the number that digits say, behind digits that say the number n
+-- the value of digits that follow the digits of n
 abbrev pub read_on : ℕ → List ℕ → ℕ
 read_on n [] = n
 read_on n (d ∷ ds) = read_on (10 * n + (d - 48)) ds
@@ -15,7 +15,7 @@ read_on n (d ∷ ds) = read_on (10 * n + (d - 48)) ds
 abbrev pub is_number : List ℕ → Bool
 is_number text = nat_lt 0 (length text) && list_all is_ascii_digit text
 
--- a number, where it is of at most the limit
+-- a number, if it is at most the limit
 abbrev pub at_most : ℕ → ℕ → Result ℕ FaultKind
 at_most limit n = if nat_le n limit then Ok n else Err OutOfRange
 

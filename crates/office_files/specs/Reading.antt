@@ -8,12 +8,12 @@ use Rattle.office_files.specs.declared.fault.FaultKind.{FaultKind}
 use Rattle.office_files.specs.declared.fault.FaultKind.TheVariants.{NoMemory}
 use Rattle.office_files.specs.declared.fault.FileFault.{FileFault}
 
--- what a line says, its fault with the line's number
+-- the result of a line; its fault gets the line's number
 abbrev pub at_line : {A : Type 0} → ℕ → Result A FaultKind → Result A FileFault
 at_line line (Ok x) = Ok x
 at_line line (Err what) = Err (record { line = line; what = what })
 
--- the items of lines behind those before them, or the fault of the first faulty line
+-- the items of lines after those before them, or the fault of the first faulty line
 abbrev pub items_of : {A : Type 0} → (List A → List (List ℕ) → Result A FaultKind) → List A
     → List Located → Result (List A) FileFault
 items_of read before [] = Ok before
@@ -21,7 +21,7 @@ items_of read before (line ∷ lines) =
     at_line line.line (read before (fields_of line.text)) >>= λ item.
     items_of read (before ++ item ∷ []) lines
 
--- there are as many items as lines, and each line spells its item behind those of the lines
+-- there are as many items as lines, and each line describes its item, after those of the lines
 -- before it
 pub record Spell {A : Type 0} (read : List A → List (List ℕ) → Result A FaultKind)
     (lines : List Located) (items : List A) : Type 0 where
@@ -29,7 +29,7 @@ pub record Spell {A : Type 0} (read : List A → List (List ℕ) → Result A Fa
   pub each : (i : ℕ) (line : Located) (item : A) → slice_get lines i ≡ Some line
       → slice_get items i ≡ Some item → read (take i items) (fields_of line.text) ≡ Ok item
 
--- a call answered what the reading gives
+-- a call returns the result of the reading
 abbrev pub AnswersField : {X Y : Type 0} → (X → Y) → Result X FaultKind → Result Y FaultKind
     → Type 0
 AnswersField view (Ok x) reading = reading ≡ Ok (view x)
@@ -46,7 +46,7 @@ abbrev pub fault_of : {A F : Type 0} → Result A F → Option F
 fault_of (Ok x) = None
 fault_of (Err what) = Some what
 
--- the fault of a line behind these items, where the lines before it have no fault
+-- the fault of a line after these items, if the lines before it have no fault
 abbrev pub fault_by : {A : Type 0} → (List A → List (List ℕ) → Result A FaultKind)
     → Result (List A) FileFault → Located → Option FaultKind
 fault_by read (Ok items) line = fault_of (read items (fields_of line.text))

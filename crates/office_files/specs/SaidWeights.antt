@@ -1,4 +1,4 @@
--- Which weights the last section of a text says (ITC 2007, institutional weightings).
+-- The weights in the last section of a text (ITC 2007, institutional weightings, and nights).
 use Rattle.std.specs.Prelude.{◌≡◌, ℕ, zero, suc, Bool, true, false, if◌then◌else◌}
 use Rattle.std.specs.Prelude.{List, [], ◌∷◌, codes, All, AllPairs, Result, Ok}
 use Rattle.std.specs.List.{list_any}
@@ -10,14 +10,14 @@ use Rattle.office_files.specs.Lines.{Located, is_header}
 use Rattle.office_files.specs.Numbers.{number}
 use Rattle.office_files.specs.declared.fault.FaultKind.{FaultKind}
 
--- the lines behind the last header among these; all of them, where none is a header
+-- the lines after the last header among these; all of them if none is a header
 abbrev pub last_section : List Located → List Located
 last_section [] = []
 last_section (line ∷ lines) =
     if list_any (λ other. is_header other.text) lines then last_section lines
     else (if is_header line.text then lines else line ∷ lines)
 
--- the field behind so many others; empty where there are too few
+-- the field after this many others; empty if there are too few
 abbrev pub field_behind : ℕ → List (List ℕ) → List ℕ
 field_behind zero fields = first fields
 field_behind (suc n) fields = field_behind n (rest fields)
@@ -26,12 +26,12 @@ field_behind (suc n) fields = field_behind n (rest fields)
 abbrev pub begins_with : List ℕ → Located → Bool
 begins_with word line = str_eq_ignore_ascii_case (first (fields_of line.text)) word
 
--- the number in the field of a line that stands behind so many others
+-- the number in the field of a line after this many others
 abbrev pub number_behind : ℕ → Located → Result ℕ FaultKind
 number_behind before line = number MAX_AMOUNT (field_behind before (fields_of line.text))
 
--- what a section says by a word: at most one line begins with it, and has this number behind so
--- many fields; where none begins with it, the number is zero
+-- the number of a word in a section: at most one line begins with the word, and it has this number
+-- after that many fields; if no line begins with it, the number is 0
 pub record Says (section : List Located) (word : List ℕ) (before amount : ℕ) : Type 0 where
   pub once : AllPairs (λ line other. begins_with word line ≡ true
       → begins_with word other ≡ false) section
@@ -39,8 +39,8 @@ pub record Says (section : List Located) (word : List ℕ) (before amount : ℕ)
       → number_behind before line ≡ Ok amount) section
   pub unsaid : All (λ line. begins_with word line ≡ false) section → amount ≡ 0
 
--- each weight is the number that the section says behind its word; the word of the front load is
--- followed by how many exams are large, how many periods are late, and their weight
+-- each weight is the number after its word in the section; the word of the front load is followed
+-- by how many exams are large, how many periods are late, and their weight
 pub record Weighs (section : List Located) (w : Weights) : Type 0 where
   pub row : Says section (codes "TWOINAROW") 1 w.row
   pub day : Says section (codes "TWOINADAY") 1 w.day
@@ -49,3 +49,4 @@ pub record Weighs (section : List Located) (w : Weights) : Type 0 where
   pub front_exams : Says section (codes "FRONTLOAD") 1 w.front_exams
   pub front_periods : Says section (codes "FRONTLOAD") 2 w.front_periods
   pub front : Says section (codes "FRONTLOAD") 3 w.front
+  pub night : Says section (codes "OVERNIGHT") 1 w.night

@@ -9,8 +9,8 @@ use Rattle.office_files.specs.declared.fault.FaultKind.{FaultKind}
 use Rattle.office_files.specs.declared.fault.FaultKind.TheVariants.{MissingSection}
 use Rattle.office_files.specs.declared.fault.FileFault.{FileFault}
 
--- the next section's items, and the lines behind it; without a section, the fault stands behind
--- the last line
+-- the next section's items, and the lines after it; if there is no section, the fault is after the
+-- last line
 abbrev pub section_in : {A : Type 0} → Heading
     → (List A → List (List ℕ) → Result A FaultKind) → ℕ → List Located
     → Result (List A × List Located) FileFault
@@ -20,7 +20,7 @@ section_in heading read end (line ∷ lines) =
     items_of read [] (take (section_size lines) lines) >>= λ items.
     Ok (items, drop (section_size lines) lines)
 
--- the lines behind the header of the next section, where it is judged to be one
+-- the lines after the header of the next section, if it is such a header
 abbrev pub opened : Heading → ℕ → List Located → Result (List Located) FileFault
 opened heading end [] = Err (record { line = end; what = MissingSection })
 opened heading end (line ∷ lines) =
@@ -31,7 +31,7 @@ abbrev pub AtHeader : List Located → Type 0
 AtHeader [] = Unit {0}
 AtHeader (line ∷ lines) = is_header line.text ≡ true
 
--- lines begin with a section of these items, and the others stand behind it
+-- lines begin with a section of these items, followed by the other lines
 pub record IsSection {A : Type 0} (heading : Heading)
     (read : List A → List (List ℕ) → Result A FaultKind) (lines : List Located) (items : List A)
     (behind : List Located) : Type 0 where

@@ -1,4 +1,4 @@
--- What a solution file spells, and how it is read (ITC 2007, output format).
+-- The timetable that a solution file describes, and its reading (ITC 2007, output format).
 use Rattle.std.specs.Prelude.{◌≡◌, ℕ, ◌+◌, ◌≤◌, ◌==◌, nat_le, List, [], map, length, Some, Result, Ok}
 use Rattle.exam_terms.specs.declared.limits.TheConstants.{TEXT_BYTES}
 use Rattle.exam_terms.specs.Refusing.{◌>>=◌, unless}
@@ -12,7 +12,7 @@ use Rattle.office_files.specs.declared.counts.Counts.{Counts}
 use Rattle.office_files.specs.declared.fault.FaultKind.TheVariants.{TooLong, CountMismatch}
 use Rattle.office_files.specs.declared.fault.FileFault.{FileFault}
 
--- how many exams, periods and rooms a session has
+-- the numbers of exams, periods and rooms of a session
 abbrev pub counts_in : Session → Counts
 counts_in I = record { exams = length I.exams; periods = length I.periods; rooms = length I.rooms }
 

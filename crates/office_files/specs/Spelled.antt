@@ -1,4 +1,4 @@
--- The six sections of an instance file: how each begins, and what they spell together.
+-- The six sections of an instance file: how each begins, and what they describe together.
 use Rattle.std.specs.Prelude.{List, map, length, codes, None, Some}
 use Rattle.exam_terms.specs.declared.limits.TheConstants.{MAX_EXAMS, MAX_PERIODS, MAX_ROOMS}
 use Rattle.exam_model.specs.Enrolments.{Enrolled}
@@ -13,7 +13,7 @@ use Rattle.office_files.specs.Weights.{with_weightings, no_weights}
 use Rattle.office_files.specs.declared.counts.Counts.{Counts}
 use Rattle.office_files.specs.declared.weightings.Weighting.{Weighting}
 
--- how the section of the exams begins: its word, then how many lines it has
+-- the start of the section of exams: its word, then how many lines it has
 abbrev pub exams_heading : Heading
 exams_heading = record { word = codes "Exams"; limit = Some MAX_EXAMS }
 
@@ -25,7 +25,7 @@ periods_heading = record { word = codes "Periods"; limit = Some MAX_PERIODS }
 abbrev pub rooms_heading : Heading
 rooms_heading = record { word = codes "Rooms"; limit = Some MAX_ROOMS }
 
--- how that of the rules on periods begins: its word alone
+-- the start of the section of rules on periods: only its word
 abbrev pub period_rules_heading : Heading
 period_rules_heading = record { word = codes "PeriodHardConstraints"; limit = None }
 
@@ -37,11 +37,11 @@ room_rules_heading = record { word = codes "RoomHardConstraints"; limit = None }
 abbrev pub weightings_heading : Heading
 weightings_heading = record { word = codes "InstitutionalWeightings"; limit = None }
 
--- what the lines of the later sections are judged by: the number of exams
+-- the count by which the lines of the later sections are judged: the number of exams
 abbrev pub counts_of : List ExamLine → Counts
 counts_of exams = record { exams = length exams; periods = 0; rooms = 0 }
 
--- the six sections of a file, one behind the other
+-- the six sections of a file, one after the other
 pub record Spelled : Type 0 where
   pub exams : List ExamLine
   pub periods : List Period

@@ -7,7 +7,7 @@ use Rattle.office_files.specs.Fields.{ended_parts}
 use Rattle.office_files.specs.Lines.{Located, placed, located, lines_of, is_header}
 use Rattle.office_files.specs.declared.lines.Token.{Token}
 
--- a token without where it lies in memory
+-- a token without its place in memory
 abbrev pub token_of : Token → Located
 token_of t = record { line = t.line; start = t.start; end = t.end; text = t.text.now }
 
@@ -21,7 +21,7 @@ tokens_in row =
 abbrev pub tokens_of : List ℕ → List Located
 tokens_of text = flat_map tokens_in (lines_of text)
 
--- what is left of a text: the fields left of a line that was begun, and the lines after it
+-- the rest of a text: the fields left of a line that was begun, and the lines after it
 abbrev pub tokens_left : ℕ → ℕ → List ℕ → List Located → List Located
 tokens_left line at fields rows =
     map (located line) (placed at (ended_parts comma fields)) ++ flat_map tokens_in rows
@@ -32,7 +32,7 @@ pub record IsSliceOf (source : List ℕ) (t : Located) : Type 0 where
   pub within : t.end ≤ length source
   pub slice : t.text ≡ slice_range source t.start t.end
 
--- the tokens lie one behind another between two places
+-- the tokens are in order, one after another, between two indexes
 abbrev pub LieInRow : ℕ → List Located → ℕ → Type 0
 LieInRow low [] high = low ≤ high
 LieInRow low (t ∷ ts) high = (low ≤ t.start) × (t.start ≤ t.end) × LieInRow t.end ts high

@@ -1,4 +1,4 @@
--- What the lines of the last section weigh (ITC 2007, institutional weightings).
+-- The weightings of the last section (ITC 2007, institutional weightings, and nights).
 use Rattle.std.specs.Prelude.{ℕ, Bool, true, false, not, if◌then◌else◌, List, codes, Result, Ok}
 use Rattle.std.specs.Prelude.{Err}
 use Rattle.std.specs.List.{list_any}
@@ -23,7 +23,8 @@ weight_word text =
     else (if str_eq_ignore_ascii_case text (codes "PERIODSPREAD") then Ok word.Spread
     else (if str_eq_ignore_ascii_case text (codes "NONMIXEDDURATIONS") then Ok word.Mixed
     else (if str_eq_ignore_ascii_case text (codes "FRONTLOAD") then Ok word.Front
-    else Err BadWord))))
+    else (if str_eq_ignore_ascii_case text (codes "OVERNIGHT") then Ok word.Night
+    else Err BadWord)))))
 
 -- whether a weighting has this word
 abbrev pub has_word : WeightWord → Weighting → Bool
@@ -32,9 +33,10 @@ has_word word.Day (said.Day n) = true
 has_word word.Spread (said.Spread n) = true
 has_word word.Mixed (said.Mixed n) = true
 has_word word.Front (said.Front n k w) = true
+has_word word.Night (said.Night n) = true
 has_word _ _ = false
 
--- one number behind a word
+-- one number after a word
 abbrev pub amount_in : List (List ℕ) → Result ℕ FaultKind
 amount_in fields = do
   amount ← number MAX_AMOUNT (first fields)
@@ -50,15 +52,16 @@ front_in fields = do
   _ ← ended (rest (rest (rest fields)))
   Ok (said.Front exams periods weight)
 
--- what the numbers behind a word say
+-- the weighting of the numbers after a word
 abbrev pub weighting_by : WeightWord → List (List ℕ) → Result Weighting FaultKind
 weighting_by word.Row fields = amount_in fields >>= λ n. Ok (said.Row n)
 weighting_by word.Day fields = amount_in fields >>= λ n. Ok (said.Day n)
 weighting_by word.Spread fields = amount_in fields >>= λ n. Ok (said.Spread n)
 weighting_by word.Mixed fields = amount_in fields >>= λ n. Ok (said.Mixed n)
 weighting_by word.Front fields = front_in fields
+weighting_by word.Night fields = amount_in fields >>= λ n. Ok (said.Night n)
 
--- a line of the section of weightings: a word that no line before it has, and its numbers
+-- a line of the section of weightings: a word that no earlier line has, and its numbers
 abbrev pub weighting_line : Counts → List Weighting → List (List ℕ) → Result Weighting FaultKind
 weighting_line counts before fields = do
   word ← weight_word (first fields)

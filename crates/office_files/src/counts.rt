@@ -1,6 +1,6 @@
-// How many things there are that a line may name.
+// The numbers of things that a line may name.
 
-/// How many exams, periods and rooms there are.
+/// The numbers of exams, periods and rooms.
 #[derive(Clone, Copy)]
 pub(crate) struct Counts {
     pub exams: u32,

@@ -7,7 +7,7 @@ use crate::numbers::number;
 use crate::words::split_once;
 use exam_calendar::Date;
 
-/// The day that a field says, if the calendar has it.
+/// Returns the date in a field, if it exists in the calendar.
 pub(crate) fn date_of(text: &[u8]) -> Result<Date, FaultKind>
     ensures { result ≡ date_of text.now }
 {
@@ -19,7 +19,7 @@ pub(crate) fn date_of(text: &[u8]) -> Result<Date, FaultKind>
     date_if_any(year, month, day).ok_or(FaultKind::BadDate)
 }
 
-/// The time of day that a field says: hours, minutes, seconds.
+/// Returns the time of day in a field: hours, minutes, seconds.
 pub(crate) fn time_of(text: &[u8]) -> Result<(u8, u8, u8), FaultKind>
     ensures { result ≡ time_of text.now }
 {
@@ -31,7 +31,7 @@ pub(crate) fn time_of(text: &[u8]) -> Result<(u8, u8, u8), FaultKind>
     Ok((hour as u8, minute as u8, second as u8))
 }
 
-// A number of at least so many digits and at most so many, within the limit.
+// Returns a number with a least and a most number of digits, within the limit.
 fn digits_of(
     fault: FaultKind,
     least: usize,
@@ -50,7 +50,7 @@ fn digits_of(
     }
 }
 
-// The date of these numbers, if the calendar has it.
+// Returns the date with these numbers, if it exists in the calendar.
 fn date_if_any(year: u32, month: u32, day: u32) -> Option<Date>
     requires year { year ≤ 9999 }
     requires month { month ≤ 99 }

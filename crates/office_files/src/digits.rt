@@ -1,17 +1,17 @@
-// Reading a field of few digits, as most are, in one pass over its bytes.
+// Reading a field of few digits, the most frequent kind, in one pass over its bytes.
 ghost use Rattle.std.specs.Prelude.{◌≡◌, ◌≤◌, length, option_map, IfSome};
 ghost use Rattle.office_files.specs.Fields.{ended_parts, first, rest};
 ghost use Rattle.office_files.specs.Digits.{Says, NoDigitAt, IsFront, few_digits, without_space};
 
 use crate::eight_digits::eight_digits;
 
-// So many bytes are read as one word; a number of one digit more fits a u32.
+// This many bytes are read as one word; a number of one more digit fits a u32.
 const AT_ONCE: usize = 8;
 
-// The digits are this byte and the nine behind it, in which it has all bits that they share.
+// The ten digits are this byte and the next nine; it has the bits that they all share.
 const ZERO: u32 = 48;
 
-/// The line without the space at its start, where there is one.
+/// Returns the line without the space at its start, if there is one.
 #[inline]
 pub(crate) fn behind_space(line: &[u8]) -> &[u8]
     ensures { result.now ≡ without_space line.now }
@@ -22,8 +22,8 @@ pub(crate) fn behind_space(line: &[u8]) -> &[u8]
     }
 }
 
-/// The number that a line says up to its first comma, or to its end, and what is left behind that,
-/// where these are one to nine digits alone.
+/// Returns the number in a line up to its first comma, or to its end, and the rest after that, if
+/// it consists of one to nine digits.
 #[inline(always)]
 pub(crate) fn first_digits(line: &[u8]) -> Option<(u32, &[u8])>
     ensures value { option_map (λ read. read.0) result
@@ -45,8 +45,8 @@ pub(crate) fn first_digits(line: &[u8]) -> Option<(u32, &[u8])>
     Some((value, behind))
 }
 
-// The number that the digits at the front of a line say, and how many they are: of the line no
-// more than nine bytes are looked at.
+// Returns the value of the digits at the front of a line, and how many they are. It reads at most
+// nine bytes of the line.
 #[inline(always)]
 fn front_digits(line: &[u8]) -> (u32, usize)
     ensures { IsFront line.now result.0 result.1 }
@@ -65,7 +65,7 @@ fn front_digits(line: &[u8]) -> (u32, usize)
     (10 * value + digit, end + 1)
 }
 
-// The same of a text of eight bytes at most.
+// Returns the same for a text of at most eight bytes.
 #[inline(always)]
 fn digits(text: &[u8]) -> (u32, usize)
     requires { length text.now ≤ 8 }

@@ -8,7 +8,7 @@ ghost use Rattle.core.specs.Slice.Scan.{digits_from, flag_word, little_endian};
 ghost use Rattle.core.specs.Str.Parse.{digits_value};
 ghost use Rattle.office_files.specs.Digits.{Says, NoDigitAt};
 
-/// The number that the digits at the front of the first eight bytes say, and how many they are.
+/// Returns the value of the digits at the front of the first eight bytes, and how many they are.
 #[inline(always)]
 pub(crate) fn eight_digits(text: &[u8]) -> (u32, usize)
     requires { 8 ≤ length text.now }
@@ -19,7 +19,7 @@ pub(crate) fn eight_digits(text: &[u8]) -> (u32, usize)
     (value as u32, count)
 }
 
-// The first eight bytes, the first of them the lowest.
+// Returns the first eight bytes as a word, the first of them the lowest.
 #[inline(always)]
 fn word_of_eight(text: &[u8]) -> u64
     requires { 8 ≤ length text.now }
@@ -30,7 +30,7 @@ fn word_of_eight(text: &[u8]) -> u64
     ])
 }
 
-// How many of the word's bytes are digits from the lowest on, and the number that they write.
+// Returns how many of the word's bytes are digits from the lowest on, and their value.
 #[inline(always)]
 fn up_to_eight(word: u64) -> (usize, u64)
     ensures most { result.0 ≤ 8 }
@@ -46,7 +46,7 @@ fn up_to_eight(word: u64) -> (usize, u64)
     (count as usize, value_of_eight(keep_first(lanes, count)))
 }
 
-// The high bit of each byte that is 10 or more. No sum carries into the next byte.
+// Returns the high bit of each byte that is 10 or more. No sum carries into the next byte.
 #[inline(always)]
 fn flags_from_ten(word: u64) -> u64
     ensures { (byte : ℕ → ℕ) → ((k : ℕ) → byte k < 256) → word ≡ digits_from byte 0 8
@@ -55,7 +55,7 @@ fn flags_from_ten(word: u64) -> u64
     ((word & 0x7f7f_7f7f_7f7f_7f7f) + 0x7676_7676_7676_7676 | word) & 0x8080_8080_8080_8080
 }
 
-// The word with its first bytes, of which there are so many, moved up to the end.
+// Returns the word with its first `count` bytes moved up to the end.
 #[inline(always)]
 fn keep_first(word: u64, count: u32) -> u64
     requires { count < 8 }
@@ -64,7 +64,7 @@ fn keep_first(word: u64, count: u32) -> u64
     word << (56 - 8 * count) << 8 // no shift by 64 is defined
 }
 
-// The number that eight digits write, the first of them in the lowest byte.
+// Returns the value of eight digits, the first of them in the lowest byte.
 #[inline(always)]
 fn value_of_eight(word: u64) -> u64
     ensures { (ds : List ℕ) → IsEightDigits ds → word ≡ number_l 256 ds

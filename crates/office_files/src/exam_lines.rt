@@ -19,14 +19,14 @@ use exam_model::{Enrolments, Exam, ExamNo, ModelFault, StudentNo};
 use exam_terms::limits::{MAX_MINUTES, MAX_STUDENT};
 use std::alloc::{AllocError, Global};
 
-// What the fields of students told beside their names.
+// What the fields of students show besides their names.
 #[derive(Clone, Copy)]
 struct Gathered {
     ascending: bool,
     fault: Option<FaultKind>,
 }
 
-/// The exams of the next lines, of which there are so many, and who sits them.
+/// Returns the exams of the next `count` lines, and the students who sit each.
 pub(crate) fn exam_lines(
     alloc: Global,
     lines: &mut Lines<'_>,
@@ -58,7 +58,7 @@ pub(crate) fn exam_lines(
     Ok((exams, enrolments))
 }
 
-// What a line says, behind the pairs that are there.
+// Reads a line and enrols its students, after the pairs that are there.
 fn exam_line(
     line: &[u8],
     exam: ExamNo,
@@ -113,7 +113,7 @@ fn gather(mut fields: Fields<'_>, named: &mut Vec<StudentNo>) -> Result<Gathered
     Ok(Gathered { ascending, fault })
 }
 
-// The student whom the next field names.
+// Returns the student whom the next field names.
 #[inline]
 fn next_student(fields: &mut Fields<'_>) -> Result<StudentNo, FaultKind>
     ensures student { result ≡ number MAX_STUDENT (first fields.old) }
@@ -123,7 +123,7 @@ fn next_student(fields: &mut Fields<'_>) -> Result<StudentNo, FaultKind>
     StudentNo::new(value).ok_or(FaultKind::OutOfRange)
 }
 
-// Brings the students into ascending order, each once; where they have it, nothing is moved.
+// Brings the students into ascending order, each once; if they have it, nothing is moved.
 fn put_in_order(named: &mut Vec<StudentNo>, ascending: bool)
     requires { ascending ≡ true → IsAscending named.old.items }
     ensures all { named.new.items ≡ with_students named.old.items [] }
@@ -135,7 +135,7 @@ fn put_in_order(named: &mut Vec<StudentNo>, ascending: bool)
     }
 }
 
-// What is wrong with a line whose students are refused.
+// Returns the fault of a line whose students are refused.
 fn kind_of(fault: ModelFault) -> FaultKind
     ensures memory { fault ≡ ModelFault.NoMemory → result ≡ FaultKind.NoMemory }
     ensures range { fault ≢ ModelFault.NoMemory → result ≡ FaultKind.OutOfRange }

@@ -9,7 +9,7 @@ use crate::numbers::{number, within};
 use exam_terms::trimmed;
 use std::marker::Model;
 
-/// The fields of a line that are still to come.
+/// The fields of a line that are not read yet.
 #[derive(Drop)]
 pub(crate) struct Fields<'a> {
     left: &'a [u8],
@@ -22,7 +22,7 @@ impl<'a> Model for Fields<'a> {
 }
 
 impl<'a> Fields<'a> {
-    /// The fields of this line, from the first on.
+    /// Returns all fields of this line.
     #[inline]
     pub(crate) fn new(line: &'a [u8]) -> Fields<'a>
         ensures { result ≡ fields_of line.now }
@@ -30,7 +30,7 @@ impl<'a> Fields<'a> {
         Fields { left: line }
     }
 
-    /// The next field, or an empty one where none is left.
+    /// Returns the next field; an empty one if none is left.
     pub(crate) fn next(&mut self) -> &'a [u8]
         ensures field { result.now ≡ first self.old }
         ensures left { self.new ≡ rest self.old }
@@ -43,7 +43,7 @@ impl<'a> Fields<'a> {
         trimmed(field)
     }
 
-    /// The number of at most the limit that the next field says; a missing field says none.
+    /// Returns the number of the next field, at most the limit; a missing field has none.
     #[inline(always)]
     pub(crate) fn next_number(&mut self, limit: u32) -> Result<u32, FaultKind>
         ensures number { result ≡ number limit (first self.old) }
@@ -58,7 +58,7 @@ impl<'a> Fields<'a> {
         number
     }
 
-    /// Whether no field is left.
+    /// Returns whether no field is left.
     #[inline]
     pub(crate) fn is_empty(&self) -> bool
         ensures { IsTrue result ↔ (self.now ≡ []) }
@@ -67,7 +67,8 @@ impl<'a> Fields<'a> {
     }
 }
 
-/// The bytes before the first mark, and those behind it; without a mark the text is the first part.
+/// Returns the bytes before the first mark, and those after it; without a mark the first part is
+/// all.
 #[tactic(auto, using(crate::proofs::FieldLemmas::part_facts))]
 pub(crate) fn cut(text: &[u8], mark: u8) -> (&[u8], &[u8])
     requires { 0 < length text.now }
@@ -85,8 +86,8 @@ pub(crate) fn cut(text: &[u8], mark: u8) -> (&[u8], &[u8])
     (text, &text[text.len()..])
 }
 
-// The number that the first field of a line says, whatever that is, and what is left of the line:
-// for a field that is faulty or long, or that stands between other blanks than one space.
+// Returns the number of the first field of a line, for any field, and the rest of the line: for a
+// field that is faulty or long, or that has other blanks around it than one space before it.
 #[cold]
 #[inline(never)]
 fn other_number(line: &[u8], limit: u32) -> (Result<u32, FaultKind>, &[u8])
@@ -98,7 +99,7 @@ fn other_number(line: &[u8], limit: u32) -> (Result<u32, FaultKind>, &[u8])
     (number, fields.left)
 }
 
-/// Refuses the fields that are left, where there are any.
+/// Refuses the fields that are left, if there are any.
 #[inline]
 pub(crate) fn ended(fields: Fields<'_>) -> Result<(), FaultKind>
     ensures { result ≡ ended fields.entry }

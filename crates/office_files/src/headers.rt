@@ -10,7 +10,7 @@ use crate::numbers::number;
 use crate::words::{same_word, split_once};
 use exam_terms::trimmed;
 
-/// Judges a header: its word and, where the section has a limit, the number of its lines.
+/// Judges a header: its word and, if the section has a limit, the number of its lines.
 pub(crate) fn header(
     word: &[u8],
     limit: Option<u32>,
@@ -35,7 +35,7 @@ fn plain_header(word: &[u8], text: &[u8]) -> Result<(), FaultKind>
     closed(behind)
 }
 
-// What stands between a header's brackets, and what behind them.
+// Returns the text between a header's brackets, and the text after them.
 fn inside_of(text: &[u8]) -> Result<(&[u8], &[u8]), FaultKind>
     ensures { AnswersField (λ p. (p.0.now, p.1.now)) result (inside_of text.now) }
 {

@@ -8,14 +8,14 @@ use exam_terms::limits::{INSTANCE_BYTES, TEXT_BYTES};
 use std::alloc::{AllocError, Global};
 use std::io::{ErrorKind, Read};
 
-/// Why an input gives nothing.
+/// Why an input can't be read.
 #[derive(Clone, Copy, Debug, PartialEq, Eq)]
 pub enum InputFault {
-    /// The reader failed, or showed no end in 5,000,000 reads.
+    /// The reader failed, or had no end within 5,000,000 reads.
     Read,
     /// The text is faulty, or longer than the limit of its kind of file (line 0).
     File(FileFault),
-    /// Memory ran out.
+    /// Out of memory.
     NoMemory,
 }
 
@@ -43,10 +43,10 @@ impl From<FileFault> for InputFault {
     }
 }
 
-// Why a reader's text is not taken whole.
+// Why a reader's text is not read whole.
 #[derive(Clone, Copy, Debug, PartialEq, Eq)]
 enum Unread {
-    // The reader failed, and was not only interrupted.
+    // The reader failed with an error other than an interruption.
     Failed,
     // No read is left.
     Spent,
@@ -80,46 +80,46 @@ impl From<Unread> for InputFault {
     }
 }
 
-// How many reads a reader has. An interrupted one counts, and is tried again.
+// How many reads a reader has. An interrupted read counts, and is retried.
 const READS: u32 = 5_000_000;
 
-// So few bytes are copied by plain moves, which are fewer instructions than the processor's own
-// copying of long runs takes.
+// Up to this many bytes are copied by plain moves, which take fewer instructions than the
+// processor's own copying of long runs.
 const COPIED_AT_ONCE: usize = 2048;
 
-/// The whole text of an instance file's reader, at most 4,194,304 bytes. The reader has 5,000,000
-/// reads; one that was interrupted counts, and is tried again.
+/// Returns the whole text of an instance file's reader, at most 4,194,304 bytes. The reader has
+/// 5,000,000 reads; an interrupted read counts, and is retried.
 pub fn instance_text<R: Read>(alloc: Global, reader: &mut R) -> Result<Vec<u8>, InputFault>
-    // If the reader tells its bytes, these are all that it has.
+    // If the reader's bytes are known, these are all of them.
     ensures whole { IfOk result (λ text. IfSome (R.remaining reader.old)
         (λ input. input ≡ text.items)) }
     ensures short { IfOk result (λ text. length text.items ≤ INSTANCE_BYTES) }
-    // A fault of the text is `TooLong`: there is more.
+    // A fault of the text is `TooLong`: there are more bytes than the limit.
     ensures refused { IfErr result (λ fault. IfSome (R.remaining reader.old)
         (λ input. RefusesText INSTANCE_BYTES input fault)) }
-    // The reader is read no further than one byte past the limit.
+    // The reader is read at most one byte past the limit.
     ensures taken { TakesAtMost (INSTANCE_BYTES + 1)
         (R.remaining reader.old) (R.remaining reader.new) }
 {
     whole_text(alloc, reader, INSTANCE_BYTES)
 }
 
-/// The whole text of a solution file's reader, at most 1,048,576 bytes, in as many reads.
+/// Returns the whole text of a solution file's reader, at most 1,048,576 bytes, in as many reads.
 pub fn solution_text<R: Read>(alloc: Global, reader: &mut R) -> Result<Vec<u8>, InputFault>
-    // If the reader tells its bytes, these are all that it has.
+    // If the reader's bytes are known, these are all of them.
     ensures whole { IfOk result (λ text. IfSome (R.remaining reader.old)
         (λ input. input ≡ text.items)) }
     ensures short { IfOk result (λ text. length text.items ≤ TEXT_BYTES) }
-    // A fault of the text is `TooLong`: there is more.
+    // A fault of the text is `TooLong`: there are more bytes than the limit.
     ensures refused { IfErr result (λ fault. IfSome (R.remaining reader.old)
         (λ input. RefusesText TEXT_BYTES input fault)) }
-    // The reader is read no further than one byte past the limit.
+    // The reader is read at most one byte past the limit.
     ensures taken { TakesAtMost (TEXT_BYTES + 1) (R.remaining reader.old) (R.remaining reader.new) }
 {
     whole_text(alloc, reader, TEXT_BYTES)
 }
 
-// All that is left of the reader, which is read no further than one byte past the limit.
+// Returns all that is left of the reader, which is read at most one byte past the limit.
 fn whole_text<R: Read>(alloc: Global, reader: &mut R, limit: usize) -> Result<Vec<u8>, InputFault>
     requires { limit ≤ INSTANCE_BYTES }
     ensures whole { IfOk result (λ text. IfSome (R.remaining reader.old)
@@ -133,7 +133,7 @@ fn whole_text<R: Read>(alloc: Global, reader: &mut R, limit: usize) -> Result<Ve
     Ok(text_in(alloc, reader, limit, &mut reads)?)
 }
 
-// The same in the reads that are left, each of which is counted.
+// Returns the same within the reads that are left, each of which is counted.
 fn text_in<R: Read>(
     alloc: Global,
     reader: &mut R,
@@ -144,7 +144,7 @@ fn text_in<R: Read>(
     ensures whole { IfOk result (λ text. IfSome (R.remaining reader.old)
         (λ input. input ≡ text.items)) }
     ensures short { IfOk result (λ text. length text.items ≤ limit) }
-    // The reader failed, or no read is left, or there is more than the limit, or memory ran out.
+    // The reader failed, no read is left, there are more bytes than the limit, or memory ran out.
     ensures refused { IfErr result (StaysUnread limit reads.new (R.remaining reader.old)) }
     ensures taken { TakesAtMost (limit + 1) (R.remaining reader.old) (R.remaining reader.new) }
 {
@@ -169,7 +169,7 @@ fn text_in<R: Read>(
     Err(Unread::Spent)
 }
 
-// Puts a piece behind the text.
+// Appends a piece to the text.
 fn append(text: &mut Vec<u8>, piece: &[u8]) -> Result<(), AllocError>
     ensures { OnOk result (text.new.items ≡ text.old.items ++ piece.now) }
 {

@@ -22,7 +22,7 @@ use exam_model::{Enrolments, Exam, Instance, Period, PeriodRule, Room, RoomRule}
 use exam_terms::limits::{INSTANCE_BYTES, MAX_EXAMS, MAX_PERIODS, MAX_ROOMS};
 use std::alloc::Global;
 
-// What the sections behind that of the exams say.
+// The values of the sections after that of the exams.
 #[derive(Drop)]
 struct Said {
     periods: Vec<Period>,
@@ -32,25 +32,26 @@ struct Said {
     weightings: Vec<Weighting>,
 }
 
-/// The instance and the enrolments that a file spells (ITC 2007, input format). A fault is that of
-/// the first faulty line, and in it that of the first faulty field; `TooLong` (above 4,194,304
-/// bytes) and `NoMemory` have line 0.
+/// Returns the instance and the enrolments that a file describes (ITC 2007, input format). `Err` is
+/// the fault of the first faulty line, and in it that of the first faulty field; `TooLong` (above
+/// 4,194,304 bytes) and `NoMemory` have line 0.
 pub fn read_instance(alloc: Global, source: &[u8]) -> Result<(Instance, Enrolments), FileFault>
-    // What is answered is spelled so.
+    // The text describes the result.
     ensures reading { IfOk result (λ read. InstanceText source.now read.0 read.1) }
-    // What is refused, but for out of memory, spells nothing, and no text spells two instances.
+    // A text refused with any other fault than out of memory is invalid, and no text describes two
+    // instances.
     ensures only { IfErr result (λ fault. fault.what ≢ FaultKind.NoMemory
         → (I : Session) (E : Enrolled) → InstanceText source.now I E → ⊥) }
     ensures one { IfOk result (λ read. (I : Session) (E : Enrolled) → InstanceText source.now I E
         → (I ≡ read.0) × (E ≡ read.1)) }
     ensures fits { IfOk result (λ read. length read.1 ≡ length read.0.exams) }
 
-    // A fault is the first one of the text, and a text that is read has none.
+    // The fault is the first one of the text, and a text that is read has none.
     ensures first { IfErr result (λ fault. fault.what ≢ FaultKind.NoMemory
         → first_fault source.now ≡ Some fault) }
     ensures faultless { IfOk result (λ _. first_fault source.now ≡ None) }
 
-    // The answer is that of the reading of the text from the top, faults included.
+    // The result is that of the reading of the text from its start, faults included.
     ensures exact { AnswersReading (λ read. (read.0, read.1)) result (instance_in source.now) }
     ensures memory { IfErr result IsOfNoLine }
 {
@@ -60,7 +61,7 @@ pub fn read_instance(alloc: Global, source: &[u8]) -> Result<(Instance, Enrolmen
     instance_in(alloc, source)
 }
 
-// The instance of a file that is not too long.
+// Returns the instance of a file that is not too long.
 fn instance_in(alloc: Global, source: &[u8]) -> Result<(Instance, Enrolments), FileFault>
     requires within { length source.now ≤ INSTANCE_BYTES }
     ensures exact { AnswersReading (λ r. (r.0, r.1)) result (instance_in source.now) }
@@ -72,7 +73,7 @@ fn instance_in(alloc: Global, source: &[u8]) -> Result<(Instance, Enrolments), F
     Ok((instance_of(exams, said), enrolments))
 }
 
-// The section of exams.
+// Reads the section of exams.
 fn exams_section(
     alloc: Global,
     sections: &mut Sections<'_>,
@@ -92,7 +93,7 @@ fn exams_section(
     exam_lines(alloc, &mut sections.lines, size as u32)
 }
 
-// The sections behind that of the exams, of which there are so many.
+// Reads the sections after that of the exams.
 fn later_sections(alloc: Global, sections: &mut Sections<'_>, exams: u32) -> Result<Said, FileFault>
     requires within { length sections.old.source.now ≤ INSTANCE_BYTES }
     ensures found { (exam_lines : List ExamLine) → length exam_lines ≡ exams → IfOk result (λ said.
@@ -141,7 +142,7 @@ fn later_sections(alloc: Global, sections: &mut Sections<'_>, exams: u32) -> Res
     })
 }
 
-// The instance of what was read, whose limits were judged line by line.
+// Returns the instance of the sections read, whose limits were judged line by line.
 fn instance_of(exams: Vec<Exam>, said: Said) -> Instance
     requires kept { IsInstance (record {
       exams = exams.items;

@@ -1,10 +1,12 @@
 // Writing an instance file.
 ghost use Rattle.std.specs.Prelude.{◌≡◌, ◌++◌, ◌∷◌, ◌<◌, ◌≤◌, ℕ, [], All, Ok, length, IfOk, IfErr, OnOk, string_bytes};
+ghost use Rattle.std.specs.List.{flat_map};
 ghost use Rattle.office_files.specs.CanonicalLines.{exam_text, period_text, room_text};
 ghost use Rattle.office_files.specs.CanonicalText.{section_text};
 ghost use Rattle.office_files.specs.CanonicalLines.{period_rule_text, room_rule_text};
-ghost use Rattle.office_files.specs.CanonicalLines.{weighting_text};
-ghost use Rattle.office_files.specs.CanonicalText.{exam_lines_of, weightings_of, canonical_instance};
+ghost use Rattle.office_files.specs.CanonicalLines.{line_of, weighting_text};
+ghost use Rattle.office_files.specs.CanonicalText.{exam_lines_of, nights_of, weightings_of};
+ghost use Rattle.office_files.specs.CanonicalText.{canonical_instance};
 ghost use Rattle.office_files.specs.Spelled.{exams_heading, periods_heading, rooms_heading};
 ghost use Rattle.office_files.specs.Spelled.{period_rules_heading, room_rules_heading};
 ghost use Rattle.office_files.specs.Spelled.{weightings_heading};
@@ -18,7 +20,7 @@ use crate::weightings::Weighting;
 use exam_model::{Enrolments, ExamNo, Instance, PeriodNo, RoomNo};
 use std::alloc::{AllocError, Global};
 
-/// The canonical text of an instance and its enrolments (ITC 2007, input format).
+/// Returns the canonical text of an instance and its enrolments (ITC 2007, input format).
 pub fn write_instance(
     alloc: Global,
     instance: &Instance,
@@ -30,7 +32,7 @@ pub fn write_instance(
         text.items ≡ canonical_instance instance.now enrolments.now) }
     ensures memory { IfErr result (λ fault. (fault.what ≡ FaultKind.NoMemory) × (fault.line ≡ 0)) }
 
-    // What is written reads back as the same.
+    // The written text reads back as the same.
     ensures spells { IfOk result (λ text.
         InstanceText text.items instance.now enrolments.now) }
     ensures same { IfOk result (λ text.
@@ -127,5 +129,17 @@ fn add_weightings(text: &mut String, instance: &Instance) -> Result<(), AllocErr
     add_weighting(text, Weighting::Spread(weights.spread))?;
     add_weighting(text, Weighting::Mixed(weights.mixed))?;
     add_weighting(text, Weighting::Front(exams, periods, weights.front))?;
+    add_night(text, weights.night)?;
     Ok(())
+}
+
+// Adds the line of the weight of nights, if it isn't 0.
+fn add_night(text: &mut String, weight: u32) -> Result<(), AllocError>
+    ensures { OnOk result (string_bytes text.new ≡ string_bytes text.old
+        ++ flat_map (λ said. line_of (weighting_text said)) (nights_of weight)) }
+{
+    if weight == 0 {
+        return Ok(());
+    }
+    add_weighting(text, Weighting::Night(weight))
 }

@@ -1,4 +1,4 @@
-// Reading what single lines say: periods, rooms, rules and places.
+// Reading the values of single lines: periods, rooms, rules and places.
 ghost use Rattle.std.specs.Prelude.{◌≡◌, ℕ, List, Result};
 ghost use Rattle.office_files.specs.Fields.{fields_of};
 ghost use Rattle.office_files.specs.declared.counts.Counts.{Counts};
@@ -13,7 +13,7 @@ use crate::words::same_word;
 use exam_model::{ExamNo, Period, PeriodNo, PeriodRule, Place, Room, RoomNo, RoomRule};
 use exam_terms::limits::{MAX_AMOUNT, MAX_MINUTES, MAX_RULES};
 
-/// What a line of one kind says, behind the items of the lines before it.
+/// The value of a line of one kind, after the items of the lines before it.
 pub(crate) trait LineItem: Sized {
     ghost reading: { Counts → List Self → List (List ℕ) → Result Self FaultKind };
 

@@ -15,28 +15,29 @@ ghost use Rattle.office_files.specs.Lines.{Located, lines_of};
 ghost use Rattle.office_files.specs.SaidWeights.{Weighs, last_section};
 ghost use Rattle.office_files.specs.SolutionText.{SolutionText, solution_in};
 
-/// A text spells at most one instance, with one set of enrolments.
+/// A text describes at most one instance, with one set of enrolments.
 pub fn one_instance()
     ensures { (b : List ℕ) (I J : Session) (E F : Enrolled) → InstanceText b I E
         → InstanceText b J F → (I ≡ J) × (E ≡ F) }
 {}
 
-/// Who sits an exam in what a text spells: just the students whom a field of the exam's line names
-/// behind the first; the line of exam e is line e + 1 of those that aren't blank.
+/// The students who sit an exam, by a text, are exactly those whom a field of the exam's line
+/// names, after the first field; the line of exam e is line e + 1 of those that aren't blank.
 pub fn sits_as_named()
     ensures { (b : List ℕ) (I : Session) (E : Enrolled) (s e : ℕ) (line : Located)
         → InstanceText b I E → e < length I.exams → slice_get (lines_of b) (e + 1) ≡ Some line
         → has E s e ≡ name_student (rest (fields_of line.text)) s }
 {}
 
-/// Each weight of what a text spells is the number on the line of its word, and zero where the
-/// section has no such line; no word has two. The section is the lines behind the last header.
+/// Each weight, by a text, is the number on the line of its word, and 0 if the section has no such
+/// line; no word has two lines. The section is the lines after the last header.
 pub fn weighs_as_said()
     ensures { (b : List ℕ) (I : Session) (E : Enrolled) → InstanceText b I E
         → Weighs (last_section (lines_of b)) I.weights }
 {}
 
-/// What a text spells is in its limits: an instance, and enrolments of its exams.
+/// The values that a text describes are within their limits: an instance, and enrolments of its
+/// exams.
 pub fn spelled_in_limits()
     ensures session { (b : List ℕ) (I : Session) (E : Enrolled) → InstanceText b I E
         → IsInstance I }
@@ -46,20 +47,20 @@ pub fn spelled_in_limits()
         → length E ≡ length I.exams }
 {}
 
-/// A timetable that a text spells suits its instance: every place exists.
+/// A timetable that a text describes suits its instance: every place exists.
 pub fn spelled_timetable_suits()
     ensures { (b : List ℕ) (I : Session) (T : Placing) → IsInstance I → SolutionText b I T
         → Suits I T }
 {}
 
-/// A text spells at most one timetable for an instance.
+/// A text describes at most one timetable for an instance.
 pub fn one_timetable()
     ensures { (b : List ℕ) (I : Session) (S T : Placing) → SolutionText b I S
         → SolutionText b I T → S ≡ T }
 {}
 
-/// A text spells what its reading from the top gives, and nothing else; what the reading refuses
-/// is the first fault of the text, by the fault of each line where it stands.
+/// A text describes exactly the result of its reading from the start; the fault of the reading is
+/// the first fault of the text, by the fault of each line at its position.
 pub fn instance_readings_agree()
     ensures spelled { (b : List ℕ) (I : Session) (E : Enrolled) → instance_in b ≡ Ok (I, E)
         → InstanceText b I E }
@@ -68,7 +69,7 @@ pub fn instance_readings_agree()
     ensures first { (b : List ℕ) → first_fault b ≡ fault_of (instance_in b) }
 {}
 
-/// The same of the texts of solutions.
+/// The same for the texts of solutions.
 pub fn solution_readings_agree()
     ensures spelled { (b : List ℕ) (I : Session) (T : Placing) → solution_in I b ≡ Ok T
         → SolutionText b I T }
@@ -78,14 +79,14 @@ pub fn solution_readings_agree()
         → first_solution_fault I b ≡ fault_of (solution_in I b) }
 {}
 
-/// The canonical text of an instance and its enrolments spells them.
+/// The canonical text of an instance and its enrolments describes them.
 pub fn canonical_instance_reads_back()
     ensures { (I : Session) (E : Enrolled) → IsInstance I → AreEnrolments E
         → length E ≡ length I.exams
         → InstanceText (canonical_instance I E) I E }
 {}
 
-/// The canonical text of a complete timetable spells it, in each instance that it suits.
+/// The canonical text of a complete timetable describes it, for each instance that it suits.
 pub fn canonical_solution_reads_back()
     ensures { (I : Session) (T : Placing) → SuitsTimetable I T
         → ((e : ℕ) → e < length T → IsSome (place_of T e))

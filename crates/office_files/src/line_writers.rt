@@ -53,7 +53,7 @@ fn add_time(text: &mut String, period: &Period) -> Result<(), AllocError>
     write!(text, "{hour:02}:{minute:02}:{second:02}")
 }
 
-/// Adds the line of an exam and those who sit it.
+/// Adds the line of an exam and the students who sit it.
 pub(crate) fn add_exam(
     text: &mut String,
     exam: Exam,
@@ -101,7 +101,7 @@ pub(crate) fn add_room_rule(text: &mut String, rule: RoomRule) -> Result<(), All
     add_word(text, rule.0, "ROOM_EXCLUSIVE")
 }
 
-// Adds the line of a word behind an exam.
+// Adds the line of a word after an exam.
 fn add_word(text: &mut String, exam: ExamNo, word: &str) -> Result<(), AllocError>
     ensures { OnOk result (string_bytes text.new
         ≡ string_bytes text.old ++ line_of (before (decimal exam) word.now)) }
@@ -123,6 +123,7 @@ pub(crate) fn add_weighting(text: &mut String, said: Weighting) -> Result<(), Al
         Weighting::Front(exams, periods, weight) => {
             write!(text, "FRONTLOAD,{exams},{periods},{weight}\r\n")
         }
+        Weighting::Night(weight) => add_weighed(text, "OVERNIGHT", weight),
     }
 }
 

@@ -11,20 +11,20 @@ use exam_terms::{trim_end, trim_start};
 use memchr::memchr;
 use std::marker::Model;
 
-/// What stands on a line or in a field of a text, without the blanks around it.
+/// The text of a line or of a field in it, without the blanks around it.
 #[derive(Clone, Copy)]
 pub struct Token<'a> {
-    /// The line in the text, counted from 1.
+    /// The line in the text, from 1.
     pub line: u32,
-    /// Where it starts in the text, in bytes.
+    /// The index of its first byte in the text.
     pub start: usize,
-    /// Where it ends, in bytes: the place behind its last byte.
+    /// The index after its last byte.
     pub end: usize,
     /// Its bytes, those from `start` to `end`.
     pub text: &'a [u8],
 }
 
-/// How many lines a text has, the blank ones too.
+/// Returns how many lines a text has, blank ones included.
 pub(crate) fn line_count(source: &[u8]) -> u32
     requires { length source.now ≤ INSTANCE_BYTES }
     ensures { result ≡ line_count source.now }
@@ -38,7 +38,7 @@ pub(crate) fn line_count(source: &[u8]) -> u32
     lines
 }
 
-// A text up to its first line feed, and what is behind that.
+// Returns a text up to its first line feed, and the rest after that.
 #[inline]
 #[tactic(auto, using(crate::proofs::FieldLemmas::part_facts))]
 fn cut_line(text: &[u8]) -> (&[u8], &[u8])
@@ -55,7 +55,7 @@ fn cut_line(text: &[u8]) -> (&[u8], &[u8])
     }
 }
 
-/// The lines of a text that are still to come and aren't blank.
+/// The lines of a text that are not read yet and aren't blank.
 #[derive(Drop)]
 pub(crate) struct Lines<'a> {
     left: &'a [u8],
@@ -72,7 +72,7 @@ impl<'a> Model for Lines<'a> {
 }
 
 impl<'a> Lines<'a> {
-    /// The lines of this text, from the first on.
+    /// Returns all lines of this text.
     #[inline]
     pub(crate) fn new(source: &'a [u8]) -> Lines<'a>
         requires { length source.now ≤ INSTANCE_BYTES }
@@ -85,7 +85,7 @@ impl<'a> Lines<'a> {
         }
     }
 
-    /// The next line that isn't blank.
+    /// Returns the next line that isn't blank.
     pub(crate) fn next(&mut self) -> Option<Token<'a>>
         ensures inside { IfSome result (λ row. (0 < length row.text.now)
             × (row.start + length row.text.now ≤ INSTANCE_BYTES)) }
@@ -105,7 +105,7 @@ impl<'a> Lines<'a> {
         None
     }
 
-    /// How many lines stand before the next header.
+    /// Returns how many lines there are before the next header.
     #[tactic(auto, using(crate::proofs::LineLemmas::size_facts))]
     pub(crate) fn section_size(&self) -> usize
         ensures size { result ≡ section_size self.now }
@@ -127,7 +127,7 @@ impl<'a> Lines<'a> {
     }
 }
 
-/// A piece of a line, which starts at that place of the text, without the blanks around it.
+/// Returns a piece of a line, which starts at that index of the text, without the blanks around it.
 #[inline]
 pub(crate) fn located(line: u32, start: usize, text: &[u8]) -> Token<'_>
     requires { start + length text.now ≤ INSTANCE_BYTES + 1 }
@@ -145,7 +145,7 @@ pub(crate) fn located(line: u32, start: usize, text: &[u8]) -> Token<'_>
     }
 }
 
-// One carriage return at the end is dropped.
+// Returns the line without one carriage return at its end, if there is one.
 #[inline]
 #[tactic(auto, using(crate::proofs::LineLemmas::return_facts))]
 fn without_return(line: &[u8]) -> &[u8]

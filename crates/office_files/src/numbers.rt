@@ -4,10 +4,10 @@ ghost use Rattle.office_files.specs.Numbers.{number, at_most};
 
 use crate::fault::FaultKind;
 
-// Above every limit, and far below where a u64 ends.
+// Above every limit, and far below the greatest u64.
 const PAST_ALL: u64 = 1 << 32;
 
-/// The number, where it is of at most the limit.
+/// Returns the number, if it is at most the limit.
 #[inline]
 pub(crate) fn within(value: u32, limit: u32) -> Result<u32, FaultKind>
     ensures { result ≡ at_most limit value }
@@ -18,7 +18,7 @@ pub(crate) fn within(value: u32, limit: u32) -> Result<u32, FaultKind>
     Ok(value)
 }
 
-/// The number that a field says in digits, of at most the limit.
+/// Returns the number that a field has in digits, at most the limit.
 pub fn number(text: &[u8], limit: u32) -> Result<u32, FaultKind>
     ensures { result ≡ number limit text.now }
 {

@@ -6,7 +6,7 @@ use crate::fault::FaultKind;
 use crate::words::same_word;
 use exam_model::{ExamNo, PeriodRule};
 
-/// What a rule asks of the periods of two exams.
+/// The condition of a rule on the periods of two exams.
 #[derive(Clone, Copy)]
 pub(crate) enum RuleWord {
     After,
@@ -14,7 +14,7 @@ pub(crate) enum RuleWord {
     Exclusion,
 }
 
-/// The word that a field says, in small or capital letters; else it is a bad word.
+/// Returns the word of a field, in lower or upper case; any other field is a bad word.
 pub(crate) fn rule_word(text: &[u8]) -> Result<RuleWord, FaultKind>
     ensures { result ≡ rule_word text.now }
 {
@@ -29,7 +29,7 @@ pub(crate) fn rule_word(text: &[u8]) -> Result<RuleWord, FaultKind>
     }
 }
 
-/// The rule of that word on two exams.
+/// Returns the rule with that word on two exams.
 pub(crate) fn rule_by(word: RuleWord, one: u32, other: u32) -> PeriodRule
     ensures { result ≡ rule_by word one other }
 {

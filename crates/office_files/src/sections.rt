@@ -16,7 +16,7 @@ use crate::items::LineItem;
 use crate::lines::{Lines, Token, line_count};
 use std::alloc::Global;
 
-/// The items of all lines that are left.
+/// Returns the items of all lines that are left.
 pub(crate) fn all_items<T: LineItem + Drop>(
     alloc: Global,
     mut lines: Lines<'_>,
@@ -33,7 +33,7 @@ pub(crate) fn all_items<T: LineItem + Drop>(
     Ok(items)
 }
 
-// The item of a line goes behind those of the lines before it.
+// Adds the item of a line after those of the lines before it.
 fn add_item<T: LineItem + Drop>(
     items: &mut Vec<T>,
     line: Token<'_>,
@@ -52,7 +52,7 @@ fn add_item<T: LineItem + Drop>(
     }
 }
 
-/// The sections of a file that are still to come.
+/// The sections of a file that are not read yet.
 #[derive(Drop)]
 pub(crate) struct Sections<'a> {
     pub source: &'a [u8],
@@ -60,7 +60,7 @@ pub(crate) struct Sections<'a> {
 }
 
 impl<'a> Sections<'a> {
-    /// All sections of this file.
+    /// Returns all sections of this file.
     pub(crate) fn new(source: &'a [u8]) -> Sections<'a>
         requires within { length source.now ≤ INSTANCE_BYTES }
         ensures lines { result.lines ≡ lines_of source.now }
@@ -72,7 +72,7 @@ impl<'a> Sections<'a> {
         }
     }
 
-    // Judges the next header, and answers how many lines its section has.
+    // Judges the next header, and returns how many lines its section has.
     #[tactic(auto, using(crate::proofs::SectionLemmas::section_facts))]
     pub(crate) fn open(&mut self, word: &[u8], limit: Option<u32>) -> Result<usize, FileFault>
         requires within { length self.old.source.now ≤ INSTANCE_BYTES }
@@ -99,7 +99,7 @@ impl<'a> Sections<'a> {
         }
     }
 
-    /// The items of the next section.
+    /// Returns the items of the next section.
     pub(crate) fn next<T: LineItem + Drop>(
         &mut self,
         alloc: Global,
@@ -121,7 +121,7 @@ impl<'a> Sections<'a> {
         items(alloc, &mut self.lines, size, counts)
     }
 
-    /// Refuses a header behind the last section.
+    /// Refuses a header after the last section.
     pub(crate) fn end(&mut self) -> Result<(), FileFault>
         ensures exact { result ≡ no_more self.old.lines }
         ensures memory { IfErr result IsOfNoLine }
@@ -136,7 +136,7 @@ impl<'a> Sections<'a> {
     }
 }
 
-// The items of the next lines, of which there are so many.
+// Returns the items of the next lines.
 fn items<T: LineItem + Drop>(
     alloc: Global,
     lines: &mut Lines<'_>,

@@ -17,17 +17,19 @@ use exam_model::{ExamNo, Instance, Place, Timetable};
 use exam_terms::limits::TEXT_BYTES;
 use std::alloc::Global;
 
-/// The complete timetable that a file spells for an instance (ITC 2007, output format). A fault is
-/// that of the first faulty line, and in it that of the first faulty field; the end of the file
-/// counts as one line more. `TooLong` (above 1,048,576 bytes) and `NoMemory` have line 0.
+/// Returns the complete timetable that a file describes for an instance (ITC 2007, output format).
+/// `Err` is the fault of the first faulty line, and in it that of the first faulty field; the end
+/// of the file counts as one more line. `TooLong` (above 1,048,576 bytes) and `NoMemory` have line
+/// 0.
 pub fn read_solution(
     alloc: Global,
     source: &[u8],
     instance: &Instance,
 ) -> Result<Timetable, FileFault>
-    // What is answered is spelled so.
+    // The text describes the result.
     ensures reading { IfOk result (λ read. SolutionText source.now instance.now read) }
-    // What is refused, but for out of memory, spells nothing, and no text spells two timetables.
+    // A text refused with any other fault than out of memory is invalid, and no text describes two
+    // timetables.
     ensures only { IfErr result (λ fault. fault.what ≢ FaultKind.NoMemory
         → (T : Placing) → SolutionText source.now instance.now T → ⊥) }
     ensures one { IfOk result (λ read. (T : Placing) → SolutionText source.now instance.now T
@@ -35,12 +37,12 @@ pub fn read_solution(
     ensures fits { IfOk result (λ read. length read ≡ length instance.now.exams) }
     ensures exist { IfOk result (λ read. All (PlaceExists instance.now) read) }
 
-    // A fault is the first one of the text, and a text that is read has none.
+    // The fault is the first one of the text, and a text that is read has none.
     ensures first { IfErr result (λ fault. fault.what ≢ FaultKind.NoMemory
         → first_solution_fault instance.now source.now ≡ Some fault) }
     ensures faultless { IfOk result (λ _. first_solution_fault instance.now source.now ≡ None) }
 
-    // The answer is that of the reading of the text from the top, faults included.
+    // The result is that of the reading of the text from its start, faults included.
     ensures exact { AnswersReading (λ read. read) result (solution_in instance.now source.now) }
     ensures memory { IfErr result IsOfNoLine }
 {
@@ -50,7 +52,7 @@ pub fn read_solution(
     solution_in(alloc, source, instance)
 }
 
-// The timetable of a file that is not too long, for an instance.
+// Returns the timetable of a file that is not too long, for an instance.
 fn solution_in(alloc: Global, source: &[u8], instance: &Instance) -> Result<Timetable, FileFault>
     requires within { length source.now ≤ TEXT_BYTES }
     ensures exact { AnswersReading (λ read. read) result (solution_in instance.now source.now) }
@@ -65,7 +67,7 @@ fn solution_in(alloc: Global, source: &[u8], instance: &Instance) -> Result<Time
     timetable_in(alloc, source, counts)
 }
 
-// The timetable of a file that is not too long, by what its lines may name.
+// Returns the timetable of a file that is not too long, by the counts of what its lines may name.
 #[tactic(auto, using(crate::proofs::SectionLemmas::section_facts))]
 fn timetable_in(alloc: Global, source: &[u8], counts: Counts) -> Result<Timetable, FileFault>
     requires within { length source.now ≤ TEXT_BYTES }
@@ -84,7 +86,7 @@ fn timetable_in(alloc: Global, source: &[u8], counts: Counts) -> Result<Timetabl
     timetable_of(alloc, &places)
 }
 
-// The complete timetable of these places.
+// Returns the complete timetable with these places.
 #[tactic(auto, using(crate::proofs::SolutionLemmas::all_placed))]
 fn timetable_of(alloc: Global, places: &[Place]) -> Result<Timetable, FileFault>
     requires some { 1 ≤ length places.now }

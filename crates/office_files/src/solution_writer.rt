@@ -12,9 +12,9 @@ use crate::line_writers::add_pair;
 use exam_model::{ExamNo, Timetable};
 use std::alloc::{AllocError, Global};
 
-/// The canonical text of a complete timetable (ITC 2007, output format), of at most 24,000 bytes.
-/// `Incomplete` has the line of the smallest exam that is not placed, counted from 1, and comes
-/// before any memory is taken; else `NoMemory` has line 0.
+/// Returns the canonical text of a complete timetable (ITC 2007, output format), of at most 24,000
+/// bytes. `Incomplete` has the line of the smallest exam that is not placed, from 1, and is judged
+/// before any memory is allocated; `NoMemory` has line 0.
 pub fn write_solution(alloc: Global, timetable: &Timetable) -> Result<Vec<u8>, FileFault>
     ensures text { IfOk result (λ text. text.items ≡ canonical_solution timetable.now) }
     ensures complete { IfOk result (λ _. (e : ℕ) → e < length timetable.now
@@ -23,11 +23,11 @@ pub fn write_solution(alloc: Global, timetable: &Timetable) -> Result<Vec<u8>, F
         → IsIncomplete timetable.now fault) }
     ensures memory { IfErr result IsOfNoLine }
 
-    // Memory is asked for only where each exam has a place.
+    // Memory is allocated only if each exam has a place.
     ensures placed { IfErr result (λ fault. fault.what ≡ FaultKind.NoMemory → (e : ℕ)
         → e < length timetable.now → IsSome (place_of timetable.now e)) }
 
-    // What is written reads back as the same, for each instance that the timetable fits.
+    // The written text reads back as the same, for each instance that the timetable fits.
     ensures spells { IfOk result (λ text. (I : Session) → SuitsTimetable I timetable.now
         → SolutionText text.items I timetable.now) }
     ensures same { IfOk result (λ text. (I : Session) → SuitsTimetable I timetable.now
@@ -45,7 +45,7 @@ pub fn write_solution(alloc: Global, timetable: &Timetable) -> Result<Vec<u8>, F
     Ok(text.into_bytes())
 }
 
-// The text of a timetable, in which an exam without a place has no line.
+// Returns the text of a timetable, in which an exam without a place has no line.
 fn solution_text(alloc: Global, timetable: &Timetable) -> Result<String, AllocError>
     ensures { IfOk result (λ text. string_bytes text ≡ canonical_solution timetable.now) }
 {

@@ -12,8 +12,8 @@ use std::marker::Model;
 
 /// The fields of a text, in their order, each without the blanks around it.
 ///
-/// A field that is empty is there too, but for one behind the last comma of a line. A header is one
-/// field, its commas among it, and a blank line has none. Nothing is copied: it takes no memory.
+/// Empty fields are included, except one after a comma at the end of a line. A header is one field,
+/// with its commas, and a blank line has no fields. Nothing is copied: it takes no memory.
 #[derive(Drop)]
 pub struct Tokens<'a> {
     rows: Lines<'a>,
@@ -32,7 +32,7 @@ impl<'a> Model for Tokens<'a> {
 }
 
 impl<'a> Tokens<'a> {
-    /// The fields of this text, from the first on.
+    /// Returns all fields of this text.
     #[tactic(auto, using(crate::proofs::OrderLaws::token_laws))]
     pub fn new(source: &'a [u8]) -> Tokens<'a>
         requires { length source.now ≤ INSTANCE_BYTES }

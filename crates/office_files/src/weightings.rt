@@ -22,9 +22,11 @@ pub(crate) enum WeightWord {
     Spread,
     Mixed,
     Front,
+    Night,
 }
 
-/// What a weighting line says; of the front load how many exams, how many periods, what weight.
+/// The value of a weighting line; that of the front load is how many exams, how many periods, and
+/// the weight.
 #[derive(Clone, Copy)]
 pub(crate) enum Weighting {
     Row(u32),
@@ -32,6 +34,7 @@ pub(crate) enum Weighting {
     Spread(u32),
     Mixed(u32),
     Front(u32, u32, u32),
+    Night(u32),
 }
 
 impl LineItem for Weighting {
@@ -62,6 +65,8 @@ fn weight_word(text: &[u8]) -> Result<WeightWord, FaultKind>
         Ok(WeightWord::Mixed)
     } else if same_word(text, b"FRONTLOAD") {
         Ok(WeightWord::Front)
+    } else if same_word(text, b"OVERNIGHT") {
+        Ok(WeightWord::Night)
     } else {
         Err(FaultKind::BadWord)
     }
@@ -83,10 +88,11 @@ fn has_word(word: WeightWord, said: &Weighting) -> bool
             | (WeightWord::Spread, Weighting::Spread(_))
             | (WeightWord::Mixed, Weighting::Mixed(_))
             | (WeightWord::Front, Weighting::Front(_, _, _))
+            | (WeightWord::Night, Weighting::Night(_))
     )
 }
 
-// What the numbers behind a word say.
+// Returns the weighting of the numbers after a word.
 fn weighting_by(word: WeightWord, fields: Fields<'_>) -> Result<Weighting, FaultKind>
     ensures { result ≡ weighting_by word fields.entry }
 {
@@ -96,10 +102,11 @@ fn weighting_by(word: WeightWord, fields: Fields<'_>) -> Result<Weighting, Fault
         WeightWord::Spread => Ok(Weighting::Spread(amount_in(fields)?)),
         WeightWord::Mixed => Ok(Weighting::Mixed(amount_in(fields)?)),
         WeightWord::Front => front_in(fields),
+        WeightWord::Night => Ok(Weighting::Night(amount_in(fields)?)),
     }
 }
 
-// The one number behind a word.
+// Returns the one number after a word.
 fn amount_in(mut fields: Fields<'_>) -> Result<u32, FaultKind>
     ensures { result ≡ amount_in fields.entry }
 {
@@ -118,7 +125,7 @@ fn front_in(mut fields: Fields<'_>) -> Result<Weighting, FaultKind>
     Ok(Weighting::Front(exams, periods, weight))
 }
 
-/// The weights that these lines say; what is not weighed counts as zero.
+/// Returns the weights of these lines; a weight without a line is 0.
 pub(crate) fn weights_of(said: &[Weighting]) -> Weights
     ensures { result ≡ with_weightings no_weights said.now }
 {
@@ -130,6 +137,7 @@ pub(crate) fn weights_of(said: &[Weighting]) -> Weights
         front_exams: 0,
         front_periods: 0,
         front: 0,
+        night: 0,
     };
     for one in said {
         weights = with_weighting(weights, *one);
@@ -137,7 +145,7 @@ pub(crate) fn weights_of(said: &[Weighting]) -> Weights
     weights
 }
 
-// The weights with what one line says.
+// Returns the weights with those of one line.
 fn with_weighting(weights: Weights, said: Weighting) -> Weights
     ensures { result ≡ with_weighting weights said }
 {
@@ -152,6 +160,7 @@ fn with_weighting(weights: Weights, said: Weighting) -> Weights
             weights.front_periods = periods;
             weights.front = weight;
         }
+        Weighting::Night(weight) => weights.night = weight,
     }
     weights
 }

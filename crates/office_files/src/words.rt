@@ -3,7 +3,7 @@ ghost use Rattle.std.specs.Prelude.{◌≡◌, ℕ, ◌<◌, option_map};
 ghost use Rattle.std.specs.Str.{str_eq_ignore_ascii_case};
 ghost use Rattle.office_files.specs.Fields.{split_once};
 
-/// The bytes before the first mark, and those behind it.
+/// Returns the bytes before the first mark, and those after it.
 #[tactic(auto, using(crate::proofs::SplitLemmas::split_facts))]
 pub(crate) fn split_once(text: &[u8], mark: u8) -> Option<(&[u8], &[u8])>
     ensures { option_map (λ p. (p.0.now, p.1.now)) result ≡ split_once mark text.now }
@@ -16,7 +16,7 @@ pub(crate) fn split_once(text: &[u8], mark: u8) -> Option<(&[u8], &[u8])>
     None
 }
 
-/// Whether a text is the word, in small or capital letters.
+/// Returns whether a text is the word, in lower or upper case.
 pub fn same_word(text: &[u8], word: &[u8]) -> bool
     ensures { result ≡ str_eq_ignore_ascii_case text.now word.now }
 {

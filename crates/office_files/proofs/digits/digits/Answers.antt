@@ -4,7 +4,7 @@ use Rattle.std.specs.Int.Bits.{bit_xor}
 use Rattle.office_files.proofs.ReadOnLemmas.{low_is_digit, high_is_none, small_room, says-more}
 use Rattle.office_files.proofs.digits.digits.Goals as goal
 
--- a number of eight digits or less has room for one more
+-- a number of eight digits or fewer has room for one more
 pub overflow_mul-value : goal.overflow_mul-value
 overflow_mul-value c =
     let room = small_room c.loop-i.value c.loop-i.i (omega arith) c.loop-i.invariant.small in
@@ -15,7 +15,7 @@ overflow_add-value c =
     let room = small_room c.loop-i.value c.loop-i.i (omega arith) c.loop-i.invariant.small in
     omega arith
 
--- one digit more
+-- one more digit
 pub loop-i-preserved : goal.loop-i-preserved
 loop-i-preserved c =
     let byte : c.from-digit.result < 256 = omega (arith, c.type_inv.text c.loop-i.i) in

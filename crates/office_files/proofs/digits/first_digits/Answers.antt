@@ -3,7 +3,7 @@ use Rattle.std.proofs.lemmas.List.{take_rest, nil_from_length}
 use Rattle.office_files.proofs.ReadOnLemmas.{at_end, at_comma, at_other}
 use Rattle.office_files.proofs.digits.first_digits.Goals as goal
 
--- the line ends behind the digits
+-- the line ends after the digits
 pub returns-in_default-clause-value : goal.returns-in_default-clause-value
 returns-in_default-clause-value c =
     let line = c.args.line.now in

@@ -5,7 +5,7 @@ use Rattle.office_files.proofs.ExamLineSteps.{read_of, line_past, line_entered, 
 use Rattle.office_files.proofs.ExamLinePairs.{too_many}
 use Rattle.office_files.proofs.exam_lines.exam_line.Goals as goal
 
--- all students are in, and no field is faulty
+-- all students are added, and no field is faulty
 pub returns-in-None-clause-ok : goal.returns-in-None-clause-ok
 returns-in-None-clause-ok c =
     let fields = fields_of c.args.line.now in

@@ -16,7 +16,7 @@ returns-in-Err-clause-fault c other =
     (omega arith) c.lines.invariant.so_far row c.next.new.self c.in-Some.ensures.row c.in-Err.what
     (c.in-Err.ensures.err judged))
 
--- one line more is read
+-- one more line is read
 pub lines-preserved : goal.lines-preserved
 lines-preserved c =
     let all = c.args.lines.now in

@@ -15,7 +15,7 @@ returns-then-not-ascending-clause-ascending c =
     c.dedup.new.self.items c.sort_unstable.ensures.permutation c.sort_unstable.ensures.sorted
     (dedup_is _ _ _ c.dedup.ensures.filtered)).1
 
--- left as they came
+-- the students keep their order
 pub returns-else-not-ascending-clause-all : goal.returns-else-not-ascending-clause-all
 returns-else-not-ascending-clause-all c =
     students-ascending c.args.named.now.items (c.requires c.if-not-ascending.false)

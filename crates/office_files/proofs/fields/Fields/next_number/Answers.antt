@@ -14,7 +14,7 @@ returns-in-Some-clause-number c =
     rw (← c.self.view_is)
     (c.within.ensures ∙ sym (number_first line c.in-Some.value said c.args.limit))
 
--- the fields behind it are left
+-- the fields after it are left
 pub returns-in-Some-clause-left : goal.returns-in-Some-clause-left
 returns-in-Some-clause-left c =
     let line = c.self.inside.left.now in
