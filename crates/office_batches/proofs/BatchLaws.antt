@@ -15,9 +15,9 @@ use Rattle.office_batches.specs.Records.{Record, change_in, is_header}
 use Rattle.office_batches.specs.BatchText.{BatchText, changes_from, records_in, batch_in}
 use Rattle.office_batches.specs.FirstFault.{first_from, first_of, first_batch_fault}
 
--- ---- records behind the first
+-- ---- records after the first
 
--- the reading goes on behind a record as its change is read
+-- the reading goes on after a record with its change
 abbrev going_on : ℕ → List Change → List Record → Result Change FaultKind
     → Result (List Change) FileFault
 going_on line before others c =
@@ -52,7 +52,7 @@ read_from line before (r ∷ rs) (x ∷ xs) le is =
     ∙ read_from (line + 1) (before ++ x ∷ []) rs xs (omega arith) tail
     ∙ ap Ok (more before xs x)
 
--- what a reading answers is what its records say
+-- the result of a reading is the list of its records' changes
 abbrev Says : List Change → List Record → List Change → Type 0
 Says before rs out = (xs : List Change) × (out ≡ before ++ xs) × (map change_in rs ≡ map Ok xs)
 

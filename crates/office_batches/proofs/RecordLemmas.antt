@@ -1,4 +1,4 @@
--- How far the reading of a batch has come, record by record.
+-- The progress of the reading of a batch, record by record.
 use Rattle.std.proofs.Common.{◌≡◌, ◌∙◌, ℕ, zero, suc, ◌+◌, ◌<◌, ◌≤◌, List, [], ◌∷◌, length, Bor, Option, Some, None, Result, Ok, Err, refl, ap, ap₂, sym, true, false, arith, slice_index_or}
 use Rattle.std.proofs.lemmas.Bool.{le-leb}
 use Rattle.csv.specs.Machine.{Read, next_record}
@@ -18,11 +18,11 @@ use Rattle.office_batches.proofs.TurnLemmas.{all_records}
 use Rattle.office_batches.specs.Records.{Record}
 use Rattle.office_batches.specs.BatchText.{behind, changes_from, records_in}
 
--- the bytes that a slice gives as a reader
+-- the bytes of a slice as a reader
 abbrev pub bytes_of : Bor (List ℕ) → Option (List ℕ)
 bytes_of s = Some s.now
 
--- behind so many records of a text, with these changes: what is left is read on from here
+-- after this many records of a text, with these changes: the rest is read from here
 pub record IsBehind (text : List ℕ) (reader : Reader (Bor (List ℕ)))
     (changes : List Change) (before : ℕ)
     : Type 0 where
@@ -36,7 +36,7 @@ pub record IsBehind (text : List ℕ) (reader : Reader (Bor (List ℕ)))
   pub whole : changes_from 1 [] (records_in text)
       ≡ changes_from (before + 1) changes (records_from default_config turns reader.state left)
 
--- a record that was read, before those behind it
+-- a record that was read, followed by the others
 step_from : (n : ℕ) (s t : State) (y z : List ℕ) (f : Record) (p : Read)
     → next_record default_config s [] [] y ≡ Some p → f ≡ p.0 → p.1 ≡ t → p.2 ≡ z
     → records_from default_config (suc n) s y ≡ f ∷ records_from default_config n t z
@@ -46,7 +46,7 @@ step_from n s t y z f p is first state left =
     ∙ ap₂ (λ (x : Record) (xs : List Record). x ∷ xs) (sym first)
     (ap₂ (records_from default_config n) state left)
 
--- where no record is found there is none
+-- if no record is found, there is none
 none_from : (n : ℕ) (s : State) (y : List ℕ) → next_record default_config s [] [] y ≡ None
     → records_from default_config n s y ≡ []
 unfolding records_from
@@ -69,7 +69,7 @@ one_turn : (t : ℕ) → 0 < t → (n : ℕ) × (t ≡ suc n)
 one_turn zero h = absurd (omega arith)
 one_turn (suc n) h = (n, refl)
 
--- where the reading begins
+-- the start of the reading
 pub started : (text : List ℕ) (reader : Reader (Bor (List ℕ)))
     → source_of bytes_of reader ≡ Some (strip_bom text) → reader.config ≡ default_config
     → reader.trim ≡ trim.None → Ready reader → reader.state ≡ state.StartRecord
@@ -90,7 +90,7 @@ started text reader source config trim ready begins = record {
 
 module _ (text : List ℕ) (a b : Reader (Bor (List ℕ))) (changes : List Change) (before : ℕ)
     (f : Record) (at : IsBehind text a changes before) where
-  -- what the next record makes of the changes
+  -- the changes after the next record
   read_on : before < length text + 1 → ReadRecord bytes_of a b true f
       → (left : List ℕ) × (n : ℕ) × (source_of bytes_of b ≡ Some left)
       × (before + 1 + n ≡ length text + 1)
@@ -160,7 +160,7 @@ spent text a changes before at all =
     (records_from default_config t a.state at.left))
     none
 
--- behind a header the changes are all
+-- after a header the changes are complete
 pub all_changes : (n : ℕ) (changes : List Change) → 1 ≤ n
     → changes_from (n + 1) changes [] ≡ Ok changes
 all_changes n changes some =

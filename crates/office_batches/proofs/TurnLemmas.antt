@@ -1,4 +1,4 @@
--- A record takes a byte at least, so a text has no more records than bytes, and one.
+-- A record takes at least one byte, so a text has at most one more record than bytes.
 use Rattle.std.proofs.Common.{◌≡◌, ◌∙◌, ℕ, zero, suc, ◌+◌, ◌<◌, ◌≤◌, ◌⊎◌, inl, inr, Bool, true, false, List, [], ◌∷◌, length, Option, Some, None, refl, ap, sym, arith}
 use Rattle.std.specs.Prelude.{if◌then◌else◌}
 use Rattle.csv.specs.Machine.{Read, ends_at_end, is_end, next_record, step}
@@ -7,13 +7,13 @@ use Rattle.csv.specs.declared.parser.Config.{Config}
 use Rattle.csv.specs.declared.parser.State.{State}
 use Rattle.csv.specs.declared.parser.State.TheVariants as state
 
--- a choice that gives a read
+-- a choice whose result is a read
 chosen : (b : Bool) (r p : Read) (other : Option Read) → (if b then Some r else other) ≡ Some p
     → (r ≡ p) ⊎ (other ≡ Some p)
 chosen true r p other is = inl cc
 chosen false r p other is = inr is
 
--- behind a record there are fewer bytes, or there is nothing
+-- after a record there are fewer bytes, or none
 left_behind : (cfg : Config) (s : State) (fields : List (List ℕ)) (field xs : List ℕ) (p : Read)
     → next_record cfg s fields field xs ≡ Some p
     → (length p.2 < length xs) ⊎ ((p.2 ≡ []) × (p.1 ≡ state.StartRecord))
@@ -32,13 +32,13 @@ left_behind cfg s fields field (c ∷ rest) p is = elim (chosen (is_end (step cf
   ]
 ]
 
--- behind the end of a text there is no record
+-- after the end of a text there is no record
 none_left : (n : ℕ) → records_from default_config n state.StartRecord [] ≡ []
 unfolding next_record records_from
 none_left zero = refl
 none_left (suc n) = refl
 
--- more turns than bytes give nothing new
+-- more turns than bytes find no further record
 same_records : (m n : ℕ) (s : State) (xs : List ℕ) → n ≤ m → length xs < n
     → records_from default_config m s xs ≡ records_from default_config n s xs
 unfolding records_from
@@ -75,7 +75,7 @@ without_mark (x ∷ y ∷ []) = omega arith
 without_mark (x ∷ y ∷ z ∷ rest) =
     choice_within (is_bom x y z) rest (x ∷ y ∷ z ∷ rest) (omega arith)
 
--- as many turns as bytes, and one, give all records
+-- one more turn than bytes finds all records
 pub all_records : (b : List ℕ)
     → records_from default_config (length b + 1) state.StartRecord (strip_bom b)
     ≡ records default_config (strip_bom b)

@@ -1,5 +1,5 @@
--- What a batch of changes spells, and its first fault: records of comma-separated values, of which
--- the first names the columns.
+-- The changes that a batch describes, and its first fault: records of comma-separated values, the
+-- first of which names the columns.
 use Rattle.std.specs.Prelude.{◌≡◌, ◌≤◌, ℕ, ◌+◌, true, ◌==◌, nat_le, if◌then◌else◌, List, [], ◌∷◌}
 use Rattle.std.specs.Prelude.{◌++◌, length, map, Result, Ok}
 use Rattle.exam_terms.specs.declared.limits.TheConstants.{TEXT_BYTES}
@@ -12,14 +12,14 @@ use Rattle.office_files.specs.declared.fault.FaultKind.TheVariants.{TooLong, Bad
 use Rattle.office_files.specs.declared.fault.FileFault.{FileFault}
 use Rattle.office_batches.specs.Records.{Record, is_header, change_in}
 
--- what a record makes of the changes before it: the first names the columns, each other is a change
+-- the changes with one more record: the first record names the columns, each other is a change
 abbrev pub behind : ℕ → List Change → Record → Result (List Change) FaultKind
 behind line before fields =
     if line == 1 then (unless (is_header fields) BadHeader >>= λ _. Ok before)
     else (change_in fields >>= λ change. Ok (before ++ change ∷ []))
 
--- the changes of records from this number on, behind those before them, or the first fault; a
--- batch without a record has no header
+-- the changes of records from this number on, after those before them, or the first fault; a batch
+-- without a record has no header
 abbrev pub changes_from : ℕ → List Change → List Record → Result (List Change) FileFault
 changes_from line before [] =
     at_line 1 (unless (nat_le 2 line) BadHeader) >>= λ _. Ok before
@@ -36,8 +36,8 @@ batch_in b = do
   _ ← at_line 0 (unless (nat_le (length b) TEXT_BYTES) TooLong)
   changes_from 1 [] (records_in b)
 
--- a text that is short enough spells changes: its first record names the columns, and each other
--- record says its change
+-- a text within the limit of bytes describes changes: its first record names the columns, and each
+-- other record is a change
 pub record BatchText (b : List ℕ) (changes : List Change) : Type 0 where
   pub within : length b ≤ TEXT_BYTES
   pub header : Record

@@ -8,7 +8,7 @@ use Rattle.office_files.specs.declared.fault.FileFault.{FileFault}
 use Rattle.office_batches.specs.Records.{Record, change_in, is_header}
 use Rattle.office_batches.specs.BatchText.{records_in}
 
--- the first fault of records that say changes, from this number on
+-- the first fault of records of changes, from this number on
 abbrev pub first_from : ℕ → List Record → Option FileFault
 first_from line [] = None
 first_from line (fields ∷ others) =

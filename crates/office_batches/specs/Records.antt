@@ -1,4 +1,4 @@
--- The records of a batch, field by field: the columns, and the change that a record says.
+-- The records of a batch, field by field: the columns, and the change of a record.
 use Rattle.std.specs.Prelude.{ℕ, ◌-◌, Bool, true, false, ◌&&◌, ◌||◌, ◌==◌, nat_le, if◌then◌else◌}
 use Rattle.std.specs.Prelude.{List, [], length, codes, slice_index_or, Result, Ok, Err}
 use Rattle.std.specs.Str.{str_eq_ignore_ascii_case}
@@ -14,15 +14,15 @@ use Rattle.office_files.specs.declared.fault.FaultKind.TheVariants.{BadWord, Str
 abbrev pub Record : Type 0
 Record = List (List ℕ)
 
--- a field of a record, trimmed; empty where the record has no such field
+-- a field of a record, trimmed; empty if the record has no such field
 abbrev pub field : Record → ℕ → List ℕ
 field fields i = trimmed (slice_index_or fields i [])
 
--- whether a field is this word, in small or capital letters
+-- whether a field is this word, in lower or upper case
 abbrev pub says : Record → ℕ → List ℕ → Bool
 says fields i word = str_eq_ignore_ascii_case (field fields i) word
 
--- whether nothing stands behind the third field, but for one empty field at the end
+-- whether the record has three fields, or four of which the last is empty
 abbrev pub has_three : Record → Bool
 has_three fields =
     nat_le (length fields) 3 || ((length fields == 4) && (length (field fields 3) == 0))
@@ -33,13 +33,13 @@ is_header fields =
     says fields 0 (codes "student") && (says fields 1 (codes "exam")
     && (says fields 2 (codes "action") && has_three fields))
 
--- whether a field says that the student is added
+-- whether the student is added, by a field
 abbrev pub action : Record → Result Bool FaultKind
 action fields =
     if says fields 2 (codes "add") then Ok true
     else (if says fields 2 (codes "drop") then Ok false else Err BadWord)
 
--- the change that a record says: the student, the exam, and what is done
+-- the change of a record: the student, the exam, and the action
 abbrev pub change_in : Record → Result Change FaultKind
 change_in fields = do
   student ← number MAX_STUDENT (field fields 0)

@@ -13,8 +13,8 @@ use exam_terms::limits::TEXT_BYTES;
 use office_files::{FaultKind, FileFault};
 use std::alloc::Global;
 
-/// The changes that a batch spells: records of comma-separated values, the first of which is
-/// `student,exam,action`. A fault is that of the first faulty record, counted from 1, and in it
+/// Returns the changes that a batch describes: records of comma-separated values, the first of
+/// which is `student,exam,action`. `Err` is the fault of the first faulty record, from 1, and in it
 /// that of the first faulty field; any fault of the first record is `BadHeader`. `TooLong` (above
 /// 1,048,576 bytes) and `NoMemory` have line 0.
 pub fn read_batch(alloc: Global, text: &[u8]) -> Result<Vec<Change>, FileFault>
@@ -27,7 +27,7 @@ pub fn read_batch(alloc: Global, text: &[u8]) -> Result<Vec<Change>, FileFault>
     changes_in(alloc, text)
 }
 
-// The changes of a batch that is not too long.
+// Returns the changes of a batch that is not too long.
 fn changes_in(alloc: Global, text: &[u8]) -> Result<Vec<Change>, FileFault>
     requires { length text.now ≤ TEXT_BYTES }
     ensures exact { AnswersReading (λ read. read.items) result
@@ -40,7 +40,7 @@ fn changes_in(alloc: Global, text: &[u8]) -> Result<Vec<Change>, FileFault>
         .from_reader(alloc, text);
     let mut row = ByteRecord::new(alloc);
     let mut changes: Vec<Change> = Vec::new(alloc);
-    let last = text.len() as u32 + 1; // so many records there are at most
+    let last = text.len() as u32 + 1; // the most records that there can be
     'records: for before in 0..last {
         match reader.read_byte_record(&mut row) {
             Ok(true) => add_record(&mut changes, &row, before + 1)?,
@@ -52,7 +52,7 @@ fn changes_in(alloc: Global, text: &[u8]) -> Result<Vec<Change>, FileFault>
     Ok(changes)
 }
 
-// Puts what a record says behind the changes before it.
+// Adds the change of a record after those before it.
 fn add_record(changes: &mut Vec<Change>, row: &ByteRecord, line: u32) -> Result<(), FileFault>
     ensures exact { AnswersReading (λ _. changes.new.items) result
         (at_line line (behind line changes.old.items (fields_of row.now))) }

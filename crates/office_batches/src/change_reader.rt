@@ -11,14 +11,14 @@ use exam_terms::limits::{MAX_EXAMS, MAX_STUDENT};
 use exam_terms::trimmed;
 use office_files::{FaultKind, number, same_word};
 
-/// Whether a record names the columns.
+/// Returns whether a record names the columns.
 pub(crate) fn is_header(row: &ByteRecord) -> bool
     ensures { result ≡ is_header (fields_of row.now) }
 {
     says(row, 0, b"student") && says(row, 1, b"exam") && says(row, 2, b"action") && has_three(row)
 }
 
-/// The change that a record says.
+/// Returns the change of a record.
 pub(crate) fn change_in(row: &ByteRecord) -> Result<Change, FaultKind>
     ensures { result ≡ change_in (fields_of row.now) }
 {
@@ -32,7 +32,7 @@ pub(crate) fn change_in(row: &ByteRecord) -> Result<Change, FaultKind>
     Ok(Change { student, exam, add })
 }
 
-// Whether the student is added.
+// Returns whether the student is added.
 fn action(row: &ByteRecord) -> Result<bool, FaultKind>
     ensures { result ≡ action (fields_of row.now) }
 {
@@ -45,21 +45,21 @@ fn action(row: &ByteRecord) -> Result<bool, FaultKind>
     Err(FaultKind::BadWord)
 }
 
-// Whether nothing stands behind the third field, but for one empty field at the end.
+// Returns whether the record has three fields, or four of which the last is empty.
 fn has_three(row: &ByteRecord) -> bool
     ensures { result ≡ has_three (fields_of row.now) }
 {
     row.len() <= 3 || (row.len() == 4 && field(row, 3).is_empty())
 }
 
-// Whether a field is the word.
+// Returns whether a field is the word.
 fn says(row: &ByteRecord, place: usize, word: &[u8]) -> bool
     ensures { result ≡ says (fields_of row.now) place word.now }
 {
     same_word(field(row, place), word)
 }
 
-// A field without the blanks around it, empty where it is missing.
+// Returns a field without the blanks around it; an empty one if it is missing.
 fn field(row: &ByteRecord, place: usize) -> &[u8]
     ensures { result.now ≡ field (fields_of row.now) place }
 {

@@ -5,13 +5,13 @@ ghost use Rattle.office_batches.specs.BatchText.{BatchText, batch_in};
 ghost use Rattle.office_batches.specs.FirstFault.{first_batch_fault};
 ghost use Rattle.office_files.specs.Reading.{fault_of};
 
-/// A text spells at most one list of changes.
+/// A text describes at most one list of changes.
 pub fn one_batch()
     ensures { (b : List ℕ) (xs ys : List Change) → BatchText b xs → BatchText b ys → xs ≡ ys }
 {}
 
-/// A text spells what its reading gives, and nothing else; what the reading refuses is the first
-/// fault of the text, by the fault of each record by itself.
+/// A text describes exactly the result of its reading; the fault of the reading is the first fault
+/// of the text, by the fault of each single record.
 pub fn batch_readings_agree()
     ensures spelled { (b : List ℕ) (xs : List Change) → batch_in b ≡ Ok xs → BatchText b xs }
     ensures read { (b : List ℕ) (xs : List Change) → BatchText b xs → batch_in b ≡ Ok xs }
