@@ -12,7 +12,7 @@ spaces : (s n : ℕ) → repeat n (s ∷ []) ≡ replicate n s
 spaces s zero = refl
 spaces s (suc n) = ap (λ xs. s ∷ xs) (spaces s n)
 
--- spaces before digits, and none behind them
+-- spaces before digits, and none after them
 before_alone : (n : ℕ) (numeral : List ℕ) →
     (((repeat (n - 0 - 0) (32 ∷ []) ++ []) ++ []) ++ [])
     ++ (numeral ++ repeat ((n - 0 - 0) - (n - 0 - 0)) (32 ∷ []))
@@ -22,7 +22,7 @@ before_alone n numeral =
     let none : n - n ≡ 0 = omega arith in
     rw (all, none) (simp (append-nil, spaces))
 
--- what `{:3}` writes, or another width in its place
+-- the text written for `{:3}`, or for another width
 pub in_column : (width n : ℕ) →
     padded_integral (format_spec 32 0 0 width (2 ^ 64 - 1)) false [] (decimal n) ≡ right width n
 unfolding padded_integral char_count lib.Utf8.encode

@@ -18,13 +18,13 @@ use Rattle.office_reports.specs.Rooms.{capacity_of, exams_in, line_with, period_
 use Rattle.office_reports.specs.Slots.{IsTable, entry_line, entry_lines, exams_below}
 use Rattle.office_reports.proofs.RoomLemmas.{failed_more, passed_more, same_lines}
 
--- one place has one room and one period
+-- the same place means the same room and the same period
 one_place : (p q : Place) → is_one_place p q ≡ true → (p.period ≡ q.period) × (p.room ≡ q.room)
 one_place p q one =
     let parts = and_parts (p.period == q.period) (p.room == q.room) one in
     (eqb-true p.period q.period parts.0, eqb-true p.room q.room parts.1)
 
--- what changes at one place is changed in its entry
+-- a change at one place changes its entry
 table_put : {X : Type 0} (I : Session) (none : X) (before after : Place → X) (step : X → X)
     (table : List X) (q : Place) (new : X)
     → IsTable I none before table → q.period < length I.periods → q.room < length I.rooms
@@ -65,7 +65,7 @@ table_put {X} I none before after step table q new was hq hr is here elsewhere =
         ∙ was.each p pp pr
         ∙ sym (elsewhere p apart)
 
--- a place that the session does not have is none of its places
+-- a place that doesn't exist in the session differs from each of its places
 outside : (I : Session) (p q : Place) → (PlaceExists I (Some q) → ⊥)
     → p.period < length I.periods → p.room < length I.rooms → is_one_place p q ≡ false
 outside I p q isnt pp pr = false_from_ne_true (is_one_place p q) (λ one.
@@ -74,7 +74,7 @@ outside I p q isnt pp pr = false_from_ne_true (is_one_place p q) (λ one.
     let hr : q.room < length I.rooms = omega (arith, parts.1) in
     isnt (hq, hr))
 
--- one more exam, which stands at q
+-- one more exam, which is placed at q
 pub exam_put : {I : Session} (T : Placing) (i : ℕ) {table : List (List ℕ)} {q : Place}
     {new : List ℕ}
     → IsTable I [] (exams_below T i) table → place_of T i ≡ Some q → PlaceExists I (Some q)
@@ -88,7 +88,7 @@ exam_put {I} T i {table} {q} {new} was placed exists is =
     (λ p apart. failed_more (λ e. where_placed (is_one_place p) (place_of T e)) i
     (ap (where_placed (is_one_place p)) placed ∙ apart))
 
--- one more exam, which stands in no place of the session
+-- one more exam, whose place doesn't exist in the session
 pub exam_outside : {I : Session} (T : Placing) (i : ℕ) {table : List (List ℕ)} {q : Place}
     → IsTable I [] (exams_below T i) table → place_of T i ≡ Some q
     → (PlaceExists I (Some q) → ⊥) → IsTable I [] (exams_below T (i + 1)) table
@@ -99,7 +99,7 @@ exam_outside {I} T i {table} {q} was placed isnt = record {
       (ap (where_placed (is_one_place p)) placed ∙ outside I p q isnt pp pr));
 }
 
--- one more exam, which stands nowhere
+-- one more exam, which is not placed
 pub exam_unplaced : {I : Session} (T : Placing) (i : ℕ) {table : List (List ℕ)}
     → IsTable I [] (exams_below T i) table → place_of T i ≡ None
     → IsTable I [] (exams_below T (i + 1)) table
@@ -110,7 +110,7 @@ exam_unplaced {I} T i {table} was unplaced = record {
       (ap (where_placed (is_one_place p)) unplaced));
 }
 
--- whether the row r that stands at i is in a place
+-- whether the row r at index i is in a place
 its_test : (rows : List SeatRow) (i : ℕ) (r : SeatRow) (q p : Place)
     → r ≡ get_or rows i r → q ≡ row_place r
     → is_one_place p (row_place (get_or rows i r)) ≡ is_one_place p q
@@ -132,7 +132,7 @@ seat_put {I} rows i {table} {r} {q} {new} was lt is at exists put =
     (λ p apart. count_by_more_no (λ row. is_one_place p (row_place row)) rows i r lt
     (its_test rows i r q p is at ∙ apart))
 
--- one more seat, which is in no place of the session
+-- one more seat, whose place doesn't exist in the session
 pub seat_outside : {I : Session} (rows : List SeatRow) (i : ℕ) {table : List ℕ} {r : SeatRow}
     {q : Place}
     → IsTable I 0 (seats_in (take i rows)) table → i < length rows → r ≡ get_or rows i r

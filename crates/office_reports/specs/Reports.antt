@@ -24,7 +24,7 @@ breach_line b = rule_name b.rule ++ 32 ∷ decimal b.exam ++ 32 ∷ decimal b.ot
 abbrev pub number_line : List ℕ → ℕ → List ℕ
 number_line name n = name ++ 32 ∷ decimal n ++ 10 ∷ []
 
--- the violation report: how many breaches there are, then a line for each, in their order
+-- the violation report: the number of breaches, then a line for each, in their order
 abbrev pub violation_text : List Breach → List ℕ
 violation_text breaches =
     number_line (codes "breaches") (length breaches) ++ flat_map breach_line breaches
@@ -35,6 +35,7 @@ penalty_text p =
     number_line (codes "two in a row") p.row
     ++ number_line (codes "two in a day") p.day
     ++ number_line (codes "period spread") p.spread
+    ++ number_line (codes "over night") p.night
     ++ number_line (codes "mixed durations") p.mixed
     ++ number_line (codes "front load") p.front
     ++ number_line (codes "period penalty") p.period

@@ -13,7 +13,7 @@ use Rattle.exam_rules.specs.Places.{is_one_place, where_placed}
 abbrev pub right : ℕ → ℕ → List ℕ
 right width n = replicate (width - length (decimal n)) 32 ++ decimal n
 
--- each exam, behind a space
+-- each exam, with a space before it
 abbrev pub spaced : List ℕ → List ℕ
 spaced exams = flat_map (λ e. 32 ∷ decimal e) exams
 
@@ -21,7 +21,7 @@ spaced exams = flat_map (λ e. 32 ∷ decimal e) exams
 abbrev pub place : ℕ → ℕ → Place
 place p r = record { period = p; room = r }
 
--- the exams that stand in a place, ascending
+-- the exams that are in a place, ascending
 abbrev pub exams_in : Placing → Place → List ℕ
 exams_in T at =
     filter (λ e. where_placed (is_one_place at) (place_of T e)) (range_with_len 0 (length T))
@@ -30,19 +30,19 @@ exams_in T at =
 abbrev pub seats_in : List SeatRow → Place → ℕ
 seats_in rows at = count_by (λ row. is_one_place at (row_place row)) rows
 
--- a room's capacity, and 0 where there is no such room
+-- a room's capacity; 0 if there is no such room
 abbrev pub capacity_of : Option Room → ℕ
 capacity_of None = 0
 capacity_of (Some room) = room.capacity
 
--- the line of a place: its period, its room, the seats that are used, the room's capacity, and
--- behind two spaces the exams
+-- the line of a place: its period, its room, the number of its used seats, the room's capacity, and
+-- after two spaces the exams
 abbrev pub room_line : Place → ℕ → ℕ → List ℕ → List ℕ
 room_line at used capacity exams =
     right 3 at.period ++ right 5 at.room ++ right 8 used ++ right 8 capacity
     ++ 32 ∷ spaced exams ++ 10 ∷ []
 
--- nothing where no exam stands
+-- the line of a place; empty if no exam is there
 abbrev pub line_with : Place → ℕ → ℕ → List ℕ → List ℕ
 line_with at used capacity [] = []
 line_with at used capacity (e ∷ exams) = room_line at used capacity (e ∷ exams)

@@ -8,7 +8,7 @@ use Rattle.exam_model.specs.Timetable.{Placing, place_of}
 use Rattle.exam_rules.specs.Places.{is_one_place, where_placed}
 use Rattle.office_reports.specs.Rooms.{capacity_of, line_with, place}
 
--- the exams below i that stand in a place, ascending
+-- the exams below i that are in a place, ascending
 abbrev pub exams_below : Placing → ℕ → Place → List ℕ
 exams_below T i at =
     filter (λ e. where_placed (is_one_place at) (place_of T e)) (range_with_len 0 i)

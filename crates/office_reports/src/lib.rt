@@ -1,5 +1,5 @@
-//! The reports on a timetable as texts: its penalty, its breaches, how its rooms are used, and who
-//! sits where.
+//! The reports on a timetable as texts: its penalty, its breaches, the use of its rooms, and its
+//! seats.
 #![tactic(auto)]
 
 mod reports;

@@ -1,4 +1,4 @@
-// The reports on a timetable, as they are printed.
+// The reports on a timetable, in their printed form.
 ghost use Rattle.std.specs.Prelude.{◌≡◌, ◌++◌, IfOk, OnOk, string_bytes};
 ghost use Rattle.office_reports.specs.Reports.{breach_line, number_line, penalty_text};
 ghost use Rattle.office_reports.specs.Reports.{rule_name, violation_text};
@@ -7,7 +7,7 @@ use exam_rules::{Breach, BreachRule};
 use exam_score::Parts;
 use std::alloc::{AllocError, Global};
 
-/// How many breaches there are, then a line for each.
+/// Returns the violation report: the number of breaches, then a line for each.
 pub fn violation_report(alloc: Global, breaches: &[Breach]) -> Result<String, AllocError>
     ensures { IfOk result (λ text. string_bytes text ≡ violation_text breaches.now) }
 {
@@ -19,7 +19,7 @@ pub fn violation_report(alloc: Global, breaches: &[Breach]) -> Result<String, Al
     Ok(text)
 }
 
-// Adds a breach's line.
+// Adds the line of a breach.
 fn add_breach(text: &mut String, breach: Breach) -> Result<(), AllocError>
     ensures { OnOk result (string_bytes text.new ≡ string_bytes text.old ++ breach_line breach) }
 {
@@ -29,7 +29,7 @@ fn add_breach(text: &mut String, breach: Breach) -> Result<(), AllocError>
     write!(text, "{rule} {exam} {other}\n")
 }
 
-/// The name of a rule, as reports and replies have it.
+/// Returns the name of a rule, as in reports and replies.
 pub fn rule_name(rule: BreachRule) -> &'static str
     ensures { result.now ≡ rule_name rule }
 {
@@ -44,7 +44,7 @@ pub fn rule_name(rule: BreachRule) -> &'static str
     }
 }
 
-/// A line for each part of the penalty, and one for the total.
+/// Returns the penalty report: a line for each part of the penalty, and one for the total.
 pub fn penalty_report(alloc: Global, parts: Parts) -> Result<String, AllocError>
     ensures { IfOk result (λ text. string_bytes text ≡ penalty_text parts) }
 {
@@ -52,6 +52,7 @@ pub fn penalty_report(alloc: Global, parts: Parts) -> Result<String, AllocError>
     add_number(&mut text, "two in a row", parts.row())?;
     add_number(&mut text, "two in a day", parts.day())?;
     add_number(&mut text, "period spread", parts.spread())?;
+    add_number(&mut text, "over night", parts.night())?;
     add_number(&mut text, "mixed durations", parts.mixed())?;
     add_number(&mut text, "front load", parts.front())?;
     add_number(&mut text, "period penalty", parts.period())?;

@@ -1,4 +1,4 @@
-// How the rooms are used: a line for each room and period in which an exam stands.
+// The use of the rooms: a line for each room and period with an exam.
 ghost use Rattle.std.specs.Prelude.{◌≡◌, ◌<◌, ◌*◌, ◌++◌, length, Some, IfOk, OnOk, string_bytes};
 ghost use Rattle.exam_model.specs.Fits.{PlaceExists};
 ghost use Rattle.office_reports.specs.Rooms.{room_line, rooms_text};
@@ -11,9 +11,9 @@ use exam_rules::ExamList;
 use exam_terms::{ExamNo, PeriodNo, Place, RoomNo};
 use std::alloc::{AllocError, Global};
 
-/// A heading, then a line for each room and period in which an exam stands, by period and then by
-/// room: both numbers, how many of the seats are there, the room's capacity, and the exams. An
-/// exam that stands in no room or period of the instance has no line.
+/// Returns the report on the rooms: a heading, then a line for each room and period with an exam,
+/// by period and then by room: both numbers, how many of the seats are there, the room's capacity,
+/// and the exams. An exam whose room or period doesn't exist in the instance has no line.
 pub fn rooms_report(
     alloc: Global,
     instance: &Instance,
@@ -53,7 +53,7 @@ fn add_period(
     Ok(())
 }
 
-// Adds the line of a place, if an exam stands there.
+// Adds the line of a place, if an exam is there.
 fn add_place(
     text: &mut String,
     instance: &Instance,

@@ -1,4 +1,4 @@
-// The seat list: who sits where.
+// The seat list: the seat of each candidate in each exam.
 ghost use Rattle.std.specs.Prelude.{◌≡◌, ◌++◌, IfOk, OnOk, string_bytes};
 ghost use Rattle.office_reports.specs.SeatList.{seat_line, seats_text};
 
@@ -17,7 +17,7 @@ pub fn seats_report(alloc: Global, seats: &[SeatRow]) -> Result<String, AllocErr
     Ok(text)
 }
 
-// Adds a seat's line.
+// Adds the line of a seat.
 fn add_seat(text: &mut String, row: &SeatRow) -> Result<(), AllocError>
     ensures { OnOk result (string_bytes text.new ≡ string_bytes text.old ++ seat_line row.now) }
 {

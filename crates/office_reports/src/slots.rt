@@ -1,4 +1,4 @@
-// What is in each room and period: tables with an entry for each, made in one pass.
+// The contents of each room and period: tables with an entry for each, made in one pass.
 ghost use Rattle.std.specs.Prelude.{◌≡◌, ◌↔◌, ◌*◌, [], length, IsTrue, Some, IfOk};
 ghost use Rattle.exam_model.specs.Fits.{PlaceExists};
 ghost use Rattle.exam_publish.specs.Rows.{row_place};
@@ -11,7 +11,7 @@ use exam_rules::{ExamList, empty_lists};
 use exam_terms::{ExamNo, Place};
 use std::alloc::{AllocError, Global};
 
-/// The exams that stand in each room and period, ascending.
+/// Returns the exams in each room and period, ascending.
 pub(crate) fn exams_by_slot(
     alloc: Global,
     instance: &Instance,
@@ -33,21 +33,21 @@ pub(crate) fn exams_by_slot(
     Ok(lists)
 }
 
-// How many entries a table has.
+// Returns the number of entries of a table.
 fn slots(instance: &Instance) -> usize
     ensures { result ≡ length instance.now.periods * length instance.now.rooms }
 {
     instance.periods() as usize * instance.rooms() as usize
 }
 
-// Whether the instance has the place's period and its room.
+// Returns whether the place's period and room exist in the instance.
 fn has_place(instance: &Instance, place: &Place) -> bool
     ensures { IsTrue result ↔ PlaceExists instance.now (Some place.now) }
 {
     place.period.get() < instance.periods() && place.room.get() < instance.rooms()
 }
 
-/// How many of the seats are in each room and period.
+/// Returns how many of the seats are in each room and period.
 pub(crate) fn seats_by_slot(
     alloc: Global,
     instance: &Instance,
@@ -67,7 +67,7 @@ pub(crate) fn seats_by_slot(
     Ok(counts)
 }
 
-// Where a seat is.
+// Returns the place of a seat.
 fn place_of(seat: &SeatRow) -> Place
     ensures { result ≡ row_place seat.now }
 {
