@@ -1,4 +1,4 @@
--- What is known of a run from its parts.
+-- Facts about a run from its parts.
 use Rattle.std.proofs.Common.{◌≡◌, ◌∙◌, ℕ, ◌⊎◌, List, [], ◌∷◌, Option, Some, None, IfSome}
 use Rattle.std.proofs.Common.{inl, inr, sym, subst}
 use Rattle.std.specs.Io.KnownBytes.{Appends}
@@ -19,7 +19,7 @@ use Rattle.office_check.specs.declared.judging.Verdict.{Verdict}
 use Rattle.office_files.specs.declared.inputs.InputFault.{InputFault}
 use Rattle.office_files.specs.declared.inputs.InputFault.TheVariants.{Read, File, NoMemory}
 
--- a fact of two inputs, where both are known
+-- a fact about two inputs, if both are known
 abbrev pub Both : Option (List ℕ) → Option (List ℕ) → (List ℕ → List ℕ → Type 0) → Type 0
 Both a b P = IfSome a (λ instance. IfSome b (λ solution. P instance solution))
 
@@ -44,7 +44,7 @@ judged (Some instance) (Some solution) I enrolled placing text answer one two sa
       status = status;
     }
 
--- a judgement whose text is written
+-- the text of a judgement is written
 pub written : (a b old new : Option (List ℕ)) (text : List ℕ) (answer : ℕ)
     → Both a b (λ instance solution. IsJudgement instance solution text answer)
     → Appends old new text
@@ -95,13 +95,13 @@ some_written old new text answer some appended = record {
   };
 }
 
--- what holds of the whole text that was read holds of the input
+-- a fact about the whole text that was read holds for the input
 pub of_input : (P : List ℕ → Type 0) (a : Option (List ℕ)) (text read : List ℕ)
     → IfSome a (λ input. input ≡ text) → read ≡ text → P read → IfSome a P
 of_input P None text read same is holds = tt
 of_input P (Some input) text read same is holds = subst P (is ∙ sym same) holds
 
--- a fault of the solution comes behind the instance's reading
+-- a fault of the solution comes after the instance is read
 pub solution_refused : (a b : Option (List ℕ)) (I : Session) (enrolled : Enrolled)
     (input : InputFault) (fault : CheckFault)
     → IfSome a (λ instance. InstanceText instance I enrolled)

@@ -1,4 +1,4 @@
--- What `check` writes, and what it answers.
+-- The output and the exit status of `check`.
 use Rattle.std.specs.Prelude.{◌≡◌, ℕ, ◌++◌, ◌∷◌, [], List, Option}
 use Rattle.std.specs.Io.KnownBytes.{Appends}
 use Rattle.exam_model.specs.Enrolments.{Enrolled}
@@ -11,11 +11,11 @@ use Rattle.office_files.specs.InstanceText.{InstanceText}
 use Rattle.office_files.specs.SolutionText.{SolutionText}
 use Rattle.office_reports.specs.Reports.{penalty_text, violation_text}
 
--- what is printed: the breaches, then the penalty
+-- the printed text: the breaches, then the penalty
 abbrev pub report : Session → Enrolled → Placing → List ℕ
 report I E T = violation_text (breaches_of I E T) ++ penalty_text (track I E T)
 
--- 3 exactly where there is a breach
+-- 3 exactly if there is a breach
 abbrev pub status_of : List Breach → ℕ
 status_of [] = 0
 status_of (breach ∷ breaches) = 3

@@ -1,4 +1,4 @@
--- What is found of a solution, and the line in which it is printed.
+-- The verdict on a solution, and its printed line.
 use Rattle.std.specs.Prelude.{◌≡◌, ℕ, ◌++◌, ◌∷◌, [], List, codes, decimal, length}
 use Rattle.std.specs.List.{flat_map}
 use Rattle.serde_json.specs.Data.{Data, member, no_members, number, object, string, unsigned}
@@ -29,7 +29,7 @@ pub record IsVerdictOn (I : Session) (E : Enrolled) (solution : List ℕ) (verdi
 -- the breaches, the total, and the parts of the penalty in the order of the report
 abbrev pub numbers_of : Verdict → List ℕ
 numbers_of v = v.breaches ∷ total_of v.parts ∷ v.parts.row ∷ v.parts.day ∷ v.parts.spread
-    ∷ v.parts.mixed ∷ v.parts.front ∷ v.parts.period ∷ v.parts.room ∷ []
+    ∷ v.parts.night ∷ v.parts.mixed ∷ v.parts.front ∷ v.parts.period ∷ v.parts.room ∷ []
 
 -- a number and the space after it
 abbrev pub column : ℕ → List ℕ
@@ -50,12 +50,13 @@ verdict_data path v = object
     (member (codes "day") (counted v.parts.day)
     (member (codes "front") (counted v.parts.front)
     (member (codes "mixed") (counted v.parts.mixed)
+    (member (codes "night") (counted v.parts.night)
     (member (codes "path") (string path)
     (member (codes "period") (counted v.parts.period)
     (member (codes "room") (counted v.parts.room)
     (member (codes "row") (counted v.parts.row)
     (member (codes "spread") (counted v.parts.spread)
-    (member (codes "total") (counted (total_of v.parts)) no_members))))))))))
+    (member (codes "total") (counted (total_of v.parts)) no_members)))))))))))
 
 -- the same as a line of JSON
 abbrev pub json_line : List ℕ → Verdict → List ℕ

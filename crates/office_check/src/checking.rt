@@ -1,4 +1,4 @@
-// One solution judged.
+// Judging one solution.
 ghost use Rattle.std.specs.Prelude.{◌≡◌, ◌≢◌, ◌⊎◌, ◌+◌, ℕ, List, All, length, string_bytes};
 ghost use Rattle.std.specs.Prelude.{IfErr, IfOk, IfSome};
 ghost use Rattle.exam_terms.specs.declared.limits.TheConstants.{INSTANCE_BYTES, TEXT_BYTES};
@@ -25,42 +25,42 @@ use std::io::{Read, Write};
 /// Why a solution is not judged, in the order of the work.
 #[derive(Clone, Copy, Debug, PartialEq, Eq)]
 pub enum CheckFault {
-    /// The instance's reader failed, or showed no end in 5,000,000 reads.
+    /// The instance's reader failed, or had no end within 5,000,000 reads.
     ReadInstance,
-    /// The solution's reader failed, or showed no end in 5,000,000 reads.
+    /// The solution's reader failed, or had no end within 5,000,000 reads.
     ReadSolution,
     /// The instance's text is faulty.
     Instance(FileFault),
     /// The solution's text is faulty.
     Solution(FileFault),
-    /// The writer failed; how much of the report went out is not known.
+    /// The writer failed; it isn't known how much of the report was written.
     Write,
-    /// Memory ran out.
+    /// Out of memory.
     NoMemory,
 }
 
-// What is printed of a solution, and the exit status that it gives.
+// The printed text for a solution, and the exit status.
 #[derive(Drop)]
 struct Judgement {
     text: String,
     status: u8,
 }
 
-/// Judges the solution, and writes its report. Each reader has 5,000,000 reads; one that was
-/// interrupted counts, and is tried again.
+/// Judges the solution, and writes its report. Each reader has 5,000,000 reads; an interrupted read
+/// counts, and is retried.
 pub fn check_run<R: Read, Q: Read, W: Write>(
     alloc: Global,
     instance_reader: &mut R,
     solution_reader: &mut Q,
     writer: &mut W,
 ) -> Result<u8, CheckFault>
-    // The status is 3 exactly where the solution that is reported on breaks a hard rule.
+    // The status is 3 exactly if the reported solution breaks a hard rule.
     ensures done { IfOk result (λ status. IfSome (R.remaining instance_reader.old) (λ instance.
         IfSome (Q.remaining solution_reader.old) (λ solution.
         Reports instance solution (W.contents writer.old) (W.contents writer.new) status))) }
     ensures status { IfOk result (λ status. (status ≡ 0) ⊎ (status ≡ 3)) }
 
-    // Also where the readers' bytes are not known, what is written is the report of two texts.
+    // Even if the readers' bytes are not known, the report of two texts is written.
     ensures reported { IfOk result
         (WritesReport (W.contents writer.old) (W.contents writer.new)) }
 
@@ -70,7 +70,7 @@ pub fn check_run<R: Read, Q: Read, W: Write>(
     ensures unwritten { IfErr result (λ fault. fault ≢ CheckFault.Write
         → Keeps (W.contents writer.old) (W.contents writer.new)) }
 
-    // No reader is read further than one byte past its limit.
+    // Each reader is read at most one byte past its limit.
     ensures instance_taken { TakesAtMost (INSTANCE_BYTES + 1)
         (R.remaining instance_reader.old) (R.remaining instance_reader.new) }
     ensures solution_taken { TakesAtMost (TEXT_BYTES + 1)
@@ -83,7 +83,7 @@ pub fn check_run<R: Read, Q: Read, W: Write>(
     }
 }
 
-// The judgement on the two readers' texts.
+// Returns the judgement on the two readers' texts.
 fn judgement_of<R: Read, Q: Read>(
     alloc: Global,
     instance_reader: &mut R,
@@ -116,7 +116,7 @@ fn judgement_of<R: Read, Q: Read>(
     }
 }
 
-// The instance that the reader's text spells.
+// Returns the instance that the reader's text describes.
 pub(crate) fn instance_of<R: Read>(
     alloc: Global,
     reader: &mut R,
@@ -144,7 +144,7 @@ fn of_instance(fault: InputFault) -> CheckFault
     }
 }
 
-// The timetable that the reader's text spells.
+// Returns the timetable that the reader's text describes.
 pub(crate) fn solution_of<R: Read>(
     alloc: Global,
     reader: &mut R,
@@ -174,7 +174,7 @@ fn of_solution(fault: InputFault) -> CheckFault
     }
 }
 
-// A solution's breaches, then its penalty.
+// Returns the text of a solution's breaches and penalty, and the exit status.
 fn judge(
     alloc: Global,
     instance: &Instance,

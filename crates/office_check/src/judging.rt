@@ -1,4 +1,4 @@
-// Many solutions of one session, each judged in a line of its own.
+// Judging many solutions of one session, each with its own line.
 ghost use Rattle.std.specs.Prelude.{◌≡◌, ◌==◌, ◌+◌, ◌++◌, ℕ, List, IfErr, IfOk, IfSome};
 ghost use Rattle.std.specs.Prelude.{OnOk, length, not, string_bytes};
 ghost use Rattle.std.specs.List.{flat_map};
@@ -21,7 +21,7 @@ use std::alloc::{AllocError, Global};
 use std::io::Read;
 use std::marker::Model;
 
-/// A session by which solutions are judged.
+/// A session for judging solutions.
 #[derive(Drop)]
 pub struct Judge {
     instance: Instance,
@@ -40,7 +40,7 @@ impl Model for Judge {
     ghost invariant = { λ judge. length judge.enrolments ≡ length judge.instance.exams };
 }
 
-/// What was found of a solution.
+/// The result of judging a solution.
 #[derive(Clone, Copy)]
 pub struct Verdict {
     /// How many breaches of hard rules it has.
@@ -49,7 +49,7 @@ pub struct Verdict {
     pub parts: Parts,
 }
 
-/// How a verdict is printed: numbers and the path with a space between them, or an object of JSON.
+/// The form of a printed verdict: numbers and the path separated by spaces, or an object of JSON.
 #[derive(Clone, Copy, Debug, PartialEq, Eq)]
 pub enum LineForm {
     Plain,
@@ -57,8 +57,7 @@ pub enum LineForm {
 }
 
 impl Judge {
-    /// Reads the session, in at most 5,000,000 reads; one that was interrupted counts, and is tried
-    /// again.
+    /// Reads the session, in at most 5,000,000 reads; an interrupted read counts, and is retried.
     pub fn new<R: Read>(alloc: Global, reader: &mut R) -> Result<Judge, InputFault>
         ensures reading { IfOk result (λ judge. IfSome (R.remaining reader.old)
             (λ input. InstanceText input judge.0 judge.1)) }
@@ -66,7 +65,7 @@ impl Judge {
             (input : List ℕ) × InstanceText input judge.0 judge.1) }
         ensures refused { IfErr result (λ fault. IfSome (R.remaining reader.old)
             (λ input. RefusesFile (first_fault input) fault)) }
-        // The reader is read no further than one byte past the limit.
+        // The reader is read at most one byte past the limit.
         ensures taken { TakesAtMost (INSTANCE_BYTES + 1)
             (R.remaining reader.old) (R.remaining reader.new) }
     {
@@ -81,7 +80,7 @@ impl Judge {
     pub fn judge<R: Read>(&self, alloc: Global, reader: &mut R) -> Result<Verdict, InputFault>
         ensures judged { IfOk result (λ verdict. IfSome (R.remaining reader.old)
             (λ input. IsVerdictOn self.now.0 self.now.1 input verdict)) }
-        // Also if the reader's bytes are not known, it is the verdict on some text.
+        // Even if the reader's bytes are not known, this is the verdict on some text.
         ensures some_judged { IfOk result (λ verdict.
             (input : List ℕ) × IsVerdictOn self.now.0 self.now.1 input verdict) }
         ensures refused { IfErr result (λ fault. IfSome (R.remaining reader.old)
@@ -93,7 +92,7 @@ impl Judge {
     }
 }
 
-// The verdict by a session's parts.
+// Returns the verdict by a session's parts.
 fn judge_by<R: Read>(
     alloc: Global,
     instance: &Instance,
@@ -114,7 +113,7 @@ fn judge_by<R: Read>(
     Ok(verdict)
 }
 
-// The breaches and the penalty of a timetable.
+// Returns the breaches and the penalty of a timetable.
 fn verdict_on(
     alloc: Global,
     instance: &Instance,
@@ -133,14 +132,14 @@ fn verdict_on(
 }
 
 impl Verdict {
-    /// Whether the solution breaks a hard rule.
+    /// Returns whether the solution breaks a hard rule.
     pub fn has_breach(&self) -> bool
         ensures { result ≡ not (self.now.breaches == 0) }
     {
         self.breaches != 0
     }
 
-    /// The line of a verdict on the solution of this path.
+    /// Returns the line of a verdict on the solution at this path.
     pub fn line(&self, alloc: Global, path: &str, form: LineForm) -> Result<String, AllocError>
         ensures { IfOk result (λ text.
             string_bytes text ≡ verdict_line form path.now self.now) }
@@ -151,7 +150,7 @@ impl Verdict {
         }
     }
 
-    // Each number and the path, with a space between them.
+    // Returns the numbers and the path, separated by spaces.
     fn plain_line(&self, alloc: Global, path: &str) -> Result<String, AllocError>
         ensures { IfOk result (λ text. string_bytes text ≡ plain_line path.now self.now) }
     {
@@ -161,8 +160,8 @@ impl Verdict {
         Ok(text)
     }
 
-    // The breaches, the total, and each part of the penalty in the report's order.
-    fn numbers(&self) -> [u64; 9]
+    // Returns the breaches, the total, and each part of the penalty in the report's order.
+    fn numbers(&self) -> [u64; 10]
         ensures { result ≡ numbers_of self.now }
     {
         let parts = self.parts;
@@ -172,6 +171,7 @@ impl Verdict {
             parts.row(),
             parts.day(),
             parts.spread(),
+            parts.night(),
             parts.mixed(),
             parts.front(),
             parts.period(),
@@ -179,7 +179,7 @@ impl Verdict {
         ]
     }
 
-    // The same as an object.
+    // Returns the same as an object of JSON.
     fn json_line(&self, alloc: Global, path: &str) -> Result<String, AllocError>
         ensures { IfOk result (λ text. string_bytes text ≡ json_line path.now self.now) }
     {
@@ -196,6 +196,7 @@ impl Verdict {
             "day": self.parts.day(),
             "front": self.parts.front(),
             "mixed": self.parts.mixed(),
+            "night": self.parts.night(),
             "path": path,
             "period": self.parts.period(),
             "room": self.parts.room(),

@@ -1,4 +1,4 @@
-//! The checker alone: a solution judged, from what two readers give, with no database and no
+//! The checker without the rest: judges a solution from two readers, with no database and no
 //! command line.
 #![tactic(auto)]
 

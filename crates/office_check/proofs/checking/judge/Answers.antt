@@ -10,7 +10,7 @@ use Rattle.office_check.specs.Check.{report}
 use Rattle.office_reports.specs.Reports.{penalty_text, violation_text}
 use Rattle.office_check.proofs.checking.judge.Goals as goal
 
--- the penalty's text behind that of the breaches
+-- the penalty's text after that of the breaches
 both : (I : Session) (E : Enrolled) (T : Placing) (found : List Breach) (parts : Penalty)
     (text first second : List ℕ) → text ≡ first ++ second
     → first ≡ violation_text found → second ≡ penalty_text parts
