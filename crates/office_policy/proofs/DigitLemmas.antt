@@ -1,4 +1,4 @@
--- What digits write.
+-- The value of digits.
 use Rattle.std.proofs.Common.{◌≡◌, ℕ, ◌+◌, ◌-◌, ◌*◌, ◌<◌, ◌≤◌, Bool, true, false, List, [], ◌∷◌}
 use Rattle.std.proofs.Common.{length, get_or, take, refl, sym, ◌∙◌, arith}
 use Rattle.std.specs.List.{list_all}
@@ -37,7 +37,7 @@ nine ds h short =
     let bound = pow-le-pow_right {n = 10} (omega arith) short in
     omega (arith, digits_value-lt 10 ds (all_digits ds h), bound)
 
--- one digit more, and the number is still below 10 ^ 9
+-- one more digit, and the number is still below 10 ^ 9
 pub record OneMore (ds : List ℕ) (i n : ℕ) : Type 0 where
   pub digit : 48 ≤ get_or ds i 0
   pub same : n * 10 + (get_or ds i 0 - 48) ≡ digits_value 10 (take (i + 1) ds)
@@ -54,7 +54,7 @@ one_more ds i n all few inside is =
     omega (arith, value.2, more, is) in
     record { digit = value.0; same = sums; small = omega (arith, sums, most, all_small) }
 
--- what the first digits write is below 10 ^ 9 too
+-- the value of the first digits is below 10 ^ 9 too
 pub so_far : (ds : List ℕ) (i n : ℕ) → list_all is_ascii_digit ds ≡ true → length ds ≤ 9 →
     n ≡ digits_value 10 (take i ds) → n ≤ 999999999
 so_far ds i n all few is =

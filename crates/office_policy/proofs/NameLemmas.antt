@@ -1,4 +1,4 @@
--- What stands behind a word.
+-- The text after a word.
 use Rattle.std.proofs.Common.{◌≡◌, ◌≢◌, ℕ, Bool, true, false, List, [], ◌∷◌, ◌++◌}
 use Rattle.std.proofs.Common.{Option, Some, None, MatchOption, refl, sym}
 use Rattle.std.specs.Prelude.{◌==◌, option_copied}
@@ -6,12 +6,12 @@ use Rattle.std.proofs.Common.{Bor}
 use Rattle.std.proofs.lemmas.Bool.{eq-eqb, eqb-true}
 use Rattle.office_policy.specs.Callers.{behind}
 
--- behind a word that stands at the front is the rest
+-- after a word at the front comes the rest
 pub behind-append : (word rest : List ℕ) → behind word (word ++ rest) ≡ Some rest
 behind-append [] rest = refl
 behind-append (w ∷ word) rest = rw (eq-eqb w w refl) (behind-append word rest)
 
--- where something stands behind a word, the word is at the front
+-- if there is a text after a word, the word is at the front
 behind-some : (word text rest : List ℕ) → behind word text ≡ Some rest → text ≡ word ++ rest
 behind-some [] text rest e = cc
 behind-some (w ∷ word) [] rest e = cc
@@ -23,7 +23,7 @@ behind-some (w ∷ word) (b ∷ text) rest e = go (w == b) refl (behind-some wor
     go false other more =
         absurd (let none : ◌≡◌ {A = Option (List ℕ)} None (Some rest) = rw other at e in cc)
 
--- where the word isn't at the front, nothing stands behind it
+-- if the word isn't at the front, there is no text after it
 pub behind-none : (word text : List ℕ) → ((rest : List ℕ) → text ≢ word ++ rest) →
     behind word text ≡ None
 behind-none word text other = go (behind word text) refl
@@ -32,7 +32,7 @@ behind-none word text other = go (behind word text) refl
     go None e = e
     go (Some rest) e = absurd (other rest (behind-some word text rest e))
 
--- what taking a word off the front answers
+-- the result of removing a word from the front
 pub stripped : (word text : List ℕ) (r : Option (Bor (List ℕ))) →
     MatchOption r ((rest : List ℕ) → text ≢ word ++ rest) (λ x. text ≡ word ++ x.now) →
     option_copied r ≡ behind word text

@@ -7,13 +7,13 @@ use Rattle.office_policy.specs.Numbers.{number_of}
 use Rattle.office_policy.specs.declared.callers.Caller.{Caller}
 use Rattle.office_policy.specs.declared.callers.Caller.TheVariants.{Office, Dept, Cand}
 
--- what stands behind a word at the front of a text
+-- the text after a word at the front of a text
 abbrev pub behind : List ℕ → List ℕ → Option (List ℕ)
 behind [] text = Some text
 behind (w ∷ word) [] = None
 behind (w ∷ word) (b ∷ text) = if w == b then behind word text else None
 
--- the number behind a word
+-- the number after a word
 abbrev pub numbered : List ℕ → List ℕ → Option ℕ
 numbered word text = option_and_then number_of (behind word text)
 
@@ -29,7 +29,7 @@ dept_in name = option_and_then as_dept (numbered (codes "dept:") name)
 abbrev pub candidate_in : List ℕ → Option Caller
 candidate_in name = option_map Cand (numbered (codes "cand:") name)
 
--- the first of two, where it is there
+-- the first of two, or else the second
 abbrev pub or_else : Option Caller → Option Caller → Option Caller
 or_else (Some caller) other = Some caller
 or_else None other = other

@@ -1,4 +1,4 @@
--- The bodies of commands, without where their texts lie in memory.
+-- The bodies of commands, without the places of their texts in memory.
 use Rattle.std.specs.Prelude.{◌≡◌, ℕ, List}
 use Rattle.std.specs.Borrow.{Bor}
 use Rattle.office_policy.specs.declared.command.Body.{Body}
@@ -6,19 +6,19 @@ use Rattle.office_policy.specs.declared.command.Body.TheVariants.{Given, Bad, Lo
 use Rattle.office_policy.specs.declared.command.Command.{Command}
 use Rattle.office_policy.specs.declared.command.Command.TheVariants as command
 
--- what a body says, as bytes
+-- a body whose text is a list of bytes
 abbrev pub plain_text : Body (Bor (List ℕ)) → Body (List ℕ)
 plain_text (Given text) = Given text.now
 plain_text Bad = Bad
 plain_text Long = Long
 
--- what a body gives, if anything, is so
+-- the value of a body, if it has one, satisfies this
 abbrev pub IfGiven : {A : Type 0} → Body A → (A → Type 0) → Type 0
 IfGiven (Given x) P = P x
 IfGiven Bad P = Unit {0}
 IfGiven Long P = Unit {0}
 
--- the text that the command holds, if it has one, is this very one in memory
+-- the text of the command, if it has one, is this one in memory
 abbrev pub HoldsText : Bor (List ℕ) → Command → Type 0
 HoldsText text (command.Load body) = IfGiven body (λ held. held ≡ text)
 HoldsText text (command.NewDraft d body) = IfGiven body (λ held. held ≡ text)

@@ -1,4 +1,4 @@
--- What is asked, without where its texts lie in memory.
+-- Commands, without the places of their texts in memory.
 use Rattle.std.specs.Prelude.{ℕ, ◌≤◌, List}
 use Rattle.exam_terms.specs.declared.limits.TheConstants.{MAX_DEPARTMENT}
 use Rattle.exam_terms.specs.declared.place.Place.{Place}

@@ -1,4 +1,4 @@
--- The policy: who may ask for what.
+-- The policy: which caller may run which command.
 use Rattle.std.specs.Prelude.{ℕ, Bool, ◌==◌, ◌&&◌, Result, Ok, Err, if◌then◌else◌}
 use Rattle.office_policy.specs.declared.callers.Caller.{Caller}
 use Rattle.office_policy.specs.declared.callers.Caller.TheVariants.{Office, Dept, Cand}
@@ -12,7 +12,7 @@ use Rattle.office_policy.specs.declared.policy.Denial.TheVariants.{P1, P2, P3, P
 use Rattle.office_policy.specs.declared.policy.Kind.{Kind}
 use Rattle.office_policy.specs.declared.policy.Kind.TheVariants.{Personal, Official, Reading, Editing}
 
--- whose a command is
+-- the kind of a command, by its callers
 abbrev pub kind_of : PlainCommand → Kind
 kind_of me = Personal
 kind_of (my_exam e) = Personal
@@ -41,11 +41,11 @@ abbrev pub owns : ℕ → PlainCommand → ℕ → ℕ → Bool
 owns dept (swap d a b) owner_a owner_b = (owner_a == dept) && (owner_b == dept)
 owns dept _ owner_a owner_b = owner_a == dept
 
--- allowed where it is owned, else P3
+-- permitted if the exam is owned, else P3
 abbrev pub if_owned : Bool → Result (Unit {0}) Denial
 if_owned owned = if owned then Ok tt else Err P3
 
--- the table: a caller, a kind of command, and whether a department owns what is edited
+-- the table: a caller, a kind of command, and whether a department owns the edited exams
 abbrev pub permits_kind : Caller → Kind → (ℕ → Bool) → Result (Unit {0}) Denial
 permits_kind Office Personal owned = Err P4
 permits_kind Office Official owned = Ok tt
@@ -60,7 +60,7 @@ permits_kind (Cand c) Official owned = Err P1
 permits_kind (Cand c) Reading owned = Err P1
 permits_kind (Cand c) Editing owned = Err P1
 
--- who may ask for what, by the owners of the exams that the command edits
+-- whether the caller may run the command, by the owners of the exams that it edits
 abbrev pub permits : Caller → PlainCommand → ℕ → ℕ → Result (Unit {0}) Denial
 permits caller asked owner_a owner_b =
     permits_kind caller (kind_of asked) (λ dept. owns dept asked owner_a owner_b)

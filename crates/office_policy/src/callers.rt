@@ -1,4 +1,4 @@
-// Who asks.
+// The callers.
 ghost use Rattle.std.specs.Prelude.{◌≡◌, ◌≤◌, IfSome, option_copied};
 ghost use Rattle.exam_terms.specs.Texts.{trimmed};
 ghost use Rattle.exam_terms.specs.declared.limits.TheConstants.{MAX_NUMBER};
@@ -7,7 +7,7 @@ ghost use Rattle.office_policy.specs.Callers.{behind, numbered, dept_in, candida
 use crate::numbers::read_number;
 use exam_terms::{DeptNo, StudentNo, trimmed};
 
-/// Who asks, by the word of the front that set the header `X-Caller`.
+/// A caller, as named by the front in the header `X-Caller`.
 #[derive(Clone, Copy, Debug, PartialEq, Eq)]
 pub enum Caller {
     Office,
@@ -16,8 +16,8 @@ pub enum Caller {
 }
 
 impl Caller {
-    /// The caller that the header's value names: `office`, `dept:N` with N from 1 to 999, or
-    /// `cand:N`. Each N has 1 to 9 digits; spaces and tabs at the value's ends don't count.
+    /// Returns the caller that the header's value names: `office`, `dept:N` with N from 1 to 999,
+    /// or `cand:N`. Each N has 1 to 9 digits; spaces and tabs at the value's ends are ignored.
     pub fn read(value: &[u8]) -> Option<Caller>
         ensures { result ≡ caller_of (trimmed value.now) }
     {
@@ -32,7 +32,7 @@ impl Caller {
     }
 }
 
-// The department that a name like `dept:3` is.
+// Returns the department with a name like `dept:3`.
 fn department(name: &[u8]) -> Option<Caller>
     ensures { result ≡ dept_in name.now }
 {
@@ -40,7 +40,7 @@ fn department(name: &[u8]) -> Option<Caller>
     Some(Caller::Dept(DeptNo::new(number)?))
 }
 
-// The candidate that a name like `cand:12` is.
+// Returns the candidate with a name like `cand:12`.
 fn candidate(name: &[u8]) -> Option<Caller>
     ensures { result ≡ candidate_in name.now }
 {
@@ -48,7 +48,7 @@ fn candidate(name: &[u8]) -> Option<Caller>
     Some(Caller::Cand(StudentNo::new(number)?))
 }
 
-// The number behind a word.
+// Returns the number after a word.
 fn numbered(word: &[u8], name: &[u8]) -> Option<u32>
     ensures number { result ≡ numbered word.now name.now }
     ensures within { IfSome result (λ n. n ≤ MAX_NUMBER) }
@@ -56,7 +56,7 @@ fn numbered(word: &[u8], name: &[u8]) -> Option<u32>
     read_number(behind(word, name)?)
 }
 
-// What stands behind a word at the front.
+// Returns the text after a word at the front.
 fn behind<'a>(word: &[u8], name: &'a [u8]) -> Option<&'a [u8]>
     ensures { option_copied result ≡ behind word.now name.now }
 {

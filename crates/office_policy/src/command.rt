@@ -1,18 +1,18 @@
-// What is asked.
+// Commands.
 use exam_terms::{ExamNo, Place};
 
-/// What a request's body says.
+/// The value of a request's body.
 #[derive(Clone, Copy, Debug, PartialEq, Eq)]
 pub enum Body<T> {
     Given(T),
-    /// It is no JSON of the form that is asked for.
+    /// The body is no JSON of the required form.
     Bad,
-    /// It is longer than 1,048,576 bytes; never said of an instance's text.
+    /// The body is longer than 1,048,576 bytes; an instance's text never has this value.
     Long,
 }
 
-/// A command: one for each method and path. Numbers are at most 999,999,999 and needn't be those
-/// of a thing that exists. A draft, a batch and an owner go by plain numbers.
+/// A command: one for each method and path. Numbers are at most 999,999,999; nothing with that
+/// number needs to exist. A draft, a batch and an owner have plain numbers.
 #[derive(Clone, Copy)]
 pub enum Command<'a> {
     /// `GET /me`
@@ -25,7 +25,7 @@ pub enum Command<'a> {
     Load(Body<&'a [u8]>),
     /// `GET /instance`
     Instance,
-    /// `PUT /exams/{e}/owner`: the department, at most 999, where 0 takes the owner away.
+    /// `PUT /exams/{e}/owner`: the department, at most 999; 0 removes the owner.
     SetOwner(ExamNo, Body<u32>),
     /// `PUT /drafts/{d}`: empty, or a solution.
     NewDraft(u32, Body<&'a [u8]>),

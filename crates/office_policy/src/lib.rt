@@ -1,4 +1,4 @@
-//! The office's policy: who asks, what is asked, and who may ask it.
+//! The office's policy: the callers, the commands, and which caller may run which command.
 #![tactic(auto)]
 
 mod callers;

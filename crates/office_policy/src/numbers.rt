@@ -9,7 +9,7 @@ ghost use Rattle.office_policy.specs.Numbers.{number_of};
 use exam_terms::are_digits;
 use exam_terms::limits::NUMBER_DIGITS;
 
-/// The number that one to nine digits write; no other text is one. Leading zeros are allowed.
+/// Returns the value of one to nine digits; no other text has one. Leading zeros are allowed.
 pub fn read_number(text: &[u8]) -> Option<u32>
     ensures number { result ≡ number_of text.now }
     ensures within { IfSome result (λ n. n ≤ MAX_NUMBER) }
@@ -20,7 +20,7 @@ pub fn read_number(text: &[u8]) -> Option<u32>
     Some(value(text))
 }
 
-// The number that the digits write.
+// Returns the value of the digits.
 fn value(digits: &[u8]) -> u32
     requires digits { list_all is_ascii_digit digits.now ≡ true }
     requires few { length digits.now ≤ NUMBER_DIGITS }

@@ -1,4 +1,4 @@
-// Who may ask what.
+// Which caller may run which command.
 ghost use Rattle.std.specs.Prelude.{◌≡◌};
 ghost use Rattle.office_policy.specs.Commands.{plain_command};
 ghost use Rattle.office_policy.specs.Policy.{kind_of, owns, if_owned, permits};
@@ -10,22 +10,22 @@ use exam_terms::DeptNo;
 /// Why a command is denied.
 #[derive(Clone, Copy, Debug, PartialEq, Eq)]
 pub enum Denial {
-    /// A candidate asks for anything but her own three pages.
+    /// A candidate may only use their own three pages.
     P1,
-    /// A department asks for what the office alone may do.
+    /// Only the office may run the command, and a department asks for it.
     P2,
-    /// A department edits an exam that isn't its own, or isn't there at all.
+    /// A department edits an exam that it doesn't own, or that doesn't exist.
     P3,
     /// The office or a department asks for a candidate's page.
     P4,
 }
 
-/// Whose a command is.
+/// The kind of a command, by its callers.
 #[derive(Clone, Copy)]
 enum Kind {
     /// A candidate's own pages.
     Personal,
-    /// Commands of the office alone.
+    /// Commands that only the office may run.
     Official,
     /// Reading a draft and its reports.
     Reading,
@@ -34,7 +34,7 @@ enum Kind {
 }
 
 impl Command<'_> {
-    // Whose the command is.
+    // Returns the command's kind.
     fn kind(&self) -> Kind
         ensures { result ≡ kind_of (plain_command self.now) }
     {
@@ -50,7 +50,7 @@ impl Command<'_> {
         }
     }
 
-    // Whether the department owns what the command edits: of a swap both exams.
+    // Returns whether the department owns the edited exam; for a swap, both exams.
     fn is_owned(&self, dept: DeptNo, owner_a: u32, owner_b: u32) -> bool
         ensures { result ≡ owns dept (plain_command self.now) owner_a owner_b }
     {
@@ -63,8 +63,8 @@ impl Command<'_> {
     }
 }
 
-/// Whether the caller may ask for that. The owners are the departments of the exams that the
-/// command edits, in its order, and 0 for an exam without an owner and for one that isn't there.
+/// Returns whether the caller may run the command. The owners are the departments of the exams that
+/// the command edits, in its order, and 0 for an exam that has no owner or doesn't exist.
 pub fn allowed(
     caller: Caller,
     command: &Command<'_>,
@@ -92,7 +92,7 @@ pub fn allowed(
     }
 }
 
-// An edit of an exam that isn't owned is denied.
+// Denies an edit of an exam that isn't owned.
 fn owned(is_owned: bool) -> Result<(), Denial>
     ensures { result ≡ if_owned is_owned }
 {

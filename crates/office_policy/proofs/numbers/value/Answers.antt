@@ -17,7 +17,7 @@ overflow_add-value c =
     c.requires.digits c.requires.few c.loop-digit-test.true c.loop-digit.invariant in
     omega arith
 
--- and it is what the digits up to here write
+-- it is the value of the digits up to here
 pub loop-digit-preserved : goal.loop-digit-preserved
 loop-digit-preserved c =
     let more =
