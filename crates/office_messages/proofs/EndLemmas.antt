@@ -1,4 +1,4 @@
--- Behind its end a head waits for nothing more.
+-- A head waits for nothing more after its end.
 use Rattle.std.proofs.Common.{◌≡◌, ◌≢◌, ℕ, ◌+◌, ◌-◌, ◌<◌, ◌≤◌, Bool, true, false, cond}
 use Rattle.std.proofs.Common.{List, [], ◌∷◌, ◌++◌, length, take, drop, Option, Some, None, flat_map}
 use Rattle.std.proofs.Common.{refl, sym, ap, ◌∙◌, append_assoc, append-nil, arith}
@@ -34,7 +34,7 @@ uri_is_plain b t = (grind (arith, nat_tests), grind (arith, nat_tests))
 value_is_plain : (b : ℕ) → IsTrue (is_value_byte b) → IsPlain b
 value_is_plain b t = (grind (arith, nat_tests), grind (arith, nat_tests))
 
--- behind front and the byte last of a line come its end, an empty line, and rest
+-- the bytes are front, the byte last of a line, its end, an empty line, and rest
 record Ended (bytes rest : List ℕ) : Type 0 where
   front : List ℕ
   last : ℕ
@@ -44,7 +44,7 @@ record Ended (bytes rest : List ℕ) : Type 0 where
   not_lf : last ≢ 10
   not_cr : first ≡ lf → last ≢ 13
 
--- ---- a line taken off the front
+-- ---- one line removed from the front
 
 -- two line ends at one place are one
 one_line_end : (a b : LineEnd) (s t : List ℕ) → print_end a ++ s ≡ print_end b ++ t → s ≡ t
@@ -57,7 +57,7 @@ not_plain : (a : LineEnd) (b : ℕ) (s t : List ℕ) → IsPlain b → b ∷ s �
 not_plain crlf b s t p e = p.1 (let h : b ≡ 13 = cc in h)
 not_plain lf b s t p e = p.0 (let h : b ≡ 10 = cc in h)
 
--- behind a plain line: the empty line, or the end further on
+-- a plain line is followed by the empty line, or the end comes later
 abbrev Goes : List ℕ → List ℕ → ℕ → LineEnd → LineEnd → List ℕ → Type 0
 Goes content t c a b r =
     ((0 < length content) × (t ≡ print_end b ++ r))
@@ -151,7 +151,7 @@ fields_end_once (f ∷ fields) last q c a b r all not_lf not_cr is =
       | inr h ↦ fields_end_once fields last h.0 c a b r rest not_lf not_cr h.1
     ]
 
--- the empty lines at the front are behind no line
+-- the empty lines at the front follow no line
 behind_blank : (blank : List LineEnd) (t q : List ℕ) (c : ℕ) (a b : LineEnd) (r : List ℕ) → c ≢ 10
     → (a ≡ lf → c ≢ 13)
     → print_blank blank ++ t ≡ q ++ c ∷ (print_end a ++ (print_end b ++ r))
@@ -206,7 +206,7 @@ start_is_plain h is =
     (All-cons IsPlain 32 (print_version h.minor) (omega arith, omega arith)
     (version_is_plain h.minor is.minor))))
 
--- a head has one end, and it is its own
+-- a head has only its own end
 head_ends_once : (h : RequestHead) (q : List ℕ) (c : ℕ) (a b : LineEnd) (r : List ℕ)
     → IsRequestHead h → c ≢ 10 → (a ≡ lf → c ≢ 13)
     → print_request h ≡ q ++ c ∷ (print_end a ++ (print_end b ++ r)) → r ≡ []
@@ -224,7 +224,7 @@ head_ends_once h q c a b r is not_lf not_cr e =
       | inr h2 ↦ fields_end_once h.fields h.last h2.0 c a b r is.fields not_lf not_cr h2.1
     ]
 
--- what ends within a target has no end
+-- bytes that end within a target have no end
 target_has_none : (method target q : List ℕ) (c : ℕ) (a b : LineEnd) (r : List ℕ)
     → IsToken method → AllPass is_uri_byte target → c ≢ 10 → (a ≡ lf → c ≢ 13)
     → method ++ 32 ∷ target ≡ q ++ c ∷ (print_end a ++ (print_end b ++ r)) → ⊥
@@ -260,7 +260,7 @@ does_end : (front p : List ℕ) → ends_with nat_eq (front ++ p) p ≡ true
 does_end front p = (ends_is Decides-eqb (front ++ p) p (ends_with nat_eq (front ++ p) p) refl).1
     front refl
 
--- a line, its end, and which end it isn't
+-- a line, its end, and the end that it doesn't have
 record LineBefore (xs line : List ℕ) : Type 0 where
   end : LineEnd
   whole : xs ≡ line ++ print_end end
@@ -352,7 +352,7 @@ ended bytes e =
         → ((q ++ c ∷ []) ++ a) ++ b ≡ q ++ c ∷ (a ++ (b ++ []))
     regroup q c a b = simp (append_assoc, cons-append, append-nil)
 
--- ---- what may still become a head
+-- ---- bytes that may still become a head
 
 ended_more : (bytes more : List ℕ) → Ended bytes [] → Ended (bytes ++ more) more
 ended_more bytes more x = record {
@@ -392,7 +392,7 @@ no_more front head rest is e (inr (blank, method, target, token, uri, whole)) no
     target_has_none method target behind.0 x.last x.first x.second rest token uri x.not_lf x.not_cr
     behind.1
 
--- where an empty line stands behind a line, httparse waits for no more
+-- if an empty line follows a line, httparse waits for nothing more
 pub end_is_final : (bytes : List ℕ) → HasEnd bytes → MayBecomeRequest (take 16384 bytes)
     → HasNoRequest (take 16384 bytes) → ⊥
 end_is_final bytes x may none =

@@ -7,7 +7,7 @@ use Rattle.httparse.specs.Spans.{header_bytes}
 use Rattle.httparse.specs.declared.spans.HeaderSpan.{HeaderSpan}
 use Rattle.office_messages.specs.Fields.{asks_to_close}
 
--- one field that asks for it settles the question
+-- one field with `close` settles the question
 pub field_settles : (bytes : List ℕ) (headers : List HeaderSpan) (i : ℕ) (d : HeaderSpan)
     → i < length headers
     → asks_to_close (header_bytes bytes (get_or headers i d)) ≡ true

@@ -28,7 +28,7 @@ pub record EndsLine (bytes : List ℕ) : Type 0 where
   pub not_lf : last ≢ 10
   pub not_cr : last ≢ 13
 
--- a byte and those behind it end with a plain byte
+-- a byte and those after it end with a plain byte
 pub record EndsPlain (bytes : List ℕ) : Type 0 where
   pub text : List ℕ
   pub last : ℕ
@@ -76,7 +76,7 @@ field_ends front f is =
     ∙ ap (λ (l : List ℕ). front ++ l) (sym (append_assoc f.name tail (print_end f.end))) in
     subst EndsLine e (behind (front ++ f.name) tail f.end p)
 
--- lines behind such a line end so too
+-- lines after such a line end in the same way
 fields_end : (front : List ℕ) (fields : List Field) → EndsLine front → All IsField fields
     → EndsLine (front ++ flat_map print_field fields)
 fields_end front [] ends all = subst EndsLine (sym (append-nil front)) ends
@@ -97,7 +97,7 @@ ends_of front p q same =
     ap (λ (k : ℕ). pointwise nat_eq p (drop k (front ++ q))) start
     ∙ ap (pointwise nat_eq p) (drop-append_seam front q)
 
--- the front is what is left without the end
+-- the front is the bytes without the end
 front_of : (front q : List ℕ) (n : ℕ) → n ≡ length q
     → take (length (front ++ q) - n) (front ++ q) ≡ front
 front_of front q n same =
@@ -105,7 +105,7 @@ front_of front q n same =
     omega (arith, length-append front q, same) in
     ap (λ (k : ℕ). take k (front ++ q)) start ∙ take-append_seam front q
 
--- which of two line ends stands there
+-- which of the two line ends is there
 by_tests : (xs line : List ℕ) (both one : Bool) → ends_with nat_eq xs crlf_bytes ≡ both
     → ends_with nat_eq xs (10 ∷ []) ≡ one
     → cond both (Some (take (length xs - 2) xs))
@@ -144,7 +144,7 @@ in_line text last no_lf =
     ap (λ (b : Bool). b && not (ends_with nat_eq (text ++ last ∷ []) (10 ∷ []))) some
     ∙ ap (λ (b : Bool). not b) other
 
--- a line end makes the bytes end with LF
+-- bytes with a line end at their end end with LF
 line_end_last : (line : List ℕ) (end : LineEnd) → (text : List ℕ)
     × (line ++ print_end end ≡ text ++ 10 ∷ [])
 line_end_last line crlf = (line ++ 13 ∷ [], sym (append_assoc line (13 ∷ []) (10 ∷ [])))
@@ -200,7 +200,7 @@ no_end_lacks bytes none h rest x =
           ∙ head_ends h x.reads.0;
     }
 
--- where no head can end behind the first n bytes, none ends at all, if none ends in these
+-- if no head can end after the first n bytes, and none ends within them, none ends at all
 pub searched_none : (bytes : List ℕ) (n : ℕ) → n ≤ length bytes → ¬ (HasEnd (take n bytes))
     → ((k : ℕ) → n < k → k ≤ length (take 16384 bytes)
     → ends_as_head (take k (take 16384 bytes)) ≡ false) → ¬ (HasEnd bytes)

@@ -1,4 +1,4 @@
--- What the parser says of the first bytes of a stream, said of the whole.
+-- From the parser's result for the first bytes of a stream to the whole stream.
 use Rattle.std.proofs.Common.{◌≡◌, ℕ, ◌+◌, ◌-◌, ◌<◌, ◌≤◌, List, [], ◌++◌, length, take, drop, refl}
 use Rattle.std.proofs.Common.{sym, ap, subst, ◌∙◌, append_assoc, arith, length-append}
 use Rattle.std.proofs.Common.{take-append-drop, length-take, length-drop, slice_range, Option, Some}
@@ -22,19 +22,19 @@ use Rattle.office_messages.specs.Stream.{request_of}
 use Rattle.office_messages.specs.Heads.{Covers, CallerAt, IsHeadOf, HeadAt}
 use Rattle.office_messages.specs.declared.head.Head.{Head}
 
--- a head at the front stays there whatever follows
+-- a head at the front stays there, whatever follows
 pub reads_more : (buf : List ℕ) (h : RequestHead) (rest more : List ℕ) → ReadsRequest buf h rest
     → ReadsRequest (buf ++ more) h (rest ++ more)
 reads_more buf h rest more r =
     (r.0, ap (λ l. l ++ more) r.1 ∙ append_assoc (print_request h) rest more)
 
--- the rest is what is behind the head
+-- the rest is the bytes after the head
 pub rest_of : (buf : List ℕ) (h : RequestHead) (rest : List ℕ) → ReadsRequest buf h rest
     → rest ≡ drop (length (print_request h)) buf
 rest_of buf h rest r =
     sym (ap (drop (length (print_request h))) r.1 ∙ drop-append_seam (print_request h) rest)
 
--- the front and what is behind it
+-- the front and the bytes after it
 pub whole_of : (n : ℕ) (bytes : List ℕ) → bytes ≡ take n bytes ++ drop n bytes
 whole_of n bytes = sym (take-append-drop n bytes)
 
@@ -61,7 +61,7 @@ head_of_front bytes n h len is room small r =
       );
     }
 
--- where the first bytes have no head, none is short enough
+-- if the first bytes have no head, the stream has no head within the limit
 pub no_head_of_front : (bytes : List ℕ) → HasNoRequest (take 16384 bytes) → LacksHead bytes
 no_head_of_front bytes none h rest x =
     let text = print_request h in
@@ -95,7 +95,7 @@ count_fields buf headers spans h x =
       length-take spans.headers headers,
     )
 
--- a head has some bytes
+-- a head has at least one byte
 pub print_some : (h : RequestHead) → 0 < length (print_request h)
 unfolding print_request
 print_some h = simp length-append (omega arith)
@@ -104,9 +104,9 @@ pub nothing_lacks : LacksHead []
 nothing_lacks h rest x = let e =
     ap length x.reads.1 in omega (arith, e, length-append (print_request h) rest, print_some h)
 
--- ---- the parts of a head, by where they lie
+-- ---- the parts of a head, by their places
 
--- a part that is covered stays so, whatever follows
+-- a covered part stays covered, whatever follows
 pub covers_more : (bytes more : List ℕ) (span : Span) (part : List ℕ) → Covers bytes span part
     → Covers (bytes ++ more) span part
 covers_more bytes more span part x = record {
@@ -138,7 +138,7 @@ parts_more bytes more x h p = record {
   framed = p.framed;
 }
 
--- more bytes leave the head that was parsed where it is
+-- more bytes don't move the parsed head
 pub head_at_more : (bytes more : List ℕ) (x : Head) → HeadAt bytes x → HeadAt (bytes ++ more) x
 head_at_more bytes more x at =
     let fits : x.body.start ≤ length bytes =
@@ -188,7 +188,7 @@ token_text bytes token =
     IsUtf8-from_ascii bytes (IsAscii-from_all bytes
     (All-weaker (λ b. IsTrue (is_token_byte b)) (λ b. b < 128) token_is_ascii bytes token.1))
 
--- the body lies behind the head
+-- the body is after the head
 pub body_of : (bytes : List ℕ) (x : Head) → HeadAt bytes x → x.body.end ≤ length bytes
     → slice_range bytes x.body.start x.body.end ≡ take (x.body.end - x.body.start)
     (drop x.body.start bytes)

@@ -1,4 +1,4 @@
--- What the bytes that have come begin with stays whatever follows.
+-- The beginning of the received bytes doesn't change, whatever follows.
 use Rattle.std.proofs.Common.{◌≡◌, ℕ, ◌≤◌, Bool, List, ◌++◌, length, take, drop, sym, ap, ◌∙◌}
 use Rattle.std.proofs.Common.{append_assoc, arith, length-append, take-append-drop, inl, inr}
 use Rattle.std.proofs.lemmas.List.{take-append-le, drop-append-le}
@@ -32,7 +32,7 @@ request_more r last s rest more x =
       rest_is = ap (λ l. l ++ more) x.rest_is ∙ sym (drop-append-le x.size x.after more x.whole);
     }
 
--- a head that fits the bytes that have come is a head of these
+-- a head that fits into the received bytes is a head of these
 lacks_more : (s more : List ℕ) → 16384 ≤ length s → LacksHead s → LacksHead (s ++ more)
 lacks_more s more long none h rest x =
     let text = print_request h in

@@ -1,4 +1,4 @@
--- A stream has one reading, but for the one choice.
+-- A stream has one reading, except for the one choice.
 use Rattle.std.proofs.Common.{◌≡◌, ℕ, ◌+◌, ◌<◌, true, false, Bool, List, [], ◌∷◌, ◌++◌, length}
 use Rattle.std.proofs.Common.{take, drop, Result, Ok, Err, refl, sym, ap, subst, ◌∙◌, append-nil}
 use Rattle.std.proofs.Common.{arith, inl, inr, ◌⊎◌}
@@ -28,20 +28,20 @@ one_head : (s : List ℕ) (h k : RequestHead) (r q : List ℕ) → HasHead s h r
     × (r ≡ q)
 one_head s h k r q x y = request_unique s h k r q x.reads y.reads
 
--- a head leaves no fault of the head
+-- a stream with a head has no fault of the head
 no_fault : (s : List ℕ) (h : RequestHead) (r : List ℕ) → HasHead s h r → HeadFault s → ⊥
 no_fault s h r x (some, inl y) = y.1 h r x
 no_fault s h r x (some, inr over) = let e =
     over [] h r (x.reads.0, append-nil s ∙ x.reads.1) in omega (arith, e, x.room)
 
--- what framing says of one head, it says of the other
+-- the framing of one head is that of the other
 same_framing : (s : List ℕ) (h k : RequestHead) (r q : List ℕ) (a b : Result ℕ Fault)
     → HasHead s h r → HasHead s k q
     → framing h.minor (fields_of h) ≡ a → framing k.minor (fields_of k) ≡ b → a ≡ b
 same_framing s h k r q a b x y e f =
     sym e ∙ ap (λ (z : RequestHead). framing z.minor (fields_of z)) (one_head s h k r q x y).0 ∙ f
 
--- a request is no fault
+-- a stream that begins with a request doesn't begin with a fault
 asks_not_fails : (r : PlainRequest) (last : Bool) (f : Fault) (form : Form) (s rest : List ℕ)
     → RequestAt r last s rest → FaultAt f form s → ⊥
 asks_not_fails r last f form s rest x (inl y) = no_fault s x.head x.after x.has_head y.2
@@ -49,7 +49,7 @@ asks_not_fails r last f form s rest x (inr y) =
     let e = same_framing s x.head y.head x.after y.after (Ok x.size)
     (Err f) x.has_head y.has_head x.framed y.framed in cc
 
--- nor less than a message
+-- nor with less than a message
 asks_not_cut : (r : PlainRequest) (last : Bool) (s rest : List ℕ) → RequestAt r last s rest
     → Unfinished s → ⊥
 asks_not_cut r last s rest x (inl y) = no_end_lacks s y.1 x.head x.after x.has_head
@@ -67,7 +67,7 @@ fails_some : (f : Fault) (form : Form) → FaultAt f form [] → ⊥
 fails_some f form (inl x) = omega (arith, x.2.0)
 fails_some f form (inr x) = nothing_lacks x.head x.after x.has_head
 
--- where a fault may be a cut as well, it is one of the head, which has no end
+-- if a fault may also be a cut, it is one of the head, which has no end
 fails_or_cut : (f : Fault) (form : Form) (s : List ℕ) → FaultAt f form s → Unfinished s
     → (f ≡ faults.Head) × (form ≡ Full) × (length s < 16384) × ¬ (HasEnd s)
 fails_or_cut f form s (inl x) (inl u) = (x.0, x.1, u.0, u.1)
@@ -112,7 +112,7 @@ swap s items end others last (inl x) = inl (sym x.0, sym x.1)
 swap s items end others last (inr (inl x)) = inr (inr x)
 swap s items end others last (inr (inr x)) = inr (inl x)
 
--- one request more at the front of both
+-- one more request at the front of both
 differs_after : (r : PlainRequest) (s rest : List ℕ) (items : List Item) (end : End)
     (others : List Item) (last : End) → RequestAt r false s rest
     → Differs rest items end others last → Differs s (asks r ∷ items) end (asks r ∷ others) last
@@ -191,13 +191,13 @@ end_or_request Limit n s r a rest x lt y = omega (arith, x, lt)
 end_or_request Refused n s r a rest x lt y = x
 end_or_request Asked n s r a rest x lt y = x
 
--- how a request goes on
+-- the continuation after a request
 abbrev Goes : PlainRequest → List Item → End → ℕ → List ℕ → List ℕ → Type 0
 Goes r items end n s rest =
     (RequestAt r true s rest × (items ≡ []) × (end ≡ Asked))
     ⊎ (RequestAt r false s rest × Messages items end (n + 1) rest)
 
--- it is there, as the last or not
+-- the request is there, and is the last or not
 request_there : (r : PlainRequest) (items : List Item) (end : End) (n : ℕ) (s rest : List ℕ)
     → Goes r items end n s rest → (a : Bool) × RequestAt r a s rest
 request_there r items end n s rest (inl x) = (true, x.0)
@@ -258,9 +258,9 @@ one_reading (asks r ∷ items) (asks q ∷ others) end last n s m o =
     both_go r q items others end last n s m.1.0 o.1.0 m.1.1 o.1.1
     (λ a b. one_reading items others end last (n + 1) m.1.0 a b)
 
--- ---- what was answered before a fault is a front of the messages
+-- ---- the answers before a fault are a front of the messages
 
--- how a front goes on
+-- the continuation of a front
 abbrev Begun : PlainRequest → List Item → ℕ → List ℕ → List ℕ → Type 0
 Begun r front n s rest =
     (RequestAt r true s rest × (front ≡ []))

@@ -1,4 +1,4 @@
--- A run of one machine is a run of another, and keeps what each of its answers keeps.
+-- A run of one machine is a run of another, and has the invariants of its answers.
 use Rattle.std.proofs.Common.{◌≡◌, ℕ, List, [], ◌∷◌, ◌++◌, Option, Result, Ok, Err, IfOk, IfErr}
 use Rattle.std.proofs.Common.{refl, sym, ap, subst, ◌∙◌}
 use Rattle.office_messages.specs.declared.connection.Served.{Served}
@@ -62,7 +62,7 @@ module _ {S T : Type 0} (f : S → T) (Answers : S → PlainRequest → PlainRep
     broken = λ is. breaks_along input before after x.items x.output old new (x.broken is);
   }
 
--- ---- what each answer keeps
+-- ---- invariants of each answer
 
 module _ {S : Type 0} (Answers : S → PlainRequest → PlainReply → S → Type 0) (Holds : S → Type 0)
   where
@@ -76,7 +76,7 @@ module _ {S : Type 0} (Answers : S → PlainRequest → PlainReply → S → Typ
     told_keeps keeps (asks r ∷ items) old output new (mid, reply, rest, step, is, t) h =
         told_keeps keeps items mid rest new t (keeps old r reply mid step h)
 
-    -- what held after the run held before it
+    -- a fact after the run held before it
     pub told_kept : ((old : S) (r : PlainRequest) (reply : PlainReply) (new : S)
         → Answers old r reply new → Holds new → Holds old)
         → (items : List Item) (old : S) (output : List ℕ) (new : S)
@@ -91,7 +91,7 @@ module _ {S : Type 0} (Answers : S → PlainRequest → PlainReply → S → Typ
 
 module _ {F S : Type 0} (name : F → ℕ) (now : F → S)
     (Answers : S → PlainRequest → PlainReply → S → Type 0) where
-  -- it keeps the name, and what is lent answers
+  -- the name doesn't change, and the borrowed machine answers
   abbrev pub Lends : F → PlainRequest → PlainReply → F → Type 0
   Lends old r reply new = (name new ≡ name old) × Answers (now old) r reply (now new)
 

@@ -1,4 +1,4 @@
--- How far a connection has come.
+-- The progress of a connection.
 use Rattle.std.proofs.Common.{◌≡◌, ◌≢◌, ℕ, ◌+◌, ◌<◌, ◌≤◌, Bool, true, false, List, [], ◌∷◌, ◌++◌}
 use Rattle.std.proofs.Common.{length, Option, Some, None, IfSome, refl, sym, ap, subst, ◌∙◌}
 use Rattle.std.proofs.Common.{append_assoc, append-nil, arith, length-append, inl, inr, ◌⊎◌}
@@ -28,7 +28,7 @@ use Rattle.office_messages.proofs.HeadEndLemmas.{no_end}
 use Rattle.office_messages.proofs.HeadLemmas.{head_at_more}
 use Rattle.office_messages.proofs.MoreLemmas.{request_more, fault_more}
 
--- what is known of the front stays known as more comes
+-- facts about the front stay true if more bytes come
 pub knows_more : (stage : Stage) (buffer more : List ℕ) → Knows buffer stage
     → Knows (buffer ++ more) stage
 knows_more (Searching n) buffer more k = (
@@ -39,11 +39,11 @@ knows_more (Searching n) buffer more k = (
 )
 knows_more (Reading x) buffer more k = head_at_more buffer more x k
 
--- of a message of which nothing was looked at nothing need be known
+-- nothing needs to be known of a message that was not looked at yet
 pub knows_nothing : (buffer : List ℕ) → Knows buffer (Searching 0)
 knows_nothing buffer = (omega arith, omega arith, no_end)
 
--- what holds of the bytes taken and whatever follows holds of the input
+-- a fact about the bytes read, with any continuation, holds for the input
 with_input : (P : List ℕ → Type 0) (input now : Option (List ℕ)) (taken : List ℕ)
     → Consumes input now taken → ((more : List ℕ) → P (taken ++ more)) → IfSome input P
 with_input P None now taken c h = tt
@@ -66,7 +66,7 @@ ends_or_not r false n buffer rest more lt at =
     inr (request_more r false buffer rest more at, omega arith)
 
 module _ {S : Type 0} (Answers : S → PlainRequest → PlainReply → S → Type 0) where
-  -- after n messages; buffer is what has come and isn't answered
+  -- after n messages; buffer has the bytes received and not answered yet
   pub record Progress (input now before after : Option (List ℕ)) (old new : S) (n : ℕ)
       (buffer : List ℕ) : Type 0 where
     pub items : List Item
@@ -100,7 +100,7 @@ module _ {S : Type 0} (Answers : S → PlainRequest → PlainReply → S → Typ
 
   module _ (input now before after : Option (List ℕ)) (old new : S) (n : ℕ) (buffer : List ℕ)
       (p : Progress input now before after old new n buffer) where
-    -- more bytes have come
+    -- more bytes were received
     pub grown : (then : Option (List ℕ)) (bytes wider : List ℕ) → Consumes now then bytes
         → wider ≡ buffer ++ bytes → Progress input then before after old new n wider
     grown then bytes wider c e =
@@ -249,14 +249,14 @@ module _ {S : Type 0} (Answers : S → PlainRequest → PlainReply → S → Typ
         (p.messages [] Cut [] (subst Q whole (lt, some, short)))))
         count
 
-    -- what was written, and a front of one more reply
+    -- the bytes written, and a front of one more reply
     gone_out : (then : Option (List ℕ)) (text : List ℕ) → (part : SendsFront after then text)
         → Appends before then ((p.output ++ []) ++ part.sent)
     gone_out then text part =
         subst (λ (l : List ℕ). Appends before then (l ++ part.sent)) (sym (append-nil p.output))
         (Appends-trans before after then p.output part.sent p.written part.written)
 
-    -- a fault of the connection leaves what was answered
+    -- a fault of the connection doesn't change the answers before it
     pub front : (fault : ServeFault) → fault ≢ serve_faults.Write
         → ServesFront Answers input before after old new fault
     front fault other = record {

@@ -1,4 +1,4 @@
--- Connections one after another: one more, along a map of states, and of a machine that lends.
+-- Connections one after another: one more, along a map of states, and of a borrowed machine.
 use Rattle.std.proofs.Common.{◌≡◌, ℕ, List, [], ◌∷◌, ◌++◌, Option, Result, Ok, Err, IfOk, IfErr}
 use Rattle.std.proofs.Common.{refl, sym, ap, subst, ◌∙◌}
 use Rattle.office_messages.specs.declared.connection.Served.{Served}
@@ -14,7 +14,7 @@ with_fault-append : (ended : Result Served ServeFault) (fs gs : List ServeFault)
 with_fault-append (Ok served) fs gs = refl
 with_fault-append (Err fault) fs gs = refl
 
--- the faults of one connection more
+-- the faults with one more connection
 pub faults_more : (vs : List Visit) (v : Visit)
     → faults_of (vs ++ v ∷ []) ≡ faults_of vs ++ with_fault v.ended []
 faults_more [] v = refl
@@ -22,7 +22,7 @@ faults_more (w ∷ vs) v =
     ap (with_fault w.ended) (faults_more vs v) ∙ with_fault-append w.ended (faults_of vs) _
 
 module _ {S : Type 0} (Answers : S → PlainRequest → PlainReply → S → Type 0) where
-  -- one connection more
+  -- one more connection
   pub visits_more : (vs : List Visit) (v : Visit) (old mid new : S)
       → ServesVisits Answers vs old mid → ServesVisit Answers v mid new
       → ServesVisits Answers (vs ++ v ∷ []) old new
@@ -81,7 +81,7 @@ module _ {F S : Type 0} (name : F → ℕ) (now : F → S)
       name_kept first vs mid new rest
       (ended_keeps first v.ended v.input v.before v.after old mid served.0 served.1 h)
 
-  -- what is lent served the same connections
+  -- the borrowed machine served the same connections
   pub lent_visits : (old new : F) (last : S) → (name old ≡ name new → last ≡ now new)
       → (vs : List Visit) → ServesVisits (Lends name now Answers) vs old new
       → ServesVisits Answers vs (now old) last

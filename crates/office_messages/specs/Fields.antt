@@ -1,4 +1,4 @@
--- What the fields of a head say, from the list of its names and values.
+-- The values of the fields of a head, from the list of its names and values.
 use Rattle.std.specs.Prelude.{ℕ, List, [], ◌∷◌, Bool, ◌&&◌, if◌then◌else◌, flat_map, codes}
 use Rattle.office_messages.specs.Names.{same_name, lists}
 
@@ -6,7 +6,7 @@ use Rattle.office_messages.specs.Names.{same_name, lists}
 abbrev pub Header : Type 0
 Header = List ℕ × List ℕ
 
--- the value, where the name is this one in any ASCII case
+-- the value, if the name is this one in any ASCII case
 abbrev pub value_if_named : List ℕ → Header → List (List ℕ)
 value_if_named name h = if same_name h.0 name then h.1 ∷ [] else []
 

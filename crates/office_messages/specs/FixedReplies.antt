@@ -13,6 +13,6 @@ fault_reply faults.Transfer = json_reply status.NotImplemented (codes "{\"error\
 fault_reply faults.Length = json_reply status.BadRequest (codes "{\"error\":\"request\"}")
 fault_reply faults.TooLong = json_reply status.PayloadTooLarge (codes "{\"error\":\"length\"}")
 
--- the reply where something was out of reach, as memory
+-- the reply if the store or memory is unavailable
 abbrev pub unavailable : PlainReply
 unavailable = json_reply status.ServiceUnavailable (codes "{\"error\":\"unavailable\"}")

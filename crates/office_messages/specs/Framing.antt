@@ -1,4 +1,4 @@
--- Where a message's body ends, and the faults of the fields that say so, in their order.
+-- The end of a message's body, and the faults of the fields that determine it, in their order.
 use Rattle.std.specs.Prelude.{ℕ, ◌&&◌, ◌==◌, not, List, [], ◌∷◌, length, Result, Ok, Err}
 use Rattle.std.specs.Prelude.{if◌then◌else◌, nat_lt, nat_le, codes}
 use Rattle.std.specs.List.{list_all}
@@ -13,7 +13,7 @@ use Rattle.office_messages.specs.declared.framing.Fault.TheVariants.{TooLong}
 abbrev pub max_body : ℕ
 max_body = 4194304
 
--- the number that a text of digits alone writes, where it is in the limit
+-- the value of a text of digits, if it is within the limit
 abbrev pub length_of : List ℕ → Result ℕ Fault
 length_of [] = Err Length
 length_of (b ∷ bs) =

@@ -1,4 +1,4 @@
--- Where a head comes to its end.
+-- The end of a head.
 use Rattle.std.specs.Prelude.{◌≡◌, ℕ, ◌-◌, ◌≤◌, Bool, true, false, not, ◌&&◌}
 use Rattle.std.specs.Prelude.{List, [], ◌∷◌, length, take, Option, Some, None}
 use Rattle.std.specs.Prelude.{if◌then◌else◌, nat_eq, nat_lt, option_and_then}
@@ -23,8 +23,8 @@ unfoldable pub ends_as_head : List ℕ → Bool
 ends_as_head bytes =
     option_map_or ends_in_line (option_and_then before_end (before_end bytes)) false
 
--- an empty line stands behind a line that isn't empty, within the first 16,384 bytes of the stream:
--- there a head, whole or faulty, has come to its end
+-- an empty line follows a line that isn't empty, within the first 16,384 bytes of the stream: a
+-- head, complete or faulty, ends there
 pub record HasEnd (stream : List ℕ) : Type 0 where
   pub size : ℕ
   pub within : size ≤ length stream

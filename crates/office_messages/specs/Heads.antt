@@ -1,4 +1,4 @@
--- What the code knows of a message that is coming.
+-- The facts about a message that is being received.
 use Rattle.std.specs.Prelude.{◌≡◌, ℕ, ◌-◌, ◌≤◌, List, [], ◌∷◌, length, drop, Option, Some}
 use Rattle.std.specs.Prelude.{None, Ok, Err, option_copied, codes}
 use Rattle.httparse.specs.Grammar.{RequestHead, print_request}
@@ -15,12 +15,12 @@ use Rattle.office_messages.specs.declared.head.BadHead.{BadHead}
 use Rattle.office_messages.specs.declared.head.Head.{Head}
 use Rattle.office_messages.specs.declared.request.Request.{Request}
 
--- the span lies in the bytes and covers this part of them
+-- the span is within the bytes and covers this part of them
 pub record Covers (bytes : List ℕ) (span : Span) (part : List ℕ) : Type 0 where
   pub within : IsWithin (length bytes) span
   pub covered : span_bytes bytes span ≡ part
 
--- these values, told as far as two
+-- what is seen of these values: none, the one, or that there are several
 abbrev pub Sees : List ℕ → List (List ℕ) → Seen → Type 0
 Sees bytes [] Absent = Unit {0}
 Sees bytes [] (Once s) = ⊥
@@ -38,14 +38,14 @@ pub record FramedBy (bytes : List ℕ) (fields : List Header) (seen : FramingFie
   pub codings : Sees bytes (values_named (codes "transfer-encoding") fields) seen.codings
   pub lengths : Sees bytes (values_named (codes "content-length") fields) seen.lengths
 
--- where the caller's value lies, if there is one
+-- the place of the caller's value, if there is one
 abbrev pub CallerAt : List ℕ → Option Span → Option (List ℕ) → Type 0
 CallerAt bytes None None = Unit {0}
 CallerAt bytes None (Some v) = ⊥
 CallerAt bytes (Some s) None = ⊥
 CallerAt bytes (Some s) (Some v) = Covers bytes s v
 
--- these are the parts of the head h, by where they lie in the bytes
+-- these are the parts of the head h, by their places in the bytes
 pub record IsHeadOf (bytes : List ℕ) (x : Head) (h : RequestHead) : Type 0 where
   pub method : Covers bytes x.method h.method
   pub target : Covers bytes x.target h.target
@@ -61,12 +61,12 @@ pub record HeadAt (bytes : List ℕ) (x : Head) : Type 0 where
   pub has_head : HasHead bytes head (drop x.body.start bytes)
   pub parts : IsHeadOf bytes x head
 
--- the head h is not taken, for this fault
+-- the head h is refused with this fault
 pub record IsBadHead (bad : BadHead) (h : RequestHead) : Type 0 where
   pub framed : framing h.minor (fields_of h) ≡ Err bad.fault
   pub form_is : bad.form ≡ form_of h.method
 
--- a request without where it lies in memory
+-- a request without its place in memory
 abbrev pub plain_request : Request → PlainRequest
 plain_request r = record {
   method = r.method.now;

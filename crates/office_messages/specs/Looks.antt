@@ -1,4 +1,4 @@
--- What a look at the bytes of a message that is coming says of them.
+-- The result of looking at the bytes of a message that is being received.
 use Rattle.std.specs.Prelude.{ℕ, ◌<◌, ◌≤◌, List, length, take}
 use Rattle.office_messages.specs.HeadEnds.{HasEnd}
 use Rattle.office_messages.specs.StreamFaults.{Unfinished, FaultAt}
@@ -9,12 +9,12 @@ use Rattle.office_messages.specs.declared.look.Beginning.TheVariants.{Whole, Mor
 use Rattle.office_messages.specs.declared.look.Stage.{Stage}
 use Rattle.office_messages.specs.declared.look.Stage.TheVariants.{Searching, Reading}
 
--- what is known of the message at the front of the bytes, before they are looked at
+-- the facts about the message at the front of the bytes, before they are looked at
 abbrev pub Knows : List ℕ → Stage → Type 0
 Knows bytes (Searching n) = (n ≤ length bytes) × (n < max_head) × ¬ (HasEnd (take n bytes))
 Knows bytes (Reading x) = HeadAt bytes x
 
--- what a look at the bytes says of them
+-- the meaning of the result of looking at the bytes
 abbrev pub SaysOf : List ℕ → Beginning → Type 0
 SaysOf bytes (Whole x) = HeadAt bytes x × (x.body.end ≤ length bytes)
 SaysOf bytes (More stage) = Unfinished bytes × Knows bytes stage

@@ -1,4 +1,4 @@
--- The messages that a stream has, from its first byte to where its connection ends.
+-- The messages of a stream, from its first byte to the end of its connection.
 use Rattle.std.specs.Prelude.{◌≡◌, ℕ, ◌+◌, ◌<◌, ◌≤◌, ◌⊎◌, true, false, List, [], ◌∷◌, ◌++◌, length}
 use Rattle.office_messages.specs.Stream.{PlainRequest, RequestAt}
 use Rattle.office_messages.specs.StreamFaults.{FaultAt, Unfinished}
@@ -12,7 +12,7 @@ use Rattle.office_messages.specs.declared.connection.End.{End}
 use Rattle.office_messages.specs.declared.connection.End.TheVariants.{Closed, Cut, Refused, Asked}
 use Rattle.office_messages.specs.declared.connection.End.TheVariants.{Limit}
 
--- what a stream has: a request, or a fault whose reply has that form
+-- an item of a stream: a request, or a fault whose reply has that form
 pub data Item : Type 0 where
   asks : PlainRequest → Item
   fails : Fault → Form → Item
@@ -21,7 +21,7 @@ pub data Item : Type 0 where
 abbrev pub max_messages : ℕ
 max_messages = 100
 
--- how a connection ends where no further message is answered
+-- how a connection ends if no further message is answered
 abbrev pub Ends : End → ℕ → List ℕ → Type 0
 Ends Closed n stream = (n < max_messages) × (stream ≡ [])
 Ends Cut n stream = (n < max_messages) × (0 < length stream) × Unfinished stream
@@ -29,7 +29,7 @@ Ends Refused n stream = ⊥
 Ends Asked n stream = ⊥
 Ends Limit n stream = n ≡ max_messages
 
--- after n messages the stream has these items, and the connection ends so
+-- after n messages the stream has these items, and the connection has this end
 abbrev pub Messages : List Item → End → ℕ → List ℕ → Type 0
 Messages [] end n stream = Ends end n stream
 Messages (fails f form ∷ items) end n stream =
@@ -39,7 +39,7 @@ Messages (asks r ∷ items) end n stream =
     × ((RequestAt r true stream rest × (items ≡ []) × (end ≡ Asked))
     ⊎ (RequestAt r false stream rest × Messages items end (n + 1) rest)))
 
--- the stream begins with these requests, of which the last alone may end the connection
+-- the stream begins with these requests, of which only the last may end the connection
 abbrev pub Begins : List Item → ℕ → List ℕ → Type 0
 Begins [] n stream = n ≤ max_messages
 Begins (fails f form ∷ items) n stream = ⊥
@@ -48,15 +48,15 @@ Begins (asks r ∷ items) n stream =
     × ((RequestAt r true stream rest × (items ≡ []))
     ⊎ (RequestAt r false stream rest × Begins items (n + 1) rest)))
 
--- behind these requests, none of which ends the connection, the stream goes on with rest
+-- after these requests, none of which ends the connection, the stream continues with rest
 abbrev pub GoesOnWith : List Item → List ℕ → List ℕ → Type 0
 GoesOnWith [] stream rest = rest ≡ stream
 GoesOnWith (fails f form ∷ items) stream rest = ⊥
 GoesOnWith (asks r ∷ items) stream rest =
     (next : List ℕ) × RequestAt r false stream next × GoesOnWith items next rest
 
--- the one choice: where the input ends within a head, which no continuation with few enough fields
--- completes, the head is refused, or the connection cut
+-- the one choice: if the input ends within a head that no continuation with few enough fields
+-- completes, the head is refused, or the connection is cut
 pub record Differs (stream : List ℕ) (items : List Item) (end : End) (others : List Item)
     (last : End) : Type 0 where
   pub refused : items ≡ others ++ fails faults.Head Full ∷ []

@@ -27,11 +27,11 @@ names_of value = map trim_ows (pieces_of value)
 abbrev pub lists : List ℕ → List ℕ → Bool
 lists name value = list_any (λ listed. same_name listed name) (names_of value)
 
--- the names of what is left, if anything is
+-- the names in the rest, if there is one
 abbrev pub names_of_rest : Option (Bor (List ℕ)) → List (List ℕ)
 names_of_rest None = []
 names_of_rest (Some rest) = names_of rest.now
 
--- the names that are still to come
+-- the names that are not read yet
 abbrev pub names_left : Names → List (List ℕ)
 names_left names = names_of_rest names.rest

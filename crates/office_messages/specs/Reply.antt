@@ -12,7 +12,7 @@ use Rattle.office_messages.specs.declared.replies.Reply.{Reply}
 use Rattle.office_messages.specs.Statuses.{status_line}
 use Rattle.office_messages.specs.declared.statuses.Status.{Status}
 
--- a reply without where it lies in memory
+-- a reply without its place in memory
 pub record PlainReply : Type 0 where
   pub status : Status
   pub allow : Option (List ℕ)
@@ -28,7 +28,7 @@ payload_bytes (Made bytes) = bytes.items
 abbrev pub allow_text : Allow → List ℕ
 allow_text allow = allow.methods.now
 
--- a reply without where its bytes lie in memory
+-- a reply without the place of its bytes in memory
 abbrev pub plain_reply : Reply → PlainReply
 plain_reply r = record {
   status = r.status;
@@ -37,28 +37,28 @@ plain_reply r = record {
   body = payload_bytes r.body;
 }
 
--- the field of a head that says what its body is, JSON or a text
+-- the header for the type of the body, JSON or a text
 unfoldable pub content_line : Content → List ℕ
 content_line Json = codes "Content-Type: application/json\r\n"
 content_line Text = codes "Content-Type: text/plain\r\n"
 
--- the field Allow, where the reply names methods
+-- the header Allow, if the reply names methods
 unfoldable pub allow_line : Option (List ℕ) → List ℕ
 allow_line None = []
 allow_line (Some methods) = codes "Allow: " ++ methods ++ codes "\r\n"
 
--- the field that says how many bytes the body has
+-- the header for the number of bytes of the body
 unfoldable pub length_line : ℕ → List ℕ
 length_line n = codes "Content-Length: " ++ decimal n ++ codes "\r\n"
 
--- what comes before the body
+-- the text before the body
 unfoldable pub head_text : Form → PlainReply → List ℕ
 head_text Full r =
     status_line r.status ++ content_line r.content ++ allow_line r.allow
     ++ length_line (length r.body) ++ codes "\r\n"
 head_text Bare r = status_line r.status ++ allow_line r.allow ++ codes "\r\n"
 
--- what comes behind the head
+-- the text after the head
 abbrev pub sent_body : Form → List ℕ → List ℕ
 sent_body Full body = body
 sent_body Bare body = []
@@ -67,6 +67,6 @@ sent_body Bare body = []
 unfoldable pub reply_text : Form → PlainReply → List ℕ
 reply_text form r = head_text form r ++ sent_body form r.body
 
--- a reply of that status with this body
+-- a reply with that status and this body
 abbrev pub json_reply : Status → List ℕ → PlainReply
 json_reply s body = record { status = s; allow = None; content = Json; body = body }

@@ -1,4 +1,4 @@
--- What is written over one connection.
+-- The text written over one connection.
 use Rattle.std.specs.Prelude.{◌≡◌, ◌≢◌, ℕ, ◌⊎◌, List, [], ◌∷◌, ◌++◌, length, Option, IfSome}
 use Rattle.std.specs.Io.KnownBytes.{Appends}
 use Rattle.office_messages.specs.Form.{form_of}
@@ -11,7 +11,7 @@ use Rattle.office_messages.specs.declared.connection.Served.{Served}
 use Rattle.office_messages.specs.declared.connection.ServeFault.{ServeFault}
 use Rattle.office_messages.specs.declared.connection.ServeFault.TheVariants as serve_faults
 
--- a front of the text went out
+-- a front of the text was written
 pub record SendsFront (before after : Option (List ℕ)) (text : List ℕ) : Type 0 where
   pub sent : List ℕ
   pub unsent : List ℕ
@@ -38,8 +38,8 @@ module _ {S : Type 0} (Answers : S → PlainRequest → PlainReply → S → Typ
     pub count : length items ≡ served.answered
     pub written : Appends before after output
 
-  -- the writer failed: all replies but the last went out whole, and a front of the last, which is
-  -- to the last of the items, or to the fault of head or framing behind them
+  -- the writer failed: all replies but the last were written whole, and a front of the last, which
+  -- is to the last of the items, or to the fault of head or framing after them
   pub record BreaksOff (input before after : Option (List ℕ)) (items : List Item)
       (output : List ℕ) (old new : S) : Type 0 where
     pub whole : List Item
@@ -55,7 +55,8 @@ module _ {S : Type 0} (Answers : S → PlainRequest → PlainReply → S → Typ
         × IfSome input (Messages (whole ++ last ∷ []) Refused 0))
     pub written : Appends before after (front ++ sent)
 
-  -- a front of it was served: the machine answered these items, and that output was to go out
+  -- a front of the stream was served: the machine answered these items, and that output was to be
+  -- written
   pub record ServesFront (input before after : Option (List ℕ)) (old new : S)
       (fault : ServeFault) : Type 0 where
     pub items : List Item

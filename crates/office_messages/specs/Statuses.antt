@@ -17,7 +17,7 @@ code_of status.PayloadTooLarge = 413
 code_of status.NotImplemented = 501
 code_of status.ServiceUnavailable = 503
 
--- the words behind it
+-- the phrase of the status
 abbrev pub phrase_of : Status → List ℕ
 phrase_of status.Done = codes "OK"
 phrase_of status.Created = codes "Created"

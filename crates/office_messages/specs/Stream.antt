@@ -1,4 +1,4 @@
--- The requests at the front of a stream, however it comes.
+-- The requests at the front of a stream, in whatever pieces it arrives.
 use Rattle.std.specs.Prelude.{◌≡◌, ℕ, ◌≤◌, Bool, ◌||◌, ◌==◌}
 use Rattle.std.specs.Prelude.{List, [], ◌∷◌, length, take, drop, map, Option, Some, None, Ok, codes}
 use Rattle.std.specs.List.{list_any}
@@ -7,22 +7,22 @@ use Rattle.httparse.specs.Spans.{name_and_value}
 use Rattle.office_messages.specs.Fields.{Header, values_named, asks_to_close}
 use Rattle.office_messages.specs.Framing.{framing}
 
--- how many fields a head has at most
+-- the most fields of a head
 abbrev pub max_headers : ℕ
 max_headers = 32
 
--- how many bytes it has at most
+-- the most bytes of a head
 abbrev pub max_head : ℕ
 max_head = 16384
 
--- a request without where it lies in memory
+-- a request without its place in memory
 pub record PlainRequest : Type 0 where
   pub method : List ℕ
   pub target : List ℕ
   pub caller : Option (List ℕ)
   pub body : List ℕ
 
--- the one value, where there is just one
+-- the one value, if there is exactly one
 abbrev pub only : List (List ℕ) → Option (List ℕ)
 only [] = None
 only (v ∷ []) = Some v
@@ -32,7 +32,7 @@ only (v ∷ w ∷ vs) = None
 abbrev pub fields_of : RequestHead → List Header
 fields_of h = map name_and_value h.fields
 
--- the value of X-Caller, where it stands just once
+-- the value of X-Caller, if it is there exactly once
 abbrev pub caller_of : RequestHead → Option (List ℕ)
 caller_of h = only (values_named (codes "x-caller") (fields_of h))
 
@@ -49,13 +49,13 @@ request_of h body = record {
   body = body;
 }
 
--- the stream begins with the head h, which keeps its limits; the empty lines before it count
+-- the stream begins with the head h, which is within its limits; the empty lines before it count
 pub record HasHead (stream : List ℕ) (h : RequestHead) (rest : List ℕ) : Type 0 where
   pub reads : ReadsRequest stream h rest
   pub room : length h.fields ≤ max_headers
   pub fits : length (print_request h) ≤ max_head
 
--- the stream begins with this request, whether it is the last or not, and then goes on with rest
+-- the stream begins with this request, whether it is the last or not, and continues with rest
 pub record RequestAt (r : PlainRequest) (last : Bool) (stream rest : List ℕ) : Type 0 where
   pub head : RequestHead
   pub after : List ℕ

@@ -1,4 +1,4 @@
--- What a stream begins with where it begins with no request: a fault, or less than a whole message.
+-- The beginning of a stream without a request at its front: a fault, or less than a whole message.
 use Rattle.std.specs.Prelude.{◌≡◌, ℕ, ◌<◌, ◌≤◌, ◌⊎◌, List, length, Ok, Err}
 use Rattle.httparse.specs.Grammar.{RequestHead}
 use Rattle.httparse.specs.Spans.{RequestOverflows}
@@ -11,11 +11,11 @@ use Rattle.office_messages.specs.declared.form.Form.TheVariants.{Full}
 use Rattle.office_messages.specs.declared.framing.Fault.{Fault}
 use Rattle.office_messages.specs.declared.framing.Fault.TheVariants as faults
 
--- it begins with no such head
+-- the stream begins with no such head
 abbrev pub LacksHead : List ℕ → Type 0
 LacksHead stream = (h : RequestHead) (rest : List ℕ) → ¬ (HasHead stream h rest)
 
--- it has no head in the limit of bytes, or however it goes on it has more fields than are allowed
+-- the stream has no head within the limit of bytes, or every continuation has too many fields
 abbrev pub HeadFault : List ℕ → Type 0
 HeadFault stream =
     (0 < length stream)
@@ -34,7 +34,7 @@ abbrev pub FaultAt : Fault → Form → List ℕ → Type 0
 FaultAt f form stream =
     ((f ≡ faults.Head) × (form ≡ Full) × HeadFault stream) ⊎ FramingFault f form stream
 
--- a head whose body isn't whole
+-- a head whose body isn't complete
 pub record BodyCut (stream : List ℕ) : Type 0 where
   pub head : RequestHead
   pub after : List ℕ
@@ -43,6 +43,6 @@ pub record BodyCut (stream : List ℕ) : Type 0 where
   pub framed : framing head.minor (fields_of head) ≡ Ok size
   pub short : length after < size
 
--- less than a whole message: no head, whole or faulty, has come to its end, or the body hasn't
+-- less than a whole message: no head, complete or faulty, has ended, or the body hasn't
 abbrev pub Unfinished : List ℕ → Type 0
 Unfinished stream = ((length stream < max_head) × ¬ (HasEnd stream)) ⊎ BodyCut stream

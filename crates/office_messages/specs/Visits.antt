@@ -6,7 +6,7 @@ use Rattle.office_messages.specs.Stream.{PlainRequest}
 use Rattle.office_messages.specs.declared.connection.Served.{Served}
 use Rattle.office_messages.specs.declared.connection.ServeFault.{ServeFault}
 
--- a connection: what its reader had, what its writer had before and after, and how it ended
+-- a connection: the bytes of its reader, those of its writer before and after, and how it ended
 pub record Visit : Type 0 where
   pub input : Option (List ℕ)
   pub before : Option (List ℕ)

@@ -1,7 +1,7 @@
 //! The methods of a path.
 ghost use Rattle.std.specs.Prelude.{◌≤◌, length};
 
-/// The methods of a path, as the field Allow has them: `GET, PUT, POST, DELETE` is the longest.
+/// The methods of a path, as in the header Allow: `GET, PUT, POST, DELETE` is the longest.
 #[derive(Clone, Copy)]
 pub struct Allow {
     pub methods: &'static str,

@@ -16,25 +16,25 @@ use crate::request::Request;
 use std::alloc::Global;
 use std::io::{ErrorKind, Read, Write};
 
-/// Why a connection is at its end. Where several hold, the first of Refused, Asked and Limit.
+/// Why a connection ended. If several apply, the first of Refused, Asked and Limit.
 #[derive(Clone, Copy, Debug, PartialEq, Eq)]
 pub enum End {
     /// The input ended between messages.
     Closed,
-    /// The input ended within a message, for which nothing was answered.
+    /// The input ended within a message, which was not answered.
     Cut,
     /// A fault of head or framing was answered.
     Refused,
-    /// The message was HTTP/1.0, or asked for it by Connection.
+    /// The message was HTTP/1.0, or had `Connection: close`.
     Asked,
     /// The last message of a connection was answered.
     Limit,
 }
 
-/// How a connection was served.
+/// The result of serving a connection.
 #[derive(Clone, Copy, Debug, PartialEq, Eq)]
 pub struct Served {
-    /// The replies that went out.
+    /// The number of replies that were written.
     pub answered: u32,
     pub end: End,
 }
@@ -52,21 +52,21 @@ impl Served {
 pub enum ServeFault {
     /// The reader failed.
     Read = 1,
-    /// The writer failed, took nothing, or was interrupted too often. The last command stands, and
-    /// of its reply at most a front went out; all before it went out whole.
+    /// The writer failed, wrote nothing, or was interrupted too often. The last command was run,
+    /// and at most a front of its reply was written; all replies before it were written whole.
     Write = 2,
     /// No turn was left.
     TooMany = 3,
-    /// Memory was refused, be it for the head of a reply or to keep a message.
+    /// Out of memory, either for the head of a reply or to keep a message.
     NoMemory = 4,
 }
 
 /// The most messages of a connection.
 pub const MAX_MESSAGES: u32 = 100;
 
-/// What answers requests.
+/// A machine that answers requests.
 pub trait Machine {
-    // From the one state it may give this reply to the request, and go on to the other.
+    // In the first state it may return this reply to the request, and change to the second state.
     ghost Answers: { Self → PlainRequest → PlainReply → Self → Type 0 };
 
     /// Answers a request. Out of memory is a reply too.
@@ -74,7 +74,7 @@ pub trait Machine {
         ensures { Answers self.old (plain_request request.now) (plain_reply result) self.new };
 }
 
-// What a read gave.
+// The result of a read.
 #[derive(Clone, Copy)]
 enum Received {
     Bytes,
@@ -85,17 +85,18 @@ enum Received {
 // The most bytes of a read.
 pub(crate) const PIECE: usize = 4096;
 
-// The most interruptions that are tried again while a head goes out, or a body.
+// The most interruptions that are retried while a head or a body is written.
 const MOST_INTERRUPTIONS: u32 = 1_000;
 
-// Room for a head, and for most bodies behind it, so that both go out in one write.
+// Room for a head, and for most bodies after it, so that both are sent with one write.
 const REPLY_ROOM: usize = 4096;
 
 /// Serves one connection: reads its messages, has the machine answer them one after another, and
-/// writes each reply before it reads on. It never flushes: a writer that keeps bytes back is its
-/// caller's to flush. A turn is one call of `read`, also of an interrupted one, which is tried
-/// again; those used are taken from `turns`. An interrupted write is tried again up to 1,000 times.
-/// Where it ends the connection itself, bytes of the client may lie unread: `drain` takes them.
+/// writes each reply before it continues to read. It never flushes: if a writer buffers bytes, its
+/// caller must flush it. A turn is one call of `read`, interrupted or not, and an interrupted read
+/// is retried; the turns used are subtracted from `turns`. An interrupted write is retried up to
+/// 1,000 times. If it ends the connection itself, there may be unread bytes of the client: `drain`
+/// reads them.
 pub fn serve<R: Read, W: Write, M: Machine>(
     alloc: Global,
     reader: &mut R,
@@ -103,19 +104,20 @@ pub fn serve<R: Read, W: Write, M: Machine>(
     machine: &mut M,
     turns: &mut u64,
 ) -> Result<Served, ServeFault>
-    // Over a reader and a writer that tell their bytes, for any machine: what was written is its
-    // replies to the messages of the whole stream, one after another, in whatever pieces it came.
-    // The result has their number and the end.
+    // If the bytes of reader and writer are known, for any machine: its replies to the messages of
+    // the whole stream are written one after another, in whatever pieces the stream arrives. The
+    // result has their number and the end.
     ensures ok { IfOk result (λ served. Serves M.Answers (R.remaining reader.old)
         (W.contents writer.old) (W.contents writer.new) machine.old machine.new served) }
-    // The same of the requests that the stream begins with. If the writer failed, the machine is as
-    // after the last of them; all replies but the last went out whole, and of the last a front.
+    // The same for the requests that the stream begins with. If the writer failed, the machine has
+    // answered the last of them; all replies but the last were written whole, and of the last a
+    // front.
     ensures err { IfErr result (λ fault. ServesFront M.Answers (R.remaining reader.old)
         (W.contents writer.old) (W.contents writer.new) machine.old machine.new fault) }
-    // What it reads is at the front of what is left of the reader.
+    // The bytes read are at the front of what is left of the reader.
     ensures taken { (bytes : List ℕ)
         × Consumes (R.remaining reader.old) (R.remaining reader.new) bytes }
-    // `TooMany` comes only if no turn is left.
+    // The fault is `TooMany` only if no turn is left.
     ensures spent { IfErr result (λ fault. fault ≡ ServeFault.TooMany → turns.new ≡ 0) }
     ensures turns { turns.new ≤ turns.old }
 {
@@ -182,7 +184,7 @@ fn answer<W: Write, M: Machine>(
     send(writer, room, &reply, form)
 }
 
-// Writes a reply, in one piece where the room takes its body too.
+// Writes a reply, in one piece if there is room for its body too.
 #[tactic(auto, unfolding(crate::specs::Reply::reply_text))]
 fn send<W: Write>(
     writer: &mut W,
@@ -208,7 +210,7 @@ fn send<W: Write>(
     write(writer, body)
 }
 
-// What goes out behind the head.
+// Returns the text after the head.
 fn sent_body(reply: &Reply, form: Form) -> &[u8]
     ensures { result.now ≡ sent_body form (plain_reply reply.now).body }
 {
@@ -218,7 +220,7 @@ fn sent_body(reply: &Reply, form: Form) -> &[u8]
     }
 }
 
-// Writes all of the bytes: a short write goes on, and an interrupted one is tried again.
+// Writes all of the bytes: continues after a short write, and retries an interrupted one.
 fn write<W: Write>(writer: &mut W, bytes: &[u8]) -> Result<(), ServeFault>
     ensures ok { OnOk result (Appends (W.contents writer.old) (W.contents writer.new) bytes.now) }
     ensures err { IfErr result (λ fault. (fault ≡ ServeFault.Write)
@@ -241,7 +243,7 @@ fn write<W: Write>(writer: &mut W, bytes: &[u8]) -> Result<(), ServeFault>
     Ok(())
 }
 
-// Takes the first bytes of the buffer away.
+// Removes the first bytes of the buffer.
 fn drop_front(buffer: &mut Vec<u8>, n: usize)
     requires { n ≤ length buffer.old.items }
     ensures { buffer.new.items ≡ drop n buffer.old.items }
@@ -249,7 +251,7 @@ fn drop_front(buffer: &mut Vec<u8>, n: usize)
     buffer.drain(..n);
 }
 
-// One read, whose bytes go to the end of the buffer, if there is a turn left for it.
+// Reads once and appends the bytes to the buffer, if there is a turn left for it.
 fn receive<R: Read>(
     reader: &mut R,
     piece: &mut [u8; PIECE],

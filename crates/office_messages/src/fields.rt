@@ -1,4 +1,4 @@
-//! What the fields of a head say.
+//! The values of the fields of a head.
 ghost use Rattle.std.specs.Prelude.{◌≡◌, ℕ, List, [], ◌∷◌, ◌++◌, length, map, All};
 ghost use Rattle.std.specs.List.{list_any};
 ghost use Rattle.httparse.specs.Spans.{IsWithin, IsHeaderWithin, span_bytes, header_bytes};
@@ -9,7 +9,7 @@ ghost use Rattle.office_messages.specs.Stream.{only};
 use crate::names::{is_same_name, lists};
 use httparse::spans::{HeaderSpan, Span};
 
-/// The values of the fields of one name, told as far as two.
+/// The values of the fields of one name: none, the one, or that there are several.
 #[derive(Clone, Copy)]
 pub(crate) enum Seen {
     Absent,
@@ -29,7 +29,7 @@ impl Seen {
     }
 }
 
-/// The fields with this name, in any ASCII case.
+/// Returns the values of the fields with this name, in any ASCII case.
 pub(crate) fn find(bytes: &[u8], headers: &[HeaderSpan], name: &[u8]) -> Seen
     requires { All (IsHeaderWithin (length bytes.now)) headers.now }
     ensures { Sees bytes.now (values_named name.now (map (header_bytes bytes.now) headers.now))
@@ -42,7 +42,7 @@ pub(crate) fn find(bytes: &[u8], headers: &[HeaderSpan], name: &[u8]) -> Seen
     seen
 }
 
-// The values seen so far, and this header's where it has the name.
+// Returns the values seen so far, with this header's if it has the name.
 fn with_header(bytes: &[u8], header: HeaderSpan, name: &[u8], seen: Seen) -> Seen
     requires { IsHeaderWithin (length bytes.now) header }
     ensures { (values : List (List ℕ)) → Sees bytes.now values seen
@@ -56,7 +56,7 @@ fn with_header(bytes: &[u8], header: HeaderSpan, name: &[u8], seen: Seen) -> See
     }
 }
 
-/// The one value, where there is just one.
+/// Returns the one value, if there is exactly one.
 pub(crate) fn only(seen: Seen) -> Option<Span>
     ensures { (bytes : List ℕ) (values : List (List ℕ)) → Sees bytes values seen
         → CallerAt bytes result (only values) }
@@ -67,7 +67,7 @@ pub(crate) fn only(seen: Seen) -> Option<Span>
     }
 }
 
-/// Whether a Connection header lists `close`, in small or capital letters.
+/// Returns whether a Connection header lists `close`, in lower or upper case.
 pub(crate) fn any_asks_to_close(bytes: &[u8], headers: &[HeaderSpan]) -> bool
     requires { All (IsHeaderWithin (length bytes.now)) headers.now }
     ensures { result ≡ list_any asks_to_close (map (header_bytes bytes.now) headers.now) }
@@ -80,7 +80,7 @@ pub(crate) fn any_asks_to_close(bytes: &[u8], headers: &[HeaderSpan]) -> bool
     false
 }
 
-// Whether the header is Connection, and lists `close`.
+// Returns whether the header is Connection and lists `close`.
 fn asks_to_close(bytes: &[u8], header: HeaderSpan) -> bool
     requires { IsHeaderWithin (length bytes.now) header }
     ensures { result ≡ asks_to_close (header_bytes bytes.now header) }

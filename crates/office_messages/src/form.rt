@@ -4,7 +4,7 @@ ghost use Rattle.office_messages.specs.Form.{form_of};
 
 use http::Method;
 
-/// How much of a reply goes out.
+/// How much of a reply is written.
 #[derive(Clone, Copy)]
 pub enum Form {
     /// The whole reply.
@@ -14,7 +14,7 @@ pub enum Form {
 }
 
 impl Form {
-    /// The form of the reply to a method, whose letters count as they stand.
+    /// Returns the form of the reply to a method; the case of its letters matters.
     pub fn of(method: &[u8]) -> Form
         ensures { result ≡ form_of method.now }
     {

@@ -1,4 +1,4 @@
-//! Where a message's body ends.
+//! The end of a message's body.
 ghost use Rattle.std.specs.Prelude.{◌≡◌, ℕ, ◌≤◌, ◌+◌, min, true, List, IfOk, codes};
 ghost use Rattle.std.specs.List.{list_all};
 ghost use Rattle.std.specs.Char.{is_ascii_digit};
@@ -9,16 +9,16 @@ ghost use Rattle.office_messages.specs.Heads.{Sees, FramedBy};
 
 use crate::fields::Seen;
 
-/// Why a head is not taken, in the order in which it is judged.
+/// Why a head is refused, in the order of the checks.
 #[derive(Clone, Copy)]
 pub enum Fault {
-    /// The head is not one, has more than 32 fields, or has no end within 16,384 bytes.
+    /// The head is malformed, has more than 32 fields, or has no end within 16,384 bytes.
     Head,
-    /// HTTP/1.1 without just one Host.
+    /// HTTP/1.1 without exactly one Host.
     Host,
     /// There is a Transfer-Encoding.
     Transfer,
-    /// Content-Length stands more than once, or is not digits.
+    /// There is more than one Content-Length, or it isn't digits.
     Length,
     /// Content-Length is above 4,194,304.
     TooLong,
@@ -35,7 +35,7 @@ pub(crate) struct FramingFields {
     pub lengths: Seen,
 }
 
-/// The body's length, or the first fault of the fields.
+/// Returns the body's length, or the first fault of the fields.
 #[tactic(auto, unfolding(crate::specs::Framing::framing))]
 pub(crate) fn framing(bytes: &[u8], minor: u8, seen: FramingFields) -> Result<usize, Fault>
     requires { (fields : List Header) × FramedBy bytes.now fields seen }
@@ -54,7 +54,7 @@ pub(crate) fn framing(bytes: &[u8], minor: u8, seen: FramingFields) -> Result<us
     body_length(bytes, seen.lengths)
 }
 
-// The body's length, by the fields Content-Length.
+// Returns the body's length, by the fields Content-Length.
 fn body_length(bytes: &[u8], lengths: Seen) -> Result<usize, Fault>
     requires { (values : List (List ℕ)) × Sees bytes.now values lengths }
     ensures length { (values : List (List ℕ)) → Sees bytes.now values lengths
@@ -68,7 +68,7 @@ fn body_length(bytes: &[u8], lengths: Seen) -> Result<usize, Fault>
     }
 }
 
-// The body's length, by the value of the one Content-Length.
+// Returns the body's length, by the value of the one Content-Length.
 fn length_of(value: &[u8]) -> Result<usize, Fault>
     ensures length { result ≡ length_of value.now }
     ensures within { IfOk result (λ n. n ≤ MAX_BODY) }
@@ -83,14 +83,14 @@ fn length_of(value: &[u8]) -> Result<usize, Fault>
     Ok(n)
 }
 
-// Whether each byte is a digit.
+// Returns whether each byte is a digit.
 fn are_digits(bytes: &[u8]) -> bool
     ensures { result ≡ list_all is_ascii_digit bytes.now }
 {
     bytes.iter().all(|b| b.is_ascii_digit())
 }
 
-// The number that the digits write, or one above `MAX_BODY` where it is greater than that.
+// Returns the value of the digits, or `MAX_BODY` + 1 if it is greater than `MAX_BODY`.
 fn saturated(digits: &[u8]) -> usize
     requires { list_all is_ascii_digit digits.now ≡ true }
     ensures { result ≡ min (digits_value 10 digits.now) (MAX_BODY + 1) }

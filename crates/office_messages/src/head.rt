@@ -1,4 +1,4 @@
-//! The head of a message, by where its parts lie.
+//! The head of a message, by the places of its parts.
 ghost use Rattle.std.specs.Prelude.{◌≡◌, ℕ, ◌≤◌, List, length, drop};
 ghost use Rattle.std.specs.Prelude.{Option, option_copied, IsUtf8, MatchResult};
 ghost use Rattle.httparse.specs.Grammar.{RequestHead};
@@ -13,8 +13,7 @@ use crate::request::Request;
 use httparse::spans::{HeaderSpan, RequestSpans, Span};
 use std::str;
 
-/// The parts of a head in the bytes of its connection. They stay where they are while the body
-/// comes.
+/// The parts of a head in the bytes of its connection. They don't move while the body is received.
 #[derive(Clone, Copy)]
 pub(crate) struct Head {
     pub method: Span,
@@ -22,18 +21,18 @@ pub(crate) struct Head {
     pub caller: Option<Span>,
     /// The message is the last of its connection.
     pub closes: bool,
-    /// Where the body lies, or will.
+    /// The place of the body, received or not.
     pub body: Span,
 }
 
-/// A head that is not taken.
+/// A head that is refused.
 #[derive(Clone, Copy)]
 pub(crate) struct BadHead {
     pub fault: Fault,
     pub form: Form,
 }
 
-/// The parts of the head that was parsed.
+/// Returns the parts of the parsed head.
 pub(crate) fn head_of(
     bytes: &[u8],
     headers: &[HeaderSpan],
@@ -71,7 +70,7 @@ pub(crate) fn head_of(
 }
 
 impl Head {
-    /// The request, once its body has come.
+    /// Returns the request, once its body is received.
     pub(crate) fn request(self, bytes: &[u8]) -> Request<'_>
         requires at { HeadAt bytes.now self }
         requires whole { self.body.end ≤ length bytes.now }
@@ -87,7 +86,7 @@ impl Head {
     }
 }
 
-// The text that the span covers.
+// Returns the text that the span covers.
 fn text(bytes: &[u8], span: Span) -> &str
     requires within { (span.start ≤ span.end) × (span.end ≤ length bytes.now) }
     requires text { IsUtf8 (span_bytes bytes.now span) }
@@ -96,7 +95,7 @@ fn text(bytes: &[u8], span: Span) -> &str
     str::from_utf8(span.of(bytes)).unwrap()
 }
 
-// The bytes that the span covers, if there is one.
+// Returns the bytes that the span covers, if there is one.
 fn bytes_at(bytes: &[u8], span: Option<Span>) -> Option<&[u8]>
     requires { (value : Option (List ℕ)) × CallerAt bytes.now span value }
     ensures { (value : Option (List ℕ)) → CallerAt bytes.now span value

@@ -1,8 +1,8 @@
-//! Where a head can end, told before it is parsed.
+//! Whether a head can end at a place, tested before it is parsed.
 ghost use Rattle.std.specs.Prelude.{◌≡◌, ℕ, ◌<◌, ◌≤◌, length, take, true, false, option_copied};
 ghost use Rattle.office_messages.specs.HeadEnds.{before_end, ends_in_line, ends_as_head};
 
-/// Whether a head can end behind the first `searched` bytes.
+/// Returns whether a head can end after the first `searched` bytes.
 pub(crate) fn may_hold_end(bytes: &[u8], searched: usize) -> bool
     requires { searched ≤ length bytes.now }
     ensures found { result ≡ true → (n : ℕ) × (searched < n) × (n ≤ length bytes.now)
@@ -18,7 +18,7 @@ pub(crate) fn may_hold_end(bytes: &[u8], searched: usize) -> bool
     false
 }
 
-// Whether the bytes end with a line that isn't empty, and an empty one.
+// Returns whether the bytes end with a line that isn't empty, and an empty one.
 #[tactic(auto, unfolding(crate::specs::HeadEnds::ends_as_head))]
 fn ends_as_head(bytes: &[u8]) -> bool
     ensures { result ≡ ends_as_head bytes.now }
@@ -32,7 +32,7 @@ fn ends_as_head(bytes: &[u8]) -> bool
     }
 }
 
-// The bytes before the line end that they end with.
+// Returns the bytes before the line end at their end.
 fn before_end(bytes: &[u8]) -> Option<&[u8]>
     ensures { option_copied result ≡ before_end bytes.now }
 {
@@ -45,7 +45,7 @@ fn before_end(bytes: &[u8]) -> Option<&[u8]>
     }
 }
 
-// Whether the bytes end within a line that isn't empty.
+// Returns whether the bytes end within a line that isn't empty.
 fn ends_in_line(bytes: &[u8]) -> bool
     ensures { result ≡ ends_in_line bytes.now }
 {

@@ -8,8 +8,8 @@ ghost use Rattle.office_messages.specs.declared.connection.End.{End};
 
 use crate::connection::Machine;
 
-/// A stream has one reading, but where the input ends within a faulty head, before an empty line
-/// behind a line that isn't empty: there the head may be refused, or the connection be cut.
+/// A stream has one reading, unless the input ends within a faulty head, before an empty line after
+/// a line that isn't empty: then the head may be refused, or the connection may be cut.
 pub fn one_reading()
     // The input ends so if less than 16,384 bytes are left, without an empty line after a line that
     // isn't empty, and if no continuation with at most 32 fields makes them a head.
@@ -18,15 +18,15 @@ pub fn one_reading()
         → Agree stream items end others last }
 {}
 
-/// The requests that were answered before a fault of the connection are the first of its stream's
-/// messages, in whichever reading.
+/// The requests that were answered before a fault of the connection are the first messages of its
+/// stream, in any reading.
 pub fn front_of_messages()
     ensures { (stream : List ℕ) (front items : List Item) (end : End)
         → Begins front 0 stream → Messages items end 0 stream
         → (rest : List Item) × (items ≡ front ++ rest) }
 {}
 
-/// A map of states that carries each answer of one machine into an answer of another carries a run.
+/// A map of states that maps each answer of one machine to an answer of another maps runs to runs.
 pub fn runs_are_carried<M: Machine, N: Machine>()
     ensures { (f : M → N) → ((old : M) (r : PlainRequest) (reply : PlainReply) (new : M)
         → M.Answers old r reply new → N.Answers (f old) r reply (f new))
@@ -34,8 +34,8 @@ pub fn runs_are_carried<M: Machine, N: Machine>()
         → Told M.Answers items old output new → Told N.Answers items (f old) output (f new) }
 {}
 
-/// What each answer of a machine keeps, a run keeps: what holds before it holds after it, and what
-/// holds after it held before it.
+/// An invariant of each answer of a machine is an invariant of a run: what holds before the run
+/// holds after it, and what holds after it held before it.
 pub fn runs_keep<M: Machine>()
     ensures forwards { (holds : M → Bool) → ((old : M) (r : PlainRequest) (reply : PlainReply)
         (new : M) → M.Answers old r reply new → holds old ≡ true → holds new ≡ true)

@@ -1,4 +1,4 @@
-//! What the bytes that have come begin with.
+//! The beginning of the received bytes.
 ghost use Rattle.std.specs.Prelude.{◌≡◌, ◌<◌, ◌≤◌, length, take};
 ghost use Rattle.office_messages.specs.Heads.{HeadAt};
 ghost use Rattle.office_messages.specs.Looks.{Knows, SaysOf};
@@ -11,16 +11,16 @@ use crate::head_end::may_hold_end;
 use httparse::Status;
 use httparse::spans::{EMPTY_HEADER_SPAN, parse_request};
 
-/// How far the message at the front is known.
+/// How much is known of the message at the front.
 #[derive(Clone, Copy)]
 pub(crate) enum Stage {
-    /// No head, whole or faulty, ends within the first bytes of this number.
+    /// No head, complete or faulty, ends within this many first bytes.
     Searching(usize),
-    /// The head was parsed, and its body is to come.
+    /// The head was parsed, and its body isn't received yet.
     Reading(Head),
 }
 
-/// What the bytes begin with.
+/// The beginning of the bytes.
 #[derive(Clone, Copy)]
 pub(crate) enum Beginning {
     Whole(Head),
@@ -40,8 +40,8 @@ const FAULTY_HEAD: Beginning = Beginning::Faulty(BadHead {
     form: Form::Full,
 });
 
-/// What the bytes begin with. A head is parsed once it is whole, and each byte of it is looked at
-/// once before that.
+/// Returns the beginning of the bytes. A head is parsed once it is complete, and before that each
+/// byte of it is looked at once.
 pub(crate) fn look(bytes: &[u8], stage: Stage) -> Beginning
     requires { Knows bytes.now stage }
     ensures { SaysOf bytes.now result }
@@ -58,7 +58,7 @@ pub(crate) fn look(bytes: &[u8], stage: Stage) -> Beginning
     }
 }
 
-// The head was parsed: whether its body has come.
+// Returns the same after the head was parsed: whether its body is received.
 fn with_head(bytes: &[u8], head: Head) -> Beginning
     requires { HeadAt bytes.now head }
     ensures { SaysOf bytes.now result }
@@ -70,7 +70,7 @@ fn with_head(bytes: &[u8], head: Head) -> Beginning
     }
 }
 
-// The first n bytes, or all where there are fewer.
+// Returns the first n bytes, or all if there are fewer.
 fn first(bytes: &[u8], n: usize) -> &[u8]
     ensures front { result.now ≡ take n bytes.now }
     ensures short { length result.now ≤ n }
@@ -78,7 +78,7 @@ fn first(bytes: &[u8], n: usize) -> &[u8]
     if n < bytes.len() { &bytes[..n] } else { bytes }
 }
 
-// Parses the head that seems to be whole: behind its end httparse waits for no more of it.
+// Parses the head, which seems complete: after its end httparse waits for no more of it.
 fn parse(bytes: &[u8]) -> Beginning
     requires some { 0 < length bytes.now }
     requires ended { HasEnd bytes.now }
@@ -96,7 +96,7 @@ fn parse(bytes: &[u8]) -> Beginning
     }
 }
 
-// No head has come to its end.
+// Returns the same if no head has ended.
 fn without_head(bytes: &[u8]) -> Beginning
     requires { ¬ (HasEnd bytes.now) }
     ensures { SaysOf bytes.now result }

@@ -6,7 +6,7 @@ ghost use Rattle.office_messages.specs.Names.{same_name, lists, names_of, names_
 
 use httparse::is_space_or_tab;
 
-/// Whether two names are one, in any ASCII case.
+/// Returns whether two names are equal, in any ASCII case.
 #[tactic(auto, unfolding(crate::specs::Names::same_name))]
 pub(crate) fn is_same_name(a: &[u8], b: &[u8]) -> bool
     ensures { result ≡ same_name a.now b.now }
@@ -14,7 +14,7 @@ pub(crate) fn is_same_name(a: &[u8], b: &[u8]) -> bool
     a.eq_ignore_ascii_case(b)
 }
 
-/// Whether the name is among those between the commas, in any ASCII case.
+/// Returns whether the name is among those between the commas, in any ASCII case.
 pub(crate) fn lists(value: &[u8], name: &[u8]) -> bool
     ensures { result ≡ lists name.now value.now }
 {

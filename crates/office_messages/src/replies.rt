@@ -1,4 +1,4 @@
-//! Replies, and those that are always the same.
+//! Replies, and those with a fixed text.
 ghost use Rattle.std.specs.Prelude.{◌≡◌};
 ghost use Rattle.office_messages.specs.Reply.{plain_reply, payload_bytes, json_reply};
 ghost use Rattle.office_messages.specs.FixedReplies.{fault_reply, unavailable};
@@ -11,13 +11,13 @@ use crate::statuses::Status;
 #[derive(Drop)]
 pub struct Reply {
     pub status: Status,
-    /// The methods of the path, where another one was asked.
+    /// The methods of the path, if the request had another one.
     pub allow: Option<Allow>,
     pub content: Content,
     pub body: Payload,
 }
 
-/// What a body is.
+/// The type of a body.
 #[derive(Clone, Copy)]
 pub enum Content {
     Json,
@@ -29,12 +29,12 @@ pub enum Content {
 pub enum Payload {
     /// A text of the program.
     Fixed(&'static [u8]),
-    /// A text that was made for this reply.
+    /// A text made for this reply.
     Made(Vec<u8>),
 }
 
 impl Payload {
-    /// The bytes as they go out.
+    /// Returns the bytes to be written.
     pub fn bytes(&self) -> &[u8]
         ensures { result.now ≡ payload_bytes self.now }
     {
@@ -45,7 +45,7 @@ impl Payload {
     }
 }
 
-/// A reply with this JSON, a text of the program. It takes no memory.
+/// Returns a reply with this JSON, a text of the program. It takes no memory.
 pub fn fixed_reply(status: Status, body: &'static [u8]) -> Reply
     ensures { plain_reply result ≡ json_reply status body.now }
 {
@@ -57,7 +57,7 @@ pub fn fixed_reply(status: Status, body: &'static [u8]) -> Reply
     }
 }
 
-/// The reply to a fault of head or framing. It takes no memory.
+/// Returns the reply to a fault of head or framing. It takes no memory.
 pub fn fault_reply(fault: Fault) -> Reply
     ensures { plain_reply result ≡ fault_reply fault }
 {
@@ -70,7 +70,7 @@ pub fn fault_reply(fault: Fault) -> Reply
     }
 }
 
-/// The reply where memory or the store failed. It takes no memory.
+/// Returns the reply if memory or the store failed. It takes no memory.
 pub fn unavailable() -> Reply
     ensures { plain_reply result ≡ unavailable }
 {

@@ -1,4 +1,4 @@
-//! What goes out before the body of a reply.
+//! The text before the body of a reply.
 ghost use Rattle.std.specs.Prelude.{◌≡◌, ◌+◌, ◌≤◌, ◌++◌, length, option_map, vec_len, vec_capacity};
 ghost use Rattle.office_messages.specs.Reply.{plain_reply, content_line, allow_text, allow_line};
 ghost use Rattle.office_messages.specs.Reply.{length_line, head_text};
@@ -10,10 +10,10 @@ use crate::replies::{Content, Reply};
 use crate::statuses::Status;
 use itoa::Buffer;
 
-/// Room that every head fits in, in bytes.
+/// Enough bytes for every head.
 pub(crate) const HEAD_ROOM: usize = 256;
 
-/// Puts the head of a reply into the room, in place of what was there.
+/// Replaces the contents of the room by the head of a reply.
 #[tactic(auto, unfolding(crate::specs::Reply::head_text))]
 pub(crate) fn put_head(room: &mut Vec<u8>, reply: &Reply, form: Form)
     requires { HEAD_ROOM ≤ vec_capacity room.old }

@@ -4,9 +4,9 @@
 #[derive(Clone, Copy)]
 pub struct Request<'a> {
     pub method: &'a str,
-    /// The path: it is taken as it stands.
+    /// The path, unchanged.
     pub target: &'a str,
-    /// The value of `X-Caller`, where it stands just once.
+    /// The value of `X-Caller`, if it is there exactly once.
     pub caller: Option<&'a [u8]>,
     pub body: &'a [u8],
 }

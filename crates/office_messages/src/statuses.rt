@@ -20,7 +20,7 @@ pub enum Status {
 }
 
 impl Status {
-    /// HTTP's number for it.
+    /// Returns its number in HTTP.
     pub fn code(self) -> StatusCode
         ensures { result ≡ code_of self }
     {
@@ -38,7 +38,7 @@ impl Status {
         }
     }
 
-    /// HTTP's phrase for it.
+    /// Returns its phrase in HTTP.
     #[tactic(auto, using(crate::proofs::StatusLemmas::status_facts))]
     pub(crate) fn phrase(self) -> &'static str
         ensures text { result.now ≡ phrase_of self }

@@ -21,7 +21,7 @@ head_broke_off before after head room body text e f x = record {
   written = x.written;
 }
 
--- so is the head, and a front of the body
+-- the same for the head, and a front of the body
 body_broke_off : (before mid after : Option (List ℕ)) (head room body sent text : List ℕ)
     → text ≡ head ++ body → room ≡ head → sent ≡ body → Appends before mid room
     → SendsFront mid after sent → SendsFront before after text

@@ -147,7 +147,7 @@ returns-clause-ok g c =
     (limit g.M.Machine.Answers _ _ _ _ _ _ _ _ c.loop-answered.invariant.progress _
     (omega (arith, c.loop-answered.invariant.progress.small, c.loop-answered-test.false)) refl refl)
 
--- what was taken of the reader
+-- the bytes read from the reader
 pub returns-in_err-answer-in-Whole-clause-taken : goal.returns-in_err-answer-in-Whole-clause-taken
 returns-in_err-answer-in-Whole-clause-taken g c =
     (c.loop-answered.invariant.progress.taken, c.loop-answered.invariant.progress.consumed)

@@ -4,7 +4,7 @@ use Rattle.std.proofs.lemmas.List.{take_all}
 use Rattle.std.proofs.KnownBytes.{Appends-trans}
 use Rattle.office_messages.proofs.connection.write.Goals as goal
 
--- what was sent grows by the first n bytes of the rest
+-- the sent bytes grow by the first n bytes of the rest
 split : (bytes sent rest : List ℕ) (n : ℕ) → bytes ≡ sent ++ rest
     → bytes ≡ (sent ++ take n rest) ++ take (length rest - n) (drop n rest)
 split bytes sent rest n e =

@@ -2,7 +2,7 @@ use Rattle.std.specs.Prelude.{◌≡◌, ℕ, ◌+◌, ◌-◌, ◌≤◌, List,
 use Rattle.std.specs.Io.KnownBytes.{Appends}
 use Rattle.office_messages.proofs.connection.write.Given as goal
 
--- what went out, and the rest that didn't, are what was to go out
+-- the sent bytes and the rest add up to all bytes
 abbrev pub invariant-loop-rest : goal.invariant-loop-rest
 invariant-loop-rest g l = record {
   part : (sent : List ℕ) × (l.bytes ≡ sent ++ l.rest)

@@ -3,7 +3,7 @@ use Rattle.std.specs.Io.KnownBytes.{Consumes, ReadConsumes}
 use Rattle.std.proofs.KnownBytes.{Consumes-trans, Consumes-kept}
 use Rattle.office_messages.proofs.draining.drain.Goals as goal
 
--- one read more
+-- one more read
 read_on : {E : Type 0} (input now then : Option (List ℕ)) (taken buf : List ℕ) (r : Result ℕ E)
     → Consumes input now taken → ReadConsumes now then r buf
     → (bytes : List ℕ) × Consumes input then bytes

@@ -2,7 +2,7 @@ use Rattle.std.specs.Prelude.{ℕ, ◌≤◌, List}
 use Rattle.std.specs.Io.KnownBytes.{Consumes}
 use Rattle.office_messages.proofs.draining.drain.Given as goal
 
--- what was read was at the front of the input
+-- the bytes read were at the front of the input
 abbrev pub invariant-loop-turns : goal.invariant-loop-turns
 invariant-loop-turns g l = record {
   taken : (bytes : List ℕ)

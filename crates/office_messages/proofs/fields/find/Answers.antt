@@ -8,7 +8,7 @@ use Rattle.office_messages.specs.Fields.{value_if_named, values_named}
 use Rattle.office_messages.specs.Heads.{Sees}
 use Rattle.office_messages.proofs.fields.find.Goals as goal
 
--- one header more
+-- one more header
 values_more : (bytes name : List ℕ) (headers : List HeaderSpan) (i : ℕ) (d : HeaderSpan)
     → i < length headers
     → values_named name (map (header_bytes bytes) (take (i + 1) headers))

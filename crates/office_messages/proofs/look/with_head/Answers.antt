@@ -5,7 +5,7 @@ use Rattle.office_messages.proofs.look.with_head.Goals as goal
 pub returns-then-head-bytes : goal.returns-then-head-bytes
 returns-then-head-bytes c = (c.requires, c.if-head-bytes.true)
 
--- what is behind the head is shorter than the body
+-- the bytes after the head are shorter than the body
 pub returns-else-head-bytes : goal.returns-else-head-bytes
 returns-else-head-bytes c =
     let at = c.requires in
