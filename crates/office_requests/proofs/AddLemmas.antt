@@ -1,4 +1,4 @@
--- What inserts that were done leave.
+-- The results of inserts.
 use Rattle.std.proofs.Common.{◌≡◌, ◌+◌, ◌<◌, List, ℕ, length, get_or, take, map, Result, Ok, Err}
 use Rattle.std.proofs.Common.{is_ok, true, Bor, sym, ap, ◌∙◌}
 use Rattle.std.proofs.lemmas.List.Folds.{fold-map}
@@ -21,7 +21,7 @@ pub added : (text : List ℕ) (p : Page) (old new : Rows) (r : Result (Unit {0})
 unfolding adds
 added text p old new r h k = added_read (parse_route text) p old new r h k
 
--- one route more is added to what the first of them left
+-- one more route is added to the result of those before it
 pub adds_more : (routes : List (Bor (List ℕ) × Page)) (i : ℕ) (d : Bor (List ℕ) × Page)
     (rows now : Rows) → i < length routes
     → now ≡ adds_all (map (λ route. (route.0.now, route.1)) (take i routes)) rows

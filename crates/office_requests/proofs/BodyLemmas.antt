@@ -1,4 +1,4 @@
--- What a map's entries say as an object, and when bytes are no JSON.
+-- The entries of a map as an object, and bytes that are no JSON.
 use Rattle.std.proofs.Common.{◌≡◌, ℕ, Bool, true, false, List, [], ◌∷◌, length, String}
 use Rattle.std.proofs.Common.{Some, None, refl, arith, IsUtf8}
 use Rattle.std.specs.Str.{is_utf8}
@@ -20,7 +20,7 @@ pub json_of_text : (bytes : List ℕ) (d : Data) → IsUtf8 bytes → read bytes
     json_in bytes ≡ Some d
 json_of_text bytes d text reads = rw (is_utf8-from_IsUtf8 bytes text) reads
 
--- bytes are none where they have no reading as far as they are text
+-- bytes are no JSON if they have no reading as a text
 pub json_of_none : (bytes : List ℕ) → (IsUtf8 bytes → read bytes ≡ None) → json_in bytes ≡ None
 json_of_none bytes none = go (is_utf8 bytes) refl
   where

@@ -1,4 +1,4 @@
--- The search finds a row that takes the path, where there is one.
+-- The search finds a row that takes the path, if there is one.
 use Rattle.std.proofs.Common.{◌≡◌, ◌<◌, ◌≤◌, ◌⊎◌, ℕ, zero, suc, Bool, true, false}
 use Rattle.std.proofs.Common.{not, ◌&&◌, ◌==◌, List, [], ◌∷◌, length, Option, Some}
 use Rattle.std.proofs.Common.{None, refl, sym, ap, subst, ◌∙◌, inl, inr, arith}
@@ -242,7 +242,7 @@ module _ (K : Type 0) where
   complete_end rows h [] k i t = own_none rows k (sym (seek_end rows) ∙ h) i
   complete_end rows h (x ∷ s) k i t = cc
 
-  -- both ways of going on found nothing
+  -- both alternatives found nothing
   neither : (a c : Option K) → or_else a c ≡ None → (a ≡ None) × (c ≡ None)
   neither None c h = (refl, h)
   neither (Some k) c h = cc
@@ -304,12 +304,12 @@ module _ (K : Type 0) where
           more (step b rows) path (omega arith) (plain_step b rows good) none.0 s k
           (step_in b rows s k i2) parts.1
 
-  -- what `first` finds takes the path
+  -- the row that `first` finds takes the path
   pub first_found : (rows : RowsOf K) (path : List ℕ) (k : K) → IsText path → ArePlain rows →
       first rows path ≡ Some k → Finds rows path k
   first_found rows path k text good h = sound (length path) rows path k (omega arith) text good h
 
-  -- where it finds nothing, no row takes the path
+  -- if it finds nothing, no row takes the path
   pub first_none : (rows : RowsOf K) (path : List ℕ) → ArePlain rows → first rows path ≡ None →
       FindsNone rows path
   first_none rows path good h = complete (length path) rows path (omega arith) good h

@@ -1,4 +1,4 @@
--- The methods that a page lists are those that ask for something there.
+-- The methods that a page lists are those with a command there.
 use Rattle.std.proofs.Common.{◌≡◌, ◌≢◌, ℕ, Bool, true, false, List, Option, Some, None}
 use Rattle.std.proofs.Common.{Result, Err, refl, sym, subst, ◌∙◌}
 use Rattle.std.specs.Prelude.{codes, bytes_eq, is_some, is_ok, IfSome, option_map}
@@ -27,14 +27,14 @@ use Rattle.office_requests.specs.declared.requests.Refusal.TheVariants as refusa
 
 -- ---- methods by their names
 
--- none of the four has this name
+-- the method is not one of the four
 record IsOther (m : List ℕ) : Type 0 where
   get : bytes_eq m (codes "GET") ≡ false
   put : bytes_eq m (codes "PUT") ≡ false
   post : bytes_eq m (codes "POST") ≡ false
   delete : bytes_eq m (codes "DELETE") ≡ false
 
--- what holds of the four and of all others, holds of each method
+-- a fact about the four and about all others holds for each method
 by_method : (P : List ℕ → Verb → Type 0) → P (codes "GET") Get → P (codes "PUT") Put
     → P (codes "POST") Post → P (codes "DELETE") Delete → ((m : List ℕ) → IsOther m → P m Other)
     → (m : List ℕ) → P m (verb_of m)
@@ -120,7 +120,7 @@ three : (field : List ℕ) (made : ℕ → ℕ → ℕ → Verb → Option Plain
 three field made lists None a b = tt
 three field made lists (Some d) a b = two field (made d) (lists d) a b
 
--- each page's field lists the methods that ask for something there
+-- each page's field lists the methods with a command there
 page_lists : (p : Page) (path body : List ℕ) → IfSome (asks_at p path body) (Lists (allow_of p))
 page_lists page.Me path body = get_lists me
 page_lists page.MyExam path body =
@@ -155,7 +155,7 @@ page_lists page.PublicationSeats path body = get_lists publication_seats
 page_lists page.Batch path body =
     one (codes "PUT") _ (λ n. put_lists (batch n (text_body body))) (number_in 2 path)
 
--- ---- what is answered on a page
+-- ---- the answers on a page
 
 abbrev Asks : Type 0
 Asks = Verb → Option PlainCommand

@@ -12,7 +12,7 @@ use Rattle.office_requests.specs.Pages.{IsIn}
 use Rattle.office_requests.specs.Pages.{pages, IsRouteTo}
 use Rattle.office_requests.proofs.FindLemmas.{both}
 
--- two patterns part at a byte that each has, or where one ends
+-- two patterns differ in a byte that each has, or one ends first
 abbrev apart : List ℕ → List ℕ → Bool
 apart [] [] = false
 apart [] (y ∷ t) = true

@@ -83,7 +83,7 @@ text_of : (path : List ℕ) → ((i : ℕ) → get_or path i 0 < 256) → IsText
 text_of [] h = tt
 text_of (b ∷ path) h = (h 0, text_of path (λ i. h (suc i)))
 
--- what the table finds for a path leads to that page
+-- the page that the table finds for a path is the path's
 pub page_found : (path : List ℕ) (p : Page) → ((i : ℕ) → get_or path i 0 < 256) →
     page_at table path ≡ Some p → IsRouteTo p path
 page_found path p text h = go (first table path) refl h
@@ -104,7 +104,7 @@ page_found path p text h = go (first table path) refl h
           takes_it = found.takes_it;
         }
 
--- where it finds none, no page has that path
+-- if the table finds none, no page has that path
 pub page_none : (path : List ℕ) → page_at table path ≡ None → (p : Page) → ¬ (IsRouteTo p path)
 page_none path h p leads = go (first table path) refl h
   where
@@ -126,7 +126,7 @@ pub none_clause : (path : List ℕ) (o : Option Page) → o ≡ page_at table pa
 none_clause path None e n p = page_none path (sym e) p
 none_clause path (Some q) e n p = cc
 
--- what a search finds stands among the rows and takes the path
+-- a row found by a search is among the rows and takes the path
 found_in : (rows : List (List ℕ × Page)) (path : List ℕ) (row : List ℕ × Page) →
     find (λ r. takes r.0 path) rows ≡ Some row → IsIn row.0 row.1 rows × (takes row.0 path ≡ true)
 found_in [] path row e = cc
@@ -145,7 +145,7 @@ found_in (r ∷ rows) path row e = go (takes r.0 path) refl (found_in rows path 
         )
     go false t more = let found = more (rw t at e) in (inr found.0, found.1)
 
--- where it finds nothing, no row takes the path
+-- if it finds nothing, no row takes the path
 none_in : (rows : List (List ℕ × Page)) (path t : List ℕ) (p : Page) →
     find (λ r. takes r.0 path) rows ≡ None → IsIn t p rows → takes t path ≡ true → ⊥
 none_in [] path t p e i k = i
@@ -160,7 +160,7 @@ none_in (r ∷ rows) path t p e i k = go (takes r.0 path) refl i (none_in rows p
         let both : true ≡ false = sym k ∙ sym same ∙ u in cc
     go false u (inr there) more = more (rw u at e) there k
 
--- the page that a path leads to, where it leads to one
+-- the page of a path, if it has one
 pub page_some : (path : List ℕ) (p : Page) → IsRouteTo p path → Some p ≡ page_of path
 unfolding page_of
 page_some path p leads = go (find (λ r. takes r.0 path) pages) refl

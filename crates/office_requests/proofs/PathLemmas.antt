@@ -37,7 +37,7 @@ behind_at (b ∷ path) (suc i) lt is other =
     (behind_at path i (omega arith) is (λ k lt. other (suc k) (omega arith))
     ∙ rw (add-one i) refl)
 
--- a later segment is one of what is behind the slash
+-- a later segment is one of the rest after the slash
 pub segment_later : (place : ℕ) (path : List ℕ) → place ≢ 0 →
     segment place path ≡ segment (place - 1) (behind_slash path)
 segment_later zero path some = absurd (some refl)

@@ -15,7 +15,7 @@ abbrev pub EndsSegment : List ℕ → Type 0
 EndsSegment [] = Unit {0}
 EndsSegment (x ∷ rest) = x ≡ slash
 
--- a number ends its segment, and nothing takes the whole rest
+-- a number ends its segment, and no parameter takes the whole rest
 abbrev pub IsPlain : List ℕ → Type 0
 IsPlain [] = Unit {0}
 IsPlain (x ∷ rest) = ((x < param_token) ⊎ ((x ≡ param_token) × EndsSegment rest)) × IsPlain rest

@@ -1,4 +1,4 @@
--- What is printed in decimal is read back, in a path too.
+-- A number printed in decimal is read back, also in a path.
 use Rattle.std.proofs.Common.{◌≡◌, ℕ, ◌^◌, ◌<◌, ◌≤◌, true, false, List, [], ◌∷◌, ◌++◌, length}
 use Rattle.std.proofs.Common.{Some, refl, ap, ◌∙◌, arith}
 use Rattle.std.specs.Prelude.{decimal, nat_le, ◌==◌}
@@ -18,7 +18,7 @@ use Rattle.office_requests.proofs.Plain.{EndsSegment}
 
 -- ---- numbers
 
--- a text of a few digits that write this number
+-- a text of a few digits with this value
 record Writes (n : ℕ) (ds : List ℕ) : Type 0 where
   some : 0 < length ds
   few : length ds ≤ 9
@@ -100,7 +100,7 @@ number_here n rest small ends =
     ap number_of (first_is (decimal n) rest (without_slash (decimal n) is.digits) ends)
     ∙ number_is n (decimal n) is
 
--- and the path goes on behind it
+-- the rest of the path follows it
 pub behind_number : (n : ℕ) (rest : List ℕ) → IsSmall n
     → behind_slash (decimal n ++ slash ∷ rest) ≡ rest
 behind_number n rest small =

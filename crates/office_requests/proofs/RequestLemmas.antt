@@ -1,4 +1,4 @@
--- A refusal of what a caller asks for is one of the request.
+-- A refusal of a caller's command is one of the request.
 use Rattle.std.proofs.Common.{◌≡◌, ℕ, List, Option, Some, Result, Ok, Err, refl, subst}
 use Rattle.std.specs.Prelude.{IsOkAnd}
 use Rattle.exam_terms.specs.Refusing.{◌>>=◌, else_err}
@@ -11,7 +11,7 @@ use Rattle.office_requests.specs.Answering.{GivesCommand, GivesAsked}
 use Rattle.office_requests.specs.declared.requests.Refusal.{Refusal}
 use Rattle.office_requests.specs.declared.requests.Refusal.TheVariants as refusal
 
--- a command with who asks for it is no refusal
+-- a command with its caller is no refusal
 asked_is_ok : (who : Caller) (said : Result PlainCommand Refusal) → IsOkAnd said HasJson →
     IsOkAnd (said >>= (λ c. Ok (record { caller = who; command = c })))
     (λ (a : PlainAsked). HasJson a.command)

@@ -47,7 +47,7 @@ in_rows [] i inside = absurd (omega arith)
 in_rows (row ∷ rows) zero inside = inl (refl, refl)
 in_rows (row ∷ rows) (suc i) inside = inr (in_rows rows i (omega arith))
 
--- a path that the pattern of the page takes leads to it
+-- a path that the pattern of the page takes is the page's
 page_is : (i : ℕ) (path : List ℕ) → i < 18 → takes (row_at pages i).0 path ≡ true
     → page_of path ≡ Some (row_at pages i).1
 page_is i path inside takes_it =
@@ -60,7 +60,7 @@ page_is i path inside takes_it =
 abbrev Asks : Type 0
 Asks = Verb → Option PlainCommand
 
--- on a path of a page, methods ask for this
+-- the commands of methods on a path of a page
 record Offers (path body : List ℕ) (p : Page) (asks : Asks) : Type 0 where
   page_there : page_of path ≡ Some p
   asks_there : asks_at p path body ≡ Some asks
@@ -135,7 +135,7 @@ module _ (d a b : ℕ) (small : IsSmall d) (also : IsSmall a) (last : IsSmall b)
       ∙ ap (λ (l : List ℕ). number_of (first_segment l)) (behind_number a (decimal b ++ []) also)
       ∙ number_here b [] last tt))
 
--- ---- what is offered on each path
+-- ---- the commands on each path
 
 -- the page of a command
 abbrev page_for : PlainCommand → Page
@@ -161,7 +161,7 @@ page_for publication_rooms = page.PublicationRooms
 page_for publication_seats = page.PublicationSeats
 page_for (batch n text) = page.Batch
 
--- what the methods of its page ask for
+-- the commands of the methods of its page
 abbrev offer : PlainCommand → List ℕ → Asks
 offer (load text) body = of_instance body
 offer instance body = of_instance body
@@ -231,7 +231,7 @@ offered (batch n text) body small =
 
 -- ---- requests
 
--- its method asks for the command itself
+-- its method has the command itself
 is_asked : (c : PlainCommand) (body : List ℕ) → SaysBody body c
     → offer c body (verb_of (method_of c)) ≡ Some c
 is_asked (load text) body says = ap (λ (b : Body (List ℕ)). Some (load b)) says
@@ -257,7 +257,7 @@ hers_by : (path : List ℕ) (p : Page) (c : PlainCommand) → page_of path ≡ S
     → her_page p path ≡ Some c → candidate_command Get path ≡ Ok c
 hers_by path p c there e = rw (there, e) refl
 
--- a candidate asks for her own three
+-- a candidate asks for their own three pages
 she_asks : (n : ℕ) (c : PlainCommand) → HasSmallNumbers c → ComesWith (Cand n) c
     → candidate_command (verb_of (method_of c)) (path_of c) ≡ Ok c
 she_asks n me small hers = hers_by _ page.Me me (offered me [] small).page_there refl

@@ -1,4 +1,4 @@
--- The search finds a row that takes the path, where there is one.
+-- The search finds a row that takes the path, if there is one.
 use Rattle.std.proofs.Common.{◌≡◌, ◌<◌, ◌-◌, ◌⊎◌, ℕ, zero, suc, Bool, true, false}
 use Rattle.std.proofs.Common.{cond, ltb, ◌&&◌, ◌||◌, ◌==◌, nat_eq, List, [], ◌∷◌, length, drop}
 use Rattle.std.proofs.Common.{Option, Some, None, refl, sym, ap, ◌∙◌, inl, inr, arith}
@@ -56,7 +56,7 @@ segment_some (b ∷ path) h = go (b == 47) refl
     go true e = rw e (omega arith)
     go false e = rw e (omega arith)
 
--- the last byte of a segment is a slash where the path has one
+-- the last byte of a segment is a slash exactly if the path has one
 last_slash : (b : ℕ) (path : List ℕ) → (b == 47) ≡ false →
     pointwise nat_eq (47 ∷ []) (drop (length (segment path)) (b ∷ segment path)) ≡ has_slash path
 last_slash b [] h = go (nat_eq 47 b) refl
@@ -98,7 +98,7 @@ no_rest (b ∷ path) h = go (b == 47) refl (no_rest path)
     go true e more = absurd (let f : true ≡ false = rw e at h in cc)
     go false e more = rw e (more (rw e at h))
 
--- what stands after a parameter: nothing, or a slash and more
+-- a parameter is followed by nothing, or by a slash and more
 abbrev pub AreTails : {K : Type 0} → RowsOf K → Type 0
 AreTails [] = Unit {0}
 AreTails (row ∷ rows) = EndsSegment row.0 × AreTails rows
@@ -112,7 +112,7 @@ module _ {K : Type 0} where
   has_more [] = false
   has_more (row ∷ rows) = begins row.0 || has_more rows
 
-  -- a slash is the longest suffix once it is found
+  -- if a slash is found, it is the longest suffix
   longest_slash : (seg : List ℕ) (rows : RowsOf K) → AreTails rows →
       longest_from seg (47 ∷ []) rows ≡ 47 ∷ []
   longest_slash seg [] good = refl
@@ -158,7 +158,7 @@ cuts_is b path e = rw e (go (has_slash path) refl)
     go false h = and_right (ltb 1 (suc (length (segment path)))) _ (last ∙ h) ∙ sym h
 
 module _ {K : Type 0} where
-  -- what a parameter's step is, once the longest suffix is known
+  -- a parameter's step, if the longest suffix is known
   param_step_is : (rows : RowsOf K) (path suffix : List ℕ) →
       longest_from (segment path) [] rows ≡ suffix
       → param_step rows path ≡ cond {A = ℕ × RowsOf K} (ltb 0 (length suffix))
@@ -239,7 +239,7 @@ module _ {K : Type 0} where
   or_none None = refl
   or_none (Some k) = refl
 
-  -- a step of the search, where there is no catch-all
+  -- a step of the search, if there is no catch-all
   pub seek_is : (rows : RowsOf K) (b : ℕ) (path : List ℕ) → ArePlain rows →
       seek 0 rows (b ∷ path) ≡ or_else (seek 0 (step b rows) path)
       (param_at (step param_token rows) b path)

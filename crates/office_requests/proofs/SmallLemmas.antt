@@ -34,7 +34,7 @@ use Rattle.office_requests.specs.declared.pages.Page.TheVariants as page
 use Rattle.office_requests.specs.declared.requests.Refusal.{Refusal}
 use Rattle.office_requests.specs.declared.requests.Refusal.TheVariants as refusal
 
--- ---- what is there goes on
+-- ---- if there is a value, the reading goes on
 
 mapped : {A B : Type 0} (P : A → Type 0) (Q : B → Type 0) (f : A → B) (o : Option A)
     → IfSome o P → ((x : A) → P x → Q (f x)) → IfSome (option_map f o) Q
@@ -126,7 +126,7 @@ in_path k path = number_small (segment k path)
 
 -- ---- commands
 
--- whatever the method, it asks for a command with small numbers
+-- for each method, the command has small numbers
 abbrev AsksSmall : (Verb → Option PlainCommand) → Type 0
 AsksSmall asks = (verb : Verb) → IfSome (asks verb) HasSmallNumbers
 
@@ -230,7 +230,7 @@ staff_small verb path body =
     (else_ok AsksSmall refusal.Path (asks_at p path body) (asks_small p path body))
     (λ asks small. else_ok HasSmallNumbers (refusal.Method p) (asks verb) (small verb)))
 
--- what is asked for has small numbers, whoever asks
+-- the command has small numbers, for each caller
 pub asked_small : (who : Caller) (verb : Verb) (path body : List ℕ)
     → IfOk (asked_by who verb path body) HasSmallNumbers
 asked_small Office verb path body = staff_small verb path body

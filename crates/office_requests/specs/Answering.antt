@@ -1,4 +1,4 @@
--- What a reading of a request answers, and the reply to a refusal.
+-- The result of reading a request, and the reply to a refusal.
 use Rattle.std.specs.Prelude.{◌≡◌, Some, Result, Ok, Err, IsOkAnd}
 use Rattle.office_policy.specs.declared.callers.Caller.{Caller}
 use Rattle.office_policy.specs.Commands.{PlainCommand, plain_command}
@@ -18,7 +18,8 @@ use Rattle.office_requests.specs.declared.requests.Asked.{Asked}
 use Rattle.office_requests.specs.declared.requests.Refusal.{Refusal}
 use Rattle.office_requests.specs.declared.requests.Refusal.TheVariants as refusal
 
--- The answer is that of the definition. Memory is refused for a command with a body of JSON alone.
+-- The result is that of the definition. Only a command with a body of JSON can fail with out of
+-- memory.
 abbrev pub AnswersCommand : {A P : Type 0} → (A → P) → (P → PlainCommand) → Result P Refusal
     → Result A Refusal → Type 0
 AnswersCommand plain command_in said (Ok asked) = said ≡ Ok (plain asked)
@@ -33,11 +34,11 @@ AnswersCommand plain command_in said (Err (refusal.Method page)) = said ≡ Err 
 abbrev pub GivesCommand : Result PlainCommand Refusal → Result Command Refusal → Type 0
 GivesCommand said answer = AnswersCommand plain_command (λ command. command) said answer
 
--- who asks, and the command
+-- the caller and the command
 abbrev pub GivesAsked : Result PlainAsked Refusal → Result Asked Refusal → Type 0
 GivesAsked said answer = AnswersCommand plain_asked (λ asked. asked.command) said answer
 
--- the reply where the page hasn't the method
+-- the reply if the page doesn't have the method
 abbrev pub not_allowed : Page → PlainReply
 not_allowed page = record {
   status = MethodNotAllowed;

@@ -1,4 +1,4 @@
--- What one page asks for by each method, and with the numbers in its path.
+-- The command of each method on one page, and with the numbers in its path.
 use Rattle.std.specs.Prelude.{ℕ, List, Option, Some, None, option_map, option_and_then}
 use Rattle.office_policy.specs.declared.command.Body.TheVariants.{Given}
 use Rattle.office_policy.specs.Commands.{PlainCommand, load, instance, new_draft, draft, drop_draft}
@@ -7,22 +7,22 @@ use Rattle.office_requests.specs.Paths.{number_in}
 use Rattle.office_requests.specs.declared.methods.Verb.{Verb}
 use Rattle.office_requests.specs.declared.methods.Verb.TheVariants.{Get, Put, Post, Delete}
 
--- what is asked for where GET alone asks for something
+-- the command of a page whose only method is GET
 abbrev pub by_get : PlainCommand → Verb → Option PlainCommand
 by_get c Get = Some c
 by_get c _ = None
 
--- where PUT alone does
+-- the command of a page whose only method is PUT
 abbrev pub by_put : PlainCommand → Verb → Option PlainCommand
 by_put c Put = Some c
 by_put c _ = None
 
--- where POST alone does
+-- the command of a page whose only method is POST
 abbrev pub by_post : PlainCommand → Verb → Option PlainCommand
 by_post c Post = Some c
 by_post c _ = None
 
--- where DELETE alone does
+-- the command of a page whose only method is DELETE
 abbrev pub by_delete : PlainCommand → Verb → Option PlainCommand
 by_delete c Delete = Some c
 by_delete c _ = None
@@ -44,7 +44,7 @@ of_draft d body _ = None
 abbrev pub with_one : {A : Type 0} → ℕ → (ℕ → A) → List ℕ → Option A
 with_one k made path = option_map (λ n. made n) (number_in k path)
 
--- with the numbers of a draft and of an exam in it
+-- with the numbers of a draft and of an exam in the path
 abbrev pub with_two : {A : Type 0} → (ℕ → ℕ → A) → List ℕ → Option A
 with_two made path = option_and_then (λ d. with_one 4 (made d) path) (number_in 2 path)
 

@@ -1,4 +1,4 @@
--- What a method asks for on a page, with the numbers in the path and what the body says.
+-- The command of a method on a page, with the numbers in the path and the value of the body.
 use Rattle.std.specs.Prelude.{◌≡◌, ℕ, Bool, true, false, List, Option, Some, Result}
 use Rattle.exam_terms.specs.Refusing.{◌>>=◌, else_err}
 use Rattle.office_policy.specs.Commands.{PlainCommand, me, my_exam, my_penalty}
@@ -15,7 +15,7 @@ use Rattle.office_requests.specs.declared.pages.Page.TheVariants as page
 use Rattle.office_requests.specs.declared.requests.Refusal.{Refusal}
 use Rattle.office_requests.specs.declared.requests.Refusal.TheVariants as refusal
 
--- what each method of the page asks for; nothing where a number in the path isn't one
+-- the command of each method of the page; nothing if a number in the path isn't one
 abbrev pub asks_at : Page → List ℕ → List ℕ → Option (Verb → Option PlainCommand)
 asks_at page.Me path body = Some (by_get me)
 asks_at page.MyExam path body = with_one 3 (λ e. by_get (my_exam e)) path
@@ -42,13 +42,13 @@ command_at p verb path body =
     else_err refusal.Path (asks_at p path body) >>= (λ asks.
     else_err (refusal.Method p) (asks verb))
 
--- the command has a body of JSON, which takes memory to read
+-- whether the command has a body of JSON, which takes memory to read
 abbrev pub has_json : PlainCommand → Bool
 has_json (set_owner e body) = true
 has_json (place d e body) = true
 has_json (move d e body) = true
 has_json _ = false
 
--- that it has one
+-- the command has a body of JSON
 abbrev pub HasJson : PlainCommand → Type 0
 HasJson c = has_json c ≡ true

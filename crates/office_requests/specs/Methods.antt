@@ -1,4 +1,4 @@
--- Methods, and those that each page has.
+-- Methods, and those of each page.
 use Rattle.std.specs.Prelude.{ℕ, Bool, ◌==◌, List, [], ◌∷◌, codes, bytes_eq, if◌then◌else◌}
 use Rattle.std.specs.List.{list_any, onto_first}
 use Rattle.office_requests.specs.declared.methods.Verb.{Verb}
@@ -6,7 +6,7 @@ use Rattle.office_requests.specs.declared.methods.Verb.TheVariants.{Get, Put, Po
 use Rattle.office_requests.specs.declared.pages.Page.{Page}
 use Rattle.office_requests.specs.declared.pages.Page.TheVariants as page
 
--- a method by its name, as it stands
+-- a method by its name, in this case
 abbrev pub verb_of : List ℕ → Verb
 verb_of name =
     if bytes_eq name (codes "GET") then Get
@@ -35,7 +35,7 @@ allow_of page.PublicationRooms = codes "GET"
 allow_of page.PublicationSeats = codes "GET"
 allow_of page.Batch = codes "PUT"
 
--- the names in a field's list: commas part them, and blanks are no part of them
+-- the names in a field's list, separated by commas and without blanks around them
 abbrev pub names_in : List ℕ → List (List ℕ)
 names_in [] = [] ∷ []
 names_in (b ∷ text) =

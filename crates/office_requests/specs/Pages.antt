@@ -41,7 +41,7 @@ pages =
     ∷ (codes "/publication", page.Publication)
     ∷ []
 
--- a pattern stands among rows with this key
+-- a pattern is among rows with this key
 abbrev pub IsIn : {K : Type 0} → List ℕ → K → RowsOf K → Type 0
 IsIn t k [] = ⊥
 IsIn t k (row ∷ rows) = ((row.0 ≡ t) × (row.1 ≡ k)) ⊎ IsIn t k rows

@@ -3,12 +3,12 @@ use Rattle.std.specs.Prelude.{ℕ, zero, suc, ◌==◌, if◌then◌else◌, Lis
 use Rattle.matchit.specs.Seek.{slash}
 use Rattle.office_policy.specs.Numbers.{number_of}
 
--- what is before the first slash
+-- the bytes before the first slash
 abbrev pub first_segment : List ℕ → List ℕ
 first_segment [] = []
 first_segment (b ∷ path) = if b == slash then [] else b ∷ first_segment path
 
--- what is behind it
+-- the bytes after the first slash
 abbrev pub behind_slash : List ℕ → List ℕ
 behind_slash [] = []
 behind_slash (b ∷ path) = if b == slash then path else behind_slash path

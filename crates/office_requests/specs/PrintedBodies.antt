@@ -1,4 +1,4 @@
--- What the request for a command has besides its path: what its body says, and who sends it.
+-- The parts of a command's request besides its path: the value of its body, and its caller.
 use Rattle.std.specs.Prelude.{◌≡◌, ℕ, List, Ok}
 use Rattle.office_policy.specs.declared.command.Body.TheVariants.{Given}
 use Rattle.office_policy.specs.Commands.{PlainCommand, load, set_owner, new_draft, place, move}
@@ -8,7 +8,7 @@ use Rattle.office_policy.specs.declared.callers.Caller.{Caller}
 use Rattle.office_policy.specs.declared.callers.Caller.TheVariants.{Cand}
 use Rattle.office_requests.specs.Bodies.{text_body, place_body, dept_body}
 
--- the bytes of a body say what the command's body says, where it has one
+-- the bytes of a body have the value of the command's body, if it has one
 abbrev pub SaysBody : List ℕ → PlainCommand → Type 0
 SaysBody bytes (load text) = Given bytes ≡ text
 SaysBody bytes (set_owner e dept) = dept_body bytes ≡ dept
@@ -18,7 +18,7 @@ SaysBody bytes (move d e to) = place_body bytes ≡ to
 SaysBody bytes (batch n text) = text_body bytes ≡ text
 SaysBody bytes _ = Unit {0}
 
--- a candidate comes with what she may ask for, all others with any command
+-- a candidate asks only for their own pages, all other callers for any command
 abbrev pub ComesWith : Caller → PlainCommand → Type 0
 ComesWith (Cand n) c = permits (Cand n) c 0 0 ≡ Ok tt
 ComesWith _ c = Unit {0}

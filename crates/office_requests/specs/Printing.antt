@@ -1,4 +1,4 @@
--- The request that asks for a command: its method and its path.
+-- The request for a command: its method and its path.
 use Rattle.std.specs.Prelude.{ℕ, List, [], ◌∷◌, ◌++◌, codes, decimal}
 use Rattle.matchit.specs.Seek.{slash}
 use Rattle.office_policy.specs.Commands.{PlainCommand, me, my_exam, my_penalty, load, instance}
@@ -7,12 +7,12 @@ use Rattle.office_policy.specs.Commands.{draft_violations, drop_draft, place, mo
 use Rattle.office_policy.specs.Commands.{publish, publication, publication_penalty}
 use Rattle.office_policy.specs.Commands.{publication_rooms, publication_seats, batch}
 
--- a path of these segments, each behind a slash
+-- a path of these segments, each after a slash
 abbrev pub path_from : List (List ℕ) → List ℕ
 path_from [] = []
 path_from (segment ∷ segments) = slash ∷ (segment ++ path_from segments)
 
--- the segments of a draft, and those behind them
+-- the segments of a draft, followed by these
 abbrev pub draft_segments : ℕ → List (List ℕ) → List (List ℕ)
 draft_segments d more = codes "drafts" ∷ decimal d ∷ more
 

@@ -1,4 +1,4 @@
--- What a request asks for, or the refusal that looks at nothing stored.
+-- The command of a request, or its refusal without reading anything stored.
 use Rattle.std.specs.Prelude.{ℕ, List, Option, Some, None, option_and_then, Result, Ok}
 use Rattle.exam_terms.specs.Refusing.{◌>>=◌, else_err}
 use Rattle.exam_terms.specs.Texts.{trimmed}
@@ -18,7 +18,7 @@ use Rattle.office_requests.specs.declared.requests.Asked.{Asked}
 use Rattle.office_requests.specs.declared.requests.Refusal.{Refusal}
 use Rattle.office_requests.specs.declared.requests.Refusal.TheVariants as refusal
 
--- the caller that the header names, where it stands just once
+-- the caller that the header names, if it is there exactly once
 abbrev pub caller_in : Option (List ℕ) → Option Caller
 caller_in value = option_and_then (λ v. caller_of (trimmed v)) value
 
@@ -29,12 +29,12 @@ her_page page.MyExam path = with_one 3 my_exam path
 her_page page.MyPenalty path = Some my_penalty
 her_page _ path = None
 
--- one of her pages, by GET
+-- one of the candidate's pages, by GET
 abbrev pub her_command : Verb → List ℕ → Option PlainCommand
 her_command Get path = option_and_then (λ p. her_page p path) (page_of path)
 her_command _ path = None
 
--- a candidate asks for one of her pages, or is refused
+-- a candidate asks for one of their pages, or is refused
 abbrev pub candidate_command : Verb → List ℕ → Result PlainCommand Refusal
 candidate_command verb path = else_err refusal.Candidate (her_command verb path)
 
@@ -43,22 +43,22 @@ abbrev pub staff_command : Verb → List ℕ → List ℕ → Result PlainComman
 staff_command verb path body =
     else_err refusal.Path (page_of path) >>= (λ p. command_at p verb path body)
 
--- what that caller asks for
+-- the command of that caller
 abbrev pub asked_by : Caller → Verb → List ℕ → List ℕ → Result PlainCommand Refusal
 asked_by Office verb path body = staff_command verb path body
 asked_by (Dept d) verb path body = staff_command verb path body
 asked_by (Cand c) verb path body = candidate_command verb path
 
--- who asks, and for what, without where a text lies in memory
+-- the caller and the command, without the place of a text in memory
 pub record PlainAsked : Type 0 where
   pub caller : Caller
   pub command : PlainCommand
 
--- a request as read, without where a text lies in memory
+-- a request as read, without the place of a text in memory
 abbrev pub plain_asked : Asked → PlainAsked
 plain_asked asked = record { caller = asked.caller; command = plain_command asked.command }
 
--- who asks, and for what: the caller is judged first
+-- the caller and the command: the caller is judged first
 abbrev pub reading : List ℕ → List ℕ → Option (List ℕ) → List ℕ → Result PlainAsked Refusal
 reading method path value body =
     else_err refusal.Caller (caller_in value) >>= (λ who.

@@ -1,4 +1,4 @@
--- The office's routes as the router keeps them.
+-- The office's routes in the router.
 use Rattle.std.specs.Prelude.{ℕ, List, [], map, fold, Option, option_map, Result, Ok, Err}
 use Rattle.matchit.specs.Rows.{RowsOf}
 use Rattle.matchit.specs.Order.{placed}
@@ -13,16 +13,16 @@ use Rattle.office_requests.specs.declared.routes.TheConstants.{ROUTES}
 abbrev pub Rows : Type 0
 Rows = RowsOf (RouteOf Page)
 
--- the rows with one more, where its text is a route
+-- the rows with one more, if its text is a route
 abbrev pub adds_read : Result Scan InsertError → Page → Rows → Rows
 adds_read (Ok s) p rows = placed (s.pattern, route_from s p) rows
 adds_read (Err e) p rows = rows
 
--- the rows with one route more
+-- the rows with one more route
 unfoldable pub adds : List ℕ → Page → Rows → Rows
 adds text p rows = adds_read (parse_route text) p rows
 
--- the rows with these routes more, one after the other
+-- the rows with these routes, added one after the other
 unfoldable pub adds_all : List (List ℕ × Page) → Rows → Rows
 adds_all routes rows = fold (λ rows route. adds route.0 route.1 rows) rows routes
 
@@ -30,6 +30,6 @@ adds_all routes rows = fold (λ rows route. adds route.0 route.1 rows) rows rout
 unfoldable pub table : Rows
 table = adds_all (map (λ route. (route.0.now, route.1)) ROUTES) []
 
--- what the rows find for a path
+-- the page that the rows find for a path
 abbrev pub page_at : Rows → List ℕ → Option Page
 page_at rows path = option_map (λ r. r.value) (first rows path)

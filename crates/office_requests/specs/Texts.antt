@@ -1,4 +1,4 @@
--- The refusals whose texts are always the same, byte for byte.
+-- The refusals with fixed texts, byte for byte.
 use Rattle.std.specs.Prelude.{ℕ, List, ◌++◌, codes}
 use Rattle.office_policy.specs.declared.policy.Denial.{Denial}
 use Rattle.office_policy.specs.declared.policy.Denial.TheVariants.{P1, P2, P3, P4}
@@ -8,7 +8,7 @@ use Rattle.office_messages.specs.declared.statuses.Status.TheVariants as status
 use Rattle.office_requests.specs.declared.texts.FixedError.{FixedError}
 use Rattle.office_requests.specs.declared.texts.FixedError.TheVariants as error
 
--- the status that goes with an error
+-- the status of an error
 abbrev pub status_of : FixedError → Status
 status_of error.Caller = status.BadRequest
 status_of error.Body = status.BadRequest

@@ -1,4 +1,4 @@
-// What bodies say.
+// Values of bodies.
 ghost use Rattle.std.specs.Prelude.{◌≡◌, IfOk};
 ghost use Rattle.std.specs.Prelude.{option_map};
 ghost use Rattle.serde_json.specs.View.{view};
@@ -12,7 +12,7 @@ use office_policy::Body;
 use serde_json::Value;
 use std::alloc::{AllocError, Global};
 
-/// A body that is taken as it is.
+/// Returns a body that is taken unchanged.
 pub fn text_body(bytes: &[u8]) -> Body<&[u8]>
     ensures says { plain_text result ≡ text_body bytes.now }
     ensures lent { IfGiven result (λ text. text ≡ bytes.entry) }
@@ -23,7 +23,7 @@ pub fn text_body(bytes: &[u8]) -> Body<&[u8]>
     Body::Given(bytes)
 }
 
-/// A body like `{"period":1,"room":0}`, with just these keys.
+/// Returns the place of a body like `{"period":1,"room":0}`, with exactly these keys.
 pub fn place_body(alloc: Global, bytes: &[u8]) -> Result<Body<Place>, AllocError>
     ensures { IfOk result (λ body. body ≡ place_body bytes.now) }
 {
@@ -39,7 +39,7 @@ pub fn place_body(alloc: Global, bytes: &[u8]) -> Result<Body<Place>, AllocError
     }
 }
 
-/// A body like `{"dept":3}`, with just this key.
+/// Returns the department of a body like `{"dept":3}`, with exactly this key.
 pub fn dept_body(alloc: Global, bytes: &[u8]) -> Result<Body<u32>, AllocError>
     ensures { IfOk result (λ body. body ≡ dept_body bytes.now) }
 {
@@ -55,7 +55,7 @@ pub fn dept_body(alloc: Global, bytes: &[u8]) -> Result<Body<u32>, AllocError>
     }
 }
 
-// The place that a value says.
+// Returns the place that a value describes.
 fn place_in(value: &Value) -> Option<Place>
     ensures { result ≡ place_in (view value.now) }
 {
@@ -67,7 +67,7 @@ fn place_in(value: &Value) -> Option<Place>
     Some(Place { period, room })
 }
 
-// The department that a value says.
+// Returns the department that a value describes.
 fn dept_in(value: &Value) -> Option<u32>
     ensures { result ≡ dept_in (view value.now) }
 {
@@ -77,14 +77,14 @@ fn dept_in(value: &Value) -> Option<u32>
     number_at(value, "dept", MAX_DEPARTMENT)
 }
 
-// How many members an object has.
+// Returns how many members an object has.
 fn members_count(value: &Value) -> Option<usize>
     ensures { result ≡ members_count (view value.now) }
 {
     Some(value.as_object()?.len())
 }
 
-// The number under a key, where it is a whole one of at most that much.
+// Returns the number under a key, if it is a whole one of at most this much.
 fn number_at(value: &Value, key: &str, most: u32) -> Option<u32>
     ensures { result ≡ number_at key.now most (view value.now) }
 {
@@ -96,7 +96,7 @@ fn number_at(value: &Value, key: &str, most: u32) -> Option<u32>
     }
 }
 
-// The value that the bytes are, or none where they aren't JSON.
+// Returns the value of the bytes; `None` if they aren't JSON.
 fn json_in(alloc: Global, bytes: &[u8]) -> Result<Option<Value>, AllocError>
     ensures { IfOk result (λ value. option_map view value ≡ json_in bytes.now) }
 {

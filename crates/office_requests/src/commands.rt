@@ -1,4 +1,4 @@
-// What a method asks for on a page.
+// The command of a method on a page.
 ghost use Rattle.std.specs.Prelude.{◌≡◌, ℕ, List, IfOk};
 ghost use Rattle.std.specs.Borrow.{Bor};
 ghost use Rattle.exam_terms.specs.Refusing.{else_err};
@@ -25,8 +25,8 @@ use exam_terms::ExamNo;
 use office_policy::{Body, Command};
 use std::alloc::Global;
 
-/// The command of a method on a page. A number in the path that isn't one to nine digits refuses
-/// the path, whatever the method.
+/// Returns the command of a method on a page. If a number in the path isn't one to nine digits, the
+/// path is refused, for each method.
 pub(crate) fn command_at<'a>(
     alloc: Global,
     page: Page,
@@ -96,7 +96,7 @@ fn of_my_penalty<'a>(verb: Verb) -> Result<Command<'a>, Refusal>
     }
 }
 
-// The text of an instance is never too long: no body is longer than it may be.
+// Returns the command of an instance's text, which is never too long: no body exceeds its limit.
 fn of_instance<'a>(verb: Verb, body: &'a [u8]) -> Result<Command<'a>, Refusal>
     ensures asked { GivesCommand
         (else_err (refusal.Method page.Instance) (of_instance body.now verb)) result }

@@ -10,9 +10,9 @@ ghost use Rattle.office_requests.specs.Requests.{caller_in, staff_command, readi
 ghost use Rattle.office_requests.specs.declared.pages.Page.{Page};
 ghost use Rattle.office_requests.specs.declared.requests.Refusal.TheVariants as refusal;
 
-/// A page's `Allow` lists just the methods that ask for something there: where the path isn't
-/// refused, a request asks for a command exactly if its method is in the list. Whether the path is
-/// refused is judged first, whatever the method and the body.
+/// A page's `Allow` lists exactly the methods with a command there: unless the path is refused, a
+/// request has a command exactly if its method is in the list. Whether the path is refused is
+/// judged first, for each method and body.
 pub fn allow_lists_the_methods()
     ensures listed { (page : Page) (path method body : List ℕ) → page_of path ≡ Some page
         → staff_command (verb_of method) path body ≢ Err refusal.Path
@@ -22,9 +22,9 @@ pub fn allow_lists_the_methods()
         → staff_command (verb_of other) path text ≡ Err refusal.Path }
 {}
 
-/// A command's method and path, printed with its numbers in decimal, with a body that says what
-/// the command's does, are read back as that command: of the office and of departments for each
-/// command, of a candidate for her own three.
+/// A command's method and path, printed with its numbers in decimal, and a body with the value of
+/// the command's body, are read back as that command: for the office and for departments each
+/// command, for a candidate their own three pages.
 pub fn commands_are_read_back()
     ensures { (value : Option (List ℕ)) (who : Caller) (c : PlainCommand) (body : List ℕ)
         → caller_in value ≡ Some who → ComesWith who c → HasSmallNumbers c → SaysBody body c

@@ -1,4 +1,4 @@
-//! What the messages of a connection ask the office for.
+//! The commands in the messages of a connection.
 #![tactic(auto)]
 
 mod bodies;

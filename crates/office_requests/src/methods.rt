@@ -5,7 +5,7 @@ ghost use Rattle.office_requests.specs.Methods.{verb_of, allow_of};
 use crate::pages::Page;
 use http::Method;
 
-/// What a method asks for. Methods are taken as they stand: `get` is none of the four.
+/// The kind of a method. The case matters: `get` is none of the four.
 #[derive(Clone, Copy)]
 pub(crate) enum Verb {
     Get,
@@ -33,7 +33,7 @@ impl Verb {
     }
 }
 
-/// The methods of a page, as the field `Allow` lists them.
+/// Returns the methods of a page, as in the header `Allow`.
 pub fn allow(page: Page) -> &'static str
     ensures methods { result.now ≡ allow_of page }
     ensures short { length result.now ≤ 22 }

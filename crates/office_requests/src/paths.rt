@@ -9,8 +9,8 @@ use office_policy::read_number;
 
 const SLASH: u8 = b'/';
 
-/// The number that a segment of the path is; segments are counted from 0, and before the path's
-/// first slash there is an empty one. A path is refused where it isn't a number.
+/// Returns the number in a segment of the path; segments are counted from 0, and before the path's
+/// first slash there is an empty one. The path is refused if the segment isn't a number.
 pub(crate) fn number_in(path: &[u8], place: u32) -> Result<u32, Refusal>
     ensures ok { IfOk result (λ n. number_in place path.now ≡ Some n) }
     ensures err { IfErr result (λ e. e ≡ refusal.Path × (number_in place path.now ≡ None)) }
@@ -21,7 +21,7 @@ pub(crate) fn number_in(path: &[u8], place: u32) -> Result<u32, Refusal>
     }
 }
 
-/// The same of an exam.
+/// Returns the same as the number of an exam.
 pub(crate) fn exam_in(path: &[u8], place: u32) -> Result<ExamNo, Refusal>
     ensures ok { IfOk result (λ n. number_in place path.now ≡ Some n) }
     ensures err { IfErr result (λ e. e ≡ refusal.Path × (number_in place path.now ≡ None)) }
@@ -40,7 +40,7 @@ fn segment(path: &[u8], place: u32) -> &[u8]
     segment(others, place - 1)
 }
 
-// What is before the first slash, and what is behind it.
+// Returns the bytes before the first slash, and those after it.
 #[tactic(auto, using(crate::proofs::PathLemmas::slash_facts))]
 fn cut(path: &[u8]) -> (&[u8], &[u8])
     ensures first { result.0.now ≡ first_segment path.now }

@@ -1,4 +1,4 @@
-// Reading a request, as far as nothing that is stored is looked at.
+// Reading a request, without reading anything stored.
 ghost use Rattle.std.specs.Prelude.{◌≡◌, ℕ, List, IfOk, IfSome, option_copied, option_map};
 ghost use Rattle.std.specs.Borrow.{Bor};
 ghost use Rattle.office_messages.specs.Reply.{plain_reply};
@@ -20,30 +20,30 @@ use office_messages::{Allow, Reply, Request, unavailable};
 use office_policy::{Caller, Command, Denial};
 use std::alloc::Global;
 
-/// Who asks, and for what.
+/// The caller and the command.
 #[derive(Clone, Copy)]
 pub struct Asked<'a> {
     pub caller: Caller,
     pub command: Command<'a>,
 }
 
-/// Why a request is refused without a look at what is stored, in the order in which that is judged.
+/// Why a request is refused without reading anything stored, in the order of the checks.
 #[derive(Clone, Copy, Debug, PartialEq, Eq)]
 pub enum Refusal {
     /// The header names no caller.
     Caller,
-    /// A candidate asks for anything but her own three pages: denial P1.
+    /// A candidate may only use their own three pages: denial P1.
     Candidate,
     /// No page has the path.
     Path,
-    /// The page hasn't the method.
+    /// The page doesn't have the method.
     Method(Page),
-    /// The memory to read a body was refused.
+    /// Out of memory while a body is read.
     NoMemory,
 }
 
 impl Refusal {
-    /// The reply to it. It takes no memory.
+    /// Returns the reply to the refusal. It takes no memory.
     pub fn reply(self) -> Reply
         ensures { plain_reply result ≡ refusal_reply self }
     {
@@ -57,7 +57,7 @@ impl Refusal {
     }
 }
 
-// The reply where the page hasn't the method: it lists those that it has.
+// Returns the reply if the page doesn't have the method: it lists those of the page.
 fn not_allowed(page: Page) -> Reply
     ensures { plain_reply result ≡ not_allowed page }
 {
@@ -68,8 +68,8 @@ fn not_allowed(page: Page) -> Reply
     }
 }
 
-/// Who asks, and for what: caller, a candidate's pages, path, method, in this order. A body that
-/// is too long or doesn't read is part of the command.
+/// Returns the caller and the command: caller, a candidate's pages, path and method are judged in
+/// this order. A body that is too long or can't be read is part of the command.
 pub fn read_request<'a>(
     alloc: Global,
     routes: &Routes,
@@ -95,7 +95,7 @@ fn caller_in(value: Option<&[u8]>) -> Option<Caller>
     Caller::read(value?)
 }
 
-// What that caller asks for. A candidate may ask for her own pages alone.
+// Returns the command of that caller. A candidate may only ask for their own pages.
 fn asked_by<'a>(
     alloc: Global,
     routes: &Routes,
@@ -138,7 +138,7 @@ fn her_page<'a>(page: Page, path: &[u8]) -> Option<Command<'a>>
     }
 }
 
-// What the office or a department asks for.
+// Returns the command of the office or a department.
 fn staff_command<'a>(
     alloc: Global,
     routes: &Routes,

@@ -31,7 +31,7 @@ const ROUTES: [(&str, Page); 18] = [
     ("/batches/{n}", Page::Batch),
 ];
 
-/// The office's routes, which lead from paths to pages.
+/// The office's routes, from paths to pages.
 #[derive(Drop)]
 pub struct Routes {
     router: Router<Page>,
@@ -46,7 +46,7 @@ impl Model for Routes {
 }
 
 impl Routes {
-    /// Makes them; to be done once, before the first request.
+    /// Returns the routes; must be called once, before the first request.
     pub fn new(alloc: Global) -> Result<Routes, AllocError>
         ensures { IfOk result (λ routes. routes ≡ table) }
     {
@@ -55,8 +55,8 @@ impl Routes {
         })
     }
 
-    /// The page whose pattern takes the path segment by segment. A number in a pattern takes any
-    /// segment that isn't empty.
+    /// Returns the page whose pattern takes the path segment by segment. A number in a pattern
+    /// takes any segment that isn't empty.
     pub fn page(&self, path: &str) -> Option<Page>
         ensures found { IfSome result (λ page. IsRouteTo page path.now) }
         ensures none { IsNone result → (page : Page) → ¬ (IsRouteTo page path.now) }
@@ -94,7 +94,7 @@ fn add_all(router: &mut Router<Page>, routes: &[(&str, Page)]) -> Result<(), All
     Ok(())
 }
 
-// Adds a route. A route in the table is refused only where memory runs out.
+// Adds a route. `Err`: out of memory.
 fn add(router: &mut Router<Page>, route: &str, page: Page) -> Result<(), AllocError>
     ensures { OnOk result (router.new ≡ adds route.now page router.old) }
 {
@@ -105,7 +105,7 @@ fn add(router: &mut Router<Page>, route: &str, page: Page) -> Result<(), AllocEr
     }
 }
 
-/// A path leads to at most one page.
+/// A path has at most one page.
 pub fn one_page()
     ensures { (path : List ℕ) (p q : Page) → IsRouteTo p path → IsRouteTo q path → p ≡ q }
 {}

@@ -1,4 +1,4 @@
-// The refusals whose texts are always the same.
+// The refusals with fixed texts.
 ghost use Rattle.std.specs.Prelude.{◌≡◌};
 ghost use Rattle.office_messages.specs.Reply.{plain_reply};
 ghost use Rattle.office_requests.specs.Texts.{status_of, error_text, error_reply};
@@ -6,18 +6,18 @@ ghost use Rattle.office_requests.specs.Texts.{status_of, error_text, error_reply
 use office_messages::{Reply, Status, fixed_reply};
 use office_policy::Denial;
 
-/// The refusals whose text is always the same. A body that is too long is answered as a message
-/// that says so of itself (`fault_reply`), and out of memory by `unavailable`.
+/// The refusals with fixed texts. A body that is too long is answered like a message whose length
+/// is too great (`fault_reply`), and out of memory by `unavailable`.
 #[derive(Clone, Copy)]
 pub enum FixedError {
     Caller,
     Body,
     Denied(Denial),
     Path,
-    /// No exam of the candidate who asks.
+    /// The exam isn't one of the candidate's.
     Exam,
     Draft,
-    /// An exam, a period or a room that doesn't exist.
+    /// An exam, a period or a room doesn't exist.
     Number,
     Publication,
     Method,
@@ -32,7 +32,7 @@ pub enum FixedError {
 }
 
 impl FixedError {
-    /// The reply that says it. It takes no memory.
+    /// Returns its reply. It takes no memory.
     pub fn reply(self) -> Reply
         ensures { plain_reply result ≡ error_reply self }
     {

@@ -8,7 +8,7 @@ returns-in-Ok c =
     let reads = c.in-Ok.ensures.ok in
     sym (json_of_text c.args.bytes.now (view c.in-Ok.value) reads.0 reads.1)
 
--- a fault that isn't out of memory says that text has no reading
+-- a fault other than out of memory means that the text has no reading
 pub returns-else-is_memory : goal.returns-else-is_memory
 returns-else-is_memory c =
     sym (json_of_none c.args.bytes.now (c.in-Err.ensures.err (λ memory.

@@ -3,7 +3,7 @@ use Rattle.std.proofs.lemmas.List.{take_rest}
 use Rattle.office_requests.proofs.PathLemmas.{behind_at}
 use Rattle.office_requests.proofs.paths.cut.Goals as goal
 
--- what is left is behind the first slash
+-- the rest is after the first slash
 pub returns-then-byte-eq-SLASH-clause-behind : goal.returns-then-byte-eq-SLASH-clause-behind
 returns-then-byte-eq-SLASH-clause-behind c =
     rw take_rest
