@@ -31,7 +31,7 @@ module _ {I R W : Type 0} (gives : I → Option (R × W) → I → Type 0)
   pub no_client : (start : I) → CameBetween gives remaining contents start [] start
   no_client start = record { clients = []; came = refl; inputs = refl; befores = refl }
 
-  -- one client more
+  -- one more client
   pub came_more : (start last next : I) (vs : List Visit) (v : Visit)
       → CameBetween gives remaining contents start vs last
       → ComesNext gives remaining contents last v next
@@ -51,7 +51,7 @@ module _ {I R W : Type 0} (gives : I → Option (R × W) → I → Type 0)
 
 module _ {S : Type 0} (Answers : S → PlainRequest → PlainReply → S → Type 0) where
   module _ (is_shut : S → Bool) where
-    -- one connection more
+    -- one more connection
     pub open_more : (vs : List Visit) (v : Visit) (old mid new : S)
         → ServesWhileOpen Answers is_shut vs old mid → is_shut mid ≡ false
         → ServesVisit Answers v mid new → ServesWhileOpen Answers is_shut (vs ++ v ∷ []) old new
@@ -71,7 +71,7 @@ module _ {S : Type 0} (Answers : S → PlainRequest → PlainReply → S → Typ
     served_open (v ∷ vs) old new (was, mid, first, rest) =
         (mid, first, served_open vs mid new rest)
 
-  -- what each answer keeps, connections keep
+  -- an invariant of each answer is an invariant of connections
   module _ (Holds : S → Type 0)
       (keeps : (old : S) (r : PlainRequest) (reply : PlainReply) (new : S)
       → Answers old r reply new → Holds old → Holds new) where
@@ -92,7 +92,7 @@ module _ {S : Type 0} (Answers : S → PlainRequest → PlainReply → S → Typ
         visits_keep vs mid new rest
         (ended_keeps v.ended v.input v.before v.after old mid served.0 served.1 h)
 
--- the lines of one connection more
+-- the lines of one more connection
 pub printed_more : (vs : List Visit) (v : Visit) (old mid new : Option (List ℕ))
     → Appends old mid (fault_lines (faults_of vs))
     → Appends mid new (fault_lines (with_fault v.ended []))
@@ -111,7 +111,7 @@ few_faults [] = omega arith
 few_faults (v ∷ vs) = omega (arith, one_fault v.ended (faults_of vs), few_faults vs)
 
 module _ {S T : Type 0} (AreTheirs : List Visit → Type 0) where
-  -- what follows of the connections that were served follows of all
+  -- a consequence for the served connections holds for all
   pub clients_follow : (Serve : List Visit → S → S → Type 0) (Others : List Visit → T → T → Type 0)
       (old new : S) (start end : T)
       → ((vs : List Visit) → Serve vs old new → Others vs start end)

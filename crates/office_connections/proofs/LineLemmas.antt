@@ -16,7 +16,7 @@ fault_lines-append (f ∷ fs) gs =
     ap (λ l. fault_line f ++ l) (fault_lines-append fs gs)
     ∙ sym (append_assoc (fault_line f) (fault_lines fs) (fault_lines gs))
 
--- some lines, and then some more
+-- some lines, followed by more
 pub more_lines : (fs gs : List ServeFault) (old mid new : Option (List ℕ))
     → Appends old mid (fault_lines fs) → Appends mid new (fault_lines gs)
     → Appends old new (fault_lines (fs ++ gs))
@@ -35,7 +35,7 @@ pub counted : (b : Bool) (n : ℕ) → n ≡ from_bool (not b) → n ≤ 1
 counted true n is = omega (arith, is)
 counted false n is = omega (arith, is)
 
--- where none counts, it was written
+-- if no line counts as unwritten, it was written
 pub uncounted : (b : Bool) (n : ℕ) → n ≡ from_bool (not b) → n ≡ 0 → IsTrue b
 uncounted true n is none = refl
 uncounted false n is none = absurd (omega (arith, is, none))

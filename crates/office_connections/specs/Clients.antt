@@ -13,7 +13,7 @@ use Rattle.office_connections.specs.declared.running.RunFault.TheVariants.{Liste
 
 module _ {I R W : Type 0} (gives : I → Option (R × W) → I → Type 0)
     (remaining : R → Option (List ℕ)) (contents : W → Option (List ℕ)) where
-  -- the connection is that of the client that comes next, a reader and a writer
+  -- the connection is that of the next client, a reader and a writer
   pub record ComesNext (old : I) (visit : Visit) (new : I) : Type 0 where
     pub from : R
     pub to : W
@@ -21,14 +21,14 @@ module _ {I R W : Type 0} (gives : I → Option (R × W) → I → Type 0)
     pub input : visit.input ≡ remaining from
     pub before : visit.before ≡ contents to
 
-  -- the connections are those of the clients that come on the way
+  -- the connections are those of the clients accepted between the two states
   pub record CameBetween (start : I) (visits : List Visit) (last : I) : Type 0 where
     pub clients : List (R × W)
     pub came : Yields gives start clients last
     pub inputs : map (λ v. v.input) visits ≡ map (λ c. remaining c.0) clients
     pub befores : map (λ v. v.before) visits ≡ map (λ c. contents c.1) clients
 
-  -- they are those of the first clients that come
+  -- the connections are those of the first clients
   abbrev pub AreOfClients : I → List Visit → Type 0
   AreOfClients start visits = (last : I) × CameBetween start visits last
 
@@ -51,8 +51,8 @@ pub record ServesClients {S : Type 0} (AreTheirs : List Visit → Type 0)
   pub served : Serve visits old new
   pub printed : service.unwritten ≡ 0 → Appends errors_old errors_new (fault_lines (faults_of visits))
 
--- as many clients as were planned were served, and the machine is open; or it is shut; or fewer
--- were, and then an accept failed; or nobody, because the port could not be printed
+-- the planned number of clients was served, and the machine is open; or the machine is shut; or
+-- fewer were, and then an accept failed; or none, because the port could not be printed
 pub record ServesPlan {S : Type 0} (AreTheirs : List Visit → Type 0)
     (Serve : List Visit → S → S → Type 0) (is_shut : S → Bool) (connections : ℕ)
     (outcome : Result ℕ RunFault) (old new : S) (errors_old errors_new : Option (List ℕ)) : Type 0 where

@@ -5,7 +5,7 @@ use Rattle.office_connections.specs.declared.listening.TheConstants.{MAX_PORT}
 use Rattle.office_messages.specs.declared.connection.ServeFault.{ServeFault}
 use Rattle.office_messages.specs.declared.connection.ServeFault.TheVariants as fault
 
--- the number by which a connection's fault is printed
+-- the number printed for a connection's fault
 abbrev pub connection_fault_number : ServeFault → ℕ
 connection_fault_number fault.Read = 1
 connection_fault_number fault.Write = 2
@@ -22,20 +22,20 @@ abbrev pub fault_lines : List ServeFault → List ℕ
 fault_lines [] = []
 fault_lines (f ∷ fs) = fault_line f ++ fault_lines fs
 
--- the lines of so many faults at most are printed
+-- the lines of at most this many faults are printed
 abbrev pub TellsFaults : ℕ → Option (List ℕ) → Option (List ℕ) → Type 0
 TellsFaults most old new =
     (faults : List ServeFault) × (length faults ≤ most) × Appends old new (fault_lines faults)
 
--- the line that tells the port
+-- the line that announces the port
 abbrev pub listening_line : ℕ → List ℕ
 listening_line port = codes "listening 127.0.0.1:" ++ decimal port ++ 10 ∷ []
 
--- the port that is listened on where this one is asked for: that one, or any where 0 is
+-- the port that is listened on for a requested one: the same, or any for 0
 abbrev pub IsPortOf : ℕ → ℕ → Type 0
 IsPortOf asked port = (port ≤ MAX_PORT) × (asked ≢ 0 → port ≡ asked)
 
--- the line that tells the port is printed, where this one is asked for
+-- the line that announces the port is printed, for a requested port
 abbrev pub PrintsPort : ℕ → Option (List ℕ) → Option (List ℕ) → Type 0
 PrintsPort asked old new =
     (port : ℕ) × IsPortOf asked port × Appends old new (listening_line port)

@@ -15,28 +15,28 @@ use std::io;
 use std::io::{Read, Write};
 use std::time::{Clock, Duration};
 
-/// What is to be served.
+/// The plan of a run.
 #[derive(Clone, Copy)]
 pub struct Plan {
-    /// How many connections.
+    /// The number of connections.
     pub connections: u32,
-    /// The time that a client has for each thing that it is to do.
+    /// The timeout of a client for each of its actions.
     pub patience: Duration,
 }
 
-/// What was served.
+/// The result of a run.
 #[derive(Clone, Copy)]
 pub struct Service {
-    /// How many connections: fewer than were to be, if no further client came, or the machine was
-    /// shut.
+    /// The number of connections: fewer than planned if no further client was accepted, or the
+    /// machine was shut.
     pub accepted: u32,
-    /// How many lines could not be written.
+    /// The number of lines that could not be written.
     pub unwritten: u32,
 }
 
-/// Serves clients, each a reader and a writer, one after another as they come, up to the plan's
-/// number, while the machine is open. For each connection that ends with a fault a line goes to
-/// `err`.
+/// Serves clients, each a reader and a writer, one after another in the order of arrival, up to the
+/// plan's number, while the machine is open. For each connection that ends with a fault a line is
+/// printed to `err`.
 pub fn serve_clients<
     C: Clock,
     M: Machine + MayShut,
@@ -47,7 +47,7 @@ pub fn serve_clients<
 >(alloc: Global, clock: &C, clients: &mut I, plan: Plan, machine: &mut M, err: &mut E) -> Service
     requires { I.can_next clients.old }
 
-    // One machine goes from one client to the next, and each client is written its replies. It was
+    // One machine serves all clients in turn, and its replies are written to each client. It was
     // open before each of them.
     ensures served { ServesClients (AreOfClients I.next_gives R.remaining W.contents clients.old)
         (ServesWhileOpen M.Answers M.is_shut) result machine.old machine.new
@@ -70,8 +70,8 @@ pub fn serve_clients<
     service
 }
 
-// Serves the next client, if one comes, and prints the fault of its connection. Returns whether
-// there is none, or its line was written.
+// Serves the next client, if there is one, and prints the fault of its connection. Returns whether
+// there is no line, or it was written.
 fn serve_next<
     C: Clock,
     M: Machine,
@@ -114,7 +114,7 @@ fn print_fault<W: Write>(fault: ServeFault, err: &mut W) -> io::Result<()>
     writeln!(err, "examoffice: connection fault {number}")
 }
 
-// The number by which a fault is printed.
+// Returns the number that is printed for a fault.
 fn number_of(fault: ServeFault) -> u8
     ensures { result ≡ connection_fault_number fault }
 {

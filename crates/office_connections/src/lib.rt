@@ -1,4 +1,4 @@
-//! Connections over sockets, one after another, each with its patience.
+//! Connections over sockets, one after another, each with its timeouts.
 #![tactic(auto)]
 
 mod accepting;

@@ -1,4 +1,4 @@
-// Where connections come from.
+// The port, and the clients that connect to it.
 ghost use Rattle.std.specs.Prelude.{IfOk, OnOk};
 ghost use Rattle.std.specs.Io.KnownBytes.{Appends};
 ghost use Rattle.office_connections.specs.Lines.{IsPortOf, listening_line};
@@ -13,13 +13,13 @@ pub const MAX_PORT: u32 = 65_535;
 /// A port of 127.0.0.1 that is listened on.
 #[derive(Drop)]
 pub struct Listening {
-    /// Which port it is.
+    /// The number of the port.
     pub port: u16,
     listener: TcpListener,
 }
 
 impl Listening {
-    /// The clients that connect.
+    /// Returns the clients that connect.
     pub fn clients(&self) -> Sockets<'_> {
         Sockets {
             listener: &self.listener,
@@ -27,8 +27,8 @@ impl Listening {
     }
 }
 
-/// Clients over sockets, as they are accepted: each is a reader and a writer of one socket. None
-/// comes if an accept fails.
+/// Clients over sockets, as they are accepted: each is a reader and a writer of one socket. There
+/// is no further client if an accept fails.
 #[derive(Drop)]
 pub struct Sockets<'a> {
     listener: &'a TcpListener,
@@ -39,14 +39,15 @@ impl Iterator for Sockets<'_> {
 
     fn next(&mut self) -> Option<(TcpStream, TcpStream)> {
         let (writer, _) = self.listener.accept().ok()?;
-        // A reply is not held back until the one before is acknowledged; without this it goes slower.
+        // A reply doesn't wait for the acknowledgment of the one before; otherwise replies are
+        // slower.
         let _ = writer.set_nodelay(true);
         let reader = writer.try_clone().ok()?;
         Some((reader, writer))
     }
 }
 
-/// Listens on this port of 127.0.0.1; 0 takes any that is free.
+/// Listens on this port of 127.0.0.1; 0 means any free port.
 pub fn listen<R: Net<Listener = TcpListener, Stream = TcpStream>>(
     net: &R,
     port: u16,
@@ -64,7 +65,7 @@ pub fn listen<R: Net<Listener = TcpListener, Stream = TcpStream>>(
     })
 }
 
-/// Tells the port that is listened on, as a line, and flushes it.
+/// Prints `listening 127.0.0.1:PORT` and flushes.
 pub fn announce<W: Write>(port: u16, out: &mut W) -> io::Result<()>
     ensures { OnOk result
         (Appends (W.contents out.old) (W.contents out.new) (listening_line port)) }

@@ -1,4 +1,4 @@
-// The time that a client has.
+// The timeouts of a client.
 ghost use Rattle.std.specs.Prelude.{◌≡◌, ◌≢◌, ◌*◌, ◌^◌, ◌<◌, IfOk, min};
 ghost use Rattle.std.specs.Duration.{as_nanos};
 
@@ -6,7 +6,7 @@ use std::cell::Cell;
 use std::io::{Error, ErrorKind, Result};
 use std::time::{Clock, Duration, Instant};
 
-// What a client is to do next.
+// The next action of a client.
 #[derive(Clone, Copy, PartialEq, Eq)]
 enum Awaited {
     // To begin a message.
@@ -17,18 +17,18 @@ enum Awaited {
     Taking,
 }
 
-// How many seconds a client has at most to begin a message: while it says nothing, it holds all
-// others.
+// How many seconds a client has at most to begin a message: while it sends nothing, all others
+// wait.
 const SECONDS_TO_BEGIN: u64 = 5;
 
-// How long a client may take for each thing that it is to do. A wait begins with the first call
-// that waits, so the office's own time is not the client's.
+// How long a client may take for each of its actions. A wait begins with the first call that waits,
+// so the office's own time doesn't count.
 #[derive(Drop)]
 pub(crate) struct Pace<'a, C> {
     clock: &'a C,
     patience: Duration,
     awaited: Cell<Awaited>,
-    // When the wait ends that has begun.
+    // The end of the current wait, if one has begun.
     due: Cell<Option<Instant>>,
 }
 
@@ -42,7 +42,7 @@ impl<'a, C: Clock> Pace<'a, C> {
         }
     }
 
-    // The office is about to read: behind a reply the next message is awaited.
+    // The office is about to read: after a reply the next message is awaited.
     pub(crate) fn is_to_send(&self) {
         if self.awaited.get() == Awaited::Taking {
             self.begin(Awaited::Message);
@@ -54,7 +54,7 @@ impl<'a, C: Clock> Pace<'a, C> {
         self.due.set(None);
     }
 
-    // Bytes came: if they are a message's first, its rest is awaited.
+    // Bytes were received: if they are a message's first, its rest is awaited.
     pub(crate) fn has_sent(&self) {
         if self.awaited.get() == Awaited::Message {
             self.begin(Awaited::Rest);
@@ -68,17 +68,17 @@ impl<'a, C: Clock> Pace<'a, C> {
         }
     }
 
-    // A reply is made, which the client has the whole time to take.
+    // A reply is made; the client has the full timeout to take it.
     pub(crate) fn has_reply(&self) {
         self.begin(Awaited::Taking);
     }
 
-    // Nothing that comes from now on is answered: all of it is one rest.
+    // Nothing received from now on is answered: it all counts as one rest.
     pub(crate) fn is_left(&self) {
         self.begin(Awaited::Rest);
     }
 
-    // What is left of the wait.
+    // Returns the time left of the wait.
     pub(crate) fn left(&self) -> Result<Duration>
         ensures { IfOk result (λ left. 0 < as_nanos left) }
     {
@@ -90,7 +90,7 @@ impl<'a, C: Clock> Pace<'a, C> {
         Ok(left)
     }
 
-    // When the wait ends.
+    // Returns the end of the wait.
     fn end(&self, now: Instant) -> Result<Instant> {
         if let Some(end) = self.due.get() {
             return Ok(end);
@@ -104,7 +104,7 @@ impl<'a, C: Clock> Pace<'a, C> {
     }
 }
 
-// How long a client has to do this.
+// Returns how long a client may take for this action.
 fn time_for(awaited: Awaited, patience: Duration) -> Duration
     ensures beginning { awaited ≡ Awaited.Message
         → as_nanos result ≡ min (as_nanos patience) (5 * 10 ^ 9) }

@@ -1,4 +1,4 @@
-// A reader, a writer and a machine that keep a client's pace.
+// A reader, a writer and a machine that enforce a client's timeouts.
 ghost use Rattle.std.specs.Prelude.{◌≡◌};
 
 use crate::pace::Pace;
@@ -8,12 +8,12 @@ use std::alloc::Global;
 use std::io::{Read, Result, Write};
 use std::time::{Clock, Duration};
 
-// Reads no longer than the client may take. Its bytes are those of the reader below it.
+// Reads for at most the client's time. Its bytes are those of the inner reader.
 #[derive(Drop)]
 pub(crate) struct PacedReader<'a, C, R: Drop> {
     inner: R,
     pace: &'a Pace<'a, C>,
-    // The timeout that the reader below has.
+    // The timeout that the inner reader has.
     limit: Duration,
 }
 
@@ -28,12 +28,12 @@ impl<'a, C: Clock, R: Read + Timed + Drop> PacedReader<'a, C, R> {
         }
     }
 
-    // Tells the client that nothing more is sent.
+    // Ends the sending side, so that the client sees the end of the replies.
     pub(crate) fn end_sending(&self) -> Result<()> {
         self.inner.end_sending()
     }
 
-    // Sets the timeout of the next read, if the reader below has another.
+    // Sets the timeout of the next read, if the inner reader has another.
     fn set_limit(&mut self, limit: Duration) -> Result<()>
         ensures { self.new.inner ≡ self.old.inner }
     {
@@ -60,12 +60,12 @@ impl<C: Clock, R: Read + Timed + Drop> Read for PacedReader<'_, C, R> {
     }
 }
 
-// Writes no longer than the client may take. Its bytes go to the writer below it.
+// Writes for at most the client's time. Its bytes are written to the inner writer.
 #[derive(Drop)]
 pub(crate) struct PacedWriter<'a, C, W: Drop> {
     inner: W,
     pace: &'a Pace<'a, C>,
-    // The timeout that the writer below has.
+    // The timeout that the inner writer has.
     limit: Duration,
 }
 
@@ -80,7 +80,7 @@ impl<'a, C: Clock, W: Write + Timed + Drop> PacedWriter<'a, C, W> {
         }
     }
 
-    // Returns the writer below.
+    // Returns the inner writer.
     pub(crate) fn into_inner(self) -> W
         ensures { result ≡ self.entry.inner }
     {
@@ -92,7 +92,7 @@ impl<'a, C: Clock, W: Write + Timed + Drop> PacedWriter<'a, C, W> {
         inner
     }
 
-    // Sets the timeout of the next write, if the writer below has another.
+    // Sets the timeout of the next write, if the inner writer has another.
     fn set_limit(&mut self, limit: Duration) -> Result<()>
         ensures { self.new.inner ≡ self.old.inner }
     {

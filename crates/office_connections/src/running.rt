@@ -18,14 +18,14 @@ use std::time::Clock;
 pub enum RunFault {
     /// An accept failed.
     Listen,
-    /// The line that tells the port could not be written; no connection was accepted.
+    /// The line that announces the port could not be written; no connection was accepted.
     Write,
     /// The machine is shut.
     Shut,
 }
 
-/// Tells on `out` which port is listened on, then serves the plan's clients, one after another; for
-/// each connection that ends with a fault a line goes to `err`. Answers how many of these lines
+/// Announces the port on `out`, then serves the plan's clients, one after another; for each
+/// connection that ends with a fault a line is printed to `err`. Returns how many of these lines
 /// could not be written.
 pub fn serve_run<
     C: Clock,
@@ -66,7 +66,7 @@ pub fn serve_run<
     ended(service, plan)
 }
 
-// How a run ended that served this with a machine that is still open.
+// Returns how a run ended, by what was served, with a machine that is still open.
 fn ended(service: Service, plan: Plan) -> Result<u32, RunFault>
     requires { service.accepted ≤ plan.connections }
     ensures all { IfOk result (λ unwritten.

@@ -10,20 +10,20 @@ use std::alloc::Global;
 use std::io::{Read, Write};
 use std::time::{Clock, Duration};
 
-// How often a connection is read.
+// The most reads of a connection.
 const TURNS: u64 = 430_000_000;
 
-// How often what is not answered any more is read.
+// The most reads of bytes that are no longer answered.
 const LAST_TURNS: u64 = 100_000;
 
 /// Serves a client as `serve` of office_messages does, in at most 430,000,000 reads, and returns
-/// the writer. The client has the lesser of 5 seconds and this patience to begin a message, this
-/// patience to send it from its first byte to its last, and this patience to take each reply;
-/// after that the connection ends with an I/O error of the read or the write. Two waits are
-/// longer: if a message began in one piece with the message before, its time begins with the next
-/// piece; and the reply to a fault of head or framing in such a piece has what the reply before it
-/// left. If the office ends the connection, it stops sending and reads on for at most this
-/// patience, so that what was answered arrives.
+/// the writer. The client has the lesser of 5 seconds and this timeout to begin a message, this
+/// timeout to send it from its first byte to its last, and this timeout to take each reply; after
+/// that the connection ends with an I/O error of the read or the write. Two waits are longer: if a
+/// message began in one piece with the message before, its time begins with the next piece; and the
+/// reply to a fault of head or framing in such a piece has the time left over by the reply before
+/// it. If the office ends the connection, it stops sending and reads on for at most this timeout,
+/// so that the replies arrive.
 pub fn serve_client<C: Clock, M: Machine, R: Read + Timed + Drop, W: Write + Timed + Drop>(
     alloc: Global,
     clock: &C,
@@ -33,7 +33,7 @@ pub fn serve_client<C: Clock, M: Machine, R: Read + Timed + Drop, W: Write + Tim
     patience: Duration,
 ) -> (Result<Served, ServeFault>, W)
     // The bytes are the machine's replies to the messages of the whole stream, in whatever pieces
-    // and at whatever pace it came; after a fault, to the first of them.
+    // and at whatever speed it arrived; after a fault, to the first of them.
     ensures ok { IfOk result.0 (λ served. Serves M.Answers (R.remaining from)
         (W.contents to) (W.contents result.1) machine.old machine.new served) }
     ensures err { IfErr result.0 (λ fault. ServesFront M.Answers (R.remaining from)
@@ -69,7 +69,7 @@ fn serve_paced<C: Clock, M: Machine, R: Read + Timed + Drop, W: Write + Timed + 
     serve(alloc, reader, writer, &mut paced, &mut turns)
 }
 
-// Whether bytes of the client may be unread.
+// Returns whether bytes of the client may be unread.
 fn is_ended_by_office(served: Result<Served, ServeFault>) -> bool {
     match served {
         Ok(served) => match served.end {
@@ -80,7 +80,8 @@ fn is_ended_by_office(served: Result<Served, ServeFault>) -> bool {
     }
 }
 
-// A socket that is closed while bytes are unread is reset, and replies on their way are lost.
+// Stops sending and drains the reader: a socket that is closed with unread bytes is reset, and
+// replies in transit are lost.
 fn leave<C: Clock, R: Read + Timed + Drop>(pace: &Pace<'_, C>, reader: &mut PacedReader<'_, C, R>) {
     if reader.end_sending().is_ok() {
         pace.is_left();

@@ -11,7 +11,7 @@ pub trait Timed {
     /// Sets the timeout of each write from now on.
     fn set_write_limit(&self, limit: Duration) -> Result<()>;
 
-    /// Tells the client that nothing more is sent.
+    /// Ends the sending side, so that the client sees the end of the replies.
     fn end_sending(&self) -> Result<()>;
 }
 

@@ -18,7 +18,7 @@ loop-service-init g c = record {
   };
 }
 
--- one client more
+-- one more client
 pub loop-service-preserved : goal.loop-service-preserved
 loop-service-preserved g c =
     let invariant = c.loop-service.invariant in

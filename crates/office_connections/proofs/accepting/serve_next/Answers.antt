@@ -6,7 +6,7 @@ use Rattle.office_connections.specs.Lines.{fault_lines}
 use Rattle.office_connections.proofs.LineLemmas.{one_line}
 use Rattle.office_connections.proofs.accepting.serve_next.Goals as goal
 
--- a connection that ended well has no line
+-- a connection that ended without a fault has no line
 pub returns-in-Ok : goal.returns-in-Ok
 returns-in-Ok g c =
     let client = c.in_ok-from in

@@ -3,7 +3,7 @@ use Rattle.std.proofs.KnownBytes.{Appends-nil}
 use Rattle.office_connections.proofs.ClientLemmas.{no_client}
 use Rattle.office_connections.proofs.running.serve_run.Goals as goal
 
--- nobody was served
+-- no client was served
 pub returns-then-is_err-clause-served : goal.returns-then-is_err-clause-served
 returns-then-is_err-clause-served g c = record {
   service = record { accepted = 0; unwritten = 0 };
