@@ -1,4 +1,4 @@
--- Runs that change one candidate alike leave her equal views.
+-- Runs that change one candidate in the same way leave them equal views.
 use Rattle.std.proofs.Common.{◌≡◌, ℕ, Bool, true, false, List, [], ◌∷◌, Some, None, refl, sym, subst, inl, inr, true≢false, if◌then◌else◌}
 use Rattle.std.specs.Prelude.{Result, Ok, Err, IfOk}
 use Rattle.exam_model.specs.declared.change.Change.{Change}
@@ -41,7 +41,7 @@ plain s old caller command h q =
     step_law (FollowsIn s [] old) KeepsPublication old (follows_self s old) caller command
     (framed_keeps (FollowsIn s [] old) KeepsPublication old (framed s old) command h) q
 
--- no line is new, whatever was answered
+-- no line is new, whatever the answer
 none_new : (s : ℕ) (old new : OfficeState) (b : Bool) → FollowsIn s [] old new
     → FollowsIn s (changes_to s (if b then [] else [])) old new
 none_new s old new true h = h

@@ -1,4 +1,4 @@
--- What commands leave as it was.
+-- What commands don't change.
 use Rattle.std.proofs.Common.{◌≡◌, ◌≢◌, ℕ, Bool, true, false, List, [], ◌∷◌, Option, Some, None, refl, sym, ◌∙◌, ap, true≢false, if◌then◌else◌}
 use Rattle.std.specs.Prelude.{Result, Ok, Err, IfOk, ◌==◌, nat_le, nat_lt, length, is_none}
 use Rattle.std.specs.List.{list_all}
@@ -27,13 +27,13 @@ use Rattle.office_model.specs.DraftCommands.{draft_made, draft_dropped, draft_ed
 use Rattle.office_model.specs.BatchLines.{after_change, enrolled, counted, no_counts}
 use Rattle.office_model.specs.Batches.{changes_to, newly_enrolled, enrolled_by, batch_enrolled, lines_if_new, kept_in, kept_under, same_bytes}
 
--- what holds of a judgement's result, if each part before it allows it
+-- a fact about a judgement's result, if each part before it allows it
 pub bind : {A B F : Type 0} (P : A → Type 0) (m : Result B F) (f : B → Result A F)
     → ((x : B) → IfOk (f x) P) → IfOk (m >>= f) P
 bind P (Ok x) f h = h x
 bind P (Err e) f h = tt
 
--- the same, by what holds of the part before it
+-- the same, by a fact about the part before it
 pub bind_by : {A B F : Type 0} (Q : B → Type 0) (P : A → Type 0) (m : Result B F)
     (f : B → Result A F) → IfOk m Q → ((x : B) → Q x → IfOk (f x) P) → IfOk (m >>= f) P
 bind_by Q P (Ok x) f q h = h x q
@@ -41,7 +41,7 @@ bind_by Q P (Err e) f q h = tt
 
 -- ---- a batch that names others
 
--- where no line of a list names her, neither does the first, nor any behind it
+-- if no line of a list names the candidate, neither does the first, nor any after it
 pub named_others : (s : ℕ) (change : Change) (changes : List Change)
     → changes_to s (change ∷ changes) ≡ []
     → ((change.student == s) ≡ false) × (changes_to s changes ≡ [])
@@ -57,7 +57,7 @@ named_others s change changes h = go (change.student == s) refl h
     go true e h = absurd (true≢false (ap is_cons h))
     go false e h = (e, h)
 
--- another student's line leaves her exams as they are
+-- another student's line doesn't change the candidate's exams
 pub others_kept : (s : ℕ) (change : Change) (E : Enrolled) → (change.student == s) ≡ false
     → exams_sat (after_change change E) s ≡ exams_sat E s
 others_kept s change E other = go change.add
@@ -71,7 +71,7 @@ others_kept s change E other = go change.add
     go true = with_others E change.student change.exam s is_other
     go false = without_others E change.student change.exam s is_other
 
--- lines that name others leave her exams as they are
+-- lines that name others don't change the candidate's exams
 enrolled_others : (s : ℕ) (changes : List Change) (E : Enrolled) (n : Counts)
     → changes_to s changes ≡ []
     → IfOk (enrolled changes E n) (λ done. exams_sat done.1 s ≡ exams_sat E s)
@@ -98,7 +98,7 @@ keeps_view : (s : ℕ) (r : Records) (E : Enrolled) (batches : List KeptBatch)
 keeps_view s r E batches h =
     ap (λ exams. view_from r.session exams r.published (rows_of s (rows_now r.published))) h
 
--- a new batch that names others leaves her view as it was
+-- a new batch that names others doesn't change the candidate's view
 new_batch : (s number : ℕ) (bytes : List ℕ) (changes : List Change) (r : Records)
     → changes_to s changes ≡ []
     → IfOk (newly_enrolled number bytes changes r) (λ x. view_of s x.1 ≡ view_of s (Some r))
@@ -133,7 +133,7 @@ pub no_session : {A : Type 0} (P : A → Type 0) (read : Result (List Change) Fi
 no_session P (Ok changes) f = tt
 no_session P (Err fault) f = tt
 
--- a batch that newly names only others leaves her view as it was
+-- a batch that newly names only others doesn't change the candidate's view
 pub batch_keeps : (s number : ℕ) (bytes : List ℕ) (old : OfficeState)
     → changes_to s (lines_if_new (kept_in old number) (batch_in bytes)) ≡ []
     → IfOk (batch_enrolled number bytes old) (λ x. view_of s x.1 ≡ view_of s old)
@@ -143,7 +143,7 @@ batch_keeps s number bytes None h =
 batch_keeps s number bytes (Some r) h =
     by_kept s number bytes r (kept_under number r.batches) (batch_in bytes) h
 
--- ---- commands that change owners and drafts alone
+-- ---- commands that change only owners and drafts
 
 -- P holds with other owners and drafts
 abbrev pub Frames : (OfficeState → Type 0) → OfficeState → Type 0

@@ -1,4 +1,4 @@
--- What new changes to a candidate make of the office, as far as her view goes.
+-- The effect of new changes to a candidate on the office, as far as their view goes.
 use Rattle.std.proofs.Common.{◌≡◌, ℕ, Bool, true, false, List, [], ◌∷◌, ◌++◌, Option, Some, None, refl, sym, ◌∙◌, ap, subst, if◌then◌else◌}
 use Rattle.std.specs.Prelude.{Result, Ok, Err, IfOk, ◌==◌, nat_le, nat_lt, length}
 use Rattle.std.specs.List.{list_all}
@@ -23,7 +23,7 @@ use Rattle.office_model.specs.Views.{view_of, view_from}
 use Rattle.office_model.proofs.CommandLemmas.{bind, bind_by, no_session}
 use Rattle.office_model.proofs.SameLemmas.{AreSame, same_self, same_sat, line_same, lines_same, other_same, same_then, lines_both}
 
--- the session and the publication as they were, and her exams after these changes
+-- the session and the publication as before, and the candidate's exams after these changes
 pub record Follows (s : ℕ) (changes : List Change) (old new : Records) : Type 0 where
   pub session : new.session ≡ old.session
   pub published : new.published ≡ old.published
@@ -33,7 +33,7 @@ abbrev pub FollowsIn : ℕ → List Change → OfficeState → OfficeState → T
 FollowsIn s changes None new = new ≡ None
 FollowsIn s changes (Some r) new = (r' : Records) × (new ≡ Some r') × Follows s changes r r'
 
--- lines in file order make of her exams what those that name her do
+-- only the lines that name the candidate change their exams
 enrolled_own : (s : ℕ) (changes : List Change) (E F : Enrolled) (n : Counts) → AreSame s E F
     → IfOk (enrolled changes E n)
     (λ done. AreSame s done.1 (after_changes (changes_to s changes) F))
@@ -134,7 +134,7 @@ same_view : (s : ℕ) (one other : Records) → one.session ≡ other.session
     → view_of s (Some one) ≡ view_of s (Some other)
 same_view s one other e f g = λ i. view_from (e i) (g i) (f i) (rows_of s (rows_now (f i)))
 
--- what follows the same changes gives her the same view
+-- two offices after the same changes show the candidate the same view
 pub follows_alike : (s : ℕ) (xs : List Change) (old one other : OfficeState)
     → FollowsIn s xs old one
     → FollowsIn s xs old other → view_of s one ≡ view_of s other

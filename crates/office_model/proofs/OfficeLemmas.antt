@@ -1,4 +1,4 @@
--- What a step leaves of an office is an office.
+-- The office after a step is an office.
 use Rattle.std.proofs.Common.{◌≡◌, ℕ, ◌≤◌, List, [], ◌∷◌, length, Option, Some, None, Result, Ok, Err, IfOk, refl, sym, subst, ◌∙◌}
 use Rattle.std.specs.Prelude.{IsSome, is_none, nat_le}
 use Rattle.std.proofs.lemmas.Bool.{leb-true, ltb-true}
@@ -43,13 +43,13 @@ use Rattle.office_model.specs.declared.fault.StoreFault.TheVariants.{DraftTaken,
 use Rattle.office_model.proofs.RecordLemmas.{are_enrolled, both_true, edited_fits, fresh_records, left_records, made_records, owner_records, published_records}
 use Rattle.office_model.proofs.StepLemmas.{Keeps, step_law, whatever}
 
--- ---- what goes on
+-- ---- what a judgement passes on
 
 named_ok : {A F G : Type 0} (name : F → G) (r : Result A F) (x : A) → named name r ≡ Ok x → r ≡ Ok x
 named_ok name (Ok y) x is = cc
 named_ok name (Err f) x is = absurd (cc is)
 
--- what holds of each thing that is given
+-- a fact about each result
 if_given : {A F : Type 0} (P : A → Type 0) (m : Result A F) → ((x : A) → m ≡ Ok x → P x) → IfOk m P
 if_given P (Ok x) h = h x refl
 if_given P (Err f) h = tt
@@ -65,11 +65,11 @@ none_refused (Some f) done is = absurd (cc is)
 
 -- ---- the commands
 
--- an office stands after whatever the command gives
+-- the office after the command is an office, for each result
 abbrev pub Leaves : {A : Type 0} → Gives A → Type 0
 Leaves gives = IfOk gives (λ given. IsOffice given.1)
 
--- what is given is given with this office
+-- the result comes with this office
 given_with : {A : Type 0} (given : A) (new : OfficeState) (x : A × OfficeState) → IsOffice new
     → ◌≡◌ {A = Gives A} (Ok (given, new)) (Ok x) → IsOffice x.1
 given_with given new x is e =
@@ -162,7 +162,7 @@ module _ (r : Records) (are : AreRecords r) where
 abbrev any : PlainAnswer → Type 0
 any answer = Unit {0}
 
--- whatever a command that is carried out gives, there is an office after it, if a batch leaves one
+-- the office after each command that is run is an office, if that after a batch is one
 keeps : (old : OfficeState) (command : PlainCommand) → IsOffice old → HasSmallNumbers command
     → ((number : ℕ) (bytes : List ℕ) → number ≤ 999999999
     → Leaves (batch_enrolled number bytes old))

@@ -1,4 +1,4 @@
--- What a command makes of records of an office are such records again.
+-- The records after a command are records of an office again.
 use Rattle.std.proofs.Common.{◌≡◌, ◌≢◌, ℕ, ◌<◌, ◌≤◌, Bool, true, false, not, cond, eqb, List, [], ◌∷◌, length, Option, Some, None, Ok, inl, inr, refl, sym, subst, ◌∙◌, arith}
 use Rattle.std.specs.Prelude.{◌==◌, ◌&&◌, IsSome, nat_lt, slice_set}
 use Rattle.std.proofs.lemmas.Bool.{cases_lt, ltb-true}
@@ -186,7 +186,7 @@ pub both_true : (a b : Bool) → (a && b) ≡ true → (a ≡ true) × (b ≡ tr
 both_true true b e = (refl, e)
 both_true false b e = absurd (cc e)
 
--- a timetable that fits does so with another place that exists, or with none
+-- a timetable that fits also fits with another place that exists, or with none
 fits_set : (I : Session) (E : Enrolled) (T : Placing) (e : ℕ) (at : Option Place)
     → PlaceExists I at → Fits I E T → Fits I E (slice_set T e at)
 fits_set I E T e at exists fits = record {
@@ -216,7 +216,7 @@ module _ (I : Session) (E : Enrolled) (T : Placing) (fits : Fits I E T) where
         ltb-true at.room (length I.rooms) both.1,
       ) fits)
 
-  -- where an exam stands, if it stands anywhere, exists
+  -- the place of an exam exists, if it has one
   stands : (e : ℕ) → PlaceExists I (place_of T e)
   stands e = elim (cases_lt e (length T)) as (λ _. PlaceExists I (place_of T e)) [
     | inl within ↦ All-get_or (PlaceExists I) T e None within fits.places

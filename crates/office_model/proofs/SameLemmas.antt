@@ -1,4 +1,4 @@
--- What a student sits after a line that names her depends on what she sat before alone.
+-- A student's exams after a line that names them depend only on their exams before.
 use Rattle.std.proofs.Common.{◌≡◌, ◌∙◌, ℕ, ◌<◌, ◌≤◌, ◌++◌, Bool, true, false, List, [], ◌∷◌, length, set, refl, ap, sym, subst, inl, inr, if◌then◌else◌}
 use Rattle.std.proofs.Common.{get_or-set_other, get_or-set_same}
 use Rattle.std.specs.Prelude.{◌==◌, ◌||◌, ◌&&◌, not}
@@ -25,7 +25,7 @@ same_sat s E F h =
     rw h.exams
     (filter_agree (λ e. has E s e) (λ e. has F s e) h.sat (range_with_len 0 (length F)))
 
--- lists of one exam that say the same of her, in their places
+-- lists of one exam that agree on the student, in their places
 own_in : (E F : Enrolled) (e s : ℕ) (one other : List ℕ) → AreSame s E F
     → has_number one s ≡ has_number other s → (f : ℕ)
     → has (set E e one) s f ≡ has (set F e other) s f
@@ -41,7 +41,7 @@ own_in E F e s one other h same f = elim (cases_lt e (length E)) [
       rw (set_past E e one past, set_past F e other (subst (λ n. n ≤ e) h.exams past)) (h.sat f)
 ]
 
--- a list of one exam that says the same of her as before
+-- a list of one exam that agrees with the old one on the student
 set_same : (E : Enrolled) (e s : ℕ) (new : List ℕ)
     → has_number new s ≡ has_number (students E e) s → AreSame s (set E e new) E
 set_same E e s new same = record {
@@ -73,7 +73,7 @@ without_both s t e E F h = record {
       ∙ sym (has-without t (students F e) s));
 }
 
--- the same line leaves the same
+-- the same line has the same effect
 pub line_same : (s : ℕ) (change : Change) (E F : Enrolled) → AreSame s E F
     → AreSame s (after_change change E) (after_change change F)
 line_same s change E F h = go change.add
@@ -86,14 +86,14 @@ line_same s change E F h = go change.add
     go true = with_both s change.student change.exam E F h
     go false = without_both s change.student change.exam E F h
 
--- so do the same lines
+-- the same lines have the same effect
 pub lines_same : (s : ℕ) (changes : List Change) (E F : Enrolled) → AreSame s E F
     → AreSame s (after_changes changes E) (after_changes changes F)
 lines_same s [] E F h = h
 lines_same s (change ∷ changes) E F h =
     lines_same s changes (after_change change E) (after_change change F) (line_same s change E F h)
 
--- a line that names another leaves what she sat
+-- a line that names another student doesn't change the student's exams
 pub other_same : (s : ℕ) (change : Change) (E : Enrolled) → (change.student == s) ≡ false
     → AreSame s (after_change change E) E
 other_same s change E other = go change.add
@@ -114,7 +114,7 @@ same_then s E F G h k = record {
   sat = λ e. h.sat e ∙ k.sat e;
 }
 
--- lines behind one another
+-- two lists of lines, one after the other
 pub lines_both : (xs ys : List Change) (E : Enrolled)
     → after_changes (xs ++ ys) E ≡ after_changes ys (after_changes xs E)
 lines_both [] ys E = refl

@@ -1,4 +1,4 @@
--- What is shown changes nothing.
+-- A command that shows something changes nothing.
 use Rattle.std.proofs.Common.{◌≡◌, ℕ, Some, None, refl}
 use Rattle.std.specs.Prelude.{Ok, Err, IfOk}
 use Rattle.exam_terms.specs.Refusing.{else_err}
@@ -10,7 +10,7 @@ use Rattle.office_model.specs.Step.{outcome, draft_in_session}
 use Rattle.office_model.specs.declared.fault.StoreFault.TheVariants.{NoDraft}
 use Rattle.office_model.proofs.CommandLemmas.{bind}
 
--- where what is given leaves the office, so does the outcome
+-- if a result leaves the office unchanged, so does the outcome
 still : {A : Type 0} (says : A → PlainAnswer) (old : OfficeState) (gives : Gives A)
     → IfOk gives (λ x. x.1 ≡ old) → (outcome says old gives).0 ≡ old
 still says old (Ok x) h = h

@@ -1,4 +1,4 @@
--- What one step keeps, by its cases.
+-- The invariants of one step, by its cases.
 use Rattle.std.proofs.Common.{◌≡◌, ℕ, sym, subst}
 use Rattle.std.specs.Prelude.{Result, Ok, Err, IfOk}
 use Rattle.exam_draft.specs.declared.edit.Edit.{Edit}
@@ -30,7 +30,7 @@ pub any_ok : {A F : Type 0} (P : A → Type 0) (m : Result A F) → ((x : A) →
 any_ok P (Ok x) h = h x
 any_ok P (Err f) h = tt
 
--- P is kept where the answer allows it
+-- P stays true if the answer allows it
 outcome_law : {A : Type 0} (P : OfficeState → Type 0) (Q : PlainAnswer → Type 0)
     (says : A → PlainAnswer) (old : OfficeState) (g : Gives A)
     → P old → IfOk g (λ x. Q (says x.0) → P x.1) → Q (outcome says old g).1
@@ -50,7 +50,7 @@ told_law P Office asked old here = here
 told_law P (Dept d) asked old here = here
 told_law P (Cand s) asked old here = here
 
--- P is kept by a change that the answer allows
+-- P stays true after a change that the answer allows
 abbrev pub EditKeeps : (OfficeState → Type 0) → (PlainAnswer → Type 0) → OfficeState → ℕ → Edit
     → Type 0
 EditKeeps P Q old d change =
@@ -133,15 +133,15 @@ module _ (P : OfficeState → Type 0) (Q : PlainAnswer → Type 0) (old : Office
     allowed_law (Ok done) caller command h q = permitted_law caller command h q
     allowed_law (Err denial) caller command h q = here
 
-    -- what holds of an office holds after a step, if it holds after each change that the answer
-    -- allows
+    -- a fact about an office stays true after a step, if it stays true after each change that the
+    -- answer allows
     pub step_law : (caller : Caller) (command : PlainCommand) → Keeps P Q old command
         → Q (step old caller command).1 → P (step old caller command).0
     step_law caller command h q = allowed_law (allowed_in old caller command) caller command h q
 
--- ---- where P holds with other owners and drafts
+-- ---- P stays true with other owners and drafts
 
--- P is kept by a load, a publication or a batch that the answer allows
+-- P stays true after a load, a publication or a batch that the answer allows
 abbrev pub KeepsRest : (OfficeState → Type 0) → (PlainAnswer → Type 0) → OfficeState → PlainCommand
     → Type 0
 KeepsRest P Q old (load (Given bytes)) =

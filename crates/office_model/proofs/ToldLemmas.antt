@@ -1,4 +1,4 @@
--- What is told changes nothing, and a candidate is told what her view says.
+-- Answers that show something change nothing, and a candidate's answer follows from their view.
 use Rattle.std.proofs.Common.{◌≡◌, ℕ, true, refl, ap, sym, ◌∙◌, inl, inr, true≢false}
 use Rattle.exam_draft.specs.declared.edit.Edit.{Edit}
 use Rattle.exam_draft.specs.declared.edit.Edit.TheVariants as edit
@@ -31,7 +31,7 @@ same_told s one other command h =
     ap (λ (o : Outcome). o.1) (told s one command) ∙ ap (answer_to s command) h
     ∙ sym (ap (λ (o : Outcome). o.1) (told s other command))
 
--- no change is answered by what shows something
+-- no change has an answer that shows something
 edits : (old : OfficeState) (d : ℕ) (change : Edit)
     → EditKeeps (λ new. new ≡ old) (λ answer. shows answer ≡ true) old d change
 edits old d change = any_ok _ (draft_edited d change old) (λ x q. absurd (true≢false (sym q)))

@@ -1,4 +1,4 @@
--- A candidate's rows, put together from the places of her exams and her seat rows.
+-- A candidate's rows, made from the places of their exams and their seat rows.
 use Rattle.std.specs.List.{AllByRecursion, cons_option, list_any}
 use Rattle.std.proofs.Common.{◌≡◌, ℕ, Bool, true, false, cond, ◌||◌, eqb, List, [], ◌∷◌, ◌++◌, map, Option, Some, None, option_map, refl, sym, ◌∙◌, ap, eqb-true}
 use Rattle.std.proofs.lemmas.Bool.{eq-eqb}
@@ -58,7 +58,7 @@ module _ (published : Option Publication) where
       go None is false same later = later (rw same at has)
       go (Some at) is false same later = rw same (later (rw same at has))
 
-  -- where an exam of hers is published
+  -- the published place of one of the candidate's exams
   placed : (enrolled : List ℕ) (seats : List SeatRow)
       → AllByRecursion (λ row. published_place published row.exam ≡ Some (row_place row)) seats
       → (e : ℕ)
@@ -83,7 +83,7 @@ module _ (published : Option Publication) where
       go true same later = sym at.0 ∙ ap (published_place published) (eqb-true row.exam e same)
       go false same later = later (rw same at has)
 
--- ---- all of her exams
+-- ---- all exams of the candidate
 
 module _ (I : Session) (published : Option Publication) (enrolled : List ℕ)
     (places : List (ℕ × Place)) (seats : List SeatRow)
@@ -116,7 +116,7 @@ module _ (I : Session) (published : Option Publication) (enrolled : List ℕ)
           or_true true b h = refl
           or_true false b h = h
 
-  -- the rows of her exams are what she is shown
+  -- the rows of the candidate's exams are those in their view
   pub rows_shown : map (view_row I.periods enrolled places seats) (her_exams enrolled seats)
       ≡ shown_exams (view_from I enrolled published seats)
   rows_shown = rows_are (her_exams enrolled seats) (λ e has.

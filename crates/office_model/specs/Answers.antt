@@ -1,4 +1,4 @@
--- What the office answers, without where its texts lie in memory.
+-- The office's answers, without the places of their texts in memory.
 use Rattle.std.specs.Prelude.{ℕ, Bool, true, false, List}
 use Rattle.exam_model.specs.Timetable.{Placing}
 use Rattle.exam_score.specs.Penalty.{PersonalPenalty}
@@ -9,9 +9,10 @@ use Rattle.office_model.specs.declared.counts.Published.{Published}
 use Rattle.office_model.specs.declared.fault.StoreFault.{StoreFault}
 use Rattle.office_model.specs.declared.views.ViewRow.{ViewRow}
 
--- what a command answers
+-- the answer to a command
 pub data PlainAnswer : Type 0 where
-  -- a candidate, her exams and what they cost her; one of them; the cost alone; no exam of hers
+  -- a candidate, their exams and the cost of these; one exam; only the cost; an exam that isn't
+  -- theirs
   my_exams : ℕ → List ViewRow → PersonalPenalty → PlainAnswer
   my_one : ViewRow → PlainAnswer
   my_cost : PersonalPenalty → PlainAnswer
@@ -35,15 +36,15 @@ pub data PlainAnswer : Type 0 where
   now_enrolled : ℕ → Counts → PlainAnswer
   -- the policy denies the command
   denied : Denial → PlainAnswer
-  -- the body is not of the form that is asked for, or too long
+  -- the body is not of the required form, or too long
   bad_body : PlainAnswer
   long_body : PlainAnswer
   -- the state of the office refuses the command
   refused : StoreFault → PlainAnswer
-  -- nothing was done and nothing is told
+  -- nothing was done, and the answer shows nothing
   unavailable : PlainAnswer
 
--- whether it shows something that is kept
+-- whether the answer shows stored data
 abbrev pub shows : PlainAnswer → Bool
 shows (my_exams s exams penalty) = true
 shows (my_one exam) = true

@@ -1,4 +1,4 @@
--- What the lines of a batch make of the enrolments: they act in file order.
+-- The effect of a batch's lines on the enrolments: they act in file order.
 use Rattle.std.specs.Prelude.{◌+◌, Bool, not, nat_le, if◌then◌else◌, List, [], ◌∷◌, Result, Ok}
 use Rattle.exam_terms.specs.Refusing.{◌>>=◌, unless}
 use Rattle.exam_terms.specs.declared.limits.TheConstants.{MAX_PAIRS}
@@ -9,7 +9,7 @@ use Rattle.office_model.specs.declared.counts.Counts.{Counts}
 use Rattle.office_model.specs.declared.fault.StoreFault.{StoreFault}
 use Rattle.office_model.specs.declared.fault.StoreFault.TheVariants.{TooMany}
 
--- whether a line adds a pair that isn't there, or drops one that is
+-- whether a line adds a missing pair, or drops an existing one
 abbrev pub acts : Change → Enrolled → Bool
 acts change E =
     if change.add then not (has E change.student change.exam)
@@ -38,7 +38,7 @@ counted change E n =
 abbrev pub no_counts : Counts
 no_counts = record { added = 0; dropped = 0; unchanged = 0 }
 
--- the lines in file order, refused where the pairs pass the limit at any of them
+-- the lines in file order, refused if the pairs exceed the limit at any of them
 abbrev pub enrolled : List Change → Enrolled → Counts → Result (Counts × Enrolled) StoreFault
 enrolled [] E n = Ok (n, E)
 enrolled (change ∷ changes) E n = do

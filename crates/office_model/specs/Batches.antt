@@ -1,4 +1,4 @@
--- What a batch of changes makes of the office: its lines act in file order, and a batch acts once.
+-- The effect of a batch on the office: its lines act in file order, and a batch acts once.
 use Rattle.std.specs.Prelude.{ℕ, Bool, true, false, ◌&&◌, ◌==◌, nat_lt, List, [], ◌∷◌, length, filter, Option, Some, None, Result, Ok, Err}
 use Rattle.std.specs.List.{find, list_all}
 use Rattle.exam_terms.specs.Refusing.{◌>>=◌, unless}
@@ -17,7 +17,7 @@ use Rattle.office_model.specs.BatchLines.{no_counts, enrolled}
 
 -- ---- batches
 
--- what was kept under a number
+-- the batch kept under a number
 abbrev pub kept_under : ℕ → List KeptBatch → Option KeptBatch
 kept_under number batches = find (λ b. b.no == number) batches
 
@@ -50,14 +50,14 @@ enrolled_by (Some kept) number bytes changes r = do
   _ ← unless (same_bytes kept.bytes bytes) BatchDiffers
   Ok (kept.counts, Some r)
 
--- a batch is taken: the file's fault comes first, then that nothing is loaded
+-- a batch is accepted: first the file's fault is judged, then whether a session is loaded
 abbrev pub batch_enrolled : ℕ → List ℕ → OfficeState → Gives Counts
 batch_enrolled number bytes office = do
   changes ← named (λ f. Refused (refusal.File f)) (batch_in bytes)
   r ← when_loaded office
   enrolled_by (kept_under number r.batches) number bytes changes r
 
--- ---- whom a batch changes
+-- ---- the students whom a batch changes
 
 -- the lines that name a student
 abbrev pub changes_to : ℕ → List Change → List Change

@@ -1,4 +1,4 @@
--- What a candidate is told, by her view alone.
+-- The answer to a candidate, from their view only.
 use Rattle.std.specs.Prelude.{ℕ, ◌==◌, Option, Some, None}
 use Rattle.std.specs.List.{find}
 use Rattle.office_policy.specs.Commands.{PlainCommand, me, my_exam, my_penalty}
@@ -8,23 +8,23 @@ use Rattle.office_model.specs.Shown.{shown_exams, shown_penalty}
 use Rattle.office_model.specs.Views.{View}
 use Rattle.office_model.specs.declared.views.ViewRow.{ViewRow}
 
--- what a candidate can ask for: all of her exams, one of them, or what they cost her
+-- a candidate's question: all of their exams, one of them, or the cost of them
 pub data Asked : Type 0 where
   whole cost : Asked
   one : ℕ → Asked
 
--- her exam, or that it is none of hers
+-- the candidate's exam, or that it isn't theirs
 abbrev pub exam_answer : Option ViewRow → PlainAnswer
 exam_answer None = not_mine
 exam_answer (Some shown) = my_one shown
 
--- the answer to a candidate; of an exam that isn't hers nothing is told, not even whether it exists
+-- the answer to a candidate; it doesn't show whether an exam that isn't theirs exists
 abbrev pub told : ℕ → Asked → View → PlainAnswer
 told s whole view = my_exams s (shown_exams view) (shown_penalty view)
 told s (one n) view = exam_answer (find (λ shown. shown.exam == n) (shown_exams view))
 told s cost view = my_cost (shown_penalty view)
 
--- the answer to any command of a candidate: to her three, and the denial of all others
+-- the answer to any command of a candidate: to their own three, and the denial of all others
 abbrev pub answer_to : ℕ → PlainCommand → View → PlainAnswer
 answer_to s me view = told s whole view
 answer_to s (my_exam n) view = told s (one n) view

@@ -1,5 +1,5 @@
--- What a command gives, and what those about owners and the session make of the office, their
--- refusals in order. A refusal changes nothing: it has no new office.
+-- The results of commands, and the office after those about owners and the session, their refusals
+-- in order. A refusal changes nothing: it has no new office.
 use Rattle.std.specs.Prelude.{ℕ, Some, None, Result, Ok, Err}
 use Rattle.exam_model.specs.Enrolments.{Enrolled}
 use Rattle.exam_model.specs.Instance.{Session}
@@ -11,7 +11,7 @@ use Rattle.office_model.specs.declared.fault.Refusal.TheVariants as refusal
 use Rattle.office_model.specs.declared.fault.StoreFault.{StoreFault}
 use Rattle.office_model.specs.declared.fault.StoreFault.TheVariants.{NotLoaded, Refused}
 
--- what a command gives, with the office after it
+-- the result of a command, with the office after it
 abbrev pub Gives : Type 0 → Type 0
 Gives A = Result (A × OfficeState) StoreFault
 
@@ -26,19 +26,19 @@ when_loaded office = else_err NotLoaded office
 
 -- ---- owners
 
--- an exam is given to a department; 0 takes it away from all
+-- a department becomes the owner of an exam; 0 removes the owner
 abbrev pub owned : ℕ → ℕ → OfficeState → Gives (Unit {0})
 owned exam dept office = do
   r ← when_loaded office
   _ ← unless (exam_exists r.session exam) (Refused (refusal.Edit NoSuch))
   Ok (tt, Some (record r { owner_of = set_at exam dept r.owner_of }))
 
--- the department that owns an exam, 0 for none
+-- the department that owns an exam; 0 if none does
 abbrev pub owner_in : ℕ → OfficeState → ℕ
 owner_in exam None = 0
 owner_in exam (Some r) = r.owner_of exam
 
--- ---- what is shown
+-- ---- commands that show something
 
 -- the session and its enrolments
 abbrev pub session_shown : OfficeState → Gives (Session × Enrolled)

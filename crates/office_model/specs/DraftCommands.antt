@@ -1,4 +1,4 @@
--- What each command about a draft makes of the office, its refusals in their order.
+-- The effect of each command about a draft on the office, its refusals in their order.
 use Rattle.std.specs.Prelude.{ℕ, Bool, ◌&&◌, nat_le, List, [], ◌∷◌, length, Option, Some, None, is_none, Result, Ok}
 use Rattle.exam_model.specs.Instance.{Session}
 use Rattle.exam_terms.specs.Refusing.{◌>>=◌, unless, else_err}
@@ -19,7 +19,7 @@ use Rattle.office_model.specs.Commands.{Gives, named, when_loaded}
 abbrev pub penalty_now : Records → Placing → ℕ
 penalty_now r T = total_of (track r.session r.enrolments T)
 
--- a timetable with no exam placed, or the one that a text spells
+-- a timetable with no exam placed, or the one that a text describes
 abbrev pub first_timetable : List ℕ → Session → Result Placing StoreFault
 first_timetable [] I = Ok (unplaced (length I.exams))
 first_timetable (b ∷ bytes) I = named (λ f. Refused (refusal.File f)) (solution_in I (b ∷ bytes))
@@ -28,7 +28,7 @@ first_timetable (b ∷ bytes) I = named (λ f. Refused (refusal.File f)) (soluti
 abbrev pub is_draft_number : ℕ → Bool
 is_draft_number d = nat_le 1 d && nat_le d MAX_DRAFTS
 
--- a draft is made where its number is free, of a solution or of nothing
+-- a draft is made if its number is free, of a solution or of nothing
 abbrev pub draft_made : ℕ → List ℕ → OfficeState → Gives ℕ
 draft_made d bytes office = do
   r ← when_loaded office

@@ -1,4 +1,4 @@
--- What loading a session makes of the office, its refusals in their order.
+-- The effect of loading a session on the office, its refusals in their order.
 use Rattle.std.specs.Prelude.{◌≡◌, ℕ, List, [], length, Some, None, is_none, Ok}
 use Rattle.exam_model.specs.Enrolments.{Enrolled, pair_count}
 use Rattle.exam_model.specs.Instance.{Session}
@@ -24,7 +24,7 @@ fresh s = record {
   batches = [];
 }
 
--- how much there is of it
+-- the counts of a session
 abbrev pub loaded_of : Session × Enrolled → counts.Loaded
 loaded_of s = record {
   exams = length s.0.exams;
@@ -33,17 +33,17 @@ loaded_of s = record {
   rooms = length s.0.rooms;
 }
 
--- the text spells a session of so much
+-- the text describes a session with these counts
 abbrev pub SpellsSession : List ℕ → counts.Loaded → Type 0
 SpellsSession bytes counts =
     (s : Session × Enrolled) × (instance_in bytes ≡ Ok s) × (counts ≡ loaded_of s)
 
--- a text that is refused has this fault first
+-- a refused text has this fault first
 abbrev pub NamesFirstFault : List ℕ → StoreFault → Type 0
 NamesFirstFault bytes fault =
     (f : FileFault) → fault ≡ Refused (refusal.File f) → first_fault bytes ≡ Some f
 
--- a session is loaded where there is none: the file's fault comes first
+-- a session is loaded if there is none; the file's fault is judged first
 abbrev pub loaded : List ℕ → OfficeState → Gives counts.Loaded
 loaded bytes office = do
   s ← named (λ f. Refused (refusal.File f)) (instance_in bytes)

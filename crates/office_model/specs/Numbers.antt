@@ -1,4 +1,4 @@
--- The numbers by which faults are printed.
+-- The printed numbers of faults.
 use Rattle.std.specs.Prelude.{ℕ}
 use Rattle.office_files.specs.declared.fault.FaultKind.{FaultKind}
 use Rattle.office_files.specs.declared.fault.FaultKind.TheVariants as kind

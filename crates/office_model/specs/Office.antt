@@ -11,18 +11,18 @@ use Rattle.exam_publish.specs.Rows.{ArePublishedRows, enrolled_in}
 use Rattle.exam_publish.specs.Seats.{AreSeated}
 use Rattle.office_model.specs.declared.counts.Counts.{Counts}
 
--- what is published: where each exam stands, and who sits where
+-- a publication: the place of each exam, and the seat rows
 pub record Publication : Type 0 where
   pub timetable : Placing
   pub rows : List SeatRow
 
--- a batch that was accepted, with what it counted
+-- an accepted batch, with its counts
 pub record KeptBatch : Type 0 where
   pub no : ℕ
   pub bytes : List ℕ
   pub counts : Counts
 
--- what is kept of a loaded session; a department 0 is no owner
+-- the data of a loaded session; department 0 means no owner
 pub record Records : Type 0 where
   pub session : Session
   pub owner_of : ℕ → ℕ
@@ -31,7 +31,7 @@ pub record Records : Type 0 where
   pub published : Option Publication
   pub batches : List KeptBatch
 
--- before a load there is nothing
+-- nothing before a load
 abbrev pub OfficeState : Type 0
 OfficeState = Option Records
 
@@ -39,11 +39,11 @@ OfficeState = Option Records
 abbrev pub set_at : {X : Type 0} → ℕ → X → (ℕ → X) → ℕ → X
 set_at k x f n = if n == k then x else f n
 
--- the enrolments that a publication was made with: the pairs of its seat rows
+-- the enrolments at a publication: the pairs of its seat rows
 abbrev pub published_enrolments : Session → Publication → Enrolled
 published_enrolments I p = enrolled_in (length I.exams) p.rows
 
--- ---- what every office keeps
+-- ---- the invariants of every office
 
 -- enrolments of this session's exams
 pub record AreEnrolled (I : Session) (E : Enrolled) : Type 0 where
@@ -51,7 +51,7 @@ pub record AreEnrolled (I : Session) (E : Enrolled) : Type 0 where
   pub exams : length E ≡ length I.exams
 
 -- each exam has a place, no rule is broken with the enrolments of the rows, each row is at its
--- exam's place, and each seat is one of its room and nobody else's
+-- exam's place, and each seat is one of its room that no other row has
 pub record IsPublication (I : Session) (p : Publication) : Type 0 where
   pub rows : ArePublishedRows I p.rows p.timetable
   pub seated : AreSeated I p.rows
@@ -63,7 +63,7 @@ pub record IsKeptBatch (b : KeptBatch) : Type 0 where
   pub number : b.no ≤ MAX_BATCH
   pub size : length b.bytes ≤ TEXT_BYTES
 
--- batches of different numbers, no more than are kept
+-- batches of different numbers, within the limit
 pub record AreKept (batches : List KeptBatch) : Type 0 where
   pub few : length batches ≤ MAX_BATCHES
   pub within : All IsKeptBatch batches
@@ -80,7 +80,7 @@ pub record AreRecords (r : Records) : Type 0 where
   pub publication : (p : Publication) → r.published ≡ Some p → IsPublication r.session p
   pub batches : AreKept r.batches
 
--- there is no session yet, or these are records of one
+-- there is no session yet, or these are the records of one
 abbrev pub IsOffice : OfficeState → Type 0
 IsOffice None = Unit {0}
 IsOffice (Some r) = AreRecords r

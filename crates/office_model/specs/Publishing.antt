@@ -1,4 +1,4 @@
--- What a publication makes of the office: the draft's timetable, and a seat for each enrolment.
+-- The effect of a publication on the office: the draft's timetable, and a seat for each enrolment.
 use Rattle.std.specs.Prelude.{ℕ, List, [], length, Option, Some, None, Result, Ok, Err}
 use Rattle.exam_terms.specs.Refusing.{◌>>=◌, else_err}
 use Rattle.exam_model.specs.Pairs.{pairs_of}
@@ -14,17 +14,18 @@ use Rattle.office_model.specs.declared.counts.Published as counts
 use Rattle.office_model.specs.declared.fault.Refusal.TheVariants as refusal
 use Rattle.office_model.specs.declared.fault.StoreFault.TheVariants.{NoDraft, Refused}
 
--- the seat rows of a publication, and none before there is one
+-- the seat rows of a publication; none if there is none
 abbrev pub rows_now : Option Publication → List SeatRow
 rows_now None = []
 rows_now (Some p) = p.rows
 
--- refused so, where there is a reason
+-- refused if there is a reason
 abbrev pub unless_refused : {F : Type 0} → Option F → Result (Unit {0}) F
 unless_refused None = Ok tt
 unless_refused (Some fault) = Err fault
 
--- a timetable with seats for the live enrolments: an old seat stays where its exam stands as before
+-- a timetable with seats for the live enrolments: an old seat is kept if its exam has the same
+-- place
 abbrev pub published_as : Records → Placing → Publication
 published_as r T = record {
   timetable = T;

@@ -1,4 +1,4 @@
--- Which requests are quiet for a candidate: those that leave her view as it was.
+-- The requests that don't concern a candidate: those that don't change their view.
 use Rattle.std.specs.Prelude.{◌≡◌, ℕ, Bool, true, false, if◌then◌else◌, List, []}
 use Rattle.exam_model.specs.declared.change.Change.{Change}
 use Rattle.office_batches.specs.BatchText.{batch_in}
@@ -13,12 +13,12 @@ abbrev pub is_load : PlainAnswer → Bool
 is_load (now_loaded counts) = true
 is_load _ = false
 
--- this answer says that a draft was published
+-- whether the answer is that a draft was published
 abbrev pub is_publication : PlainAnswer → Bool
 is_publication (now_published d counts) = true
 is_publication _ = false
 
--- this answer says that a batch was taken
+-- whether the answer is that a batch was accepted
 abbrev pub is_batch : PlainAnswer → Bool
 is_batch (now_enrolled number counts) = true
 is_batch _ = false
@@ -28,7 +28,7 @@ abbrev pub asked_changes : OfficeState → PlainCommand → List Change
 asked_changes old (batch number (Given bytes)) = lines_if_new (kept_in old number) (batch_in bytes)
 asked_changes old _ = []
 
--- the changes that a request newly made, where it was answered so
+-- the changes that a request newly made, if it had this answer
 abbrev pub new_changes : OfficeState → PlainCommand → PlainAnswer → List Change
 new_changes old command answer = if is_batch answer then asked_changes old command else []
 
@@ -37,7 +37,7 @@ pub record KeepsPublication (answer : PlainAnswer) : Type 0 where
   pub no_load : is_load answer ≡ false
   pub no_publication : is_publication answer ≡ false
 
--- neither of these, nor a newly accepted batch that names her
+-- neither of these, nor a newly accepted batch that names the candidate
 pub record IsQuiet (s : ℕ) (old : OfficeState) (command : PlainCommand) (answer : PlainAnswer)
     : Type 0 where
   pub keeps : KeepsPublication answer

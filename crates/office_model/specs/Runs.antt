@@ -15,20 +15,20 @@ pub record Exchange : Type 0 where
   pub command : PlainCommand
   pub answer : PlainAnswer
 
--- the office answers these requests so, one after another
+-- the office answers these requests, one after another
 abbrev pub Run : OfficeState → List Exchange → OfficeState → Type 0
 Run old [] new = new ≡ old
 Run old (x ∷ xs) new =
     (mid : OfficeState) × Steps old x.caller x.command x.answer mid × Run mid xs new
 
--- the same, each request quiet for s in the office that it is made in
+-- the same, and each request is quiet for s in the office in which it is answered
 abbrev pub QuietRun : ℕ → OfficeState → List Exchange → OfficeState → Type 0
 QuietRun s old [] new = new ≡ old
 QuietRun s old (x ∷ xs) new =
     (mid : OfficeState) × Steps old x.caller x.command x.answer mid
     × IsQuiet s old x.command x.answer × QuietRun s mid xs new
 
--- the same, with no accepted load or publication, and with just these new changes to s
+-- the same, with no accepted load or publication, and with exactly these new changes to s
 abbrev pub RunWith : ℕ → List Change → OfficeState → List Exchange → OfficeState → Type 0
 RunWith s changes old [] new = (changes ≡ []) × (new ≡ old)
 RunWith s changes old (x ∷ xs) new =

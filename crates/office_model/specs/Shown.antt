@@ -1,4 +1,4 @@
--- What a candidate is shown of her view.
+-- What a candidate sees of their view.
 use Rattle.std.specs.Prelude.{ℕ, ◌==◌, List, [], ◌∷◌, Option, option_map, option_and_then, slice_get}
 use Rattle.std.specs.List.{find, list_any}
 use Rattle.exam_terms.specs.declared.place.Place.{Place}
@@ -20,11 +20,11 @@ shown_at at p = record {
   room = at.room;
 }
 
--- a place's date, time and numbers, where the session has its period
+-- a place's date, time and numbers, if the session has its period
 abbrev pub shown_place : List Period → Place → Option ShownPlace
 shown_place periods at = option_map (shown_at at) (slice_get periods at.period)
 
--- one of her exams: whether she is enrolled, where it is published, and her seat
+-- one of the candidate's exams: whether they are enrolled, its published place, and their seat
 abbrev pub shown_exam : View → ℕ → Option Place → ViewRow
 shown_exam view exam place = record {
   exam = exam;
@@ -33,28 +33,28 @@ shown_exam view exam place = record {
   seat = option_map (λ row. row.seat) (find (λ row. row.exam == exam) view.seats);
 }
 
--- these exams of hers, each with its place
+-- these exams of the candidate, each with its place
 abbrev pub shown_from : View → List ℕ → List (Option Place) → List ViewRow
 shown_from view [] places = []
 shown_from view (e ∷ exams) [] = []
 shown_from view (e ∷ exams) (place ∷ places) =
     shown_exam view e place ∷ shown_from view exams places
 
--- her exams, ascending
+-- the candidate's exams, ascending
 abbrev pub shown_exams : View → List ViewRow
 shown_exams view = shown_from view (her_exams view.enrolled view.seats) view.places
 
--- what the periods of her seat rows cost
+-- the cost of the periods of the candidate's seat rows
 abbrev pub shown_penalty : View → PersonalPenalty
 shown_penalty view = share_of view.periods view.weights view.seats
 
--- all that she is shown: her number, her exams, and what they cost her
+-- all that a candidate sees: their number, their exams, and the cost of these
 pub record ShownView : Type 0 where
   pub student : ℕ
   pub exams : List ViewRow
   pub personal : PersonalPenalty
 
--- all that a candidate is shown: her exams and what they cost her
+-- all that a candidate sees of their view
 abbrev pub shown_to : ℕ → View → ShownView
 shown_to s view = record {
   student = s;

@@ -40,11 +40,11 @@ use Rattle.office_model.specs.Publishing.{draft_published}
 use Rattle.office_model.specs.Views.{view_of}
 use Rattle.office_model.specs.declared.fault.StoreFault.TheVariants.{NoDraft}
 
--- the office after a step, and what is answered
+-- the office after a step, and the answer
 abbrev pub Outcome : Type 0
 Outcome = OfficeState × PlainAnswer
 
--- what a command gives is answered; or its refusal, with the office as it was
+-- the answer with a command's result; or with its refusal, and then the office is unchanged
 abbrev pub outcome : {A : Type 0} → (A → PlainAnswer) → OfficeState → Gives A → Outcome
 outcome says old (Ok given) = (given.1, says given.0)
 outcome says old (Err fault) = (old, refused fault)
@@ -55,9 +55,9 @@ with_body old go (Given x) = go x
 with_body old go Bad = (old, bad_body)
 with_body old go Long = (old, long_body)
 
--- ---- what is read
+-- ---- commands that only read
 
--- a draft beside the session and the live enrolments
+-- a draft with the session and the live enrolments
 abbrev pub draft_in_session : ℕ → OfficeState → Gives ((Session × Enrolled) × Placing)
 draft_in_session d office = do
   r ← when_loaded office
@@ -68,22 +68,22 @@ draft_in_session d office = do
 abbrev pub violations_of : (Session × Enrolled) × Placing → List ℕ
 violations_of found = violation_text (breaches_of found.0.0 found.0.1 found.1)
 
--- the session and what is published of it, if there is a publication
+-- the session and its publication, if there is one
 abbrev pub publication_in : OfficeState → Option (Session × Publication)
 publication_in None = None
 publication_in (Some r) = option_map (λ p. (r.session, p)) r.published
 
--- of the publication, if there is one
+-- a text of the publication, if there is one
 abbrev pub of_published : (Session → Publication → List ℕ) → Option (Session × Publication)
     → PlainAnswer
 of_published says None = unpublished
 of_published says (Some found) = text (says found.0 found.1)
 
--- the penalty of the publication with the enrolments that it was made with
+-- the penalty of the publication with the enrolments at that time
 abbrev pub published_penalty : Session → Publication → List ℕ
 published_penalty I p = penalty_text (track I (published_enrolments I p) p.timetable)
 
--- what a permitted candidate's command gives
+-- the outcome of a permitted candidate's command
 abbrev pub told_to : Caller → Asked → OfficeState → Outcome
 told_to Office asked old = (old, unavailable)
 told_to (Dept d) asked old = (old, unavailable)
@@ -134,7 +134,7 @@ permitted old caller (batch number body) =
     with_body old (λ bytes. outcome (now_enrolled number) old (batch_enrolled number bytes old))
     body
 
--- the owners of the exams that a command edits, 0 where it edits none
+-- the owners of the exams that a command edits; 0 if it edits none
 abbrev pub owners_in : OfficeState → PlainCommand → ℕ × ℕ
 owners_in old (place d exam body) = (owner_in exam old, 0)
 owners_in old (move d exam body) = (owner_in exam old, 0)
@@ -142,12 +142,12 @@ owners_in old (clear d exam) = (owner_in exam old, 0)
 owners_in old (swap d a b) = (owner_in a old, owner_in b old)
 owners_in old _ = (0, 0)
 
--- what the policy says of a command in this office
+-- the policy's decision about a command in this office
 abbrev pub allowed_in : OfficeState → Caller → PlainCommand → Result (Unit {0}) Denial
 allowed_in old caller command =
     permits caller command (owners_in old command).0 (owners_in old command).1
 
--- a command of a caller who may not ask for it is denied, whatever the office holds
+-- a command that the caller may not run is denied, in each state of the office
 abbrev pub if_allowed : Result (Unit {0}) Denial → OfficeState → Caller → PlainCommand → Outcome
 if_allowed (Ok done) old caller command = permitted old caller command
 if_allowed (Err denial) old caller command = (old, denied denial)
@@ -156,7 +156,7 @@ if_allowed (Err denial) old caller command = (old, denied denial)
 abbrev pub step : OfficeState → Caller → PlainCommand → Outcome
 step old caller command = if_allowed (allowed_in old caller command) old caller command
 
--- a step, or nothing done and nothing told
+-- a step, or nothing was done and the answer shows nothing
 abbrev pub Steps : OfficeState → Caller → PlainCommand → PlainAnswer → OfficeState → Type 0
 Steps old caller command answer new =
     ((new, answer) ≡ step old caller command) ⊎ ((new ≡ old) × (answer ≡ unavailable))

@@ -1,4 +1,4 @@
--- What of the office is a candidate's.
+-- A candidate's part of the office.
 use Rattle.std.specs.Prelude.{ℕ, List, [], ◌++◌, map, Option, Some, None}
 use Rattle.exam_terms.specs.declared.place.Place.{Place}
 use Rattle.exam_model.specs.Changes.{exams_sat}
@@ -12,8 +12,8 @@ use Rattle.office_files.specs.Weights.{no_weights}
 use Rattle.office_model.specs.Office.{OfficeState, Publication}
 use Rattle.office_model.specs.Publishing.{rows_now}
 
--- her live enrolments, the published places of her exams, her seat rows; the periods and the
--- weights
+-- the candidate's live enrolments, the published places of their exams, their seat rows; the
+-- periods and the weights
 pub record View : Type 0 where
   pub enrolled : List ℕ
   pub places : List (Option Place)
@@ -21,16 +21,16 @@ pub record View : Type 0 where
   pub periods : List Period
   pub weights : Weights
 
--- the exams of her enrolments and of her seats together, ascending
+-- the exams of a candidate's enrolments and of their seats together, ascending
 abbrev pub her_exams : List ℕ → List SeatRow → List ℕ
 her_exams enrolled seats = ascending (enrolled ++ map (λ row. row.exam) seats)
 
--- where an exam was published, if it was
+-- the published place of an exam, if it has one
 abbrev pub published_place : Option Publication → ℕ → Option Place
 published_place None e = None
 published_place (Some p) e = place_of p.timetable e
 
--- what a candidate may see, of these enrolments, this publication and these seats of hers
+-- what a candidate may see, from their enrolments, this publication and their seats
 abbrev pub view_from : Session → List ℕ → Option Publication → List SeatRow → View
 view_from I enrolled published seats = record {
   enrolled = enrolled;
@@ -40,7 +40,7 @@ view_from I enrolled published seats = record {
   weights = I.weights;
 }
 
--- what anybody sees where there is no session: no weight either
+-- the view of everybody if there is no session: it has no weights either
 abbrev pub no_view : View
 no_view = record { enrolled = []; places = []; seats = []; periods = []; weights = no_weights }
 

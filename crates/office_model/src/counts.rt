@@ -1,11 +1,11 @@
-// What accepted commands count.
+// The counts of accepted commands.
 
-/// How much was loaded.
+/// The counts of a loaded session.
 #[derive(Clone, Copy, Debug, PartialEq, Eq)]
 pub struct Loaded {
     /// 1 to 2,000.
     pub exams: u32,
-    /// Pairs of a student and an exam that she sits, at most 200,000.
+    /// Pairs of a student and an exam that they sit, at most 200,000.
     pub pairs: u32,
     /// 1 to 200.
     pub periods: u32,
@@ -13,7 +13,7 @@ pub struct Loaded {
     pub rooms: u32,
 }
 
-/// What a publication changed.
+/// The counts of what a publication changed.
 #[derive(Clone, Copy, Debug, PartialEq, Eq)]
 pub struct Published {
     /// Candidates whose seat rows differ from those before.
@@ -22,7 +22,7 @@ pub struct Published {
     pub penalty: u64,
 }
 
-/// What the lines of a batch did.
+/// The counts of what the lines of a batch did.
 #[derive(Clone, Copy, Debug, PartialEq, Eq)]
 pub struct Counts {
     /// Adds of a pair that was not there.

@@ -7,7 +7,7 @@ use exam_publish::PublishFault;
 use office_files::{FaultKind, FileFault};
 use std::alloc::AllocError;
 
-/// What a file, an edit or a publication was refused for; never out of memory, which is
+/// Why a file, an edit or a publication is refused; never out of memory, which is
 /// [`StoreFault::Store`].
 #[derive(Clone, Copy, Debug, PartialEq, Eq)]
 pub enum Refusal {
@@ -19,26 +19,26 @@ pub enum Refusal {
     File(FileFault),
 }
 
-/// Why a command is refused. The order is that of the numbers that are printed.
+/// Why a command is refused, in the order of the printed numbers.
 #[derive(Clone, Copy, Debug, PartialEq, Eq)]
 pub enum StoreFault {
     /// There is an instance already.
     Loaded,
     /// There is no instance yet.
     NotLoaded,
-    /// There is no such draft, or the number is not one of 1 to 8.
+    /// The draft doesn't exist, or the number is not 1 to 8.
     NoDraft,
-    /// The draft is there already.
+    /// The draft exists already.
     DraftTaken,
     /// The number of the batch is kept with other bytes.
     BatchDiffers,
-    /// There would be more pairs or batches than are kept.
+    /// There would be more pairs or batches than the limit.
     TooMany,
     /// A file, an edit or a publication was refused.
     Refused(Refusal),
     /// A statement failed, or memory ran out; nothing has changed.
     Store,
-    /// The tables are not those of an office, or what they hold is not what it should be.
+    /// The tables are not those of an office, or their contents are not valid.
     BadSchema,
 }
 
@@ -54,7 +54,7 @@ impl From<AllocError> for StoreFault {
 }
 
 impl StoreFault {
-    /// The refusal of a file; out of memory is no refusal.
+    /// Returns the refusal of a file; out of memory is no refusal.
     pub fn of_file(fault: FileFault) -> StoreFault
         ensures memory { fault.what ≡ FaultKind.NoMemory → result ≡ StoreFault.Store }
         ensures refused { fault.what ≢ FaultKind.NoMemory
@@ -66,7 +66,7 @@ impl StoreFault {
         }
     }
 
-    /// The refusal of an edit; out of memory is no refusal.
+    /// Returns the refusal of an edit; out of memory is no refusal.
     pub fn of_edit(fault: EditFault) -> StoreFault
         ensures memory { fault ≡ EditFault.NoMemory → result ≡ StoreFault.Store }
         ensures refused { fault ≢ EditFault.NoMemory
@@ -78,7 +78,7 @@ impl StoreFault {
         }
     }
 
-    /// The refusal of a publication; out of memory is no refusal.
+    /// Returns the refusal of a publication; out of memory is no refusal.
     pub fn of_publication(fault: PublishFault) -> StoreFault
         ensures memory { fault ≡ PublishFault.NoMemory → result ≡ StoreFault.Store }
         ensures refused { fault ≢ PublishFault.NoMemory
@@ -90,7 +90,7 @@ impl StoreFault {
         }
     }
 
-    /// The number by which it is printed.
+    /// Returns its printed number.
     pub fn number(self) -> u8
         ensures { result ≡ store_number self }
     {
@@ -108,7 +108,7 @@ impl StoreFault {
     }
 }
 
-/// The number by which a file's fault is printed.
+/// Returns the printed number of a file's fault.
 pub fn kind_number(what: FaultKind) -> u8
     ensures { result ≡ kind_number what }
 {

@@ -12,34 +12,34 @@ ghost use Rattle.office_model.specs.Runs.{Exchange, QuietRun, RunWith};
 ghost use Rattle.office_model.specs.Step.{Steps, step};
 ghost use Rattle.office_model.specs.Views.{view_of};
 
-/// A candidate's command changes nothing, and its answer is a function of her view.
+/// A candidate's command changes nothing, and its answer is a function of their view.
 pub fn told_by_view()
     ensures { (s : ℕ) (office : OfficeState) (command : PlainCommand)
         → step office (Cand s) command ≡ (office, answer_to s command (view_of s office)) }
 {}
 
-/// Two offices that agree on a candidate's view answer each of her commands alike.
+/// Two offices with the same view of a candidate give the same answers to all of their commands.
 pub fn same_view_same_answer()
     ensures { (s : ℕ) (one other : OfficeState) (command : PlainCommand)
         → view_of s one ≡ view_of s other
         → (step one (Cand s) command).1 ≡ (step other (Cand s) command).1 }
 {}
 
-/// A quiet request leaves the view as it was.
+/// A quiet request doesn't change the view.
 pub fn quiet_step()
     ensures { (s : ℕ) (old new : OfficeState) (caller : Caller) (command : PlainCommand)
         (answer : PlainAnswer) → Steps old caller command answer new
         → IsQuiet s old command answer → view_of s new ≡ view_of s old }
 {}
 
-/// So do quiet requests in a row.
+/// Quiet requests in a row don't change the view.
 pub fn quiet_run()
     ensures { (s : ℕ) (old new : OfficeState) (requests : List Exchange)
         → QuietRun s old requests new → view_of s new ≡ view_of s old }
 {}
 
-/// Two runs from one office that make the same changes to a candidate, in the same order, leave her
-/// equal views.
+/// Two runs from one office that make the same changes to a candidate, in the same order, lead to
+/// equal views of the candidate.
 pub fn same_changes_same_view()
     ensures { (s : ℕ) (changes : List Change) (old one other : OfficeState)
         (first second : List Exchange) → RunWith s changes old first one

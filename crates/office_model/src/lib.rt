@@ -1,5 +1,5 @@
-//! The office as it is meant: its state, what each command makes of it, what a candidate sees of
-//! it. It knows no database.
+//! The definition of the office: its state, the effect of each command, and what a candidate sees.
+//! It has no database.
 #![tactic(auto)]
 
 mod counts;

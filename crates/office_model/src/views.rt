@@ -1,4 +1,4 @@
-// What a candidate is shown of the office.
+// What a candidate sees of the office.
 ghost use Rattle.std.specs.Prelude.{◌≡◌, ◌==◌, IfOk, Option, map};
 ghost use Rattle.std.specs.Prelude.{option_and_then, option_map};
 ghost use Rattle.std.specs.List.{list_any};
@@ -27,18 +27,18 @@ pub struct ShownPlace {
     pub room: RoomNo,
 }
 
-/// One of a candidate's exams: one where she is enrolled or has a seat.
+/// One of a candidate's exams: one in which they are enrolled or have a seat.
 #[derive(Clone, Copy, Debug, PartialEq, Eq)]
 pub struct ViewRow {
     pub exam: ExamNo,
     pub enrolled: bool,
-    /// Where it is published, if there is a publication.
+    /// Its published place, if there is a publication.
     pub at: Option<ShownPlace>,
     pub seat: Option<u32>,
 }
 
-/// What a candidate is shown: her number, her exams by their numbers, and what the periods of
-/// those where she has a seat cost her.
+/// What a candidate sees: their number, their exams by number, and the cost of the periods of those
+/// in which they have a seat.
 #[derive(Drop)]
 pub struct CandidateView {
     student: StudentNo,
@@ -59,7 +59,7 @@ impl Model for CandidateView {
 }
 
 impl CandidateView {
-    /// The view of these parts.
+    /// Returns the view with these parts.
     pub fn new(student: StudentNo, rows: Vec<ViewRow>, personal: PersonalParts) -> CandidateView
         ensures { result ≡ record {
           student = student;
@@ -74,21 +74,21 @@ impl CandidateView {
         }
     }
 
-    /// Whose view it is.
+    /// Returns the candidate's number.
     pub fn student(&self) -> StudentNo
         ensures { result ≡ self.now.student }
     {
         self.student
     }
 
-    /// Her exams, by their numbers.
+    /// Returns the candidate's exams, by number.
     pub fn rows(&self) -> &[ViewRow]
         ensures { result.now ≡ self.now.exams }
     {
         &self.rows
     }
 
-    /// What her exams with a seat cost her.
+    /// Returns the cost of the candidate's exams with a seat.
     pub fn personal(&self) -> PersonalParts
         ensures { result ≡ self.now.personal }
     {
@@ -96,9 +96,9 @@ impl CandidateView {
     }
 }
 
-/// A candidate's exams as she is shown them: those where she is enrolled or has a seat, by their
-/// numbers. `enrolled` are the exams where she is enrolled, `places` the published places of
-/// these, and `seats` her seat rows.
+/// Returns the exams in a candidate's view: those in which they are enrolled or have a seat, by
+/// number. `enrolled` are the exams in which they are enrolled, `places` the published places of
+/// these, and `seats` their seat rows.
 pub fn view_rows(
     alloc: Global,
     instance: &Instance,
@@ -114,7 +114,7 @@ pub fn view_rows(
     rows_of(alloc, instance, enrolled, places, seats, &exams)
 }
 
-// The rows of these exams, in their order.
+// Returns the rows of these exams, in their order.
 fn rows_of(
     alloc: Global,
     instance: &Instance,
@@ -132,7 +132,7 @@ fn rows_of(
         .collect(alloc)
 }
 
-// The exams of her enrolments and of her seats together, ascending, each once.
+// Returns the exams of a candidate's enrolments and of their seats together, ascending, each once.
 fn her_exams(
     alloc: Global,
     enrolled: &[ExamNo],
@@ -147,7 +147,7 @@ fn her_exams(
     Ok(in_order(exams))
 }
 
-// The exams in order, each once.
+// Returns the exams in order, each once.
 fn in_order(mut exams: Vec<ExamNo>) -> Vec<ExamNo>
     ensures { result.items ≡ ascending exams.items }
 {
@@ -156,7 +156,8 @@ fn in_order(mut exams: Vec<ExamNo>) -> Vec<ExamNo>
     exams
 }
 
-// One of her exams: whether she is enrolled, where it is published, and her seat.
+// Returns one of a candidate's exams: whether they are enrolled, its published place, and their
+// seat.
 fn view_row(
     instance: &Instance,
     enrolled: &[ExamNo],
@@ -181,7 +182,7 @@ fn is_among(exams: &[ExamNo], exam: ExamNo) -> bool
     exams.contains(&exam)
 }
 
-// Where her seat in an exam is; without one the place that is known.
+// Returns the place of a candidate's seat in an exam; without a seat the known place.
 fn published_at(places: &[(ExamNo, Place)], seats: &[SeatRow], exam: ExamNo) -> Option<Place>
     ensures { result ≡ place_of_seat (seat_in seats.now exam) (place_in places.now exam) }
 {
@@ -212,14 +213,14 @@ fn place_in(places: &[(ExamNo, Place)], exam: ExamNo) -> Option<Place>
     Some(found.1)
 }
 
-// Her seat's number in an exam, if she has a seat there.
+// Returns the number of a candidate's seat in an exam, if they have one there.
 fn seat_number(seats: &[SeatRow], exam: ExamNo) -> Option<u32>
     ensures { result ≡ option_map (λ row. row.seat) (seat_in seats.now exam) }
 {
     Some(seat_in(seats, exam)?.seat)
 }
 
-// A place with the day and the time of its period, if there is such a period.
+// Returns a place with the day and the time of its period, if there is such a period.
 fn shown_place(instance: &Instance, place: Option<Place>) -> Option<ShownPlace>
     ensures { result ≡ option_and_then (shown_place instance.now.periods) place }
 {
