@@ -67,7 +67,7 @@ module _ {X : Type 0} (p : X → Bool) where
       IsPermutation-keeps xs (Alike xs) (IsPermutation-refl (filter p xs))
       (λ zs i j lt within h. chained xs zs (swap zs i j) h (swapped zs i j lt within)) ys moved
 
--- what is filtered after a map was filtered before it
+-- filtering after a map is filtering before it
 pub filter-map : {X Y : Type 0} (p : Y → Bool) (f : X → Y) (xs : List X)
     → filter p (map f xs) ≡ map f (filter (λ x. p (f x)) xs)
 filter-map p f [] = refl

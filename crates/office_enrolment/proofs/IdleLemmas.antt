@@ -53,7 +53,7 @@ idle_enrolled (change ∷ changes) E n up few idle =
     ∙ idle_enrolled changes E next up few first.1
     ∙ ap (λ k. enrolled [] E (record n { unchanged = k })) long
 
--- none of them acts in file order either
+-- then none of them acts in file order either
 pub idle_acting : (changes : List Change) (E : Enrolled) → Ascend E
     → list_any (acts_on E) changes ≡ false → acting changes E ≡ []
 idle_acting [] E up idle = refl
@@ -64,7 +64,7 @@ idle_acting (change ∷ changes) E up idle =
     ∙ ap (acting changes) (line_again change E up first.0)
     ∙ idle_acting changes E up first.1
 
--- where one acts on the enrolments before, one acts in file order
+-- if a line acts on the enrolments before, one acts in file order
 pub some_acting : (changes : List Change) (E : Enrolled) → Ascend E
     → list_any (acts_on E) changes ≡ true → acting changes E ≢ []
 some_acting [] E up some = absurd cc
@@ -78,7 +78,7 @@ some_acting (change ∷ changes) E up some =
           (sym (ap (acting changes) (line_again change E up idle)) ∙ none)
     ] refl some
 
--- a batch of which no line acts leaves the enrolments
+-- a batch without acting lines doesn't change the enrolments
 pub idle_batch : (changes : List Change) (E : Enrolled) → AreEnrolments E
     → list_all (names_exam E) changes ≡ true → list_any (acts_on E) changes ≡ false
     → after_batch changes E ≡ Ok (idle_counts changes, E)
@@ -88,7 +88,7 @@ idle_batch changes E is exist idle =
     ∙ idle_enrolled changes E no_counts (they_ascend E is) is.pairs idle
     ∙ ap (λ k. enrolled [] E (record { added = 0; dropped = 0; unchanged = k })) long
 
--- ---- what such a batch made
+-- ---- the result of such a batch
 
 pub unchanged_is : (changes : List Change) (counts : Counts) (made : Option Enrolled) (E : Enrolled)
     → counts ≡ idle_counts changes → made ≡ None
@@ -97,7 +97,7 @@ pub unchanged_is : (changes : List Change) (counts : Counts) (made : Option Enro
 unchanged_is changes counts made E none copied =
     ap (λ n. Ok (n, E)) (sym none) ∙ ap (λ m. Ok (counts, latest m E)) (sym copied)
 
--- there is a copy where a line acts
+-- there is a copy if a line acts
 pub copied_if : (made : Result AfterBatch StoreFault) (changes : List Change) (E : Enrolled)
     → IfOk made (λ m. m.enrolments ≢ None)
     → IfOk made (λ m. m.acting.items ≡ acting changes E) → acting changes E ≢ []

@@ -1,4 +1,4 @@
--- What enrolments keep where one pair comes or goes.
+-- What stays true of enrolments if one pair is added or removed.
 use Rattle.std.proofs.Common.{◌≡◌, ◌∙◌, ℕ, ◌+◌, ◌<◌, ◌≤◌, true, false, List, [], ◌∷◌, length, set, get_or-set_other, get_or-set_same, sym, inl, inr, arith, subst}
 use Rattle.std.specs.Prelude.{◌==◌, ◌||◌, not}
 use Rattle.std.proofs.lemmas.Bool.{and_parts, cases_eq, cases_lt, ne_eqb}
@@ -10,7 +10,7 @@ use Rattle.exam_model.specs.Enrolments.{Enrolled, AreEnrolments, AreNumbers, IsA
 use Rattle.exam_model.proofs.StudentLemmas.{ascending-none, ascending-with, ascending-without, has-with, has-without}
 use Rattle.office_enrolment.proofs.PairRowLemmas.{with_again, with_new, without_again}
 
--- the students of each exam ascend, and those of no exam
+-- the students of each exam are ascending, also for an exam that doesn't exist
 abbrev pub Ascend : Enrolled → Type 0
 Ascend E = (e : ℕ) → IsAscending (students E e)
 
@@ -30,7 +30,7 @@ pub no_pair_again : (E : Enrolled) (s e : ℕ) → Ascend E → has E s e ≡ fa
 no_pair_again E s e up absent =
     rw (without_again s (students E e) (up e) absent) (set-get_or E e [])
 
--- a new pair is one more
+-- a new pair raises the count by one
 pub one_more_pair : (E : Enrolled) (s e : ℕ) → e < length E → has E s e ≡ false
     → pair_count (with_pair E s e) ≡ pair_count E + 1
 one_more_pair E s e lt absent =
@@ -39,9 +39,9 @@ one_more_pair E s e lt absent =
     let longer = length_permutation (s ∷ xs) (with_student s xs) (with_new s xs absent) in
     omega arith
 
--- ---- what every value of the type keeps
+-- ---- the invariant of the type
 
--- of each exam's students, where one exam has others
+-- a fact about each exam's students, if one exam gets others
 at_each : (E : Enrolled) (e f : ℕ) (new : List ℕ) (P : List ℕ → Type 0) → P new → P (students E f)
     → P (students (set E e new) f)
 at_each E e f new P one other = elim (cases_lt e (length E)) [

@@ -1,4 +1,4 @@
--- What lines do, one after another.
+-- The effects of lines, one after another.
 use Rattle.std.proofs.Common.{◌≡◌, ◌∙◌, ◌+◌, ◌<◌, ◌≤◌, Bool, true, false, List, [], ◌∷◌, length, Ok, Err, refl, ap, sym, arith, subst, if◌then◌else◌}
 use Rattle.std.specs.Prelude.{not, nat_le}
 use Rattle.std.specs.List.{AllByRecursion, list_all}
@@ -70,7 +70,7 @@ line_kept change E known few is =
       | false ↦ λ within. enrolments_without E s e within is
     ] few
 
--- it is counted once
+-- each line is counted once
 pub line_counted : (change : Change) (E : Enrolled) (n : Counts)
     → lines_in (counted change E n) ≡ lines_in n + 1
 line_counted change E n =
@@ -86,7 +86,7 @@ line_counted change E n =
       | false ↦ omega arith
     ]
 
--- a new pair where there are as many as there may be
+-- a new pair if the pairs are at their limit
 pub line_full : (change : Change) (E : Enrolled) → change.add ≡ true → change.exam < length E
     → has E change.student change.exam ≡ false → pair_count E ≡ 200000
     → after_line change E ≡ Err TooMany
@@ -102,7 +102,7 @@ line_full change E adds lt absent full =
 
 -- ---- all lines
 
--- where all were accepted, the first was, and those behind it
+-- if all lines were accepted, the first was, and those after it
 pub accepted_first : (change : Change) (changes : List Change) (E : Enrolled) (n : Counts)
     (done : Counts × Enrolled) → enrolled (change ∷ changes) E n ≡ Ok done
     → (pair_count (after_change change E) ≤ 200000)
@@ -116,7 +116,7 @@ accepted_first change changes E n done is =
       | false ↦ λ many later. absurd (cc later)
     ] refl is
 
--- accepted: each exam is there, and no line made too many pairs
+-- accepted: each exam exists, and no line made too many pairs
 pub accepted : (changes : List Change) (E : Enrolled) (done : Counts × Enrolled)
     → after_batch changes E ≡ Ok done
     → (list_all (names_exam E) changes ≡ true) × (enrolled changes E no_counts ≡ Ok done)
@@ -156,7 +156,7 @@ all_counted (change ∷ changes) E n done is =
     let one = line_counted change E n in
     omega arith
 
--- the student of each line has a number that can be
+-- the student number of each line is within its limit
 abbrev pub HaveNumbers : List Change → Type 0
 HaveNumbers changes = AllByRecursion (λ (c : Change). c.student ≤ 999999999) changes
 

@@ -165,7 +165,7 @@ module _ (number : ℕ) (bytes : List ℕ) (small : number ≤ 999999999)
         | false ↦ λ other. absurd (cc other)
       ] gives
 
--- what a batch that was read leaves of an office is one
+-- the office after a batch that was read is an office
 pub office_after : (number : ℕ) (bytes : List ℕ) (read : Result (List Change) FileFault)
     (old new : OfficeState) (counts : Counts) → number ≤ 999999999
     → ((changes : List Change) → read ≡ Ok changes → (length bytes ≤ 1048576) × HaveNumbers changes)

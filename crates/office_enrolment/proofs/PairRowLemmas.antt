@@ -1,4 +1,4 @@
--- The list of all pairs where one pair comes or goes.
+-- The list of all pairs if one pair is added or removed.
 use Rattle.std.proofs.Common.{◌≡◌, ◌≢◌, ◌∙◌, ℕ, zero, suc, ◌+◌, ◌<◌, Bool, true, false, List, [], ◌∷◌, ◌++◌, filter, length, refl, ap, ap₂, sym, inl, inr, arith, subst}
 use Rattle.std.specs.Prelude.{◌==◌, ◌||◌, ◌&&◌, not, IsPermutation}
 use Rattle.std.proofs.lemmas.Bool.{eq-eqb, ne_eqb, cases_eq, or_parts}
@@ -13,7 +13,7 @@ use Rattle.office_enrolment.proofs.FilterLemmas.{filter-map}
 
 -- ---- one exam's students
 
--- who is there is put in once: the list stays
+-- adding a student who is there doesn't change the list
 pub with_again : (s : ℕ) (xs : List ℕ) → IsAscending xs → has_number xs s ≡ true
     → with_student s xs ≡ xs
 with_again s xs up is =
@@ -26,7 +26,7 @@ with_again s xs up is =
       | inr other ↦ rw (ne_eqb s t other) refl
     ]
 
--- who isn't there can't go: the list stays
+-- removing a student who isn't there doesn't change the list
 pub without_again : (s : ℕ) (xs : List ℕ) → IsAscending xs → has_number xs s ≡ false
     → without_student s xs ≡ xs
 without_again s xs up isnt =
@@ -40,7 +40,7 @@ without_again s xs up isnt =
       | inr other ↦ rw (ne_eqb s t other) refl
     ]
 
--- who is new comes in beside all others
+-- a new student is added to all others
 pub with_new : (s : ℕ) (xs : List ℕ) → has_number xs s ≡ false
     → IsPermutation (s ∷ xs) (with_student s xs)
 with_new s [] isnt = IsPermutation-refl (s ∷ [])
@@ -58,7 +58,7 @@ with_new s (u ∷ us) isnt =
 abbrev pair : ℕ → ℕ → Pair
 pair e s = record { exam = e; student = s }
 
--- a pair that is new comes in beside all others
+-- a new pair is added to all others
 pub pairs-with : (s e f k : ℕ) (E : Enrolled) → e ≡ f + k → k < length E → has E s k ≡ false
     → IsPermutation (pair e s ∷ pairs_from f E) (pairs_from f (with_pair E s k))
 pairs-with s e f k [] is lt isnt = absurd (omega arith)
@@ -100,7 +100,7 @@ others_at s e f (x ∷ xs) apart =
     rw (ne_eqb f e apart, and_false (x == s))
     (ap (λ (ps : List Pair). pair f x ∷ ps) (others_at s e f xs apart))
 
--- so are those of greater exams
+-- the pairs of greater exams are others
 others_from : (s e f : ℕ) (E : Enrolled) → e < f
     → filter (is_other s e) (pairs_from f E) ≡ pairs_from f E
 others_from s e f [] lt = refl
@@ -119,7 +119,7 @@ own_at s e xs =
     same : (t : ℕ) → not ((t == s) && (e == e)) ≡ not (t == s)
     same t = rw (eq-eqb e e refl, and_true (t == s)) refl
 
--- a pair that goes leaves all others
+-- removing a pair leaves all others
 pub pairs-without : (s e f k : ℕ) (E : Enrolled) → e ≡ f + k
     → filter (is_other s e) (pairs_from f E) ≡ pairs_from f (without_pair E s k)
 pairs-without s e f k [] is = refl

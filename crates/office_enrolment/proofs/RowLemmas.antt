@@ -22,7 +22,7 @@ module _ {X : Type 0} (kind : RowKind X) where
   abbrev pub rows_of : Enrolled → List X
   rows_of E = map kind.row (pairs_of E)
 
-  -- a row comes for a new pair
+  -- a row is added for a new pair
   row_comes : (s e : ℕ) (E : Enrolled) (rows : List X) → e < length E → has E s e ≡ false
       → IsPermutation rows (rows_of E)
       → IsPermutation (kind.row (record { exam = e; student = s }) ∷ rows)
@@ -34,7 +34,7 @@ module _ {X : Type 0} (kind : RowKind X) where
       (IsPermutation-map kind.row (p ∷ pairs_of E) (pairs_of (with_pair E s e))
       (pairs-with s e 0 e E (omega arith) lt absent))
 
-  -- a row goes with its pair
+  -- a row is removed with its pair
   row_goes : (s e : ℕ) (E : Enrolled) (rows : List X) → IsPermutation rows (rows_of E)
       → IsPermutation (filter (λ r. not (kind.is_of s e r)) rows) (rows_of (without_pair E s e))
   row_goes s e E rows are =
@@ -63,7 +63,7 @@ module _ {X : Type 0} (kind : RowKind X) where
         | false ↦ λ there. row_goes s e E rows are
       ] does
 
-  -- the lines that act make of the rows what all lines make of the enrolments
+  -- the acting lines change the rows as all lines change the enrolments
   pub rows_after : (changes : List Change) (E : Enrolled) (rows : List X) → Ascend E
       → list_all (names_exam E) changes ≡ true → IsPermutation rows (rows_of E)
       → IsPermutation (after_rows kind (acting changes E) rows) (rows_of (after_changes changes E))
@@ -86,7 +86,7 @@ module _ {X : Type 0} (kind : RowKind X) where
             (subst (λ G. IsPermutation rows (rows_of G)) (sym (line_again change E up idle)) are)
       ] refl
 
-  -- so it is where they are accepted
+  -- the same for accepted lines
   pub rows_after_batch : (changes : List Change) (E : Enrolled) (done : Counts × Enrolled)
       (rows : List X) → AreEnrolments E → after_batch changes E ≡ Ok done
       → IsPermutation rows (rows_of E)

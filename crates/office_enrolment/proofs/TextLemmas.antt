@@ -1,4 +1,5 @@
--- A text spells no more changes than it has bytes, and each of a student whose number can be.
+-- A text describes at most as many changes as it has bytes, each of a student number within its
+-- limit.
 use Rattle.std.proofs.Common.{◌≡◌, ℕ, zero, suc, ◌+◌, ◌-◌, ◌≤◌, Bool, true, false, List, [], ◌∷◌, length, map, Option, Some, None, Result, Ok, Err, refl, ap, arith, if◌then◌else◌}
 use Rattle.std.specs.Prelude.{nat_le}
 use Rattle.std.specs.List.{AllByRecursion}
@@ -56,7 +57,7 @@ few_changes b changes text =
     (λ (c : Change). let read : Result Change FaultKind = Ok c in read) in
     omega arith
 
--- ---- whose
+-- ---- the students
 
 at_most-within : (limit n m : ℕ) → at_most limit n ≡ Ok m → m ≤ limit
 at_most-within limit n m is =
@@ -76,7 +77,7 @@ number-within limit text n is =
       | false ↦ λ said. absurd (cc said)
     ] is
 
--- the change of these three fields, where nothing stands behind them
+-- the change of these three fields, if nothing follows them
 abbrev made : Result ℕ FaultKind → Result ℕ FaultKind → Result Bool FaultKind → Bool
     → Result Change FaultKind
 made students exams actions three = do

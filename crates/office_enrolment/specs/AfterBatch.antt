@@ -1,4 +1,4 @@
--- What a batch makes of enrolments: one line, all lines, and those that act.
+-- The effect of a batch on enrolments: of one line, of all lines, and of those that act.
 use Rattle.std.specs.Prelude.{◌≡◌, ℕ, ◌+◌, ◌⊎◌, Bool, nat_lt, nat_le, if◌then◌else◌, List, [], ◌∷◌, length, Option, Some, None, Result, Ok, Err}
 use Rattle.std.specs.List.{list_all}
 use Rattle.exam_terms.specs.Refusing.{◌>>=◌, unless}
@@ -12,24 +12,24 @@ use Rattle.office_model.specs.declared.fault.Refusal.TheVariants as refusal
 use Rattle.office_model.specs.declared.fault.StoreFault.{StoreFault}
 use Rattle.office_model.specs.declared.fault.StoreFault.TheVariants.{Refused, Store, TooMany}
 
--- whether a line names an exam that is there
+-- whether a line names an exam that exists
 abbrev pub names_exam : Enrolled → Change → Bool
 names_exam E change = nat_lt change.exam (length E)
 
--- the enrolments after a line, refused where there would be too many pairs
+-- the enrolments after a line, refused if there would be too many pairs
 abbrev pub after_line : Change → Enrolled → Result Enrolled StoreFault
 after_line change E = do
   _ ← unless (nat_le (pair_count (after_change change E)) MAX_PAIRS) TooMany
   Ok (after_change change E)
 
--- what a batch makes of enrolments, with what its lines did: refused where any of them names an
--- exam that isn't there, before the first acts; then at the first that makes too many pairs
+-- the enrolments after a batch, with the counts of its lines: refused if any of them names an exam
+-- that doesn't exist, before the first acts; then at the first that makes too many pairs
 abbrev pub after_batch : List Change → Enrolled → Result (Counts × Enrolled) StoreFault
 after_batch changes E = do
   _ ← unless (list_all (names_exam E) changes) (Refused (refusal.Edit NoSuch))
   enrolled changes E no_counts
 
--- the lines that change something when they come, in file order
+-- the lines that change something at their turn, in file order
 abbrev pub acting : List Change → Enrolled → List Change
 acting [] E = []
 acting (change ∷ changes) E =
@@ -40,12 +40,12 @@ acting (change ∷ changes) E =
 abbrev pub acts_on : Enrolled → Change → Bool
 acts_on E change = acts change E
 
--- the enrolments that were made, or if none were, those of before
+-- the new enrolments, or the old ones if there are none
 abbrev pub latest : Option Enrolled → Enrolled → Enrolled
 latest (Some E) before = E
 latest None before = before
 
--- what lines count of which none acts
+-- the counts of lines of which none acts
 abbrev pub idle_counts : List Change → Counts
 idle_counts changes = record { added = 0; dropped = 0; unchanged = length changes }
 
@@ -53,6 +53,6 @@ idle_counts changes = record { added = 0; dropped = 0; unchanged = length change
 abbrev pub lines_in : Counts → ℕ
 lines_in n = n.added + n.dropped + n.unchanged
 
--- a call answers this fault for such a judgement: its refusal, or out of memory in its place
+-- a call returns this fault for such a judgement: its refusal, or out of memory instead
 abbrev pub Refuses : {A : Type 0} → Result A StoreFault → StoreFault → Type 0
 Refuses judged fault = (judged ≡ Err fault) ⊎ (fault ≡ Store)

@@ -10,20 +10,20 @@ use Rattle.office_model.specs.declared.counts.Counts.{Counts}
 use Rattle.office_model.specs.declared.fault.StoreFault.TheVariants.{TooMany}
 use Rattle.office_enrolment.specs.AfterBatch.{after_batch}
 
--- the records with other enrolments and one batch more, with what it counted
+-- the records with other enrolments and one more batch, with its counts
 abbrev pub records_with_batch : ℕ → List ℕ → Records → Counts × Enrolled → Records
 records_with_batch number bytes r done = record r {
   enrolments = done.1;
   batches = record { no = number; bytes = bytes; counts = done.0 } ∷ r.batches;
 }
 
--- refused where as many batches are kept as may be
+-- refused if the number of kept batches is at its limit
 abbrev pub batch_kept : ℕ → List ℕ → Records → Counts × Enrolled → Gives Counts
 batch_kept number bytes r done = do
   _ ← unless (nat_lt (length r.batches) MAX_BATCHES) TooMany
   Ok (done.0, Some (records_with_batch number bytes r done))
 
--- a batch that is new is judged by its lines, and then kept
+-- a new batch is judged by its lines, and then kept
 abbrev pub batch_judged : ℕ → List ℕ → List Change → Records → Gives Counts
 batch_judged number bytes changes r = do
   done ← after_batch changes r.enrolments

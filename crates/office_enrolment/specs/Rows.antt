@@ -1,4 +1,4 @@
--- What acting lines make of rows, where each pair has one.
+-- The effect of acting lines on rows, if each pair has one.
 use Rattle.std.specs.Prelude.{◌≡◌, ℕ, Bool, not, if◌then◌else◌, List, [], ◌∷◌, filter, refl}
 use Rattle.exam_model.specs.Pairs.{Pair, is_pair}
 use Rattle.exam_model.specs.declared.change.Change.{Change}
@@ -17,7 +17,7 @@ pair_rows = record { row = λ p. p; is_of = is_pair; tells = λ s e p. refl }
 abbrev pub pair_of : Change → Pair
 pair_of change = record { exam = change.exam; student = change.student }
 
--- the rows after a line that acts: its row comes to the front, or goes
+-- the rows after an acting line: its row is added at the front, or removed
 abbrev pub after_row : {X : Type 0} → RowKind X → Change → List X → List X
 after_row kind change rows =
     if change.add then kind.row (pair_of change) ∷ rows

@@ -1,4 +1,4 @@
-// A batch of changes, carried out on enrolments.
+// A batch of changes, applied to enrolments.
 ghost use Rattle.std.specs.Prelude.{◌≡◌, ◌≢◌, ◌<◌, ◌≤◌, ◌↔◌, ◌++◌, [], ◌∷◌, length, true, None};
 ghost use Rattle.std.specs.Prelude.{IfErr, IfOk, IfSome, OnOk, Ok};
 ghost use Rattle.std.specs.List.{list_all, list_any};
@@ -13,20 +13,20 @@ use exam_model::{Change, Enrolments, ModelFault};
 use office_model::{Counts, Refusal, StoreFault};
 use std::alloc::{AllocError, Global};
 
-/// What a batch made of enrolments.
+/// The result of a batch.
 #[derive(Debug, Drop)]
 pub struct AfterBatch {
-    /// The enrolments after all lines. `None`: no line acted, and they are as they were.
+    /// The enrolments after all lines. `None`: no line acted, and they are unchanged.
     pub enrolments: Option<Enrolments>,
-    /// What the lines did.
+    /// The counts of what the lines did.
     pub counts: Counts,
     /// The lines that added a pair or dropped one, in file order.
     pub acting: Vec<Change>,
 }
 
-/// Carries out a batch on a copy of the enrolments, its lines in file order; if no line acts, there
-/// is no copy. `Refused`: a line names an exam that isn't there; then `TooMany`: at some line there
-/// would be more than 200,000 pairs. `Store` comes where memory is refused.
+/// Applies a batch to a copy of the enrolments, its lines in file order; if no line acts, there is
+/// no copy. `Refused`: a line names an exam that doesn't exist; then `TooMany`: at some line there
+/// would be more than 200,000 pairs. `Store`: out of memory.
 pub fn after_batch(
     alloc: Global,
     enrolments: &Enrolments,
@@ -49,7 +49,7 @@ pub fn after_batch(
     carry_out_all(alloc, enrolments, changes)
 }
 
-// Whether each line names an exam that is there.
+// Returns whether each line names an exam that exists.
 fn name_exams(enrolments: &Enrolments, changes: &[Change]) -> bool
     ensures all { result ≡ list_all (names_exam enrolments.now) changes.now }
     ensures kept { AreEnrolments enrolments.now }
@@ -58,7 +58,7 @@ fn name_exams(enrolments: &Enrolments, changes: &[Change]) -> bool
     changes.iter().all(|change| change.exam.get() < exams)
 }
 
-// Whether any line acts on these enrolments.
+// Returns whether any line acts on these enrolments.
 fn any_acts(enrolments: &Enrolments, changes: &[Change]) -> bool
     requires exams { list_all (names_exam enrolments.now) changes.now ≡ true }
     ensures { result ≡ list_any (acts_on enrolments.now) changes.now }
@@ -71,7 +71,7 @@ fn any_acts(enrolments: &Enrolments, changes: &[Change]) -> bool
     false
 }
 
-// Whether a line acts on these enrolments.
+// Returns whether a line acts on these enrolments.
 fn has_effect(enrolments: &Enrolments, change: &Change) -> bool
     requires exam { change.now.exam < length enrolments.now }
     ensures { result ≡ acts_on enrolments.now change.now }
@@ -80,7 +80,7 @@ fn has_effect(enrolments: &Enrolments, change: &Change) -> bool
     if change.add { !is_there } else { is_there }
 }
 
-// What a batch makes of which no line acts.
+// Returns the result of a batch of which no line acts.
 fn unchanged(alloc: Global, changes: &[Change]) -> AfterBatch
     requires lines { length changes.now ≤ TEXT_BYTES }
     ensures enrolments { result.enrolments ≡ None }
@@ -98,7 +98,7 @@ fn unchanged(alloc: Global, changes: &[Change]) -> AfterBatch
     }
 }
 
-// Carries out lines on a copy of the enrolments, one after the other.
+// Applies lines to a copy of the enrolments, one after the other.
 fn carry_out_all(
     alloc: Global,
     enrolments: &Enrolments,
@@ -134,7 +134,7 @@ fn carry_out_all(
     })
 }
 
-// Carries out one line, and answers whether it acts.
+// Applies one line, and returns whether it acts.
 fn carry_out(enrolments: &mut Enrolments, change: &Change) -> Result<bool, StoreFault>
     requires exam { change.now.exam < length enrolments.old }
     ensures acts { IfOk result (λ has_acted. has_acted ≡ acts change.now enrolments.old) }
@@ -152,7 +152,7 @@ fn carry_out(enrolments: &mut Enrolments, change: &Change) -> Result<bool, Store
     }
 }
 
-// Counts one line more: as an add, a drop, or neither where it has not acted.
+// Counts one more line: as an add, a drop, or neither if it has not acted.
 fn count(counts: &mut Counts, change: &Change, has_acted: bool)
     requires { lines_in counts.old < TEXT_BYTES }
     ensures { (E : Enrolled) → has_acted ≡ acts change.now E
@@ -167,7 +167,7 @@ fn count(counts: &mut Counts, change: &Change, has_acted: bool)
     }
 }
 
-// Puts a line behind those before it.
+// Appends a line.
 fn add_line(lines: &mut Vec<Change>, change: &Change) -> Result<(), AllocError>
     ensures { OnOk result (lines.new.items ≡ lines.old.items ++ change.now ∷ []) }
 {

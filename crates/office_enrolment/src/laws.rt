@@ -19,8 +19,8 @@ ghost use Rattle.office_enrolment.specs.Rows.{after_rows, pair_rows};
 
 use office_batches::batch_readings_agree;
 
-/// A text spells no more changes than a text may have bytes, so that their counts fit in 32 bits;
-/// each line is counted once.
+/// A text describes at most as many changes as a text may have bytes, so that their counts fit in
+/// 32 bits; each line is counted once.
 pub fn lines_are_counted()
     ensures few { (b : List ℕ) (changes : List Change) → batch_in b ≡ Ok changes
         → length changes ≤ TEXT_BYTES }
@@ -30,15 +30,15 @@ pub fn lines_are_counted()
     batch_readings_agree();
 }
 
-/// The lines that act, taken to the list of pairs one after another, make it the list of the pairs
-/// after the batch, in some order.
+/// The acting lines, applied to the list of pairs one after another, turn it into the list of the
+/// pairs after the batch, in some order.
 pub fn rows_follow_lines()
     ensures { (changes : List Change) (E : Enrolled) (done : Counts × Enrolled) (rows : List Pair)
         → AreEnrolments E → after_batch changes E ≡ Ok done → IsPermutation rows (pairs_of E)
         → IsPermutation (after_rows pair_rows (acting changes E) rows) (pairs_of done.1) }
 {}
 
-/// The enrolments after a batch are the session's again.
+/// The enrolments after a batch are enrolments of the session's exams again.
 pub fn enrolled_again()
     ensures { (I : Session) (b : List ℕ) (changes : List Change) (E : Enrolled)
         (done : Counts × Enrolled) → AreEnrolled I E → batch_in b ≡ Ok changes
@@ -47,14 +47,14 @@ pub fn enrolled_again()
     batch_readings_agree();
 }
 
-/// A batch whose number isn't kept is judged by its lines, and then kept, where there is room.
+/// A batch whose number isn't kept is judged by its lines, and then kept, if there is room.
 pub fn newly_enrolled_by_lines()
     ensures { (number : ℕ) (bytes : List ℕ) (changes : List Change) (r : Records)
         → AreEnrolled r.session r.enrolments → newly_enrolled number bytes changes r
         ≡ batch_judged number bytes changes r }
 {}
 
-/// What an accepted batch leaves of an office is an office.
+/// The office after an accepted batch is an office.
 pub fn batch_leaves_an_office()
     ensures { (number : ℕ) (bytes : List ℕ) (old new : OfficeState) (counts : Counts)
         → number ≤ MAX_BATCH → IsOffice old → batch_enrolled number bytes old ≡ Ok (counts, new)
@@ -63,8 +63,7 @@ pub fn batch_leaves_an_office()
     batch_readings_agree();
 }
 
-/// What a step leaves of an office is an office, whatever is asked, whoever asks, and whatever is
-/// answered.
+/// The office after a step is an office, for each command, caller and answer.
 pub fn step_leaves_an_office()
     ensures { (old new : OfficeState) (caller : Caller) (command : PlainCommand)
         (answer : PlainAnswer) → IsOffice old → HasSmallNumbers command

@@ -1,5 +1,5 @@
-//! What a batch of changes makes of enrolments: those after it, what its lines did, and which of
-//! them acted.
+//! The effect of a batch of changes on enrolments: the enrolments after it, the counts of its
+//! lines, and the lines that acted.
 #![tactic(auto)]
 
 mod batch;

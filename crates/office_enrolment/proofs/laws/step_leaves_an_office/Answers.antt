@@ -7,7 +7,7 @@ use Rattle.office_model.specs.declared.counts.Counts.{Counts}
 use Rattle.office_model.proofs.OfficeLemmas.{Leaves, step_leaves}
 use Rattle.office_enrolment.proofs.laws.step_leaves_an_office.Goals as goal
 
--- an office stands after whatever is given, where one stands after each thing that may be
+-- the office after a result is an office, if it is one for each result
 each_leaves : (gives : Gives Counts)
     → ((counts : Counts) (new : OfficeState) → gives ≡ Ok (counts, new) → IsOffice new)
     → Leaves gives
