@@ -16,7 +16,7 @@ sends_items : {X : Type 0} (f : X → Data) (xs : List X) (first last new : Log)
 sends_items f [] first last new h e = subst (λ l. Logs l new seq_ends) h e
 sends_items f (x ∷ xs) first last new h e = (h.0, h.1, sends_items f xs h.0 last new h.2 e)
 
--- what sends each value in a sequence sends the array of them
+-- sending each value in a sequence sends the array of them
 pub sends_array : {X : Type 0} (f : X → Data) (xs : List X) (old new : Log)
     → WritesSeq (λ x. SendsValue (f x)) xs old new → SendsValue (array (items_of (map f xs))) old new
 sends_array f xs old new h = (

@@ -1,4 +1,4 @@
--- What is shown has whole numbers alone.
+-- All numbers shown are whole.
 use Rattle.std.proofs.Common.{◌≡◌, ℕ, false, List, [], ◌∷◌, map, length, Option, Some, None, refl}
 use Rattle.std.specs.List.{range_with_len}
 use Rattle.serde_json.specs.View.{items_of}

@@ -18,11 +18,11 @@ four_padded n =
     let short : 4 - length (decimal n) - 0 - 0 ≡ 4 - length (decimal n) = omega arith in
     rw (short, append-nil (decimal n))
 
--- what `{:02}` writes
+-- the text written for `{:02}`
 pub two_written : (n : ℕ) → styled_decimal (format_spec 32 0 4 2 (2 ^ 64 - 1)) n ≡ zero_padded 2 n
 two_written n = two_padded n
 
--- what `{:04}` writes
+-- the text written for `{:04}`
 pub four_written : (n : ℕ) → styled_decimal (format_spec 32 0 4 4 (2 ^ 64 - 1)) n ≡ zero_padded 4 n
 four_written n = four_padded n
 
@@ -30,7 +30,7 @@ regrouped : (sign : ℕ) (a b c : List ℕ)
     → a ++ (sign ∷ (b ++ (sign ∷ c))) ≡ a ++ (sign ∷ []) ++ b ++ (sign ∷ []) ++ c
 regrouped sign a b c = simp append_assoc
 
--- three numbers with a sign between them, behind nothing
+-- three numbers with a sign between them, appended to an empty text
 pub joined : (sign : ℕ) (empty a a2 b b2 c c2 : List ℕ) → empty ≡ [] → a ≡ a2 → b ≡ b2 → c ≡ c2
     → empty ++ (a ++ (sign ∷ (b ++ (sign ∷ c)))) ≡ a2 ++ (sign ∷ []) ++ b2 ++ (sign ∷ []) ++ c2
 joined sign empty a a2 b b2 c c2 none first second third =

@@ -1,4 +1,4 @@
--- What a candidate is shown, as JSON.
+-- A candidate's view, as JSON.
 use Rattle.std.specs.Prelude.{ℕ, Bool, true, false, List, map, codes, Option, Some, None, option_map}
 use Rattle.serde_json.specs.Data.{Data, null, string, array, object, member, no_members}
 use Rattle.serde_json.specs.Written.{compact_text}
@@ -8,7 +8,7 @@ use Rattle.serde_json.specs.View.{items_of}
 use Rattle.office_replies.specs.Views.{counted, or_null}
 use Rattle.office_replies.specs.DayTexts.{date_text, start_text}
 
--- a text, or null where there is none
+-- a text, or null if there is none
 abbrev pub text_or_null : Option (List ℕ) → Data
 text_or_null None = null
 text_or_null (Some text) = string text
@@ -19,8 +19,8 @@ state_text true (Some seat) = codes "seated"
 state_text true None = codes "pending"
 state_text false seat = codes "withdrawn"
 
--- one of her exams: the day, the place and the start are null where none is published, and the seat
--- is where she has none
+-- one of the candidate's exams: the date, the place and the start are null if it is not published,
+-- and the seat is null if they have none
 abbrev pub exam_data : ViewRow → Data
 exam_data row = object
     (member (codes "date") (text_or_null (option_map (λ at. date_text at.date) row.at))
@@ -31,29 +31,30 @@ exam_data row = object
     (member (codes "start") (text_or_null (option_map start_text row.at))
     (member (codes "state") (string (state_text row.enrolled row.seat)) no_members)))))))
 
--- a candidate: her number, her exams, and what they cost her
+-- a candidate: their number, their exams, and the cost of these
 abbrev pub candidate_data : ℕ → List ViewRow → PersonalPenalty → Data
 candidate_data s rows penalty = object
     (member (codes "candidate") (counted s)
     (member (codes "exams") (array (items_of (map exam_data rows)))
     (member (codes "penalty") (counted (personal_total penalty)) no_members)))
 
--- what her exams cost her, and all of it together
+-- the cost of the candidate's exams, and its total
 abbrev pub cost_data : PersonalPenalty → Data
 cost_data penalty = object
     (member (codes "day") (counted penalty.day)
+    (member (codes "night") (counted penalty.night)
     (member (codes "penalty") (counted (personal_total penalty))
     (member (codes "row") (counted penalty.row)
-    (member (codes "spread") (counted penalty.spread) no_members))))
+    (member (codes "spread") (counted penalty.spread) no_members)))))
 
--- one exam of hers, as text
+-- one of the candidate's exams, as text
 abbrev pub exam_text : ViewRow → List ℕ
 exam_text row = compact_text (exam_data row)
 
--- her exams and what they cost her, as text
+-- the candidate's exams and the cost of these, as text
 abbrev pub candidate_text : ℕ → List ViewRow → PersonalPenalty → List ℕ
 candidate_text s rows penalty = compact_text (candidate_data s rows penalty)
 
--- what her exams cost her, as text
+-- the cost of the candidate's exams, as text
 abbrev pub cost_text : PersonalPenalty → List ℕ
 cost_text penalty = compact_text (cost_data penalty)

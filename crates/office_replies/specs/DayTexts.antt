@@ -3,7 +3,7 @@ use Rattle.std.specs.Prelude.{ℕ, ◌-◌, ◌++◌, List, length, replicate, c
 use Rattle.exam_calendar.specs.declared.date.Date.{Date}
 use Rattle.office_model.specs.declared.views.ShownPlace.{ShownPlace}
 
--- a number in at least so many digits, with zeros in front
+-- a number with at least this many digits, with zeros in front
 abbrev pub zero_padded : ℕ → ℕ → List ℕ
 zero_padded width n = replicate (width - length (decimal n)) 48 ++ decimal n
 

@@ -6,7 +6,7 @@ use Rattle.office_replies.specs.declared.objects.Says.{Says}
 use Rattle.office_replies.specs.declared.objects.Says.TheVariants.{Number, Word}
 use Rattle.office_replies.specs.declared.objects.TheConstants.{WORD_BYTES}
 
--- a key, and the text of what it says
+-- a key, and the text of its value
 pub record PlainMember : Type 0 where
   pub key : List ℕ
   pub says : List ℕ
@@ -23,11 +23,11 @@ number key n = record { key = key; says = decimal n }
 abbrev pub word : List ℕ → List ℕ → PlainMember
 word key w = record { key = key; says = quoted w }
 
--- a member as JSON has it: its key in quotes, a colon, what it says
+-- a member in JSON: its key in quotes, a colon, its value
 unfoldable pub member_text : PlainMember → List ℕ
 member_text m = quoted m.key ++ codes ":" ++ m.says
 
--- one more member, behind a comma
+-- one more member, after a comma
 abbrev pub further_text : PlainMember → List ℕ
 further_text m = codes "," ++ member_text m
 
@@ -52,7 +52,7 @@ abbrev pub IsShortSaid : Says → Type 0
 IsShortSaid (Number n) = Unit {0}
 IsShortSaid (Word w) = length w.now ≤ WORD_BYTES
 
--- so are a member's key and its word
+-- a member whose key and word are short
 pub record IsShort (m : Member) : Type 0 where
   pub key : length m.key.now ≤ WORD_BYTES
   pub says : IsShortSaid m.says

@@ -1,4 +1,4 @@
--- What each refusal of the office is as a reply.
+-- The reply to each refusal of the office.
 use Rattle.std.specs.Prelude.{ℕ, List, [], ◌∷◌, codes}
 use Rattle.exam_rules.specs.declared.breach.Breach.{Breach}
 use Rattle.exam_draft.specs.declared.fault.EditFault.{EditFault}
@@ -19,18 +19,18 @@ use Rattle.office_model.specs.declared.fault.StoreFault.{StoreFault}
 use Rattle.office_model.specs.declared.fault.StoreFault.TheVariants as fault
 use Rattle.office_replies.specs.Objects.{number, word, object_text}
 
--- a refusal with a name, and with what else it says
+-- a refusal with a name, and its other members
 abbrev pub broken_text : Breach → List ℕ
 broken_text b = object_text (word (codes "error") (codes "broken"))
     (number (codes "exam") b.exam ∷ number (codes "other") b.other
     ∷ word (codes "rule") (rule_name b.rule) ∷ [])
 
--- that an exam has no place
+-- an exam that has no place
 abbrev pub unplaced_text : ℕ → List ℕ
 unplaced_text e =
     object_text (word (codes "error") (codes "unplaced")) (number (codes "exam") e ∷ [])
 
--- what is wrong with a file, and in which line
+-- the fault of a file, and its line
 abbrev pub file_text : FileFault → List ℕ
 file_text f = object_text (word (codes "error") (codes "file"))
     (number (codes "fault") (kind_number f.what) ∷ number (codes "line") f.line ∷ [])
@@ -56,7 +56,7 @@ refused_reply (refusal.Edit f) = edit_reply f
 refused_reply (refusal.Publish f) = publish_reply f
 refused_reply (refusal.File f) = json_reply BadRequest (file_text f)
 
--- a refusal of a command; a failed statement is none
+-- the reply to a refusal of a command; a failed statement is no refusal
 abbrev pub fault_reply_of : StoreFault → PlainReply
 fault_reply_of fault.Loaded = error_reply error.Loaded
 fault_reply_of fault.NotLoaded = error_reply error.NotLoaded

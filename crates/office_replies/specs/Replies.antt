@@ -1,4 +1,4 @@
--- What each answer of the office is as a reply: a status and a body.
+-- The reply to each answer of the office: a status and a body.
 use Rattle.std.specs.Prelude.{ℕ, List, None}
 use Rattle.office_messages.specs.Reply.{PlainReply, json_reply}
 use Rattle.office_messages.specs.FixedReplies.{fault_reply, unavailable}
@@ -21,7 +21,7 @@ use Rattle.office_replies.specs.ChangeTexts.{loaded_text, owner_text, draft_pena
 abbrev pub text_reply : List ℕ → PlainReply
 text_reply text = record { status = Done; allow = None; content = Text; body = text }
 
--- what each answer is as a reply
+-- the reply to each answer
 abbrev pub reply_to : PlainAnswer → PlainReply
 reply_to (answer.my_exams s exams penalty) = json_reply Done (candidate_text s exams penalty)
 reply_to (answer.my_one exam) = json_reply Done (exam_text exam)
@@ -43,6 +43,6 @@ reply_to answer.long_body = fault_reply TooLong
 reply_to (answer.refused why) = fault_reply_of why
 reply_to answer.unavailable = unavailable
 
--- what a candidate is replied, by her view alone
+-- the reply to a candidate, by their view only
 abbrev pub view_text : ℕ → PlainCommand → View → PlainReply
 view_text s command view = reply_to (answer_to s command view)

@@ -1,4 +1,4 @@
--- What is shown of a draft, as JSON.
+-- A draft, as JSON.
 use Rattle.std.specs.Prelude.{ℕ, List, map, length, codes, Option, Some, None, option_map}
 use Rattle.std.specs.List.{range_with_len}
 use Rattle.serde_json.specs.Data.{Data, null, number, unsigned, array, object, member, no_members}
@@ -7,16 +7,16 @@ use Rattle.serde_json.specs.Written.{compact_text}
 use Rattle.exam_terms.specs.declared.place.Place.{Place}
 use Rattle.exam_model.specs.Timetable.{Placing, place_of}
 
--- a number as JSON has it
+-- a number in JSON
 abbrev pub counted : ℕ → Data
 counted n = number (unsigned n)
 
--- a number, or null where there is none
+-- a number, or null if there is none
 abbrev pub or_null : Option ℕ → Data
 or_null None = null
 or_null (Some n) = counted n
 
--- an exam and where it stands: null and null where it stands nowhere
+-- an exam and its place; period and room are null if it has none
 abbrev pub exam_data : ℕ → Option Place → Data
 exam_data e at = object
     (member (codes "exam") (counted e)
@@ -34,6 +34,6 @@ draft_data d T penalty = object
     (member (codes "exams") (array (items_of (exams_data T)))
     (member (codes "penalty") (counted penalty) no_members)))
 
--- a draft, where each exam stands and its penalty, as text
+-- a draft, the place of each exam and its penalty, as text
 abbrev pub draft_text : ℕ → Placing → ℕ → List ℕ
 draft_text d T penalty = compact_text (draft_data d T penalty)

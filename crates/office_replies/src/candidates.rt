@@ -1,4 +1,4 @@
-// What a candidate is shown.
+// The replies with a candidate's view.
 ghost use Rattle.std.specs.Prelude.{◌≡◌, IfOk, OnOk, map, option_map};
 ghost use Rattle.serde_json.specs.Data.{array};
 ghost use Rattle.serde_json.specs.Events.{SendsValue};
@@ -18,7 +18,7 @@ use office_model::{CandidateView, ShownPlace, ViewRow};
 use serde::{Described, Serialize, Serializer};
 use std::alloc::{AllocError, Global};
 
-// The body of the reply with all that a candidate is shown.
+// The body of the reply with a candidate's whole view.
 #[derive(Drop)]
 struct CandidateBody<'a>(&'a CandidateView);
 
@@ -26,11 +26,11 @@ struct CandidateBody<'a>(&'a CandidateView);
 #[derive(Drop)]
 struct ExamBody(ViewRow);
 
-// The body of the reply with what a candidate's exams cost them.
+// The body of the reply with the cost of a candidate's exams.
 #[derive(Drop)]
 struct CostBody(PersonalParts);
 
-/// Returns the reply with what a candidate is shown: their exams, and what these cost them.
+/// Returns the reply with a candidate's view: their exams, and the cost of these.
 pub fn candidate_reply(alloc: Global, shown: &CandidateView) -> Result<Reply, AllocError>
     ensures { IfOk result (λ reply. plain_reply reply ≡ json_reply Done
         (candidate_text shown.now.student shown.now.exams shown.now.personal)) }
@@ -46,7 +46,7 @@ pub fn exam_reply(alloc: Global, row: ViewRow) -> Result<Reply, AllocError>
     written_reply(alloc, &ExamBody(row))
 }
 
-/// Returns the reply with what a candidate's exams cost them.
+/// Returns the reply with the cost of a candidate's exams.
 pub fn cost_reply(alloc: Global, personal: PersonalParts) -> Result<Reply, AllocError>
     ensures { IfOk result (λ reply.
         plain_reply reply ≡ json_reply Done (cost_text personal)) }
@@ -88,9 +88,11 @@ impl Described for CostBody {
 
 impl Serialize for CostBody {
     fn serialize<S: Serializer>(&self, out: &mut S) -> Result<(), S::Error> {
-        out.begin_map(Some(4))?;
+        out.begin_map(Some(5))?;
         out.key("day")?;
         out.u64(self.0.day())?;
+        out.key("night")?;
+        out.u64(self.0.night())?;
         out.key("penalty")?;
         out.u64(self.0.total())?;
         out.key("row")?;
@@ -148,7 +150,7 @@ fn send_date<S: Serializer>(at: Option<ShownPlace>, out: &mut S) -> Result<(), S
     }
 }
 
-// Sends when an exam at a place starts, or null if there is none.
+// Sends the start of an exam at a place, or null if there is none.
 fn send_start<S: Serializer>(at: Option<ShownPlace>, out: &mut S) -> Result<(), S::Error>
     ensures { OnOk result (SendsValue (text_or_null (option_map start_text at))
         (S.written out.old) (S.written out.new)) }

@@ -1,4 +1,4 @@
-// Replies to changes that were made: they take no memory but the room that was made before.
+// Replies to changes: they take no memory except the room allocated before the change.
 ghost use Rattle.std.specs.Prelude.{◌≡◌, ◌≤◌, vec_capacity};
 ghost use Rattle.office_messages.specs.Reply.{plain_reply, json_reply};
 ghost use Rattle.office_replies.specs.ChangeTexts.{dropped_text, enrolled_text, loaded_text, owner_text};
@@ -9,7 +9,7 @@ use exam_terms::ExamNo;
 use office_messages::{Reply, Status};
 use office_model::{Counts, Loaded, Published};
 
-/// The reply to a load: how much was loaded.
+/// Returns the reply to a load, with its counts.
 pub fn loaded_reply(room: Vec<u8>, loaded: Loaded) -> Reply
     requires { REPLY_ROOM ≤ vec_capacity room }
     ensures { plain_reply result ≡ json_reply Status.Created (loaded_text loaded) }
@@ -21,7 +21,7 @@ pub fn loaded_reply(room: Vec<u8>, loaded: Loaded) -> Reply
     object_reply(room, Status::Created, first, &[pairs, periods, rooms])
 }
 
-/// The reply where a department owns an exam now; 0 is none.
+/// Returns the reply to a change of an exam's owner; 0 is none.
 pub fn owner_reply(room: Vec<u8>, exam: ExamNo, dept: u32) -> Reply
     requires { REPLY_ROOM ≤ vec_capacity room }
     ensures { plain_reply result ≡ json_reply Status.Done (owner_text exam dept) }
@@ -35,7 +35,7 @@ pub fn owner_reply(room: Vec<u8>, exam: ExamNo, dept: u32) -> Reply
     )
 }
 
-/// The reply where a draft is new: its penalty.
+/// Returns the reply to a new draft, with its penalty.
 pub fn new_draft_reply(room: Vec<u8>, draft: u32, penalty: u64) -> Reply
     requires { REPLY_ROOM ≤ vec_capacity room }
     ensures { plain_reply result ≡ json_reply Status.Created (draft_penalty_text draft penalty) }
@@ -44,7 +44,7 @@ pub fn new_draft_reply(room: Vec<u8>, draft: u32, penalty: u64) -> Reply
     object_reply(room, Status::Created, first, &[number(b"penalty", penalty)])
 }
 
-/// The reply where a draft is edited: its penalty now.
+/// Returns the reply to an edit of a draft, with its penalty now.
 pub fn edited_reply(room: Vec<u8>, draft: u32, penalty: u64) -> Reply
     requires { REPLY_ROOM ≤ vec_capacity room }
     ensures { plain_reply result ≡ json_reply Status.Done (draft_penalty_text draft penalty) }
@@ -53,7 +53,7 @@ pub fn edited_reply(room: Vec<u8>, draft: u32, penalty: u64) -> Reply
     object_reply(room, Status::Done, first, &[number(b"penalty", penalty)])
 }
 
-/// The reply where a draft is gone.
+/// Returns the reply to the deletion of a draft.
 pub fn dropped_reply(room: Vec<u8>, draft: u32) -> Reply
     requires { REPLY_ROOM ≤ vec_capacity room }
     ensures { plain_reply result ≡ json_reply Status.Done (dropped_text draft) }
@@ -62,7 +62,8 @@ pub fn dropped_reply(room: Vec<u8>, draft: u32) -> Reply
     object_reply(room, Status::Done, first, &[])
 }
 
-/// The reply where a draft is published: the candidates whose seats changed, and its penalty.
+/// Returns the reply to a publication: the number of candidates whose seats changed, and its
+/// penalty.
 pub fn published_reply(room: Vec<u8>, draft: u32, published: Published) -> Reply
     requires { REPLY_ROOM ≤ vec_capacity room }
     ensures { plain_reply result ≡ json_reply Status.Done (published_text draft published) }
@@ -73,7 +74,7 @@ pub fn published_reply(room: Vec<u8>, draft: u32, published: Published) -> Reply
     object_reply(room, Status::Done, first, &[draft, penalty])
 }
 
-/// The reply to a batch: what its lines did.
+/// Returns the reply to a batch, with the counts of its lines.
 pub fn enrolled_reply(room: Vec<u8>, batch: u32, counts: Counts) -> Reply
     requires { REPLY_ROOM ≤ vec_capacity room }
     ensures { plain_reply result ≡ json_reply Status.Done (enrolled_text batch counts) }

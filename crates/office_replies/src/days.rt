@@ -1,4 +1,4 @@
-// How a day and a time of day are shown to candidates.
+// The texts of dates and times of day for candidates.
 ghost use Rattle.std.specs.Prelude.{◌≡◌, IfOk};
 ghost use Rattle.office_replies.specs.DayTexts.{date_text, start_text};
 
@@ -7,7 +7,7 @@ use exam_calendar::Date;
 use office_model::ShownPlace;
 use std::fmt::{self, Write};
 
-// Returns a date as `YYYY-MM-DD`. A date has 13 bytes at most, so it always fits.
+// Returns a date as `YYYY-MM-DD`. A date has at most 13 bytes, so it always fits.
 pub(crate) fn date_text(date: Date) -> Result<ArrayString<16>, fmt::Error>
     ensures { IfOk result (λ text. text.bytes ≡ date_text date) }
 {
@@ -17,7 +17,7 @@ pub(crate) fn date_text(date: Date) -> Result<ArrayString<16>, fmt::Error>
     Ok(text)
 }
 
-// Returns the time that an exam at a place starts, as `HH:MM:SS`. It has 11 bytes at most.
+// Returns the start of an exam at a place, as `HH:MM:SS`. It has at most 11 bytes.
 pub(crate) fn start_text(at: ShownPlace) -> Result<ArrayString<16>, fmt::Error>
     ensures { IfOk result (λ text. text.bytes ≡ start_text at) }
 {

@@ -1,4 +1,4 @@
-//! What the office's answers are as replies: statuses, and bodies byte for byte.
+//! The replies to the office's answers: statuses, and bodies byte for byte.
 #![tactic(auto)]
 
 mod candidates;

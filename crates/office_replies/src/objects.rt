@@ -1,5 +1,5 @@
-// Small objects of JSON, put together in room that was made before a command ran: so a change that
-// was made is answered, however little memory is left.
+// Small objects of JSON, written into room that was allocated before a command ran: so each change
+// is answered, even if no memory is left.
 ghost use Rattle.std.specs.Prelude.{◌≡◌, ◌+◌, ◌≤◌, ◌++◌, All, IfOk, length, decimal};
 ghost use Rattle.std.specs.Prelude.{map, vec_len, vec_capacity};
 ghost use Rattle.office_messages.specs.Reply.{plain_reply, json_reply};
@@ -13,7 +13,7 @@ use std::alloc::{AllocError, Global};
 /// The bytes kept for a reply to a change.
 pub const REPLY_ROOM: usize = 256;
 
-// The most bytes of a key or a word, of what a member says (twenty digits), and of a member.
+// The most bytes of a key or a word, of a member's value (twenty digits), and of a member.
 const WORD_BYTES: usize = 16;
 
 const SAID_BYTES: usize = 20;
@@ -27,21 +27,21 @@ pub(crate) struct Member {
     pub(crate) says: Says,
 }
 
-/// What a member says. A word has no character that JSON escapes.
+/// The value of a member. A word has no character that JSON escapes.
 #[derive(Clone, Copy)]
 pub(crate) enum Says {
     Number(u64),
     Word(&'static [u8]),
 }
 
-/// Room for a reply to a change.
+/// Returns room for a reply to a change.
 pub fn reply_room(alloc: Global) -> Result<Vec<u8>, AllocError>
     ensures { IfOk result (λ room. REPLY_ROOM ≤ vec_capacity room) }
 {
     Vec::with_capacity(alloc, REPLY_ROOM)
 }
 
-// A member that is a number.
+// Returns a member whose value is a number.
 pub(crate) fn number(key: &'static [u8], number: u64) -> Member
     ensures { result ≡ record { key = key.entry; says = Says.Number number } }
 {
@@ -51,7 +51,7 @@ pub(crate) fn number(key: &'static [u8], number: u64) -> Member
     }
 }
 
-// A member that is a word.
+// Returns a member whose value is a word.
 pub(crate) fn word(key: &'static [u8], word: &'static [u8]) -> Member
     ensures { result ≡ record { key = key.entry; says = Says.Word word.entry } }
 {
@@ -61,7 +61,7 @@ pub(crate) fn word(key: &'static [u8], word: &'static [u8]) -> Member
     }
 }
 
-// The reply with an object of up to four members, in the room that was made for it.
+// Returns the reply with an object of up to four members, in the room allocated for it.
 pub(crate) fn object_reply(room: Vec<u8>, status: Status, first: Member, others: &[Member]) -> Reply
     requires room { REPLY_ROOM ≤ vec_capacity room }
     requires few { length others.now ≤ 3 }
@@ -80,7 +80,7 @@ pub(crate) fn object_reply(room: Vec<u8>, status: Status, first: Member, others:
     }
 }
 
-// Puts an object of up to four members into the room, in place of what was there.
+// Replaces the contents of the room by an object of up to four members.
 fn put_object(room: &mut Vec<u8>, first: Member, others: &[Member])
     requires room { REPLY_ROOM ≤ vec_capacity room.old }
     requires few { length others.now ≤ 3 }
@@ -114,7 +114,7 @@ fn put_member(room: &mut Vec<u8>, member: Member)
     put_said(room, member.says);
 }
 
-// Adds what a member says, for which there is room.
+// Adds a member's value, for which there is room.
 fn put_said(room: &mut Vec<u8>, says: Says)
     requires short { IsShortSaid says }
     requires room { vec_len room.old + SAID_BYTES ≤ vec_capacity room.old }

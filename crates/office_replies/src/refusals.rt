@@ -1,4 +1,4 @@
-// Replies to refusals of commands: they take no memory but the room that was made before.
+// Replies to refusals of commands: they take no memory except the room allocated before.
 ghost use Rattle.std.specs.Prelude.{◌≡◌, ◌≤◌, vec_capacity};
 ghost use Rattle.office_messages.specs.Reply.{plain_reply, json_reply};
 ghost use Rattle.office_replies.specs.Refusals.{broken_text, edit_reply, fault_reply_of, file_text};
@@ -15,8 +15,8 @@ use office_model::{Refusal, StoreFault, kind_number};
 use office_reports::rule_name;
 use office_requests::FixedError;
 
-/// The reply to a refusal of a command. A failed statement, out of memory and tables that are no
-/// office's are answered alike.
+/// Returns the reply to a refusal of a command. A failed statement, out of memory and tables that
+/// represent no office have the same reply.
 pub fn refusal_reply(room: Vec<u8>, fault: StoreFault) -> Reply
     requires { REPLY_ROOM ≤ vec_capacity room }
     ensures { plain_reply result ≡ fault_reply_of fault }
@@ -69,7 +69,7 @@ fn publish_reply(room: Vec<u8>, fault: PublishFault) -> Reply
     }
 }
 
-// A rule that would be broken, and the two exams that break it.
+// Returns the reply with a rule that would be broken, and the two exams that break it.
 fn broken_reply(room: Vec<u8>, breach: Breach) -> Reply
     requires { REPLY_ROOM ≤ vec_capacity room }
     ensures { plain_reply result ≡ json_reply Status.Conflict (broken_text breach) }
@@ -93,7 +93,7 @@ fn unplaced_reply(room: Vec<u8>, exam: ExamNo) -> Reply
     object_reply(room, Status::Conflict, word(b"error", b"unplaced"), &[exam])
 }
 
-// A file's first fault, by its number, and its line.
+// Returns the reply with a file's first fault, by its number, and its line.
 fn file_reply(room: Vec<u8>, fault: FileFault) -> Reply
     requires { REPLY_ROOM ≤ vec_capacity room }
     ensures { plain_reply result ≡ json_reply Status.BadRequest (file_text fault) }

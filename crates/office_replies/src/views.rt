@@ -1,4 +1,4 @@
-// What is shown.
+// Replies with a draft or a text.
 ghost use Rattle.std.specs.Prelude.{◌≡◌, IfOk, OnOk, option_map};
 ghost use Rattle.serde_json.specs.Data.{array};
 ghost use Rattle.serde_json.specs.Events.{SendsValue};
@@ -22,7 +22,7 @@ struct DraftBody<'a> {
     penalty: u64,
 }
 
-/// Returns the reply with a text as it is.
+/// Returns the reply with a text, unchanged.
 pub fn text_reply(text: Vec<u8>) -> Reply
     ensures { plain_reply result ≡ replies.text_reply text.items }
 {

@@ -10,7 +10,8 @@ use office_messages::{Content, Payload, Reply, Status};
 use serde::{Serialize, Serializer};
 use std::alloc::{AllocError, Global};
 
-// Returns the reply with a body of JSON. serde_json's errors are answered like out of memory.
+// Returns the reply with a body of JSON. An error of serde_json has the same reply as out of
+// memory.
 pub(crate) fn written_reply<T: Serialize>(alloc: Global, body: &T) -> Result<Reply, AllocError>
     ensures { IfOk result (λ reply. (log : Log) × (text : List ℕ)
         × T.writes body.now (Some []) log × IsTextOf log text
@@ -27,8 +28,8 @@ pub(crate) fn written_reply<T: Serialize>(alloc: Global, body: &T) -> Result<Rep
     }
 }
 
-// Sends a member that is a number, or null if there is none. It is inlined so that the length of
-// the key is known.
+// Sends a member whose value is a number, or null if there is none. It is inlined so that the
+// length of the key is known.
 #[inline(always)]
 pub(crate) fn send_number<S: Serializer>(
     key: &str,
